@@ -1,0 +1,20 @@
+//! What every crate of Faroash stands on: texts and lists of the project's own, the two streams of the outside,
+//! and the small functions on text.
+#![tactic(auto)]
+
+mod mem;
+mod sequence;
+mod text;
+
+pub use mem::Mem;
+pub use sequence::Sequence;
+pub use text::Text;
+
+/// A list of bytes.
+pub type Bytes = Sequence<u8>;
+
+/// A list of numbers.
+pub type Numbers = Sequence<u32>;
+
+/// A list of words, as a command line has them.
+pub type Words = Sequence<Text>;

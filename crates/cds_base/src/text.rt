@@ -1,0 +1,59 @@
+ghost use Rattle.std.specs.Prelude.{◌≡◌, ℕ, List, length, IfOk, string_bytes};
+
+use crate::Mem;
+use std::alloc::Global;
+use std::convert::From;
+use std::marker::Model;
+
+/// A text in UTF-8. Contracts see the list of its bytes.
+#[derive(Drop, Debug)]
+pub struct Text {
+    value: String,
+}
+
+impl Model for Text {
+    ghost use Rattle.std.specs.Prelude.{ℕ, List, string_bytes};
+
+    ghost Value = { List ℕ };
+
+    ghost view = { λ t. string_bytes t.value };
+}
+
+impl Text {
+    /// A text with these bytes.
+    pub fn read(alloc: Global, text: &str) -> Result<Self, Mem>
+        ensures { IfOk result (λ copy. copy ≡ text.now) }
+    {
+        let value = String::from_str(alloc, text)?;
+        Ok(Text { value })
+    }
+
+    /// The text as std has it.
+    pub fn as_str(&self) -> &str
+        ensures { result.now ≡ self.now }
+    {
+        self.value.as_str()
+    }
+
+    /// How many bytes there are.
+    pub fn len(&self) -> usize
+        ensures { result ≡ length self.now }
+    {
+        self.value.len()
+    }
+
+    /// An equal text.
+    pub fn copy(&self, alloc: Global) -> Result<Self, Mem>
+        ensures { IfOk result (λ copy. copy ≡ self.now) }
+    {
+        Text::read(alloc, self.value.as_str())
+    }
+}
+
+impl From<String> for Text {
+    ghost from_gives = { λ value result. result ≡ string_bytes value };
+
+    fn from(value: String) -> Self {
+        Text { value }
+    }
+}
