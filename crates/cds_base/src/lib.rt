@@ -3,6 +3,7 @@
 #![tactic(auto)]
 
 mod mem;
+mod order;
 mod sequence;
 mod text;
 
