@@ -1,0 +1,5 @@
+pub mod Catalog
+pub mod Evaluated
+pub mod History
+pub mod Library
+pub mod Scans

@@ -1,0 +1,11 @@
+//! The catalog, counted afresh: what each scan of the library found, every change between one scan and the next with
+//! its number, and the rows that stand after them.
+#![tactic(auto)]
+
+mod change;
+mod evaluated;
+
+pub use change::Change;
+pub use evaluated::{
+    folder_comes_again, kind_change_draws_a_new_id, one_scan_of_a_folder, two_empty_scans,
+};

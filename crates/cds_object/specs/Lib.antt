@@ -1,0 +1,4 @@
+pub mod Object
+pub mod Content
+pub mod Fragment
+pub mod Path

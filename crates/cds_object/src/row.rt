@@ -1,0 +1,39 @@
+use crate::{Content, ObjectId};
+use cds_base::Sequence;
+use std::marker::Model;
+
+/// How a container tracks the changes of its children (UPnP ContentDirectory:4 on tracking changes).
+#[derive(Clone, Copy, Debug, PartialEq, Eq)]
+pub struct Trackers {
+    /// The SystemUpdateID at which a child last changed.
+    pub container_update: u32,
+    /// How many children there are.
+    pub child_count: u32,
+    /// How many children were ever deleted.
+    pub deleted: u32,
+}
+
+/// An object as a server shows it. Only the root has no parent, and exactly the folders have trackers.
+#[derive(Drop, Debug)]
+pub struct Row {
+    pub id: ObjectId,
+    pub parent: Option<ObjectId>,
+    pub content: Content,
+    /// The SystemUpdateID of the object's own last change.
+    pub object_update: u32,
+    pub trackers: Option<Trackers>,
+}
+
+impl Model for Row {
+    ghost use Rattle.cds_object.specs.Object.{ObjectRow, IsRow};
+    ghost use Rattle.std.specs.Option.{option_map};
+
+    ghost Value = { ObjectRow };
+
+    ghost view = { λ r. record { id = r.id.0; parent = option_map (λ i. i.0) r.parent; content = r.content; object_update = r.object_update; trackers = r.trackers } };
+
+    ghost invariant = { λ r. IsRow (record { id = r.id.0; parent = option_map (λ i. i.0) r.parent; content = r.content; object_update = r.object_update; trackers = r.trackers }) };
+}
+
+/// Rows in order.
+pub type Rows = Sequence<Row>;
