@@ -2,4 +2,6 @@ pub mod Catalog
 pub mod Evaluated
 pub mod History
 pub mod Library
+pub mod Laws
 pub mod Scans
+pub mod Steps

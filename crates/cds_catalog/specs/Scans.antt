@@ -12,9 +12,11 @@ abbrev pub is_container : List Record → List (List ℕ) → Bool
 is_container records [] = true
 is_container records (name ∷ names) = list_any (λ r. same_path (name ∷ names) r.path && is_folder r.content) records
 
--- whether a record cannot stand: nothing holds its place, or its place came before
+-- whether a record cannot stand: nothing holds its place, or its place came before; what stands at the root's place,
+-- which no path of a record is, cannot either
 abbrev pub is_bad : List Record → List Record → Record → Bool
-is_bad records before r = not (is_container records (parent_of r.path)) || list_any (λ other. same_path r.path other.path) before
+is_bad records before r =
+    same_path r.path [] || not (is_container records (parent_of r.path)) || list_any (λ other. same_path r.path other.path) before
 
 -- the first record of the rest that cannot stand, counted from 1 over all records
 abbrev pub bad_from : List Record → List Record → List Record → Option ℕ

@@ -2,3 +2,4 @@ pub mod Object
 pub mod Content
 pub mod Fragment
 pub mod Path
+pub mod Tree
