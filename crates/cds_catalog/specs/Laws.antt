@@ -12,6 +12,7 @@ use Rattle.cds_object.specs.declared.row.Trackers.{Trackers}
 use Rattle.cds_catalog.specs.Library.{FolderMap, content_at, map_of, found}
 use Rattle.cds_catalog.specs.History.{History, latest, changes_of, end_of, with_scan}
 use Rattle.cds_catalog.specs.Catalog.{PlacedRow, catalog, catalog_at, placed_rows}
+use Rattle.cds_catalog.specs.Replay.{stands, IsLegal}
 use Rattle.cds_catalog.specs.Scans.{bad_record}
 use Rattle.cds_catalog.specs.Steps.{Standing, standing_of, step, stepped}
 
@@ -86,3 +87,12 @@ versions_determine_contents = (first : ℕ) (newer older : List FolderMap) (id :
     row_of id (catalog (record { first = first; maps = newer ++ older })) ≡ Some now →
     row_of id (catalog (record { first = first; maps = older })) ≡ Some before →
     now.object_update ≡ before.object_update → now.content ≡ before.content
+
+-- what stands after all changes is what the newest folder map has
+abbrev pub changes_replay_the_library : Type 0
+changes_replay_the_library = (maps : List FolderMap) → AreLibraries maps →
+    (path : List (List ℕ)) → stands (changes_of maps) path ≡ content_at (latest maps) path
+
+-- each change may follow those before it
+abbrev pub changes_are_legal : Type 0
+changes_are_legal = (maps : List FolderMap) → AreLibraries maps → IsLegal (changes_of maps)
