@@ -1,3 +1,4 @@
 pub mod Paths
 pub mod Contents
 pub mod Maps
+pub mod Found
