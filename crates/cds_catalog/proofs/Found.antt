@@ -3,20 +3,19 @@ use Rattle.std.proofs.Common.{◌≡◌, ℕ, Bool, true, false, cond, List, [],
 use Rattle.std.specs.List.{AllByRecursion, filter_map, cons_option}
 use mathlib.Core.List.{reverse-cons}
 use Rattle.std.proofs.lemmas.Bool.{cond-true, cond-false}
-use Rattle.std.proofs.lemmas.Option.{same_Some}
 use Rattle.cds_object.specs.Path.{path_cmp, same_path, parent_of}
 use Rattle.cds_object.specs.Content.{same_content, same_kind}
 use Rattle.cds_object.specs.Object.{is_folder}
 use Rattle.cds_object.specs.declared.content.Content.{Content}
 use Rattle.cds_object.specs.declared.content.Content.TheVariants.{Folder, Track}
 use Rattle.cds_catalog.specs.Library.{FolderMap, content_at, departure, arrival, found}
-use Rattle.cds_catalog.specs.Laws.{Ascends, holds, IsLibrary, AreLibraries}
+use Rattle.cds_catalog.specs.Laws.{Ascends, IsLibrary, AreLibraries}
 use Rattle.cds_catalog.specs.History.{latest, changes_of}
 use Rattle.cds_catalog.specs.Replay.{stands, holds_after, MayFollow, IsLegal}
 use Rattle.cds_catalog.specs.declared.change.Change.{Change}
 use Rattle.cds_catalog.specs.declared.change.Change.TheVariants.{Deletion, Addition, Modification}
-use Rattle.cds_catalog.proofs.Paths.{same_path_is, same_path_itself, same_path_at, same_path_Less, same_path_Greater, same_path_swap, paths_total, parent_before}
-use Rattle.cds_catalog.proofs.Contents.{same_content_is, same_kind_itself, same_content_itself}
+use Rattle.cds_catalog.proofs.Paths.{same_path_is, same_path_itself, parent_before}
+use Rattle.cds_catalog.proofs.Contents.{same_content_is}
 use Rattle.cds_catalog.proofs.Maps.{Entry, IsBefore, Reaches, folder_there, content_at_here, content_at_past, at_entry, absent_before, ascends_head, ascends_tail, each_found, reaches_all, parent_is_folder, before_more, latest_is_library}
 
 -- what is left of what stood at a place once the deletions are done, by what stands there in the new map
@@ -71,8 +70,8 @@ departed_here : (e : Entry) (c : Option Content) (changes : List Change) (p : Li
 departed_here e None changes p b same s = cond-true _ _ _ same
 departed_here e (Some now) changes p b same s =
     elim (same_kind e.1 now) as (λ k.
-      stands changes p ≡ cond b (cond k (Some e.1) None) (Some e.1) →
-      stands (cons_option (cond k None (Some (Deletion e.0))) changes) p ≡ cond k (Some e.1) None) [
+    stands changes p ≡ cond b (cond k (Some e.1) None) (Some e.1) →
+    stands (cons_option (cond k None (Some (Deletion e.0))) changes) p ≡ cond k (Some e.1) None) [
       | true ↦ λ s. s ∙ same_branches b (Some e.1)
       | false ↦ λ s. cond-true _ _ _ same
     ] s
@@ -90,14 +89,14 @@ departed_more : (old new : FolderMap) (e : Entry) (es : FolderMap) (changes : Li
     Departed old new es changes → Departed old new (e ∷ es) (cons_option (departure new e) changes)
 departed_more old new e es changes here before p =
     elim (same_path p e.0) as (λ b. same_path p e.0 ≡ b →
-      stands (cons_option (departs e (content_at new e.0)) changes) p
-      ≡ cond (is_some (content_at (e ∷ es) p)) (kept old new p) (content_at old p)) [
+    stands (cons_option (departs e (content_at new e.0)) changes) p
+    ≡ cond (is_some (content_at (e ∷ es) p)) (kept old new p) (content_at old p)) [
       | true ↦ λ same.
           let place : p ≡ e.0 = same_path_is p e.0 same in
           let was : content_at old p ≡ Some e.1 = ap (content_at old) place ∙ here in
           let left : kept old new p ≡ kept_of (Some e.1) (content_at new e.0) = λ i. kept_of (was i) (content_at new (place i)) in
           let s : stands changes p ≡ cond (is_some (content_at es p)) (kept_of (Some e.1) (content_at new e.0)) (Some e.1)
-            = before p ∙ (λ i. cond (is_some (content_at es p)) (left i) (was i)) in
+          = before p ∙ (λ i. cond (is_some (content_at es p)) (left i) (was i)) in
           departed_here e (content_at new e.0) changes p (is_some (content_at es p)) same s
           ∙ sym left ∙ ap (λ o. cond (is_some o) (kept old new p) (content_at old p)) (sym (content_at_here e es p same))
       | false ↦ λ other.
@@ -125,10 +124,11 @@ may_be_deleted : (old new : FolderMap) → IsLibrary old → IsLibrary new → (
     content_at old e.0 ≡ Some e.1 → IsBefore e.0 es →
     ((p : List (List ℕ)) → path_cmp e.0 p ≡ Less → content_at es p ≡ content_at old p) →
     Departed old new es changes → kept_of (Some e.1) (content_at new e.0) ≡ None → MayFollow changes (Deletion e.0)
-may_be_deleted old new is_old is_new e es changes here before reach departed leaves =
-    ( e.1
-    , departed e.0 ∙ ap (λ o. cond (is_some o) (kept old new e.0) (content_at old e.0)) (absent_before e.0 es before) ∙ here
-    , no_child )
+may_be_deleted old new is_old is_new e es changes here before reach departed leaves = (
+  e.1,
+  departed e.0 ∙ ap (λ o. cond (is_some o) (kept old new e.0) (content_at old e.0)) (absent_before e.0 es before) ∙ here,
+  no_child,
+)
   where
     below_root : same_path e.0 [] ≡ false
     below_root = at_entry (λ f. same_path f.0 [] ≡ false) old is_old.rootless e.0 e.1 here
@@ -142,20 +142,20 @@ may_be_deleted old new is_old is_new e es changes here before reach departed lea
         let later : path_cmp e.0 path ≡ Less = ap (λ p. path_cmp p path) place ∙ parent_before name names in
         departed path ∙ ap (λ o. cond (is_some o) (kept old new path) (content_at old path)) (reach path later)
         ∙ child_gone (content_at old path) (content_at new path)
-          (λ x y was now.
-            let f : is_folder e.1 ≡ true
-              = ap folder_there (sym here) ∙ ap (λ p. folder_there (content_at old p)) place ∙ parent_is_folder old is_old path x was parent_below in
-            let g : folder_there (content_at new e.0) ≡ true
-              = ap (λ p. folder_there (content_at new p)) place ∙ parent_is_folder new is_new path y now parent_below in
-            none_is_not e.1 (sym (folders_stay e.1 (content_at new e.0) f g) ∙ leaves))
+        (λ x y was now.
+        let f : is_folder e.1 ≡ true
+        = ap folder_there (sym here) ∙ ap (λ p. folder_there (content_at old p)) place ∙ parent_is_folder old is_old path x was parent_below in
+        let g : folder_there (content_at new e.0) ≡ true
+        = ap (λ p. folder_there (content_at new p)) place ∙ parent_is_folder new is_new path y now parent_below in
+        none_is_not e.1 (sym (folders_stay e.1 (content_at new e.0) f g) ∙ leaves))
 
 may_depart : (e : Entry) (c : Option Content) (changes : List Change) → IsLegal changes →
     (kept_of (Some e.1) c ≡ None → MayFollow changes (Deletion e.0)) → IsLegal (cons_option (departs e c) changes)
 may_depart e None changes legal deletable = (legal, deletable refl)
 may_depart e (Some now) changes legal deletable =
     elim (same_kind e.1 now) as (λ k.
-      (cond k (Some e.1) None ≡ None → MayFollow changes (Deletion e.0)) →
-      IsLegal (cons_option (cond k None (Some (Deletion e.0))) changes)) [
+    (cond k (Some e.1) None ≡ None → MayFollow changes (Deletion e.0)) →
+    IsLegal (cons_option (cond k None (Some (Deletion e.0))) changes)) [
       | true ↦ λ d. legal
       | false ↦ λ d. (legal, d refl)
     ] deletable
@@ -172,10 +172,11 @@ departures old new is_old is_new [] ascends here reach older legal s = (legal, s
 departures old new is_old is_new (e ∷ es) ascends here reach older legal s =
     let rest = departures old new is_old is_new es (ascends_tail e es ascends) here.1 reach.1 older legal s in
     let changes : List Change = filter_map (departure new) es ++ older in
-    subst (Legally (Departed old new (e ∷ es))) (sym (cons_more (departure new e) (filter_map (departure new) es) older))
-    ( may_depart e (content_at new e.0) changes rest.0
-      (may_be_deleted old new is_old is_new e es changes here.0 (ascends_head e es ascends) reach.0 rest.1)
-    , departed_more old new e es changes here.0 rest.1 )
+    subst (Legally (Departed old new (e ∷ es))) (sym (cons_more (departure new e) (filter_map (departure new) es) older)) (
+      may_depart e (content_at new e.0) changes rest.0
+          (may_be_deleted old new is_old is_new e es changes here.0 (ascends_head e es ascends) reach.0 rest.1),
+      departed_more old new e es changes here.0 rest.1,
+    )
 
 -- ---- the additions and modifications
 
@@ -198,13 +199,13 @@ arrived_here : (e : Entry) (o : Option Content) (changes : List Change) (p : Lis
 arrived_here e None changes p same s = cond-true _ _ _ same
 arrived_here e (Some before) changes p same s =
     elim (same_kind before e.1) as (λ k.
-      stands changes p ≡ cond k (Some before) None →
-      stands (cons_option (cond k (cond (same_content before e.1) None (Some (Modification e.0 e.1))) (Some (Addition e.0 e.1))) changes) p ≡ Some e.1) [
+    stands changes p ≡ cond k (Some before) None →
+    stands (cons_option (cond k (cond (same_content before e.1) None (Some (Modification e.0 e.1))) (Some (Addition e.0 e.1))) changes) p ≡ Some e.1) [
       | true ↦ λ s. elim (same_content before e.1) as (λ b. same_content before e.1 ≡ b →
           stands (cons_option (cond b None (Some (Modification e.0 e.1))) changes) p ≡ Some e.1) [
-          | true ↦ λ equal. s ∙ ap Some (same_content_is before e.1 equal)
-          | false ↦ λ unequal. cond-true _ _ _ same
-        ] refl
+            | true ↦ λ equal. s ∙ ap Some (same_content_is before e.1 equal)
+            | false ↦ λ unequal. cond-true _ _ _ same
+          ] refl
       | false ↦ λ s. cond-true _ _ _ same
     ] s
 
@@ -213,13 +214,13 @@ arrived_past : (e : Entry) (o : Option Content) (changes : List Change) (p : Lis
 arrived_past e None changes p other = cond-false _ _ _ other
 arrived_past e (Some before) changes p other =
     elim (same_kind before e.1) as (λ k.
-      stands (cons_option (cond k (cond (same_content before e.1) None (Some (Modification e.0 e.1))) (Some (Addition e.0 e.1))) changes) p
-      ≡ stands changes p) [
+    stands (cons_option (cond k (cond (same_content before e.1) None (Some (Modification e.0 e.1))) (Some (Addition e.0 e.1))) changes) p
+    ≡ stands changes p) [
       | true ↦ elim (same_content before e.1) as (λ b.
           stands (cons_option (cond b None (Some (Modification e.0 e.1))) changes) p ≡ stands changes p) [
-          | true ↦ refl
-          | false ↦ cond-false _ _ _ other
-        ]
+            | true ↦ refl
+            | false ↦ cond-false _ _ _ other
+          ]
       | false ↦ cond-false _ _ _ other
     ]
 
@@ -235,8 +236,8 @@ arriving_more : (old new : FolderMap) (e : Entry) (es : FolderMap) (changes : Li
     Arriving old new (e ∷ es) changes → Arriving old new es (cons_option (arrival old e) changes)
 arriving_more old new e es changes here first before p =
     elim (same_path p e.0) as (λ b. same_path p e.0 ≡ b →
-      stands (cons_option (arrives e (content_at old e.0)) changes) p
-      ≡ cond (is_some (content_at es p)) (kept old new p) (content_at new p)) [
+    stands (cons_option (arrives e (content_at old e.0)) changes) p
+    ≡ cond (is_some (content_at es p)) (kept old new p) (content_at new p)) [
       | true ↦ λ same.
           let place : p ≡ e.0 = same_path_is p e.0 same in
           let absent : content_at es p ≡ None = ap (content_at es) place ∙ absent_before e.0 es first in
@@ -276,12 +277,12 @@ may_arrive : (e : Entry) (o : Option Content) (changes : List Change) → IsLega
 may_arrive e None changes legal below held s = (legal, (below, s, held))
 may_arrive e (Some before) changes legal below held s =
     elim (same_kind before e.1) as (λ k. same_kind before e.1 ≡ k →
-      stands changes e.0 ≡ cond k (Some before) None →
-      IsLegal (cons_option (cond k (cond (same_content before e.1) None (Some (Modification e.0 e.1))) (Some (Addition e.0 e.1))) changes)) [
+    stands changes e.0 ≡ cond k (Some before) None →
+    IsLegal (cons_option (cond k (cond (same_content before e.1) None (Some (Modification e.0 e.1))) (Some (Addition e.0 e.1))) changes)) [
       | true ↦ λ kind s. elim (same_content before e.1) as (λ b. IsLegal (cons_option (cond b None (Some (Modification e.0 e.1))) changes)) [
-          | true ↦ legal
-          | false ↦ (legal, (before, s, kind))
-        ]
+        | true ↦ legal
+        | false ↦ (legal, (before, s, kind))
+      ]
       | false ↦ λ kind s. (legal, (below, s, held))
     ] refl s
 
@@ -293,11 +294,12 @@ arrivals old new is_new (e ∷ es) ascends here changes done =
     let first : IsBefore e.0 es = ascends_head e es ascends in
     let below : same_path e.0 [] ≡ false = at_entry (λ f. same_path f.0 [] ≡ false) new is_new.rootless e.0 e.1 here.0 in
     subst (Legally (Arriving old new [])) (sym (reverse_more (arrival old e) (filter_map (arrival old) es) changes))
-    (arrivals old new is_new es (ascends_tail e es ascends) here.1 (cons_option (arrival old e) changes)
-      ( may_arrive e (content_at old e.0) changes done.0 below
-        (parent_arrived old new is_new e es changes here.0 below first done.1)
-        (arriving_here old new e es changes here.0 done.1 e.0 (same_path_itself e.0))
-      , arriving_more old new e es changes here.0 first done.1 ))
+    (arrivals old new is_new es (ascends_tail e es ascends) here.1 (cons_option (arrival old e) changes) (
+      may_arrive e (content_at old e.0) changes done.0 below
+          (parent_arrived old new is_new e es changes here.0 below first done.1)
+          (arriving_here old new e es changes here.0 done.1 e.0 (same_path_itself e.0)),
+      arriving_more old new e es changes here.0 first done.1,
+    ))
 
 -- ---- all changes of a scan
 

@@ -2,8 +2,6 @@
 use Rattle.std.proofs.Common.{◌≡◌, ℕ, Bool, true, false, cond, List, [], ◌∷◌, ◌++◌, Option, Some, None, Ordering, Less, Equal, Greater, refl, sym, ap, ◌∙◌, subst, true≢false, is_lt, is_some}
 use Rattle.std.specs.List.{AllByRecursion}
 use Rattle.std.proofs.lemmas.Option.{same_Some}
-use Rattle.std.specs.Ordering.{is_eq}
-use Rattle.std.specs.BTreeMap.{is_at}
 use Rattle.std.proofs.lemmas.Bool.{cond-true, cond-false}
 use Rattle.cds_object.specs.Path.{path_cmp, same_path, parent_of}
 use Rattle.cds_object.specs.Object.{is_folder}
@@ -86,11 +84,12 @@ absent_before p (e ∷ es) before = content_at_past e es p (same_path_Less p e.0
 -- each entry is looked up at its place
 pub each_found : (es : FolderMap) → Ascends es → AllByRecursion (λ e. content_at es e.0 ≡ Some e.1) es
 each_found [] ascends = tt
-each_found (e ∷ es) ascends =
-    ( content_at_here e es e.0 (same_path_itself e.0)
-    , All-both (λ f. path_cmp e.0 f.0 ≡ Less) (λ f. content_at es f.0 ≡ Some f.1) (λ f. content_at (e ∷ es) f.0 ≡ Some f.1)
+each_found (e ∷ es) ascends = (
+  content_at_here e es e.0 (same_path_itself e.0),
+  All-both (λ f. path_cmp e.0 f.0 ≡ Less) (λ f. content_at es f.0 ≡ Some f.1) (λ f. content_at (e ∷ es) f.0 ≡ Some f.1)
       (λ f later here. content_at_past e es f.0 (same_path_Greater e.0 f.0 later) ∙ here)
-      es (ascends_head e es ascends) (each_found es (ascends_tail e es ascends)) )
+      es (ascends_head e es ascends) (each_found es (ascends_tail e es ascends)),
+)
 
 -- after each entry comes all that the map has behind its place
 abbrev pub Reaches : FolderMap → FolderMap → Type 0
@@ -102,7 +101,7 @@ reaches_from : (all : FolderMap) (e : Entry) (es : FolderMap) → Ascends (e ∷
 reaches_from all e [] ascends whole = (λ p later. sym (content_at_past e [] p (same_path_Greater e.0 p later)) ∙ whole p later, tt)
 reaches_from all e (f ∷ fs) ascends whole =
     let behind : (p : List (List ℕ)) → path_cmp e.0 p ≡ Less → content_at (f ∷ fs) p ≡ content_at all p
-      = λ p later. sym (content_at_past e (f ∷ fs) p (same_path_Greater e.0 p later)) ∙ whole p later in
+    = λ p later. sym (content_at_past e (f ∷ fs) p (same_path_Greater e.0 p later)) ∙ whole p later in
     (behind, reaches_from all f fs ascends.1 (λ p later. behind p (paths_total.trans e.0 f.0 p (less _ ascends.0) later)))
 
 pub reaches_all : (all : FolderMap) → Ascends all → Reaches all all

@@ -1,7 +1,7 @@
 -- Places: when two are one, and the order that they stand in.
-use Rattle.std.proofs.Common.{◌≡◌, ℕ, Bool, true, false, List, [], ◌∷◌, Ordering, Less, Equal, Greater, refl, sym, ap, ◌∙◌, true≢false, is_eq}
+use Rattle.std.proofs.Common.{◌≡◌, ℕ, true, false, List, [], ◌∷◌, Less, Equal, refl, sym, ap, ◌∙◌, is_eq}
 use Rattle.std.specs.Ordering.{nat_cmp, ordering_then, ordering_reverse}
-use Rattle.std.specs.Cmp.{IsTotalOrder, nat_cmp_total, tied_itself, both_ways, Equal-is}
+use Rattle.std.specs.Cmp.{IsTotalOrder, tied_itself, both_ways, Equal-is}
 use Rattle.std.specs.Cmp.Lexicographic.{slice_cmp, lists_total, lists_ties, texts_ties, pointwise_decides, bytes_decides, nat_list_cmp_total}
 use Rattle.std.specs.BTreeMap.{is_at}
 use Rattle.cds_object.specs.Path.{path_cmp, same_path, parent_of}
