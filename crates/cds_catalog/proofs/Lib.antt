@@ -2,3 +2,5 @@ pub mod Paths
 pub mod Contents
 pub mod Maps
 pub mod Found
+pub mod Inserted
+pub mod Accepted
