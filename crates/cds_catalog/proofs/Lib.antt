@@ -4,3 +4,5 @@ pub mod Maps
 pub mod Found
 pub mod Inserted
 pub mod Accepted
+pub mod Numbers
+pub mod Versions
