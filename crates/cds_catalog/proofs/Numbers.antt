@@ -33,7 +33,7 @@ none_given f (e ∷ es) all = (λ i. cons_option (all.0 i) (filter_map f es)) �
 pub same_map_no_change : (library : FolderMap) → IsLibrary library → found library library ≡ []
 same_map_no_change library is =
     (λ i. reverse (none_given (arrival library) library (none_arrives library (each_found library is.ascending)) i)
-      ++ none_given (departure library) library (none_departs library (each_found library is.ascending)) i)
+    ++ none_given (departure library) library (none_departs library (each_found library is.ascending)) i)
   where
     none_departs : (es : FolderMap) → AllByRecursion (λ e. content_at library e.0 ≡ Some e.1) es → AllByRecursion (λ e. departure library e ≡ None) es
     none_departs [] here = tt
@@ -81,9 +81,9 @@ equal_ends_equal_maps first newer older all ends =
     same_library (latest (newer ++ older)) (latest older)
     (latest_is_library (newer ++ older) all).ascending (latest_is_library older before).ascending
     (λ p.
-      sym ((history_is_legal (newer ++ older) all).1 p)
-      ∙ ap (λ changes. stands changes p) (equal_ends_equal_changes first newer older ends)
-      ∙ (history_is_legal older before).1 p)
+    sym ((history_is_legal (newer ++ older) all).1 p)
+    ∙ ap (λ changes. stands changes p) (equal_ends_equal_changes first newer older ends)
+    ∙ (history_is_legal older before).1 p)
 
 -- ---- catalogs
 
@@ -110,8 +110,8 @@ pub catalog_at_end : (first : ℕ) (newer older : List FolderMap) → AreLibrari
 catalog_at_end first [] older all = catalog_at_own_end first older
 catalog_at_end first (library ∷ newer) older all =
     elim (nat_le now then) as (λ b. nat_le now then ≡ b →
-      cond b (catalog (record { first = first; maps = library ∷ (newer ++ older) })) (catalog_at first (newer ++ older) then)
-      ≡ catalog (record { first = first; maps = older })) [
+    cond b (catalog (record { first = first; maps = library ∷ (newer ++ older) })) (catalog_at first (newer ++ older) then)
+    ≡ catalog (record { first = first; maps = older })) [
       | true ↦ λ reached.
           let le : now ≤ then = leb-true now then reached in
           let ge : then ≤ now = ends_rise first (library ∷ newer) older in

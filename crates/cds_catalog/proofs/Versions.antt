@@ -44,13 +44,13 @@ last_set p x (Deletion at ∷ older) s =
     ] s
 last_set p x (Addition at content ∷ older) s =
     elim (same_path p at) as (λ b. cond b (Some content) (stands older p) ≡ Some x →
-      EndsWith x (cond b (Addition at content ∷ older) (up_to (sets p) older))) [
+    EndsWith x (cond b (Addition at content ∷ older) (up_to (sets p) older))) [
       | true ↦ λ s. record { newest = Addition at content; older = older; is = refl; content_is = s }
       | false ↦ λ s. last_set p x older s
     ] s
 last_set p x (Modification at content ∷ older) s =
     elim (same_path p at) as (λ b. cond b (Some content) (stands older p) ≡ Some x →
-      EndsWith x (cond b (Modification at content ∷ older) (up_to (sets p) older))) [
+    EndsWith x (cond b (Modification at content ∷ older) (up_to (sets p) older))) [
       | true ↦ λ s. record { newest = Modification at content; older = older; is = refl; content_is = s }
       | false ↦ λ s. last_set p x older s
     ] s
@@ -148,10 +148,10 @@ rows_have_entries history all =
     let library : FolderMap = latest history.maps in
     let placed : List PlacedRow = map (λ entry. (entry.0, row_at history.first (changes_of history.maps) library entry)) (root_entry ∷ library) in
     let entries : AllByRecursion (IsOf library) (root_entry ∷ library)
-      = (inl refl, found_is_of library library (each_found library (latest_is_library history.maps all).ascending)) in
+    = (inl refl, found_is_of library library (each_found library (latest_is_library history.maps all).ascending)) in
     rows_all (HasEntry history.first (changes_of history.maps) library) (placed_rows history)
     (in_order_all (λ placed. HasEntry history.first (changes_of history.maps) library placed.1) placed
-      (entries_have_rows history.first (changes_of history.maps) library (root_entry ∷ library) entries))
+    (entries_have_rows history.first (changes_of history.maps) library (root_entry ∷ library) entries))
 
 row_of_all : (P : ObjectRow → Type 0) (id : ℕ) (rows : List ObjectRow) → AllByRecursion P rows → (row : ObjectRow) → row_of id rows ≡ Some row → P row
 row_of_all P id [] all row e = absurd (true≢false (sym (ap is_some e)))
@@ -181,7 +181,7 @@ same_number_same_content first newer older all now before one other same =
     as_long : length set_now ≡ length set_before
     as_long =
         let e : first + length set_now ≡ first + length set_before
-          = sym (ap (λ r. r.object_update) one.is) ∙ same ∙ ap (λ r. r.object_update) other.is in
+        = sym (ap (λ r. r.object_update) one.is) ∙ same ∙ ap (λ r. r.object_update) other.is in
         omega (arith, e)
 
     same_sets : set_now ≡ set_before
@@ -190,7 +190,7 @@ same_number_same_content first newer older all now before one other same =
         let older_end = up_to_is_end (sets other.entry.0) (changes_of older) in
         same_rest end.newer (changes_since newer older ++ older_end.newer) set_now set_before
         (sym end.is ∙ changes_of_more newer older ∙ ap (λ (l : List Change). changes_since newer older ++ l) older_end.is
-          ∙ sym (append_assoc (changes_since newer older) older_end.newer set_before))
+        ∙ sym (append_assoc (changes_since newer older) older_end.newer set_before))
         as_long
 
     ends_now : content_at (latest (newer ++ older)) one.entry.0 ≡ Some one.entry.1 → EndsWith one.entry.1 set_now
