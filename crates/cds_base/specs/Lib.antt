@@ -1,0 +1,4 @@
+pub mod Outside
+pub mod Memory
+pub mod Escape
+pub mod Number
