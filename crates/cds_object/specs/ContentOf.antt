@@ -62,3 +62,7 @@ track_of info name size = Track (record {
   channels = info.channels;
   bits = info.bits
 })
+
+-- what a file without comments says: its rate, channels, bits and samples
+abbrev pub bare_info : ℕ → ℕ → ℕ → ℕ → FlacInfo
+bare_info rate channels bits samples = record { rate = rate; channels = channels; bits = bits; samples = samples; comments = [] }
