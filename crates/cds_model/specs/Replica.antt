@@ -5,8 +5,8 @@
 -- followed by the number, the children of each container, the container of the least id that is not listed yet first.
 -- A number other than N ends the attempt, and the next read begins a new one.
 use Rattle.std.specs.Prelude.{◌≡◌, ◌+◌, ◌-◌, ℕ, Bool, true, false, cond, not, nat_eq, nat_lt, min, ◌&&◌, ◌||◌, List, [], ◌∷◌, ◌++◌, map, length, Option, Some, None}
-use Rattle.std.specs.List.{list_all, list_any}
-use Rattle.std.specs.Option.{option_eq}
+use Rattle.std.specs.List.{list_all, list_any, filter_map}
+use Rattle.std.specs.Option.{option_map}
 use Rattle.cds_object.specs.Object.{ObjectRow, is_folder}
 use Rattle.cds_object.specs.Tree.{is_child_of}
 use Rattle.cds_object.specs.declared.row.Trackers.{Trackers}
@@ -57,28 +57,26 @@ listed_children listing = first listing.waiting
     first [] = 0
     first (w ∷ ws) = w.children
 
--- a row put among others in ascending order of ids
-abbrev pub put_row : ObjectRow → List ObjectRow → List ObjectRow
-put_row row [] = row ∷ []
-put_row row (next ∷ rows) = cond (nat_lt row.id next.id) (row ∷ next ∷ rows) (next ∷ put_row row rows)
+-- an item put among others in ascending order of keys, and so each of several
+abbrev pub put_by : {X : Type 0} → (X → ℕ) → X → List X → List X
+put_by key x [] = x ∷ []
+put_by key x (y ∷ ys) = cond (nat_lt (key x) (key y)) (x ∷ y ∷ ys) (y ∷ put_by key x ys)
 
+abbrev pub puts_by : {X : Type 0} → (X → ℕ) → List X → List X → List X
+puts_by key [] others = others
+puts_by key (x ∷ xs) others = puts_by key xs (put_by key x others)
+
+-- rows put among others in ascending order of ids
 abbrev pub put_rows : List ObjectRow → List ObjectRow → List ObjectRow
-put_rows [] others = others
-put_rows (row ∷ rows) others = put_rows rows (put_row row others)
+put_rows = puts_by (λ (row : ObjectRow). row.id)
 
--- a container put among those that wait, in ascending order of ids
-abbrev pub put_waiting : Waiting → List Waiting → List Waiting
-put_waiting w [] = w ∷ []
-put_waiting w (next ∷ ws) = cond (nat_lt w.id next.id) (w ∷ next ∷ ws) (next ∷ put_waiting w ws)
+-- a container waits with its child count; a track does not
+abbrev pub waiting_of : ObjectRow → Option Waiting
+waiting_of row = option_map (λ (t : Trackers). record { id = row.id; children = t.child_count }) row.trackers
 
--- the containers among rows put among those that wait; a track does not wait
-abbrev pub put_container : ℕ → Option Trackers → List Waiting → List Waiting
-put_container id None ws = ws
-put_container id (Some t) ws = put_waiting (record { id = id; children = t.child_count }) ws
-
+-- the containers among rows put among those that wait, in ascending order of ids
 abbrev pub put_containers : List ObjectRow → List Waiting → List Waiting
-put_containers [] ws = ws
-put_containers (row ∷ rows) ws = put_containers rows (put_container row.id row.trackers ws)
+put_containers rows ws = puts_by (λ (w : Waiting). w.id) (filter_map waiting_of rows) ws
 
 -- the listing that a load begins with: the root's row, and the root waits
 abbrev pub listing_of : ObjectRow → Listing
