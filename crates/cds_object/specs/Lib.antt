@@ -2,4 +2,5 @@ pub mod Object
 pub mod Content
 pub mod Fragment
 pub mod Path
+pub mod PathOrder
 pub mod Tree
