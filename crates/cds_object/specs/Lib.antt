@@ -3,4 +3,5 @@ pub mod Content
 pub mod ContentOf
 pub mod Fragment
 pub mod Path
+pub mod PathOrder
 pub mod Tree
