@@ -1,0 +1,3 @@
+pub mod StepsPaths
+pub mod StepsFind
+pub mod StepsOrder
