@@ -1,3 +1,5 @@
 pub mod StepsPaths
 pub mod StepsFind
 pub mod StepsOrder
+pub mod StepsLive
+pub mod StepsIds
