@@ -3,3 +3,4 @@ pub mod StepsFind
 pub mod StepsOrder
 pub mod StepsLive
 pub mod StepsIds
+pub mod StepsRow
