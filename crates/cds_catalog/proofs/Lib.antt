@@ -4,3 +4,4 @@ pub mod StepsOrder
 pub mod StepsLive
 pub mod StepsIds
 pub mod StepsRow
+pub mod StepsRows
