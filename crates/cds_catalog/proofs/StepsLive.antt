@@ -179,3 +179,14 @@ held (Modification at written ∷ older) p content l e = by (same_path p at) ref
 pub parent_not_added : (older : List Change) (at : Place) (added : Content) → IsLegal (Addition at added ∷ older) → (p : Place) (content : Content)
     → stands older p ≡ Some content → same_path (parent_of p) at ≡ false
 parent_not_added older at added l p content e = parent_other older at p l.1.0 l.1.1 (held older p content l.0 e)
+
+-- what holds others is shown as a folder
+pub shown_holder : (changes : List Change) → IsLegal changes → (p : Place) → holder p (stands changes p) ≡ true
+    → (content : Content) × (find_in (shown changes) p ≡ Some content) × (is_folder content ≡ true)
+shown_holder changes l [] h = (root_entry.1, refl, refl)
+shown_holder changes l (name ∷ names) h = by (stands changes (name ∷ names)) refl h
+  where
+    by : (o : Option Content) → stands changes (name ∷ names) ≡ o → holder (name ∷ names) o ≡ true
+        → (content : Content) × (find_in (shown changes) (name ∷ names) ≡ Some content) × (is_folder content ≡ true)
+    by None e k = absurd (true≢false (sym k))
+    by (Some content) e k = (content, find_live changes l (name ∷ names) ∙ e, k)

@@ -5,18 +5,19 @@ use Rattle.cds_object.specs.Path.{same_path, parent_of}
 use Rattle.cds_object.specs.Content.{same_kind}
 use Rattle.cds_object.specs.Object.{ObjectRow, is_folder}
 use Rattle.cds_object.specs.declared.content.Content.{Content}
+use Rattle.cds_object.specs.declared.content.Content.TheVariants.{Folder, Track}
 use Rattle.cds_object.specs.declared.row.Trackers.{Trackers}
 use Rattle.cds_catalog.specs.Library.{FolderMap}
 use Rattle.cds_catalog.specs.History.{is_addition}
-use Rattle.cds_catalog.specs.Catalog.{PlacedRow, row_at, id_of, child_count_of, container_update_of, deleted_of, root_entry}
+use Rattle.cds_catalog.specs.Catalog.{PlacedRow, row_at, id_of, parent_id_of, child_count_of, container_update_of, deleted_of, root_entry}
 use Rattle.cds_catalog.specs.Replay.{stands, live, MayFollow, IsLegal}
 use Rattle.cds_catalog.specs.Steps.{Standing, touched, touch, id_at, child_added, child_modified, child_deleted, modified, new_row, new_trackers, step, stepped}
 use Rattle.cds_catalog.specs.declared.change.Change.{Change}
 use Rattle.cds_catalog.specs.declared.change.Change.TheVariants.{Deletion, Addition, Modification}
 use Rattle.cds_catalog.proofs.StepsPaths.{Place, one_place, false_from, same_itself, swapped, parent_differs}
 use Rattle.cds_catalog.proofs.StepsFind.{Entry, find_in, Apart, removed, each-all, each-weaker, each_from_found, map-agree, none≢some, away_from_none, Apart_from_Rising, count_removed, count_by-cons}
-use Rattle.cds_catalog.proofs.StepsLive.{shown, rewritten, find_live, stands_named, holder, holds_is, parent_not_added}
-use Rattle.cds_catalog.proofs.StepsIds.{ids_rise}
+use Rattle.cds_catalog.proofs.StepsLive.{shown, shown_holder, rewritten, find_live, stands_named, holder, holds_is, parent_not_added}
+use Rattle.cds_catalog.proofs.StepsIds.{ids_rise, id_new}
 use Rattle.cds_catalog.proofs.StepsRow.{id_left, parent_left, update_left, update_set, container_left, container_set, container_new, deleted_more, deleted_new, children_pushed, children_rewritten, same_row, same_trackers, tracking, trackers_altered, trackers_left, trackers_are, for_folder, for_same_kind}
 
 -- the rows over changes whose newest folder map is what stands after them
@@ -158,3 +159,70 @@ untouched older at added l =
       where
         e : stands older p ≡ Some content
         e = sym (find_live older l.0 p) ∙ f
+
+count_none : {X : Type 0} (t : X → Bool) (xs : List X) → AllByRecursion (λ x. t x ≡ false) xs → count_by t xs ≡ 0
+count_none t [] h = refl
+count_none t (x ∷ xs) h = count_by-cons t x xs ∙ (λ i. cond (h.0 i) 1 0 + count_none t xs h.1 i)
+
+-- the id of the row at a place that is shown
+id_at_row : (first : ℕ) (changes : List Change) (es : FolderMap) (p : Place) (content : Content) → find_in es p ≡ Some content
+    → id_at p (map (row_over first changes) es) ≡ id_of changes p
+id_at_row first changes [] p content f = none≢some None content refl f
+id_at_row first changes (e ∷ es) p content f = by (same_path p e.0) refl f (id_at_row first changes es p content)
+  where
+    by : (b : Bool) → same_path p e.0 ≡ b → cond b (Some e.1) (find_in es p) ≡ Some content
+        → (find_in es p ≡ Some content → id_at p (map (row_over first changes) es) ≡ id_of changes p)
+        → cond b (id_of changes e.0) (id_at p (map (row_over first changes) es)) ≡ id_of changes p
+    by true x k r = ap (id_of changes) (sym (one_place p e.0 x))
+    by false x k r = r k
+
+new_trackers_are : (number : ℕ) (content : Content) → for_folder content (record { container_update = number; child_count = 0; deleted = 0 }) ≡ new_trackers number content
+new_trackers_are number (Folder title) = refl
+new_trackers_are number (Track track) = refl
+
+row_new : (first : ℕ) (older : List Change) (at : Place) (added : Content) → IsLegal (Addition at added ∷ older)
+    → row_at first (Addition at added ∷ older) (live (Addition at added ∷ older)) (at, added)
+        ≡ new_row (count_by is_addition older + 1) (id_at (parent_of at) (rows_over first older)) (first + length older + 1) added
+row_new first older at added l =
+    same_row _ _ (plus_one _ _ (id_new at added older at (same_itself at))) (parent at refl) refl (update_set first (Addition at added) older at (same_itself at))
+        (trackers_are first (Addition at added ∷ older) (live (Addition at added ∷ older)) at added
+        ∙ ap (for_folder added) tracked
+        ∙ new_trackers_are (first + length older + 1) added)
+  where
+    plus_one : (a b : ℕ) → a ≡ 1 + b → a ≡ b + 1
+    plus_one a b p = omega arith
+    differs : same_path (parent_of at) at ≡ false
+    differs = parent_differs at l.1.0
+    held_by : (content : Content) × (find_in (shown older) (parent_of at) ≡ Some content) × (is_folder content ≡ true)
+    held_by = shown_holder older l.0 (parent_of at) (sym (holds_is older (parent_of at)) ∙ l.1.2)
+    parent : (p : Place) → at ≡ p → parent_id_of (Addition at added ∷ older) p ≡ Some (id_at (parent_of at) (rows_over first older))
+    parent [] e = absurd (true≢false (sym (ap (λ p. same_path p []) e) ∙ l.1.0))
+    parent (name ∷ names) e =
+        ap Some (ap (λ q. id_of (Addition at added ∷ older) (parent_of q)) (sym e)
+            ∙ id_left (Addition at added) older (parent_of at) differs
+            ∙ sym (id_at_row first older (shown older) (parent_of at) held_by.0 held_by.1))
+    childless : child_count_of (live older) at ≡ 0
+    childless = count_none (λ (e : Entry). same_path at (parent_of e.0)) (live older)
+        (each-weaker (Untouched at) (λ e. same_path at (parent_of e.0) ≡ false) (λ e u. swapped (parent_of e.0) at false u.1) (live older) (untouched older at added l).1)
+    tracked : tracking first (Addition at added ∷ older) (live (Addition at added ∷ older)) at ≡ record { container_update = first + length older + 1; child_count = 0; deleted = 0 }
+    tracked = same_trackers _ _ (container_new first (Addition at added) older at (same_itself at))
+        (children_pushed (live older) at added at ∙ (λ i. childless i + cond (swapped (parent_of at) at false differs i) 1 0))
+        (deleted_new (Addition at added) older at (same_itself at))
+
+rows_added : (first : ℕ) (older : List Change) (at : Place) (added : Content) → IsLegal (Addition at added ∷ older)
+    → rows_over first (Addition at added ∷ older)
+        ≡ touch (parent_of at) (child_added (first + length older + 1)) (rows_over first older)
+            ++ (at, new_row (count_by is_addition older + 1) (id_at (parent_of at) (rows_over first older)) (first + length older + 1) added) ∷ []
+rows_added first older at added l =
+    map-append (row_over first (Addition at added ∷ older)) (shown older) ((at, added) ∷ [])
+    ∙ (λ i. kept i ++ (at, row_new first older at added l i) ∷ [])
+  where
+    one : (e : Entry) → Untouched at e → row_over first (Addition at added ∷ older) e ≡ touched (parent_of at) (child_added (first + length older + 1)) (row_over first older e)
+    one e u =
+        touched_row (parent_of at) (child_added (first + length older + 1)) e.0 (row_at first (Addition at added ∷ older) (live (Addition at added ∷ older)) e)
+            (row_at first older (live older) e) (row_added first older at added e u)
+    kept : map (row_over first (Addition at added ∷ older)) (shown older) ≡ touch (parent_of at) (child_added (first + length older + 1)) (rows_over first older)
+    kept =
+        map-agree (row_over first (Addition at added ∷ older)) (λ e. touched (parent_of at) (child_added (first + length older + 1)) (row_over first older e)) (shown older)
+            (each-weaker (Untouched at) (λ e. row_over first (Addition at added ∷ older) e ≡ touched (parent_of at) (child_added (first + length older + 1)) (row_over first older e)) one (shown older) (untouched older at added l))
+        ∙ sym (map_map (touched (parent_of at) (child_added (first + length older + 1))) (row_over first older) (shown older))
