@@ -34,6 +34,9 @@ standing_over first changes = record {
   rows = rows_over first changes
 }
 
+next : (first n : ℕ) → first + suc n ≡ first + n + 1
+next first n = omega arith
+
 map_map : {X Y Z : Type 0} (g : Y → Z) (f : X → Y) (xs : List X) → map g (map f xs) ≡ map (λ x. g (f x)) xs
 map_map g f [] = refl
 map_map g f (x ∷ xs) = ap (λ l. g (f x) ∷ l) (map_map g f xs)
@@ -226,3 +229,131 @@ rows_added first older at added l =
         map-agree (row_over first (Addition at added ∷ older)) (λ e. touched (parent_of at) (child_added (first + length older + 1)) (row_over first older e)) (shown older)
             (each-weaker (Untouched at) (λ e. row_over first (Addition at added ∷ older) e ≡ touched (parent_of at) (child_added (first + length older + 1)) (row_over first older e)) one (shown older) (untouched older at added l))
         ∙ sym (map_map (touched (parent_of at) (child_added (first + length older + 1))) (row_over first older) (shown older))
+
+-- ---- a modification
+
+abbrev Fits : Place → Content → Entry → Type 0
+Fits at written e = same_path at e.0 ≡ true → same_kind e.1 written ≡ true
+
+none_deleted : (a b : ℕ) → a ≡ 0 + b → a ≡ b
+none_deleted a b p = omega arith
+
+row_modified : (first : ℕ) (older : List Change) (at : Place) (written : Content) (e : Entry) → same_path (parent_of at) e.0 ≡ false
+    → same_path at e.0 ≡ true → same_kind e.1 written ≡ true
+    → row_at first (Modification at written ∷ older) (live (Modification at written ∷ older)) (e.0, written)
+        ≡ modified (first + length older + 1) written (row_at first older (live older) e)
+row_modified first older at written e u x k =
+    same_row _ _ refl (parent_left (Modification at written) older e.0 refl) refl (update_set first (Modification at written) older e.0 (swapped at e.0 true x))
+        (trackers_are first (Modification at written ∷ older) (live (Modification at written ∷ older)) e.0 written
+        ∙ for_same_kind e.1 written _ k
+        ∙ ap (for_folder e.1) tracked
+        ∙ sym (trackers_are first older (live older) e.0 e.1))
+  where
+    tracked : tracking first (Modification at written ∷ older) (live (Modification at written ∷ older)) e.0 ≡ tracking first older (live older) e.0
+    tracked = same_trackers _ _ (container_left first (Modification at written) older e.0 refl (swapped (parent_of at) e.0 false u))
+        (children_rewritten (live older) at written e.0)
+        (none_deleted _ _ (deleted_more (Modification at written) older e.0 refl))
+
+row_beside : (first : ℕ) (older : List Change) (at : Place) (written : Content) (e : Entry) → same_path at e.0 ≡ false
+    → row_at first (Modification at written ∷ older) (live (Modification at written ∷ older)) e
+        ≡ cond (same_path (parent_of at) e.0) (child_modified (first + length older + 1) (row_at first older (live older) e)) (row_at first older (live older) e)
+row_beside first older at written e u = by (same_path (parent_of at) e.0) refl
+  where
+    deletions : deleted_of (Modification at written ∷ older) e.0 ≡ deleted_of older e.0
+    deletions = none_deleted _ _ (deleted_more (Modification at written) older e.0 refl)
+    by : (b : Bool) → same_path (parent_of at) e.0 ≡ b → row_at first (Modification at written ∷ older) (live (Modification at written ∷ older)) e
+        ≡ cond b (child_modified (first + length older + 1) (row_at first older (live older) e)) (row_at first older (live older) e)
+    by true x =
+        same_row _ _ refl (parent_left (Modification at written) older e.0 refl) refl (update_left first (Modification at written) older e.0 (swapped at e.0 false u))
+            (trackers_altered first (Modification at written ∷ older) older (live (Modification at written ∷ older)) (live older) e.0 e.1 _
+                (same_trackers _ _ (container_set first (Modification at written) older e.0 (swapped (parent_of at) e.0 true x))
+                    (children_rewritten (live older) at written e.0) deletions))
+    by false x =
+        same_row _ _ refl (parent_left (Modification at written) older e.0 refl) refl (update_left first (Modification at written) older e.0 (swapped at e.0 false u))
+            (trackers_left first (Modification at written ∷ older) older (live (Modification at written ∷ older)) (live older) e.0 e.1
+                (same_trackers _ _ (container_left first (Modification at written) older e.0 refl (swapped (parent_of at) e.0 false x))
+                    (children_rewritten (live older) at written e.0) deletions))
+
+-- the entry with the new words
+abbrev worded : Place → Content → Entry → Entry
+worded at written e = cond (same_path at e.0) (e.0, written) e
+
+row_worded : (first : ℕ) (older : List Change) (at : Place) (written : Content) → same_path (parent_of at) at ≡ false → (e : Entry) → Fits at written e
+    → row_over first (Modification at written ∷ older) (worded at written e)
+        ≡ touched (parent_of at) (child_modified (first + length older + 1)) (touched at (modified (first + length older + 1) written) (row_over first older e))
+row_worded first older at written d e k = by (same_path at e.0) refl k
+  where
+    by : (b : Bool) → same_path at e.0 ≡ b → (b ≡ true → same_kind e.1 written ≡ true)
+        → row_over first (Modification at written ∷ older) (cond b (e.0, written) e)
+            ≡ touched (parent_of at) (child_modified (first + length older + 1))
+                (cond b (e.0, modified (first + length older + 1) written (row_at first older (live older) e)) (row_over first older e))
+    by true x f =
+        let u : same_path (parent_of at) e.0 ≡ false = sym (ap (same_path (parent_of at)) (one_place at e.0 x)) ∙ d in
+        touched_row (parent_of at) (child_modified (first + length older + 1)) e.0
+            (row_at first (Modification at written ∷ older) (live (Modification at written ∷ older)) (e.0, written))
+            (modified (first + length older + 1) written (row_at first older (live older) e))
+            (row_modified first older at written e u x (f refl)
+            ∙ sym (λ i. cond (u i) (child_modified (first + length older + 1) (modified (first + length older + 1) written (row_at first older (live older) e)))
+                (modified (first + length older + 1) written (row_at first older (live older) e))))
+    by false x f =
+        touched_row (parent_of at) (child_modified (first + length older + 1)) e.0
+            (row_at first (Modification at written ∷ older) (live (Modification at written ∷ older)) e)
+            (row_at first older (live older) e) (row_beside first older at written e x)
+
+rows_modified : (first : ℕ) (older : List Change) (at : Place) (written : Content) → IsLegal (Modification at written ∷ older)
+    → rows_over first (Modification at written ∷ older)
+        ≡ touch (parent_of at) (child_modified (first + length older + 1)) (touch at (modified (first + length older + 1) written) (rows_over first older))
+rows_modified first older at written l =
+    (λ i. map now (cond (named i) ([], written) root_entry ∷ rewritten at written (live older)))
+    ∙ map_map now (worded at written) (shown older)
+    ∙ map-agree (λ e. now (worded at written e)) (λ e. touched (parent_of at) under (touched at itself (row_over first older e))) (shown older)
+        (each-weaker (Fits at written) (λ e. now (worded at written e) ≡ touched (parent_of at) under (touched at itself (row_over first older e)))
+            (row_worded first older at written (parent_differs at (sym named))) (shown older) fits)
+    ∙ sym (map_map (λ placed. touched (parent_of at) under (touched at itself placed)) (row_over first older) (shown older))
+    ∙ sym (map_map (touched (parent_of at) under) (touched at itself) (rows_over first older))
+  where
+    now : Entry → PlacedRow
+    now = row_over first (Modification at written ∷ older)
+    under : ObjectRow → ObjectRow
+    under = child_modified (first + length older + 1)
+    itself : ObjectRow → ObjectRow
+    itself = modified (first + length older + 1) written
+    named : false ≡ same_path at []
+    named = sym (stands_named older at l.1.0 l.0 l.1.1)
+    one : (p : Place) (content : Content) → find_in (live older) p ≡ Some content → Fits at written (p, content)
+    one p content f x = subst (λ c. same_kind c written ≡ true) same l.1.2
+      where
+        same : l.1.0 ≡ content
+        same = let e : Some l.1.0 ≡ Some content = sym l.1.1 ∙ ap (stands older) (one_place at p x) ∙ sym (find_live older l.0 p) ∙ f in cc
+    fits : AllByRecursion (Fits at written) (shown older)
+    fits = ((λ x. absurd (true≢false (sym x ∙ sym named))), each_from_found (Fits at written) (live older) (live_apart older l.0).1 one)
+
+-- ---- all changes
+
+pub step_over : (first : ℕ) (change : Change) (older : List Change) → IsLegal (change ∷ older)
+    → standing_over first (change ∷ older) ≡ step (standing_over first older) change
+step_over first (Deletion at) older l =
+    λ i. record { number = next first (length older) i; drawn = none_drawn i; rows = rows_deleted first older at l i }
+  where
+    none_drawn : count_by is_addition (Deletion at ∷ older) ≡ count_by is_addition older
+    none_drawn = none_deleted _ _ (count_by-cons is_addition (Deletion at) older)
+step_over first (Addition at added) older l =
+    λ i. record { number = next first (length older) i; drawn = one_drawn i; rows = rows_added first older at added l i }
+  where
+    one_drawn : count_by is_addition (Addition at added ∷ older) ≡ count_by is_addition older + 1
+    one_drawn = plus_one _ _ (count_by-cons is_addition (Addition at added) older)
+      where
+        plus_one : (a b : ℕ) → a ≡ 1 + b → a ≡ b + 1
+        plus_one a b p = omega arith
+step_over first (Modification at written) older l =
+    λ i. record { number = next first (length older) i; drawn = none_drawn i; rows = rows_modified first older at written l i }
+  where
+    none_drawn : count_by is_addition (Modification at written ∷ older) ≡ count_by is_addition older
+    none_drawn = none_deleted _ _ (count_by-cons is_addition (Modification at written) older)
+
+-- legal changes step by step, from any that went before
+pub stepped_over : (first : ℕ) (newer older : List Change) → IsLegal (newer ++ older)
+    → standing_over first (newer ++ older) ≡ stepped (standing_over first older) newer
+stepped_over first [] older l = refl
+stepped_over first (change ∷ newer) older l =
+    step_over first change (newer ++ older) l ∙ ap (λ s. step s change) (stepped_over first newer older l.0)
