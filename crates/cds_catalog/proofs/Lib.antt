@@ -1,3 +1,9 @@
+pub mod Paths
+pub mod Contents
+pub mod Maps
+pub mod Found
+pub mod Inserted
+pub mod Accepted
 pub mod StepsPaths
 pub mod StepsFind
 pub mod StepsOrder
@@ -5,3 +11,4 @@ pub mod StepsLive
 pub mod StepsIds
 pub mod StepsRow
 pub mod StepsRows
+pub mod StepsCatalog

@@ -5,7 +5,8 @@ use Rattle.std.proofs.lemmas.List.Sums.{sum_by-cons}
 use Rattle.cds_object.specs.Path.{same_path, parent_of}
 use Rattle.cds_object.specs.declared.content.Content.{Content}
 use Rattle.cds_catalog.specs.Library.{FolderMap}
-use Rattle.cds_catalog.proofs.StepsPaths.{Place, one_place, same_itself, same_path-swap, swapped, other_place, false_from}
+use Rattle.cds_catalog.proofs.Paths.{same_path_is, same_path_itself, same_path_swap}
+use Rattle.cds_catalog.proofs.StepsPaths.{Place, swapped, other_place, false_from}
 
 abbrev pub Entry : Type 0
 Entry = Place × Content
@@ -88,7 +89,7 @@ found_holds P (e ∷ es) p c h f = by (same_path p e.0) refl f (found_holds P es
   where
     by : (b : Bool) → same_path p e.0 ≡ b → cond b (Some e.1) (find_in es p) ≡ Some c → (find_in es p ≡ Some c → P (p, c)) → P (p, c)
     by true q k r =
-        let a : e.0 ≡ p = sym (one_place p e.0 q) in
+        let a : e.0 ≡ p = sym (same_path_is p e.0 q) in
         let d : e.1 ≡ c = cc in
         subst P (λ i. (a i, d i)) h.0
     by false q k r = r k
@@ -96,7 +97,7 @@ found_holds P (e ∷ es) p c h f = by (same_path p e.0) refl f (found_holds P es
 -- what holds of all that is found holds of each entry
 pub each_from_found : (P : Entry → Type 0) (es : FolderMap) → Apart es → ((p : Place) (c : Content) → find_in es p ≡ Some c → P (p, c)) → AllByRecursion P es
 each_from_found P [] a h = tt
-each_from_found P (e ∷ es) a h = (h e.0 e.1 (λ i. cond (same_itself e.0 i) (Some e.1) (find_in es e.0)), each_from_found P es a.1 rest)
+each_from_found P (e ∷ es) a h = (h e.0 e.1 (λ i. cond (same_path_itself e.0 i) (Some e.1) (find_in es e.0)), each_from_found P es a.1 rest)
   where
     rest : (p : Place) (c : Content) → find_in es p ≡ Some c → P (p, c)
     rest p c f = by (same_path p e.0) refl
@@ -104,7 +105,7 @@ each_from_found P (e ∷ es) a h = (h e.0 e.1 (λ i. cond (same_itself e.0 i) (S
         by : (b : Bool) → same_path p e.0 ≡ b → P (p, c)
         by true q =
             let n : find_in es e.0 ≡ None = none_from_away es e.0 a.0 in
-            none≢some (find_in es p) c (ap (find_in es) (one_place p e.0 q) ∙ n) f
+            none≢some (find_in es p) c (ap (find_in es) (same_path_is p e.0 q) ∙ n) f
         by false q = h p c ((λ i. cond (q i) (Some e.1) (find_in es p)) ∙ f)
 
 pub Apart_from_Rising : (f : Place → ℕ) (es : FolderMap) → Rising f es → Apart es
@@ -112,7 +113,7 @@ Apart_from_Rising f [] h = tt
 Apart_from_Rising f (e ∷ es) h = (each-weaker (λ o. f e.0 < f o.0) (λ o. same_path e.0 o.0 ≡ false) differs es h.0, Apart_from_Rising f es h.1)
   where
     differs : (o : Entry) → f e.0 < f o.0 → same_path e.0 o.0 ≡ false
-    differs o l = false_from _ (λ s. let q : f e.0 ≡ f o.0 = ap f (one_place e.0 o.0 s) in absurd (omega arith))
+    differs o l = false_from _ (λ s. let q : f e.0 ≡ f o.0 = ap f (same_path_is e.0 o.0 s) in absurd (omega arith))
 
 -- ---- without a place
 
@@ -127,9 +128,9 @@ find_removed (e ∷ es) p q = by (same_path p e.0) (same_path q p) (same_path q 
     by : (b c d : Bool) → same_path p e.0 ≡ b → same_path q p ≡ c → same_path q e.0 ≡ d → find_in (removed p es) q ≡ cond (same_path q p) None (find_in es q)
         → find_in (cond (not b) (e ∷ removed p es) (removed p es)) q ≡ cond c None (cond d (Some e.1) (find_in es q))
     by true true d x y z r = r ∙ (λ i. cond (y i) None (find_in es q))
-    by true false true x y z r = absurd (true≢false (sym z ∙ sym (ap (same_path q) (one_place p e.0 x)) ∙ y))
+    by true false true x y z r = absurd (true≢false (sym z ∙ sym (ap (same_path q) (same_path_is p e.0 x)) ∙ y))
     by true false false x y z r = r ∙ (λ i. cond (y i) None (find_in es q))
-    by false true true x y z r = absurd (true≢false (sym z ∙ (λ i. same_path (one_place q p y i) e.0) ∙ x))
+    by false true true x y z r = absurd (true≢false (sym z ∙ (λ i. same_path (same_path_is q p y i) e.0) ∙ x))
     by false false true x y z r = λ i. cond (z i) (Some e.1) (find_in (removed p es) q)
     by false true false x y z r = (λ i. cond (z i) (Some e.1) (find_in (removed p es) q)) ∙ r ∙ (λ i. cond (y i) None (find_in es q))
     by false false false x y z r = (λ i. cond (z i) (Some e.1) (find_in (removed p es) q)) ∙ r ∙ (λ i. cond (y i) None (find_in es q))
@@ -157,7 +158,7 @@ Apart-removed p (e ∷ es) h = by (same_path p e.0) (Apart-removed p es h.1)
 
 -- what is away from a place is away from one that is the same
 pub away_along : (p q : Place) (es : FolderMap) → same_path p q ≡ true → AllByRecursion (λ o. same_path q o.0 ≡ false) es → AllByRecursion (λ o. same_path p o.0 ≡ false) es
-away_along p q es e = subst (λ x. AllByRecursion (λ o. same_path x o.0 ≡ false) es) (sym (one_place p q e))
+away_along p q es e = subst (λ x. AllByRecursion (λ o. same_path x o.0 ≡ false) es) (sym (same_path_is p q e))
 
 -- ---- entries that answer alike
 
@@ -166,11 +167,11 @@ pub rest_same : (e : Entry) (es fs : FolderMap) → AllByRecursion (λ o. same_p
 rest_same e es fs a h q = by (same_path q e.0) refl ∙ sym (find_removed fs e.0 q)
   where
     by : (b : Bool) → same_path q e.0 ≡ b → find_in es q ≡ cond (same_path q e.0) None (find_in fs q)
-    by true x = ap (find_in es) (one_place q e.0 x) ∙ none_from_away es e.0 a ∙ sym (λ i. cond (x i) None (find_in fs q))
+    by true x = ap (find_in es) (same_path_is q e.0 x) ∙ none_from_away es e.0 a ∙ sym (λ i. cond (x i) None (find_in fs q))
     by false x = sym (λ i. cond (x i) (Some e.1) (find_in es q)) ∙ h q ∙ sym (λ i. cond (x i) None (find_in fs q))
 
 pub found_first : (e : Entry) (es : FolderMap) → find_in (e ∷ es) e.0 ≡ Some e.1
-found_first e es = λ i. cond (same_itself e.0 i) (Some e.1) (find_in es e.0)
+found_first e es = λ i. cond (same_path_itself e.0 i) (Some e.1) (find_in es e.0)
 
 pub nothing_found : (fs : FolderMap) → ((p : Place) → None ≡ find_in fs p) → fs ≡ []
 nothing_found [] h = refl
@@ -194,7 +195,7 @@ count_removed t (e ∷ es) p c a f = by (same_path p e.0) refl f (count_removed 
         → count_places t (e ∷ es) ≡ cond (t p) 1 0 + count_places t (cond (not b) (e ∷ removed p es) (removed p es))
     by true x k r =
         count_by-cons (λ e. t e.0) e es
-        ∙ (λ i. cond (t (sym (one_place p e.0 x) i)) 1 0 + count_places t (sym (removed_away es p (away_along p e.0 es x a.0)) i))
+        ∙ (λ i. cond (t (sym (same_path_is p e.0 x) i)) 1 0 + count_places t (sym (removed_away es p (away_along p e.0 es x a.0)) i))
     by false x k r =
         let one = count_by-cons (λ e. t e.0) e es in
         let two = count_by-cons (λ e. t e.0) e (removed p es) in

@@ -9,7 +9,8 @@ use Rattle.cds_catalog.specs.Catalog.{id_of, root_entry}
 use Rattle.cds_catalog.specs.Replay.{stands, live, IsLegal}
 use Rattle.cds_catalog.specs.declared.change.Change.{Change}
 use Rattle.cds_catalog.specs.declared.change.Change.TheVariants.{Deletion, Addition, Modification}
-use Rattle.cds_catalog.proofs.StepsPaths.{Place, one_place, same_itself, swapped, parent_differs}
+use Rattle.cds_catalog.proofs.Paths.{same_path_is, same_path_itself}
+use Rattle.cds_catalog.proofs.StepsPaths.{Place, swapped, parent_differs}
 use Rattle.cds_catalog.proofs.StepsFind.{Entry, find_in, Rising, each-weaker, each-append, each-filter, each-both, count_by-cons, none≢some, Rising-removed, away_from_none, found_holds}
 use Rattle.cds_catalog.proofs.StepsLive.{shown, rewritten, find_live, parent_not_added}
 
@@ -96,7 +97,7 @@ ids_rise (Addition at added ∷ older) l =
         → (id_of (Addition at added ∷ older) o.0 ≡ id_of older o.0) × (id_of (Addition at added ∷ older) o.0 < id_of (Addition at added ∷ older) at)
     earlier o x =
         let kept = id_kept at added older o.0 (swapped at o.0 false x) in
-        (kept, below_new _ _ _ _ kept (id_new at added older at (same_itself at)) (id_drawn older o.0))
+        (kept, below_new _ _ _ _ kept (id_new at added older at (same_path_itself at)) (id_drawn older o.0))
 ids_rise (Modification at written ∷ older) l =
     let r = ids_rise older l.0 in
     (each-rewritten (λ q. id_of older [] < id_of older q) at written (live older) r.0, Rising-rewritten (id_of older) at written (live older) r.1)
@@ -117,7 +118,7 @@ parent_lower (Addition at added ∷ older) p content l e = by (same_path p at) r
         → (stands older p ≡ Some content → id_of older (parent_of p) < id_of older p)
         → id_of (Addition at added ∷ older) (parent_of p) < id_of (Addition at added ∷ older) p
     by true x k r =
-        let differs : same_path (parent_of p) at ≡ false = subst (λ q. same_path (parent_of q) at ≡ false) (sym (one_place p at x)) (parent_differs at l.1.0) in
+        let differs : same_path (parent_of p) at ≡ false = subst (λ q. same_path (parent_of q) at ≡ false) (sym (same_path_is p at x)) (parent_differs at l.1.0) in
         below_new _ _ _ _ (id_kept at added older (parent_of p) differs) (id_new at added older p x) (id_drawn older (parent_of p))
     by false x k r = between _ _ _ _ (id_kept at added older (parent_of p) (parent_not_added older at added l p content k)) (id_kept at added older p x) (r k)
       where
@@ -128,5 +129,5 @@ parent_lower (Modification at written ∷ older) p content l e = by (same_path p
     by : (b : Bool) → same_path p at ≡ b → cond b (Some written) (stands older p) ≡ Some content
         → ((c : Content) → IsLegal older → stands older p ≡ Some c → id_of older (parent_of p) < id_of older p)
         → id_of older (parent_of p) < id_of older p
-    by true x k r = r l.1.0 l.0 (ap (stands older) (one_place p at x) ∙ l.1.1)
+    by true x k r = r l.1.0 l.0 (ap (stands older) (same_path_is p at x) ∙ l.1.1)
     by false x k r = r content l.0 k

@@ -11,7 +11,8 @@ use Rattle.cds_catalog.specs.Catalog.{root_entry}
 use Rattle.cds_catalog.specs.Replay.{stands, live, holds_after, MayFollow, IsLegal}
 use Rattle.cds_catalog.specs.declared.change.Change.{Change}
 use Rattle.cds_catalog.specs.declared.change.Change.TheVariants.{Deletion, Addition, Modification}
-use Rattle.cds_catalog.proofs.StepsPaths.{Place, one_place, same_itself, swapped, false_from, parent_differs}
+use Rattle.cds_catalog.proofs.Paths.{same_path_is, same_path_itself}
+use Rattle.cds_catalog.proofs.StepsPaths.{Place, swapped, false_from, parent_differs}
 use Rattle.cds_catalog.proofs.StepsFind.{Entry, find_in, removed, none≢some, find_removed, away_from_none}
 
 -- the root and all that stands
@@ -32,7 +33,7 @@ find_push (e ∷ es) at content p h = by (same_path p at) (same_path p e.0) refl
     by : (b c : Bool) → same_path p at ≡ b → same_path p e.0 ≡ c
         → find_in (es ++ (at, content) ∷ []) p ≡ cond (same_path p at) (Some content) (find_in es p)
         → cond c (Some e.1) (find_in (es ++ (at, content) ∷ []) p) ≡ cond b (Some content) (cond c (Some e.1) (find_in es p))
-    by true true x y r = absurd (true≢false (sym y ∙ ap (λ q. same_path q e.0) (one_place p at x) ∙ h.0))
+    by true true x y r = absurd (true≢false (sym y ∙ ap (λ q. same_path q e.0) (same_path_is p at x) ∙ h.0))
     by false true x y r = refl
     by true false x y r = r ∙ (λ i. cond (x i) (Some content) (find_in es p))
     by false false x y r = r ∙ (λ i. cond (x i) (Some content) (find_in es p))
@@ -57,10 +58,10 @@ find_rewritten (e ∷ es) at content p = by (same_path at e.0) (same_path p at) 
     by true true true x y z r = λ i. cond (z i) (Some content) (find_in (rewritten at content es) p)
     by true true false x y z r =
         (λ i. cond (z i) (Some content) (find_in (rewritten at content es) p)) ∙ r ∙ (λ i. cond (y i) (said content (find_in es p)) (find_in es p))
-    by true false true x y z r = absurd (true≢false (sym z ∙ sym (ap (same_path p) (one_place at e.0 x)) ∙ y))
+    by true false true x y z r = absurd (true≢false (sym z ∙ sym (ap (same_path p) (same_path_is at e.0 x)) ∙ y))
     by true false false x y z r =
         (λ i. cond (z i) (Some content) (find_in (rewritten at content es) p)) ∙ r ∙ (λ i. cond (y i) (said content (find_in es p)) (find_in es p))
-    by false true true x y z r = absurd (true≢false (sym z ∙ ap (λ q. same_path q e.0) (one_place p at y) ∙ x))
+    by false true true x y z r = absurd (true≢false (sym z ∙ ap (λ q. same_path q e.0) (same_path_is p at y) ∙ x))
     by false true false x y z r =
         (λ i. cond (z i) (Some e.1) (find_in (rewritten at content es) p)) ∙ r ∙ (λ i. cond (y i) (said content (find_in es p)) (find_in es p))
     by false false true x y z r = λ i. cond (z i) (Some e.1) (find_in (rewritten at content es) p)
@@ -81,7 +82,7 @@ find_live (Modification at content ∷ older) l p =
     ∙ by (same_path p at) refl
   where
     by : (b : Bool) → same_path p at ≡ b → cond b (said content (stands older p)) (stands older p) ≡ cond b (Some content) (stands older p)
-    by true x = ap (said content) (ap (stands older) (one_place p at x) ∙ l.1.1)
+    by true x = ap (said content) (ap (stands older) (same_path_is p at x) ∙ l.1.1)
     by false x = refl
 
 -- ---- the root, and what holds each place
@@ -99,12 +100,12 @@ rootless (Addition at content ∷ older) l =
 rootless (Modification at content ∷ older) l = by (same_path [] at) refl (rootless older l.0)
   where
     by : (b : Bool) → same_path [] at ≡ b → stands older [] ≡ None → cond b (Some content) (stands older []) ≡ None
-    by true x r = none≢some (stands older []) l.1.0 r (ap (stands older) (one_place [] at x) ∙ l.1.1)
+    by true x r = none≢some (stands older []) l.1.0 r (ap (stands older) (same_path_is [] at x) ∙ l.1.1)
     by false x r = r
 
 pub stands_named : (changes : List Change) (p : Place) (content : Content) → IsLegal changes → stands changes p ≡ Some content → same_path p [] ≡ false
 stands_named changes p content l e =
-    false_from _ (λ s. none≢some (stands changes p) content (ap (stands changes) (one_place p [] s) ∙ rootless changes l) e)
+    false_from _ (λ s. none≢some (stands changes p) content (ap (stands changes) (same_path_is p [] s) ∙ rootless changes l) e)
 
 -- whether what stands at a place holds others
 abbrev pub holder : Place → Option Content → Bool
@@ -136,7 +137,7 @@ parent_other : (older : List Change) (at p : Place) → same_path at [] ≡ fals
 parent_other older at p n e h = false_from _ (λ s. true≢false (sym (holder_none at (moved s)) ∙ n))
   where
     moved : same_path (parent_of p) at ≡ true → holder at None ≡ true
-    moved s = ap (holder at) (sym e) ∙ subst (λ q. holder q (stands older q) ≡ true) (one_place (parent_of p) at s) h
+    moved s = ap (holder at) (sym e) ∙ subst (λ q. holder q (stands older q) ≡ true) (same_path_is (parent_of p) at s) h
 
 pub held : (changes : List Change) (p : Place) (content : Content) → IsLegal changes → stands changes p ≡ Some content
     → holder (parent_of p) (stands changes (parent_of p)) ≡ true
@@ -158,7 +159,7 @@ held (Addition at added ∷ older) p content l e = by (same_path p at) refl e (h
         → (stands older p ≡ Some content → holder (parent_of p) (stands older (parent_of p)) ≡ true)
         → holder (parent_of p) (cond (same_path (parent_of p) at) (Some added) (stands older (parent_of p))) ≡ true
     by true x k r =
-        subst (λ q. holder (parent_of q) (cond (same_path (parent_of q) at) (Some added) (stands older (parent_of q))) ≡ true) (sym (one_place p at x))
+        subst (λ q. holder (parent_of q) (cond (same_path (parent_of q) at) (Some added) (stands older (parent_of q))) ≡ true) (sym (same_path_is p at x))
             (kept (parent_of at) (parent_differs at l.1.0) (sym (holds_is older (parent_of at)) ∙ l.1.2))
     by false x k r = kept (parent_of p) (parent_other older at p l.1.0 l.1.1 (r k)) (r k)
 held (Modification at written ∷ older) p content l e = by (same_path p at) refl e (held older p)
@@ -167,12 +168,12 @@ held (Modification at written ∷ older) p content l e = by (same_path p at) ref
         → holder (parent_of p) (cond c (Some written) (stands older (parent_of p))) ≡ true
     kept true y h =
         holder_kind (parent_of p) l.1.0 written l.1.2
-            (ap (holder (parent_of p)) (sym (ap (stands older) (one_place (parent_of p) at y) ∙ l.1.1)) ∙ h)
+            (ap (holder (parent_of p)) (sym (ap (stands older) (same_path_is (parent_of p) at y) ∙ l.1.1)) ∙ h)
     kept false y h = h
     by : (b : Bool) → same_path p at ≡ b → cond b (Some written) (stands older p) ≡ Some content
         → ((c : Content) → IsLegal older → stands older p ≡ Some c → holder (parent_of p) (stands older (parent_of p)) ≡ true)
         → holder (parent_of p) (cond (same_path (parent_of p) at) (Some written) (stands older (parent_of p))) ≡ true
-    by true x k r = kept (same_path (parent_of p) at) refl (r l.1.0 l.0 (ap (stands older) (one_place p at x) ∙ l.1.1))
+    by true x k r = kept (same_path (parent_of p) at) refl (r l.1.0 l.0 (ap (stands older) (same_path_is p at x) ∙ l.1.1))
     by false x k r = kept (same_path (parent_of p) at) refl (r content l.0 k)
 
 -- the parent of what stands is not where the next addition goes

@@ -4,7 +4,8 @@ use Rattle.std.specs.List.{AllByRecursion}
 use Rattle.cds_object.specs.Path.{same_path}
 use Rattle.cds_catalog.specs.Library.{FolderMap}
 use Rattle.cds_catalog.specs.Catalog.{PlacedRow, put_row, in_order}
-use Rattle.cds_catalog.proofs.StepsPaths.{Place, one_place}
+use Rattle.cds_catalog.proofs.Paths.{same_path_is}
+use Rattle.cds_catalog.proofs.StepsPaths.{Place}
 use Rattle.cds_catalog.proofs.StepsFind.{Entry, find_in, Apart, Rising, removed, each-map, each-weaker, none≢some, found_holds, removed_away, away_along, Apart_from_Rising, Rising-removed, rest_same, found_first, nothing_found}
 
 put_first : (x : PlacedRow) (xs : List PlacedRow) → AllByRecursion (λ y. x.1.id < y.1.id) xs → put_row x xs ≡ x ∷ xs
@@ -49,7 +50,7 @@ module _ (f : Place → ℕ) (row : Entry → PlacedRow) (ids : (e : Entry) → 
           → (find_in es e.0 ≡ Some e.1 → put_row (row e) (map row (removed e.0 es)) ≡ map row es)
           → put_row (row e) (map row (cond (not b) (y ∷ removed e.0 es) (removed e.0 es))) ≡ row y ∷ map row es
       by true x k r =
-          let a : e.0 ≡ y.0 = one_place e.0 y.0 x in
+          let a : e.0 ≡ y.0 = same_path_is e.0 y.0 x in
           let d : e.1 ≡ y.1 = cc in
           let same : e ≡ y = λ i. (a i, d i) in
           (λ i. put_row (row (same i)) (map row (removed_away es e.0 (away_along e.0 y.0 es x away) i)))

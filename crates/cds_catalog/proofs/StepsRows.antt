@@ -14,7 +14,8 @@ use Rattle.cds_catalog.specs.Replay.{stands, live, MayFollow, IsLegal}
 use Rattle.cds_catalog.specs.Steps.{Standing, touched, touch, id_at, child_added, child_modified, child_deleted, modified, new_row, new_trackers, step, stepped}
 use Rattle.cds_catalog.specs.declared.change.Change.{Change}
 use Rattle.cds_catalog.specs.declared.change.Change.TheVariants.{Deletion, Addition, Modification}
-use Rattle.cds_catalog.proofs.StepsPaths.{Place, one_place, false_from, same_itself, swapped, parent_differs}
+use Rattle.cds_catalog.proofs.Paths.{same_path_is, same_path_itself}
+use Rattle.cds_catalog.proofs.StepsPaths.{Place, false_from, swapped, parent_differs}
 use Rattle.cds_catalog.proofs.StepsFind.{Entry, find_in, Apart, removed, each-all, each-weaker, each_from_found, map-agree, none≢some, away_from_none, Apart_from_Rising, count_removed, count_by-cons}
 use Rattle.cds_catalog.proofs.StepsLive.{shown, shown_holder, rewritten, find_live, stands_named, holder, holds_is, parent_not_added}
 use Rattle.cds_catalog.proofs.StepsIds.{ids_rise, id_new}
@@ -158,7 +159,7 @@ untouched older at added l =
     ((swapped at [] false l.1.0, swapped at [] false l.1.0), each_from_found (Untouched at) (live older) (live_apart older l.0).1 one)
   where
     one : (p : Place) (content : Content) → find_in (live older) p ≡ Some content → Untouched at (p, content)
-    one p content f = (false_from _ (λ s. none≢some (stands older p) content (ap (stands older) (one_place p at s) ∙ l.1.1) e), parent_not_added older at added l p content e)
+    one p content f = (false_from _ (λ s. none≢some (stands older p) content (ap (stands older) (same_path_is p at s) ∙ l.1.1) e), parent_not_added older at added l p content e)
       where
         e : stands older p ≡ Some content
         e = sym (find_live older l.0 p) ∙ f
@@ -176,7 +177,7 @@ id_at_row first changes (e ∷ es) p content f = by (same_path p e.0) refl f (id
     by : (b : Bool) → same_path p e.0 ≡ b → cond b (Some e.1) (find_in es p) ≡ Some content
         → (find_in es p ≡ Some content → id_at p (map (row_over first changes) es) ≡ id_of changes p)
         → cond b (id_of changes e.0) (id_at p (map (row_over first changes) es)) ≡ id_of changes p
-    by true x k r = ap (id_of changes) (sym (one_place p e.0 x))
+    by true x k r = ap (id_of changes) (sym (same_path_is p e.0 x))
     by false x k r = r k
 
 new_trackers_are : (number : ℕ) (content : Content) → for_folder content (record { container_update = number; child_count = 0; deleted = 0 }) ≡ new_trackers number content
@@ -187,7 +188,7 @@ row_new : (first : ℕ) (older : List Change) (at : Place) (added : Content) →
     → row_at first (Addition at added ∷ older) (live (Addition at added ∷ older)) (at, added)
         ≡ new_row (count_by is_addition older + 1) (id_at (parent_of at) (rows_over first older)) (first + length older + 1) added
 row_new first older at added l =
-    same_row _ _ (plus_one _ _ (id_new at added older at (same_itself at))) (parent at refl) refl (update_set first (Addition at added) older at (same_itself at))
+    same_row _ _ (plus_one _ _ (id_new at added older at (same_path_itself at))) (parent at refl) refl (update_set first (Addition at added) older at (same_path_itself at))
         (trackers_are first (Addition at added ∷ older) (live (Addition at added ∷ older)) at added
         ∙ ap (for_folder added) tracked
         ∙ new_trackers_are (first + length older + 1) added)
@@ -208,9 +209,9 @@ row_new first older at added l =
     childless = count_none (λ (e : Entry). same_path at (parent_of e.0)) (live older)
         (each-weaker (Untouched at) (λ e. same_path at (parent_of e.0) ≡ false) (λ e u. swapped (parent_of e.0) at false u.1) (live older) (untouched older at added l).1)
     tracked : tracking first (Addition at added ∷ older) (live (Addition at added ∷ older)) at ≡ record { container_update = first + length older + 1; child_count = 0; deleted = 0 }
-    tracked = same_trackers _ _ (container_new first (Addition at added) older at (same_itself at))
+    tracked = same_trackers _ _ (container_new first (Addition at added) older at (same_path_itself at))
         (children_pushed (live older) at added at ∙ (λ i. childless i + cond (swapped (parent_of at) at false differs i) 1 0))
-        (deleted_new (Addition at added) older at (same_itself at))
+        (deleted_new (Addition at added) older at (same_path_itself at))
 
 rows_added : (first : ℕ) (older : List Change) (at : Place) (added : Content) → IsLegal (Addition at added ∷ older)
     → rows_over first (Addition at added ∷ older)
@@ -288,7 +289,7 @@ row_worded first older at written d e k = by (same_path at e.0) refl k
             ≡ touched (parent_of at) (child_modified (first + length older + 1))
                 (cond b (e.0, modified (first + length older + 1) written (row_at first older (live older) e)) (row_over first older e))
     by true x f =
-        let u : same_path (parent_of at) e.0 ≡ false = sym (ap (same_path (parent_of at)) (one_place at e.0 x)) ∙ d in
+        let u : same_path (parent_of at) e.0 ≡ false = sym (ap (same_path (parent_of at)) (same_path_is at e.0 x)) ∙ d in
         touched_row (parent_of at) (child_modified (first + length older + 1)) e.0
             (row_at first (Modification at written ∷ older) (live (Modification at written ∷ older)) (e.0, written))
             (modified (first + length older + 1) written (row_at first older (live older) e))
@@ -324,7 +325,7 @@ rows_modified first older at written l =
     one p content f x = subst (λ c. same_kind c written ≡ true) same l.1.2
       where
         same : l.1.0 ≡ content
-        same = let e : Some l.1.0 ≡ Some content = sym l.1.1 ∙ ap (stands older) (one_place at p x) ∙ sym (find_live older l.0 p) ∙ f in cc
+        same = let e : Some l.1.0 ≡ Some content = sym l.1.1 ∙ ap (stands older) (same_path_is at p x) ∙ sym (find_live older l.0 p) ∙ f in cc
     fits : AllByRecursion (Fits at written) (shown older)
     fits = ((λ x. absurd (true≢false (sym x ∙ sym named))), each_from_found (Fits at written) (live older) (live_apart older l.0).1 one)
 
