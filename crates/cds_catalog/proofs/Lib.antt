@@ -12,3 +12,5 @@ pub mod StepsIds
 pub mod StepsRow
 pub mod StepsRows
 pub mod StepsCatalog
+pub mod StepsWithin
+pub mod StepsTree

@@ -38,7 +38,7 @@ standing_over first changes = record {
 next : (first n : ℕ) → first + suc n ≡ first + n + 1
 next first n = omega arith
 
-map_map : {X Y Z : Type 0} (g : Y → Z) (f : X → Y) (xs : List X) → map g (map f xs) ≡ map (λ x. g (f x)) xs
+pub map_map : {X Y Z : Type 0} (g : Y → Z) (f : X → Y) (xs : List X) → map g (map f xs) ≡ map (λ x. g (f x)) xs
 map_map g f [] = refl
 map_map g f (x ∷ xs) = ap (λ l. g (f x) ∷ l) (map_map g f xs)
 
