@@ -27,15 +27,17 @@ find_content (e ∷ es) p = ap (cond (same_path p e.0) (Some e.1)) (find_content
 
 Apart_from_Ascends : (library : FolderMap) → Ascends library → Apart library
 Apart_from_Ascends [] a = tt
-Apart_from_Ascends (e ∷ es) a =
-    (each-weaker (λ o. path_cmp e.0 o.0 ≡ Less) (λ o. same_path e.0 o.0 ≡ false) (λ o. same_path_Less e.0 o.0) es (ascends_head e es a),
-    Apart_from_Ascends es (ascends_tail e es a))
+Apart_from_Ascends (e ∷ es) a = (
+  each-weaker (λ o. path_cmp e.0 o.0 ≡ Less) (λ o. same_path e.0 o.0 ≡ false) (λ o. same_path_Less e.0 o.0) es (ascends_head e es a),
+  Apart_from_Ascends es (ascends_tail e es a),
+)
 
 -- the root and the places of a folder map are apart
 rooted_apart : (library : FolderMap) → IsLibrary library → Apart (root_entry ∷ library)
-rooted_apart library is =
-    (each-weaker (λ e. same_path e.0 [] ≡ false) (λ e. same_path [] e.0 ≡ false) (λ e. swapped e.0 [] false) library is.rootless,
-    Apart_from_Ascends library is.ascending)
+rooted_apart library is = (
+  each-weaker (λ e. same_path e.0 [] ≡ false) (λ e. same_path [] e.0 ≡ false) (λ e. swapped e.0 [] false) library is.rootless,
+  Apart_from_Ascends library is.ascending,
+)
 
 -- a row knows its folder map by the children alone
 row_in : (first : ℕ) (changes : List Change) (library other : FolderMap) → ((p : Place) → child_count_of library p ≡ child_count_of other p) → (e : Entry)
@@ -54,15 +56,15 @@ module _ (first : ℕ) (maps : List FolderMap) (all : AreLibraries maps) where
   children : (p : Place) → child_count_of (latest maps) p ≡ child_count_of (live (changes_of maps)) p
   children p =
       count_same (λ q. same_path p (parent_of q)) (latest maps) (live (changes_of maps)) (Apart_from_Ascends (latest maps) (latest_is_library maps all).ascending)
-          (Apart_from_Rising (id_of (changes_of maps)) (live (changes_of maps)) (ids_rise (changes_of maps) legal).1) answers
+      (Apart_from_Rising (id_of (changes_of maps)) (live (changes_of maps)) (ids_rise (changes_of maps) legal).1) answers
 
   pub placed_rows_over : placed_rows (record { first = first; maps = maps }) ≡ rows_over first (changes_of maps)
   placed_rows_over =
       ap in_order (map-agree counted (row_over first (changes_of maps)) (root_entry ∷ latest maps)
-          (each-all (λ e. counted e ≡ row_over first (changes_of maps) e) (λ e i. (e.0, row_in first (changes_of maps) (latest maps) (live (changes_of maps)) children e i)) (root_entry ∷ latest maps)))
+      (each-all (λ e. counted e ≡ row_over first (changes_of maps) e) (λ e i. (e.0, row_in first (changes_of maps) (latest maps) (live (changes_of maps)) children e i)) (root_entry ∷ latest maps)))
       ∙ order_same (id_of (changes_of maps)) (row_over first (changes_of maps)) (λ e. refl) (root_entry ∷ latest maps) (shown (changes_of maps))
-          (rooted_apart (latest maps) (latest_is_library maps all)) (ids_rise (changes_of maps) legal)
-          (λ p. ap (cond (same_path p []) (Some root_entry.1)) (answers p))
+      (rooted_apart (latest maps) (latest_is_library maps all)) (ids_rise (changes_of maps) legal)
+      (λ p. ap (cond (same_path p []) (Some root_entry.1)) (answers p))
     where
       counted : Entry → PlacedRow
       counted e = (e.0, row_at first (changes_of maps) (latest maps) e)
@@ -72,7 +74,7 @@ standing_is_over history all =
     λ i. record {
       number = (standing_of history).number;
       drawn = (standing_of history).drawn;
-      rows = placed_rows_over history.first history.maps all i
+      rows = placed_rows_over history.first history.maps all i;
     }
 
 pub steps_lead_to_the_catalog-proof : steps_lead_to_the_catalog

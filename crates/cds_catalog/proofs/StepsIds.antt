@@ -56,12 +56,13 @@ id_root (Modification at written ∷ older) l = id_root older l.0
 
 Rising-push : (f g : Place → ℕ) (es : FolderMap) (e : Entry) → Rising f es → AllByRecursion (λ o. (g o.0 ≡ f o.0) × (g o.0 < g e.0)) es → Rising g (es ++ e ∷ [])
 Rising-push f g [] e h k = (tt, tt)
-Rising-push f g (x ∷ es) e h k =
-    (each-append (λ o. g x.0 < g o.0) es (e ∷ [])
-        (each-weaker (λ o. (f x.0 < f o.0) × ((g o.0 ≡ f o.0) × (g o.0 < g e.0))) (λ o. g x.0 < g o.0) (λ o r. omega arith) es
-            (each-both (λ o. f x.0 < f o.0) (λ o. (g o.0 ≡ f o.0) × (g o.0 < g e.0)) es h.0 k.1))
-        (k.0.1, tt),
-    Rising-push f g es e h.1 k.1)
+Rising-push f g (x ∷ es) e h k = (
+  each-append (λ o. g x.0 < g o.0) es (e ∷ [])
+      (each-weaker (λ o. (f x.0 < f o.0) × ((g o.0 ≡ f o.0) × (g o.0 < g e.0))) (λ o. g x.0 < g o.0) (λ o r. omega arith) es
+      (each-both (λ o. f x.0 < f o.0) (λ o. (g o.0 ≡ f o.0) × (g o.0 < g e.0)) es h.0 k.1))
+      (k.0.1, tt),
+  Rising-push f g es e h.1 k.1,
+)
 
 pub each-rewritten : (P : Place → Type 0) (at : Place) (content : Content) (es : FolderMap) → AllByRecursion (λ o. P o.0) es
     → AllByRecursion (λ o. P o.0) (rewritten at content es)
@@ -91,7 +92,7 @@ ids_rise (Deletion at ∷ older) l =
     (each-filter (λ o. id_of older [] < id_of older o.0) (λ o. not (same_path at o.0)) (live older) r.0, Rising-removed (id_of older) at (live older) r.1)
 ids_rise (Addition at added ∷ older) l =
     Rising-push (id_of older) (id_of (Addition at added ∷ older)) (shown older) (at, added) (ids_rise older l.0)
-        (earlier root_entry l.1.0, each-weaker (λ o. same_path at o.0 ≡ false) (λ o. (id_of (Addition at added ∷ older) o.0 ≡ id_of older o.0) × (id_of (Addition at added ∷ older) o.0 < id_of (Addition at added ∷ older) at)) earlier (live older) (away_from_none (live older) at (find_live older l.0 at ∙ l.1.1)))
+    (earlier root_entry l.1.0, each-weaker (λ o. same_path at o.0 ≡ false) (λ o. (id_of (Addition at added ∷ older) o.0 ≡ id_of older o.0) × (id_of (Addition at added ∷ older) o.0 < id_of (Addition at added ∷ older) at)) earlier (live older) (away_from_none (live older) at (find_live older l.0 at ∙ l.1.1)))
   where
     earlier : (o : Entry) → same_path at o.0 ≡ false
         → (id_of (Addition at added ∷ older) o.0 ≡ id_of older o.0) × (id_of (Addition at added ∷ older) o.0 < id_of (Addition at added ∷ older) at)

@@ -54,7 +54,7 @@ find_rewritten (e ∷ es) at content p = by (same_path at e.0) (same_path p at) 
     by : (b c d : Bool) → same_path at e.0 ≡ b → same_path p at ≡ c → same_path p e.0 ≡ d
         → find_in (rewritten at content es) p ≡ cond (same_path p at) (said content (find_in es p)) (find_in es p)
         → find_in (cond b (e.0, content) e ∷ rewritten at content es) p
-            ≡ cond c (said content (cond d (Some e.1) (find_in es p))) (cond d (Some e.1) (find_in es p))
+        ≡ cond c (said content (cond d (Some e.1) (find_in es p))) (cond d (Some e.1) (find_in es p))
     by true true true x y z r = λ i. cond (z i) (Some content) (find_in (rewritten at content es) p)
     by true true false x y z r =
         (λ i. cond (z i) (Some content) (find_in (rewritten at content es) p)) ∙ r ∙ (λ i. cond (y i) (said content (find_in es p)) (find_in es p))
@@ -155,12 +155,13 @@ held (Addition at added ∷ older) p content l e = by (same_path p at) refl e (h
   where
     kept : (q : Place) → same_path q at ≡ false → holder q (stands older q) ≡ true → holder q (cond (same_path q at) (Some added) (stands older q)) ≡ true
     kept q x h = (λ i. holder q (cond (x i) (Some added) (stands older q))) ∙ h
+
     by : (b : Bool) → same_path p at ≡ b → cond b (Some added) (stands older p) ≡ Some content
         → (stands older p ≡ Some content → holder (parent_of p) (stands older (parent_of p)) ≡ true)
         → holder (parent_of p) (cond (same_path (parent_of p) at) (Some added) (stands older (parent_of p))) ≡ true
     by true x k r =
         subst (λ q. holder (parent_of q) (cond (same_path (parent_of q) at) (Some added) (stands older (parent_of q))) ≡ true) (sym (same_path_is p at x))
-            (kept (parent_of at) (parent_differs at l.1.0) (sym (holds_is older (parent_of at)) ∙ l.1.2))
+        (kept (parent_of at) (parent_differs at l.1.0) (sym (holds_is older (parent_of at)) ∙ l.1.2))
     by false x k r = kept (parent_of p) (parent_other older at p l.1.0 l.1.1 (r k)) (r k)
 held (Modification at written ∷ older) p content l e = by (same_path p at) refl e (held older p)
   where
@@ -168,8 +169,9 @@ held (Modification at written ∷ older) p content l e = by (same_path p at) ref
         → holder (parent_of p) (cond c (Some written) (stands older (parent_of p))) ≡ true
     kept true y h =
         holder_kind (parent_of p) l.1.0 written l.1.2
-            (ap (holder (parent_of p)) (sym (ap (stands older) (same_path_is (parent_of p) at y) ∙ l.1.1)) ∙ h)
+        (ap (holder (parent_of p)) (sym (ap (stands older) (same_path_is (parent_of p) at y) ∙ l.1.1)) ∙ h)
     kept false y h = h
+
     by : (b : Bool) → same_path p at ≡ b → cond b (Some written) (stands older p) ≡ Some content
         → ((c : Content) → IsLegal older → stands older p ≡ Some c → holder (parent_of p) (stands older (parent_of p)) ≡ true)
         → holder (parent_of p) (cond (same_path (parent_of p) at) (Some written) (stands older (parent_of p))) ≡ true

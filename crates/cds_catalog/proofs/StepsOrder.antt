@@ -44,8 +44,10 @@ module _ (f : Place → ℕ) (row : Entry → PlacedRow) (ids : (e : Entry) → 
     where
       lower : (o : Entry) → f y.0 < f o.0 → (row y).1.id < (row o).1.id
       lower o l = let a = ids y in let b = ids o in omega arith
+
       away : AllByRecursion (λ o. same_path y.0 o.0 ≡ false) es
       away = (Apart_from_Rising f (y ∷ es) h).0
+
       by : (b : Bool) → same_path e.0 y.0 ≡ b → cond b (Some y.1) (find_in es e.0) ≡ Some e.1
           → (find_in es e.0 ≡ Some e.1 → put_row (row e) (map row (removed e.0 es)) ≡ map row es)
           → put_row (row e) (map row (cond (not b) (y ∷ removed e.0 es) (removed e.0 es))) ≡ row y ∷ map row es

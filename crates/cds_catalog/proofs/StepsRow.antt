@@ -55,13 +55,13 @@ pub container_set : (first : ℕ) (change : Change) (older : List Change) (p : P
     → container_update_of first (change ∷ older) p ≡ first + length older + 1
 container_set first change older p y =
     raised first (length (up_to (adds p) (change ∷ older))) (length (up_to (is_under p) (change ∷ older))) (length older)
-        (length-up_to (adds p) (change ∷ older)) (λ i. length (cond (y i) (change ∷ older) (up_to (is_under p) older)))
+    (length-up_to (adds p) (change ∷ older)) (λ i. length (cond (y i) (change ∷ older) (up_to (is_under p) older)))
 
 pub container_new : (first : ℕ) (change : Change) (older : List Change) (p : Place) → adds p change ≡ true
     → container_update_of first (change ∷ older) p ≡ first + length older + 1
 container_new first change older p x =
     raised_left first (length (up_to (adds p) (change ∷ older))) (length (up_to (is_under p) (change ∷ older))) (length older)
-        (length-up_to (is_under p) (change ∷ older)) (λ i. length (cond (x i) (change ∷ older) (up_to (adds p) older)))
+    (length-up_to (is_under p) (change ∷ older)) (λ i. length (cond (x i) (change ∷ older) (up_to (adds p) older)))
 
 pub deleted_more : (change : Change) (older : List Change) (p : Place) → adds p change ≡ false
     → deleted_of (change ∷ older) p ≡ cond (deletes_under p change) 1 0 + deleted_of older p

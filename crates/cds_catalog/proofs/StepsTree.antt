@@ -66,9 +66,9 @@ module _ (first : ℕ) (changes : List Change) (legal : IsLegal changes) where
   unfolding Live
   all_live =
       each-both (λ e. stands changes e.0 ≡ Some e.1) (λ e. id_of changes [] < id_of changes e.0) (live changes)
-          (each_from_found (λ e. stands changes e.0 ≡ Some e.1) (live changes) (Apart_from_Rising (id_of changes) (live changes) (ids_rise changes legal).1)
-              (λ p c f. sym (find_live changes legal p) ∙ f))
-          (ids_rise changes legal).0
+      (each_from_found (λ e. stands changes e.0 ≡ Some e.1) (live changes) (Apart_from_Rising (id_of changes) (live changes) (ids_rise changes legal).1)
+      (λ p c f. sym (find_live changes legal p) ∙ f))
+      (ids_rise changes legal).0
 
   ascending : (es : FolderMap) → Rising (id_of changes) es → IdsAscend (map row es)
   ascending [] h = tt
@@ -109,6 +109,7 @@ module _ (first : ℕ) (changes : List Change) (legal : IsLegal changes) where
     where
       above_zero : (a b : ℕ) → a < b → b ≡ 0 → ⊥
       above_zero a b l e = omega arith
+
       by : (p : Place) → same_path p [] ≡ false → id_of changes [] < id_of changes p → is_none (parent_id_of changes p) ≡ nat_eq (id_of changes p) 0
       by [] n l = absurd (true≢false n)
       by (name ∷ names) n l = sym (ne_eqb (id_of changes (name ∷ names)) 0 (above_zero _ _ l))
@@ -121,9 +122,10 @@ module _ (first : ℕ) (changes : List Change) (legal : IsLegal changes) where
           → MatchOption (parent_id_of changes p) (id_of changes p ≡ 0) (λ parent. (parent < id_of changes p) × (is_container_row (row_of parent rows) ≡ true))
       by [] n s = absurd (true≢false n)
       by (name ∷ names) n s =
-          let parent = shown_holder changes legal (parent_of (name ∷ names)) (held changes (name ∷ names) e.1 legal s) in
-          (parent_lower changes (name ∷ names) e.1 legal s,
-          ap is_container_row (row_found (shown changes) (parent_of (name ∷ names)) parent.0 (ids_rise changes legal) parent.1) ∙ parent.2)
+          let parent = shown_holder changes legal (parent_of (name ∷ names)) (held changes (name ∷ names) e.1 legal s) in (
+            parent_lower changes (name ∷ names) e.1 legal s,
+            ap is_container_row (row_found (shown changes) (parent_of (name ∷ names)) parent.0 (ids_rise changes legal) parent.1) ∙ parent.2,
+          )
 
   -- a row is that of a child exactly where its place is under the parent's
   is_under_it : (p : Place) (content : Content) → find_in (shown changes) p ≡ Some content → (o : Entry) → Live o
@@ -138,9 +140,11 @@ module _ (first : ℕ) (changes : List Change) (legal : IsLegal changes) where
         where
           parent : (c : Content) × (find_in (shown changes) (parent_of (name ∷ names)) ≡ Some c) × (is_folder c ≡ true)
           parent = shown_holder changes legal (parent_of (name ∷ names)) (held changes (name ∷ names) o.1 legal s)
+
           one : id_of changes (parent_of (name ∷ names)) ≡ id_of changes p → same_path p (parent_of (name ∷ names)) ≡ true
           one e = (same_path_decides p (parent_of (name ∷ names))).1
               (same_number (id_of changes) (shown changes) p (parent_of (name ∷ names)) content parent.0 (ids_rise changes legal) f parent.1 (sym e))
+
           cases : (b : Bool) → same_path p (parent_of (name ∷ names)) ≡ b → b ≡ nat_eq (id_of changes (parent_of (name ∷ names))) (id_of changes p)
           cases true x = sym (eq-eqb _ _ (ap (id_of changes) (sym (same_path_is p (parent_of (name ∷ names)) x))))
           cases false x = sym (ne_eqb _ _ (λ e. true≢false (sym (one e) ∙ x)))
@@ -148,7 +152,7 @@ module _ (first : ℕ) (changes : List Change) (legal : IsLegal changes) where
   counts : (p : Place) (content : Content) → find_in (shown changes) p ≡ Some content → child_count_of (live changes) p ≡ count_by (is_child_of (id_of changes p)) rows
   counts p content f =
       count_agree (λ o. same_path p (parent_of o.0)) (λ o. is_child_of (id_of changes p) (row o)) (live changes)
-          (each-weaker Live (λ o. same_path p (parent_of o.0) ≡ is_child_of (id_of changes p) (row o)) (is_under_it p content f) (live changes) all_live)
+      (each-weaker Live (λ o. same_path p (parent_of o.0) ≡ is_child_of (id_of changes p) (row o)) (is_under_it p content f) (live changes) all_live)
       ∙ sym (count_map (is_child_of (id_of changes p)) row (live changes))
 
   counts_children : (e : Entry) → find_in (shown changes) e.0 ≡ Some e.1 → CountsChildren rows (row e)
@@ -179,6 +183,6 @@ module _ (first : ℕ) (changes : List Change) (legal : IsLegal changes) where
 pub catalogs_are_trees-proof : catalogs_are_trees
 catalogs_are_trees-proof history all =
     subst IsTree
-        (sym (ap (map (λ (placed : PlacedRow). placed.1)) (placed_rows_over history.first history.maps all)
-        ∙ map_map (λ (placed : PlacedRow). placed.1) (row_over history.first (changes_of history.maps)) (shown (changes_of history.maps))))
-        (is_tree history.first (changes_of history.maps) (history_is_legal history.maps all).0)
+    (sym (ap (map (λ (placed : PlacedRow). placed.1)) (placed_rows_over history.first history.maps all)
+    ∙ map_map (λ (placed : PlacedRow). placed.1) (row_over history.first (changes_of history.maps)) (shown (changes_of history.maps))))
+    (is_tree history.first (changes_of history.maps) (history_is_legal history.maps all).0)

@@ -39,17 +39,18 @@ far_above first a b n h k = omega arith
 
 trackers_within : (first : ℕ) (changes : List Change) (library : FolderMap) (p : Place) (content : Content)
     → MatchOption (trackers_of first changes library p content) (Unit {0})
-        (λ t. (t.container_update ≤ first + length changes) × (t.deleted ≤ first + length changes))
-trackers_within first changes library p (Folder title) =
-    (both_above first (length (up_to (adds p) changes)) (length (up_to (is_under p) changes)) (length changes) (length-up_to (adds p) changes) (length-up_to (is_under p) changes),
-    far_above first _ _ (length changes) (count_by-le-length (deletes_under p) (after (adds p) changes)) (length-after (adds p) changes))
+    (λ t. (t.container_update ≤ first + length changes) × (t.deleted ≤ first + length changes))
+trackers_within first changes library p (Folder title) = (
+  both_above first (length (up_to (adds p) changes)) (length (up_to (is_under p) changes)) (length changes) (length-up_to (adds p) changes) (length-up_to (is_under p) changes),
+  far_above first _ _ (length changes) (count_by-le-length (deletes_under p) (after (adds p) changes)) (length-after (adds p) changes),
+)
 trackers_within first changes library p (Track track) = tt
 
 row_within : (history : History) (library : FolderMap) (e : Entry) → IsWithin (standing_of history) (row_at history.first (changes_of history.maps) library e)
 row_within history library e = record {
   id = id_drawn (changes_of history.maps) e.0;
   object_update = above history.first (length (up_to (sets e.0) (changes_of history.maps))) (length (changes_of history.maps)) (length-up_to (sets e.0) (changes_of history.maps));
-  trackers = trackers_within history.first (changes_of history.maps) library e.0 e.1
+  trackers = trackers_within history.first (changes_of history.maps) library e.0 e.1;
 }
 
 -- there is a row for the root and for each place of the newest folder map
@@ -58,17 +59,19 @@ length-catalog history = length-map (λ (placed : PlacedRow). placed.1) (placed_
   where
     counted : Entry → PlacedRow
     counted e = (e.0, row_at history.first (changes_of history.maps) (latest history.maps) e)
+
     plus_one : (a b : ℕ) → a ≡ b → suc a ≡ b + 1
     plus_one a b p = omega arith
 
 pub rows_are_within-proof : rows_are_within
-rows_are_within-proof history all =
-    (each-map (IsWithin (standing_of history)) (λ (placed : PlacedRow). placed.1) (placed_rows history)
-        (each-in_order (λ placed. IsWithin (standing_of history) placed.1) (map counted (root_entry ∷ latest history.maps))
-            (each-map (λ (placed : PlacedRow). IsWithin (standing_of history) placed.1) counted (root_entry ∷ latest history.maps)
-                (each-all (λ e. IsWithin (standing_of history) (counted e).1) (row_within history (latest history.maps)) (root_entry ∷ latest history.maps)))),
-    count_by-le-length is_addition (changes_of history.maps),
-    length-catalog history)
+rows_are_within-proof history all = (
+  each-map (IsWithin (standing_of history)) (λ (placed : PlacedRow). placed.1) (placed_rows history)
+      (each-in_order (λ placed. IsWithin (standing_of history) placed.1) (map counted (root_entry ∷ latest history.maps))
+      (each-map (λ (placed : PlacedRow). IsWithin (standing_of history) placed.1) counted (root_entry ∷ latest history.maps)
+      (each-all (λ e. IsWithin (standing_of history) (counted e).1) (row_within history (latest history.maps)) (root_entry ∷ latest history.maps)))),
+  count_by-le-length is_addition (changes_of history.maps),
+  length-catalog history,
+)
   where
     counted : Entry → PlacedRow
     counted e = (e.0, row_at history.first (changes_of history.maps) (latest history.maps) e)
