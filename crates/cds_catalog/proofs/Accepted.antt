@@ -60,15 +60,15 @@ grow_one records before r library built good =
       ascending = insert_ascends r.path r.content library built.ascending;
       long = insert_length r.path r.content library new ∙ ap suc built.long ∙ one_more (length before) ∙ sym (length-append before (r ∷ []));
       recorded = all_push (λ s. content_at (insert_entry path_cmp library r.path r.content) s.path ≡ Some s.content) before r
-        (all_both
-         (λ s. content_at library s.path ≡ Some s.content) (λ s. same_path r.path s.path ≡ false)
-         (λ s. content_at (insert_entry path_cmp library r.path r.content) s.path ≡ Some s.content)
-         (λ s here other. insert_found s.path r.path r.content library ∙ cond-false _ _ _ (same_path_swap s.path r.path ∙ other) ∙ here)
-         before built.recorded (none_passes (λ s. same_path r.path s.path) before parts.1))
-        (insert_found r.path r.path r.content library ∙ cond-true _ _ _ (same_path_itself r.path));
+          (all_both
+          (λ s. content_at library s.path ≡ Some s.content) (λ s. same_path r.path s.path ≡ false)
+          (λ s. content_at (insert_entry path_cmp library r.path r.content) s.path ≡ Some s.content)
+          (λ s here other. insert_found s.path r.path r.content library ∙ cond-false _ _ _ (same_path_swap s.path r.path ∙ other) ∙ here)
+          before built.recorded (none_passes (λ s. same_path r.path s.path) before parts.1))
+          (insert_found r.path r.path r.content library ∙ cond-true _ _ _ (same_path_itself r.path));
       absent = λ p none.
-        let apart = any_push (λ s. same_path p s.path) before r none in
-        insert_found p r.path r.content library ∙ cond-false _ _ _ apart.1 ∙ built.absent p apart.0;
+          let apart = any_push (λ s. same_path p s.path) before r none in
+          insert_found p r.path r.content library ∙ cond-false _ _ _ apart.1 ∙ built.absent p apart.0;
       placed = insert_each (Stands records) r.path r.content library (place.0, not_false _ place.1) built.placed;
     }
   where
@@ -80,8 +80,8 @@ grow : (records before rest : List Record) (library : FolderMap) → Built recor
 grow records before [] library built good = subst (λ (l : List Record). Built records l library) (sym (append-nil before)) built
 grow records before (r ∷ rest) library built good =
     elim (is_bad records before r) as (λ b. is_bad records before r ≡ b →
-      cond b (Some (length before + 1)) (bad_from records (before ++ r ∷ []) rest) ≡ None →
-      Built records (before ++ r ∷ rest) (map_from (insert_entry path_cmp library r.path r.content) rest)) [
+    cond b (Some (length before + 1)) (bad_from records (before ++ r ∷ []) rest) ≡ None →
+    Built records (before ++ r ∷ rest) (map_from (insert_entry path_cmp library r.path r.content) rest)) [
       | true ↦ λ bad good. absurd (true≢false (ap is_some good))
       | false ↦ λ fine good.
           subst (λ (l : List Record). Built records l (map_from (insert_entry path_cmp library r.path r.content) rest))
@@ -95,7 +95,7 @@ folder_held : (library : FolderMap) (p : List (List ℕ)) (rs : List Record) →
 folder_held library p [] recorded some = absurd (true≢false (sym some))
 folder_held library p (r ∷ rs) recorded some =
     elim (same_path p r.path && is_folder r.content) as (λ b. (same_path p r.path && is_folder r.content) ≡ b →
-      (b || list_any (λ r. same_path p r.path && is_folder r.content) rs) ≡ true → folder_there (content_at library p) ≡ true) [
+    (b || list_any (λ r. same_path p r.path && is_folder r.content) rs) ≡ true → folder_there (content_at library p) ≡ true) [
       | true ↦ λ here _.
           let parts = and_parts (same_path p r.path) (is_folder r.content) here in
           ap (λ q. folder_there (content_at library q)) (same_path_is p r.path parts.0) ∙ ap folder_there recorded.0 ∙ parts.1
@@ -108,14 +108,15 @@ container_held records library built [] container = refl
 container_held records library built (name ∷ names) container = folder_held library (name ∷ names) records built.recorded container
 
 pub accepted_map : (records : List Record) → bad_record records ≡ None → IsLibrary (map_of records) × (length (map_of records) ≡ length records)
-accepted_map records good =
-    ( record {
-        ascending = built.ascending;
-        rootless = All-map (λ e. Stands records e.0) (λ e. same_path e.0 [] ≡ false) (λ e stands. stands.0) (map_of records) built.placed;
-        held = All-map (λ e. Stands records e.0) (λ e. holds (map_of records) (parent_of e.0) ≡ true)
-          (λ e stands. container_held records (map_of records) built (parent_of e.0) stands.1) (map_of records) built.placed;
-      }
-    , built.long )
+accepted_map records good = (
+  record {
+    ascending = built.ascending;
+    rootless = All-map (λ e. Stands records e.0) (λ e. same_path e.0 [] ≡ false) (λ e stands. stands.0) (map_of records) built.placed;
+    held = All-map (λ e. Stands records e.0) (λ e. holds (map_of records) (parent_of e.0) ≡ true)
+        (λ e stands. container_held records (map_of records) built (parent_of e.0) stands.1) (map_of records) built.placed;
+  },
+  built.long,
+)
   where
     nothing : Built records [] []
     nothing = record { ascending = tt; long = refl; recorded = tt; absent = λ p none. refl; placed = tt }

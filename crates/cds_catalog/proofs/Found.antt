@@ -54,7 +54,7 @@ reverse_more None changes older = refl
 reverse_more (Some change) changes older =
     ap (λ (l : List Change). l ++ older) (reverse-cons change changes) ∙ append_assoc (reverse changes) (change ∷ []) older
 
-same_branches : {A : Type 0} (b : Bool) (x : A) → cond b x x ≡ x
+pub same_branches : {A : Type 0} (b : Bool) (x : A) → cond b x x ≡ x
 same_branches true x = refl
 same_branches false x = refl
 

@@ -14,3 +14,5 @@ pub mod StepsRows
 pub mod StepsCatalog
 pub mod StepsWithin
 pub mod StepsTree
+pub mod Numbers
+pub mod Versions

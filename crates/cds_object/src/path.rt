@@ -1,9 +1,11 @@
-ghost use Rattle.std.specs.Prelude.{◌≡◌, ◌==◌, [], IfOk};
-ghost use Rattle.std.specs.Ordering.{nat_cmp};
-ghost use Rattle.std.specs.Cmp.Lexicographic.{slice_cmp, pointwise, lists_total, lists_ties, lists_equiv, lists_per, lists_agrees, slice_partial_cmp, lists_po};
+ghost use Rattle.std.specs.Prelude.{◌≡◌, [], IfOk, refl};
+ghost use Rattle.std.specs.Ordering.{as_partial_cmp};
+ghost use Rattle.cds_object.specs.Path.{path_cmp, same_path};
+ghost use Rattle.cds_object.specs.PathOrder.{paths_total, paths_tie, paths_equal, paths_agree, paths_in_part};
 
 use cds_base::{Mem, Sequence, Text};
 use std::alloc::Global;
+use std::cmp::Ordering;
 use std::marker::Model;
 
 /// Where an object stands in the library: the names of the folders that lead to it and its own. The root's place has
@@ -47,5 +49,43 @@ impl Path {
             names.push(name.copy(alloc)?)?;
         }
         Ok(Path { names })
+    }
+}
+
+impl PartialEq for Path {
+    ghost eq = { same_path };
+
+    ghost laws = { paths_agree };
+
+    fn eq(&self, other: &Path) -> bool {
+        self.names == other.names
+    }
+}
+
+impl Eq for Path {
+    ghost laws = { paths_equal };
+}
+
+impl Ord for Path {
+    ghost cmp = { path_cmp };
+
+    ghost total = { paths_total };
+
+    ghost matches_partial_cmp = { λ x y. refl };
+
+    ghost matches_eq = { paths_tie };
+
+    fn cmp(&self, other: &Path) -> Ordering {
+        self.names.cmp(&other.names)
+    }
+}
+
+impl PartialOrd for Path {
+    ghost partial_cmp = { as_partial_cmp path_cmp };
+
+    ghost laws = { paths_in_part };
+
+    fn partial_cmp(&self, other: &Path) -> Option<Ordering> {
+        Some(self.cmp(other))
     }
 }

@@ -1,5 +1,8 @@
+ghost use Rattle.std.specs.Prelude.{◌≡◌, IfOk};
+
 use crate::{Content, ObjectId};
-use cds_base::Sequence;
+use cds_base::{Mem, Sequence};
+use std::alloc::Global;
 use std::marker::Model;
 
 /// How a container tracks the changes of its children (UPnP ContentDirectory:4 on tracking changes).
@@ -33,6 +36,22 @@ impl Model for Row {
     ghost view = { λ r. record { id = r.id.0; parent = option_map (λ i. i.0) r.parent; content = r.content; object_update = r.object_update; trackers = r.trackers } };
 
     ghost invariant = { λ r. IsRow (record { id = r.id.0; parent = option_map (λ i. i.0) r.parent; content = r.content; object_update = r.object_update; trackers = r.trackers }) };
+}
+
+impl Row {
+    /// An equal row.
+    pub fn copy(&self, alloc: Global) -> Result<Self, Mem>
+        ensures { IfOk result (λ copy. copy ≡ self.now) }
+    {
+        let content = self.content.copy(alloc)?;
+        Ok(Row {
+            id: self.id,
+            parent: self.parent,
+            content,
+            object_update: self.object_update,
+            trackers: self.trackers,
+        })
+    }
 }
 
 /// Rows in order.
