@@ -4,5 +4,15 @@ pub mod Maps
 pub mod Found
 pub mod Inserted
 pub mod Accepted
+pub mod StepsPaths
+pub mod StepsFind
+pub mod StepsOrder
+pub mod StepsLive
+pub mod StepsIds
+pub mod StepsRow
+pub mod StepsRows
+pub mod StepsCatalog
+pub mod StepsWithin
+pub mod StepsTree
 pub mod Numbers
 pub mod Versions

@@ -5,6 +5,7 @@
 mod change;
 mod evaluated;
 mod laws;
+mod step_laws;
 
 pub use change::Change;
 pub use evaluated::{
@@ -15,3 +16,4 @@ pub use laws::{
     changes_replay_the_library, equal_libraries_make_no_change, equal_numbers_have_equal_catalogs,
     versions_determine_contents,
 };
+pub use step_laws::{catalogs_are_trees, rows_are_within, steps_lead_to_the_catalog};
