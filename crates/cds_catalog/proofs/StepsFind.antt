@@ -2,11 +2,11 @@
 use Rattle.std.proofs.Common.{◌≡◌, ◌+◌, ◌<◌, ℕ, Bool, true, false, cond, not, filter, map, List, [], ◌∷◌, ◌++◌, Option, Some, None, refl, sym, ◌∙◌, ap, subst, arith, true≢false}
 use Rattle.std.specs.List.{AllByRecursion, count_by}
 use Rattle.std.proofs.lemmas.List.Sums.{sum_by-cons}
-use Rattle.cds_object.specs.Path.{same_path, parent_of}
+use Rattle.cds_object.specs.Path.{same_path}
 use Rattle.cds_object.specs.declared.content.Content.{Content}
 use Rattle.cds_catalog.specs.Library.{FolderMap}
-use Rattle.cds_catalog.proofs.Paths.{same_path_is, same_path_itself, same_path_swap}
-use Rattle.cds_catalog.proofs.StepsPaths.{Place, swapped, other_place, false_from}
+use Rattle.cds_catalog.proofs.Paths.{same_path_is, same_path_itself}
+use Rattle.cds_catalog.proofs.StepsPaths.{Place, false_from}
 
 abbrev pub Entry : Type 0
 Entry = Place × Content

@@ -1,5 +1,5 @@
 -- What stands after legal changes: looking it up, the root, and what holds each place.
-use Rattle.std.proofs.Common.{◌≡◌, ◌+◌, ◌<◌, ◌≤◌, ℕ, Bool, true, false, cond, not, map, List, [], ◌∷◌, ◌++◌, Option, Some, None, refl, sym, ◌∙◌, ap, subst, arith, true≢false}
+use Rattle.std.proofs.Common.{◌≡◌, Bool, true, false, cond, map, List, [], ◌∷◌, ◌++◌, Option, Some, None, refl, sym, ◌∙◌, ap, subst, true≢false}
 use Rattle.std.specs.List.{AllByRecursion}
 use Rattle.cds_object.specs.Path.{same_path, parent_of}
 use Rattle.cds_object.specs.Content.{same_kind}
@@ -8,12 +8,12 @@ use Rattle.cds_object.specs.declared.content.Content.{Content}
 use Rattle.cds_object.specs.declared.content.Content.TheVariants.{Folder, Track}
 use Rattle.cds_catalog.specs.Library.{FolderMap}
 use Rattle.cds_catalog.specs.Catalog.{root_entry}
-use Rattle.cds_catalog.specs.Replay.{stands, live, holds_after, MayFollow, IsLegal}
+use Rattle.cds_catalog.specs.Replay.{stands, live, holds_after, IsLegal}
 use Rattle.cds_catalog.specs.declared.change.Change.{Change}
 use Rattle.cds_catalog.specs.declared.change.Change.TheVariants.{Deletion, Addition, Modification}
-use Rattle.cds_catalog.proofs.Paths.{same_path_is, same_path_itself}
+use Rattle.cds_catalog.proofs.Paths.{same_path_is}
 use Rattle.cds_catalog.proofs.StepsPaths.{Place, swapped, false_from, parent_differs}
-use Rattle.cds_catalog.proofs.StepsFind.{Entry, find_in, removed, none≢some, find_removed, away_from_none}
+use Rattle.cds_catalog.proofs.StepsFind.{find_in, none≢some, find_removed, away_from_none}
 
 -- the root and all that stands
 abbrev pub shown : List Change → FolderMap
