@@ -1,17 +1,16 @@
 -- Records none of which is bad: the map that is made of them is a library with a place for each.
-use Rattle.std.proofs.Common.{◌≡◌, ℕ, suc, ◌+◌, Bool, true, false, cond, not, ◌&&◌, ◌||◌, List, [], ◌∷◌, ◌++◌, length, Option, Some, None, refl, sym, ap, ◌∙◌, subst, true≢false, is_some, append_assoc, append-nil, length-append, arith}
+use Rattle.std.proofs.Common.{◌≡◌, ℕ, suc, ◌+◌, Bool, true, false, cond, not, ◌&&◌, ◌||◌, List, [], ◌∷◌, ◌++◌, length, Some, None, refl, sym, ap, ◌∙◌, subst, true≢false, is_some, append_assoc, append-nil, length-append, arith}
 use Rattle.std.specs.List.{AllByRecursion, list_any}
 use Rattle.std.specs.BTreeMap.{insert_entry}
 use Rattle.std.proofs.lemmas.Bool.{cond-true, cond-false, or_parts, or_from, and_parts}
 use Rattle.cds_object.specs.Path.{path_cmp, same_path, parent_of}
 use Rattle.cds_object.specs.Object.{is_folder}
-use Rattle.cds_object.specs.declared.content.Content.{Content}
 use Rattle.cds_object.specs.declared.record.Record.{Record}
 use Rattle.cds_catalog.specs.Library.{FolderMap, content_at, map_from, map_of}
 use Rattle.cds_catalog.specs.Scans.{is_container, is_bad, bad_from, bad_record}
 use Rattle.cds_catalog.specs.Laws.{Ascends, holds, IsLibrary}
 use Rattle.cds_catalog.proofs.Paths.{same_path_is, same_path_itself, same_path_swap}
-use Rattle.cds_catalog.proofs.Maps.{Entry, All-map, folder_there}
+use Rattle.cds_catalog.proofs.Maps.{All-map, folder_there}
 use Rattle.cds_catalog.proofs.Inserted.{insert_ascends, insert_found, insert_each, insert_length}
 
 -- what holds of each record and of one more

@@ -1,5 +1,5 @@
 -- Folder maps: an entry that is put in its place, and maps with the same look-ups.
-use Rattle.std.proofs.Common.{◌≡◌, ℕ, suc, Bool, true, false, cond, T, ◌&&◌, List, [], ◌∷◌, length, Option, Some, None, Ordering, Less, Equal, Greater, refl, sym, ap, ◌∙◌, subst, true≢false, is_lt, is_some}
+use Rattle.std.proofs.Common.{◌≡◌, ℕ, suc, Bool, true, false, cond, T, ◌&&◌, List, [], ◌∷◌, length, Some, None, Ordering, Less, Equal, Greater, refl, sym, ap, ◌∙◌, true≢false, is_lt, is_some}
 use Rattle.std.specs.List.{AllByRecursion}
 use Rattle.std.specs.Bool.{passes}
 use Rattle.std.specs.Ordering.{match_ordering, ordering_reverse}

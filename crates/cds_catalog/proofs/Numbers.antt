@@ -1,18 +1,14 @@
 -- Numbers of a history: equal numbers have equal folder maps and catalogs, and equal maps no change between them.
-use Rattle.std.proofs.Common.{◌≡◌, ℕ, ◌+◌, ◌≤◌, zero, suc, Bool, true, false, cond, List, [], ◌∷◌, ◌++◌, map, reverse, length, Option, Some, None, refl, sym, ap, ◌∙◌, subst, true≢false, append_assoc, length-append, arith, nat_le, leb-true, le-leb, le_refl}
+use Rattle.std.proofs.Common.{◌≡◌, ℕ, ◌+◌, ◌≤◌, true, false, cond, List, [], ◌∷◌, ◌++◌, map, reverse, length, Option, Some, None, refl, sym, ap, ◌∙◌, append_assoc, length-append, arith, nat_le, leb-true, le-leb, le_refl}
 use Rattle.std.specs.List.{AllByRecursion, filter_map, cons_option}
-use Rattle.std.proofs.lemmas.Bool.{cond-true, cond-false}
-use Rattle.cds_object.specs.Path.{same_path}
-use Rattle.cds_object.specs.Content.{same_content, same_kind}
+use Rattle.std.proofs.lemmas.Bool.{cond-true}
 use Rattle.cds_object.specs.Object.{ObjectRow}
-use Rattle.cds_object.specs.declared.content.Content.{Content}
 use Rattle.cds_catalog.specs.Library.{FolderMap, content_at, departure, arrival, found}
 use Rattle.cds_catalog.specs.Laws.{IsLibrary, AreLibraries}
-use Rattle.cds_catalog.specs.History.{History, latest, changes_of, end_of}
+use Rattle.cds_catalog.specs.History.{latest, changes_of, end_of}
 use Rattle.cds_catalog.specs.Catalog.{row_at, in_order, root_entry, catalog, catalog_at}
 use Rattle.cds_catalog.specs.Replay.{stands}
 use Rattle.cds_catalog.specs.declared.change.Change.{Change}
-use Rattle.cds_catalog.specs.declared.change.Change.TheVariants.{Deletion, Addition, Modification}
 use Rattle.cds_catalog.proofs.Contents.{same_kind_itself, same_content_itself}
 use Rattle.cds_catalog.proofs.Maps.{Entry, each_found, latest_is_library, older_are_libraries}
 use Rattle.cds_catalog.proofs.Found.{departs, arrives, history_is_legal}

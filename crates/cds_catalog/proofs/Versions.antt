@@ -1,15 +1,15 @@
 -- Within a history the number of an object's last change determines what the object says.
-use Rattle.std.proofs.Common.{◌≡◌, ◌⊎◌, inl, inr, ⊎_elim, ℕ, ◌+◌, zero, suc, Bool, true, false, cond, List, [], ◌∷◌, ◌++◌, map, length, Option, Some, None, refl, sym, ap, ◌∙◌, subst, true≢false, is_some, append_assoc, length-append, arith, nat_lt, nat_eq}
+use Rattle.std.proofs.Common.{◌≡◌, ◌⊎◌, inl, inr, ℕ, ◌+◌, suc, Bool, true, false, cond, List, [], ◌∷◌, ◌++◌, map, length, Option, Some, None, refl, sym, ap, ◌∙◌, subst, true≢false, is_some, append_assoc, length-append, arith, nat_lt, nat_eq}
 use Rattle.std.specs.List.{AllByRecursion}
 use mathlib.Core.List.{head-eq_of_cons-eq, tail-eq_of_cons-eq}
-use Rattle.std.proofs.lemmas.Bool.{cond-true, cond-false}
+use Rattle.std.proofs.lemmas.Bool.{cond-false}
 use Rattle.std.proofs.lemmas.Option.{same_Some}
 use Rattle.cds_object.specs.Path.{same_path}
 use Rattle.cds_object.specs.Object.{ObjectRow}
 use Rattle.cds_object.specs.Tree.{row_of}
 use Rattle.cds_object.specs.declared.content.Content.{Content}
 use Rattle.cds_catalog.specs.Library.{FolderMap, content_at}
-use Rattle.cds_catalog.specs.Laws.{IsLibrary, AreLibraries}
+use Rattle.cds_catalog.specs.Laws.{AreLibraries}
 use Rattle.cds_catalog.specs.History.{History, latest, changes_of, sets, up_to}
 use Rattle.cds_catalog.specs.Catalog.{PlacedRow, row_at, put_row, in_order, root_entry, placed_rows, catalog}
 use Rattle.cds_catalog.specs.Replay.{stands, IsLegal}
