@@ -1,5 +1,5 @@
 -- When two places are one, and how a place differs from its parent.
-use Rattle.std.proofs.Common.{◌≡◌, ℕ, suc, Bool, true, false, List, [], ◌∷◌, length, refl, ◌∙◌, ap, subst, arith, true≢false}
+use Rattle.std.proofs.Common.{◌≡◌, ℕ, suc, Bool, false, List, [], ◌∷◌, length, refl, ◌∙◌, ap, arith, true≢false}
 use Rattle.std.proofs.lemmas.Bool.{false_from_ne_true}
 use Rattle.cds_object.specs.Path.{same_path, parent_of}
 use Rattle.cds_catalog.proofs.Paths.{same_path_is, same_path_swap}
