@@ -4,5 +4,7 @@ pub mod Honest
 pub mod Listings
 pub mod Merge
 pub mod Pages
+pub mod Replies
 pub mod Trees
+pub mod Turns
 pub mod Whole

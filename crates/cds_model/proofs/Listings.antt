@@ -57,7 +57,7 @@ module _ (rows : List ObjectRow) (tree : IsTree rows) where
       })
 
   -- the page that is next fits
-  page-fits : (at k : ℕ) (l : Listing) (w : Waiting) (ws : List Waiting) → l.rows ≡ filter (known at) rows → l.waiting ≡ w ∷ ws → w.id ≡ at →
+  pub page-fits : (at k : ℕ) (l : Listing) (w : Waiting) (ws : List Waiting) → l.rows ≡ filter (known at) rows → l.waiting ≡ w ∷ ws → w.id ≡ at →
       w.children ≡ length (children_of at rows) → l.part ≡ take k (children_of at rows) → length l.part ≡ k →
       fits l (take page_size (drop k (children_of at rows))) ≡ true
   page-fits at k l w ws shown waiting id counts front long =
@@ -96,7 +96,7 @@ module _ (rows : List ObjectRow) (tree : IsTree rows) where
           ∙ sym (ap (min page_size) (λ i. own_count i - long i)))
 
   -- what is held after the page that is next follows the catalog again
-  page-follows : (number at k : ℕ) (l : Listing) (w : Waiting) (ws : List Waiting) → l.rows ≡ filter (known at) rows → l.waiting ≡ w ∷ ws → w.id ≡ at →
+  pub page-follows : (number at k : ℕ) (l : Listing) (w : Waiting) (ws : List Waiting) → l.rows ≡ filter (known at) rows → l.waiting ≡ w ∷ ws → w.id ≡ at →
       waiting_at at rows ≡ w ∷ ws → w.children ≡ length (children_of at rows) → l.part ≡ take k (children_of at rows) →
       Follows rows number (after_page number l (take page_size (drop k (children_of at rows))))
   page-follows number at k l w ws shown waiting id wait counts front =

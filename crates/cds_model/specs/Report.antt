@@ -55,18 +55,19 @@ script_token = codes "00000000-0000-8000-8000-000000000000"
 abbrev pub moment_of : List Turn → Moment
 moment_of turns = record { token = script_token; number = end_of (history_of turns); rows = catalog (history_of turns) }
 
--- the replica's turns: a read shows what the server replies to its next ask, and nothing where it asks nothing
+-- the replica's turns after a read, by its next ask: what the server replies is shown, and where nothing is asked nothing is
+abbrev pub after_read : Moment → List ReplicaTurn → Option Asked → List ReplicaTurn
+after_read moment turns None = turns
+after_read moment turns (Some ask) = Shows (reply_to moment ask) ∷ turns
+
+-- the replica's turns
 abbrev pub replica_turns : List Turn → List ReplicaTurn
 replica_turns [] = []
 replica_turns (Folder path ∷ older) = replica_turns older
 replica_turns (Track path content ∷ older) = replica_turns older
 replica_turns (Scan ∷ older) = replica_turns older
 replica_turns (Load ∷ older) = Begins ∷ replica_turns older
-replica_turns (Read ∷ older) = shown (next_ask (held_by (replica_turns older))) (replica_turns older)
-  where
-    shown : Option Asked → List ReplicaTurn → List ReplicaTurn
-    shown None turns = turns
-    shown (Some ask) turns = Shows (reply_to (moment_of older) ask) ∷ turns
+replica_turns (Read ∷ older) = after_read (moment_of older) (replica_turns older) (next_ask (held_by (replica_turns older)))
 replica_turns (Ask ∷ older) = replica_turns older
 
 -- what a scan writes
