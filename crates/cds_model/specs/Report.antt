@@ -136,8 +136,12 @@ ending_from turns number (line ∷ lines) whole =
     cond (nat_lt line_limit (length line)) limit_ending
     (ending_at (meaning_of line) turns number (λ now. ending_from now (number + 1) lines whole))
 
--- how a script ends: the lines before a broken one are answered, and those that ended before the limit was passed
+-- how a script goes on after turns, at the line of this number, where so many bytes more may be taken: the lines before
+-- a broken one are answered, and of a script that is too long those that ended before the limit was passed
+abbrev pub ending_of : List Turn → ℕ → ℕ → List ℕ → Ending
+ending_of turns number room bytes =
+    cond (nat_le (length bytes) room) (ending_from turns number (lines_of bytes) true)
+    (ending_from turns number (ended_lines (take room bytes)) false)
+
 abbrev pub script_ending : List ℕ → Ending
-script_ending bytes =
-    cond (nat_le (length bytes) script_limit) (ending_from [] 1 (lines_of bytes) true)
-    (ending_from [] 1 (ended_lines (take script_limit bytes)) false)
+script_ending bytes = ending_of [] 1 script_limit bytes
