@@ -14,7 +14,9 @@ use Rattle.cds_catalog.specs.Catalog.{catalog, catalog_at}
 use Rattle.cds_catalog.specs.Scans.{ScanAnswer, Accepted, BadRecord, TooMany, NoNumbers, scan_answer, after_scan}
 use Rattle.cds_model.specs.Server.{Moment, reply_to}
 use Rattle.cds_model.specs.Replica.{Held, ReplicaTurn, Begins, Shows, held_by, next_ask, says}
-use Rattle.cds_model.specs.Script.{Meaning, Nothing, Means, Outside, meaning_of, lines_of, ended_lines, script_limit, line_limit}
+use Rattle.cds_model.specs.Script.{meaning_of, lines_of, ended_lines, script_limit, line_limit}
+use Rattle.cds_model.specs.declared.turn.Meaning.{Meaning}
+use Rattle.cds_model.specs.declared.turn.Meaning.TheVariants.{Nothing, Means, Outside}
 use Rattle.cds_model.specs.declared.turn.Turn.{Turn}
 use Rattle.cds_model.specs.declared.turn.Turn.TheVariants.{Folder, Track, Scan, Load, Read, Ask}
 use Rattle.cds_model.specs.declared.exchange.Ask.{Ask as Asked}
