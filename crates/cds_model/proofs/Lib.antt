@@ -8,3 +8,4 @@ pub mod Replies
 pub mod Trees
 pub mod Turns
 pub mod Whole
+pub mod Words
