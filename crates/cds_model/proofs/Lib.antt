@@ -1,6 +1,7 @@
 pub mod Advance
 pub mod Frontier
 pub mod Honest
+pub mod Lines
 pub mod Listings
 pub mod Merge
 pub mod Pages

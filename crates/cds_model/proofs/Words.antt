@@ -22,7 +22,7 @@ map-length f (x ∷ xs) = ap suc (map-length f xs)
 visible-ascii : (bs : List ℕ) → list_all (λ b. nat_le 33 b && nat_le b 126 && not (nat_eq b 37)) bs ≡ true → IsAscii bs
 visible-ascii [] all i = lit< tt
 visible-ascii (b ∷ bs) all zero =
-    let h = leb-true b 126 (and_parts _ _ (and_parts _ _ (and_parts _ _ all).0).0).1 in omega (arith, h)
+    let h : b ≤ 126 = leb-true b 126 (and_parts _ _ (and_parts _ _ (and_parts _ _ all).0).0).1 in omega (arith, h)
 visible-ascii (b ∷ bs) all (suc i) = visible-ascii bs (and_parts _ _ all).1 i
 
 -- a word is text

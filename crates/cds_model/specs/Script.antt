@@ -17,14 +17,19 @@ abbrev pub lines_of : List ℕ → List (List ℕ)
 lines_of [] = []
 lines_of (b ∷ bytes) = cond (nat_eq b 10) ([] ∷ lines_of bytes) (onto_first b (lines_of bytes))
 
+-- a byte put before the first line, where there is one
+abbrev pub onto_line : ℕ → List (List ℕ) → List (List ℕ)
+onto_line b [] = []
+onto_line b (line ∷ lines) = (b ∷ line) ∷ lines
+
 -- the lines that an LF ended
 abbrev pub ended_lines : List ℕ → List (List ℕ)
 ended_lines [] = []
 ended_lines (b ∷ bytes) = cond (nat_eq b 10) ([] ∷ ended_lines bytes) (onto_line b (ended_lines bytes))
-  where
-    onto_line : ℕ → List (List ℕ) → List (List ℕ)
-    onto_line byte [] = []
-    onto_line byte (line ∷ lines) = (byte ∷ line) ∷ lines
+
+-- whether no LF is among bytes
+abbrev pub is_unbroken : List ℕ → Bool
+is_unbroken = list_all (λ b. not (nat_eq b 10))
 
 -- how many bytes a script and a line of it have at most
 abbrev pub script_limit : ℕ
