@@ -1,6 +1,6 @@
 ghost use Rattle.std.specs.Prelude.{◌≡◌, [], IfOk, refl};
 ghost use Rattle.std.specs.Ordering.{as_partial_cmp};
-ghost use Rattle.cds_object.specs.Path.{path_cmp, same_path};
+ghost use Rattle.cds_object.specs.Path.{path_cmp, same_path, parent_of};
 ghost use Rattle.cds_object.specs.PathOrder.{paths_total, paths_tie, paths_equal, paths_agree, paths_in_part};
 
 use cds_base::{Mem, Sequence, Text};
@@ -38,6 +38,26 @@ impl Path {
         ensures { result.now ≡ self.now }
     {
         self.names.as_slice()
+    }
+
+    /// Whether it is the root's place.
+    pub fn is_root(&self) -> bool
+        ensures { result ≡ same_path self.now [] }
+    {
+        self.names.is_empty()
+    }
+
+    /// The place of the folder that the object stands in; the root's own is the root's.
+    pub fn parent(&self, alloc: Global) -> Result<Self, Mem>
+        ensures { IfOk result (λ parent. parent ≡ parent_of self.now) }
+    {
+        let above = self.names.len().saturating_sub(1);
+        let (folders, _) = self.names.as_slice().split_at(above);
+        let mut names = Sequence::new(alloc);
+        for name in folders {
+            names.push(name.copy(alloc)?)?;
+        }
+        Ok(Path { names })
     }
 
     /// An equal place.
