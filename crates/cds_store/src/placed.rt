@@ -21,6 +21,20 @@ impl Model for Placed {
 }
 
 impl Placed {
+    /// The row without its place.
+    pub(crate) fn row(&self) -> &Row
+        ensures { result.now ≡ self.now.1 }
+    {
+        &self.row
+    }
+
+    /// The id of the object.
+    pub(crate) fn id(&self) -> u32
+        ensures { result ≡ self.now.1.id }
+    {
+        self.row.id.0
+    }
+
     /// An equal row at an equal place.
     pub(crate) fn copy(&self, alloc: Global) -> Result<Self, Mem>
         ensures { IfOk result (λ copy. copy ≡ self.now) }

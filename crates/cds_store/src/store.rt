@@ -111,8 +111,8 @@ impl Store {
         ensures { option_copied result ≡ row_of id (rows_of self.now.rows) }
     {
         for placed in self.catalog.rows.iter() {
-            if placed.row.id.0 == id {
-                return Some(&placed.row);
+            if placed.id() == id {
+                return Some(placed.row());
             }
         }
         None

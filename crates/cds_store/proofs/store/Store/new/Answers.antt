@@ -1,0 +1,4 @@
+use Rattle.cds_store.proofs.store.Store.new.Goals as goal
+
+pub invariant_of-result : goal.invariant_of-result
+invariant_of-result c = ?
