@@ -19,9 +19,9 @@ use std::marker::Model;
 /// What stands: the number of the newest change, how many ids were drawn, and the rows in ascending order of ids.
 #[derive(Drop, Debug)]
 pub(crate) struct Catalog {
-    pub(crate) number: u32,
+    number: u32,
     drawn: u32,
-    pub(crate) rows: Vec<Placed>,
+    rows: Vec<Placed>,
 }
 
 impl Model for Catalog {
@@ -134,6 +134,20 @@ impl Catalog {
             drawn: 0,
             rows,
         })
+    }
+
+    /// The number of the newest change, or the first number.
+    pub(crate) fn number(&self) -> u32
+        ensures { result ≡ self.now.number }
+    {
+        self.number
+    }
+
+    /// The rows in ascending order of ids.
+    pub(crate) fn rows(&self) -> &[Placed]
+        ensures { result.now ≡ self.now.rows }
+    {
+        self.rows.as_slice()
     }
 
     /// An equal catalog.

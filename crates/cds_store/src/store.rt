@@ -80,11 +80,11 @@ impl Store {
             let objects = records.len() as u32;
             return Err(ApplyError::Full { objects });
         }
-        let old = library_shown(alloc, self.catalog.rows.as_slice())?;
+        let old = library_shown(alloc, self.catalog.rows())?;
         let new = library_of(alloc, records.as_slice())?;
         let changes = changes_between(alloc, &old, new)?;
         let needed = changes.len() as u32;
-        if self.catalog.number.checked_add(needed).is_none() {
+        if self.catalog.number().checked_add(needed).is_none() {
             return Err(ApplyError::Spent { needed });
         }
         Ok(changes)
@@ -98,10 +98,10 @@ impl Store {
         ensures { (history : History) → StandsFor self.old history → Applied history records.now result self.old self.new }
     {
         let changes = self.plan(alloc, records)?;
-        let from = self.catalog.number;
+        let from = self.catalog.number();
         let mut next = self.catalog.copy(alloc)?;
         next.make_all(alloc, changes)?;
-        let to = next.number;
+        let to = next.number();
         self.catalog = next;
         Ok(Span { from, to })
     }
@@ -110,7 +110,7 @@ impl Store {
     pub fn get(&self, id: u32) -> Option<&Row>
         ensures { option_copied result ≡ row_of id (rows_of self.now.rows) }
     {
-        for placed in self.catalog.rows.iter() {
+        for placed in self.catalog.rows() {
             if placed.id() == id {
                 return Some(placed.row());
             }
@@ -122,7 +122,7 @@ impl Store {
     pub fn row(&self, at: usize) -> Option<&Row>
         ensures { option_copied result ≡ slice_get (rows_of self.now.rows) at }
     {
-        match self.catalog.rows.get(at) {
+        match self.catalog.rows().get(at) {
             None => None,
             Some(placed) => Some(&placed.row),
         }
@@ -133,7 +133,7 @@ impl Store {
         ensures exact { result ≡ length self.now.rows }
         ensures few { length self.now.rows ≤ 65536 }
     {
-        self.catalog.rows.len()
+        self.catalog.rows().len()
     }
 
     /// Adds the ids of a container's children to `out`, in ascending order: at most `count` from the place `start` on,
@@ -144,7 +144,7 @@ impl Store {
         ensures page { IfOk result (λ _. out.new.items ≡ out.old.items ++ map (λ r. r.id) (take count (drop start (children_of id (rows_of self.now.rows))))) }
         ensures kept { OnErr result (out.new.items ≡ out.old.items) }
     {
-        let ids = child_ids(alloc, self.catalog.rows.as_slice(), id)?;
+        let ids = child_ids(alloc, self.catalog.rows(), id)?;
         out.extend_from_slice(page(ids.as_slice(), start, count))?;
         Ok(ids.len() as u32)
     }
@@ -153,6 +153,6 @@ impl Store {
     pub fn system_update_id(&self) -> u32
         ensures { result ≡ self.now.number }
     {
-        self.catalog.number
+        self.catalog.number()
     }
 }
