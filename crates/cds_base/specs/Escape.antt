@@ -1,20 +1,21 @@
--- Text as it stands in XML (XML 1.0 on character data and references): the characters that markup needs, and the
--- blanks that an attribute's value would lose, are written as references.
-use Rattle.std.specs.Prelude.{ℕ, nat_eq, cond, List, [], ◌∷◌, codes}
+-- Text that can stand in the character data and the attribute values of XML 1.0.
+use Rattle.std.specs.Prelude.{◌==◌, ℕ, if◌then◌else◌, List, [], ◌∷◌, codes}
 use Rattle.std.specs.List.{flat_map}
 
--- a byte as it is written
+-- What stands for a byte: an entity for the five characters of markup, a reference for the three that a reader of
+-- an attribute would turn into spaces, and every other byte itself.
 abbrev pub escaped_byte : ℕ → List ℕ
 escaped_byte b =
-    cond (nat_eq b 38) (codes "&amp;")
-    (cond (nat_eq b 60) (codes "&lt;")
-    (cond (nat_eq b 62) (codes "&gt;")
-    (cond (nat_eq b 34) (codes "&quot;")
-    (cond (nat_eq b 39) (codes "&apos;")
-    (cond (nat_eq b 9) (codes "&#9;")
-    (cond (nat_eq b 10) (codes "&#10;")
-    (cond (nat_eq b 13) (codes "&#13;") (b ∷ []))))))))
+    if b == 38 then codes "&amp;"
+    else if b == 60 then codes "&lt;"
+    else if b == 62 then codes "&gt;"
+    else if b == 34 then codes "&quot;"
+    else if b == 39 then codes "&apos;"
+    else if b == 9 then codes "&#9;"
+    else if b == 10 then codes "&#10;"
+    else if b == 13 then codes "&#13;"
+    else (b ∷ [])
 
--- a text as it is written
+-- The escaped text.
 abbrev pub escaped : List ℕ → List ℕ
 escaped text = flat_map escaped_byte text

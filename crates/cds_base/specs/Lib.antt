@@ -1,1 +1,4 @@
 pub mod Escape
+pub mod Memory
+pub mod Number
+pub mod Outside

@@ -2,12 +2,20 @@
 //! and the small functions on text.
 #![tactic(auto)]
 
+mod escaping;
 mod mem;
+mod memory;
+mod number;
 mod order;
+mod outside;
 mod sequence;
 mod text;
 
+pub use escaping::escape;
 pub use mem::Mem;
+pub use memory::{MemSink, MemSource};
+pub use number::{read_plain, read_u32};
+pub use outside::{Failed, Sink, Source, write_all};
 pub use sequence::Sequence;
 pub use text::Text;
 
@@ -19,3 +27,6 @@ pub type Numbers = Sequence<u32>;
 
 /// A list of words, as a command line has them.
 pub type Words = Sequence<Text>;
+
+#[cfg(test)]
+mod tests;

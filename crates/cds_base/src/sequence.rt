@@ -38,6 +38,17 @@ impl<T> Sequence<T> {
         Ok(())
     }
 
+    /// Adds copies of these items at the end. A refusal leaves the list as it was.
+    pub fn extend(&mut self, more: &[T]) -> Result<(), Mem>
+    where
+        T: Copy,
+        ensures ok { OnOk result (self.new ≡ self.old ++ more.now) }
+        ensures err { OnErr result (self.new ≡ self.old) }
+    {
+        self.items.extend_from_slice(more)?;
+        Ok(())
+    }
+
     /// How many items there are.
     pub fn len(&self) -> usize
         ensures { result ≡ length self.now }

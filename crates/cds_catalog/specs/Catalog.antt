@@ -1,6 +1,6 @@
 -- The catalog, counted afresh over the newest folder map and all changes (UPnP ContentDirectory:4 on object ids,
 -- objectUpdateID, containerUpdateID and totalDeletedChildCount; this project's profile where it leaves a choice).
-use Rattle.std.specs.Prelude.{◌≡◌, ◌==◌, ◌+◌, ◌||◌, ◌&&◌, ℕ, Bool, true, false, cond, nat_le, nat_lt, nat_eq, max, List, [], ◌∷◌, ◌++◌, map, length, Option, Some, None, codes}
+use Rattle.std.specs.Prelude.{◌+◌, ℕ, cond, nat_le, nat_lt, max, List, [], ◌∷◌, map, length, Option, Some, None, codes}
 use Rattle.std.specs.List.{count_by}
 use Rattle.cds_object.specs.Path.{same_path, parent_of}
 use Rattle.cds_object.specs.Object.{ObjectRow}

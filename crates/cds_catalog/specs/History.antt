@@ -1,7 +1,6 @@
 -- A history of scans, and the number of each change (UPnP ContentDirectory:4 on SystemUpdateID; which changes a scan
 -- makes is this project's profile).
-use Rattle.std.specs.Prelude.{◌≡◌, ◌+◌, ℕ, Bool, true, false, cond, nat_le, List, [], ◌∷◌, ◌++◌, length}
-use Rattle.std.specs.List.{count_by}
+use Rattle.std.specs.Prelude.{◌+◌, ℕ, Bool, true, false, cond, List, [], ◌∷◌, ◌++◌, length}
 use Rattle.cds_object.specs.Path.{same_path, parent_of}
 use Rattle.cds_catalog.specs.Library.{FolderMap, found}
 use Rattle.cds_catalog.specs.declared.change.Change.{Change}

@@ -1,20 +1,18 @@
 -- The laws of the catalog, which everything above leans on.
-use Rattle.std.specs.Prelude.{◌≡◌, ◌+◌, ◌<◌, ◌≤◌, ◌==◌, ℕ, Bool, true, false, cond, List, [], ◌∷◌, ◌++◌, map, length, All, Option, Some, None, MatchOption, nat_eq, is_some, IsTrue}
-use Rattle.std.specs.List.{count_by, list_any, AllByRecursion}
-use Rattle.std.specs.Option.{option_eq}
+use Rattle.std.specs.Prelude.{◌≡◌, ◌+◌, ◌≤◌, ℕ, Bool, true, false, List, [], ◌∷◌, ◌++◌, length, Option, Some, None, MatchOption, IsTrue}
+use Rattle.std.specs.List.{AllByRecursion}
 use Rattle.std.specs.Ordering.{is_lt}
 use Rattle.cds_object.specs.Path.{path_cmp, same_path, parent_of}
 use Rattle.cds_object.specs.Object.{ObjectRow, is_folder}
 use Rattle.cds_object.specs.Tree.{IsTree, row_of}
 use Rattle.cds_object.specs.declared.content.Content.{Content}
 use Rattle.cds_object.specs.declared.record.Record.{Record}
-use Rattle.cds_object.specs.declared.row.Trackers.{Trackers}
 use Rattle.cds_catalog.specs.Library.{FolderMap, content_at, map_of, found}
 use Rattle.cds_catalog.specs.History.{History, latest, changes_of, end_of, with_scan}
-use Rattle.cds_catalog.specs.Catalog.{PlacedRow, catalog, catalog_at, placed_rows}
+use Rattle.cds_catalog.specs.Catalog.{catalog, catalog_at}
 use Rattle.cds_catalog.specs.Replay.{stands, IsLegal}
 use Rattle.cds_catalog.specs.Scans.{bad_record}
-use Rattle.cds_catalog.specs.Steps.{Standing, standing_of, step, stepped}
+use Rattle.cds_catalog.specs.Steps.{Standing, standing_of, stepped}
 
 -- the places rise strictly
 abbrev pub Ascends : FolderMap → Type 0

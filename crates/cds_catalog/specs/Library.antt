@@ -1,12 +1,11 @@
 -- What a scan found, as a folder map: each place that something stands at, with what stands there (this project's
 -- profile).
-use Rattle.std.specs.Prelude.{◌≡◌, ◌==◌, ◌+◌, ℕ, Bool, true, false, cond, ◌&&◌, ◌||◌, not, List, [], ◌∷◌, ◌++◌, reverse, length, Option, Some, None, is_some}
-use Rattle.std.specs.List.{filter_map, list_any}
+use Rattle.std.specs.Prelude.{ℕ, cond, List, [], ◌∷◌, ◌++◌, reverse, Option, Some, None}
+use Rattle.std.specs.List.{filter_map}
 use Rattle.std.specs.Map.{lookup}
 use Rattle.std.specs.BTreeMap.{insert_entry, is_at}
-use Rattle.cds_object.specs.Path.{path_cmp, same_path, parent_of}
+use Rattle.cds_object.specs.Path.{path_cmp}
 use Rattle.cds_object.specs.Content.{same_content, same_kind}
-use Rattle.cds_object.specs.Object.{is_folder}
 use Rattle.cds_object.specs.declared.content.Content.{Content}
 use Rattle.cds_object.specs.declared.record.Record.{Record}
 use Rattle.cds_catalog.specs.declared.change.Change.{Change}

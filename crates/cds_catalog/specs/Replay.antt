@@ -1,10 +1,9 @@
 -- What stands after changes that are read one by one, and which changes may follow others: words of the laws.
-use Rattle.std.specs.Prelude.{◌≡◌, ◌+◌, ℕ, Bool, true, false, cond, not, filter, map, List, [], ◌∷◌, ◌++◌, Option, Some, None, MatchOption}
+use Rattle.std.specs.Prelude.{◌≡◌, ℕ, Bool, true, false, cond, not, filter, map, List, [], ◌∷◌, ◌++◌, Option, Some, None}
 use Rattle.cds_object.specs.Path.{same_path, parent_of}
 use Rattle.cds_object.specs.Content.{same_kind}
 use Rattle.cds_object.specs.Object.{is_folder}
 use Rattle.cds_object.specs.declared.content.Content.{Content}
-use Rattle.cds_catalog.specs.Library.{FolderMap}
 use Rattle.cds_catalog.specs.declared.change.Change.{Change}
 use Rattle.cds_catalog.specs.declared.change.Change.TheVariants.{Deletion, Addition, Modification}
 

@@ -1,10 +1,10 @@
 -- Which lists of records a server accepts, and what it answers to each (this project's profile).
-use Rattle.std.specs.Prelude.{◌≡◌, ◌==◌, ◌+◌, ◌||◌, ◌&&◌, ℕ, Bool, true, false, cond, not, nat_lt, List, [], ◌∷◌, ◌++◌, length, Option, Some, None}
+use Rattle.std.specs.Prelude.{◌+◌, ◌||◌, ◌&&◌, ℕ, Bool, true, cond, not, nat_lt, List, [], ◌∷◌, ◌++◌, length, Option, Some, None}
 use Rattle.std.specs.List.{list_any}
 use Rattle.cds_object.specs.Path.{same_path, parent_of}
 use Rattle.cds_object.specs.Object.{is_folder}
 use Rattle.cds_object.specs.declared.record.Record.{Record}
-use Rattle.cds_catalog.specs.Library.{FolderMap, map_of, found}
+use Rattle.cds_catalog.specs.Library.{map_of, found}
 use Rattle.cds_catalog.specs.History.{History, latest, end_of, with_scan}
 
 -- whether a place is the root's or that of a folder of the records

@@ -1,6 +1,6 @@
 -- The catalog read step by step: what one change does to the rows that stand. That these steps lead to the catalog
 -- counted afresh is a law (Laws); nothing is defined by them.
-use Rattle.std.specs.Prelude.{◌≡◌, ◌+◌, ◌-◌, ℕ, Bool, true, false, cond, not, List, [], ◌∷◌, ◌++◌, map, filter, length, Option, Some, None}
+use Rattle.std.specs.Prelude.{◌+◌, ◌-◌, ℕ, cond, not, List, [], ◌∷◌, ◌++◌, map, filter, Option, Some, None}
 use Rattle.std.specs.List.{count_by}
 use Rattle.std.specs.Option.{option_map}
 use Rattle.cds_object.specs.Path.{same_path, parent_of}
@@ -25,7 +25,7 @@ abbrev pub standing_of : History → Standing
 standing_of history = record {
   number = end_of history;
   drawn = count_by is_addition (changes_of history.maps);
-  rows = placed_rows history
+  rows = placed_rows history;
 }
 
 -- the row at a place changed, and every other row kept
@@ -68,7 +68,7 @@ new_row id parent number content = record {
   parent = Some parent;
   content = content;
   object_update = number;
-  trackers = new_trackers number content
+  trackers = new_trackers number content;
 }
 
 -- what stands after one more change
@@ -76,18 +76,18 @@ abbrev pub step : Standing → Change → Standing
 step s (Deletion path) = record {
   number = s.number + 1;
   drawn = s.drawn;
-  rows = touch (parent_of path) (child_deleted (s.number + 1)) (filter (λ placed. not (same_path path placed.0)) s.rows)
+  rows = touch (parent_of path) (child_deleted (s.number + 1)) (filter (λ placed. not (same_path path placed.0)) s.rows);
 }
 step s (Addition path content) = record {
   number = s.number + 1;
   drawn = s.drawn + 1;
   rows = touch (parent_of path) (child_added (s.number + 1)) s.rows
-    ++ (path, new_row (s.drawn + 1) (id_at (parent_of path) s.rows) (s.number + 1) content) ∷ []
+      ++ (path, new_row (s.drawn + 1) (id_at (parent_of path) s.rows) (s.number + 1) content) ∷ [];
 }
 step s (Modification path content) = record {
   number = s.number + 1;
   drawn = s.drawn;
-  rows = touch (parent_of path) (child_modified (s.number + 1)) (touch path (modified (s.number + 1) content) s.rows)
+  rows = touch (parent_of path) (child_modified (s.number + 1)) (touch path (modified (s.number + 1) content) s.rows);
 }
 
 -- what stands after changes, the newest of which is the first in the list

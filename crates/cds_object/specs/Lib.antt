@@ -1,5 +1,6 @@
 pub mod Object
 pub mod Content
+pub mod ContentOf
 pub mod Fragment
 pub mod Path
 pub mod PathOrder

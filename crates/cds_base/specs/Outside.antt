@@ -1,0 +1,18 @@
+-- The words of the outside: streams that may fail, and how many bytes they moved.
+use Rattle.std.specs.Prelude.{◌≡◌, ℕ, ◌+◌, ◌-◌, ◌^◌, ◌<◌, ◌≤◌, min, ◌⊎◌, Option, Some, List, ◌++◌, length, take}
+
+-- A count after it rises by so much. It stands still at the last value of a u64.
+abbrev pub raised : ℕ → ℕ → ℕ
+raised n by = min (n + by) (2 ^ 64 - 1)
+
+-- A count rose, or it stands at the last value of a u64, where no rise shows.
+abbrev pub Rose : ℕ → ℕ → Type 0
+Rose old new = (old < new) ⊎ (2 ^ 64 - 1 ≤ new)
+
+-- What holds of the bytes that a stream tells. A stream that tells none claims nothing.
+abbrev pub WhereTold : Option (List ℕ) → (List ℕ → Type 0) → Type 0
+WhereTold told P = (bytes : List ℕ) → told ≡ Some bytes → P bytes
+
+-- A sink that held these bytes holds them and a front part of the piece.
+abbrev pub HoldsPart : List ℕ → List ℕ → Option (List ℕ) → Type 0
+HoldsPart bytes piece after = (n : ℕ) × (n ≤ length piece) × (after ≡ Some (bytes ++ take n piece))

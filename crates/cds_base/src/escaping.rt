@@ -1,0 +1,45 @@
+ghost use Rattle.std.specs.Prelude.{◌≡◌, ◌++◌, ◌<◌, MatchOption, OnOk, OnErr, string_bytes, encode_utf8};
+ghost use Rattle.cds_base.specs.Escape.{escaped, escaped_byte};
+
+use crate::Mem;
+
+/// Appends the text with `&`, `<`, `>`, `"` and `'` as entities, and tabs and line ends as character references
+/// (XML 1.0). A refusal leaves `out` as it was.
+pub fn escape(text: &str, out: &mut String) -> Result<(), Mem>
+    ensures ok { OnOk result (string_bytes out.new ≡ string_bytes out.old ++ escaped text.now) }
+    ensures err { OnErr result (string_bytes out.new ≡ string_bytes out.old) }
+{
+    let mut built = String::new(*out.allocator());
+    for c in text.chars() {
+        push_escaped(&mut built, c)?;
+    }
+    out.push_str(built.as_str())?;
+    Ok(())
+}
+
+fn push_escaped(built: &mut String, c: char) -> Result<(), Mem>
+    ensures { OnOk result (string_bytes built.new ≡ string_bytes built.old ++ escaped (encode_utf8 c)) }
+{
+    match replacement(c) {
+        Some(text) => built.push_str(text)?,
+        None => built.push(c)?,
+    }
+    Ok(())
+}
+
+/// What stands for a character that cannot stand for itself.
+fn replacement(c: char) -> Option<&'static str>
+    ensures { MatchOption result (escaped (encode_utf8 c) ≡ encode_utf8 c) (λ text. text.now ≡ escaped (encode_utf8 c)) }
+{
+    match c {
+        '&' => Some("&amp;"),
+        '<' => Some("&lt;"),
+        '>' => Some("&gt;"),
+        '"' => Some("&quot;"),
+        '\'' => Some("&apos;"),
+        '\t' => Some("&#9;"),
+        '\n' => Some("&#10;"),
+        '\r' => Some("&#13;"),
+        _ => None,
+    }
+}

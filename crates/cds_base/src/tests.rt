@@ -1,0 +1,79 @@
+use crate::{
+    Bytes, Failed, Mem, MemSink, MemSource, Numbers, Sink, Source, Text, Words, escape, read_plain,
+    read_u32, write_all,
+};
+use std::convert::From;
+use std::test::Fail;
+
+#[test]
+fn escapes_the_eight_bytes(rt: HostRuntime) -> Result<(), Fail> {
+    for (text, want) in [
+        ("", "="),
+        ("A & \"B\" <C>", "=A &amp; &quot;B&quot; &lt;C&gt;"),
+        ("\t\n\r'", "=&#9;&#10;&#13;&apos;"),
+        ("&amp;\u{e9}\u{1f3b5}", "=&amp;amp;\u{e9}\u{1f3b5}"),
+    ] {
+        let mut out = String::from_str(rt.alloc(), "=")?;
+        escape(text, &mut out)?;
+        assert_eq!(rt; out.as_str(), want, "{text}");
+    }
+    Ok(())
+}
+
+#[test]
+fn reads_numbers(rt: HostRuntime) {
+    for (digits, value, plain) in [
+        ("", None, None),
+        ("0", Some(0), Some(0)),
+        ("007", Some(7), None),
+        ("4294967295", Some(u32::MAX), Some(4294967295)),
+        ("4294967296", None, Some(4294967296)),
+        ("18446744073709551615", None, Some(u64::MAX)),
+        ("18446744073709551616", None, None),
+        ("99999999999999999999", None, None),
+        ("+5", None, None),
+        ("5 ", None, None),
+    ] {
+        assert_eq!(rt; read_u32(digits.as_bytes()), value, "{digits}");
+        assert_eq!(rt; read_plain(digits.as_bytes()), plain, "{digits}");
+    }
+}
+
+#[test]
+fn streams_in_memory_fail_where_told(rt: HostRuntime) -> Result<(), Fail> {
+    let alloc = rt.alloc();
+    let contents = Bytes::from(Vec::from_slice(alloc, b"abcde")?);
+    let mut source = MemSource::new(contents, Numbers::from(Vec::from_slice(alloc, &[2])?));
+    let mut into = [0u8; 3];
+    assert!(rt; source.read(&mut into) == Ok(3) && into == *b"abc");
+    assert!(rt; source.read(&mut into) == Err(Failed) && source.faults() == 1);
+    assert!(rt; source.read(&mut into) == Ok(2) && into == *b"dec");
+    assert!(rt; source.read(&mut into) == Ok(0));
+
+    let contents = Bytes::from(Vec::from_slice(alloc, b"x")?);
+    let mut sink = MemSink::new(contents, Numbers::from(Vec::from_slice(alloc, &[2])?));
+    assert!(rt; write_all(&mut sink, b"abc") == Ok(()) && sink.faults() == 0);
+    assert!(rt; sink.write(b"de") == Err(Failed) && sink.faults() == 1);
+    assert!(rt; sink.write(b"de") == Ok(2));
+    assert!(rt; sink.as_slice() == b"xabcde".as_slice());
+    Ok(())
+}
+
+#[test]
+fn lists_and_texts_keep_what_they_are_given(rt: HostRuntime) -> Result<(), Fail> {
+    let alloc = rt.alloc();
+    let mut words = Words::new(alloc);
+    assert!(rt; words.is_empty() && words.get(0).is_none());
+    words.push(Text::read(alloc, "replay")?)?;
+    let made = Text::from(String::from_str(alloc, "now")?);
+    words.push(made.copy(alloc)?)?;
+    assert_eq!(rt; words.len(), 2);
+    for (word, want) in words.as_slice().iter().zip(["replay", "now"]) {
+        assert_eq!(rt; word.as_str(), want);
+    }
+    let mut bytes = Bytes::new(alloc);
+    bytes.push(1)?;
+    bytes.extend(&[2, 3])?;
+    assert!(rt; bytes.as_slice() == [1, 2, 3].as_slice() && bytes.get(2) == Some(&3));
+    Ok(())
+}
