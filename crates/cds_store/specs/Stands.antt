@@ -1,9 +1,9 @@
 -- What a store stands for: the rows that are counted afresh over a history of scans.
-use Rattle.std.specs.Prelude.{◌≡◌, ◌+◌, ◌≤◌, ◌<◌, ◌^◌, ℕ, List, [], ◌∷◌, ◌++◌, length}
-use Rattle.cds_catalog.specs.History.{History}
-use Rattle.cds_catalog.specs.Laws.{AreLibraries}
-use Rattle.cds_catalog.specs.Replay.{IsLegal}
-use Rattle.cds_catalog.specs.Steps.{Standing, standing_of, stepped}
+use Rattle.std.specs.Prelude.{◌≡◌, ◌≤◌, ◌<◌, ◌^◌, ℕ, List, [], length}
+use Rattle.cds_catalog.specs.Library.{FolderMap, found}
+use Rattle.cds_catalog.specs.History.{History, latest, end_of, with_scan}
+use Rattle.cds_catalog.specs.Laws.{IsLibrary, AreLibraries}
+use Rattle.cds_catalog.specs.Steps.{Standing, standing_of}
 use Rattle.cds_catalog.specs.declared.change.Change.{Change}
 
 -- whether a store stands for a history: its rows, and its numbers, are those of the catalog after all scans
@@ -20,11 +20,11 @@ pub record IsStore (store : Standing) : Type 0 where
 abbrev pub beginning : ℕ → Standing
 beginning first = standing_of (record { first = first; maps = [] })
 
--- whether changes, the newest first, can be made one after the other: they go on from changes that led to what stands,
--- each may follow those before it, and no number passes 2^32
-pub record CanMakeAll (s : Standing) (changes : List Change) : Type 0 where
-  pub first : ℕ
-  pub past : List Change
-  pub led : s ≡ stepped (beginning first) past
-  pub legal : IsLegal (changes ++ past)
-  pub fits : first + length (changes ++ past) < 2 ^ 32
+-- whether changes, the newest first, are those of a scan of what a standing stands for, and their numbers stay below 2^32
+pub record IsScan (s : Standing) (changes : List Change) : Type 0 where
+  pub history : History
+  pub library : FolderMap
+  pub stands : StandsFor s history
+  pub is_library : IsLibrary library
+  pub made : changes ≡ found (latest history.maps) library
+  pub fits : end_of (with_scan history library) < 2 ^ 32

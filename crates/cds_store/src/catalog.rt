@@ -6,7 +6,7 @@ ghost use Rattle.cds_object.specs.Path.{same_path};
 ghost use Rattle.cds_object.specs.Object.{is_folder};
 ghost use Rattle.cds_catalog.specs.Steps.{step, stepped, touch, touched, modified, id_at, new_row, new_trackers};
 ghost use Rattle.cds_store.specs.Rows.{CanMake, KeepsKind};
-ghost use Rattle.cds_store.specs.Stands.{CanMakeAll, beginning};
+ghost use Rattle.cds_store.specs.Stands.{IsScan, beginning};
 
 use crate::placed::Placed;
 use crate::touch::{touch_parent, ChildEvent};
@@ -212,9 +212,9 @@ impl Catalog {
         }
     }
 
-    /// Makes changes one after the other, the oldest of which comes first. Where memory runs out, some are made.
+    /// Makes the changes of a scan, the oldest of which comes first. Where memory runs out, some are made.
     pub(crate) fn make_all(&mut self, alloc: Global, changes: Vec<Change>) -> Result<(), Mem>
-        requires { CanMakeAll self.old (reverse changes.items) }
+        requires { IsScan self.old (reverse changes.items) }
         ensures { IfOk result (λ _. self.new ≡ stepped self.old (reverse changes.items)) }
     {
         for change in changes {
