@@ -1,3 +1,5 @@
 pub mod Loops
 pub mod Children
 pub mod Making
+pub mod Shown
+pub mod Planned

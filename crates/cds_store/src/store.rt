@@ -1,5 +1,6 @@
-ghost use Rattle.std.specs.Prelude.{◌≡◌, ◌+◌, ◌≤◌, ◌<◌, ◌^◌, true, [], ◌∷◌, ◌++◌, map, reverse, take, drop, length, option_copied, slice_get, IfOk, OnErr, MatchResult};
+ghost use Rattle.std.specs.Prelude.{◌≡◌, ◌+◌, ◌≤◌, ◌<◌, ◌^◌, true, [], ◌∷◌, ◌++◌, map, reverse, take, drop, length, nat_lt, option_copied, slice_get, IfOk, OnErr, MatchResult};
 ghost use Rattle.cds_object.specs.Tree.{row_of, children_of, is_container_row};
+ghost use Rattle.cds_catalog.specs.Library.{map_of, found};
 ghost use Rattle.cds_catalog.specs.History.{History};
 ghost use Rattle.cds_store.specs.Rows.{rows_of, put_places};
 ghost use Rattle.cds_store.specs.Stands.{StandsFor, beginning};
@@ -12,7 +13,7 @@ use crate::records::bad_record;
 use crate::{ApplyError, Span};
 use cds_base::Mem;
 use cds_catalog::Change;
-use cds_object::{Records, Row};
+use cds_object::{Record, Records, Row};
 use std::alloc::Global;
 use std::marker::Model;
 
@@ -59,6 +60,22 @@ fn page(ids: &[u32], start: u32, count: u32) -> &[u32]
     page
 }
 
+/// The changes from what rows show to what a scan found, the oldest first.
+fn changes_found(alloc: Global, rows: &[Placed], records: &[Record]) -> Result<Vec<Change>, Mem>
+    ensures { IfOk result (λ changes. reverse changes.items ≡ found (put_places [] rows.now) (map_of records.now)) }
+{
+    let old = library_shown(alloc, rows)?;
+    let new = library_of(alloc, records)?;
+    changes_between(alloc, &old, new)
+}
+
+/// Whether changes from a number on lead above the last number.
+fn is_spent(number: u32, needed: u32) -> bool
+    ensures { result ≡ nat_lt 4294967295 (number + needed) }
+{
+    number.checked_add(needed).is_none()
+}
+
 impl Store {
     /// A store before any scan: the root alone, at the first number.
     pub fn new(alloc: Global, first: u32) -> Result<Store, Mem>
@@ -80,11 +97,9 @@ impl Store {
             let objects = records.len() as u32;
             return Err(ApplyError::Full { objects });
         }
-        let old = library_shown(alloc, self.catalog.rows())?;
-        let new = library_of(alloc, records.as_slice())?;
-        let changes = changes_between(alloc, &old, new)?;
+        let changes = changes_found(alloc, self.catalog.rows(), records.as_slice())?;
         let needed = changes.len() as u32;
-        if self.catalog.number().checked_add(needed).is_none() {
+        if is_spent(self.catalog.number(), needed) {
             return Err(ApplyError::Spent { needed });
         }
         Ok(changes)
