@@ -3,3 +3,4 @@ pub mod Children
 pub mod Making
 pub mod Shown
 pub mod Planned
+pub mod Applying
