@@ -1,14 +1,13 @@
 -- What follows for a store from an accepted scan.
-use Rattle.std.proofs.Common.{◌≡◌, ◌+◌, ◌<◌, ◌≤◌, ◌^◌, ℕ, Bool, true, false, cond, nat_lt, List, [], ◌∷◌, ◌++◌, length, reverse, Option, Some, None, refl, sym, ◌∙◌, ap, subst, arith}
+use Rattle.std.proofs.Common.{◌≡◌, ◌+◌, ◌<◌, ◌≤◌, ◌^◌, ℕ, Bool, true, false, nat_lt, List, length, Option, Some, None, refl, sym, ◌∙◌, ap, arith}
 use Rattle.std.proofs.lemmas.Bool.Decides.{nat_tests}
 use Rattle.std.proofs.lemmas.List.{length-append, length-map}
 use Rattle.cds_object.specs.declared.record.Record.{Record}
-use Rattle.cds_catalog.specs.Library.{FolderMap, map_of, found}
+use Rattle.cds_catalog.specs.Library.{map_of, found}
 use Rattle.cds_catalog.specs.History.{History, latest, changes_of, end_of, with_scan}
-use Rattle.cds_catalog.specs.Laws.{IsLibrary}
 use Rattle.cds_catalog.specs.Catalog.{PlacedRow, placed_rows}
-use Rattle.cds_catalog.specs.Scans.{ScanAnswer, Accepted, BadRecord, TooMany, NoNumbers, scan_answer, bad_record, needed_by}
-use Rattle.cds_catalog.specs.Steps.{Standing, standing_of, stepped}
+use Rattle.cds_catalog.specs.Scans.{Accepted, BadRecord, TooMany, NoNumbers, scan_answer, bad_record, needed_by}
+use Rattle.cds_catalog.specs.Steps.{Standing, stepped}
 use Rattle.cds_catalog.specs.declared.change.Change.{Change}
 use Rattle.cds_catalog.proofs.Accepted.{accepted_map}
 use Rattle.cds_catalog.proofs.StepsWithin.{length-catalog}
@@ -69,10 +68,11 @@ pub applied_stands : (s now : Standing) (history : History) (records : List Reco
     scan_answer history records ≡ Accepted → changes ≡ found (latest history.maps) (map_of records) → now ≡ stepped s changes →
     StandsFor now (with_scan history (map_of records))
 applied_stands s now history records changes stands accepted made is =
-    let library = (accepted_map records (passed history records accepted).good).0 in
-    ((library, stands.0),
+    let library = (accepted_map records (passed history records accepted).good).0 in (
+      (library, stands.0),
       is ∙ ap (stepped s) made ∙ ap (λ (t : Standing). stepped t (found (latest history.maps) (map_of records))) stands.1
-      ∙ sym (steps_lead_to_the_catalog-proof history (map_of records) stands.0 library))
+          ∙ sym (steps_lead_to_the_catalog-proof history (map_of records) stands.0 library),
+    )
 
 few_rows : (now : Standing) (history : History) (records : List Record) → scan_answer history records ≡ Accepted →
     StandsFor now (with_scan history (map_of records)) → length now.rows ≤ 65536

@@ -1,6 +1,5 @@
 -- The ids of the children among some rows: there are at most as many as rows, and a page of them is that of the rows.
-use Rattle.std.proofs.Common.{◌≡◌, ◌∙◌, ap, ℕ, ◌≤◌, ◌<◌, ◌^◌, List, ◌++◌, length, map, take, drop, arith, filter}
-use Rattle.std.specs.List.{count_by}
+use Rattle.std.proofs.Common.{◌≡◌, ◌∙◌, ap, ℕ, ◌≤◌, List, ◌++◌, length, map, take, drop, arith}
 use Rattle.std.proofs.lemmas.List.{take-map, drop-map, length-map}
 use Rattle.std.proofs.lemmas.List.Sums.{length-filter, count_by-le-length}
 use Rattle.cds_object.specs.Object.{ObjectRow}

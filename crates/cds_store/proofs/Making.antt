@@ -1,25 +1,25 @@
 -- Each change of a scan can be made when those before it are: the numbers that it raises stay below 2^32, and what is
 -- modified is of the same kind.
-use Rattle.std.proofs.Common.{◌≡◌, ◌+◌, ◌<◌, ◌≤◌, ◌^◌, ℕ, Bool, true, false, cond, List, [], ◌∷◌, ◌++◌, length, map, Option, Some, None, MatchOption, refl, sym, ◌∙◌, ap, subst, arith, append_assoc, reverse}
+use Rattle.std.proofs.Common.{◌≡◌, ◌+◌, ◌<◌, ◌≤◌, ◌^◌, ℕ, true, false, cond, List, [], ◌∷◌, ◌++◌, length, Option, Some, None, MatchOption, refl, sym, ◌∙◌, ap, subst, arith, append_assoc, reverse}
 use Rattle.std.specs.List.{AllByRecursion, count_by}
 use Rattle.std.proofs.lemmas.List.{reverse-append}
 use Rattle.std.proofs.lemmas.List.Sums.{count_by-le-length}
 use Rattle.cds_object.specs.Path.{same_path}
 use Rattle.cds_object.specs.Content.{same_kind}
-use Rattle.cds_object.specs.Object.{ObjectRow, is_folder}
+use Rattle.cds_object.specs.Object.{is_folder}
 use Rattle.cds_object.specs.declared.content.Content.{Content}
 use Rattle.cds_object.specs.declared.content.Content.TheVariants.{Folder, Track}
 use Rattle.cds_object.specs.declared.row.Trackers.{Trackers}
-use Rattle.cds_catalog.specs.Library.{FolderMap, found}
-use Rattle.cds_catalog.specs.History.{History, latest, changes_of, end_of, with_scan, is_addition}
+use Rattle.cds_catalog.specs.Library.{found}
+use Rattle.cds_catalog.specs.History.{latest, changes_of, is_addition}
 use Rattle.cds_catalog.specs.Laws.{IsWithin}
-use Rattle.cds_catalog.specs.Catalog.{PlacedRow, root_entry}
-use Rattle.cds_catalog.specs.Replay.{stands, live, IsLegal, MayFollow}
-use Rattle.cds_catalog.specs.Steps.{Standing, standing_of, stepped, touch, touched, modified}
+use Rattle.cds_catalog.specs.Catalog.{PlacedRow}
+use Rattle.cds_catalog.specs.Replay.{stands, live, IsLegal}
+use Rattle.cds_catalog.specs.Steps.{Standing, stepped, touch, touched, modified}
 use Rattle.cds_catalog.specs.declared.change.Change.{Change}
 use Rattle.cds_catalog.specs.declared.change.Change.TheVariants.{Deletion, Addition, Modification}
 use Rattle.cds_catalog.proofs.Paths.{same_path_is}
-use Rattle.cds_catalog.proofs.StepsFind.{Entry, find_in, Apart, each-both, each-weaker, each-map, each_from_found, none≢some, Apart_from_Rising}
+use Rattle.cds_catalog.proofs.StepsFind.{find_in, each-both, each-weaker, each-map, each_from_found, none≢some, Apart_from_Rising}
 use Rattle.cds_catalog.proofs.StepsIds.{ids_rise}
 use Rattle.cds_catalog.proofs.StepsLive.{shown, find_live, rootless}
 use Rattle.cds_catalog.proofs.StepsRows.{row_over, rows_over, standing_over}
@@ -37,9 +37,11 @@ folders_alike (Track a) (Track b) h = refl
 kinds_kept : (first : ℕ) (older : List Change) (path : List (List ℕ)) (content : Content) → IsLegal (Modification path content ∷ older) →
     AllByRecursion (KeepsKind path content) (rows_over first older)
 kinds_kept first older path content legal =
-    each-map (KeepsKind path content) (row_over first older) (shown older)
-    (at_root, each_from_found (λ e. same_path path e.0 ≡ true → is_folder e.1 ≡ is_folder content) (live older)
-      (Apart_from_Rising _ (live older) (ids_rise older legal.0).1) at)
+    each-map (KeepsKind path content) (row_over first older) (shown older) (
+      at_root,
+      each_from_found (λ e. same_path path e.0 ≡ true → is_folder e.1 ≡ is_folder content) (live older)
+          (Apart_from_Rising _ (live older) (ids_rise older legal.0).1) at,
+    )
   where
     at_root : same_path path [] ≡ true → true ≡ is_folder content
     at_root same = none≢some (stands older path) legal.1.0 (ap (stands older) (same_path_is path [] same) ∙ rootless older legal.0) legal.1.1
@@ -74,13 +76,13 @@ all_have_room : (first : ℕ) (older : List Change) → first + length older + 1
 all_have_room first older n d =
     each-weaker
     (λ (placed : PlacedRow). IsWithin (standing_over first older) placed.1
-      × MatchOption placed.1.trackers (Unit {0}) (λ t. t.child_count ≤ count_by is_addition older))
+    × MatchOption placed.1.trackers (Unit {0}) (λ t. t.child_count ≤ count_by is_addition older))
     (λ (placed : PlacedRow). HasRoom placed.1)
     (λ placed h. has_room (first + length older) (count_by is_addition older) placed.1.trackers n d h.0.trackers h.1)
     (rows_over first older)
     (each-both (λ (placed : PlacedRow). IsWithin (standing_over first older) placed.1)
-      (λ (placed : PlacedRow). MatchOption placed.1.trackers (Unit {0}) (λ t. t.child_count ≤ count_by is_addition older))
-      (rows_over first older) (rows_over_within first older) (children_within first older))
+    (λ (placed : PlacedRow). MatchOption placed.1.trackers (Unit {0}) (λ t. t.child_count ≤ count_by is_addition older))
+    (rows_over first older) (rows_over_within first older) (children_within first older))
 
 over_can_make : (first : ℕ) (older : List Change) (change : Change) → IsLegal (change ∷ older) → first + length (change ∷ older) < 2 ^ 32 →
     CanMake (standing_over first older) change

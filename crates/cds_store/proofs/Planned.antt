@@ -1,14 +1,14 @@
 -- What is answered to a scan, by the tests that the store makes in their order.
-use Rattle.std.proofs.Common.{◌≡◌, ◌+◌, ◌<◌, ◌≤◌, ◌^◌, ℕ, Bool, true, false, cond, nat_lt, List, [], ◌∷◌, ◌++◌, length, reverse, Option, Some, None, refl, sym, ◌∙◌, ap, subst, arith, ltb}
+use Rattle.std.proofs.Common.{◌≡◌, ◌+◌, ◌<◌, ◌≤◌, ◌^◌, true, false, cond, nat_lt, List, [], ◌∷◌, length, reverse, Option, Some, None, refl, sym, ◌∙◌, ap, arith}
 use Rattle.std.specs.List.{filter_map, cons_option}
 use Rattle.std.proofs.lemmas.Bool.Decides.{nat_tests}
 use Rattle.std.proofs.lemmas.List.{length-reverse, length-append, length-map}
 use Rattle.cds_object.specs.declared.record.Record.{Record}
 use Rattle.cds_catalog.specs.Library.{FolderMap, map_of, found, arrival, departure}
-use Rattle.cds_catalog.specs.History.{History, latest, changes_of, end_of, with_scan}
-use Rattle.cds_catalog.specs.Catalog.{PlacedRow, placed_rows, catalog}
-use Rattle.cds_catalog.specs.Scans.{ScanAnswer, Accepted, BadRecord, TooMany, NoNumbers, scan_answer, bad_record, needed_by}
-use Rattle.cds_catalog.specs.Steps.{Standing, standing_of}
+use Rattle.cds_catalog.specs.History.{History, latest, end_of}
+use Rattle.cds_catalog.specs.Catalog.{PlacedRow, placed_rows}
+use Rattle.cds_catalog.specs.Scans.{Accepted, NoNumbers, scan_answer, bad_record, needed_by}
+use Rattle.cds_catalog.specs.Steps.{Standing}
 use Rattle.cds_catalog.specs.declared.change.Change.{Change}
 use Rattle.cds_catalog.proofs.Accepted.{accepted_map}
 use Rattle.cds_catalog.proofs.StepsWithin.{length-catalog}
@@ -70,8 +70,8 @@ pub scan_accepted : (s : Standing) (history : History) (records : List Record) (
 scan_accepted s history records changes stands good few e spent =
     answer_to_good history records good few
     ∙ ap (λ b. cond b (NoNumbers (needed_by history records)) Accepted)
-      (ap (λ n. nat_lt 4294967295 (n + needed_by history records)) (sym (ap (λ (t : Standing). t.number) stands.1))
-      ∙ ap (λ n. nat_lt 4294967295 (s.number + n)) (sym (changes_needed s history records changes stands e)) ∙ spent)
+    (ap (λ n. nat_lt 4294967295 (n + needed_by history records)) (sym (ap (λ (t : Standing). t.number) stands.1))
+    ∙ ap (λ n. nat_lt 4294967295 (s.number + n)) (sym (changes_needed s history records changes stands e)) ∙ spent)
 
 pub scan_spent : (s : Standing) (history : History) (records : List Record) (changes : List Change) → StandsFor s history →
     bad_record records ≡ None → length records ≤ 65535 →
@@ -81,6 +81,6 @@ scan_spent s history records changes stands good few e spent =
     let needed = changes_needed s history records changes stands e in
     answer_to_good history records good few
     ∙ ap (λ b. cond b (NoNumbers (needed_by history records)) Accepted)
-      (ap (λ n. nat_lt 4294967295 (n + needed_by history records)) (sym (ap (λ (t : Standing). t.number) stands.1))
-      ∙ ap (λ n. nat_lt 4294967295 (s.number + n)) (sym needed) ∙ spent)
+    (ap (λ n. nat_lt 4294967295 (n + needed_by history records)) (sym (ap (λ (t : Standing). t.number) stands.1))
+    ∙ ap (λ n. nat_lt 4294967295 (s.number + n)) (sym needed) ∙ spent)
     ∙ ap NoNumbers (sym needed)

@@ -1,9 +1,9 @@
 -- What a scan does to a store.
-use Rattle.std.specs.Prelude.{◌≡◌, ℕ, List, reverse, Result, Ok, Err}
+use Rattle.std.specs.Prelude.{◌≡◌, List, reverse, Result, Ok, Err}
 use Rattle.cds_object.specs.declared.record.Record.{Record}
-use Rattle.cds_catalog.specs.Library.{FolderMap, map_of, found}
+use Rattle.cds_catalog.specs.Library.{map_of, found}
 use Rattle.cds_catalog.specs.History.{History, latest, end_of, with_scan}
-use Rattle.cds_catalog.specs.Scans.{ScanAnswer, Accepted, BadRecord, TooMany, NoNumbers, scan_answer}
+use Rattle.cds_catalog.specs.Scans.{Accepted, BadRecord, TooMany, NoNumbers, scan_answer}
 use Rattle.cds_catalog.specs.Steps.{Standing}
 use Rattle.cds_catalog.specs.declared.change.Change.{Change}
 use Rattle.cds_store.specs.Stands.{StandsFor}

@@ -1,5 +1,5 @@
 -- The change of one place, by what stood there and what stands there.
-use Rattle.std.specs.Prelude.{ℕ, Bool, cond, List, Option, Some, None}
+use Rattle.std.specs.Prelude.{ℕ, cond, List, Option, Some, None}
 use Rattle.cds_object.specs.Content.{same_content, same_kind}
 use Rattle.cds_object.specs.declared.content.Content.{Content}
 use Rattle.cds_catalog.specs.declared.change.Change.{Change}

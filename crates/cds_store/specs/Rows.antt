@@ -1,8 +1,8 @@
 -- What the parts of the store do to rows with their places, in words that their contracts share.
-use Rattle.std.specs.Prelude.{◌≡◌, ◌+◌, ◌-◌, ◌<◌, ◌^◌, ℕ, Bool, true, false, cond, List, [], ◌∷◌, map, Option, Some, None, MatchOption}
+use Rattle.std.specs.Prelude.{◌≡◌, ◌+◌, ◌-◌, ◌<◌, ◌^◌, ℕ, true, cond, List, [], ◌∷◌, map, MatchOption}
 use Rattle.std.specs.List.{AllByRecursion}
 use Rattle.std.specs.BTreeMap.{insert_entry}
-use Rattle.cds_object.specs.Path.{path_cmp, same_path, parent_of}
+use Rattle.cds_object.specs.Path.{path_cmp, same_path}
 use Rattle.cds_object.specs.Object.{ObjectRow, is_folder}
 use Rattle.cds_object.specs.declared.content.Content.{Content}
 use Rattle.cds_object.specs.declared.row.Trackers.{Trackers}

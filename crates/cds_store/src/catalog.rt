@@ -9,7 +9,7 @@ ghost use Rattle.cds_store.specs.Rows.{CanMake, KeepsKind};
 ghost use Rattle.cds_store.specs.Stands.{IsScan, beginning};
 
 use crate::placed::Placed;
-use crate::touch::{touch_parent, ChildEvent};
+use crate::touch::{ChildEvent, touch_parent};
 use cds_base::{Mem, Text};
 use cds_catalog::Change;
 use cds_object::{Content, ObjectId, Path, Row, Trackers};
@@ -38,7 +38,13 @@ fn remove_row(rows: &mut Vec<Placed>, path: &Path)
     rows.retain(|placed| !(*path == placed.path));
 }
 
-fn modify_placed(alloc: Global, placed: &mut Placed, path: &Path, content: &Content, number: u32) -> Result<(), Mem>
+fn modify_placed(
+    alloc: Global,
+    placed: &mut Placed,
+    path: &Path,
+    content: &Content,
+    number: u32,
+) -> Result<(), Mem>
     requires { KeepsKind path.now content.now placed.old }
     ensures { IfOk result (λ _. placed.new ≡ touched path.now (modified number content.now) placed.old) }
 {
@@ -57,7 +63,13 @@ fn modify_row(row: &mut Row, content: Content, number: u32)
     row.object_update = number;
 }
 
-fn modify_rows(alloc: Global, rows: &mut Vec<Placed>, path: &Path, content: &Content, number: u32) -> Result<(), Mem>
+fn modify_rows(
+    alloc: Global,
+    rows: &mut Vec<Placed>,
+    path: &Path,
+    content: &Content,
+    number: u32,
+) -> Result<(), Mem>
     requires { AllByRecursion (KeepsKind path.now content.now) rows.old.items }
     ensures { IfOk result (λ _. rows.new.items ≡ touch path.now (modified number content.now) rows.old.items) }
 {

@@ -45,10 +45,17 @@ pub(crate) fn library_shown(alloc: Global, rows: &[Placed]) -> Result<Library, M
 }
 
 /// The deletion of what stood at a place, by what stands there now.
-fn departure(alloc: Global, path: &Path, before: &Content, now: Option<&Content>) -> Result<Option<Change>, Mem>
+fn departure(
+    alloc: Global,
+    path: &Path,
+    before: &Content,
+    now: Option<&Content>,
+) -> Result<Option<Change>, Mem>
     ensures { IfOk result (λ change. change ≡ gone path.now before.now (option_copied now.entry)) }
 {
-    if let Some(now) = now && before.is_of_kind(now) {
+    if let Some(now) = now
+        && before.is_of_kind(now)
+    {
         return Ok(None);
     }
     let path = path.copy(alloc)?;
@@ -99,7 +106,11 @@ fn arrivals(old: &Library, new: Library, changes: &mut Vec<Change>) -> Result<()
 
 /// The changes from one folder map to the next, the oldest first: the deletions in descending order of places, then the
 /// additions and modifications in ascending order.
-pub(crate) fn changes_between(alloc: Global, old: &Library, new: Library) -> Result<Vec<Change>, Mem>
+pub(crate) fn changes_between(
+    alloc: Global,
+    old: &Library,
+    new: Library,
+) -> Result<Vec<Change>, Mem>
     ensures { IfOk result (λ changes. reverse changes.items ≡ found old.now.entries new.entries) }
 {
     let mut changes = departures(alloc, old, &new)?;

@@ -35,7 +35,9 @@ fn is_bad(alloc: Global, records: &[Record], before: &[Record], found: &Record) 
     ensures { IfOk result (λ bad. bad ≡ is_bad records.now before.now found.now) }
 {
     let parent = found.path.parent(alloc)?;
-    let bad = found.path.is_root() || !is_container(records, &parent) || is_among(before, &found.path);
+    let bad = found.path.is_root()
+        || !is_container(records, &parent)
+        || is_among(before, &found.path);
     Ok(bad)
 }
 

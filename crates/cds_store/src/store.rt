@@ -44,7 +44,9 @@ fn child_ids(alloc: Global, rows: &[Placed], id: u32) -> Result<Vec<u32>, Mem>
 {
     let mut ids = Vec::new(alloc);
     for placed in rows {
-        if let Some(parent) = placed.row.parent && parent.0 == id {
+        if let Some(parent) = placed.row.parent
+            && parent.0 == id
+        {
             ids.push(placed.row.id.0)?;
         }
     }
@@ -153,7 +155,14 @@ impl Store {
 
     /// Adds the ids of a container's children to `out`, in ascending order: at most `count` from the place `start` on,
     /// counted from 0. Answers how many children there are.
-    pub fn children(&self, alloc: Global, id: u32, start: u32, count: u32, out: &mut Vec<u32>) -> Result<u32, Mem>
+    pub fn children(
+        &self,
+        alloc: Global,
+        id: u32,
+        start: u32,
+        count: u32,
+        out: &mut Vec<u32>,
+    ) -> Result<u32, Mem>
         requires { is_container_row (row_of id (rows_of self.now.rows)) ≡ true }
         ensures total { IfOk result (λ total. total ≡ length (children_of id (rows_of self.now.rows))) }
         ensures page { IfOk result (λ _. out.new.items ≡ out.old.items ++ map (λ r. r.id) (take count (drop start (children_of id (rows_of self.now.rows))))) }

@@ -1,4 +1,4 @@
-use Rattle.std.proofs.Common.{◌≡◌, ◌++◌, map, take, drop}
+use Rattle.std.proofs.Common.{◌≡◌, ◌++◌, map, drop}
 use Rattle.cds_object.specs.Tree.{children_of}
 use Rattle.cds_object.specs.Object.{ObjectRow}
 use Rattle.cds_store.specs.Rows.{rows_of}

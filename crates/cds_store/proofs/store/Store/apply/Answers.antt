@@ -1,7 +1,6 @@
 use Rattle.std.proofs.Common.{◌≡◌, ◌∙◌, sym, ap, subst, reverse}
 use Rattle.cds_catalog.specs.Steps.{Standing, stepped}
 use Rattle.cds_store.specs.Stands.{StandsFor, IsScan}
-use Rattle.cds_store.specs.declared.span.Span.{Span}
 use Rattle.cds_store.proofs.Applying.{accepted_is_scan, applied_stands, applied_is_store}
 use Rattle.cds_store.proofs.store.Store.apply.Goals as goal
 
@@ -25,7 +24,7 @@ pub returns : goal.returns
 returns c = λ history stands.
     let planned = c.in_ok-changes.ensures history stands in
     let made : c.make_all.new.self ≡ stepped c.args.self.now (reverse c.in_ok-changes.changes.items) =
-      c.in_ok-make_all.ensures ∙ ap (λ (s : Standing). stepped s (reverse c.in_ok-changes.changes.items)) (c.in_ok-next.ensures ∙ c.self.view_is) in
+    c.in_ok-make_all.ensures ∙ ap (λ (s : Standing). stepped s (reverse c.in_ok-changes.changes.items)) (c.in_ok-next.ensures ∙ c.self.view_is) in
     let after = applied_stands c.args.self.now c.make_all.new.self history c.args.records.now (reverse c.in_ok-changes.changes.items) stands planned.0 planned.1 made in
     let from = c.number-from.ensures ∙ ap (λ (s : Standing). s.number) (c.self.view_is ∙ stands.1) in
     let to = c.number-to.ensures ∙ ap (λ (s : Standing). s.number) after.1 in

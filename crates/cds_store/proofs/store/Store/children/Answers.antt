@@ -1,5 +1,4 @@
-use Rattle.std.proofs.Common.{◌≡◌, ◌∙◌, ap, map, length, ◌≤◌, arith, rules}
-use Rattle.cds_object.specs.Object.{ObjectRow}
+use Rattle.std.proofs.Common.{length, ◌≤◌, arith, rules}
 use Rattle.cds_object.specs.Tree.{children_of}
 use Rattle.cds_store.specs.Rows.{rows_of}
 use Rattle.cds_store.proofs.Children.{ids_are_few, page_of_ids}

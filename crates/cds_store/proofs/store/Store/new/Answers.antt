@@ -1,7 +1,5 @@
 -- Before any scan there are no maps, and the root's is the only row.
-use Rattle.std.proofs.Common.{◌≡◌, refl, sym, ap, [], lit≤, ◌≤◌, length, subst}
-use Rattle.cds_catalog.specs.Steps.{Standing}
-use Rattle.cds_store.specs.Stands.{IsStore, beginning}
+use Rattle.std.proofs.Common.{refl, [], lit≤}
 use Rattle.cds_store.proofs.store.Store.new.Goals as goal
 
 pub invariant_of-result : goal.invariant_of-result
