@@ -1,12 +1,15 @@
 -- A script: lines ended by LF, each of words parted by one space, and what each line means (this project's profile).
 use Rattle.std.specs.Prelude.{◌≡◌, ◌+◌, ◌-◌, ◌^◌, ℕ, Bool, true, false, cond, nat_eq, nat_lt, nat_le, ◌&&◌, ◌||◌, not, List, [], ◌∷◌, ◌++◌, length, take, Option, Some, None, Result, Ok, Err, codes}
 use Rattle.std.specs.List.{slice_split, list_all, onto_first}
+use Rattle.std.specs.Option.{option_and_then}
 use Rattle.cds_base.specs.Number.{plain_below}
 use Rattle.cds_object.specs.Path.{path_read, name_of}
 use Rattle.cds_object.specs.Content.{same_text}
 use Rattle.cds_object.specs.ContentOf.{track_of, bare_info}
 use Rattle.cds_model.specs.declared.turn.Turn.{Turn}
 use Rattle.cds_model.specs.declared.turn.Turn.TheVariants.{Folder, Track, Scan, Load, Read, Ask}
+use Rattle.cds_model.specs.declared.turn.Meaning.{Meaning}
+use Rattle.cds_model.specs.declared.turn.Meaning.TheVariants.{Nothing, Means, Outside}
 
 -- the lines of a script without their LF; the last LF may be missing
 abbrev pub lines_of : List ℕ → List (List ℕ)
@@ -39,11 +42,7 @@ is_word part = nat_lt 0 (length part) && list_all (λ b. nat_le 33 b && nat_le b
 
 -- a number in plain decimal from one number up to another
 abbrev pub number_from_to : ℕ → ℕ → List ℕ → Option ℕ
-number_from_to low high word = in_range (plain_below (high + 1) word)
-  where
-    in_range : Option ℕ → Option ℕ
-    in_range None = None
-    in_range (Some n) = cond (nat_lt n low) None (Some n)
+number_from_to low high word = option_and_then (λ n. cond (nat_lt n low) None (Some n)) (plain_below (high + 1) word)
 
 -- the turn of a folder at a place, if the word is one
 abbrev pub folder_turn : Result (List (List ℕ)) ℕ → Option Turn
@@ -76,18 +75,14 @@ turn_of (word ∷ path ∷ size ∷ rate ∷ channels ∷ bits ∷ samples ∷ [
     None
 turn_of words = None
 
--- what a line means: nothing, where it is empty or begins with `#`; a turn; or it is outside the grammar
-pub data Meaning : Type 0 where
-  Nothing : Meaning
-  Means : Turn → Meaning
-  Outside : Meaning
+-- what a turn that may be none means
+abbrev pub meaning_of_turn : Option Turn → Meaning
+meaning_of_turn None = Outside
+meaning_of_turn (Some turn) = Means turn
 
+-- what a line means: nothing, where it is empty or begins with `#`; a turn; or it is outside the grammar
 abbrev pub meaning_of_words : List (List ℕ) → Meaning
-meaning_of_words words = cond (list_all is_word words) (of_turn (turn_of words)) Outside
-  where
-    of_turn : Option Turn → Meaning
-    of_turn None = Outside
-    of_turn (Some turn) = Means turn
+meaning_of_words words = cond (list_all is_word words) (meaning_of_turn (turn_of words)) Outside
 
 abbrev pub meaning_of : List ℕ → Meaning
 meaning_of [] = Nothing

@@ -11,4 +11,4 @@ pub use evaluated::{
     scan_during_a_load, track_becomes_a_folder, track_without_its_folder,
 };
 pub use exchange::{Ask, Read, Says, Shown};
-pub use turn::Turn;
+pub use turn::{Meaning, Turn};
