@@ -14,3 +14,6 @@ mod touch;
 pub use error::ApplyError;
 pub use span::Span;
 pub use store::Store;
+
+#[cfg(test)]
+mod tests;
