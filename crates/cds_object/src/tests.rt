@@ -1,3 +1,5 @@
+ghost use Rattle.std.specs.Prelude.{◌≡◌, IfOk};
+
 use crate::{
     Comment, Comments, Content, FlacInfo, ObjectId, Path, PathError, Row, TrackContent, Trackers,
     content_of,
@@ -37,32 +39,34 @@ fn text_of(alloc: Global, path: &Path) -> Result<String, AllocError> {
 #[test]
 fn reads_short_paths(rt: HostRuntime) -> Result<(), Fail> {
     let alloc = rt.alloc();
-    for (text, want) in [
-        ("a", Ok((1, "a"))),
-        ("Rock/b.flac", Ok((2, "b.flac"))),
-        ("../a", Err(0)),
-        (".../.a/b.", Ok((3, "b."))),
-        ("a b/\u{e9}\u{1f3b5}", Ok((2, "\u{e9}\u{1f3b5}"))),
-        ("", Err(0)),
-        ("/", Err(0)),
-        ("/a", Err(0)),
-        ("a//b", Err(2)),
-        ("a/", Err(2)),
-        (".", Err(0)),
-        ("a/./b", Err(2)),
-        ("ab/..", Err(3)),
-        ("a/b\0c/..", Err(2)),
-        ("\u{e9}/\0", Err(3)),
+    for (text, count, name) in [
+        ("a", 1, "a"),
+        ("Rock/b.flac", 2, "b.flac"),
+        (".../.a/b.", 3, "b."),
+        ("a b/\u{e9}\u{1f3b5}", 2, "\u{e9}\u{1f3b5}"),
     ] {
-        match (Path::read(alloc, text), want) {
-            (Ok(path), Ok((count, name))) => {
-                assert_eq!(rt; path.names().len(), count, "{text}");
-                assert_eq!(rt; path.name(), name, "{text}");
-                let again = text_of(alloc, &path)?;
-                assert_eq!(rt; again.as_str(), text);
-            }
-            (Err(error), Err(at)) => assert_eq!(rt; error, PathError::BadPath { at }, "{text}"),
-            _ => assert!(rt; false, "{text}"),
+        let path = Path::read(alloc, text)?;
+        assert_eq!(rt; path.names().len(), count, "{text}");
+        assert_eq!(rt; path.name(), name, "{text}");
+        let again = text_of(alloc, &path)?;
+        assert_eq!(rt; again.as_str(), text);
+    }
+    for (text, at) in [
+        ("", 0),
+        ("/", 0),
+        ("/a", 0),
+        ("a//b", 2),
+        ("a/", 2),
+        (".", 0),
+        ("../a", 0),
+        ("a/./b", 2),
+        ("ab/..", 3),
+        ("a/b\0c/..", 2),
+        ("\u{e9}/\0", 3),
+    ] {
+        match Path::read(alloc, text) {
+            Ok(_) => assert!(rt; false, "{text}"),
+            Err(error) => assert_eq!(rt; error, PathError::BadPath { at }, "{text}"),
         }
     }
     Ok(())
@@ -95,12 +99,9 @@ fn reads_paths_at_the_limits(rt: HostRuntime) -> Result<(), Fail> {
 }
 
 /// A file with these comments, of so many samples.
-fn info(
-    alloc: Global,
-    comments: &[(&str, &str)],
-    samples: u64,
-    rate: u32,
-) -> Result<FlacInfo, Fail> {
+fn info(alloc: Global, comments: &[(&str, &str)], samples: u64, rate: u32) -> Result<FlacInfo, Fail>
+    ensures { IfOk result (λ info. info.samples ≡ samples) }
+{
     let mut list = Comments::new(alloc);
     for (name, value) in comments {
         let name = Text::read(alloc, name)?;
@@ -202,18 +203,23 @@ fn texts_and_numbers_come_from_first_comments(rt: HostRuntime) -> Result<(), Fai
 fn durations_are_cut_to_milliseconds(rt: HostRuntime) -> Result<(), Fail> {
     let alloc = rt.alloc();
     for (samples, rate, want) in [
-        (441000, 44100, Some(10000)),
+        (441000u32, 44100, Some(10000)),
         (44099, 44100, Some(999)),
         (1, 48000, Some(0)),
         (0, 44100, None),
         (441000, 0, None),
-        (68719476735, 1, Some(68719476735000)),
+        (4294967295, 1, Some(4294967295000)),
     ] {
-        let info = info(alloc, &[], samples, rate)?;
+        let info = info(alloc, &[], u64::from(samples), rate)?;
         match content_of(alloc, &info, "t.flac", 0)? {
             Content::Track(track) => assert_eq!(rt; track.duration, want, "{samples}"),
             _ => assert!(rt; false),
         }
+    }
+    let longest = info(alloc, &[], 68719476735, 1)?;
+    match content_of(alloc, &longest, "t.flac", 0)? {
+        Content::Track(track) => assert_eq!(rt; track.duration, Some(68719476735000)),
+        _ => assert!(rt; false),
     }
     Ok(())
 }
