@@ -1,11 +1,11 @@
 //! What a listing goes on with, and whether a page does.
 
-ghost use Rattle.std.specs.Prelude.{◌≡◌, ◌+◌, ◌-◌, ◌^◌, ◌<◌, length, min, nat_eq, IsTrue};
+ghost use Rattle.std.specs.Prelude.{◌≡◌, ◌+◌, ◌-◌, ◌^◌, ◌<◌, length, min, IsTrue};
 ghost use Rattle.std.specs.List.{list_all, list_any};
-ghost use Rattle.cds_object.specs.Object.{ObjectRow};
 ghost use Rattle.cds_object.specs.Tree.{is_child_of};
 ghost use Rattle.cds_model.specs.Replica.{listed_id, listed_children, all_new, known_ids, fits};
 ghost use Rattle.cds_replica.specs.Holding.{listing_in};
+ghost use Rattle.cds_replica.specs.Known.{has_id, was_shown};
 
 use crate::listing::Listing;
 use crate::order::Identified;
@@ -65,18 +65,24 @@ impl Listing {
     {
         for (at, row) in page.iter().enumerate() {
             let (earlier, _) = page.split_at(at);
-            let id = row.id();
-            if is_among(&self.rows, id) || is_among(&self.part, id) || is_among(earlier, id) {
+            if self.was_shown(row.id(), earlier) {
                 return false;
             }
         }
         true
     }
+
+    /// Whether an id was shown before, also earlier in the page.
+    fn was_shown(&self, id: u32, earlier: &[Row]) -> bool
+        ensures { result ≡ was_shown id self.now.rows.items self.now.part.items earlier.now }
+    {
+        is_among(&self.rows, id) || is_among(&self.part, id) || is_among(earlier, id)
+    }
 }
 
-/// Whether a row has this id.
+/// Whether one of these rows has this id.
 fn is_among(rows: &[Row], id: u32) -> bool
-    ensures { result ≡ list_any (λ (row : ObjectRow). nat_eq id row.id) rows.now }
+    ensures { result ≡ list_any (has_id id) rows.now }
 {
     rows.iter().any(|row| id == row.id())
 }
