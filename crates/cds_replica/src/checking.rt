@@ -52,7 +52,8 @@ impl Listing {
 
     /// How many rows the next page has.
     fn next_page_len(&self) -> usize
-        ensures { result ≡ min 256 (listed_children (listing_in self.now) - length self.now.part.items) }
+        ensures exact { result ≡ min 256 (listed_children (listing_in self.now) - length self.now.part.items) }
+        ensures short { length self.now.part.items + result < 2 ^ 32 }
     {
         (self.children() as usize)
             .saturating_sub(self.part.len())
