@@ -3,3 +3,4 @@
 
 mod fragment;
 mod put;
+mod session;
