@@ -100,6 +100,11 @@ root-lists rows tree root found = record {
     waits_alone : waiting_at 0 rows ≡ w ∷ []
     waits_alone = ap (filter_map waiting_of) (filter-same (waits 0) (known 0) rows (all-both rows) ∙ alone) ∙ ap (λ o. cons_option o []) made
 
+-- its first container is the root
+pub root-first : (rows : List ObjectRow) (tree : IsTree rows) (root : ObjectRow) (found : row_of 0 rows ≡ Some root) → (root-lists rows tree root found).first.id ≡ 0
+unfolding root-lists
+root-first rows tree root found = found-id 0 rows root found
+
 -- moments that stood, each with a tree; none has a higher number than the last, and equal numbers had equal rows
 pub record IsServed (Stood : Moment → Type 0) (now : Moment) : Type 0 where
   pub stood : Stood now

@@ -1,4 +1,6 @@
 pub mod Advance
+pub mod Counts
+pub mod Ends
 pub mod Frontier
 pub mod Honest
 pub mod Lines

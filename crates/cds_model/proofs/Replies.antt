@@ -34,7 +34,7 @@ page-shown number l moment start (Some row) = by (is_folder row.content)
     by false = (None, refl)
 
 -- the page of a container that stands
-page-of : (moment : Moment) (start : ℕ) (row : ObjectRow) → is_folder row.content ≡ true →
+pub page-of : (moment : Moment) (start : ℕ) (row : ObjectRow) → is_folder row.content ≡ true →
     children_reply moment start (Some row)
     ≡ Page (take page_size (drop start (children_of row.id moment.rows))) (length (children_of row.id moment.rows)) (update_of moment row)
 page-of moment start row folder =
