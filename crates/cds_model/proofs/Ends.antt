@@ -174,7 +174,7 @@ module _ (m : Moment) (tree : IsTree m.rows) where
           )
 
   -- a read that a load has to go is one less to go
-  read-left : (held : Held) (n : ℕ) → Left m held (suc n) → Left m (read_once m held) n
+  pub read-left : (held : Held) (n : ℕ) → Left m held (suc n) → Left m (read_once m held) n
   read-left Idle n left = left
   read-left Begun n left = omega (arith, left)
   read-left HasToken n left = (refl, omega (arith, left))
@@ -237,7 +237,7 @@ module _ (m : Moment) (tree : IsTree m.rows) where
   runs-left (HasCopy number rows) n left = absurd (omega (arith, left.0))
 
   -- and with none to go there is the copy
-  none-left : (held : Held) → Left m held 0 → held ≡ HasCopy m.number m.rows
+  pub none-left : (held : Held) → Left m held 0 → held ≡ HasCopy m.number m.rows
   none-left Idle left = absurd left
   none-left Begun left = absurd (omega (arith, left))
   none-left HasToken left = absurd (omega (arith, left))

@@ -1,4 +1,6 @@
 pub mod Advance
+pub mod Bounded
+pub mod Bounds
 pub mod Counts
 pub mod Ends
 pub mod Frontier
@@ -8,6 +10,7 @@ pub mod Listings
 pub mod Merge
 pub mod Pages
 pub mod Replies
+pub mod Servers
 pub mod Trees
 pub mod Turns
 pub mod Whole

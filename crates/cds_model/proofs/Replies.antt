@@ -20,7 +20,7 @@ abbrev pub TakesGiven : (Moment → Type 0) → Taken → Type 0
 TakesGiven Stood t = (held : Held) × (t ≡ Holds held) × IsGiven Stood held
 
 -- a page or a refusal in its place is what a server replies to an ask for children
-page-shown : (number : ℕ) (l : Listing) (moment : Moment) (start : ℕ) (o : Option ObjectRow) →
+pub page-shown : (number : ℕ) (l : Listing) (moment : Moment) (start : ℕ) (o : Option ObjectRow) →
     (page : Option (List ObjectRow)) × (taken (Lists number l) (children_reply moment start o) ≡ Holds (HasPage number l page))
 page-shown number l moment start None = (None, refl)
 page-shown number l moment start (Some row) = by (is_folder row.content)
