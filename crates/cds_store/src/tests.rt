@@ -64,7 +64,10 @@ fn rows_text(alloc: Global, store: &Store) -> Result<String, Fail> {
         let update = row.object_update;
         text.push_str(format!(in alloc; "{id}<{parent}@{update}")?.as_str())?;
         if let Some(t) = row.trackers {
-            let tracked = format!(in alloc; "[{} {} {}]", t.container_update, t.child_count, t.deleted)?;
+            let tracked = format!(in alloc;
+                "[{} {} {}]",
+                t.container_update, t.child_count, t.deleted
+            )?;
             text.push_str(tracked.as_str())?;
         }
         text.push_str(" ")?;
@@ -141,5 +144,60 @@ fn scans(rt: HostRuntime) -> Result<(), Fail> {
         let rows = rows_text(alloc, &store)?;
         assert_eq!(rt; rows.as_str(), case.rows);
     }
+    Ok(())
+}
+
+#[test]
+fn reads(rt: HostRuntime) -> Result<(), Fail> {
+    let alloc = rt.alloc();
+    let mut store = Store::new(alloc, 0)?;
+    let records = records_of(alloc, "R/ R/a=1 R/b=2 S=3")?;
+    assert!(rt; records.len() < 10);
+    assert!(rt; store.apply(alloc, &records).is_ok());
+    assert_eq!(rt; store.len(), 5);
+    assert_eq!(rt; store.system_update_id(), 4);
+    assert!(rt; store.is_container(0) && !store.is_container(2));
+    assert_eq!(rt; store.get(3).map(|row| row.id.0), Some(3));
+    assert!(rt; store.get(5).is_none());
+    // the container, where the page begins and how many it has at most; how many children there are, and those of the page
+    let pages: [(u32, u32, u32, u32, &str); 4] = [
+        (0, 0, 10, 2, "[1, 4]"),
+        (1, 1, 1, 2, "[3]"),
+        (1, 0, 1, 2, "[2]"),
+        (1, 2, 1, 2, "[]"),
+    ];
+    for (id, start, count, total, ids) in pages {
+        let mut out = Vec::new(alloc);
+        assert!(rt; store.is_container(id));
+        let children = store.children(alloc, id, start, count, &mut out)?;
+        assert_eq!(rt; children, total);
+        let text = format!(in alloc; "{out:?}")?;
+        assert_eq!(rt; text.as_str(), ids);
+    }
+    Ok(())
+}
+
+/// Tracks at the root.
+fn flat(alloc: Global, count: u32) -> Result<Records, Fail> {
+    let mut records = Records::new(alloc);
+    for at in 0..count {
+        let word = format!(in alloc; "t{at}")?;
+        records.push(record_of(alloc, word.as_str())?)?;
+    }
+    Ok(records)
+}
+
+#[test]
+fn as_many_as_fit(rt: HostRuntime) -> Result<(), Fail> {
+    let alloc = rt.alloc();
+    let mut store = Store::new(alloc, 0)?;
+    for (count, answer) in [(65_536, "full 65536 "), (65_535, "0-65535 ")] {
+        let records = flat(alloc, count)?;
+        assert!(rt; records.len() < 100_000);
+        let answered = store.apply(alloc, &records);
+        let text = answer_text(alloc, answered)?;
+        assert_eq!(rt; text.as_str(), answer);
+    }
+    assert_eq!(rt; store.len(), 65_536);
     Ok(())
 }
