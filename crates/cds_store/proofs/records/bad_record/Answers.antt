@@ -1,7 +1,6 @@
-use Rattle.std.proofs.Common.{◌≡◌, ◌∙◌, take, ap, sym}
+use Rattle.std.proofs.Common.{◌∙◌, take}
 use Rattle.std.specs.BTreeSet.{contains}
 use Rattle.cds_object.specs.Path.{path_cmp}
-use Rattle.cds_catalog.specs.Scans.{is_bad}
 use Rattle.cds_store.proofs.Bad.{put_in, place_seen, bad_is, first_bad, none_bad}
 use Rattle.cds_store.proofs.records.bad_record.Goals as goal
 
