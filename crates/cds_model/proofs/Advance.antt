@@ -36,6 +36,7 @@ made-all P test (row ∷ rows) all = by (test row) refl (made-all P test rows al
         AllByRecursion P (cons_option o (filter_map waiting_of (filter test rows)))
     of_option None e passes rest = rest
     of_option (Some w) e passes rest = (all.0 passes w e, rest)
+
     by : (b : Bool) → test row ≡ b → AllByRecursion P (filter_map waiting_of (filter test rows)) →
         AllByRecursion P (filter_map waiting_of (cond b (row ∷ filter test rows) (filter test rows)))
     by true e rest = of_option (waiting_of row) refl e rest
@@ -49,9 +50,12 @@ waiting-rises test (row ∷ rows) rises = by (test row) (waiting-rises test rows
     of_option : (o : Option Waiting) → waiting_of row ≡ o → Rises waiting_id (filter_map waiting_of (filter test rows)) →
         Rises waiting_id (cons_option o (filter_map waiting_of (filter test rows)))
     of_option None e rest = rest
-    of_option (Some w) e rest =
-        (subst (λ k. AllByRecursion (λ (v : Waiting). k < v.id) (filter_map waiting_of (filter test rows))) (sym (waiting-keeps row w e))
-            (made-above waiting_of id_of waiting_id waiting-keeps row.id (filter test rows) (filter-all _ test rows rises.0)), rest)
+    of_option (Some w) e rest = (
+      subst (λ k. AllByRecursion (λ (v : Waiting). k < v.id) (filter_map waiting_of (filter test rows))) (sym (waiting-keeps row w e))
+          (made-above waiting_of id_of waiting_id waiting-keeps row.id (filter test rows) (filter-all _ test rows rises.0)),
+      rest,
+    )
+
     by : (b : Bool) → Rises waiting_id (filter_map waiting_of (filter test rows)) →
         Rises waiting_id (filter_map waiting_of (cond b (row ∷ filter test rows) (filter test rows)))
     by true rest = of_option (waiting_of row) refl rest
@@ -82,13 +86,13 @@ module _ (rows : List ObjectRow) (tree : IsTree rows) where
             row = row;
             found = found;
             folder = sym facts.0.tracked ∙ ap is_some e;
-            counts = counts ∙ sym (length-filter (is_child_of row.id) rows)
+            counts = counts ∙ sym (length-filter (is_child_of row.id) rows);
           })
 
   pub all-stand : (at : ℕ) → AllByRecursion (Stands at rows) (waiting_at at rows)
   all-stand at = made-all (Stands at rows) (waits at) rows
       (all-map_two (λ row found facts. stands-row at row found facts) rows (each-found rows (ascend-rises rows tree.ascending))
-          (all-map_two (λ row is counts. (is, counts)) rows tree.each tree.counted))
+      (all-map_two (λ row is counts. (is, counts)) rows tree.each tree.counted))
 
   -- where nothing waits, every row is known
   pub nothing-waits : (at : ℕ) → waiting_at at rows ≡ [] → filter (known at) rows ≡ rows
@@ -109,9 +113,9 @@ module _ (rows : List ObjectRow) (tree : IsTree rows) where
                   let id : q.0.id ≡ parent = found-id parent rows q.0 q.1 in
                   let past : at ≤ parent = ltb-false parent at e in
                   let nobody : AllByRecursion (λ (w : Waiting). parent + 1 ≤ w.id) (waiting_at at rows) =
-                      subst (λ ws. AllByRecursion (λ (w : Waiting). parent + 1 ≤ w.id) ws) (sym none) tt in
+                  subst (λ ws. AllByRecursion (λ (w : Waiting). parent + 1 ≤ w.id) ws) (sym none) tt in
                   let low : parent + 1 ≤ q.0.id =
-                      descends rows tree at (parent + 1) nobody q.0.id q.0 (omega arith) (ap (λ k. row_of k rows) id ∙ q.1) q.2 (omega (arith, id, past)) in
+                  descends rows tree at (parent + 1) nobody q.0.id q.0 (omega arith) (ap (λ k. row_of k rows) id ∙ q.1) q.2 (omega (arith, id, past)) in
                   absurd (omega (arith, id, low))
 
   -- the first that waits is the least, so that what is known and what waits is the same at its own id
@@ -133,14 +137,16 @@ module _ (rows : List ObjectRow) (tree : IsTree rows) where
   pub waiting-first : (at : ℕ) (w : Waiting) (ws : List Waiting) → waiting_at at rows ≡ w ∷ ws → waiting_at at rows ≡ waiting_at w.id rows
   waiting-first at w ws is = filter_map-same waiting_of (waits at) (waits w.id) rows
       (all-map_two (λ row a b. one row a b) rows
-          (all-map_two (λ row same descent. (same, descent)) rows
-              (all-known_alike rows tree at w.id least past) (all-descend rows tree at w.id least))
-          tree.each)
+      (all-map_two (λ row same descent. (same, descent)) rows
+      (all-known_alike rows tree at w.id least past) (all-descend rows tree at w.id least))
+      tree.each)
     where
       least : AllByRecursion (λ (v : Waiting). w.id ≤ v.id) (waiting_at at rows)
       least = first-is_least at w ws is
+
       past : at ≤ w.id
       past = (first-stands at w ws is).past
+
       one : (row : ObjectRow) → (known at row ≡ known w.id row) × (is_folder row.content ≡ true → at ≤ row.id → w.id ≤ row.id) → IsRow row →
           (waiting_of row ≡ None) ⊎ (waits at row ≡ waits w.id row)
       one row facts isrow = by (is_folder row.content) refl
@@ -148,6 +154,7 @@ module _ (rows : List ObjectRow) (tree : IsTree rows) where
           level : is_folder row.content ≡ true → (b : Bool) → nat_le at row.id ≡ b → nat_le at row.id ≡ nat_le w.id row.id
           level folder true e = e ∙ sym (le-leb w.id row.id (facts.1 folder (leb-true at row.id e)))
           level folder false e = e ∙ sym (lt-leb w.id row.id (let l : row.id < at = leb-false at row.id e in omega (arith, l, past)))
+
           by : (b : Bool) → is_folder row.content ≡ b → (waiting_of row ≡ None) ⊎ (waits at row ≡ waits w.id row)
           by true folder = inr (λ i. facts.0 i && level folder (nat_le at row.id) refl i)
           by false track = inl (track-waits_not row isrow track)

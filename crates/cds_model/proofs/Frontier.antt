@@ -37,10 +37,12 @@ filter_map-same h p q (x ∷ xs) all = by all.0 (filter_map-same h p q xs all.1)
     none : (b : Bool) → (test : _ → Bool) → h x ≡ None → filter_map h (cond b (x ∷ filter test xs) (filter test xs)) ≡ filter_map h (filter test xs)
     none true test e = ap (λ o. cons_option o (filter_map h (filter test xs))) e
     none false test e = refl
+
     same : (b : Bool) → filter_map h (filter p xs) ≡ filter_map h (filter q xs) →
         filter_map h (cond b (x ∷ filter p xs) (filter p xs)) ≡ filter_map h (cond b (x ∷ filter q xs) (filter q xs))
     same true rest = ap (cons_option (h x)) rest
     same false rest = rest
+
     by : (h x ≡ None) ⊎ (p x ≡ q x) → filter_map h (filter p xs) ≡ filter_map h (filter q xs) →
         filter_map h (filter p (x ∷ xs)) ≡ filter_map h (filter q (x ∷ xs))
     by (inl e) rest = none (p x) p e ∙ rest ∙ sym (none (q x) q e)
@@ -70,6 +72,7 @@ made-at P test id (next ∷ rows) row w found passes made all =
     head true o b e all is = let P' : List Waiting → Type 0 = λ ws. AllByRecursion P ws in
         (subst P' (ap (λ v. cons_option v (filter_map waiting_of (filter test rows))) (sym is ∙ e)) all).0
     head false o b e all is = absurd (cc)
+
     tail : (b : Bool) → AllByRecursion P (filter_map waiting_of (cond b (next ∷ filter test rows) (filter test rows))) →
         AllByRecursion P (filter_map waiting_of (filter test rows))
     tail true all = of_option (waiting_of next) all
@@ -79,6 +82,7 @@ made-at P test id (next ∷ rows) row w found passes made all =
         of_option None all = all
         of_option (Some v) all = all.1
     tail false all = all
+
     by : (b : Bool) → cond b (Some next) (row_of id rows) ≡ Some row →
         AllByRecursion P (filter_map waiting_of (filter test (next ∷ rows))) →
         (row_of id rows ≡ Some row → test row ≡ true → waiting_of row ≡ Some w → AllByRecursion P (filter_map waiting_of (filter test rows)) → P w) → P w
@@ -112,20 +116,23 @@ module _ (rows : List ObjectRow) (tree : IsTree rows) where
     where
       held : IsHeld rows row
       held = all-at (IsHeld rows) row.id rows row tree.held found
+
       of_parent : (o : Option ℕ) → MatchOption o (row.id ≡ 0) (λ parent. (parent < row.id) × (is_container_row (row_of parent rows) ≡ true)) →
           below at o ≡ false → low ≤ row.id
       of_parent None h unknown = absurd (cc)
       of_parent (Some parent) h unknown = absurd (omega (arith, h.0, fuel))
+
       known_or_not : (b : Bool) → known at row ≡ b → low ≤ row.id
       known_or_not true is_known =
           let w = folder-waits rows row (all-at IsRow row.id rows row tree.each found) folder in
           made-at (λ (w : Waiting). low ≤ w.id) (waits at) row.id rows row (record { id = row.id; children = w.0.child_count })
-              found (and_from _ _ is_known (le-leb at row.id above)) w.2 all
+          found (and_from _ _ is_known (le-leb at row.id above)) w.2 all
       known_or_not false unknown = of_parent row.parent held unknown
   descends at low all (suc n) row fuel found folder above = known_or_not (known at row) refl (descends at low all n)
     where
       held : IsHeld rows row
       held = all-at (IsHeld rows) row.id rows row tree.held found
+
       of_parent : (o : Option ℕ) → MatchOption o (row.id ≡ 0) (λ parent. (parent < row.id) × (is_container_row (row_of parent rows) ≡ true)) →
           below at o ≡ false →
           ((next : ObjectRow) → next.id ≤ n → row_of next.id rows ≡ Some next → is_folder next.content ≡ true → at ≤ next.id → low ≤ next.id) → low ≤ row.id
@@ -136,12 +143,13 @@ module _ (rows : List ObjectRow) (tree : IsTree rows) where
           let past : at ≤ parent = ltb-false parent at unknown in
           let low_enough : low ≤ q.0.id = rest q.0 (omega (arith, id, h.0, fuel)) (ap (λ k. row_of k rows) id ∙ q.1) q.2 (omega (arith, id, past)) in
           omega (arith, id, h.0, low_enough)
+
       known_or_not : (b : Bool) → known at row ≡ b →
           ((next : ObjectRow) → next.id ≤ n → row_of next.id rows ≡ Some next → is_folder next.content ≡ true → at ≤ next.id → low ≤ next.id) → low ≤ row.id
       known_or_not true is_known rest =
           let w = folder-waits rows row (all-at IsRow row.id rows row tree.each found) folder in
           made-at (λ (w : Waiting). low ≤ w.id) (waits at) row.id rows row (record { id = row.id; children = w.0.child_count })
-              found (and_from _ _ is_known (le-leb at row.id above)) w.2 all
+          found (and_from _ _ is_known (le-leb at row.id above)) w.2 all
       known_or_not false unknown rest = of_parent row.parent held unknown rest
 
   -- the same, said of each row

@@ -27,23 +27,26 @@ root-alone (row ∷ rows) root rises each found = by (nat_eq row.id 0) refl foun
     parent_none : (o : Option ℕ) → is_none o ≡ true → below 0 o ≡ true
     parent_none None e = refl
     parent_none (Some p) e = absurd (cc)
+
     parent_some : (o : Option ℕ) → is_none o ≡ false → below 0 o ≡ false
     parent_some None e = absurd (cc)
     parent_some (Some p) e = le-ltb p 0 (omega arith)
+
     nobody : (xs : List ObjectRow) → AllByRecursion (λ (x : ObjectRow). known 0 x ≡ false) xs → filter (known 0) xs ≡ []
     nobody [] all = refl
     nobody (x ∷ xs) all = ap (λ b. cond b (x ∷ filter (known 0) xs) (filter (known 0) xs)) all.0 ∙ nobody xs all.1
+
     by : (b : Bool) → nat_eq row.id 0 ≡ b → cond b (Some row) (row_of 0 rows) ≡ Some root → filter (known 0) (row ∷ rows) ≡ root ∷ []
     by true e is =
         let same : row ≡ root = cc in
         ap (λ b. cond b (row ∷ filter (known 0) rows) (filter (known 0) rows)) (parent_none row.parent (each.0.rooted ∙ e))
         ∙ ap (λ xs. row ∷ xs) (nobody rows (all-map_two (λ (x : ObjectRow) above isrow.
-            parent_some x.parent (isrow.rooted ∙ ne_eqb x.id 0 (λ z. absurd (omega (arith, above, z))))) rows rises.0 each.1))
+        parent_some x.parent (isrow.rooted ∙ ne_eqb x.id 0 (λ z. absurd (omega (arith, above, z))))) rows rises.0 each.1))
         ∙ ap (λ x. x ∷ []) same
     by false e is =
         let low : 0 < root.id = all-at (λ (x : ObjectRow). row.id < x.id → 0 < x.id) 0 rows root
-            (all-map {P = λ (x : ObjectRow). row.id < x.id} (λ x a b. omega (arith, a)) rows rises.0) is
-            (all-at (λ (x : ObjectRow). row.id < x.id) 0 rows root rises.0 is) in
+        (all-map {P = λ (x : ObjectRow). row.id < x.id} (λ x a b. omega (arith, a)) rows rises.0) is
+        (all-at (λ (x : ObjectRow). row.id < x.id) 0 rows root rises.0 is) in
         let none : root.id ≡ 0 = found-id 0 rows root is in
         absurd (omega (arith, low, none))
 
@@ -56,36 +59,51 @@ root-lists rows tree root found = record {
   waiting = put;
   wait = ap (λ v. waiting_at v rows) id ∙ waits_alone;
   front = refl;
-  room = inl refl
+  room = inl refl;
 }
   where
     rises : Rises id_of rows
     rises = ascend-rises rows tree.ascending
+
     isrow : IsRow root
     isrow = all-at IsRow 0 rows root tree.each found
+
     id : root.id ≡ 0
     id = found-id 0 rows root found
+
     folder : is_folder root.content ≡ true
     folder = sym (ap is_container_row found) ∙ tree.rooted
+
     w : Waiting
     w = record { id = root.id; children = (folder-waits rows root isrow folder).0.child_count }
+
     made : waiting_of root ≡ Some w
     made = (folder-waits rows root isrow folder).2
+
     alone : filter (known 0) rows ≡ root ∷ []
     alone = root-alone rows root rises tree.each found
+
     put : put_containers (root ∷ []) [] ≡ w ∷ []
     put = ap (λ o. puts_by (λ (v : Waiting). v.id) (cons_option o []) []) made
+
     both : (row : ObjectRow) → waits 0 row ≡ known 0 row
     both row = by (known 0 row)
       where
         by : (b : Bool) → (b && nat_le 0 row.id) ≡ b
         by true = le-leb 0 row.id (omega arith)
         by false = refl
+
     all-both : (xs : List ObjectRow) → AllByRecursion (λ (row : ObjectRow). waits 0 row ≡ known 0 row) xs
     all-both [] = tt
     all-both (x ∷ xs) = (both x, all-both xs)
+
     waits_alone : waiting_at 0 rows ≡ w ∷ []
     waits_alone = ap (filter_map waiting_of) (filter-same (waits 0) (known 0) rows (all-both rows) ∙ alone) ∙ ap (λ o. cons_option o []) made
+
+-- its first container is the root
+pub root-first : (rows : List ObjectRow) (tree : IsTree rows) (root : ObjectRow) (found : row_of 0 rows ≡ Some root) → (root-lists rows tree root found).first.id ≡ 0
+unfolding root-lists
+root-first rows tree root found = found-id 0 rows root found
 
 -- moments that stood, each with a tree; none has a higher number than the last, and equal numbers had equal rows
 pub record IsServed (Stood : Moment → Type 0) (now : Moment) : Type 0 where
@@ -126,8 +144,10 @@ given-more Stood More more held given = by held given
   where
     had : (number : ℕ) → Had Stood number → Had More number
     had number h = record { moment = h.moment; stood = more h.moment h.stood; numbered = h.numbered }
+
     two : (number : ℕ) → HadTwo Stood number → HadTwo More number
     two number t = record { had = had number t.had; moment = t.moment; stood = more t.moment t.stood; past = t.past }
+
     by : (h : Held) → IsGiven Stood h → IsGiven More h
     by Idle g = tt
     by Begun g = tt

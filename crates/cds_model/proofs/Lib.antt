@@ -1,6 +1,9 @@
 pub mod Advance
+pub mod Counts
+pub mod Ends
 pub mod Frontier
 pub mod Honest
+pub mod Lines
 pub mod Listings
 pub mod Merge
 pub mod Pages
@@ -8,3 +11,4 @@ pub mod Replies
 pub mod Trees
 pub mod Turns
 pub mod Whole
+pub mod Words

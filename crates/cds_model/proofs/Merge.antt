@@ -80,12 +80,13 @@ merged h key made_key keeps p q (x ∷ xs) rises apart =
     above test y e =
         subst (λ k. AllByRecursion (λ z. k < made_key z) (filter_map h (filter test xs))) (sym (keeps x y e))
         (made-above h key made_key keeps (key x) (filter test xs) (filter-all _ test xs rises.0))
+
     by : (b c : Bool) → (b && c) ≡ false →
         ((y : _) → h x ≡ Some y → AllByRecursion (λ z. made_key y < made_key z) (filter_map h (filter q xs))) →
         ((y : _) → h x ≡ Some y → AllByRecursion (λ z. made_key y < made_key z) (filter_map h (filter p xs))) →
         puts_by made_key (filter_map h (filter q xs)) (filter_map h (filter p xs)) ≡ filter_map h (filter (λ y. p y || q y) xs) →
         puts_by made_key (filter_map h (cond c (x ∷ filter q xs) (filter q xs))) (filter_map h (cond b (x ∷ filter p xs) (filter p xs)))
-            ≡ filter_map h (cond (b || c) (x ∷ filter (λ y. p y || q y) xs) (filter (λ y. p y || q y) xs))
+        ≡ filter_map h (cond (b || c) (x ∷ filter (λ y. p y || q y) xs) (filter (λ y. p y || q y) xs))
     by true true both fq fp rest = absurd (cc)
     by true false both fq fp rest = cons-past made_key (h x) _ _ _ fq rest
     by false true both fq fp rest = cons-first made_key (h x) _ _ _ fq fp rest

@@ -69,7 +69,7 @@ rising-new ids [] rises others = refl
 rising-new ids (row ∷ rows) rises others =
     and_from _ _ (ap not (others-not_any row.id ids others.0))
     (rising-new (row.id ∷ ids) rows rises.1
-        (all-map_two (λ (r : ObjectRow) above apart. ((λ e. absurd (omega (arith, above, e))), apart)) rows rises.0 others.1))
+    (all-map_two (λ (r : ObjectRow) above apart. ((λ e. absurd (omega (arith, above, e))), apart)) rows rises.0 others.1))
 
 -- what holds of the ids of rows, one list after another
 pub ids-all : (P : ℕ → Type 0) (xs ys : List ObjectRow) → AllByRecursion (λ (row : ObjectRow). P row.id) xs → AllByRecursion (λ (row : ObjectRow). P row.id) ys →
@@ -86,10 +86,11 @@ tests-part p q (row ∷ rows) rises apart = by (p row) (q row) apart.0 (tests-pa
   where
     above : (test : ObjectRow → Bool) → AllByRecursion (λ (b : ObjectRow). row.id < b.id) (filter test rows)
     above test = filter-all _ test rows rises.0
+
     by : (b c : Bool) → (b && c) ≡ false →
         AllByRecursion (λ (x : ObjectRow). AllByRecursion (λ (y : ObjectRow). x.id ≡ y.id → ⊥) (filter p rows)) (filter q rows) →
         AllByRecursion (λ (x : ObjectRow). AllByRecursion (λ (y : ObjectRow). x.id ≡ y.id → ⊥) (cond b (row ∷ filter p rows) (filter p rows)))
-            (cond c (row ∷ filter q rows) (filter q rows))
+        (cond c (row ∷ filter q rows) (filter q rows))
     by true true both rest = absurd (cc)
     by true false both rest = all-map_two (λ (x : ObjectRow) low others. ((λ e. absurd (omega (arith, low, e))), others)) (filter q rows) (above q) rest
     by false true both rest = (all-map {Q = λ (y : ObjectRow). row.id ≡ y.id → ⊥} (λ (y : ObjectRow) low e. absurd (omega (arith, low, e))) (filter p rows) (above p), rest)

@@ -28,15 +28,15 @@ page-shown number l moment start (Some row) = by (is_folder row.content)
     by : (b : Bool) →
         (page : Option (List ObjectRow))
         × (taken (Lists number l)
-            (cond b (Page (take page_size (drop start (children_of row.id moment.rows))) (length (children_of row.id moment.rows)) (update_of moment row)) (Fault 710))
-            ≡ Holds (HasPage number l page))
+        (cond b (Page (take page_size (drop start (children_of row.id moment.rows))) (length (children_of row.id moment.rows)) (update_of moment row)) (Fault 710))
+        ≡ Holds (HasPage number l page))
     by true = (Some (take page_size (drop start (children_of row.id moment.rows))), refl)
     by false = (None, refl)
 
 -- the page of a container that stands
-page-of : (moment : Moment) (start : ℕ) (row : ObjectRow) → is_folder row.content ≡ true →
+pub page-of : (moment : Moment) (start : ℕ) (row : ObjectRow) → is_folder row.content ≡ true →
     children_reply moment start (Some row)
-        ≡ Page (take page_size (drop start (children_of row.id moment.rows))) (length (children_of row.id moment.rows)) (update_of moment row)
+    ≡ Page (take page_size (drop start (children_of row.id moment.rows))) (length (children_of row.id moment.rows)) (update_of moment row)
 page-of moment start row folder =
     ap (λ b. cond b (Page (take page_size (drop start (children_of row.id moment.rows))) (length (children_of row.id moment.rows)) (update_of moment row)) (Fault 710)) folder
 
@@ -58,16 +58,20 @@ module _ (Stood : Moment → Type 0) (now : Moment) (served : IsServed Stood now
 
   root-given : (number : ℕ) → Had Stood number → TakesGiven Stood (taken (HasNumber number) (reply_to now (Metadata 0)))
   root-given number had =
-      let root = folder-found (row_of 0 now.rows) (served.trees now served.stood).rooted in
-      (HasRoot number root.0,
-      ap (λ o. taken (HasNumber number) (metadata_reply now o)) root.1
-      ∙ ap (λ b. cond b (Holds (HasRoot number root.0)) (Torn 0)) (and_from _ _ (eq-eqb root.0.id 0 (found-id 0 now.rows root.0 root.1)) root.2),
-      (record {
-        had = had;
-        moment = now;
-        stood = served.stood;
-        past = omega (arith, had.numbered, served.rising had.moment had.stood)
-      }, root.1))
+      let root = folder-found (row_of 0 now.rows) (served.trees now served.stood).rooted in (
+        HasRoot number root.0,
+        ap (λ o. taken (HasNumber number) (metadata_reply now o)) root.1
+            ∙ ap (λ b. cond b (Holds (HasRoot number root.0)) (Torn 0)) (and_from _ _ (eq-eqb root.0.id 0 (found-id 0 now.rows root.0 root.1)) root.2),
+        (
+          record {
+            had = had;
+            moment = now;
+            stood = served.stood;
+            past = omega (arith, had.numbered, served.rising had.moment had.stood);
+          },
+          root.1,
+        ),
+      )
 
   listing-given : (number : ℕ) (root : ObjectRow) → IsGiven Stood (HasRoot number root) →
       TakesGiven Stood (taken (HasRoot number root) (reply_to now AskNumber))
@@ -76,22 +80,30 @@ module _ (Stood : Moment → Type 0) (now : Moment) (served : IsServed Stood now
       by : (b : Bool) → nat_eq now.number number ≡ b → TakesGiven Stood (Holds (cond b (Lists number (listing_of root)) Begun))
       by true e =
           let same : now.number ≡ number = eqb-true now.number number e in
-          let rows : given.0.moment.rows ≡ given.0.had.moment.rows = level number given.0 same in
-          (Lists number (listing_of root), refl,
-          (given.0.had, root-lists given.0.had.moment.rows (served.trees given.0.had.moment given.0.had.stood) root (ap (row_of 0) (sym rows) ∙ given.1)))
+          let rows : given.0.moment.rows ≡ given.0.had.moment.rows = level number given.0 same in (
+            Lists number (listing_of root),
+            refl,
+            (given.0.had, root-lists given.0.had.moment.rows (served.trees given.0.had.moment given.0.had.stood) root (ap (row_of 0) (sym rows) ∙ given.1)),
+          )
       by false e = (Begun, refl, tt)
 
   page-given : (number : ℕ) (l : Listing) → IsGiven Stood (Lists number l) →
       TakesGiven Stood (taken (Lists number l) (reply_to now (Children (listed_id l) (length l.part))))
   page-given number l given =
-      let shown = page-shown number l now (length l.part) (row_of (listed_id l) now.rows) in
-      (HasPage number l shown.0, shown.1,
-      (record {
-        had = given.0;
-        moment = now;
-        stood = served.stood;
-        past = omega (arith, given.0.numbered, served.rising given.0.moment given.0.stood)
-      }, given.1, shown.1))
+      let shown = page-shown number l now (length l.part) (row_of (listed_id l) now.rows) in (
+        HasPage number l shown.0,
+        shown.1,
+        (
+          record {
+            had = given.0;
+            moment = now;
+            stood = served.stood;
+            past = omega (arith, given.0.numbered, served.rising given.0.moment given.0.stood);
+          },
+          given.1,
+          shown.1,
+        ),
+      )
 
   judged-given : (number : ℕ) (l : Listing) (page : Option (List ObjectRow)) → IsGiven Stood (HasPage number l page) →
       TakesGiven Stood (taken (HasPage number l page) (reply_to now AskNumber))
@@ -108,17 +120,19 @@ module _ (Stood : Moment → Type 0) (now : Moment) (served : IsServed Stood now
           let own : stands.row.id ≡ of.first.id = found-id of.first.id catalog stands.row stands.found in
           let next : List ObjectRow = take page_size (drop (length l.part) (children_of of.first.id catalog)) in
           let replied : taken (Lists number l) (reply_to given.0.moment (Children (listed_id l) (length l.part))) ≡ Holds (HasPage number l (Some next)) =
-              ap (λ o. taken (Lists number l) (children_reply given.0.moment (length l.part) o))
-                  ((λ i. row_of (listed i) (rows i)) ∙ stands.found)
-              ∙ ap (taken (Lists number l)) (page-of given.0.moment (length l.part) stands.row stands.folder)
-              ∙ (λ i. Holds (HasPage number l (Some (take page_size (drop (length l.part) (children_of (own i) (rows i))))))) in
+          ap (λ o. taken (Lists number l) (children_reply given.0.moment (length l.part) o))
+          ((λ i. row_of (listed i) (rows i)) ∙ stands.found)
+          ∙ ap (taken (Lists number l)) (page-of given.0.moment (length l.part) stands.row stands.folder)
+          ∙ (λ i. Holds (HasPage number l (Some (take page_size (drop (length l.part) (children_of (own i) (rows i))))))) in
           let shown : page ≡ Some next = ap held-page (sym given.2 ∙ replied) in
           let fit : fits l next ≡ true = page-fits catalog tree of.first.id (length l.part) l of.first of.others of.shown of.waiting refl stands.counts of.front refl in
           let follows : Follows catalog number (after_page number l next) =
-              page-follows catalog tree number of.first.id (length l.part) l of.first of.others of.shown of.waiting refl of.wait stands.counts of.front in
-          (after_page number l next,
-          ap (page_taken number l) shown ∙ ap (λ b. cond b (Holds (after_page number l next)) (Torn (listed_id l))) fit,
-          follows-given Stood number given.0.had (after_page number l next) follows)
+          page-follows catalog tree number of.first.id (length l.part) l of.first of.others of.shown of.waiting refl of.wait stands.counts of.front in (
+            after_page number l next,
+            ap (page_taken number l) shown ∙ ap (λ b. cond b (Holds (after_page number l next)) (Torn (listed_id l))) fit,
+            follows-given Stood number given.0.had (after_page number l next) follows,
+          )
+
       by : (b : Bool) → nat_eq now.number number ≡ b → TakesGiven Stood (cond b (page_taken number l page) (Holds Begun))
       by true e = judge (eqb-true now.number number e)
       by false e = (Begun, refl, tt)

@@ -34,10 +34,11 @@ ascend-rises (row ∷ next ∷ rows) ascends = ((ascends.0, below-all row.id nex
 -- each row is found by its id
 pub each-found : (rows : List ObjectRow) → Rises id_of rows → AllByRecursion (λ (r : ObjectRow). row_of r.id rows ≡ Some r) rows
 each-found [] rises = tt
-each-found (row ∷ rows) rises =
-    (ap (λ b. cond b (Some row) (row_of row.id rows)) (eq-eqb row.id row.id refl),
-    all-map_two (λ r above found. ap (λ b. cond b (Some row) (row_of r.id rows)) (ne_eqb row.id r.id (λ e. absurd (omega (arith, above, e)))) ∙ found)
-        rows rises.0 (each-found rows rises.1))
+each-found (row ∷ rows) rises = (
+  ap (λ b. cond b (Some row) (row_of row.id rows)) (eq-eqb row.id row.id refl),
+  all-map_two (λ r above found. ap (λ b. cond b (Some row) (row_of r.id rows)) (ne_eqb row.id r.id (λ e. absurd (omega (arith, above, e)))) ∙ found)
+      rows rises.0 (each-found rows rises.1),
+)
 
 -- a row that is found has the id, and what holds of each row
 pub found-id : (id : ℕ) (rows : List ObjectRow) (row : ObjectRow) → row_of id rows ≡ Some row → row.id ≡ id

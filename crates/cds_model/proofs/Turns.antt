@@ -26,7 +26,7 @@ abbrev pub moment_at : ℕ → List FolderMap → Moment
 moment_at first maps = record {
   token = script_token;
   number = end_of (record { first = first; maps = maps });
-  rows = catalog (record { first = first; maps = maps })
+  rows = catalog (record { first = first; maps = maps });
 }
 
 -- a moment that stood at or before the end of a history
@@ -48,6 +48,7 @@ scan-cases history records = by (bad_record records) refl
     by_test true c n m e = inl refl
     by_test false true n m e = inl refl
     by_test false false n m e = inr (e, refl)
+
     by : (o : Option ℕ) → bad_record records ≡ o → ScanCases history records (history_by history records (answer_by history records o))
     by (Some line) e = inl refl
     by None e = by_test _ _ _ _ e
@@ -75,12 +76,13 @@ history-serves history libraries = record {
   trees = λ m s. subst (λ (k : Moment). IsTree k.rows) (sym s.is) (catalogs_are_trees-proof (record { first = history.first; maps = s.older }) (old m s));
   rising = λ m s. subst (λ (k : Moment). k.number ≤ end_of history) (sym s.is)
       (subst (λ v. end_of (record { first = history.first; maps = s.older }) ≤ end_of (record { first = history.first; maps = v })) (sym s.parts)
-          (ends_rise history.first s.newer s.older));
-  same = λ m k s t e. ap (λ (v : Moment). v.rows) s.is ∙ sym (at m s) ∙ ap (catalog_at history.first history.maps) e ∙ at k t ∙ sym (ap (λ (v : Moment). v.rows) t.is)
+      (ends_rise history.first s.newer s.older));
+  same = λ m k s t e. ap (λ (v : Moment). v.rows) s.is ∙ sym (at m s) ∙ ap (catalog_at history.first history.maps) e ∙ at k t ∙ sym (ap (λ (v : Moment). v.rows) t.is);
 }
   where
     old : (m : Moment) (s : StoodIn history m) → AreLibraries s.older
     old m s = older_are_libraries s.newer s.older (subst AreLibraries s.parts libraries)
+
     at : (m : Moment) (s : StoodIn history m) → catalog_at history.first history.maps m.number ≡ catalog (record { first = history.first; maps = s.older })
     at m s = ap (λ (v : Moment). catalog_at history.first history.maps v.number) s.is
         ∙ ap (λ v. catalog_at history.first v (end_of (record { first = history.first; maps = s.older }))) s.parts
@@ -109,14 +111,16 @@ turns-given (Read ∷ older) = by (next_ask (held_by (replica_turns older))) ref
   where
     Here : List ReplicaTurn → Type 0
     Here turns = IsGiven (StoodIn (history_of older)) (held_by turns)
+
     taken-given : (ask : Asked) → TakesGiven (StoodIn (history_of older)) (taken (held_by (replica_turns older)) (reply_to (moment_of older) ask)) →
         Here (Shows (reply_to (moment_of older) ask) ∷ replica_turns older)
     taken-given ask t = subst (λ v. IsGiven (StoodIn (history_of older)) (held_after (held_by (replica_turns older)) v)) (sym t.1) t.2
+
     by : (o : Option Asked) → next_ask (held_by (replica_turns older)) ≡ o → Here (replica_turns older) → Here (after_read (moment_of older) (replica_turns older) o)
     by None e given = given
     by (Some ask) e given =
         taken-given ask (reply-given (StoodIn (history_of older)) (moment_of older) (history-serves (history_of older) (turns-are_libraries older))
-            (held_by (replica_turns older)) ask e given)
+        (held_by (replica_turns older)) ask e given)
 turns-given (Ask ∷ older) = turns-given older
 
 -- so no reply to a read is refused
@@ -124,7 +128,7 @@ pub read-taken : (turns : List Turn) (ask : Asked) → next_ask (held_by (replic
     (held : Held) × (taken (held_by (replica_turns turns)) (reply_to (moment_of turns) ask) ≡ Holds held)
 read-taken turns ask e =
     let t = reply-given (StoodIn (history_of turns)) (moment_of turns) (history-serves (history_of turns) (turns-are_libraries turns))
-        (held_by (replica_turns turns)) ask e (turns-given turns) in
+    (held_by (replica_turns turns)) ask e (turns-given turns) in
     (t.0, t.1)
 
 -- and a copy is the catalog of its number

@@ -34,15 +34,18 @@ drop-first test at (row ∷ rows) rises w ws is id = by (nat_lt row.id at) refl 
   where
     skip : (keep : ObjectRow → Bool) → keep row ≡ false → filter (keep) (row ∷ rows) ≡ filter keep rows
     skip keep e = ap (λ b. cond b (row ∷ filter keep rows) (filter keep rows)) e
+
     made : (keep : ObjectRow → Bool) → keep row ≡ true → filter_map waiting_of (filter keep (row ∷ rows)) ≡ cons_option (waiting_of row) (filter_map waiting_of (filter keep rows))
     made keep e = ap (λ b. filter_map waiting_of (cond b (row ∷ filter keep rows) (filter keep rows))) e
+
     -- the first cannot come of the rows behind this one
     behind : at ≤ row.id → filter_map waiting_of (filter (from test at) rows) ≡ w ∷ ws → ⊥
     behind low e =
         let all : AllByRecursion (λ (v : Waiting). row.id < v.id) (w ∷ ws) =
-            subst (AllByRecursion (λ (v : Waiting). row.id < v.id)) e
-            (made-above waiting_of id_of waiting_id waiting-keeps row.id (filter (from test at) rows) (filter-all _ (from test at) rows rises.0)) in
+        subst (AllByRecursion (λ (v : Waiting). row.id < v.id)) e
+        (made-above waiting_of id_of waiting_id waiting-keeps row.id (filter (from test at) rows) (filter-all _ (from test at) rows rises.0)) in
         omega (arith, all.0, id, low)
+
     here : at ≤ row.id → test row ≡ true → (o : Option Waiting) → waiting_of row ≡ o →
         cons_option o (filter_map waiting_of (filter (from test at) rows)) ≡ w ∷ ws → ws ≡ filter_map waiting_of (filter (later test at) (row ∷ rows))
     here low passes None e is = absurd (behind low is)
@@ -52,9 +55,11 @@ drop-first test at (row ∷ rows) rises w ws is id = by (nat_lt row.id at) refl 
         let own : row.id ≡ at = sym (waiting-keeps row v e) ∙ ap waiting_id same ∙ id in
         let out : later test at row ≡ false = and_right _ _ (lt-leb (at + 1) row.id (omega (arith, own))) in
         sym rest ∙ ap (filter_map waiting_of) (from-later test at row.id low rows rises.0 ∙ sym (skip (later test at) out))
+
     of_test : at ≤ row.id → (b : Bool) → test row ≡ b → ws ≡ filter_map waiting_of (filter (later test at) (row ∷ rows))
     of_test low true e = here low e (waiting_of row) refl (sym (made (from test at) (and_from _ _ e (le-leb at row.id low))) ∙ is)
     of_test low false e = absurd (behind low (sym (ap (filter_map waiting_of) (skip (from test at) (and_left _ _ e))) ∙ is))
+
     by : (b : Bool) → nat_lt row.id at ≡ b →
         (filter_map waiting_of (filter (from test at) rows) ≡ w ∷ ws → w.id ≡ at → ws ≡ filter_map waiting_of (filter (later test at) rows)) →
         ws ≡ filter_map waiting_of (filter (later test at) (row ∷ rows))
@@ -94,7 +99,7 @@ module _ (rows : List ObjectRow) (tree : IsTree rows) where
   rows-after at =
       sym (λ i. put_rows (filter_map-Some (children_of at rows) i) (filter_map-Some (filter (known at) rows) i))
       ∙ merged Some id_of id_of (λ x y e. let same : x ≡ y = cc in ap id_of (sym same)) (known at) (is_child_of at) rows
-          (ascend-rises rows tree.ascending) (all-of _ (apart-child at) rows)
+      (ascend-rises rows tree.ascending) (all-of _ (apart-child at) rows)
       ∙ filter_map-Some _
       ∙ filter-same _ (known (at + 1)) rows (all-of _ (known-next at) rows)
 
@@ -103,7 +108,7 @@ module _ (rows : List ObjectRow) (tree : IsTree rows) where
   waiting-after at w ws is id =
       ap (put_containers (children_of at rows)) (drop-first (known at) at rows (ascend-rises rows tree.ascending) w ws is id)
       ∙ merged waiting_of id_of waiting_id waiting-keeps (later (known at) at) (is_child_of at) rows (ascend-rises rows tree.ascending)
-          (all-of _ apart rows)
+      (all-of _ apart rows)
       ∙ ap (filter_map waiting_of) (filter-same _ (waits (at + 1)) rows (all-map next rows tree.held))
     where
       apart : (row : ObjectRow) → (later (known at) at row && is_child_of at row) ≡ false
@@ -114,6 +119,7 @@ module _ (rows : List ObjectRow) (tree : IsTree rows) where
           by true true false e = refl
           by true false c e = grind arith
           by false b c e = refl
+
       next : (row : ObjectRow) → IsHeld rows row → (later (known at) at row || is_child_of at row) ≡ waits (at + 1) row
       next row held = of_parent row.parent held
         where

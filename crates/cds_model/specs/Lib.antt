@@ -1,4 +1,5 @@
 pub mod Evaluated
+pub mod Loads
 pub mod Replica
 pub mod Report
 pub mod Script

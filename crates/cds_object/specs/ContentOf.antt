@@ -1,6 +1,6 @@
 -- What a track says of itself by its file: the comments that count, the sound's numbers and the file's name (this
 -- project's profile; the names of comments are Vorbis comment field names).
-use Rattle.std.specs.Prelude.{◌≡◌, ◌==◌, ◌+◌, ◌-◌, ◌*◌, ◌/◌, ◌^◌, ℕ, Bool, cond, nat_eq, nat_lt, ◌&&◌, ◌||◌, List, [], ◌∷◌, length, take, drop, take_while, Option, Some, None, unwrap_or, codes}
+use Rattle.std.specs.Prelude.{◌-◌, ◌*◌, ◌/◌, ◌^◌, ℕ, Bool, cond, nat_eq, nat_lt, ◌&&◌, ◌||◌, List, [], ◌∷◌, length, take, drop, take_while, Option, Some, None, unwrap_or, codes}
 use Rattle.std.specs.Option.{option_and_then}
 use Rattle.std.specs.Char.{is_ascii_digit}
 use Rattle.std.specs.Str.{str_to_ascii_lowercase}
@@ -9,7 +9,7 @@ use Rattle.cds_flac.specs.declared.info.FlacInfo.{FlacInfo}
 use Rattle.cds_flac.specs.declared.info.Comment.{Comment}
 use Rattle.cds_object.specs.Content.{same_text}
 use Rattle.cds_object.specs.declared.content.Content.{Content}
-use Rattle.cds_object.specs.declared.content.Content.TheVariants.{Folder, Track}
+use Rattle.cds_object.specs.declared.content.Content.TheVariants.{Track}
 
 -- the value of the first comment of a name, which is given in lower case; the ASCII case of a comment's name does not
 -- count

@@ -18,3 +18,6 @@ pub use id::ObjectId;
 pub use path::Path;
 pub use record::{Record, Records};
 pub use row::{Row, Rows, Trackers};
+
+#[cfg(test)]
+mod tests;

@@ -1,7 +1,7 @@
-ghost use Rattle.std.specs.Prelude.{◌≡◌, [], IfOk, map, nat_eq, nat_le, ◌||◌, refl};
+ghost use Rattle.std.specs.Prelude.{◌≡◌, [], IfOk, nat_eq, nat_le, ◌||◌, refl};
 ghost use Rattle.std.specs.List.{list_any, slice_split};
 ghost use Rattle.std.specs.Ordering.{as_partial_cmp};
-ghost use Rattle.cds_object.specs.Path.{path_cmp, path_read, same_path, parent_of, name_of, is_bad_name, bad_name_at};
+ghost use Rattle.cds_object.specs.Path.{path_cmp, same_path, parent_of, name_of, is_bad_name, bad_name_at};
 ghost use Rattle.cds_object.specs.PathAnswer.{IsPathAnswer};
 ghost use Rattle.cds_object.specs.PathOrder.{paths_total, paths_tie, paths_equal, paths_agree, paths_in_part};
 

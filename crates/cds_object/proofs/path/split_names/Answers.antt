@@ -1,5 +1,5 @@
 -- The loop has seen just the parts of the text.
-use Rattle.std.proofs.Common.{◌≡◌, ◌∙◌, lit<, map}
+use Rattle.std.proofs.Common.{◌∙◌, lit<}
 use Rattle.std.proofs.lemmas.Iterator.Consumers.{YieldsList-end, YieldsList-at}
 use Rattle.std.proofs.lemmas.Iterator.Splits.{YieldsList-from_str_split}
 use Rattle.cds_object.proofs.path.split_names.Goals as goal

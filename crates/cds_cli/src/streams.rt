@@ -1,0 +1,78 @@
+//! The program's own streams: standard input as a source and standard output as a sink. They tell nothing of what they
+//! hold, and count their faults. What a real stream gives or takes is trusted.
+
+use cds_base::{Failed, Sink, Source};
+use std::io::{Read, Write};
+
+ghost use Rattle.std.specs.Prelude.{None};
+
+/// A reader as a source.
+#[derive(Drop)]
+pub struct Input<R: Read + Drop> {
+    reader: R,
+    moved: u64,
+    faults: u64,
+}
+
+impl<R: Read + Drop> Input<R> {
+    pub fn new(reader: R) -> Self {
+        Input {
+            reader,
+            moved: 0,
+            faults: 0,
+        }
+    }
+}
+
+impl<R: Read + Drop> Source for Input<R> {
+    ghost left = { λ _. None };
+
+    ghost moved = { λ s. s.moved };
+
+    ghost faults = { λ s. s.faults };
+
+    fn read(&mut self, into: &mut [u8]) -> Result<usize, Failed> {
+        match self.reader.read(into) {
+            Ok(count) => {
+                self.moved = self.moved.saturating_add(count as u64);
+                Ok(count)
+            }
+            Err(_) => {
+                self.faults = self.faults.saturating_add(1);
+                Err(Failed)
+            }
+        }
+    }
+}
+
+/// A writer as a sink. A writer that takes nothing of a piece counts as failed.
+#[derive(Drop)]
+pub struct Output<W: Write + Drop> {
+    writer: W,
+    faults: u64,
+}
+
+impl<W: Write + Drop> Output<W> {
+    pub fn new(writer: W) -> Self {
+        Output { writer, faults: 0 }
+    }
+}
+
+impl<W: Write + Drop> Sink for Output<W> {
+    ghost holds = { λ _. None };
+
+    ghost faults = { λ s. s.faults };
+
+    fn write(&mut self, piece: &[u8]) -> Result<usize, Failed> {
+        if piece.is_empty() {
+            return Ok(0);
+        }
+        match self.writer.write(piece) {
+            Ok(count) if count > 0 => Ok(count),
+            _ => {
+                self.faults = self.faults.saturating_add(1);
+                Err(Failed)
+            }
+        }
+    }
+}

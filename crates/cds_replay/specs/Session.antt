@@ -1,0 +1,21 @@
+-- What a session of a script has, and for which turns it stands.
+use Rattle.std.specs.Prelude.{◌≡◌, ℕ, List, [], ◌∷◌, map}
+use Rattle.cds_object.specs.declared.record.Record.{Record}
+use Rattle.cds_catalog.specs.Steps.{Standing}
+use Rattle.cds_store.specs.Stands.{StandsFor}
+use Rattle.cds_model.specs.declared.turn.Turn.{Turn}
+use Rattle.cds_model.specs.Replica.{Held, held_by}
+use Rattle.cds_model.specs.Report.{history_of, records_since, replica_turns}
+
+-- what a session has: a server's store, a replica, and the records since the last scan
+pub record Playing : Type 0 where
+  pub store : Standing
+  pub replica : Held
+  pub records : List Record
+
+-- whether a session stands for turns, the newest first: its store for the history of the accepted scans, its replica for
+-- the replica's turns
+pub record IsAfter (playing : Playing) (turns : List Turn) : Type 0 where
+  pub store : StandsFor playing.store (history_of turns)
+  pub replica : playing.replica ≡ held_by (replica_turns turns)
+  pub records : playing.records ≡ records_since turns

@@ -1,0 +1,6 @@
+//! Scripts, played: a server's store and a replica take the turns of a script, and the report is written line by line.
+#![tactic(auto)]
+
+mod fragment;
+mod put;
+mod session;
