@@ -4,3 +4,4 @@ pub mod Making
 pub mod Shown
 pub mod Planned
 pub mod Applying
+pub mod Bad

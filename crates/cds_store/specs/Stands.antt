@@ -16,9 +16,12 @@ pub record IsStore (store : Standing) : Type 0 where
   pub stands : StandsFor store history
   pub few : length store.rows ≤ 65536
 
--- what stands before any scan
+-- the history before any scan, and what stands then
+abbrev pub no_scans : ℕ → History
+no_scans first = record { first = first; maps = [] }
+
 abbrev pub beginning : ℕ → Standing
-beginning first = standing_of (record { first = first; maps = [] })
+beginning first = standing_of (no_scans first)
 
 -- whether changes, the newest first, are those of a scan of what a standing stands for, and their numbers stay below 2^32
 pub record IsScan (s : Standing) (changes : List Change) : Type 0 where

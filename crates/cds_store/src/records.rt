@@ -1,43 +1,46 @@
 //! Which records of a scan can stand.
 
-ghost use Rattle.std.specs.Prelude.{◌≡◌, ◌<◌, ◌^◌, length, IfOk};
+ghost use Rattle.std.specs.Prelude.{◌≡◌, ◌||◌, ◌<◌, ◌^◌, ℕ, List, [], length, not, IfOk};
 ghost use Rattle.std.specs.List.{list_any};
-ghost use Rattle.cds_object.specs.Object.{is_folder};
-ghost use Rattle.cds_object.specs.Path.{same_path};
-ghost use Rattle.cds_catalog.specs.Scans.{is_container, is_bad, bad_record};
-ghost use Rattle.cds_store.specs.Records.{is_folder_at, stands_at};
+ghost use Rattle.std.specs.BTreeSet.{contains};
+ghost use Rattle.cds_object.specs.Path.{path_cmp, same_path, parent_of};
+ghost use Rattle.cds_catalog.specs.Scans.{bad_record};
+ghost use Rattle.cds_store.specs.Records.{is_folder_at, holds_place};
 
 use cds_base::Mem;
 use cds_object::{Path, Record};
 use std::alloc::Global;
+use std::collections::BTreeSet;
 
-fn is_folder_among(records: &[Record], path: &Path) -> bool
-    ensures { result ≡ list_any (is_folder_at path.now) records.now }
+type Places = BTreeSet<Path>;
+
+/// The places of the folders.
+fn folders_among(alloc: Global, records: &[Record]) -> Result<Places, Mem>
+    ensures { IfOk result (λ folders. (path : List (List ℕ)) → contains path_cmp folders path ≡ list_any (is_folder_at path) records.now) }
 {
-    records
-        .iter()
-        .any(|other| *path == other.path && other.content.is_folder())
+    let mut folders = BTreeSet::new(alloc);
+    for found in records {
+        if found.content.is_folder() {
+            let path = found.path.copy(alloc)?;
+            folders.insert(path)?;
+        }
+    }
+    Ok(folders)
 }
 
-fn is_among(records: &[Record], path: &Path) -> bool
-    ensures { result ≡ list_any (stands_at path.now) records.now }
+/// Whether what stands at a place can hold others.
+fn can_hold(folders: &Places, path: &Path) -> bool
+    ensures { result ≡ holds_place (contains path_cmp folders.now) path.now }
 {
-    records.iter().any(|other| *path == other.path)
+    path.is_root() || folders.contains(path)
 }
 
-fn is_container(records: &[Record], path: &Path) -> bool
-    ensures { result ≡ is_container records.now path.now }
+/// Whether nothing can stand at a place, where some folders stand and some places came before.
+fn is_bad(alloc: Global, folders: &Places, before: &Places, path: &Path) -> Result<bool, Mem>
+    ensures { IfOk result (λ bad. bad ≡ (same_path path.now [] || not (holds_place (contains path_cmp folders.now) (parent_of path.now)) || contains path_cmp before.now path.now)) }
 {
-    path.is_root() || is_folder_among(records, path)
-}
-
-fn is_bad(alloc: Global, records: &[Record], before: &[Record], found: &Record) -> Result<bool, Mem>
-    ensures { IfOk result (λ bad. bad ≡ is_bad records.now before.now found.now) }
-{
-    let parent = found.path.parent(alloc)?;
-    let bad = found.path.is_root()
-        || !is_container(records, &parent)
-        || is_among(before, &found.path);
+    let parent = path.parent(alloc)?;
+    let bad = path.is_root() || !can_hold(folders, &parent) || before.contains(path);
     Ok(bad)
 }
 
@@ -46,11 +49,14 @@ pub(crate) fn bad_record(alloc: Global, records: &[Record]) -> Result<Option<u32
     requires { length records.now < 2 ^ 32 }
     ensures { IfOk result (λ line. line ≡ bad_record records.now) }
 {
+    let folders = folders_among(alloc, records)?;
+    let mut before = BTreeSet::new(alloc);
     for (at, found) in records.iter().enumerate() {
-        let (before, _) = records.split_at(at);
-        if is_bad(alloc, records, before, found)? {
+        if is_bad(alloc, &folders, &before, &found.path)? {
             return Ok(Some(at as u32 + 1));
         }
+        let path = found.path.copy(alloc)?;
+        before.insert(path)?;
     }
     Ok(None)
 }

@@ -3,7 +3,7 @@ ghost use Rattle.cds_object.specs.Tree.{row_of, children_of, is_container_row};
 ghost use Rattle.cds_catalog.specs.Library.{map_of, found};
 ghost use Rattle.cds_catalog.specs.History.{History};
 ghost use Rattle.cds_store.specs.Rows.{rows_of, put_places};
-ghost use Rattle.cds_store.specs.Stands.{StandsFor, beginning};
+ghost use Rattle.cds_store.specs.Stands.{StandsFor, no_scans};
 ghost use Rattle.cds_store.specs.Applied.{Applied, IsPlan, IsRefusal};
 
 use crate::catalog::Catalog;
@@ -81,7 +81,7 @@ fn is_spent(number: u32, needed: u32) -> bool
 impl Store {
     /// A store before any scan: the root alone, at the first number.
     pub fn new(alloc: Global, first: u32) -> Result<Store, Mem>
-        ensures stands { IfOk result (λ store. store ≡ beginning first) }
+        ensures { IfOk result (λ store. StandsFor store (no_scans first)) }
     {
         let catalog = Catalog::new(alloc, first)?;
         Ok(Store { catalog })
@@ -142,6 +142,16 @@ impl Store {
         match self.catalog.rows().get(at) {
             None => None,
             Some(placed) => Some(&placed.row),
+        }
+    }
+
+    /// Whether an object is a container.
+    pub fn is_container(&self, id: u32) -> bool
+        ensures { result ≡ is_container_row (row_of id (rows_of self.now.rows)) }
+    {
+        match self.get(id) {
+            None => false,
+            Some(row) => row.content.is_folder(),
         }
     }
 
