@@ -1,7 +1,7 @@
 use crate::{AnswerError, Ask, Read, Replica, Says, Shown};
 use cds_base::{Mem, Text};
 use cds_object::{Content, ObjectId, Row, Rows, TrackContent, Trackers};
-use std::alloc::Global;
+use std::alloc::{AllocError, Global};
 use std::test::Fail;
 
 /// An object of a server: a folder where it has a child count.
@@ -71,69 +71,146 @@ fn row_of(alloc: Global, object: Object) -> Result<Row, Mem> {
     })
 }
 
-fn page_of(alloc: Global, objects: &[Object]) -> Result<Shown, Mem> {
+fn rows_of(alloc: Global, objects: &[Object]) -> Result<Rows, Mem> {
     let mut rows = Rows::new(alloc);
     for object in objects {
         rows.push(row_of(alloc, *object)?)?;
     }
-    Ok(Shown::Page {
-        rows,
-        total: 0,
-        update: 0,
-    })
+    Ok(rows)
+}
+
+/// What a reply is to show.
+#[derive(Clone, Copy)]
+enum Reply<'a> {
+    Token,
+    Number(u32),
+    Page(&'a [Object]),
+    Refusal,
+}
+
+fn shown_of(alloc: Global, reply: Reply) -> Result<Shown, Mem> {
+    match reply {
+        Reply::Token => Ok(Shown::Text(Text::read(alloc, "token")?)),
+        Reply::Number(number) => Ok(Shown::Number(number)),
+        Reply::Page(objects) => Ok(Shown::Page {
+            rows: rows_of(alloc, objects)?,
+            total: 0,
+            update: 0,
+        }),
+        Reply::Refusal => Ok(Shown::Fault { code: 701 }),
+    }
 }
 
 /// Up to 256 children of an object from a place on.
-fn children_of(alloc: Global, objects: &[Object], id: u32, start: u32) -> Result<Shown, Mem> {
+fn children_of(alloc: Global, objects: &[Object], id: u32, start: u32) -> Result<Rows, Mem> {
     let mut rows = Rows::new(alloc);
-    let mut place = 0u64;
+    let mut before = start;
     for object in objects {
         if object.id != 0 && object.parent == id {
-            if u64::from(start) <= place && rows.len() < 256 {
+            if before > 0 {
+                before -= 1;
+            } else if rows.len() < 256 {
                 rows.push(row_of(alloc, *object)?)?;
             }
-            place = place.saturating_add(1);
         }
     }
-    Ok(Shown::Page {
-        rows,
-        total: 0,
-        update: 0,
-    })
+    Ok(rows)
 }
 
-/// An honest reply at a number.
+/// An honest reply of a server with these objects, the root first, at a number.
 fn reply_to(alloc: Global, objects: &[Object], number: u32, ask: Ask) -> Result<Shown, Mem> {
     match ask {
-        Ask::Token => Ok(Shown::Text(Text::read(alloc, "token")?)),
-        Ask::Number => Ok(Shown::Number(number)),
-        Ask::Metadata { id } => {
-            for object in objects {
-                if object.id == id {
-                    return page_of(alloc, &[*object]);
-                }
-            }
-            Ok(Shown::Fault { code: 701 })
-        }
-        Ask::Children { id, start } => children_of(alloc, objects, id, start),
+        Ask::Token => shown_of(alloc, Reply::Token),
+        Ask::Number => shown_of(alloc, Reply::Number(number)),
+        Ask::Metadata { .. } => shown_of(alloc, Reply::Page(&objects[..objects.len().min(1)])),
+        Ask::Children { id, start } => Ok(Shown::Page {
+            rows: children_of(alloc, objects, id, start)?,
+            total: 0,
+            update: 0,
+        }),
     }
 }
 
-/// Loads of small and large catalogs. The server's number is 7, and 9 from the read on that is given (counted from 1).
-/// Each load says so before its last read, and then has all rows; the pages were asked in order.
+/// An ask in short: the token, the number, the root, or the container and the place where a page starts.
+fn write_ask(alloc: Global, ask: Ask, out: &mut String) -> Result<(), AllocError> {
+    match ask {
+        Ask::Token => out.push_str("T "),
+        Ask::Number => out.push_str("N "),
+        Ask::Metadata { id } => out.push_str(&format!(in alloc; "M{id} ")?),
+        Ask::Children { id, start } => out.push_str(&format!(in alloc; "{id}+{start} ")?),
+    }
+}
+
+fn write_says(alloc: Global, says: Says, out: &mut String) -> Result<(), AllocError> {
+    match says {
+        Says::BehindLoad => out.push_str("behind"),
+        Says::Stands { at } => out.push_str(&format!(in alloc; "at {at}")?),
+    }
+}
+
+/// Takes up to 20 honest replies and writes what was asked. The server's number is 7, and 9 from the read on that is
+/// given, counted from 1.
+fn load(
+    alloc: Global,
+    replica: &mut Replica,
+    objects: &[Object],
+    changes: u32,
+    out: &mut String,
+) -> Result<(), Fail> {
+    for read in 1..=20u32 {
+        let Some(ask) = replica.next_ask() else {
+            break;
+        };
+        if replica.says() != Says::BehindLoad {
+            out.push_str("early ")?;
+        }
+        write_ask(alloc, ask, out)?;
+        let number = if read < changes { 7 } else { 9 };
+        let shown = reply_to(alloc, objects, number, ask)?;
+        replica.take(alloc, shown)?;
+    }
+    Ok(())
+}
+
+/// Whether the copy has exactly these objects, in this order.
+fn has_copied(replica: &Replica, objects: &[Object]) -> bool {
+    for (at, object) in objects.iter().enumerate() {
+        match replica.rows(at) {
+            Some(row) if row.id.0 == object.id => {}
+            _ => return false,
+        }
+    }
+    replica.rows(objects.len()).is_none()
+}
+
+/// A whole load: what was asked, what is known at last, and whether all objects were copied.
+fn loaded(alloc: Global, objects: &[Object], changes: u32) -> Result<(String, bool), Fail> {
+    let mut replica = Replica::new();
+    let mut out = String::new(alloc);
+    write_says(alloc, replica.says(), &mut out)?;
+    out.push_str(": ")?;
+    replica.begin_load()?;
+    load(alloc, &mut replica, objects, changes, &mut out)?;
+    write_says(alloc, replica.says(), &mut out)?;
+    Ok((out, has_copied(&replica, objects)))
+}
+
+/// A root with so many tracks.
+fn root_with(alloc: Global, tracks: u32) -> Result<Vec<Object>, AllocError> {
+    let mut objects = Vec::new(alloc);
+    objects.push(folder(0, 0, tracks))?;
+    for id in 1..=tracks {
+        objects.push(track(id, 0))?;
+    }
+    Ok(objects)
+}
+
+/// Loads of small and large catalogs, some with a number that changes at a read.
 #[test]
 fn loads(rt: HostRuntime) -> Result<(), Fail> {
     let alloc = rt.alloc();
-    let mut many = Vec::new(alloc);
-    many.push(folder(0, 0, 257))?;
-    for id in 1..=257 {
-        many.push(track(id, 0))?;
-    }
-    let mut full = Vec::new(alloc);
-    full.push(folder(0, 0, 512))?;
-    for id in 1..=512 {
-        full.push(track(id, 0))?;
-    }
+    let many = root_with(alloc, 257)?;
+    let full = root_with(alloc, 512)?;
     let empty = [folder(0, 0, 0)];
     let rock = [folder(0, 0, 1), folder(1, 0, 1), track(2, 1)];
     let nested = [
@@ -144,125 +221,136 @@ fn loads(rt: HostRuntime) -> Result<(), Fail> {
         folder(4, 0, 1),
         track(5, 4),
     ];
-    for (objects, changes, reads, at, pages) in [
-        (&empty[..], 99, 6, 7, &[(0, 0)][..]),
-        (&empty[..], 3, 10, 9, &[(0, 0)][..]),
-        (&empty[..], 5, 12, 9, &[(0, 0), (0, 0)][..]),
-        (&rock[..], 99, 8, 7, &[(0, 0), (1, 0)][..]),
-        (&rock[..], 2, 8, 9, &[(0, 0), (1, 0)][..]),
-        (&rock[..], 4, 12, 9, &[(0, 0), (1, 0)][..]),
-        (&rock[..], 6, 14, 9, &[(0, 0), (0, 0), (1, 0)][..]),
-        (&rock[..], 8, 16, 9, &[(0, 0), (1, 0), (0, 0), (1, 0)][..]),
+    for (objects, changes, want) in [
+        (&empty[..], 99, "behind: T N M0 N 0+0 N at 7"),
+        (&empty[..], 4, "behind: T N M0 N T N M0 N 0+0 N at 9"),
+        (&empty[..], 5, "behind: T N M0 N 0+0 N T N M0 N 0+0 N at 9"),
+        (&rock[..], 99, "behind: T N M0 N 0+0 N 1+0 N at 7"),
+        (&rock[..], 2, "behind: T N M0 N 0+0 N 1+0 N at 9"),
+        (&rock[..], 3, "behind: T N M0 N T N M0 N 0+0 N 1+0 N at 9"),
+        (
+            &rock[..],
+            6,
+            "behind: T N M0 N 0+0 N T N M0 N 0+0 N 1+0 N at 9",
+        ),
+        (
+            &rock[..],
+            7,
+            "behind: T N M0 N 0+0 N 1+0 N T N M0 N 0+0 N 1+0 N at 9",
+        ),
         (
             &nested[..],
             99,
-            12,
-            7,
-            &[(0, 0), (1, 0), (3, 0), (4, 0)][..],
+            "behind: T N M0 N 0+0 N 1+0 N 3+0 N 4+0 N at 7",
         ),
-        (many.as_slice(), 99, 8, 7, &[(0, 0), (0, 256)][..]),
-        (full.as_slice(), 99, 8, 7, &[(0, 0), (0, 256)][..]),
+        (&many[..], 99, "behind: T N M0 N 0+0 N 0+256 N at 7"),
+        (&full[..], 99, "behind: T N M0 N 0+0 N 0+256 N at 7"),
     ] {
-        let mut replica = Replica::new();
-        assert!(rt; replica.says() == Says::BehindLoad && replica.next_ask() == None);
-        replica.begin_load()?;
-        let mut answered = 0;
-        let mut asked = Vec::new(alloc);
-        for read in 1..=16u32 {
-            let Some(ask) = replica.next_ask() else {
-                break;
-            };
-            assert_eq!(rt; replica.says(), Says::BehindLoad, "before read {read}");
-            assert!(rt; replica.rows(0).is_none());
-            if let Ask::Children { id, start } = ask {
-                asked.push((id, start))?;
-            }
-            let number = if read < changes { 7 } else { 9 };
-            let shown = reply_to(alloc, objects, number, ask)?;
-            assert_eq!(rt; replica.take(alloc, shown), Ok(Read::Ok));
-            answered = read;
-        }
-        assert_eq!(rt; answered, reads);
-        assert_eq!(rt; replica.says(), Says::Stands { at });
-        assert_eq!(rt; asked.as_slice(), pages);
-        for (place, object) in objects.iter().enumerate() {
-            let id = replica.rows(place).map(|row| row.id.0);
-            assert_eq!(rt; id, Some(object.id));
-        }
-        assert!(rt; replica.rows(objects.len()).is_none());
+        let (asked, copied) = loaded(alloc, objects, changes)?;
+        assert_eq!(rt; asked.as_str(), want);
+        assert!(rt; copied, "from read {changes}");
     }
     Ok(())
 }
 
-/// A replica whose load had so many honest replies.
-fn replica_after(alloc: Global, objects: &[Object], reads: u32) -> Result<Replica, Fail> {
+/// What a replica answers to a reply after so many honest ones, and whether it asks and says the same afterwards.
+fn answer_after(
+    alloc: Global,
+    objects: &[Object],
+    reads: u32,
+    reply: Reply,
+) -> Result<(Option<AnswerError>, bool), Fail> {
     let mut replica = Replica::new();
     replica.begin_load()?;
     for _ in 0..reads {
         if let Some(ask) = replica.next_ask() {
-            let shown = reply_to(alloc, objects, 7, ask)?;
-            replica.take(alloc, shown)?;
+            replica.take(alloc, reply_to(alloc, objects, 7, ask)?)?;
         }
     }
-    Ok(replica)
+    let (ask, says) = (replica.next_ask(), replica.says());
+    if ask.is_none() {
+        return Ok((None, false));
+    }
+    let refusal = replica.take(alloc, shown_of(alloc, reply)?).err();
+    Ok((refusal, replica.next_ask() == ask && replica.says() == says))
 }
 
-/// Replies that are refused, after so many honest ones. The replica asks and says the same afterwards.
+/// Replies that are refused. The replica asks and says the same afterwards.
 #[test]
 fn refuses(rt: HostRuntime) -> Result<(), Fail> {
     let alloc = rt.alloc();
     let objects = [folder(0, 0, 2), track(1, 0), track(2, 0)];
     let unreadable = AnswerError::Unreadable;
     let torn = AnswerError::Torn { id: 0 };
-    for (reads, shown, refusal) in [
-        (0, Shown::Number(7), unreadable),
-        (1, Shown::Text(Text::read(alloc, "token")?), unreadable),
-        (1, Shown::Fault { code: 501 }, unreadable),
-        (2, Shown::Fault { code: 701 }, unreadable),
-        (2, page_of(alloc, &[])?, unreadable),
-        (2, page_of(alloc, &objects[..2])?, unreadable),
-        (2, page_of(alloc, &[folder(1, 0, 0)])?, torn),
-        (2, page_of(alloc, &[track(0, 0)])?, torn),
-        (3, page_of(alloc, &objects[..1])?, unreadable),
-        (4, Shown::Number(7), unreadable),
-        (5, Shown::Fault { code: 701 }, unreadable),
+    for (reads, reply, refusal) in [
+        (0, Reply::Number(7), unreadable),
+        (1, Reply::Token, unreadable),
+        (1, Reply::Refusal, unreadable),
+        (2, Reply::Refusal, unreadable),
+        (2, Reply::Page(&[]), unreadable),
+        (2, Reply::Page(&objects[..2]), unreadable),
+        (2, Reply::Page(&[folder(1, 0, 0)]), torn),
+        (2, Reply::Page(&[track(0, 0)]), torn),
+        (3, Reply::Page(&objects[..1]), unreadable),
+        (4, Reply::Number(7), unreadable),
+        (5, Reply::Refusal, unreadable),
     ] {
-        let mut replica = replica_after(alloc, &objects, reads)?;
-        let ask = replica.next_ask();
-        assert!(rt; ask.is_some());
-        assert_eq!(rt; replica.take(alloc, shown), Err(refusal), "after {reads}");
-        assert_eq!(rt; replica.next_ask(), ask);
-        assert_eq!(rt; replica.says(), Says::BehindLoad);
+        let answer = answer_after(alloc, &objects, reads, reply)?;
+        assert!(rt; answer == (Some(refusal), true), "after {reads}");
     }
     Ok(())
 }
 
-/// Pages of the root that cannot be, as the same number after them tells. Another number begins the load again.
+/// What becomes of a page of the root after the same number, and after another: what was read at the page, the
+/// refusal, and what is asked then.
+fn page_judged(
+    alloc: Global,
+    objects: &[Object],
+    reply: Reply,
+) -> Result<(Read, Option<AnswerError>, Option<Ask>), Fail> {
+    let mut replica = Replica::new();
+    replica.begin_load()?;
+    let mut read = Read::Ok;
+    for at in 0..5 {
+        if let Some(ask) = replica.next_ask() {
+            let shown = if at == 4 {
+                shown_of(alloc, reply)?
+            } else {
+                reply_to(alloc, objects, 7, ask)?
+            };
+            read = replica.take(alloc, shown)?;
+        }
+    }
+    let mut refusal = None;
+    for number in [7, 9] {
+        if replica.next_ask().is_some() {
+            refusal = replica.take(alloc, Shown::Number(number)).err().or(refusal);
+        }
+    }
+    Ok((read, refusal, replica.next_ask()))
+}
+
+/// Pages of the root that cannot be, as the same number after them tells. Another number then begins the load again.
 #[test]
 fn refuses_pages(rt: HostRuntime) -> Result<(), Fail> {
     let alloc = rt.alloc();
     let objects = [folder(0, 0, 2), track(1, 0), track(2, 0)];
-    let fault = Read::Fault { code: 701 };
-    for (shown, read) in [
-        (Shown::Fault { code: 701 }, fault),
-        (page_of(alloc, &[])?, Read::Ok),
-        (page_of(alloc, &[track(1, 0)])?, Read::Ok),
+    let refused = Read::Fault { code: 701 };
+    let torn = AnswerError::Torn { id: 0 };
+    for (reply, read) in [
+        (Reply::Refusal, refused),
+        (Reply::Page(&[]), Read::Ok),
+        (Reply::Page(&[track(1, 0)]), Read::Ok),
         (
-            page_of(alloc, &[track(1, 0), track(2, 0), track(3, 0)])?,
+            Reply::Page(&[track(1, 0), track(2, 0), track(3, 0)]),
             Read::Ok,
         ),
-        (page_of(alloc, &[track(1, 0), track(2, 1)])?, Read::Ok),
-        (page_of(alloc, &[track(1, 0), track(1, 0)])?, Read::Ok),
-        (page_of(alloc, &[track(1, 0), folder(0, 0, 0)])?, Read::Ok),
+        (Reply::Page(&[track(1, 0), track(2, 1)]), Read::Ok),
+        (Reply::Page(&[track(1, 0), track(1, 0)]), Read::Ok),
+        (Reply::Page(&[track(1, 0), folder(0, 0, 0)]), Read::Ok),
     ] {
-        let mut replica = replica_after(alloc, &objects, 4)?;
-        assert!(rt; replica.next_ask() == Some(Ask::Children { id: 0, start: 0 }));
-        assert_eq!(rt; replica.take(alloc, shown), Ok(read));
-        for (number, answer) in [(7, Err(AnswerError::Torn { id: 0 })), (9, Ok(Read::Ok))] {
-            assert!(rt; replica.next_ask() == Some(Ask::Number));
-            assert_eq!(rt; replica.take(alloc, Shown::Number(number)), answer);
-        }
-        assert_eq!(rt; replica.next_ask(), Some(Ask::Token));
+        let judged = page_judged(alloc, &objects, reply)?;
+        assert!(rt; judged == (read, Some(torn), Some(Ask::Token)));
     }
     Ok(())
 }
