@@ -1,7 +1,7 @@
 use thiserror::Error;
 
 /// Why a reply was not taken. The replica is as before then.
-#[derive(Debug, Drop, Error)]
+#[derive(Clone, Copy, Debug, PartialEq, Eq, Error)]
 pub enum AnswerError {
     /// The reply is of another kind than the ask, or not one row where an object's row was asked.
     #[error("the reply does not answer what was asked")]

@@ -1,5 +1,5 @@
 ghost use Rattle.std.specs.Prelude.{◌≡◌, [], List, ◌∷◌, IsOk, IfOk, IsSome, option_copied, slice_get};
-ghost use Rattle.cds_model.specs.Replica.{next_ask, taken, says, copied, held_by, ReplicaTurn, Begins};
+ghost use Rattle.cds_model.specs.Replica.{next_ask, taken, says, copied, held_by, Begun, ReplicaTurn, Begins};
 ghost use Rattle.cds_replica.specs.Answer.{IsOutcome, UnlessMem, GoesOn, read_of};
 
 use crate::AnswerError;
@@ -39,6 +39,7 @@ impl Replica {
     /// Drops the copy and begins a load.
     pub fn begin_load(&mut self) -> Result<(), Mem>
         ensures ok { IsOk result }
+        ensures after { self.new ≡ Begun }
         ensures begins { (turns : List ReplicaTurn) → self.old ≡ held_by turns → self.new ≡ held_by (Begins ∷ turns) }
     {
         self.stage = Stage::Begun;

@@ -102,13 +102,13 @@ fn take_number_after_root(alloc: Global, number: u32, root: Row, shown: Shown) -
     ensures outcome { IsOutcome (taken (HoldsRoot number root) shown) (HoldsRoot number root) (held_in result.0) result.1 }
     ensures read { IfOk result.1 (λ read. read ≡ read_of shown) }
 {
-    let Shown::Number(again) = shown else {
+    let Shown::Number(second) = shown else {
         return (
             Stage::HasRoot { number, root },
             Err(AnswerError::Unreadable),
         );
     };
-    if again != number {
+    if second != number {
         return (Stage::Begun, Ok(Read::Ok));
     }
     match Listing::new(alloc, root) {
