@@ -66,10 +66,10 @@ impl Session {
     }
 
     /// Adds a record to those since the last scan.
-    fn add(&mut self, record: Record) -> Result<(), Mem>
-        ensures { OnOk result (self.new ≡ with_record self.old record) }
+    fn add(&mut self, found: Record) -> Result<(), Mem>
+        ensures { OnOk result (self.new ≡ with_record self.old found) }
     {
-        self.records.push(record)?;
+        self.records.push(found)?;
         Ok(())
     }
 
