@@ -1,7 +1,7 @@
 //! What a server replies to an ask (UPnP ContentDirectory:4 on Browse, GetSystemUpdateID and the reset token).
 
-ghost use Rattle.std.specs.Prelude.{◌≡◌, true, Some, IfOk, unwrap_or};
-ghost use Rattle.std.specs.List.{filter_map};
+ghost use Rattle.std.specs.Prelude.{◌≡◌, ◌++◌, [], true, Some, IfOk, OnOk, unwrap_or};
+ghost use Rattle.std.specs.List.{filter_map, cons_option};
 ghost use Rattle.cds_object.specs.Object.{is_folder};
 ghost use Rattle.cds_object.specs.Tree.{row_of};
 ghost use Rattle.cds_store.specs.Rows.{rows_of};
@@ -85,6 +85,7 @@ fn page_of(alloc: Global, store: &Store, container: &Row, start: u32) -> Result<
     requires holds { is_folder container.now.content ≡ true }
     ensures { IfOk result (λ shown. shown ≡ children_reply (moment_in store.now) start (Some container.now)) }
 {
+    store.facts();
     let mut ids = Vec::new(alloc);
     let total = store.children(alloc, container.id.0, start, PAGE_SIZE, &mut ids)?;
     let rows = rows_shown(alloc, store, ids.as_slice())?;
@@ -102,12 +103,19 @@ fn rows_shown(alloc: Global, store: &Store, ids: &[u32]) -> Result<Rows, Mem>
 {
     let mut rows = Rows::new(alloc);
     for id in ids {
-        match store.get(*id) {
-            None => {}
-            Some(row) => rows.push(row.copy(alloc)?)?,
-        }
+        show(alloc, store, *id, &mut rows)?;
     }
     Ok(rows)
+}
+
+/// Adds the row of an id at the end, where there is one.
+fn show(alloc: Global, store: &Store, id: u32, rows: &mut Rows) -> Result<(), Mem>
+    ensures { OnOk result (rows.new ≡ rows.old ++ cons_option (row_of id (rows_of store.now.rows)) []) }
+{
+    match store.get(id) {
+        None => Ok(()),
+        Some(row) => rows.push(row.copy(alloc)?),
+    }
 }
 
 /// The UpdateID that a reply on an object bears: the server's number for the root, a container's own, and for a track
