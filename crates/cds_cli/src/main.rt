@@ -1,9 +1,43 @@
 //! `cds`: a ContentDirectory:4 server and its replica, played from scripts.
 #![tactic(auto)]
 
+mod command;
+mod run;
 mod streams;
 
-fn main(rt: HostRuntime) {
-    let _input = streams::Input::new(rt.reader());
-    let _output = streams::Output::new(std::io::writer(&rt));
+use cds_base::{Mem, Text, Words};
+use run::run;
+use std::alloc::Global;
+use std::env;
+use std::io::{ErrorKind, writer};
+use std::process::ExitCode;
+use streams::{Input, Output};
+
+/// The status where memory runs out.
+const OUT_OF_MEMORY: u8 = 4;
+
+/// The words after the program's name. Words that cannot be had as text count as none.
+fn read_words(rt: &HostRuntime, alloc: Global) -> Result<Words, Mem> {
+    let mut words = Words::new(alloc);
+    match env::args(rt) {
+        Ok(args) => {
+            for word in args.skip(1) {
+                words.push(Text::from(word))?;
+            }
+            Ok(words)
+        }
+        Err(error) if error.kind() == ErrorKind::OutOfMemory => Err(Mem),
+        Err(_) => Ok(words),
+    }
+}
+
+fn main(rt: HostRuntime) -> ExitCode {
+    let alloc = rt.alloc();
+    let mut source = Input::new(rt.reader());
+    let mut sink = Output::new(writer(&rt));
+    let status = match read_words(&rt, alloc) {
+        Ok(words) => run(alloc, &words, &mut source, &mut sink),
+        Err(Mem) => OUT_OF_MEMORY,
+    };
+    ExitCode::from(status)
 }

@@ -145,5 +145,5 @@ ending_of turns number room bytes =
     cond (nat_le (length bytes) room) (ending_from turns number (lines_of bytes) true)
     (ending_from turns number (ended_lines (take room bytes)) false)
 
-abbrev pub script_ending : List ℕ → Ending
+unfoldable pub script_ending : List ℕ → Ending
 script_ending bytes = ending_of [] 1 script_limit bytes

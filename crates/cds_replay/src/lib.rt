@@ -3,4 +3,8 @@
 
 mod fragment;
 mod put;
+mod reply;
+mod report;
 mod session;
+#[cfg(test)]
+mod tests;

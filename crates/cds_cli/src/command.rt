@@ -1,0 +1,56 @@
+//! The words of the command line.
+
+ghost use Rattle.std.specs.Prelude.{◌≡◌};
+ghost use Rattle.cds_cli.specs.Command.{command_of, command_named};
+ghost use Rattle.cds_object.specs.Content.{same_text};
+
+use cds_base::Text;
+
+/// What the program is asked to do.
+#[derive(Clone, Copy, Debug, PartialEq, Eq)]
+pub enum Command {
+    /// Plays the script on standard input and writes its report.
+    Replay,
+    /// Writes a page on the commands and the exit statuses.
+    Help,
+    /// Writes the version.
+    Version,
+}
+
+/// The command of the words after the program's name; `None` where they are no command's.
+pub fn read_command(words: &[Text]) -> Option<Command>
+    ensures { result ≡ command_of words.now }
+{
+    match words.split_first() {
+        None => None,
+        Some((word, others)) => {
+            if others.is_empty() {
+                named(word)
+            } else {
+                None
+            }
+        }
+    }
+}
+
+/// The command of this name.
+fn named(word: &Text) -> Option<Command>
+    ensures { result ≡ command_named word.now }
+{
+    if is_text(word, "replay") {
+        Some(Command::Replay)
+    } else if is_text(word, "--help") {
+        Some(Command::Help)
+    } else if is_text(word, "--version") {
+        Some(Command::Version)
+    } else {
+        None
+    }
+}
+
+/// Whether a word has these bytes.
+fn is_text(word: &Text, text: &str) -> bool
+    ensures { result ≡ same_text word.now text.now }
+{
+    word.as_str() == text
+}

@@ -1,0 +1,110 @@
+//! The program from its words to its exit status.
+
+ghost use Rattle.std.specs.Prelude.{◌≡◌, ◌≢◌, ◌⊎◌, ◌≤◌, ◌<◌, ◌++◌, ℕ, [], Some, None, List, OnErr, OnOk};
+ghost use Rattle.cds_base.specs.Outside.{raised, Rose, WhereTold};
+ghost use Rattle.cds_model.specs.Report.{script_ending};
+ghost use Rattle.cds_cli.specs.Command.{command_of};
+ghost use Rattle.cds_cli.specs.Run.{Ends, Writes, EndsText, WritesText};
+ghost use Rattle.cds_cli.specs.declared.command.Command.TheVariants.{Replay, Help, Version};
+
+use crate::command::{Command, read_command};
+use cds_base::{Sink, Source, Words, write_all};
+use cds_replay::{ReplayError, replay};
+use std::alloc::Global;
+
+/// What is written where the words are no command's.
+pub const USAGE: &str = "usage: cds COMMAND\n";
+
+/// What `--version` writes.
+pub const VERSION: &str = "cds 0.1.0\n";
+
+/// What `--help` writes.
+pub const HELP: &str = "usage: cds COMMAND
+
+Commands:
+  replay     play the script on standard input and write its report
+  --help     write this page
+  --version  write the version
+
+Exit status:
+  0  the input was read to its end and the whole output was written
+  1  a line of the script is outside the grammar
+  2  standard input could not be read
+  3  standard output could not be written
+  4  memory ran out
+  5  the words are no command
+  6  the script or a line of it is too long
+";
+
+/// Writes a text, and answers the status, or 3 where it could not be written.
+fn write_text<K: Sink>(sink: &mut K, text: &str, status: u8) -> u8
+    requires { status ≢ 3 }
+    ensures ends { EndsText result status }
+    ensures writes { WhereTold (K.holds sink.old) (λ before. WritesText result text.now before (K.holds sink.new)) }
+    ensures write_fault { result ≡ 3 → Rose (K.faults sink.old) (K.faults sink.new) }
+{
+    match write_all(sink, text.as_bytes()) {
+        Ok(()) => status,
+        Err(_) => 3,
+    }
+}
+
+/// Plays the script on the source.
+fn play<S: Source, K: Sink>(alloc: Global, source: &mut S, sink: &mut K) -> u8
+    ensures ends { WhereTold (S.left source.old) (λ bytes. Ends result (script_ending bytes).status) }
+    ensures writes { WhereTold (S.left source.old) (λ bytes. WhereTold (K.holds sink.old) (λ before. Writes result (script_ending bytes).text before (K.holds sink.new))) }
+    ensures whole { WhereTold (S.left source.old) (λ bytes. result ≡ 0 → S.left source.new ≡ Some []) }
+    ensures within { result ≡ 0 → S.moved source.new ≤ raised (S.moved source.old) 67108864 }
+    ensures long { result ≡ 6 → raised (S.moved source.old) 4097 ≤ S.moved source.new }
+    ensures read_fault { result ≡ 2 → Rose (S.faults source.old) (S.faults source.new) }
+    ensures write_fault { result ≡ 3 → Rose (K.faults sink.old) (K.faults sink.new) }
+    ensures known { (result ≡ 5 → ⊥) × (result ≤ 6) }
+{
+    match replay(alloc, source, sink) {
+        Ok(()) => 0,
+        Err(ReplayError::Line { .. }) => 1,
+        Err(ReplayError::ReadFault) => 2,
+        Err(ReplayError::WriteFault) => 3,
+        Err(ReplayError::Mem) => 4,
+        Err(ReplayError::Limit) => 6,
+    }
+}
+
+/// Runs the program on the words after its name, and answers its exit status.
+///
+/// `replay` plays the script on the source and writes its report to the sink (status 0, or 1 where a line is outside the
+/// grammar, or 6 where the script or a line of it is too long). `--help` and `--version`, each alone, write their text
+/// (status 0). Other words are no command's: the usage is written (status 5). A source that could not be read is status 2,
+/// a sink that could not be written 3, and 4 is that memory ran out.
+pub fn run<S: Source, K: Sink>(alloc: Global, words: &Words, source: &mut S, sink: &mut K) -> u8
+    // What was written is exactly the report of the script, up to its end, its broken line or its limit.
+    ensures report { command_of words.now ≡ Some Replay → WhereTold (S.left source.old) (λ bytes. WhereTold (K.holds sink.old) (λ before. Writes result (script_ending bytes).text before (K.holds sink.new))) }
+    ensures status { command_of words.now ≡ Some Replay → WhereTold (S.left source.old) (λ bytes. Ends result (script_ending bytes).status) }
+    ensures read_to_its_end { command_of words.now ≡ Some Replay → WhereTold (S.left source.old) (λ bytes. result ≡ 0 → S.left source.new ≡ Some []) }
+
+    // The script's limit, by the number of bytes that the source moved.
+    ensures within_limit { command_of words.now ≡ Some Replay → result ≡ 0 → S.moved source.new ≤ raised (S.moved source.old) 67108864 }
+    ensures past_limit { result ≡ 6 → raised (S.moved source.old) 4097 ≤ S.moved source.new }
+
+    // Faults of the outside come only where their count rose.
+    ensures read_fault { result ≡ 2 → Rose (S.faults source.old) (S.faults source.new) }
+    ensures write_fault { result ≡ 3 → Rose (K.faults sink.old) (K.faults sink.new) }
+
+    // The other commands, and words that are no command's, write one text and take nothing of the source.
+    ensures help { command_of words.now ≡ Some Help → EndsText result 0 × WhereTold (K.holds sink.old) (λ before. WritesText result HELP.now before (K.holds sink.new)) }
+    ensures version { command_of words.now ≡ Some Version → EndsText result 0 × WhereTold (K.holds sink.old) (λ before. WritesText result VERSION.now before (K.holds sink.new)) }
+    ensures usage { command_of words.now ≡ None → EndsText result 5 × WhereTold (K.holds sink.old) (λ before. WritesText result USAGE.now before (K.holds sink.new)) }
+    ensures untouched { (command_of words.now ≡ Some Replay → ⊥) → source.new ≡ source.old }
+
+    // No other status comes.
+    ensures only_usage { result ≡ 5 → command_of words.now ≡ None }
+    ensures only_replay { (result ≡ 1) ⊎ ((result ≡ 2) ⊎ ((result ≡ 4) ⊎ (result ≡ 6))) → command_of words.now ≡ Some Replay }
+    ensures known { result ≤ 6 }
+{
+    match read_command(words.as_slice()) {
+        Some(Command::Replay) => play(alloc, source, sink),
+        Some(Command::Help) => write_text(sink, HELP, 0),
+        Some(Command::Version) => write_text(sink, VERSION, 0),
+        None => write_text(sink, USAGE, 5),
+    }
+}
