@@ -1,0 +1,11 @@
+pub mod Takes
+pub mod Steps
+pub mod Tests
+pub mod Texts
+pub mod Names
+pub mod Bits
+pub mod Heads
+pub mod Fronts
+pub mod Blocks
+pub mod Walks
+pub mod Whole

@@ -1,0 +1,6 @@
+pub mod Numbers
+pub mod Comment
+pub mod Step
+pub mod Reading
+pub mod Agree
+pub mod Vector
