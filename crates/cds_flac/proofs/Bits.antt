@@ -1,5 +1,5 @@
 -- The number of some bytes in the middle of others.
-use Rattle.std.proofs.Common.{◌≡◌, ℕ, zero, suc, ◌+◌, ◌*◌, ◌^◌, ◌<◌, ◌≤◌, List, [], ◌∷◌, length, get_or, take, drop, ap, ◌∙◌, arith, drop-cons, length-drop}
+use Rattle.std.proofs.Common.{◌≡◌, ℕ, suc, ◌+◌, ◌*◌, ◌^◌, ◌<◌, ◌≤◌, List, length, get_or, take, drop, ap, ◌∙◌, arith, drop-cons, length-drop}
 use Rattle.std.proofs.lemmas.List.{length-take-le}
 use Rattle.cds_flac.specs.Numbers.{big_endian, sound_bits}
 

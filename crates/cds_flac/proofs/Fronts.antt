@@ -1,5 +1,5 @@
 -- Comments read one after another.
-use Rattle.std.proofs.Common.{◌≡◌, ℕ, zero, suc, ◌+◌, ◌-◌, ◌<◌, List, [], ◌∷◌, ◌++◌, length, Option, Some, None, Ok, Err, refl, sym, ap, ◌∙◌, arith, append_assoc}
+use Rattle.std.proofs.Common.{◌≡◌, ℕ, suc, ◌+◌, ◌-◌, List, [], ◌∷◌, ◌++◌, length, Some, None, Ok, Err, refl, sym, ap, ◌∙◌, append_assoc}
 use Rattle.std.proofs.lemmas.List.{append-nil}
 use Rattle.cds_flac.specs.declared.error.FlacError.{FlacError}
 use Rattle.cds_flac.specs.declared.error.FlacError.TheVariants.{BadComment}
@@ -8,7 +8,7 @@ use Rattle.cds_flac.specs.Step.{Step, after, taken}
 use Rattle.cds_flac.specs.Agree.{Judged}
 use Rattle.cds_flac.specs.Comment.{comment_of}
 use Rattle.cds_flac.specs.Reading.{comments_from, text_at, in_form, field_after}
-use Rattle.cds_flac.proofs.Steps.{after-ok, judged-after, judged-same}
+use Rattle.cds_flac.proofs.Steps.{after-ok, judged-after}
 
 -- a step's comments behind those that were read before
 abbrev pub with_front : List Comment → Step (List Comment) → Step (List Comment)

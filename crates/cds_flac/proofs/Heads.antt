@@ -1,11 +1,11 @@
 -- The first bytes of block headers, judged.
-use Rattle.std.proofs.Common.{◌≡◌, ℕ, ◌+◌, ◌<◌, ◌≤◌, nat_lt, nat_eq, Bool, true, false, not, cond, List, Ok, Err, ap, ◌∙◌, arith}
+use Rattle.std.proofs.Common.{◌≡◌, ℕ, ◌+◌, ◌<◌, ◌≤◌, nat_lt, nat_eq, not, cond, List, Ok, Err, ap, ◌∙◌, arith}
 use Rattle.cds_flac.specs.declared.block.Header.{Header}
 use Rattle.cds_flac.specs.declared.error.FlacError.TheVariants.{NoStreamInfo, BadStreamInfo, Forbidden, TooLong}
 use Rattle.cds_flac.specs.Step.{Step, after, big_number}
 use Rattle.cds_flac.specs.Reading.{kind_of, is_last, metadata_limit, stream_head, stream_of_head, stream_of_length, header_at, header_of_head, header_of_length}
 use Rattle.cds_flac.proofs.Steps.{after-ok}
-use Rattle.cds_flac.proofs.Tests.{taken-then, taken-else, below-true, below-false, equal-true, equal-false}
+use Rattle.cds_flac.proofs.Decided.{taken-then, taken-else, below-true, below-false, equal-true, equal-false}
 
 pub stream-behind : (bytes rest : List ℕ) (head : ℕ) → big_number 4 1 bytes ≡ Ok (head, rest) → stream_head bytes ≡ stream_of_head head rest
 unfolding stream_head

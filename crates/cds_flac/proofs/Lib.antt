@@ -1,6 +1,6 @@
 pub mod Takes
 pub mod Steps
-pub mod Tests
+pub mod Decided
 pub mod Texts
 pub mod Names
 pub mod Bits
@@ -9,3 +9,9 @@ pub mod Fronts
 pub mod Blocks
 pub mod Walks
 pub mod Whole
+pub mod Shapes
+pub mod FieldForm
+pub mod BodyForm
+pub mod WalkForm
+pub mod ListForm
+pub mod WholeForm

@@ -1,10 +1,10 @@
 -- Steps one after another, and what a call answers beside them.
-use Rattle.std.proofs.Common.{◌≡◌, ℕ, Option, Some, Result, Ok, Err, List, sym, ap, subst, ◌∙◌}
+use Rattle.std.proofs.Common.{◌≡◌, ℕ, Option, Result, Ok, Err, List, sym, ap, subst}
 use Rattle.std.specs.Result.{IsErrAnd}
 use Rattle.cds_flac.specs.declared.error.FlacError.{FlacError}
 use Rattle.cds_flac.specs.declared.error.FlacError.TheVariants.{NotFlac, NoStreamInfo, BadStreamInfo, Forbidden, Truncated, BadComment, TooLong, ReadFault, Mem}
 use Rattle.cds_flac.specs.Step.{Step, after}
-use Rattle.cds_flac.specs.Agree.{Judged, Gives, Agrees, Fills, Passes}
+use Rattle.cds_flac.specs.Agree.{Judged, Agrees}
 
 -- the second step after a first that gave a value
 pub after-ok : {A B : Type 0} {step : Step A} (next : A → List ℕ → Step B) {value : A} {rest : List ℕ} → step ≡ Ok (value, rest) → after step next ≡ next value rest

@@ -1,7 +1,7 @@
 -- Taking bytes, and taking them in pieces.
-use Rattle.std.proofs.Common.{◌≡◌, ℕ, ◌+◌, ◌-◌, ◌<◌, ◌≤◌, nat_le, Bool, true, false, cond, List, [], ◌++◌, length, take, drop, Ok, Err, ap, sym, ◌∙◌, arith, length-drop, length-append, length-take, ◌⊎◌, inl, inr}
+use Rattle.std.proofs.Common.{◌≡◌, ℕ, ◌+◌, ◌-◌, ◌<◌, ◌≤◌, nat_le, true, false, cond, List, [], ◌++◌, length, take, drop, Ok, Err, ap, sym, ◌∙◌, arith, length-drop, length-append, length-take, ◌⊎◌, inl, inr}
 use Rattle.std.proofs.lemmas.Bool.Decides.{nat_tests}
-use Rattle.std.proofs.lemmas.List.{drop-drop, take_at, drop_at, take_all, take-append-le, length-take-le}
+use Rattle.std.proofs.lemmas.List.{take_at, drop_at, take_all, take-append-le, length-take-le}
 use Rattle.std.proofs.Math.Seq.{take-add}
 use borrow.Rule.Slice.PartMut.{put_mid, post_of}
 use Rattle.cds_flac.specs.declared.error.FlacError.TheVariants.{Truncated}

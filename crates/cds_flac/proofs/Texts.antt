@@ -1,9 +1,9 @@
 -- The text of a length: refused where it or the field behind it reaches past the block, and else taken.
-use Rattle.std.proofs.Common.{◌≡◌, ℕ, ◌+◌, ◌<◌, ◌≤◌, nat_lt, cond, List, Ok, Err, ◌∙◌}
+use Rattle.std.proofs.Common.{◌≡◌, ℕ, ◌+◌, ◌<◌, ◌≤◌, nat_lt, cond, List, Err, ◌∙◌}
 use Rattle.cds_flac.specs.declared.error.FlacError.TheVariants.{BadComment}
 use Rattle.cds_flac.specs.Step.{Step, taken}
 use Rattle.cds_flac.specs.Reading.{text_of_length}
-use Rattle.cds_flac.proofs.Tests.{taken-then, taken-else, below-true, below-false}
+use Rattle.cds_flac.proofs.Decided.{taken-then, taken-else, below-true, below-false}
 
 module _ (at end field n : ℕ) (left : List ℕ) where
   refused : ℕ → Step (List ℕ)

@@ -1,5 +1,5 @@
 -- Blocks one after another.
-use Rattle.std.proofs.Common.{◌≡◌, ℕ, zero, suc, ◌+◌, ◌-◌, ◌<◌, Bool, true, false, cond, List, Option, Some, None, Ok, Err, refl, ap, ◌∙◌, arith}
+use Rattle.std.proofs.Common.{◌≡◌, ℕ, suc, ◌+◌, ◌-◌, ◌<◌, true, false, cond, List, Option, Some, Ok, ap, ◌∙◌, arith}
 use Rattle.cds_flac.specs.declared.block.Header.{Header}
 use Rattle.cds_flac.specs.declared.error.FlacError.{FlacError}
 use Rattle.cds_flac.specs.declared.info.Comment.{Comment}
@@ -7,8 +7,7 @@ use Rattle.cds_flac.specs.Step.{Step, after, taken}
 use Rattle.cds_flac.specs.Agree.{Judged}
 use Rattle.cds_flac.specs.Reading.{block_body, blocks_from, comment_block, header_at, is_first_comment}
 use Rattle.cds_flac.proofs.Steps.{after-ok, judged-after, judged-same}
-use Rattle.cds_flac.proofs.Tests.{taken-then, taken-else}
-
+use Rattle.cds_flac.proofs.Decided.{taken-then, taken-else}
 
 module _ (kind : ℕ) (found : Option (List Comment)) (at n : ℕ) (left : List ℕ) where
   comments : Step (Option (List Comment))

@@ -1,5 +1,5 @@
 -- The parts of a file's metadata, one after another.
-use Rattle.std.proofs.Common.{◌≡◌, ℕ, Bool, List, Option, Ok, refl, ap, ◌∙◌}
+use Rattle.std.proofs.Common.{◌≡◌, ℕ, List, Option, Ok, refl, ◌∙◌}
 use Rattle.cds_flac.specs.declared.error.FlacError.{FlacError}
 use Rattle.cds_flac.specs.declared.info.Comment.{Comment}
 use Rattle.cds_flac.specs.declared.info.FlacInfo.{FlacInfo}

@@ -1,14 +1,13 @@
 -- What the metadata of a FLAC file is, read in order (RFC 9639 on the marker and the metadata blocks): the fields, or
 -- the first refusal. A block's type decides as soon as its byte has come, a length or a count as soon as its bytes
 -- have come, a text when it is whole.
-use Rattle.std.specs.Prelude.{◌==◌, ℕ, suc, zero, ◌+◌, ◌-◌, ◌%◌, nat_lt, nat_le, Bool, true, false, not, ◌&&◌, if◌then◌else◌, Option, Some, None, is_none, unwrap_or, option_map, Result, Ok, Err, List, [], ◌∷◌, length, codes}
+use Rattle.std.specs.Prelude.{◌==◌, ℕ, suc, zero, ◌+◌, ◌-◌, ◌%◌, nat_lt, nat_le, Bool, true, false, not, ◌&&◌, if◌then◌else◌, Option, Some, None, is_none, unwrap_or, Ok, Err, List, [], ◌∷◌, length, codes}
 use Rattle.std.specs.Str.{is_utf8, bytes_eq}
-use Rattle.cds_flac.specs.declared.error.FlacError.{FlacError}
-use Rattle.cds_flac.specs.declared.error.FlacError.TheVariants.{NotFlac, NoStreamInfo, BadStreamInfo, Forbidden, Truncated, BadComment, TooLong}
+use Rattle.cds_flac.specs.declared.error.FlacError.TheVariants.{NotFlac, NoStreamInfo, BadStreamInfo, Forbidden, BadComment, TooLong}
 use Rattle.cds_flac.specs.declared.block.Header.{Header}
 use Rattle.cds_flac.specs.declared.info.Comment.{Comment}
 use Rattle.cds_flac.specs.declared.info.FlacInfo.{FlacInfo}
-use Rattle.cds_flac.specs.Numbers.{big_endian, sound_bits, rate_of, channels_of, depth_of, samples_of}
+use Rattle.cds_flac.specs.Numbers.{sound_bits, rate_of, channels_of, depth_of, samples_of}
 use Rattle.cds_flac.specs.Comment.{comment_of}
 use Rattle.cds_flac.specs.Step.{Step, after, taken, big_number, little_number}
 
@@ -114,12 +113,12 @@ further_blocks false at left = blocks_from most_blocks None at left
 -- What STREAMINFO's body and the comments say.
 abbrev pub info_of : ℕ → Option (List Comment) → FlacInfo
 info_of bits found = record {
-    rate = rate_of bits;
-    channels = channels_of bits;
-    bits = depth_of bits;
-    samples = samples_of bits;
-    comments = unwrap_or found []
-  }
+  rate = rate_of bits;
+  channels = channels_of bits;
+  bits = depth_of bits;
+  samples = samples_of bits;
+  comments = unwrap_or found [];
+}
 
 -- The marker, which stands first.
 abbrev pub marker : List ℕ

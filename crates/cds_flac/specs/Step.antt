@@ -1,6 +1,6 @@
 -- Steps of a reader over the bytes of a file: each takes the place where it begins and the bytes that are left, and
 -- gives a value and what is left after it, or the refusal.
-use Rattle.std.specs.Prelude.{ℕ, ◌+◌, nat_le, if◌then◌else◌, Result, Ok, Err, List, [], ◌∷◌, length, take, drop}
+use Rattle.std.specs.Prelude.{ℕ, ◌+◌, nat_le, if◌then◌else◌, Result, Ok, Err, List, length, take, drop}
 use Rattle.cds_flac.specs.declared.error.FlacError.{FlacError}
 use Rattle.cds_flac.specs.declared.error.FlacError.TheVariants.{Truncated}
 use Rattle.cds_flac.specs.Numbers.{big_endian, little_endian}

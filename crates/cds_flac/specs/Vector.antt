@@ -1,6 +1,6 @@
 -- Small files evaluated by the definition.
-use Rattle.std.specs.Prelude.{◌≡◌, ℕ, Result, Ok, Err, List, [], ◌∷◌, ◌++◌, codes, replicate, length, take}
-use Rattle.cds_flac.specs.declared.error.FlacError.TheVariants.{NotFlac, NoStreamInfo, BadStreamInfo, Forbidden, Truncated, BadComment, TooLong}
+use Rattle.std.specs.Prelude.{◌≡◌, ℕ, Ok, Err, List, [], ◌∷◌, ◌++◌, codes, replicate, length, take}
+use Rattle.cds_flac.specs.declared.error.FlacError.TheVariants.{NotFlac, NoStreamInfo, BadStreamInfo, Forbidden, Truncated, BadComment}
 use Rattle.cds_flac.specs.Reading.{metadata}
 
 -- The marker and a STREAMINFO block: 44,100 Hz, 2 channels, 16 bits, 441,000 samples. More blocks follow.
@@ -15,13 +15,16 @@ title = 132 ∷ 0 ∷ 0 ∷ 19 ∷ replicate 4 0 ++ 1 ∷ 0 ∷ 0 ∷ 0 ∷ 7 �
 
 -- The file is read whole.
 abbrev pub TitleIsRead : Type 0
-TitleIsRead = metadata (sound ++ title ++ 1 ∷ 2 ∷ []) ≡ Ok (record {
+TitleIsRead = metadata (sound ++ title ++ 1 ∷ 2 ∷ []) ≡ Ok (
+  record {
     rate = 44100;
     channels = 2;
     bits = 16;
     samples = 441000;
-    comments = record { name = codes "TITLE"; value = codes "Z" } ∷ []
-  }, 1 ∷ 2 ∷ [])
+    comments = record { name = codes "TITLE"; value = codes "Z" } ∷ [];
+  },
+  1 ∷ 2 ∷ [],
+)
 
 -- Cut off in the first block's body, in the comment's text and in its length.
 abbrev pub CutsAreTruncated : Type 0

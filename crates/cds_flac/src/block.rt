@@ -45,7 +45,11 @@ pub fn kind_of_head(head: u8) -> u8
 }
 
 /// The comments of the blocks behind STREAMINFO, of which there are none where that was the last.
-pub fn read_further_blocks<S: Source>(alloc: Global, source: &mut S, last: bool) -> Result<Option<Comments>, FlacError>
+pub fn read_further_blocks<S: Source>(
+    alloc: Global,
+    source: &mut S,
+    last: bool,
+) -> Result<Option<Comments>, FlacError>
     ensures told { WhereTold (S.left source.old) (λ bytes. Agrees (further_blocks last 42 bytes) result (S.left source.new)) }
     ensures fault { FaultRose result (S.faults source.old) (S.faults source.new) }
     ensures never_falls { S.faults source.old ≤ S.faults source.new }
@@ -100,7 +104,14 @@ fn read_header<S: Source>(source: &mut S, at: usize) -> Result<Header, FlacError
 }
 
 /// The body of a block: the first VORBIS_COMMENT block is read, everything else is passed over.
-fn read_body<S: Source>(alloc: Global, source: &mut S, kind: u8, found: Option<Comments>, at: usize, length: usize) -> Result<Option<Comments>, FlacError>
+fn read_body<S: Source>(
+    alloc: Global,
+    source: &mut S,
+    kind: u8,
+    found: Option<Comments>,
+    at: usize,
+    length: usize,
+) -> Result<Option<Comments>, FlacError>
     requires { at + length < 2 ^ 32 }
     ensures told { WhereTold (S.left source.old) (λ bytes. Agrees (block_body kind found at length bytes) result (S.left source.new)) }
     ensures fault { FaultRose result (S.faults source.old) (S.faults source.new) }

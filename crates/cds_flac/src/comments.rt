@@ -12,7 +12,12 @@ use cds_base::{Bytes, Mem, Source, Text};
 use std::alloc::Global;
 
 /// The comments of a VORBIS_COMMENT block's body, from its place to its end.
-pub fn read_comment_block<S: Source>(alloc: Global, source: &mut S, at: usize, end: usize) -> Result<Comments, FlacError>
+pub fn read_comment_block<S: Source>(
+    alloc: Global,
+    source: &mut S,
+    at: usize,
+    end: usize,
+) -> Result<Comments, FlacError>
     requires in_block { at ≤ end }
     requires near { end < 2 ^ 32 }
     ensures told { WhereTold (S.left source.old) (λ bytes. Agrees (comment_block at end bytes) result (S.left source.new)) }
@@ -31,7 +36,12 @@ pub fn read_comment_block<S: Source>(alloc: Global, source: &mut S, at: usize, e
 }
 
 /// The comments whose count stands at `at`, and what is left over in the block.
-fn read_counted<S: Source>(alloc: Global, source: &mut S, at: usize, end: usize) -> Result<Comments, FlacError>
+fn read_counted<S: Source>(
+    alloc: Global,
+    source: &mut S,
+    at: usize,
+    end: usize,
+) -> Result<Comments, FlacError>
     requires in_block { at + 4 ≤ end }
     requires near { end < 2 ^ 32 }
     ensures told { WhereTold (S.left source.old) (λ bytes. Agrees (counted_comments at end bytes) result (S.left source.new)) }
@@ -47,7 +57,13 @@ fn read_counted<S: Source>(alloc: Global, source: &mut S, at: usize, end: usize)
 }
 
 /// So many comments from `at` on, and what is left over in the block.
-fn read_comments<S: Source>(alloc: Global, source: &mut S, count: usize, at: usize, end: usize) -> Result<Comments, FlacError>
+fn read_comments<S: Source>(
+    alloc: Global,
+    source: &mut S,
+    count: usize,
+    at: usize,
+    end: usize,
+) -> Result<Comments, FlacError>
     requires in_block { at + field_after count ≤ end }
     requires near { end < 2 ^ 32 }
     ensures told { WhereTold (S.left source.old) (λ bytes. Agrees (comments_from count at end bytes) result (S.left source.new)) }
@@ -79,7 +95,13 @@ fn next_field(more: usize) -> usize
 
 /// The text whose length stands at `at`, in a block that ends at `end` and has a field of `field` bytes right after
 /// the text.
-fn read_text_at<S: Source>(alloc: Global, source: &mut S, at: usize, end: usize, field: usize) -> Result<Bytes, FlacError>
+fn read_text_at<S: Source>(
+    alloc: Global,
+    source: &mut S,
+    at: usize,
+    end: usize,
+    field: usize,
+) -> Result<Bytes, FlacError>
     requires in_block { at + 4 ≤ end }
     requires near { end < 2 ^ 32 }
     requires small { field ≤ 4 }

@@ -50,7 +50,12 @@ pub fn pass_over<S: Source>(source: &mut S, at: usize, n: usize) -> Result<(), F
 }
 
 /// The next `n` bytes, which stand at `at`. Memory grows with the bytes that come, and not with `n`.
-pub fn read_text<S: Source>(alloc: Global, source: &mut S, at: usize, n: usize) -> Result<Bytes, FlacError>
+pub fn read_text<S: Source>(
+    alloc: Global,
+    source: &mut S,
+    at: usize,
+    n: usize,
+) -> Result<Bytes, FlacError>
     requires { at + n < 2 ^ 64 }
     ensures told { WhereTold (S.left source.old) (λ bytes. Agrees (taken at n bytes) result (S.left source.new)) }
     ensures size { IfOk result (λ text. length text ≡ n) }
@@ -63,7 +68,9 @@ pub fn read_text<S: Source>(alloc: Global, source: &mut S, at: usize, n: usize) 
         let want = (n - text.len()).min(PIECE);
         let count = source.read(&mut piece[..want])?;
         if count == 0 {
-            return Err(FlacError::Truncated { at: at + text.len() });
+            return Err(FlacError::Truncated {
+                at: at + text.len(),
+            });
         }
         text.extend(&piece[..count])?;
     }

@@ -11,7 +11,8 @@ mod read;
 
 pub use error::FlacError;
 pub use examples::{
-    comment_field_faults_are_refused, cuts_are_truncated, header_faults_are_refused, text_faults_are_refused, title_is_read,
+    comment_field_faults_are_refused, cuts_are_truncated, header_faults_are_refused,
+    text_faults_are_refused, title_is_read,
 };
 pub use info::{Comment, Comments, FlacInfo};
 pub use read::read_flac;

@@ -1,6 +1,7 @@
 ghost use Rattle.std.specs.Prelude.{◌≡◌, ◌<◌, ◌≤◌, ◌^◌, IfOk};
 ghost use Rattle.cds_base.specs.Outside.{WhereTold};
 ghost use Rattle.cds_flac.specs.Agree.{Agrees, FaultRose};
+ghost use Rattle.cds_flac.specs.Form.{BeginsWith, ReadsWhatBegins};
 ghost use Rattle.cds_flac.specs.Numbers.{sound_bits};
 ghost use Rattle.cds_flac.specs.Step.{Step};
 ghost use Rattle.cds_flac.specs.Reading.{info_of, metadata, stream_head, sound_at, marker_at};
@@ -15,6 +16,22 @@ use std::alloc::Global;
 /// the last of them. Comments are those of the first VORBIS_COMMENT block. The first fault in reading order is
 /// answered; `ReadFault` comes only where the source's count of faults rose.
 pub fn read_flac<S: Source>(alloc: Global, source: &mut S) -> Result<FlacInfo, FlacError>
+    ensures told { WhereTold (S.left source.old) (λ bytes. Agrees (metadata bytes) result (S.left source.new)) }
+    ensures form { IfOk result (λ info. WhereTold (S.left source.old) (λ bytes. BeginsWith bytes info (S.left source.new))) }
+    ensures all { WhereTold (S.left source.old) (λ bytes. ReadsWhatBegins bytes result) }
+    ensures rate { IfOk result (λ info. info.rate < 2 ^ 20) }
+    ensures channels { IfOk result (λ info. (1 ≤ info.channels) × (info.channels ≤ 8)) }
+    ensures bits { IfOk result (λ info. (1 ≤ info.bits) × (info.bits ≤ 32)) }
+    ensures samples { IfOk result (λ info. info.samples < 2 ^ 36) }
+    ensures fault { FaultRose result (S.faults source.old) (S.faults source.new) }
+    ensures never_falls { S.faults source.old ≤ S.faults source.new }
+{
+    let info = read_metadata(alloc, source)?;
+    Ok(info)
+}
+
+/// The marker and the blocks, one after another.
+fn read_metadata<S: Source>(alloc: Global, source: &mut S) -> Result<FlacInfo, FlacError>
     ensures told { WhereTold (S.left source.old) (λ bytes. Agrees (metadata bytes) result (S.left source.new)) }
     ensures rate { IfOk result (λ info. info.rate < 2 ^ 20) }
     ensures channels { IfOk result (λ info. (1 ≤ info.channels) × (info.channels ≤ 8)) }
@@ -73,7 +90,9 @@ fn read_sound<S: Source>(source: &mut S) -> Result<u64, FlacError>
 {
     let mut body = [0u8; 34];
     fill(source, 8, &mut body)?;
-    Ok(u64::from_be_bytes([body[10], body[11], body[12], body[13], body[14], body[15], body[16], body[17]]))
+    Ok(u64::from_be_bytes([
+        body[10], body[11], body[12], body[13], body[14], body[15], body[16], body[17],
+    ]))
 }
 
 /// What the bits and the comments say.

@@ -8,10 +8,10 @@ abbrev pub invariant-loop-found : goal.invariant-loop-found
 invariant-loop-found g l =
     (l.place ≤ 67108868)
     × WhereTold (g.S.Source.left l.initial.source) (λ bytes.
-        (fewer : ℕ) × (rest : List ℕ)
-        × (g.S.Source.left l.source ≡ Some rest)
-        × (67108868 < fewer + l.place)
-        × (further_blocks false 42 bytes ≡ blocks_from fewer l.found l.place rest))
+    (fewer : ℕ) × (rest : List ℕ)
+    × (g.S.Source.left l.source ≡ Some rest)
+    × (67108868 < fewer + l.place)
+    × (further_blocks false 42 bytes ≡ blocks_from fewer l.found l.place rest))
     × (g.S.Source.faults l.initial.source ≤ g.S.Source.faults l.source)
 
 abbrev pub decreases-loop-found : goal.decreases-loop-found

@@ -1,5 +1,5 @@
 -- The vendor, and the comments behind it.
-use Rattle.std.proofs.Common.{◌≡◌, ℕ, List, Bool, true, false, ◌+◌, ◌<◌, ◌≤◌, length, Ok, sym, ap, ◌∙◌}
+use Rattle.std.proofs.Common.{◌≡◌, ℕ, List, true, false, ◌+◌, ◌≤◌, length, Ok, sym, ap, ◌∙◌}
 use Rattle.std.specs.Str.{is_utf8}
 use Rattle.cds_flac.specs.Reading.{comment_block, behind_vendor, counted_comments, text_at}
 use Rattle.cds_flac.proofs.Blocks.{block-no_field, block-vendor, vendor-refused, vendor-passed}
@@ -43,7 +43,8 @@ pub returns-clause-told : goal.returns-clause-told
 returns-clause-told g c = λ bytes told.
     let vendor = c.in_ok-vendor.ensures.told bytes told in
     let passes : is_utf8 c.in_ok-vendor.vendor ≡ true = ap is_utf8 (sym c.as_slice.ensures) ∙ sym c.if-not-is_text.ensures in
-    let comments = c.in_ok-comments.ensures.told vendor.0 vendor.2 in
-    (comments.0
-    , behind c.args.at c.args.end c.len.result bytes c.in_ok-vendor.vendor vendor.0 c.if-end-at.false vendor.1 passes c.len.ensures ∙ comments.1
-    , comments.2)
+    let comments = c.in_ok-comments.ensures.told vendor.0 vendor.2 in (
+      comments.0,
+      behind c.args.at c.args.end c.len.result bytes c.in_ok-vendor.vendor vendor.0 c.if-end-at.false vendor.1 passes c.len.ensures ∙ comments.1,
+      comments.2,
+    )

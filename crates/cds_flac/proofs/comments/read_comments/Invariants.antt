@@ -9,9 +9,9 @@ abbrev pub invariant-loop-more : goal.invariant-loop-more
 invariant-loop-more g l =
     (l.place + field_after l.more ≤ l.end)
     × WhereTold (g.S.Source.left l.initial.source) (λ bytes.
-        (rest : List ℕ)
-        × (g.S.Source.left l.source ≡ Some rest)
-        × (comments_from l.count l.at l.end bytes ≡ with_front l.comments (comments_from l.more l.place l.end rest)))
+    (rest : List ℕ)
+    × (g.S.Source.left l.source ≡ Some rest)
+    × (comments_from l.count l.at l.end bytes ≡ with_front l.comments (comments_from l.more l.place l.end rest)))
     × (g.S.Source.faults l.initial.source ≤ g.S.Source.faults l.source)
 
 abbrev pub decreases-loop-more : goal.decreases-loop-more

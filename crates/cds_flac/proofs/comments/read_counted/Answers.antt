@@ -1,5 +1,5 @@
 -- The count, its test, and the comments.
-use Rattle.std.proofs.Common.{◌≡◌, ℕ, ◌+◌, ◌<◌, ◌≤◌, ◌∙◌, arith}
+use Rattle.std.proofs.Common.{◌+◌, ◌<◌, ◌≤◌, ◌∙◌, arith}
 use Rattle.cds_flac.specs.Step.{little_number}
 use Rattle.cds_flac.specs.Reading.{counted_comments, field_after}
 use Rattle.cds_flac.proofs.Blocks.{counted-past, counted-fits}

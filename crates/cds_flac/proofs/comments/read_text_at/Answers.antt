@@ -1,6 +1,6 @@
 -- The length, its two tests, and the text.
-use Rattle.std.proofs.Common.{◌≡◌, ◌+◌, Some, Ok, Err, List, ℕ, ◌∙◌}
-use Rattle.cds_flac.specs.Step.{Step, after, little_number, taken}
+use Rattle.std.proofs.Common.{◌≡◌, Ok, List, ℕ, ◌∙◌}
+use Rattle.cds_flac.specs.Step.{little_number}
 use Rattle.cds_flac.specs.Reading.{text_at, text_of_length}
 use Rattle.cds_flac.proofs.Steps.{after-ok, judged-after, judged-same, agrees-exit}
 use Rattle.cds_flac.proofs.Texts.{text-past, text-no_field, text-fits}
@@ -32,7 +32,7 @@ pub returns-in_err-text-clause-told : goal.returns-in_err-text-clause-told
 returns-in_err-text-clause-told g c = λ bytes told.
     let count = c.in_ok-n.ensures.told bytes told in
     let whole = behind_length c.args.at c.args.end c.args.field c.in_ok-n.n bytes count.0 count.1
-        ∙ text-fits c.args.at c.args.end c.args.field c.in_ok-n.n count.0 c.if-end-at.false c.if-end-at-2.false in
+    ∙ text-fits c.args.at c.args.end c.args.field c.in_ok-n.n count.0 c.if-end-at.false c.if-end-at-2.false in
     agrees-exit _ c.from_residual-in_err-text.result _ c.in_err-text.field-0.0 c.from_residual-in_err-text.ensures.1
     (judged-same _ whole (c.in_err-text.ensures.told count.0 count.2))
 
@@ -40,6 +40,6 @@ pub returns-clause-told : goal.returns-clause-told
 returns-clause-told g c = λ bytes told.
     let count = c.in_ok-n.ensures.told bytes told in
     let whole = behind_length c.args.at c.args.end c.args.field c.in_ok-n.n bytes count.0 count.1
-        ∙ text-fits c.args.at c.args.end c.args.field c.in_ok-n.n count.0 c.if-end-at.false c.if-end-at-2.false in
+    ∙ text-fits c.args.at c.args.end c.args.field c.in_ok-n.n count.0 c.if-end-at.false c.if-end-at-2.false in
     let text = c.in_ok-text.ensures.told count.0 count.2 in
     (text.0, whole ∙ text.1, text.2)

@@ -7,9 +7,9 @@ abbrev pub invariant-loop-got : goal.invariant-loop-got
 invariant-loop-got g l =
     (l.got ≤ length l.into)
     × WhereTold (g.S.Source.left l.initial.source) (λ bytes.
-        (l.got ≤ length bytes)
-        × (take l.got l.into ≡ take l.got bytes)
-        × (g.S.Source.left l.source ≡ Some (drop l.got bytes)))
+    (l.got ≤ length bytes)
+    × (take l.got l.into ≡ take l.got bytes)
+    × (g.S.Source.left l.source ≡ Some (drop l.got bytes)))
     × (g.S.Source.faults l.initial.source ≤ g.S.Source.faults l.source)
 
 abbrev pub decreases-loop-got : goal.decreases-loop-got

@@ -7,7 +7,7 @@ abbrev pub invariant-loop-passed : goal.invariant-loop-passed
 invariant-loop-passed g l =
     (l.passed ≤ l.n)
     × WhereTold (g.S.Source.left l.initial.source) (λ bytes.
-        (l.passed ≤ length bytes) × (g.S.Source.left l.source ≡ Some (drop l.passed bytes)))
+    (l.passed ≤ length bytes) × (g.S.Source.left l.source ≡ Some (drop l.passed bytes)))
     × (g.S.Source.faults l.initial.source ≤ g.S.Source.faults l.source)
 
 abbrev pub decreases-loop-passed : goal.decreases-loop-passed

@@ -7,9 +7,9 @@ abbrev pub invariant-loop-piece : goal.invariant-loop-piece
 invariant-loop-piece g l =
     (length l.text ≤ l.n)
     × WhereTold (g.S.Source.left l.initial.source) (λ bytes.
-        (length l.text ≤ length bytes)
-        × (l.text ≡ take (length l.text) bytes)
-        × (g.S.Source.left l.source ≡ Some (drop (length l.text) bytes)))
+    (length l.text ≤ length bytes)
+    × (l.text ≡ take (length l.text) bytes)
+    × (g.S.Source.left l.source ≡ Some (drop (length l.text) bytes)))
     × (g.S.Source.faults l.initial.source ≤ g.S.Source.faults l.source)
 
 abbrev pub decreases-loop-piece : goal.decreases-loop-piece

@@ -1,11 +1,11 @@
 -- Four bytes, which are the marker or not.
-use Rattle.std.proofs.Common.{◌≡◌, ℕ, List, Bool, true, false, ap, sym, ◌∙◌, Ok, Err}
+use Rattle.std.proofs.Common.{◌≡◌, ℕ, List, true, false, ap, sym, ◌∙◌, Ok, Err}
 use Rattle.std.specs.Str.{bytes_eq}
 use Rattle.cds_flac.specs.declared.error.FlacError.TheVariants.{NotFlac}
-use Rattle.cds_flac.specs.Step.{Step, after, taken}
+use Rattle.cds_flac.specs.Step.{Step, taken}
 use Rattle.cds_flac.specs.Reading.{marker_at, is_marker, marker}
 use Rattle.cds_flac.proofs.Steps.{after-ok, judged-after, agrees-exit}
-use Rattle.cds_flac.proofs.Tests.{taken-then, taken-else, not-true, not-false}
+use Rattle.cds_flac.proofs.Decided.{taken-then, taken-else, not-true, not-false}
 use Rattle.cds_flac.proofs.read.read_marker.Goals as goal
 
 behind_four : (bytes four rest : List ℕ) → taken 0 4 bytes ≡ Ok (four, rest) → marker_at bytes ≡ is_marker four rest
@@ -42,8 +42,9 @@ returns-then-ne-clause-told g c = λ bytes told.
 
 pub returns-clause-told : goal.returns-clause-told
 returns-clause-told g c = λ bytes told.
-    let four = c.in_ok-fill.ensures.told bytes told in
-    (four.0
-    , behind_four bytes c.fill.new.into four.0 four.1
-      ∙ is_good c.fill.new.into four.0 (sym (compared _ _ _ c.as_slice.ensures c.as_slice-2.ensures) ∙ not-false _ c.if-ne.ensures)
-    , four.2)
+    let four = c.in_ok-fill.ensures.told bytes told in (
+      four.0,
+      behind_four bytes c.fill.new.into four.0 four.1
+          ∙ is_good c.fill.new.into four.0 (sym (compared _ _ _ c.as_slice.ensures c.as_slice-2.ensures) ∙ not-false _ c.if-ne.ensures),
+      four.2,
+    )

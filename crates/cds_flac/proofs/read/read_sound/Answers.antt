@@ -1,7 +1,7 @@
 -- The body, and its eight bytes.
-use Rattle.std.proofs.Common.{◌≡◌, ℕ, List, length, ap, sym, ◌∙◌, Ok, arith}
+use Rattle.std.proofs.Common.{◌≡◌, ℕ, List, ap, sym, ◌∙◌, Ok, arith}
 use Rattle.cds_flac.specs.Numbers.{sound_bits}
-use Rattle.cds_flac.specs.Step.{Step, after, taken}
+use Rattle.cds_flac.specs.Step.{taken}
 use Rattle.cds_flac.specs.Reading.{sound_at}
 use Rattle.cds_flac.proofs.Bits.{sound_bits-bytes}
 use Rattle.cds_flac.proofs.Steps.{after-ok, judged-after, agrees-exit}
@@ -19,7 +19,8 @@ returns-in_err-fill-clause-told g c = λ bytes told.
 pub returns-clause-told : goal.returns-clause-told
 returns-clause-told g c = λ bytes told.
     let body = c.in_ok-fill.ensures.told bytes told in
-    let bits : sound_bits c.fill.new.into ≡ c.from_be_bytes.result = sound_bits-bytes c.fill.new.into (omega arith) ∙ sym c.from_be_bytes.ensures in
-    (body.0
-    , behind_body bytes c.fill.new.into body.0 body.1 ∙ ap (λ n. Ok (n, body.0)) bits
-    , body.2)
+    let bits : sound_bits c.fill.new.into ≡ c.from_be_bytes.result = sound_bits-bytes c.fill.new.into (omega arith) ∙ sym c.from_be_bytes.ensures in (
+      body.0,
+      behind_body bytes c.fill.new.into body.0 body.1 ∙ ap (λ n. Ok (n, body.0)) bits,
+      body.2,
+    )

@@ -1,6 +1,6 @@
 -- The type decides first, then the length.
-use Rattle.std.proofs.Common.{◌≡◌, ℕ, ◌+◌, sym, ◌∙◌, arith}
-use Rattle.cds_flac.specs.Step.{after, big_number}
+use Rattle.std.proofs.Common.{◌≡◌, sym, ◌∙◌}
+use Rattle.cds_flac.specs.Step.{big_number}
 use Rattle.cds_flac.specs.Reading.{stream_head, stream_of_length, kind_of}
 use Rattle.cds_flac.proofs.Heads.{stream-behind, stream-forbidden, stream-other, stream-right, stream-length, stream-no_length}
 use Rattle.cds_flac.proofs.Steps.{after-ok, judged-after, judged-same, agrees-exit}
@@ -22,8 +22,8 @@ returns-then-kind-ne0-clause-told g c = λ bytes told.
     let head = c.in_ok-head.ensures.told bytes told in
     stream-behind bytes head.0 c.in_ok-head.head head.1
     ∙ stream-other c.in_ok-head.head head.0
-      (λ e. c.if-kind-eq127.false (c.kind_of_head-kind.ensures.value ∙ e))
-      (λ e. c.if-kind-ne0.true (c.kind_of_head-kind.ensures.value ∙ e))
+    (λ e. c.if-kind-eq127.false (c.kind_of_head-kind.ensures.value ∙ e))
+    (λ e. c.if-kind-ne0.true (c.kind_of_head-kind.ensures.value ∙ e))
 
 pub returns-in_err-length-clause-told : goal.returns-in_err-length-clause-told
 returns-in_err-length-clause-told g c = λ bytes told.
@@ -47,10 +47,11 @@ pub returns-clause-told : goal.returns-clause-told
 returns-clause-told g c = λ bytes told.
     let head = c.in_ok-head.ensures.told bytes told in
     let length = c.in_ok-length.ensures.told head.0 head.2 in
-    let kind : kind_of c.in_ok-head.head ≡ 0 = sym c.kind_of_head-kind.ensures.value ∙ c.if-kind-ne0.false in
-    (length.0
-    , stream-behind bytes head.0 c.in_ok-head.head head.1
-      ∙ stream-right c.in_ok-head.head head.0 kind
-      ∙ after-ok (λ n rest. stream_of_length c.in_ok-head.head n rest) length.1
-      ∙ stream-length c.in_ok-head.head length.0 c.in_ok-length.length c.if-length-ne34.false
-    , length.2)
+    let kind : kind_of c.in_ok-head.head ≡ 0 = sym c.kind_of_head-kind.ensures.value ∙ c.if-kind-ne0.false in (
+      length.0,
+      stream-behind bytes head.0 c.in_ok-head.head head.1
+          ∙ stream-right c.in_ok-head.head head.0 kind
+          ∙ after-ok (λ n rest. stream_of_length c.in_ok-head.head n rest) length.1
+          ∙ stream-length c.in_ok-head.head length.0 c.in_ok-length.length c.if-length-ne34.false,
+      length.2,
+    )

@@ -1,5 +1,5 @@
 -- Tests that are decided.
-use Rattle.std.proofs.Common.{◌≡◌, ℕ, ◌<◌, ◌≤◌, nat_lt, nat_le, nat_eq, Bool, true, false, not, cond, refl, ap, arith}
+use Rattle.std.proofs.Common.{◌≡◌, ℕ, ◌<◌, ◌≤◌, nat_lt, nat_eq, Bool, true, false, not, cond, refl, ap, arith}
 use Rattle.std.proofs.lemmas.Bool.Decides.{nat_tests}
 
 pub taken-then : {X : Type 0} (b : Bool) (x y : X) → b ≡ true → cond b x y ≡ x
