@@ -1,4 +1,4 @@
-pub mod Outside
-pub mod Memory
 pub mod Escape
+pub mod Memory
 pub mod Number
+pub mod Outside

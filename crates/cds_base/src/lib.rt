@@ -6,6 +6,7 @@ mod escaping;
 mod mem;
 mod memory;
 mod number;
+mod order;
 mod outside;
 mod sequence;
 mod text;

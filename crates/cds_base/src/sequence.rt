@@ -76,6 +76,13 @@ impl<T> Sequence<T> {
     {
         self.items.as_slice()
     }
+
+    /// The items, as std has them.
+    pub fn into_vec(self) -> Vec<T>
+        ensures { result.items ≡ self }
+    {
+        self.items
+    }
 }
 
 impl<T> From<Vec<T>> for Sequence<T> {

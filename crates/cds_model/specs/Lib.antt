@@ -1,0 +1,5 @@
+pub mod Evaluated
+pub mod Replica
+pub mod Report
+pub mod Script
+pub mod Server

@@ -1,0 +1,16 @@
+//! What a script means and what a replica knows: the turns of a script, what is asked of a server and what it replies,
+//! what a replica holds after its turns, and the report.
+#![tactic(auto)]
+
+mod evaluated;
+mod exchange;
+mod line;
+mod turn;
+
+pub use evaluated::{
+    ask_before_any_load, broken_line, empty_library, empty_script, folder_with_a_track,
+    scan_during_a_load, track_becomes_a_folder, track_without_its_folder,
+};
+pub use exchange::{Ask, Read, Says, Shown};
+pub use line::read_line;
+pub use turn::{Meaning, Turn};

@@ -1,0 +1,8 @@
+pub mod Object
+pub mod Content
+pub mod ContentOf
+pub mod Fragment
+pub mod Path
+pub mod PathAnswer
+pub mod PathOrder
+pub mod Tree

@@ -1,0 +1,106 @@
+//! What a listing goes on with, and whether a page does.
+
+ghost use Rattle.std.specs.Prelude.{◌≡◌, ◌+◌, ◌-◌, ◌^◌, ◌<◌, length, min, IsTrue};
+ghost use Rattle.std.specs.List.{list_all, list_any};
+ghost use Rattle.cds_object.specs.Tree.{is_child_of};
+ghost use Rattle.cds_model.specs.Replica.{listed_id, listed_children, all_new, known_ids, fits};
+ghost use Rattle.cds_replica.specs.Holding.{listing_in};
+ghost use Rattle.cds_replica.specs.Known.{has_id, was_shown};
+
+use crate::listing::Listing;
+use crate::order::Identified;
+use cds_object::Row;
+
+/// How many rows a page has at most.
+const PAGE_SIZE: usize = 256;
+
+impl Listing {
+    /// The id of the container that is being listed.
+    pub fn id(&self) -> u32
+        ensures { result ≡ listed_id (listing_in self.now) }
+    {
+        match self.waiting.first() {
+            Some(container) => container.id(),
+            None => 0,
+        }
+    }
+
+    /// How many children it has.
+    pub fn children(&self) -> u32
+        ensures { result ≡ listed_children (listing_in self.now) }
+    {
+        match self.waiting.first() {
+            Some(container) => container.children(),
+            None => 0,
+        }
+    }
+
+    /// How many of them were shown, which is where the next page starts.
+    pub fn start(&self) -> u32
+        ensures { result ≡ length self.now.part.items }
+    {
+        self.part.len() as u32
+    }
+
+    /// Whether a page goes on with the children of this container.
+    pub fn fits(&self, page: &[Row]) -> bool
+        ensures exact { result ≡ fits (listing_in self.now) page.now }
+        ensures short { IsTrue result → length self.now.part.items + length page.now < 2 ^ 32 }
+    {
+        are_children(page, self.id()) && self.are_new(page) && page.len() == self.next_page_len()
+    }
+
+    /// How many rows the next page has.
+    fn next_page_len(&self) -> usize
+        ensures exact { result ≡ min 256 (listed_children (listing_in self.now) - length self.now.part.items) }
+        ensures short { length self.now.part.items + result < 2 ^ 32 }
+    {
+        (self.children() as usize)
+            .saturating_sub(self.part.len())
+            .min(PAGE_SIZE)
+    }
+
+    /// Whether no row of a page was shown before.
+    fn are_new(&self, page: &[Row]) -> bool
+        ensures { result ≡ all_new (known_ids (listing_in self.now)) page.now }
+    {
+        for (at, row) in page.iter().enumerate() {
+            let (earlier, _) = page.split_at(at);
+            if self.was_shown(row.id(), earlier) {
+                return false;
+            }
+        }
+        true
+    }
+
+    /// Whether an id was shown before, also earlier in the page.
+    fn was_shown(&self, id: u32, earlier: &[Row]) -> bool
+        ensures { result ≡ was_shown id self.now.rows.items self.now.part.items earlier.now }
+    {
+        is_among(&self.rows, id) || is_among(&self.part, id) || is_among(earlier, id)
+    }
+}
+
+/// Whether one of these rows has this id.
+fn is_among(rows: &[Row], id: u32) -> bool
+    ensures { result ≡ list_any (has_id id) rows.now }
+{
+    rows.iter().any(|row| id == row.id())
+}
+
+/// Whether a row is that of a child of this object.
+fn is_child(row: &Row, parent: u32) -> bool
+    ensures { result ≡ is_child_of parent row.now }
+{
+    match row.parent {
+        Some(of) => of.0 == parent,
+        None => false,
+    }
+}
+
+/// Whether each row is that of a child of this object.
+fn are_children(rows: &[Row], parent: u32) -> bool
+    ensures { result ≡ list_all (is_child_of parent) rows.now }
+{
+    rows.iter().all(|row| is_child(row, parent))
+}

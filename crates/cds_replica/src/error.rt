@@ -1,0 +1,15 @@
+use thiserror::Error;
+
+/// Why a reply was not taken. The replica is as before then.
+#[derive(Debug, Drop, Error)]
+pub enum AnswerError {
+    /// The reply is of another kind than the ask, or not one row where an object's row was asked.
+    #[error("the reply does not answer what was asked")]
+    Unreadable,
+    /// What was shown of this object cannot be, though the server's number stayed.
+    #[error("what was shown of object {id} cannot be")]
+    Torn { id: u32 },
+    /// Memory ran out.
+    #[error("out of memory")]
+    Mem,
+}

@@ -1,0 +1,19 @@
+//! A replica of a server's catalog: the load that copies it, what is asked next and what is known (this project's
+//! profile, over UPnP ContentDirectory:4 on Browse and SystemUpdateID).
+#![tactic(auto)]
+
+mod checking;
+mod error;
+mod growing;
+mod listing;
+mod order;
+mod replica;
+mod stage;
+mod taking;
+
+pub use cds_model::{Ask, Read, Says, Shown};
+pub use error::AnswerError;
+pub use replica::Replica;
+
+#[cfg(test)]
+mod tests;

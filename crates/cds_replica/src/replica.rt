@@ -1,0 +1,85 @@
+ghost use Rattle.std.specs.Prelude.{◌≡◌, [], List, ◌∷◌, IsOk, IfOk, IsSome, option_copied, slice_get};
+ghost use Rattle.cds_model.specs.Replica.{next_ask, taken, says, copied, held_by, ReplicaTurn, Begins};
+ghost use Rattle.cds_replica.specs.Answer.{IsOutcome, UnlessMem, GoesOn, read_of};
+
+use crate::AnswerError;
+use crate::stage::Stage;
+use cds_base::Mem;
+use cds_model::{Ask, Read, Says, Shown};
+use cds_object::Row;
+use std::alloc::Global;
+use std::marker::Model;
+use std::mem;
+
+/// A copy of a server's catalog, or the load that is to give one. It stands for the replies that it took, though it
+/// keeps none of them.
+#[derive(Drop, Debug)]
+pub struct Replica {
+    stage: Stage,
+}
+
+impl Model for Replica {
+    ghost use Rattle.cds_model.specs.Replica.{Held};
+
+    ghost Value = { Held };
+
+    ghost use Rattle.cds_replica.specs.Holding.{held_in};
+
+    ghost view = { λ r. held_in r.stage };
+}
+
+impl Replica {
+    /// A replica without a copy, which takes no memory.
+    pub fn new() -> Replica
+        ensures { result ≡ held_by [] }
+    {
+        Replica { stage: Stage::Idle }
+    }
+
+    /// Drops the copy and begins a load.
+    pub fn begin_load(&mut self) -> Result<(), Mem>
+        ensures ok { IsOk result }
+        ensures begins { (turns : List ReplicaTurn) → self.old ≡ held_by turns → self.new ≡ held_by (Begins ∷ turns) }
+    {
+        self.stage = Stage::Begun;
+        Ok(())
+    }
+
+    /// The load's next read, `None` where no load runs.
+    pub fn next_ask(&self) -> Option<Ask>
+        ensures { result ≡ next_ask self.now }
+    {
+        self.stage.next_ask()
+    }
+
+    /// Takes the reply to the next ask, condition: there is one. A refusal leaves the replica as it was. `Unreadable`
+    /// comes where the reply is of another kind than the ask, or is not one row where an object's row was asked; `Torn`
+    /// where the row of the root is another's or no container's, or where the number stayed and the page before it was
+    /// refused or does not go on with the container's children.
+    pub fn take(&mut self, alloc: Global, shown: Shown) -> Result<Read, AnswerError>
+        requires { IsSome (next_ask self.old) }
+        ensures outcome { IsOutcome (taken self.old shown) self.old self.new result }
+        ensures read { IfOk result (λ read. read ≡ read_of shown) }
+        ensures goes_on { UnlessMem result (GoesOn self.old shown self.new) }
+    {
+        let stage = mem::replace(&mut self.stage, Stage::Idle);
+        let (stage, answer) = stage.take(alloc, shown);
+        self.stage = stage;
+        answer
+    }
+
+    /// What is known of the server's catalog.
+    pub fn says(&self) -> Says
+        ensures { result ≡ says self.now }
+    {
+        self.stage.says()
+    }
+
+    /// The row of the copy at a place counted from 0, in ascending order of ids; `None` past the end and where no copy
+    /// stands.
+    pub fn rows(&self, at: usize) -> Option<&Row>
+        ensures { option_copied result ≡ slice_get (copied self.now) at }
+    {
+        self.stage.copied().get(at)
+    }
+}
