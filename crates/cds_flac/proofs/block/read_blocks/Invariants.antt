@@ -1,0 +1,18 @@
+-- The definition's answer for what is left is that for all. More blocks may come than the limit lets in.
+use Rattle.std.proofs.Common.{◌≡◌, ℕ, ◌-◌, ◌+◌, ◌<◌, ◌≤◌, false, Some, List}
+use Rattle.cds_base.specs.Outside.{WhereTold}
+use Rattle.cds_flac.specs.Reading.{blocks_from, further_blocks}
+use Rattle.cds_flac.proofs.block.read_blocks.Given as goal
+
+abbrev pub invariant-loop-found : goal.invariant-loop-found
+invariant-loop-found g l =
+    (l.place ≤ 67108868)
+    × WhereTold (g.S.Source.left l.initial.source) (λ bytes.
+    (fewer : ℕ) × (rest : List ℕ)
+    × (g.S.Source.left l.source ≡ Some rest)
+    × (67108868 < fewer + l.place)
+    × (further_blocks false 42 bytes ≡ blocks_from fewer l.found l.place rest))
+    × (g.S.Source.faults l.initial.source ≤ g.S.Source.faults l.source)
+
+abbrev pub decreases-loop-found : goal.decreases-loop-found
+decreases-loop-found g l = 67108868 - l.place

@@ -1,0 +1,18 @@
+-- The comments so far, and the definition's of what is left behind them, are the definition's of all.
+use Rattle.std.proofs.Common.{◌≡◌, ◌+◌, ◌≤◌, Some, List, ℕ}
+use Rattle.cds_base.specs.Outside.{WhereTold}
+use Rattle.cds_flac.specs.Reading.{comments_from, field_after}
+use Rattle.cds_flac.proofs.Fronts.{with_front}
+use Rattle.cds_flac.proofs.comments.read_comments.Given as goal
+
+abbrev pub invariant-loop-more : goal.invariant-loop-more
+invariant-loop-more g l =
+    (l.place + field_after l.more ≤ l.end)
+    × WhereTold (g.S.Source.left l.initial.source) (λ bytes.
+    (rest : List ℕ)
+    × (g.S.Source.left l.source ≡ Some rest)
+    × (comments_from l.count l.at l.end bytes ≡ with_front l.comments (comments_from l.more l.place l.end rest)))
+    × (g.S.Source.faults l.initial.source ≤ g.S.Source.faults l.source)
+
+abbrev pub decreases-loop-more : goal.decreases-loop-more
+decreases-loop-more g l = l.more

@@ -1,0 +1,36 @@
+-- What a reading call answers, beside the definition over the bytes that its source had left.
+use Rattle.std.specs.Prelude.{◌≡◌, ℕ, ⊤, Option, Some, Result, Ok, Err, List}
+use Rattle.cds_base.specs.Outside.{Rose}
+use Rattle.cds_flac.specs.declared.error.FlacError.{FlacError}
+use Rattle.cds_flac.specs.declared.error.FlacError.TheVariants.{ReadFault, Mem}
+use Rattle.cds_flac.specs.Step.{Step}
+
+-- The refusal is the definition's, but for a failed read and want of memory, which no bytes decide.
+abbrev pub Judged : {A : Type 0} → Step A → FlacError → Type 0
+Judged step ReadFault = ⊤
+Judged step Mem = ⊤
+Judged step refusal = step ≡ Err refusal
+
+-- The step gives this value, and the source has left what the step leaves.
+abbrev pub Gives : {A : Type 0} → Step A → A → Option (List ℕ) → Type 0
+Gives step value left = (rest : List ℕ) × (step ≡ Ok (value, rest)) × (left ≡ Some rest)
+
+-- The result is the step's.
+abbrev pub Agrees : {A : Type 0} → Step A → Result A FlacError → Option (List ℕ) → Type 0
+Agrees step (Ok value) left = Gives step value left
+Agrees step (Err refusal) left = Judged step refusal
+
+-- The same, where the value stands elsewhere than in the result.
+abbrev pub Fills : {A B : Type 0} → Step A → A → Result B FlacError → Option (List ℕ) → Type 0
+Fills step value (Ok done) left = Gives step value left
+Fills step value (Err refusal) left = Judged step refusal
+
+-- The same, where nobody keeps the value.
+abbrev pub Passes : {A B : Type 0} → Step A → Result B FlacError → Option (List ℕ) → Type 0
+Passes {A} step (Ok done) left = (value : A) × Gives step value left
+Passes step (Err refusal) left = Judged step refusal
+
+-- A failed read is answered only where the source's count of faults rose.
+abbrev pub FaultRose : {A : Type 0} → Result A FlacError → ℕ → ℕ → Type 0
+FaultRose (Err ReadFault) old new = Rose old new
+FaultRose other old new = ⊤

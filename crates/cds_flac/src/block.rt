@@ -1,0 +1,134 @@
+ghost use Rattle.std.specs.Prelude.{◌≡◌, ◌==◌, ◌+◌, ◌%◌, ◌<◌, ◌≤◌, ◌^◌, nat_le, false, IfOk};
+ghost use Rattle.cds_base.specs.Outside.{WhereTold};
+ghost use Rattle.cds_flac.specs.Agree.{Agrees, FaultRose};
+ghost use Rattle.cds_flac.specs.Reading.{header_at, block_body, further_blocks, is_first_comment, is_last, kind_of};
+
+use crate::comments::read_comment_block;
+use crate::input::{pass_over, read_byte, read_length};
+use crate::{Comments, FlacError};
+use cds_base::Source;
+use std::alloc::Global;
+
+/// The most bytes that the blocks may take, with their headers and without the marker.
+const METADATA_LIMIT: usize = 67_108_864;
+
+/// The type that a file may not have (RFC 9639 on metadata block types).
+const FORBIDDEN: u8 = 127;
+
+/// Where the second block begins: behind the marker and STREAMINFO with its header.
+const SECOND_BLOCK: usize = 42;
+
+/// A metadata block's header.
+#[derive(Clone, Copy, Debug)]
+pub struct Header {
+    /// Whether the block is the last.
+    pub last: bool,
+    /// The block's type.
+    pub kind: u8,
+    /// The length of the block's body in bytes.
+    pub length: usize,
+}
+
+/// Whether a block whose header begins with this byte is the last.
+pub fn is_last_head(head: u8) -> bool
+    ensures { result ≡ is_last head }
+{
+    head >= 0x80
+}
+
+/// The type of a block whose header begins with this byte.
+pub fn kind_of_head(head: u8) -> u8
+    ensures value { result ≡ kind_of head }
+    ensures small { result < 128 }
+{
+    head % 0x80
+}
+
+/// The comments of the blocks behind STREAMINFO, of which there are none where that was the last.
+pub fn read_further_blocks<S: Source>(
+    alloc: Global,
+    source: &mut S,
+    last: bool,
+) -> Result<Option<Comments>, FlacError>
+    ensures told { WhereTold (S.left source.old) (λ bytes. Agrees (further_blocks last 42 bytes) result (S.left source.new)) }
+    ensures fault { FaultRose result (S.faults source.old) (S.faults source.new) }
+    ensures never_falls { S.faults source.old ≤ S.faults source.new }
+{
+    if last {
+        return Ok(None);
+    }
+    let found = read_blocks(alloc, source)?;
+    Ok(found)
+}
+
+/// The comments of the blocks behind STREAMINFO, to the end of the last one.
+fn read_blocks<S: Source>(alloc: Global, source: &mut S) -> Result<Option<Comments>, FlacError>
+    ensures told { WhereTold (S.left source.old) (λ bytes. Agrees (further_blocks false 42 bytes) result (S.left source.new)) }
+    ensures fault { FaultRose result (S.faults source.old) (S.faults source.new) }
+    ensures never_falls { S.faults source.old ≤ S.faults source.new }
+{
+    let mut found = None;
+    let mut place = SECOND_BLOCK;
+    loop {
+        let header = read_header(source, place)?;
+        found = read_body(alloc, source, header.kind, found, place + 4, header.length)?;
+        if header.last {
+            return Ok(found);
+        }
+        place += 4 + header.length;
+    }
+}
+
+/// The header of the block at `at`.
+fn read_header<S: Source>(source: &mut S, at: usize) -> Result<Header, FlacError>
+    requires { at < 2 ^ 32 }
+    ensures told { WhereTold (S.left source.old) (λ bytes. Agrees (header_at at bytes) result (S.left source.new)) }
+    ensures within { IfOk result (λ header. at + header.length ≤ 67108864) }
+    ensures fault { FaultRose result (S.faults source.old) (S.faults source.new) }
+    ensures never_falls { S.faults source.old ≤ S.faults source.new }
+{
+    let head = read_byte(source, at)?;
+    let kind = kind_of_head(head);
+    if kind == FORBIDDEN {
+        return Err(FlacError::Forbidden { at });
+    }
+    let length = read_length(source, at + 1)?;
+    if METADATA_LIMIT < at + length {
+        return Err(FlacError::TooLong);
+    }
+    Ok(Header {
+        last: is_last_head(head),
+        kind,
+        length,
+    })
+}
+
+/// The body of a block: the first VORBIS_COMMENT block is read, everything else is passed over.
+fn read_body<S: Source>(
+    alloc: Global,
+    source: &mut S,
+    kind: u8,
+    found: Option<Comments>,
+    at: usize,
+    length: usize,
+) -> Result<Option<Comments>, FlacError>
+    requires { at + length < 2 ^ 32 }
+    ensures told { WhereTold (S.left source.old) (λ bytes. Agrees (block_body kind found at length bytes) result (S.left source.new)) }
+    ensures fault { FaultRose result (S.faults source.old) (S.faults source.new) }
+    ensures never_falls { S.faults source.old ≤ S.faults source.new }
+{
+    if counts(kind, &found) {
+        let comments = read_comment_block(alloc, source, at, at + length)?;
+        Ok(Some(comments))
+    } else {
+        pass_over(source, at, length)?;
+        Ok(found)
+    }
+}
+
+/// Whether a block of this type is the first VORBIS_COMMENT block.
+fn counts(kind: u8, found: &Option<Comments>) -> bool
+    ensures { result ≡ is_first_comment kind found.now }
+{
+    kind == 4 && found.is_none()
+}

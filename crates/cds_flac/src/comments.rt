@@ -1,0 +1,183 @@
+ghost use Rattle.std.specs.Prelude.{◌≡◌, ◌==◌, position, ◌+◌, ◌<◌, ◌≤◌, ◌^◌, length, IfOk};
+ghost use Rattle.std.specs.Str.{is_utf8};
+ghost use Rattle.std.specs.List.{list_all};
+ghost use Rattle.cds_base.specs.Outside.{WhereTold};
+ghost use Rattle.cds_flac.specs.Agree.{Agrees, FaultRose};
+ghost use Rattle.cds_flac.specs.Comment.{comment_of, is_name, is_name_byte, named};
+ghost use Rattle.cds_flac.specs.Reading.{comment_block, counted_comments, comments_from, field_after, text_at};
+
+use crate::input::{pass_over, read_count, read_text};
+use crate::{Comment, Comments, FlacError};
+use cds_base::{Bytes, Mem, Source, Text};
+use std::alloc::Global;
+
+/// The comments of a VORBIS_COMMENT block's body, from its place to its end.
+pub fn read_comment_block<S: Source>(
+    alloc: Global,
+    source: &mut S,
+    at: usize,
+    end: usize,
+) -> Result<Comments, FlacError>
+    requires in_block { at ≤ end }
+    requires near { end < 2 ^ 32 }
+    ensures told { WhereTold (S.left source.old) (λ bytes. Agrees (comment_block at end bytes) result (S.left source.new)) }
+    ensures fault { FaultRose result (S.faults source.old) (S.faults source.new) }
+    ensures never_falls { S.faults source.old ≤ S.faults source.new }
+{
+    if end < at + 4 {
+        return Err(FlacError::BadComment { at });
+    }
+    let vendor = read_text_at(alloc, source, at, end, 4)?;
+    if !is_text(vendor.as_slice()) {
+        return Err(FlacError::BadComment { at });
+    }
+    let comments = read_counted(alloc, source, at + 4 + vendor.len(), end)?;
+    Ok(comments)
+}
+
+/// The comments whose count stands at `at`, and what is left over in the block.
+fn read_counted<S: Source>(
+    alloc: Global,
+    source: &mut S,
+    at: usize,
+    end: usize,
+) -> Result<Comments, FlacError>
+    requires in_block { at + 4 ≤ end }
+    requires near { end < 2 ^ 32 }
+    ensures told { WhereTold (S.left source.old) (λ bytes. Agrees (counted_comments at end bytes) result (S.left source.new)) }
+    ensures fault { FaultRose result (S.faults source.old) (S.faults source.new) }
+    ensures never_falls { S.faults source.old ≤ S.faults source.new }
+{
+    let count = read_count(source, at)?;
+    if end < at + 4 + next_field(count) {
+        return Err(FlacError::BadComment { at: at + 4 });
+    }
+    let comments = read_comments(alloc, source, count, at + 4, end)?;
+    Ok(comments)
+}
+
+/// So many comments from `at` on, and what is left over in the block.
+fn read_comments<S: Source>(
+    alloc: Global,
+    source: &mut S,
+    count: usize,
+    at: usize,
+    end: usize,
+) -> Result<Comments, FlacError>
+    requires in_block { at + field_after count ≤ end }
+    requires near { end < 2 ^ 32 }
+    ensures told { WhereTold (S.left source.old) (λ bytes. Agrees (comments_from count at end bytes) result (S.left source.new)) }
+    ensures fault { FaultRose result (S.faults source.old) (S.faults source.new) }
+    ensures never_falls { S.faults source.old ≤ S.faults source.new }
+{
+    let mut comments = Comments::new(alloc);
+    let mut place = at;
+    let mut more = count;
+    while more > 0 {
+        more -= 1;
+        let text = read_text_at(alloc, source, place, end, next_field(more))?;
+        match split_comment(alloc, text.as_slice())? {
+            Some(comment) => comments.push(comment)?,
+            None => return Err(FlacError::BadComment { at: place }),
+        }
+        place += 4 + text.len();
+    }
+    pass_over(source, place, end - place)?;
+    Ok(comments)
+}
+
+/// How many bytes the next length field takes, where so many texts are to come.
+fn next_field(more: usize) -> usize
+    ensures { result ≡ field_after more }
+{
+    if more == 0 { 0 } else { 4 }
+}
+
+/// The text whose length stands at `at`, in a block that ends at `end` and has a field of `field` bytes right after
+/// the text.
+fn read_text_at<S: Source>(
+    alloc: Global,
+    source: &mut S,
+    at: usize,
+    end: usize,
+    field: usize,
+) -> Result<Bytes, FlacError>
+    requires in_block { at + 4 ≤ end }
+    requires near { end < 2 ^ 32 }
+    requires small { field ≤ 4 }
+    ensures told { WhereTold (S.left source.old) (λ bytes. Agrees (text_at at end field bytes) result (S.left source.new)) }
+    ensures in_block { IfOk result (λ text. at + 4 + length text + field ≤ end) }
+    ensures fault { FaultRose result (S.faults source.old) (S.faults source.new) }
+    ensures never_falls { S.faults source.old ≤ S.faults source.new }
+{
+    let n = read_count(source, at)?;
+    if end < at + 4 + n {
+        return Err(FlacError::BadComment { at });
+    }
+    if end < at + 4 + n + field {
+        return Err(FlacError::BadComment { at: at + 4 + n });
+    }
+    let text = read_text(alloc, source, at + 4, n)?;
+    Ok(text)
+}
+
+/// Whether the bytes are UTF-8.
+fn is_text(bytes: &[u8]) -> bool
+    ensures { result ≡ is_utf8 bytes.now }
+{
+    std::str::from_utf8(bytes).is_ok()
+}
+
+/// The comment that the text is, `None` where it is out of form.
+#[tactic(auto, unfolding(crate::specs::Comment::comment_of))]
+fn split_comment(alloc: Global, text: &[u8]) -> Result<Option<Comment>, Mem>
+    ensures { IfOk result (λ comment. comment ≡ comment_of text.now) }
+{
+    match equals_sign(text) {
+        Some(equals) => {
+            let (name, _) = text.split_at(equals);
+            let (_, value) = text.split_at(equals + 1);
+            let comment = make_comment(alloc, name, value)?;
+            Ok(comment)
+        }
+        None => Ok(None),
+    }
+}
+
+/// The place of the first equals sign.
+fn equals_sign(text: &[u8]) -> Option<usize>
+    ensures { result ≡ position (λ b. b == 61) text.now }
+{
+    text.iter().position(|b| *b == b'=')
+}
+
+fn make_comment(alloc: Global, name: &[u8], value: &[u8]) -> Result<Option<Comment>, Mem>
+    ensures { IfOk result (λ comment. comment ≡ named name.now value.now) }
+{
+    if !is_comment_name(name) {
+        return Ok(None);
+    }
+    let Ok(value) = std::str::from_utf8(value) else {
+        return Ok(None);
+    };
+    let Ok(name) = std::str::from_utf8(name) else {
+        return Ok(None);
+    };
+    let name = Text::read(alloc, name)?;
+    let value = Text::read(alloc, value)?;
+    Ok(Some(Comment { name, value }))
+}
+
+/// Whether there is at least one byte and all are printable ASCII.
+fn is_comment_name(name: &[u8]) -> bool
+    ensures { result ≡ is_name name.now }
+{
+    !name.is_empty() && is_printable(name)
+}
+
+/// Whether all bytes are printable ASCII.
+fn is_printable(name: &[u8]) -> bool
+    ensures { result ≡ list_all is_name_byte name.now }
+{
+    name.iter().all(|b| *b >= 0x20 && *b <= 0x7E)
+}
