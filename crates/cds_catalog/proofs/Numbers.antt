@@ -1,11 +1,12 @@
 -- Numbers of a history: equal numbers have equal folder maps and catalogs, and equal maps no change between them.
 use Rattle.std.proofs.Common.{◌≡◌, ℕ, ◌+◌, ◌≤◌, true, false, cond, List, [], ◌∷◌, ◌++◌, map, reverse, length, Option, Some, None, refl, sym, ap, ◌∙◌, append_assoc, length-append, arith, nat_le, leb-true, le-leb, le_refl}
-use Rattle.std.specs.List.{AllByRecursion, filter_map, cons_option}
+use Rattle.std.specs.List.{AllByRecursion, filter_map, cons_option, count_by}
 use Rattle.std.proofs.lemmas.Bool.{cond-true}
 use Rattle.cds_object.specs.Object.{ObjectRow}
 use Rattle.cds_catalog.specs.Library.{FolderMap, content_at, departure, arrival, found}
 use Rattle.cds_catalog.specs.Laws.{IsLibrary, AreLibraries}
-use Rattle.cds_catalog.specs.History.{latest, changes_of, end_of}
+use Rattle.cds_catalog.specs.History.{History, latest, changes_of, end_of, with_scan, is_addition}
+use Rattle.cds_catalog.specs.Steps.{Standing, standing_of}
 use Rattle.cds_catalog.specs.Catalog.{row_at, in_order, root_entry, catalog, catalog_at}
 use Rattle.cds_catalog.specs.Replay.{stands}
 use Rattle.cds_catalog.specs.declared.change.Change.{Change}
@@ -93,6 +94,21 @@ pub equal_ends_equal_catalogs : (first : ℕ) (newer older : List FolderMap) →
     catalog (record { first = first; maps = newer ++ older }) ≡ catalog (record { first = first; maps = older })
 equal_ends_equal_catalogs first newer older all ends =
     λ i. catalog_from first (equal_ends_equal_changes first newer older ends i) (equal_ends_equal_maps first newer older all ends i)
+
+-- what stands depends on the first number, the changes and the newest map alone
+abbrev standing_from : ℕ → List Change → FolderMap → Standing
+standing_from first changes library = record {
+  number = first + length changes;
+  drawn = count_by is_addition changes;
+  rows = in_order (map (λ entry. (entry.0, row_at first changes library entry)) (root_entry ∷ library));
+}
+
+-- a scan that finds what the last one found leaves what stands
+pub same_scan_keeps : (history : History) → AreLibraries history.maps →
+    standing_of (with_scan history (latest history.maps)) ≡ standing_of history
+same_scan_keeps history all =
+    let none = same_map_no_change (latest history.maps) (latest_is_library history.maps all) in
+    λ i. standing_from history.first (none i ++ changes_of history.maps) (latest history.maps)
 
 -- at the end of the last scan stands the catalog after it
 catalog_at_own_end : (first : ℕ) (maps : List FolderMap) →

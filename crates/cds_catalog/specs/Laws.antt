@@ -52,11 +52,11 @@ steps_lead_to_the_catalog = (history : History) (library : FolderMap) → AreLib
 abbrev pub catalogs_are_trees : Type 0
 catalogs_are_trees = (history : History) → AreLibraries history.maps → IsTree (catalog history)
 
--- scans between two equal numbers changed nothing: the folder maps are equal, and so is the catalog
+-- between two equal numbers no change lies: the changes are the same, and so are the folder map and the catalog
 abbrev pub equal_numbers_have_equal_catalogs : Type 0
 equal_numbers_have_equal_catalogs = (first : ℕ) (newer older : List FolderMap) → AreLibraries (newer ++ older) →
     end_of (record { first = first; maps = newer ++ older }) ≡ end_of (record { first = first; maps = older }) →
-    (latest (newer ++ older) ≡ latest older)
+    (changes_of (newer ++ older) ≡ changes_of older) × (latest (newer ++ older) ≡ latest older)
     × (catalog (record { first = first; maps = newer ++ older }) ≡ catalog (record { first = first; maps = older }))
 
 -- the catalog at a scan end is that of each history that ended there
@@ -64,9 +64,12 @@ abbrev pub catalog_at_a_scan_end : Type 0
 catalog_at_a_scan_end = (first : ℕ) (newer older : List FolderMap) → AreLibraries (newer ++ older) →
     catalog_at first (newer ++ older) (end_of (record { first = first; maps = older })) ≡ catalog (record { first = first; maps = older })
 
--- a scan that finds what the last one found makes no change
+-- a scan that finds what the last one found makes no change, and keeps the number, the ids drawn and all rows
 abbrev pub equal_libraries_make_no_change : Type 0
-equal_libraries_make_no_change = (library : FolderMap) → IsLibrary library → found library library ≡ []
+equal_libraries_make_no_change =
+    ((library : FolderMap) → IsLibrary library → found library library ≡ [])
+    × ((history : History) → AreLibraries history.maps →
+    standing_of (with_scan history (latest history.maps)) ≡ standing_of history)
 
 -- no number of a row is above the number that stands, and no id above the ids that were drawn
 pub record IsWithin (standing : Standing) (row : ObjectRow) : Type 0 where

@@ -12,8 +12,8 @@ abbrev pub is_container : List Record → List (List ℕ) → Bool
 is_container records [] = true
 is_container records (name ∷ names) = list_any (λ r. same_path (name ∷ names) r.path && is_folder r.content) records
 
--- whether a record cannot stand: nothing holds its place, or its place came before; what stands at the root's place,
--- which no path of a record is, cannot either
+-- whether a record cannot stand: nothing holds its place, or its place came before; nor can one at the root's own place,
+-- which no path that was read names
 abbrev pub is_bad : List Record → List Record → Record → Bool
 is_bad records before r =
     same_path r.path [] || not (is_container records (parent_of r.path)) || list_any (λ other. same_path r.path other.path) before

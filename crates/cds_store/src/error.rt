@@ -7,7 +7,8 @@ use thiserror::Error;
 /// Why a scan was refused.
 #[derive(Debug, Drop, Error)]
 pub enum ApplyError {
-    /// The first record that cannot stand, counted from 1: nothing holds it, or its place came before.
+    /// The first record that cannot stand, counted from 1: no folder holds it, its place came
+    /// before, or it is the root's own.
     #[error("record {line} cannot stand where it says")]
     BadRecords { line: u32 },
     /// How many objects were found, where they are more than 65,535.
