@@ -1,0 +1,80 @@
+#!/usr/bin/env bash
+# Ratios measured in one run, by hand and not by the gate:
+# - the time of a 20 MB script of comments against `wc -l` on it (goal: at most 10 times);
+# - user time and peak memory of one scan, a full load and an ask for 500, 1,000, 2,000 and 4,000 tracks in folders of 10
+#   (goal per doubling: at most 4.5 times in time and 2.1 in memory, and below 2 s at 4,000);
+# - peak memory after 40 scans of the same 2,000 tracks against one (goal: at most 1.2 times);
+# - peak memory of 20 loads against one (goal: at most 1.2 times).
+# Needs bash, python3 and GNU time (/usr/bin/time) or python3 alone.
+set -eu
+top=$(cd "$(dirname "$0")/.." && pwd)
+program=$top/crates/cds_cli/out/cds_cli
+work=$(mktemp -d)
+trap 'rm -rf "$work"' EXIT
+
+python3 - "$work" <<'PY'
+import sys
+work = sys.argv[1]
+
+def tracks(count):
+    lines = []
+    for folder in range(count // 10):
+        lines.append(f"folder f{folder}")
+        for track in range(10):
+            lines.append(f"track f{folder}/t{track}.flac {1000 + track} 44100 2 16 441000")
+    return lines
+
+def reads(count):
+    return 4 + 2 * (-(-(count // 10) // 256) + count // 10)
+
+def write(name, lines):
+    with open(f"{work}/{name}", "w") as file:
+        file.write("\n".join(lines) + "\n")
+
+with open(f"{work}/comments", "w") as file:
+    line = "#" + "x" * 62 + "\n"
+    file.write(line * (20_000_000 // len(line)))
+for count in (500, 1000, 2000, 4000):
+    write(f"load{count}", tracks(count) + ["scan", "load"] + ["read"] * reads(count) + ["ask"])
+write("scans1", tracks(2000) + ["scan"])
+write("scans40", (tracks(2000) + ["scan"]) * 40)
+write("loads1", tracks(2000) + ["scan"] + ["load"] + ["read"] * reads(2000) + ["ask"])
+write("loads20", tracks(2000) + ["scan"] + (["load"] + ["read"] * reads(2000)) * 20 + ["ask"])
+PY
+
+python3 - "$work" "$program" <<'PY'
+import os, resource, subprocess, sys, time
+work, program = sys.argv[1:]
+
+def measured(command, name):
+    best = None
+    for _ in range(3):
+        started = time.perf_counter()
+        pid = os.fork()
+        if pid == 0:
+            source = os.open(f"{work}/{name}", os.O_RDONLY)
+            sink = os.open(os.devnull, os.O_WRONLY)
+            os.dup2(source, 0)
+            os.dup2(sink, 1)
+            os.execvp(command[0], command)
+        _, status, usage = os.wait4(pid, 0)
+        wall = time.perf_counter() - started
+        if status != 0:
+            sys.exit(f"{name} ended with {status}")
+        figures = (wall, usage.ru_utime, usage.ru_maxrss / 1024)
+        best = figures if best is None else tuple(map(min, best, figures))
+    return best
+
+play = [program, "replay"]
+comments, lines = measured(play, "comments"), measured(["wc", "-l"], "comments")
+print(f"20 MB of comments: {comments[0] * 1000:.0f} ms, wc -l {lines[0] * 1000:.0f} ms, {comments[0] / lines[0]:.1f} times")
+before = None
+for count in (500, 1000, 2000, 4000):
+    now = measured(play, f"load{count}")
+    grown = "" if before is None else f", {now[1] / before[1]:.2f} times in time and {now[2] / before[2]:.2f} in memory"
+    print(f"{count} tracks: {now[1] * 1000:.0f} ms, {now[2]:.1f} MB{grown}")
+    before = now
+for many, one in (("scans40", "scans1"), ("loads20", "loads1")):
+    a, b = measured(play, many), measured(play, one)
+    print(f"{many} against {one}: {a[2]:.1f} MB and {b[2]:.1f} MB, {a[2] / b[2]:.2f} times")
+PY
