@@ -1,5 +1,5 @@
 -- What a store shows: its rows are a tree, so the ids of children lead back to their rows.
-use Rattle.std.proofs.Common.{◌≡◌, ℕ, List, [], ◌∷◌, length, take, drop, map, Bool, true, false, cond, refl, ap, sym, subst, ◌∙◌, Option, Some, None}
+use Rattle.std.proofs.Common.{◌≡◌, ℕ, List, [], ◌∷◌, length, take, drop, map, true, cond, refl, ap, sym, subst, ◌∙◌, Some}
 use Rattle.std.specs.List.{AllByRecursion, filter_map, cons_option}
 use Rattle.cds_object.specs.Object.{ObjectRow, is_folder}
 use Rattle.cds_object.specs.Tree.{row_of, is_child_of, children_of, IsTree}
@@ -8,7 +8,6 @@ use Rattle.cds_catalog.proofs.StepsTree.{catalogs_are_trees-proof}
 use Rattle.cds_store.specs.Rows.{rows_of}
 use Rattle.cds_store.specs.Stands.{IsStore}
 use Rattle.cds_model.specs.Server.{Moment, page_size, update_of, children_reply}
-use Rattle.cds_model.specs.declared.exchange.Shown.{Shown}
 use Rattle.cds_model.specs.declared.exchange.Shown.TheVariants.{Page, Fault}
 use Rattle.cds_model.proofs.Merge.{filter-all}
 use Rattle.cds_model.proofs.Pages.{take-all, drop-all}
@@ -42,5 +41,5 @@ pub page-replied : (moment : Moment) (start : ℕ) (row : ObjectRow) (rows : Lis
 page-replied moment start row rows total update holds r t u =
     (λ i. Page (r i) (t i) (u i))
     ∙ sym (ap (λ b. cond b
-        (Page (take page_size (drop start (children_of row.id moment.rows))) (length (children_of row.id moment.rows)) (update_of moment row))
-        (Fault 710)) holds)
+    (Page (take page_size (drop start (children_of row.id moment.rows))) (length (children_of row.id moment.rows)) (update_of moment row))
+    (Fault 710)) holds)

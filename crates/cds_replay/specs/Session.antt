@@ -1,5 +1,5 @@
 -- What a session of a script has, and for which turns it stands.
-use Rattle.std.specs.Prelude.{◌≡◌, ℕ, List, [], ◌∷◌, ◌++◌}
+use Rattle.std.specs.Prelude.{◌≡◌, List, [], ◌∷◌, ◌++◌}
 use Rattle.cds_object.specs.declared.record.Record.{Record}
 use Rattle.cds_catalog.specs.Steps.{Standing}
 use Rattle.cds_store.specs.Rows.{rows_of}

@@ -1,7 +1,7 @@
-use Rattle.std.proofs.Common.{◌≡◌, ◌++◌, sym, ap, ◌∙◌, string_bytes}
+use Rattle.std.proofs.Common.{◌++◌, sym, ap, ◌∙◌, string_bytes}
 use Rattle.std.proofs.lemmas.Result.{on_ok_weaker}
 use Rattle.cds_model.specs.Report.{written_by}
-use Rattle.cds_replay.proofs.Turns.{known-written}
+use Rattle.cds_replay.proofs.Known.{known-written}
 use Rattle.cds_replay.proofs.session.Session.answer.Goals as goal
 
 pub returns-in-Ask-clause-written : goal.returns-in-Ask-clause-written
