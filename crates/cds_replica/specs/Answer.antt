@@ -1,5 +1,5 @@
 -- What a replica answers to a reply.
-use Rattle.std.specs.Prelude.{◌≡◌, ℕ, List, [], ◌∷◌, Option, Some, None, Result, Ok, Err}
+use Rattle.std.specs.Prelude.{◌≡◌, List, [], ◌∷◌, Option, Some, None, Result, Ok, Err}
 use Rattle.cds_model.specs.Replica.{Held, Taken, Holds, Unreadable as CannotBeRead, Torn as CannotBe, ReplicaTurn, Shows, held_by}
 use Rattle.cds_model.specs.declared.exchange.Shown.{Shown}
 use Rattle.cds_model.specs.declared.exchange.Shown.TheVariants.{Text, Number, Page, Fault}

@@ -1,4 +1,4 @@
-use Rattle.std.proofs.Common.{◌≡◌, ◌++◌, take, drop}
+use Rattle.std.proofs.Common.{◌≡◌, take, drop}
 use Rattle.cds_model.specs.Replica.{all_new, known_ids}
 use Rattle.cds_replica.specs.Holding.{listing_in}
 use Rattle.cds_replica.proofs.Pages.{ids_after}
