@@ -4,6 +4,8 @@
 mod command;
 mod run;
 mod streams;
+#[cfg(test)]
+mod tests;
 
 use cds_base::{Mem, Text, Words};
 use run::run;
