@@ -2,5 +2,9 @@
 #![tactic(auto)]
 
 mod fragment;
+mod play;
 mod put;
+mod script;
 mod session;
+
+pub use play::{ReplayError, replay};
