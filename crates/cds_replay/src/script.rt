@@ -87,7 +87,8 @@ impl Script {
     /// Answers the last line, where it has no LF.
     pub fn finish(&mut self, alloc: Global, out: &mut String) -> Result<Option<Stop>, Mem>
         requires { Sound self.old }
-        ensures { (ending : List ℕ → Ending) → GoesOn self.old ending → IfOk result (λ stop. Finished stop (ending []) (string_bytes out.old) (string_bytes out.new)) }
+        ensures meaning { (ending : List ℕ → Ending) → GoesOn self.old ending → IfOk result (λ stop. Finished stop (ending []) (string_bytes out.old) (string_bytes out.new)) }
+        ensures no_limit { IfOk result (λ stop. AtLimit stop ⊥) }
     {
         if self.partial.is_empty() {
             Ok(None)
@@ -172,7 +173,7 @@ fn answer_line(session: &mut Session, alloc: Global, line: &[u8], number: u32, o
     requires { length session.old.records + 1 < 2 ^ 32 }
     ensures meaning { (turns : List Turn) → IsAfter session.old turns → IfOk result (λ stop. LineRead stop turns (meaning_of line.now) number (string_bytes out.old) (string_bytes out.new) session.new) }
     ensures few { OnOk result (length session.new.records ≤ length session.old.records + 1) }
-    ensures outside { IfOk result (λ stop. AtLimit stop ⊥) }
+    ensures no_limit { IfOk result (λ stop. AtLimit stop ⊥) }
 {
     match read_line(alloc, line)? {
         Meaning::Nothing => Ok(None),

@@ -7,8 +7,8 @@ use Rattle.cds_replay.specs.Script.{left_in, Sound}
 use Rattle.cds_replay.specs.Replay.{Under}
 use Rattle.cds_replay.proofs.play.replay.Given as goal
 
-abbrev pub invariant-loop-script : goal.invariant-loop-script
-invariant-loop-script g l =
+abbrev pub invariant-loop-buffer : goal.invariant-loop-buffer
+invariant-loop-buffer g l =
     Sound l.script
     × (0 < length l.buffer.items)
     × (g.S.Source.moved l.source ≡ raised (g.S.Source.moved l.initial.source) (script_limit - left_in l.script))
@@ -17,5 +17,5 @@ invariant-loop-script g l =
     × (g.S.Source.faults l.initial.source ≤ g.S.Source.faults l.source)
     × (g.K.Sink.faults l.initial.sink ≤ g.K.Sink.faults l.sink)
 
-abbrev pub decreases-loop-script : goal.decreases-loop-script
-decreases-loop-script g l = left_in l.script
+abbrev pub decreases-loop-buffer : goal.decreases-loop-buffer
+decreases-loop-buffer g l = left_in l.script

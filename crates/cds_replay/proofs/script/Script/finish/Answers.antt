@@ -7,8 +7,8 @@ use Rattle.cds_replay.specs.Script.{LineRead}
 use Rattle.cds_replay.proofs.Scripts.{last-ends}
 use Rattle.cds_replay.proofs.script.Script.finish.Goals as goal
 
-pub returns-else-is_empty : goal.returns-else-is_empty
-returns-else-is_empty c = λ ending goes.
+pub returns-else-is_empty-clause-meaning : goal.returns-else-is_empty-clause-meaning
+returns-else-is_empty-clause-meaning c = λ ending goes.
     let script = c.args.self.now in
     let line : c.as_slice.result.now ≡ script.partial.items = c.as_slice.ensures.value ∙ ap (λ v. v.items) c.replace-line.ensures.value in
     let some : length script.partial.items ≡ 0 → ⊥ = λ none.
