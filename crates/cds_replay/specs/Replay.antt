@@ -53,6 +53,11 @@ pub record Played (ending : List ℕ → Ending) (piece : List ℕ) (before afte
   pub held : Holds before added after
   pub first : (more : List ℕ) → ending (piece ++ more) ≡ written_first added (later more)
 
+-- a script ends well, and all that it writes is in the sink
+pub record EndsIn (ending : Ending) (before after : Option (List ℕ)) : Type 0 where
+  pub status : ending.status ≡ 0
+  pub held : Holds before ending.text after
+
 -- a script ends with a stop, and all that it writes is in the sink
 pub record StopsIn (ending : Ending) (stop : Stop) (before after : Option (List ℕ)) : Type 0 where
   pub status : ending.status ≡ stop_status stop

@@ -1,11 +1,11 @@
 //! A script from a source, and its report into a sink.
 
-ghost use Rattle.std.specs.Prelude.{◌≡◌, ℕ, ◌+◌, ◌<◌, ◌≤◌, ◌++◌, ◌⊎◌, [], List, Option, Some, length, take, drop, IfOk, IfErr, OnOk, OnErr};
+ghost use Rattle.std.specs.Prelude.{◌≡◌, ℕ, ◌+◌, ◌-◌, ◌<◌, ◌≤◌, ◌++◌, ◌⊎◌, [], List, Option, Some, length, take, drop, IfOk, IfErr, OnOk, OnErr};
 ghost use Rattle.cds_base.specs.Outside.{raised, Rose, WhereTold};
 ghost use Rattle.cds_model.specs.Script.{line_limit, script_limit};
 ghost use Rattle.cds_model.specs.Report.{Ending, outside_ending, script_ending};
 ghost use Rattle.cds_replay.specs.Script.{left_in, Sound, GoesOn};
-ghost use Rattle.cds_replay.specs.Replay.{OnLine, OnLimit, OnReadFault, OnWriteFault, Holds, Played, Stopped, answer_of};
+ghost use Rattle.cds_replay.specs.Replay.{OnLine, OnLimit, OnReadFault, OnWriteFault, Holds, EndsIn, Played, Stopped, answer_of};
 
 use crate::script::{Script, Stop};
 use cds_base::{Failed, Mem, Sink, Source, write_all};
@@ -66,13 +66,30 @@ pub fn replay<S: Source, K: Sink>(alloc: Global, source: &mut S, sink: &mut K) -
 {
     let mut script = Script::new(alloc)?;
     let mut buffer = empty_piece(alloc)?;
+    play_on(alloc, &mut script, buffer.as_mut_slice(), source, sink)
+}
+
+/// Plays what a source still gives of a script, piece by piece through the buffer.
+fn play_on<S: Source, K: Sink>(alloc: Global, script: &mut Script, buffer: &mut [u8], source: &mut S, sink: &mut K) -> Result<(), ReplayError>
+    requires sound { Sound script.old }
+    requires some { 0 < length buffer.old }
+    ensures well { (ending : List ℕ → Ending) (bytes : List ℕ) → GoesOn script.old ending → S.left source.old ≡ Some bytes → OnOk result (EndsIn (ending bytes) (K.holds sink.old) (K.holds sink.new)) }
+    ensures end { (ending : List ℕ → Ending) (bytes : List ℕ) → GoesOn script.old ending → S.left source.old ≡ Some bytes → OnOk result (S.left source.new ≡ Some []) }
+    ensures stops { (ending : List ℕ → Ending) (bytes : List ℕ) → GoesOn script.old ending → S.left source.old ≡ Some bytes → IfErr result (λ e. Stopped e (ending bytes) (K.holds sink.old) (K.holds sink.new)) }
+    ensures moved { OnOk result (S.moved source.new ≤ raised (S.moved source.old) (left_in script.old)) }
+    ensures limit { IfErr result (λ e. OnLimit e (raised (S.moved source.old) (left_in script.old + line_limit + 1 - script_limit) ≤ S.moved source.new)) }
+    ensures read_fault { IfErr result (λ e. OnReadFault e (Rose (S.faults source.old) (S.faults source.new))) }
+    ensures write_fault { IfErr result (λ e. OnWriteFault e (Rose (K.faults sink.old) (K.faults sink.new))) }
+    ensures source_faults { S.faults source.old ≤ S.faults source.new }
+    ensures sink_faults { K.faults sink.old ≤ K.faults sink.new }
+{
     loop {
-        match read_piece(source, buffer.as_mut_slice(), script.left()) {
+        match read_piece(source, buffer, script.left()) {
             Err(Failed) => return Err(ReplayError::ReadFault),
-            Ok(0) => return finish(alloc, &mut script, sink),
+            Ok(0) => return finish(alloc, script, sink),
             Ok(count) => {
-                let (piece, _) = buffer.as_slice().split_at(count);
-                take_piece(alloc, &mut script, piece, sink)?;
+                let (piece, _) = buffer.split_at(count);
+                take_piece(alloc, script, piece, sink)?;
             }
         }
     }
@@ -123,8 +140,7 @@ fn take_piece<K: Sink>(alloc: Global, script: &mut Script, piece: &[u8], sink: &
 /// Ends a script whose last byte has come, and writes what this adds to the report.
 fn finish<K: Sink>(alloc: Global, script: &mut Script, sink: &mut K) -> Result<(), ReplayError>
     requires { Sound script.old }
-    ensures well { (ending : List ℕ → Ending) → GoesOn script.old ending → OnOk result ((ending []).status ≡ 0) }
-    ensures report { (ending : List ℕ → Ending) → GoesOn script.old ending → OnOk result (Holds (K.holds sink.old) (ending []).text (K.holds sink.new)) }
+    ensures well { (ending : List ℕ → Ending) → GoesOn script.old ending → OnOk result (EndsIn (ending []) (K.holds sink.old) (K.holds sink.new)) }
     ensures stops { (ending : List ℕ → Ending) → GoesOn script.old ending → IfErr result (λ e. Stopped e (ending []) (K.holds sink.old) (K.holds sink.new)) }
     ensures no_limit { IfErr result (λ e. OnLimit e ⊥) }
     ensures no_read { IfErr result (λ e. OnReadFault e ⊥) }

@@ -12,18 +12,12 @@ returns-clause-well g c = λ ending goes.
       let well =
           subst (λ stop. Finished stop (ending []) (string_bytes c.new-out.result) (string_bytes c.finish.new.out)) none
           (c.in_ok-stop.ensures.meaning ending goes) in
-      ap (λ e. e.status) well.ends)
-
-pub returns-clause-report : goal.returns-clause-report
-returns-clause-report g c = λ ending goes.
-    written-ok c.write_out.result c.in_ok-stop.stop _ c.write_out.ensures.answer
-    (λ none is.
-      let well =
-          subst (λ stop. Finished stop (ending []) (string_bytes c.new-out.result) (string_bytes c.finish.new.out)) none
-          (c.in_ok-stop.ensures.meaning ending goes) in
-      subst (λ text. Holds (g.K.Sink.holds c.args.sink.now) text (g.K.Sink.holds c.write_out.new.sink))
-      (c.as_bytes.ensures.value ∙ well.out ∙ ap (λ text. text ++ well.added) c.new-out.ensures.bytes ∙ sym (ap (λ e. e.text) well.ends))
-      (c.write_out.ensures.held is))
+      record {
+        status = ap (λ e. e.status) well.ends;
+        held = subst (λ text. Holds (g.K.Sink.holds c.args.sink.now) text (g.K.Sink.holds c.write_out.new.sink))
+            (c.as_bytes.ensures.value ∙ well.out ∙ ap (λ text. text ++ well.added) c.new-out.ensures.bytes ∙ sym (ap (λ e. e.text) well.ends))
+            (c.write_out.ensures.held is);
+      })
 
 pub returns-clause-stops : goal.returns-clause-stops
 returns-clause-stops g c = λ ending goes.
