@@ -1,11 +1,13 @@
 -- What a session of a script has, and for which turns it stands.
-use Rattle.std.specs.Prelude.{◌≡◌, ℕ, List, [], ◌∷◌, map}
+use Rattle.std.specs.Prelude.{◌≡◌, List, [], ◌∷◌, ◌++◌}
 use Rattle.cds_object.specs.declared.record.Record.{Record}
 use Rattle.cds_catalog.specs.Steps.{Standing}
+use Rattle.cds_store.specs.Rows.{rows_of}
 use Rattle.cds_store.specs.Stands.{StandsFor}
 use Rattle.cds_model.specs.declared.turn.Turn.{Turn}
 use Rattle.cds_model.specs.Replica.{Held, held_by}
-use Rattle.cds_model.specs.Report.{history_of, records_since, replica_turns}
+use Rattle.cds_model.specs.Server.{Moment}
+use Rattle.cds_model.specs.Report.{history_of, records_since, replica_turns, script_token}
 
 -- what a session has: a server's store, a replica, and the records since the last scan
 pub record Playing : Type 0 where
@@ -19,3 +21,11 @@ pub record IsAfter (playing : Playing) (turns : List Turn) : Type 0 where
   pub store : StandsFor playing.store (history_of turns)
   pub replica : playing.replica ≡ held_by (replica_turns turns)
   pub records : playing.records ≡ records_since turns
+
+-- what a script's server shows while a store has this
+abbrev pub moment_in : Standing → Moment
+moment_in store = record { token = script_token; number = store.number; rows = rows_of store.rows }
+
+-- a session with one more record
+abbrev pub with_record : Playing → Record → Playing
+with_record playing found = record { store = playing.store; replica = playing.replica; records = playing.records ++ found ∷ [] }

@@ -4,7 +4,12 @@
 mod fragment;
 mod play;
 mod put;
+mod reply;
+mod report;
 mod script;
 mod session;
 
 pub use play::{ReplayError, replay};
+
+#[cfg(test)]
+mod tests;

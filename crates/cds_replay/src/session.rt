@@ -2,13 +2,19 @@
 
 ghost use Rattle.std.specs.Prelude.{◌≡◌, ◌+◌, ◌<◌, ◌≤◌, ◌++◌, ◌^◌, [], ◌∷◌, List, length, IfOk, OnOk, string_bytes};
 ghost use Rattle.cds_model.specs.declared.turn.Turn.{Turn as TurnValue};
-ghost use Rattle.cds_model.specs.Report.{written_by};
-ghost use Rattle.cds_replay.specs.Session.{IsAfter};
+ghost use Rattle.cds_model.specs.declared.turn.Turn.TheVariants.{Scan, Load, Read};
+ghost use Rattle.cds_model.specs.Replica.{says, copied};
+ghost use Rattle.cds_model.specs.Report.{written_by, folder_record};
+ghost use Rattle.cds_replay.specs.Lines.{known_text};
+ghost use Rattle.cds_replay.specs.Session.{IsAfter, with_record};
 
-use cds_base::{Mem, Sequence};
+use crate::put::put;
+use crate::reply::reply;
+use crate::report::{put_copy, put_read, put_scan};
+use cds_base::{Mem, Sequence, Text};
 use cds_model::Turn;
-use cds_object::Records;
-use cds_replica::Replica;
+use cds_object::{Content, Path, Record, Records};
+use cds_replica::{Replica, Says};
 use cds_store::Store;
 use std::alloc::Global;
 use std::marker::Model;
@@ -49,6 +55,76 @@ impl Session {
         ensures written { (turns : List TurnValue) → IsAfter self.old turns → OnOk result (string_bytes out.new ≡ string_bytes out.old ++ written_by turns turn) }
         ensures few { OnOk result (length self.new.records ≤ length self.old.records + 1) }
     {
-        Err(Mem)
+        match turn {
+            Turn::Folder { path } => self.add_folder(alloc, path),
+            Turn::Track { path, content } => self.add(Record { path, content }),
+            Turn::Scan => self.scan(alloc, out),
+            Turn::Load => self.load(),
+            Turn::Read => self.read(alloc, out),
+            Turn::Ask => self.ask(out),
+        }
+    }
+
+    /// Adds a record to those since the last scan.
+    fn add(&mut self, found: Record) -> Result<(), Mem>
+        ensures { OnOk result (self.new ≡ with_record self.old found) }
+    {
+        self.records.push(found)?;
+        Ok(())
+    }
+
+    /// Adds the record of a folder, whose title is its name.
+    fn add_folder(&mut self, alloc: Global, path: Path) -> Result<(), Mem>
+        ensures { OnOk result (self.new ≡ with_record self.old (folder_record path)) }
+    {
+        let title = Text::read(alloc, path.name())?;
+        let content = Content::Folder { title };
+        self.add(Record { path, content })
+    }
+
+    /// Scans: the records since the last scan are all that the library has now, and are dropped.
+    fn scan(&mut self, alloc: Global, out: &mut String) -> Result<(), Mem>
+        requires { length self.old.records < 2 ^ 32 }
+        ensures after { (turns : List TurnValue) → IsAfter self.old turns → OnOk result (IsAfter self.new (Scan ∷ turns)) }
+        ensures written { (turns : List TurnValue) → IsAfter self.old turns → OnOk result (string_bytes out.new ≡ string_bytes out.old ++ written_by turns Scan) }
+        ensures dropped { OnOk result (self.new.records ≡ []) }
+    {
+        let answer = self.store.apply(alloc, &self.records);
+        self.records = Sequence::new(alloc);
+        put_scan(out, answer)
+    }
+
+    /// Begins a load.
+    fn load(&mut self) -> Result<(), Mem>
+        ensures after { (turns : List TurnValue) → IsAfter self.old turns → OnOk result (IsAfter self.new (Load ∷ turns)) }
+        ensures kept { self.new.records ≡ self.old.records }
+    {
+        self.replica.begin_load()
+    }
+
+    /// Sends the next ask of the replica to the store, where there is one, and takes the reply.
+    fn read(&mut self, alloc: Global, out: &mut String) -> Result<(), Mem>
+        ensures after { (turns : List TurnValue) → IsAfter self.old turns → OnOk result (IsAfter self.new (Read ∷ turns)) }
+        ensures written { (turns : List TurnValue) → IsAfter self.old turns → OnOk result (string_bytes out.new ≡ string_bytes out.old ++ written_by turns Read) }
+        ensures kept { self.new.records ≡ self.old.records }
+    {
+        match self.replica.next_ask() {
+            None => put(out, "read none\n"),
+            Some(ask) => {
+                let shown = reply(alloc, &self.store, ask)?;
+                let answer = self.replica.take(alloc, shown);
+                put_read(out, answer)
+            }
+        }
+    }
+
+    /// Puts what the replica knows, and the rows of its copy where one stands.
+    fn ask(&self, out: &mut String) -> Result<(), Mem>
+        ensures { OnOk result (string_bytes out.new ≡ string_bytes out.old ++ known_text (says self.now.replica) (copied self.now.replica)) }
+    {
+        match self.replica.says() {
+            Says::BehindLoad => put(out, "behind load\n"),
+            Says::Stands { at } => put_copy(out, at, self.replica.copy()),
+        }
     }
 }

@@ -82,4 +82,11 @@ impl Replica {
     {
         self.stage.copied().get(at)
     }
+
+    /// The rows of the copy, in ascending order of ids; none where no copy stands.
+    pub fn copy(&self) -> &[Row]
+        ensures { result.now ≡ copied self.now }
+    {
+        self.stage.copied()
+    }
 }

@@ -3,7 +3,7 @@ ghost use Rattle.cds_object.specs.Tree.{row_of, children_of, is_container_row};
 ghost use Rattle.cds_catalog.specs.Library.{map_of, found};
 ghost use Rattle.cds_catalog.specs.History.{History};
 ghost use Rattle.cds_store.specs.Rows.{rows_of, put_places};
-ghost use Rattle.cds_store.specs.Stands.{StandsFor, beginning};
+ghost use Rattle.cds_store.specs.Stands.{StandsFor, IsStore, beginning};
 ghost use Rattle.cds_store.specs.Applied.{Applied, IsPlan, IsRefusal};
 
 use crate::catalog::Catalog;
@@ -178,5 +178,12 @@ impl Store {
         ensures { result ≡ self.now.number }
     {
         self.catalog.number()
+    }
+
+    /// What holds of every store, which this makes known where a proof needs it.
+    pub fn facts(&self)
+        ensures { IsStore self.now }
+    {
+        let _ = &self.catalog;
     }
 }

@@ -64,7 +64,10 @@ fn rows_text(alloc: Global, store: &Store) -> Result<String, Fail> {
         let update = row.object_update;
         text.push_str(format!(in alloc; "{id}<{parent}@{update}")?.as_str())?;
         if let Some(t) = row.trackers {
-            let tracked = format!(in alloc; "[{} {} {}]", t.container_update, t.child_count, t.deleted)?;
+            let tracked = format!(in alloc;
+                "[{} {} {}]",
+                t.container_update, t.child_count, t.deleted
+            )?;
             text.push_str(tracked.as_str())?;
         }
         text.push_str(" ")?;

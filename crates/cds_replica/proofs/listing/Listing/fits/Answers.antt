@@ -5,5 +5,5 @@ use Rattle.cds_replica.proofs.listing.Listing.fits.Goals as goal
 pub returns-then-are_new-clause-short : goal.returns-then-are_new-clause-short
 returns-then-are_new-clause-short c =
     λ same.
-        let as_many : length c.args.page.now ≡ c.next_page_len.result = eqb-true _ _ same in
-        omega (arith, c.next_page_len.ensures.short)
+    let as_many : length c.args.page.now ≡ c.next_page_len.result = eqb-true _ _ same in
+    omega (arith, c.next_page_len.ensures.short)

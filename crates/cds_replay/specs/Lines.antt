@@ -1,0 +1,48 @@
+-- The lines of a report, by what the store and the replica answered.
+use Rattle.std.specs.Prelude.{ℕ, List, [], ◌++◌, Result, Ok, Err, codes}
+use Rattle.std.specs.Fmt.{decimal}
+use Rattle.cds_object.specs.Object.{ObjectRow}
+use Rattle.cds_object.specs.Fragment.{full_text}
+use Rattle.cds_store.specs.declared.span.Span.{Span}
+use Rattle.cds_store.specs.declared.error.ApplyError.{ApplyError}
+use Rattle.cds_store.specs.declared.error.ApplyError.TheVariants.{BadRecords, Full, Spent, Mem}
+use Rattle.cds_model.specs.declared.exchange.Read.{Read}
+use Rattle.cds_model.specs.declared.exchange.Read.TheVariants.{Ok as ReadOk, Fault as ReadFault}
+use Rattle.cds_model.specs.declared.exchange.Says.{Says}
+use Rattle.cds_model.specs.declared.exchange.Says.TheVariants.{BehindLoad, Stands}
+use Rattle.cds_replica.specs.declared.error.AnswerError.{AnswerError}
+
+-- a line of a word and a number
+abbrev pub numbered_line : List ℕ → ℕ → List ℕ
+numbered_line word number = word ++ decimal number ++ codes "\n"
+
+-- the line of what a scan was answered; none where memory ran out
+abbrev pub scan_line : Result Span ApplyError → List ℕ
+scan_line (Ok span) = numbered_line (codes "scan ") span.to
+scan_line (Err (BadRecords line)) = numbered_line (codes "scan bad ") line
+scan_line (Err (Full objects)) = numbered_line (codes "scan full ") objects
+scan_line (Err (Spent needed)) = numbered_line (codes "scan spent ") needed
+scan_line (Err Mem) = []
+
+-- whether a scan was answered: memory did not run out
+abbrev pub IsAnswered : Result Span ApplyError → Type 0
+IsAnswered (Ok span) = Unit {0}
+IsAnswered (Err (BadRecords line)) = Unit {0}
+IsAnswered (Err (Full objects)) = Unit {0}
+IsAnswered (Err (Spent needed)) = Unit {0}
+IsAnswered (Err Mem) = ⊥
+
+-- the line of what became of a reply; none where it was not taken
+abbrev pub read_line : Result Read AnswerError → List ℕ
+read_line (Ok ReadOk) = codes "read ok\n"
+read_line (Ok (ReadFault code)) = numbered_line (codes "read ") code
+read_line (Err refusal) = []
+
+-- the number of a copy and its rows
+abbrev pub stands_text : ℕ → List ObjectRow → List ℕ
+stands_text number rows = numbered_line (codes "stands ") number ++ full_text rows
+
+-- what a replica that says this writes, by the rows of its copy
+abbrev pub known_text : Says → List ObjectRow → List ℕ
+known_text BehindLoad rows = codes "behind load\n"
+known_text (Stands number) rows = stands_text number rows

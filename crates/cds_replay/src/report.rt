@@ -1,0 +1,89 @@
+//! What turns write: the lines of a report (this project's profile).
+
+ghost use Rattle.std.specs.Prelude.{◌≡◌, ◌++◌, ◌∷◌, [], OnOk, IsOk, string_bytes, codes};
+ghost use Rattle.std.specs.Fmt.{decimal};
+ghost use Rattle.cds_object.specs.Fragment.{fragment, full_text};
+ghost use Rattle.cds_replay.specs.Lines.{scan_line, read_line, stands_text, numbered_line, IsAnswered};
+
+use crate::fragment::put_fragment;
+use crate::put::{put, put_number};
+use cds_base::Mem;
+use cds_object::Row;
+use cds_replica::{AnswerError, Read};
+use cds_store::{ApplyError, Span};
+
+/// Puts a line of a word and a number.
+fn put_numbered_line(out: &mut String, word: &str, number: u64) -> Result<(), Mem>
+    ensures { OnOk result (string_bytes out.new ≡ string_bytes out.old ++ numbered_line word.now number) }
+{
+    put(out, word)?;
+    put_number(out, number)?;
+    put(out, "\n")?;
+    Ok(())
+}
+
+/// Puts what a scan was answered. Want of memory is no answer.
+pub fn put_scan(out: &mut String, answer: Result<Span, ApplyError>) -> Result<(), Mem>
+    ensures written { OnOk result (string_bytes out.new ≡ string_bytes out.old ++ scan_line answer) }
+    ensures answered { OnOk result (IsAnswered answer) }
+{
+    match answer {
+        Ok(span) => put_numbered_line(out, "scan ", u64::from(span.to)),
+        Err(ApplyError::BadRecords { line }) => put_numbered_line(
+            out,
+            "scan bad ",
+            u64::from(line),
+        ),
+        Err(ApplyError::Full { objects }) => put_numbered_line(
+            out,
+            "scan full ",
+            u64::from(objects),
+        ),
+        Err(ApplyError::Spent { needed }) => put_numbered_line(
+            out,
+            "scan spent ",
+            u64::from(needed),
+        ),
+        Err(ApplyError::Mem) => Err(Mem),
+    }
+}
+
+/// Puts what became of a reply. One that was not taken is not written: of a store's replies none is refused.
+pub fn put_read(out: &mut String, answer: Result<Read, AnswerError>) -> Result<(), Mem>
+    ensures written { OnOk result (string_bytes out.new ≡ string_bytes out.old ++ read_line answer) }
+    ensures taken { OnOk result (IsOk answer) }
+{
+    match answer {
+        Ok(Read::Ok) => put(out, "read ok\n"),
+        Ok(Read::Fault { code }) => put_numbered_line(out, "read ", u64::from(code)),
+        Err(_) => Err(Mem),
+    }
+}
+
+/// Puts the number of a copy and its rows, each ended by LF.
+pub fn put_copy(out: &mut String, number: u32, rows: &[Row]) -> Result<(), Mem>
+    ensures { OnOk result (string_bytes out.new ≡ string_bytes out.old ++ stands_text number rows.now) }
+{
+    put_numbered_line(out, "stands ", u64::from(number))?;
+    put_rows(out, rows)?;
+    Ok(())
+}
+
+/// Puts rows in their order, each ended by LF.
+fn put_rows(out: &mut String, rows: &[Row]) -> Result<(), Mem>
+    ensures { OnOk result (string_bytes out.new ≡ string_bytes out.old ++ full_text rows.now) }
+{
+    for row in rows {
+        put_row(out, row)?;
+    }
+    Ok(())
+}
+
+/// Puts a row, ended by LF.
+fn put_row(out: &mut String, row: &Row) -> Result<(), Mem>
+    ensures { OnOk result (string_bytes out.new ≡ string_bytes out.old ++ (fragment row.now ++ 10 ∷ [])) }
+{
+    put_fragment(out, row)?;
+    put(out, "\n")?;
+    Ok(())
+}
