@@ -2,9 +2,14 @@
 #![tactic(auto)]
 
 mod fragment;
+mod play;
 mod put;
 mod reply;
 mod report;
+mod script;
 mod session;
+
+pub use play::{ReplayError, replay};
+
 #[cfg(test)]
 mod tests;

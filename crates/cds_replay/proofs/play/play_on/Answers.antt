@@ -1,0 +1,78 @@
+-- Each piece is taken where the last one ended.
+use Rattle.std.proofs.Common.{◌≡◌, ℕ, ◌+◌, ◌-◌, ◌≤◌, [], Some, drop, length, ap, sym, ◌∙◌, arith}
+use Rattle.std.proofs.lemmas.Result.{on_ok_weaker, IfErr-weaker, err_from_is_err_and}
+use Rattle.cds_base.specs.Outside.{raised}
+use Rattle.cds_replay.specs.Script.{left_in}
+use Rattle.cds_replay.proofs.Playing.{under-begin, under-piece, under-stops, under-last, under-well, on-ok-any, raised-twice}
+use Rattle.cds_replay.proofs.play.play_on.Goals as goal
+
+pub loop-script-init : goal.loop-script-init
+loop-script-init g c = (
+  c.requires.sound,
+  omega arith,
+  λ n.
+      let none : n ≡ (left_in c.args.script.now - left_in c.args.script.now) + n = omega arith in
+      ap (raised (g.S.Source.moved c.args.source.now)) none,
+  λ ending bytes goes told. under-begin c.args.script.now ending _ _ bytes goes told,
+  omega arith,
+  omega arith,
+)
+
+pub loop-script-preserved : goal.loop-script-preserved
+loop-script-preserved g c =
+    let kept = c.loop-script.invariant in
+    let left = c.in_ok-take_piece-in-Ok.ensures.left in
+    let size = c.split_at.ensures.front_len in (
+      c.in_ok-take_piece-in-Ok.ensures.sound,
+      omega (arith, kept.1, left),
+      λ n.
+          let more : (left_in c.args.script.now - left_in c.loop-script.script) + (c.in-Ok.count + n) ≡ (left_in c.args.script.now - left_in c.take_piece.new.script) + n =
+              omega (arith, kept.1, left, size) in
+          ap (λ m. raised m n) c.in-Ok.ensures.count
+          ∙ raised-twice (g.S.Source.moved c.loop-script.source) c.in-Ok.count n
+          ∙ kept.2 (c.in-Ok.count + n)
+          ∙ ap (raised (g.S.Source.moved c.args.source.now)) more,
+      λ ending bytes goes told.
+          let under = kept.3 ending bytes goes told in
+          under-piece (ending bytes) _ _ _ _ _ c.loop-script.script c.take_piece.new.script c.split_at.result.0.now c.in-Ok.count under
+          (c.split_at.ensures.front ∙ c.in-Ok.ensures.content under.bytes under.left)
+          (c.in-Ok.ensures.rest under.bytes under.left)
+          (c.in_ok-take_piece-in-Ok.ensures.goes under.later under.goes),
+      omega (arith, kept.4, c.in-Ok.ensures.never_falls),
+      omega (arith, kept.5, c.in_ok-take_piece-in-Ok.ensures.never_falls),
+    )
+
+pub returns-in-Ok-eq0-clause-well : goal.returns-in-Ok-eq0-clause-well
+returns-in-Ok-eq0-clause-well g c = λ ending bytes goes told.
+    let under = c.loop-script.invariant.3 ending bytes goes told in
+    let zero : c.in-Ok-eq0.field-0 ≡ 0 = omega (arith, c.in-Ok-eq0.field-0-test) in
+    on_ok_weaker c.finish.result
+    (under-well (ending bytes) _ _ _ _ c.loop-script.script under (c.in-Ok-eq0.ensures.end zero under.bytes under.left))
+    (c.finish.ensures.well under.later under.goes)
+
+pub returns-in-Ok-eq0-clause-end : goal.returns-in-Ok-eq0-clause-end
+returns-in-Ok-eq0-clause-end g c = λ ending bytes goes told.
+    let under = c.loop-script.invariant.3 ending bytes goes told in
+    let zero : c.in-Ok-eq0.field-0 ≡ 0 = omega (arith, c.in-Ok-eq0.field-0-test) in
+    on-ok-any c.finish.result _
+    (c.in-Ok-eq0.ensures.rest under.bytes under.left
+    ∙ ap (λ n. Some (drop n under.bytes)) zero
+    ∙ ap Some (c.in-Ok-eq0.ensures.end zero under.bytes under.left))
+
+pub returns-in-Ok-eq0-clause-stops : goal.returns-in-Ok-eq0-clause-stops
+returns-in-Ok-eq0-clause-stops g c = λ ending bytes goes told.
+    let under = c.loop-script.invariant.3 ending bytes goes told in
+    let zero : c.in-Ok-eq0.field-0 ≡ 0 = omega (arith, c.in-Ok-eq0.field-0-test) in
+    IfErr-weaker c.finish.result
+    _ _
+    (λ e. under-last e (ending bytes) _ _ _ _ c.loop-script.script under (c.in-Ok-eq0.ensures.end zero under.bytes under.left))
+    (c.finish.ensures.stops under.later under.goes)
+
+pub returns-in_err-take_piece-in-Ok-clause-stops : goal.returns-in_err-take_piece-in-Ok-clause-stops
+returns-in_err-take_piece-in-Ok-clause-stops g c = λ ending bytes goes told.
+    let under = c.loop-script.invariant.3 ending bytes goes told in
+    let error = err_from_is_err_and c.from_residual.result c.from_residual.ensures.1 in
+    rw (error.1, error.2)
+    (under-stops c.in_err-take_piece-in-Ok.field-0.0 (ending bytes) _ _ _ _ c.loop-script.script c.split_at.result.0.now c.in-Ok.count under
+      (c.split_at.ensures.front ∙ c.in-Ok.ensures.content under.bytes under.left)
+      (c.in_err-take_piece-in-Ok.ensures.stops under.later (drop c.in-Ok.count under.bytes) under.goes))

@@ -1,0 +1,51 @@
+-- What the bytes of a source mean as a script is what the replay of them does.
+use Rattle.std.proofs.Common.{◌≡◌, ◌++◌, ◌≤◌, Some, [], List, ℕ, arith}
+use Rattle.std.proofs.lemmas.Result.{on_ok_weaker}
+use Rattle.cds_model.specs.Report.{script_ending, outside_ending}
+use Rattle.cds_replay.specs.Replay.{Holds}
+use Rattle.cds_replay.proofs.Playing.{ok-told, line-told, limit-told}
+use Rattle.cds_replay.proofs.play.replay.Goals as goal
+
+pub returns-clause-ok_status : goal.returns-clause-ok_status
+returns-clause-ok_status g c =
+    ok-told c.play_on.result _ _
+    (λ bytes told. on_ok_weaker c.play_on.result (λ ends. ends.status) (c.play_on.ensures.well script_ending bytes c.in_ok-script.ensures.goes told))
+
+pub returns-clause-ok_report : goal.returns-clause-ok_report
+returns-clause-ok_report g c =
+    ok-told c.play_on.result _ _
+    (λ bytes told. on_ok_weaker c.play_on.result (λ ends. ends.held) (c.play_on.ensures.well script_ending bytes c.in_ok-script.ensures.goes told))
+
+pub returns-clause-ok_end : goal.returns-clause-ok_end
+returns-clause-ok_end g c =
+    ok-told c.play_on.result _ _ (λ bytes told. c.play_on.ensures.end script_ending bytes c.in_ok-script.ensures.goes told)
+
+pub returns-clause-line_status : goal.returns-clause-line_status
+returns-clause-line_status g c =
+    line-told c.play_on.result _ _ _ script_ending _
+    (λ bytes told. c.play_on.ensures.stops script_ending bytes c.in_ok-script.ensures.goes told)
+    (λ line bytes stops. stops.status)
+
+pub returns-clause-line_report : goal.returns-clause-line_report
+returns-clause-line_report g c =
+    line-told c.play_on.result _ _ _ script_ending _
+    (λ bytes told. c.play_on.ensures.stops script_ending bytes c.in_ok-script.ensures.goes told)
+    (λ line bytes stops. stops.held)
+
+pub returns-clause-line_number : goal.returns-clause-line_number
+returns-clause-line_number g c =
+    line-told c.play_on.result _ _ _ script_ending _
+    (λ bytes told. c.play_on.ensures.stops script_ending bytes c.in_ok-script.ensures.goes told)
+    (λ line bytes stops. (stops.front, stops.text))
+
+pub returns-clause-limit_status : goal.returns-clause-limit_status
+returns-clause-limit_status g c =
+    limit-told c.play_on.result _ _ _ script_ending _
+    (λ bytes told. c.play_on.ensures.stops script_ending bytes c.in_ok-script.ensures.goes told)
+    (λ bytes stops. stops.status)
+
+pub returns-clause-limit_report : goal.returns-clause-limit_report
+returns-clause-limit_report g c =
+    limit-told c.play_on.result _ _ _ script_ending _
+    (λ bytes told. c.play_on.ensures.stops script_ending bytes c.in_ok-script.ensures.goes told)
+    (λ bytes stops. stops.held)

@@ -1,0 +1,171 @@
+//! A script from a source, and its report into a sink.
+
+ghost use Rattle.std.specs.Prelude.{◌≡◌, ℕ, ◌+◌, ◌-◌, ◌<◌, ◌≤◌, ◌++◌, ◌⊎◌, [], List, Option, Some, length, take, drop, IfOk, IfErr, OnOk, OnErr};
+ghost use Rattle.cds_base.specs.Outside.{raised, Rose, WhereTold};
+ghost use Rattle.cds_model.specs.Script.{line_limit, script_limit};
+ghost use Rattle.cds_model.specs.Report.{Ending, outside_ending, script_ending};
+ghost use Rattle.cds_replay.specs.Script.{left_in, Sound, GoesOn};
+ghost use Rattle.cds_replay.specs.Replay.{OnLine, OnLimit, OnReadFault, OnWriteFault, Holds, EndsIn, Played, Stopped, answer_of};
+
+use crate::script::{Script, Stop};
+use cds_base::{Failed, Mem, Sink, Source, write_all};
+use std::alloc::Global;
+use std::convert::From;
+use thiserror::Error;
+
+/// How many bytes are read at once.
+const PIECE: usize = 8_192;
+
+/// Why a replay ended before its script did.
+#[derive(Clone, Copy, Debug, PartialEq, Eq, Error)]
+pub enum ReplayError {
+    /// The line of this number, counted from 1, is outside the grammar. The report of the lines before it was written,
+    /// and the line `error line N`.
+    #[error("line {line} is outside the grammar")]
+    Line { line: u32 },
+    /// The source could not be read.
+    #[error("the script could not be read")]
+    ReadFault,
+    /// The sink could not be written.
+    #[error("the report could not be written")]
+    WriteFault,
+    /// More than 67,108,864 bytes came, or a line of more than 4,096. The report of the lines before was written, and
+    /// the line `error limit`.
+    #[error("the script or a line of it is too long")]
+    Limit,
+    #[error("out of memory")]
+    Mem,
+}
+
+impl From<Mem> for ReplayError {
+    ghost use Rattle.cds_replay.specs.declared.play.ReplayError.{ReplayError};
+
+    ghost from_gives = { λ _ r. r ≡ ReplayError.Mem };
+
+    fn from(_: Mem) -> Self {
+        ReplayError::Mem
+    }
+}
+
+/// Plays the script that a source gives and writes its report. Each line is answered before the source is read again.
+pub fn replay<S: Source, K: Sink>(alloc: Global, source: &mut S, sink: &mut K) -> Result<(), ReplayError>
+    ensures ok_status { OnOk result (WhereTold (S.left source.old) (λ script. (script_ending script).status ≡ 0)) }
+    ensures ok_report { OnOk result (WhereTold (S.left source.old) (λ script. Holds (K.holds sink.old) (script_ending script).text (K.holds sink.new))) }
+    ensures ok_end { OnOk result (WhereTold (S.left source.old) (λ script. S.left source.new ≡ Some [])) }
+    ensures ok_moved { OnOk result (S.moved source.new ≤ raised (S.moved source.old) 67108864) }
+    ensures line_status { IfErr result (λ e. OnLine e (λ line. WhereTold (S.left source.old) (λ script. (script_ending script).status ≡ 1))) }
+    ensures line_report { IfErr result (λ e. OnLine e (λ line. WhereTold (S.left source.old) (λ script. Holds (K.holds sink.old) (script_ending script).text (K.holds sink.new)))) }
+    ensures line_number { IfErr result (λ e. OnLine e (λ line. WhereTold (S.left source.old) (λ script. (front : List ℕ) × ((script_ending script).text ≡ front ++ (outside_ending line).text)))) }
+    ensures limit_status { IfErr result (λ e. OnLimit e (WhereTold (S.left source.old) (λ script. (script_ending script).status ≡ 6))) }
+    ensures limit_report { IfErr result (λ e. OnLimit e (WhereTold (S.left source.old) (λ script. Holds (K.holds sink.old) (script_ending script).text (K.holds sink.new)))) }
+    ensures limit_moved { IfErr result (λ e. OnLimit e (raised (S.moved source.old) 4097 ≤ S.moved source.new)) }
+    ensures read_fault { IfErr result (λ e. OnReadFault e (Rose (S.faults source.old) (S.faults source.new))) }
+    ensures write_fault { IfErr result (λ e. OnWriteFault e (Rose (K.faults sink.old) (K.faults sink.new))) }
+    ensures source_faults { S.faults source.old ≤ S.faults source.new }
+    ensures sink_faults { K.faults sink.old ≤ K.faults sink.new }
+{
+    let mut script = Script::new(alloc)?;
+    let mut buffer = empty_piece(alloc)?;
+    play_on(alloc, &mut script, buffer.as_mut_slice(), source, sink)
+}
+
+/// Plays what a source still gives of a script, piece by piece through the buffer.
+fn play_on<S: Source, K: Sink>(alloc: Global, script: &mut Script, buffer: &mut [u8], source: &mut S, sink: &mut K) -> Result<(), ReplayError>
+    requires sound { Sound script.old }
+    requires some { 0 < length buffer.old }
+    ensures well { (ending : List ℕ → Ending) (bytes : List ℕ) → GoesOn script.old ending → S.left source.old ≡ Some bytes → OnOk result (EndsIn (ending bytes) (K.holds sink.old) (K.holds sink.new)) }
+    ensures end { (ending : List ℕ → Ending) (bytes : List ℕ) → GoesOn script.old ending → S.left source.old ≡ Some bytes → OnOk result (S.left source.new ≡ Some []) }
+    ensures stops { (ending : List ℕ → Ending) (bytes : List ℕ) → GoesOn script.old ending → S.left source.old ≡ Some bytes → IfErr result (λ e. Stopped e (ending bytes) (K.holds sink.old) (K.holds sink.new)) }
+    ensures moved { OnOk result (S.moved source.new ≤ raised (S.moved source.old) (left_in script.old)) }
+    ensures limit { IfErr result (λ e. OnLimit e (raised (S.moved source.old) (left_in script.old + line_limit + 1 - script_limit) ≤ S.moved source.new)) }
+    ensures read_fault { IfErr result (λ e. OnReadFault e (Rose (S.faults source.old) (S.faults source.new))) }
+    ensures write_fault { IfErr result (λ e. OnWriteFault e (Rose (K.faults sink.old) (K.faults sink.new))) }
+    ensures source_faults { S.faults source.old ≤ S.faults source.new }
+    ensures sink_faults { K.faults sink.old ≤ K.faults sink.new }
+{
+    loop {
+        match read_piece(source, buffer, script.left()) {
+            Err(Failed) => return Err(ReplayError::ReadFault),
+            Ok(0) => return finish(alloc, script, sink),
+            Ok(count) => {
+                let (piece, _) = buffer.split_at(count);
+                take_piece(alloc, script, piece, sink)?;
+            }
+        }
+    }
+}
+
+/// Room for a piece of a script.
+fn empty_piece(alloc: Global) -> Result<Vec<u8>, Mem>
+    ensures { IfOk result (λ piece. 0 < length piece.items) }
+{
+    let piece = vec![in alloc; 0; PIECE]?;
+    Ok(piece)
+}
+
+/// Reads a piece into the front of the buffer, at most one byte more than are left.
+fn read_piece<S: Source>(source: &mut S, buffer: &mut [u8], left: usize) -> Result<usize, Failed>
+    requires some { 0 < length buffer.old }
+    requires few { left ≤ script_limit }
+    ensures room { IfOk result (λ n. n ≤ length buffer.old) }
+    ensures count { IfOk result (λ n. S.moved source.new ≡ raised (S.moved source.old) n) }
+    ensures content { IfOk result (λ n. WhereTold (S.left source.old) (λ bytes. take n buffer.new ≡ take n bytes)) }
+    ensures rest { IfOk result (λ n. WhereTold (S.left source.old) (λ bytes. S.left source.new ≡ Some (drop n bytes))) }
+    ensures end { IfOk result (λ n. n ≡ 0 → WhereTold (S.left source.old) (λ bytes. bytes ≡ [])) }
+    ensures rose { OnErr result (Rose (S.faults source.old) (S.faults source.new)) }
+    ensures never_falls { S.faults source.old ≤ S.faults source.new }
+{
+    let most = buffer.len().min(left + 1);
+    let (front, _) = buffer.split_at_mut(most);
+    source.read(front)
+}
+
+/// Plays a piece of a script and writes what it adds to the report.
+fn take_piece<K: Sink>(alloc: Global, script: &mut Script, piece: &[u8], sink: &mut K) -> Result<(), ReplayError>
+    requires { Sound script.old }
+    ensures goes { (ending : List ℕ → Ending) → GoesOn script.old ending → OnOk result (Played ending piece.now (K.holds sink.old) (K.holds sink.new) script.new) }
+    ensures sound { OnOk result (Sound script.new) }
+    ensures left { OnOk result (left_in script.new + length piece.now ≡ left_in script.old) }
+    ensures stops { (ending : List ℕ → Ending) (more : List ℕ) → GoesOn script.old ending → IfErr result (λ e. Stopped e (ending (piece.now ++ more)) (K.holds sink.old) (K.holds sink.new)) }
+    ensures limit { IfErr result (λ e. OnLimit e (left_in script.old + line_limit < script_limit + length piece.now)) }
+    ensures no_read { IfErr result (λ e. OnReadFault e ⊥) }
+    ensures write_fault { IfErr result (λ e. OnWriteFault e (Rose (K.faults sink.old) (K.faults sink.new))) }
+    ensures never_falls { K.faults sink.old ≤ K.faults sink.new }
+{
+    let mut out = String::new(alloc);
+    let stop = script.feed(alloc, piece, &mut out)?;
+    write_out(sink, out.as_bytes(), stop)
+}
+
+/// Ends a script whose last byte has come, and writes what this adds to the report.
+fn finish<K: Sink>(alloc: Global, script: &mut Script, sink: &mut K) -> Result<(), ReplayError>
+    requires { Sound script.old }
+    ensures well { (ending : List ℕ → Ending) → GoesOn script.old ending → OnOk result (EndsIn (ending []) (K.holds sink.old) (K.holds sink.new)) }
+    ensures stops { (ending : List ℕ → Ending) → GoesOn script.old ending → IfErr result (λ e. Stopped e (ending []) (K.holds sink.old) (K.holds sink.new)) }
+    ensures no_limit { IfErr result (λ e. OnLimit e ⊥) }
+    ensures no_read { IfErr result (λ e. OnReadFault e ⊥) }
+    ensures write_fault { IfErr result (λ e. OnWriteFault e (Rose (K.faults sink.old) (K.faults sink.new))) }
+    ensures never_falls { K.faults sink.old ≤ K.faults sink.new }
+{
+    let mut out = String::new(alloc);
+    let stop = script.finish(alloc, &mut out)?;
+    write_out(sink, out.as_bytes(), stop)
+}
+
+/// Writes a text, and answers with the stop that it ends with.
+fn write_out<K: Sink>(sink: &mut K, text: &[u8], stop: Option<Stop>) -> Result<(), ReplayError>
+    ensures answer { (result ≡ Err ReplayError.WriteFault) ⊎ (result ≡ answer_of stop) }
+    ensures held { (result ≡ answer_of stop) → Holds (K.holds sink.old) text.now (K.holds sink.new) }
+    ensures write_fault { IfErr result (λ e. OnWriteFault e (Rose (K.faults sink.old) (K.faults sink.new))) }
+    ensures never_falls { K.faults sink.old ≤ K.faults sink.new }
+{
+    match write_all(sink, text) {
+        Err(Failed) => return Err(ReplayError::WriteFault),
+        Ok(()) => {}
+    }
+    match stop {
+        None => Ok(()),
+        Some(Stop::Outside { line }) => Err(ReplayError::Line { line }),
+        Some(Stop::Limit) => Err(ReplayError::Limit),
+    }
+}

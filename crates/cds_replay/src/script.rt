@@ -1,0 +1,205 @@
+//! A script that comes piece by piece: each line is answered as soon as it has ended.
+
+ghost use Rattle.std.specs.Prelude.{◌≡◌, ℕ, ◌+◌, ◌<◌, ◌≤◌, ◌++◌, ◌^◌, [], ◌∷◌, List, true, length, IfOk, OnOk, MatchOption, string_bytes};
+ghost use Rattle.cds_model.specs.declared.turn.Turn.{Turn};
+ghost use Rattle.cds_model.specs.Script.{is_unbroken, line_limit, meaning_of, script_limit};
+ghost use Rattle.cds_model.specs.Report.{Ending, script_ending};
+ghost use Rattle.cds_replay.specs.Session.{IsAfter};
+ghost use Rattle.cds_replay.specs.Script.{stop_text, left_in, Sound, GoesOn, Fed, Finished, WhileGoing, AtLimit, LineRead};
+
+use crate::put::{put, put_number};
+use crate::session::Session;
+use cds_base::Mem;
+use cds_model::{Meaning, read_line};
+use memchr::memchr;
+use std::alloc::Global;
+use std::mem::replace;
+
+/// How many bytes a script has at most, with the LFs.
+const SCRIPT_LIMIT: usize = 67_108_864;
+
+/// How many bytes a line has at most, without its LF.
+const LINE_LIMIT: usize = 4_096;
+
+/// Why a script ends before its last byte.
+#[derive(Clone, Copy, Debug, PartialEq, Eq)]
+pub enum Stop {
+    /// The line of this number, counted from 1, is outside the grammar.
+    Outside { line: u32 },
+    /// The script or a line of it is too long.
+    Limit,
+}
+
+/// A script of which a part has come. The report goes on at the end of the text that each call is given.
+#[derive(Drop, Debug)]
+pub struct Script {
+    session: Session,
+    /// What has come of the line that has not ended.
+    partial: Vec<u8>,
+    /// The number of that line, counted from 1.
+    line: u32,
+    /// How many bytes the script may still have from the start of that line on.
+    room: usize,
+}
+
+impl Script {
+    /// A script of which nothing has come.
+    pub fn new(alloc: Global) -> Result<Script, Mem>
+        ensures sound { IfOk result Sound }
+        ensures left { IfOk result (λ script. left_in script ≡ script_limit) }
+        ensures goes { IfOk result (λ script. GoesOn script script_ending) }
+    {
+        let session = Session::new(alloc)?;
+        Ok(Script {
+            session,
+            partial: Vec::new(alloc),
+            line: 1,
+            room: SCRIPT_LIMIT,
+        })
+    }
+
+    /// How many bytes more the script may have.
+    pub fn left(&self) -> usize
+        requires { Sound self.now }
+        ensures { result ≡ left_in self.now }
+    {
+        self.room - self.partial.len()
+    }
+
+    /// Takes the next piece and answers each line that ends in it. After a stop or an error the script is done with.
+    pub fn feed(&mut self, alloc: Global, piece: &[u8], out: &mut String) -> Result<Option<Stop>, Mem>
+        requires { Sound self.old }
+        ensures meaning { (ending : List ℕ → Ending) → GoesOn self.old ending → IfOk result (λ stop. Fed stop ending piece.now [] (string_bytes out.old) (string_bytes out.new) self.new) }
+        ensures sound { IfOk result (λ stop. WhileGoing stop (Sound self.new)) }
+        ensures left { IfOk result (λ stop. WhileGoing stop (left_in self.new + length piece.now ≡ left_in self.old)) }
+        ensures limit { IfOk result (λ stop. AtLimit stop (left_in self.old + line_limit < script_limit + length piece.now)) }
+    {
+        let mut rest = piece;
+        while let Some((line, after)) = cut_line(rest) {
+            match self.end_line(alloc, line, out)? {
+                Some(stop) => return Ok(Some(stop)),
+                None => rest = after,
+            }
+        }
+        self.keep(alloc, rest, out)
+    }
+
+    /// Answers the last line, where it has no LF.
+    pub fn finish(&mut self, alloc: Global, out: &mut String) -> Result<Option<Stop>, Mem>
+        requires { Sound self.old }
+        ensures meaning { (ending : List ℕ → Ending) → GoesOn self.old ending → IfOk result (λ stop. Finished stop (ending []) (string_bytes out.old) (string_bytes out.new)) }
+        ensures no_limit { IfOk result (λ stop. AtLimit stop ⊥) }
+    {
+        if self.partial.is_empty() {
+            Ok(None)
+        } else {
+            let line = replace(&mut self.partial, Vec::new(alloc));
+            answer_line(&mut self.session, alloc, line.as_slice(), self.line, out)
+        }
+    }
+
+    /// Answers the line that ends with these bytes and an LF.
+    fn end_line(&mut self, alloc: Global, line: &[u8], out: &mut String) -> Result<Option<Stop>, Mem>
+        requires sound { Sound self.old }
+        requires whole { is_unbroken line.now ≡ true }
+        ensures meaning { (ending : List ℕ → Ending) (after : List ℕ) → GoesOn self.old ending → IfOk result (λ stop. Fed stop ending (line.now ++ 10 ∷ after) after (string_bytes out.old) (string_bytes out.new) self.new) }
+        ensures sound { IfOk result (λ stop. WhileGoing stop (Sound self.new)) }
+        ensures left { IfOk result (λ stop. WhileGoing stop (left_in self.new + (length line.now + 1) ≡ left_in self.old)) }
+        ensures limit { IfOk result (λ stop. AtLimit stop (left_in self.old + line_limit < script_limit + (length line.now + 1))) }
+    {
+        if self.partial.is_empty() {
+            self.take_line(alloc, line, out)
+        } else {
+            let mut whole = replace(&mut self.partial, Vec::new(alloc));
+            whole.extend_from_slice(line)?;
+            self.take_line(alloc, whole.as_slice(), out)
+        }
+    }
+
+    /// Answers a line, given whole and without its LF.
+    fn take_line(&mut self, alloc: Global, line: &[u8], out: &mut String) -> Result<Option<Stop>, Mem>
+        requires sound { Sound self.old }
+        requires none { self.old.partial.items ≡ [] }
+        requires whole { is_unbroken line.now ≡ true }
+        ensures meaning { (ending : List ℕ → Ending) (after : List ℕ) → GoesOn self.old ending → IfOk result (λ stop. Fed stop ending (line.now ++ 10 ∷ after) after (string_bytes out.old) (string_bytes out.new) self.new) }
+        ensures sound { IfOk result (λ stop. WhileGoing stop (Sound self.new)) }
+        ensures left { IfOk result (λ stop. WhileGoing stop (left_in self.new + (length line.now + 1) ≡ left_in self.old)) }
+        ensures limit { IfOk result (λ stop. AtLimit stop (left_in self.old + line_limit < script_limit + (length line.now + 1))) }
+    {
+        if self.room <= line.len() || LINE_LIMIT < line.len() {
+            write_stop(out, Stop::Limit)?;
+            return Ok(Some(Stop::Limit));
+        }
+        let stop = answer_line(&mut self.session, alloc, line, self.line, out)?;
+        self.line += 1;
+        self.room -= line.len() + 1;
+        Ok(stop)
+    }
+
+    /// Keeps bytes without an LF for the next piece.
+    fn keep(&mut self, alloc: Global, rest: &[u8], out: &mut String) -> Result<Option<Stop>, Mem>
+        requires sound { Sound self.old }
+        requires whole { is_unbroken rest.now ≡ true }
+        ensures meaning { (ending : List ℕ → Ending) → GoesOn self.old ending → IfOk result (λ stop. Fed stop ending rest.now [] (string_bytes out.old) (string_bytes out.new) self.new) }
+        ensures sound { IfOk result (λ stop. WhileGoing stop (Sound self.new)) }
+        ensures left { IfOk result (λ stop. WhileGoing stop (left_in self.new + length rest.now ≡ left_in self.old)) }
+        ensures limit { IfOk result (λ stop. AtLimit stop (left_in self.old + line_limit < script_limit + length rest.now)) }
+    {
+        if self.left() < rest.len() || LINE_LIMIT - self.partial.len() < rest.len() {
+            write_stop(out, Stop::Limit)?;
+            return Ok(Some(Stop::Limit));
+        }
+        self.partial.extend_from_slice(rest)?;
+        Ok(None)
+    }
+}
+
+/// The first line and what comes after its LF, where one stands in the bytes.
+fn cut_line(bytes: &[u8]) -> Option<(&[u8], &[u8])>
+    ensures { MatchOption result (is_unbroken bytes.now ≡ true) (λ cut. (is_unbroken cut.0.now ≡ true) × (bytes.now ≡ cut.0.now ++ 10 ∷ cut.1.now)) }
+{
+    match memchr(b'\n', bytes) {
+        None => None,
+        Some(at) => {
+            let (line, rest) = bytes.split_at(at);
+            let (_, after) = rest.split_at(1);
+            Some((line, after))
+        }
+    }
+}
+
+/// Does what a line means.
+fn answer_line(session: &mut Session, alloc: Global, line: &[u8], number: u32, out: &mut String) -> Result<Option<Stop>, Mem>
+    requires { length session.old.records + 1 < 2 ^ 32 }
+    ensures meaning { (turns : List Turn) → IsAfter session.old turns → IfOk result (λ stop. LineRead stop turns (meaning_of line.now) number (string_bytes out.old) (string_bytes out.new) session.new) }
+    ensures few { OnOk result (length session.new.records ≤ length session.old.records + 1) }
+    ensures no_limit { IfOk result (λ stop. AtLimit stop ⊥) }
+{
+    match read_line(alloc, line)? {
+        Meaning::Nothing => Ok(None),
+        Meaning::Means(turn) => {
+            session.answer(alloc, turn, out)?;
+            Ok(None)
+        }
+        Meaning::Outside => {
+            let stop = Stop::Outside { line: number };
+            write_stop(out, stop)?;
+            Ok(Some(stop))
+        }
+    }
+}
+
+/// Writes the last line of a script that stops.
+fn write_stop(out: &mut String, stop: Stop) -> Result<(), Mem>
+    ensures { OnOk result (string_bytes out.new ≡ string_bytes out.old ++ stop_text stop) }
+{
+    match stop {
+        Stop::Outside { line } => {
+            put(out, "error line ")?;
+            put_number(out, u64::from(line))?;
+            put(out, "\n")?;
+        }
+        Stop::Limit => put(out, "error limit\n")?,
+    }
+    Ok(())
+}
