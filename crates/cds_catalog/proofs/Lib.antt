@@ -16,3 +16,4 @@ pub mod StepsWithin
 pub mod StepsTree
 pub mod Numbers
 pub mod Versions
+pub mod StepsScan

@@ -1,14 +1,13 @@
 -- The catalog counted afresh is the rows over all changes, and so the steps lead to it.
-use Rattle.std.proofs.Common.{◌≡◌, ◌+◌, ℕ, true, false, cond, map, List, [], ◌∷◌, ◌++◌, Some, refl, sym, ◌∙◌, ap, subst}
-use Rattle.std.specs.List.{AllByRecursion}
+use Rattle.std.proofs.Common.{◌≡◌, ℕ, false, cond, List, [], ◌∷◌, Some, refl, sym, ◌∙◌, ap}
 use Rattle.cds_object.specs.Path.{path_cmp, same_path, parent_of}
 use Rattle.std.proofs.Common.{Less}
 use Rattle.cds_catalog.specs.Library.{FolderMap, content_at, found}
 use Rattle.cds_catalog.specs.Laws.{Ascends, IsLibrary, AreLibraries, steps_lead_to_the_catalog}
 use Rattle.cds_catalog.specs.History.{History, latest, changes_of, with_scan}
 use Rattle.cds_catalog.specs.Catalog.{PlacedRow, in_order, root_entry, row_at, id_of, child_count_of, placed_rows}
-use Rattle.cds_catalog.specs.Replay.{stands, live, IsLegal}
-use Rattle.cds_catalog.specs.Steps.{Standing, standing_of, stepped}
+use Rattle.cds_catalog.specs.Replay.{live, IsLegal}
+use Rattle.cds_catalog.specs.Steps.{standing_of, stepped}
 use Rattle.cds_catalog.specs.declared.change.Change.{Change}
 use Rattle.cds_catalog.proofs.Paths.{same_path_Less}
 use Rattle.cds_catalog.proofs.Maps.{content_at_step, ascends_head, ascends_tail, latest_is_library}

@@ -2,14 +2,13 @@
 use Rattle.std.proofs.Common.{◌≡◌, ◌+◌, ◌<◌, ℕ, Bool, true, false, cond, not, filter, map, List, [], ◌∷◌, ◌++◌, Option, Some, None, refl, sym, ◌∙◌, ap, subst, arith, true≢false}
 use Rattle.std.specs.List.{AllByRecursion, count_by}
 use Rattle.std.proofs.lemmas.List.Sums.{sum_by-cons}
-use Rattle.cds_object.specs.Path.{same_path, parent_of}
+use Rattle.std.proofs.lemmas.Bool.{false_from_ne_true}
+use Rattle.cds_object.specs.Path.{same_path}
 use Rattle.cds_object.specs.declared.content.Content.{Content}
 use Rattle.cds_catalog.specs.Library.{FolderMap}
-use Rattle.cds_catalog.proofs.Paths.{same_path_is, same_path_itself, same_path_swap}
-use Rattle.cds_catalog.proofs.StepsPaths.{Place, swapped, other_place, false_from}
-
-abbrev pub Entry : Type 0
-Entry = Place × Content
+use Rattle.cds_catalog.proofs.Paths.{same_path_is, same_path_itself}
+pub use Rattle.cds_catalog.proofs.Maps.{Entry}
+use Rattle.cds_catalog.proofs.StepsPaths.{Place}
 
 -- what stands at a place
 abbrev pub find_in : FolderMap → Place → Option Content
@@ -113,7 +112,7 @@ Apart_from_Rising f [] h = tt
 Apart_from_Rising f (e ∷ es) h = (each-weaker (λ o. f e.0 < f o.0) (λ o. same_path e.0 o.0 ≡ false) differs es h.0, Apart_from_Rising f es h.1)
   where
     differs : (o : Entry) → f e.0 < f o.0 → same_path e.0 o.0 ≡ false
-    differs o l = false_from _ (λ s. let q : f e.0 ≡ f o.0 = ap f (same_path_is e.0 o.0 s) in absurd (omega arith))
+    differs o l = false_from_ne_true _ (λ s. let q : f e.0 ≡ f o.0 = ap f (same_path_is e.0 o.0 s) in absurd (omega arith))
 
 -- ---- without a place
 

@@ -1,17 +1,17 @@
 -- The ids of what stands after legal changes: they rise in the order of additions, and above the parent's.
-use Rattle.std.proofs.Common.{◌≡◌, ◌+◌, ◌<◌, ◌≤◌, ℕ, Bool, true, false, cond, not, map, List, [], ◌∷◌, ◌++◌, length, Option, Some, None, refl, sym, ◌∙◌, ap, subst, arith, true≢false}
+use Rattle.std.proofs.Common.{◌≡◌, ◌+◌, ◌<◌, ◌≤◌, ℕ, Bool, true, false, cond, not, List, [], ◌∷◌, ◌++◌, length, Some, None, refl, sym, ◌∙◌, ap, subst, arith}
 use Rattle.std.specs.List.{AllByRecursion, count_by}
 use Rattle.cds_object.specs.Path.{same_path, parent_of}
 use Rattle.cds_object.specs.declared.content.Content.{Content}
 use Rattle.cds_catalog.specs.Library.{FolderMap}
-use Rattle.cds_catalog.specs.History.{is_addition, adds, up_to, after}
+use Rattle.cds_catalog.specs.History.{is_addition, adds, up_to}
 use Rattle.cds_catalog.specs.Catalog.{id_of, root_entry}
 use Rattle.cds_catalog.specs.Replay.{stands, live, IsLegal}
 use Rattle.cds_catalog.specs.declared.change.Change.{Change}
 use Rattle.cds_catalog.specs.declared.change.Change.TheVariants.{Deletion, Addition, Modification}
 use Rattle.cds_catalog.proofs.Paths.{same_path_is, same_path_itself}
 use Rattle.cds_catalog.proofs.StepsPaths.{Place, swapped, parent_differs}
-use Rattle.cds_catalog.proofs.StepsFind.{Entry, find_in, Rising, each-weaker, each-append, each-filter, each-both, count_by-cons, none≢some, Rising-removed, away_from_none, found_holds}
+use Rattle.cds_catalog.proofs.StepsFind.{Entry, Rising, each-weaker, each-append, each-filter, each-both, count_by-cons, none≢some, Rising-removed, away_from_none}
 use Rattle.cds_catalog.proofs.StepsLive.{shown, rewritten, find_live, parent_not_added}
 
 -- ---- parts of a list of changes

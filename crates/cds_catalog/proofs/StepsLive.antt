@@ -1,6 +1,7 @@
 -- What stands after legal changes: looking it up, the root, and what holds each place.
-use Rattle.std.proofs.Common.{◌≡◌, ◌+◌, ◌<◌, ◌≤◌, ℕ, Bool, true, false, cond, not, map, List, [], ◌∷◌, ◌++◌, Option, Some, None, refl, sym, ◌∙◌, ap, subst, arith, true≢false}
+use Rattle.std.proofs.Common.{◌≡◌, Bool, true, false, cond, map, List, [], ◌∷◌, ◌++◌, Option, Some, None, refl, sym, ◌∙◌, ap, subst, true≢false}
 use Rattle.std.specs.List.{AllByRecursion}
+use Rattle.std.proofs.lemmas.Bool.{false_from_ne_true}
 use Rattle.cds_object.specs.Path.{same_path, parent_of}
 use Rattle.cds_object.specs.Content.{same_kind}
 use Rattle.cds_object.specs.Object.{is_folder}
@@ -8,12 +9,12 @@ use Rattle.cds_object.specs.declared.content.Content.{Content}
 use Rattle.cds_object.specs.declared.content.Content.TheVariants.{Folder, Track}
 use Rattle.cds_catalog.specs.Library.{FolderMap}
 use Rattle.cds_catalog.specs.Catalog.{root_entry}
-use Rattle.cds_catalog.specs.Replay.{stands, live, holds_after, MayFollow, IsLegal}
+use Rattle.cds_catalog.specs.Replay.{stands, live, holds_after, IsLegal}
 use Rattle.cds_catalog.specs.declared.change.Change.{Change}
 use Rattle.cds_catalog.specs.declared.change.Change.TheVariants.{Deletion, Addition, Modification}
-use Rattle.cds_catalog.proofs.Paths.{same_path_is, same_path_itself}
-use Rattle.cds_catalog.proofs.StepsPaths.{Place, swapped, false_from, parent_differs}
-use Rattle.cds_catalog.proofs.StepsFind.{Entry, find_in, removed, none≢some, find_removed, away_from_none}
+use Rattle.cds_catalog.proofs.Paths.{same_path_is}
+use Rattle.cds_catalog.proofs.StepsPaths.{Place, swapped, parent_differs}
+use Rattle.cds_catalog.proofs.StepsFind.{find_in, none≢some, find_removed, away_from_none}
 
 -- the root and all that stands
 abbrev pub shown : List Change → FolderMap
@@ -105,7 +106,7 @@ rootless (Modification at content ∷ older) l = by (same_path [] at) refl (root
 
 pub stands_named : (changes : List Change) (p : Place) (content : Content) → IsLegal changes → stands changes p ≡ Some content → same_path p [] ≡ false
 stands_named changes p content l e =
-    false_from _ (λ s. none≢some (stands changes p) content (ap (stands changes) (same_path_is p [] s) ∙ rootless changes l) e)
+    false_from_ne_true _ (λ s. none≢some (stands changes p) content (ap (stands changes) (same_path_is p [] s) ∙ rootless changes l) e)
 
 -- whether what stands at a place holds others
 abbrev pub holder : Place → Option Content → Bool
@@ -134,7 +135,7 @@ holder_kind (name ∷ names) (Track t) content k h = absurd (true≢false (sym h
 -- a place that nothing stands at is not the parent of one that something does
 parent_other : (older : List Change) (at p : Place) → same_path at [] ≡ false → stands older at ≡ None
     → holder (parent_of p) (stands older (parent_of p)) ≡ true → same_path (parent_of p) at ≡ false
-parent_other older at p n e h = false_from _ (λ s. true≢false (sym (holder_none at (moved s)) ∙ n))
+parent_other older at p n e h = false_from_ne_true _ (λ s. true≢false (sym (holder_none at (moved s)) ∙ n))
   where
     moved : same_path (parent_of p) at ≡ true → holder at None ≡ true
     moved s = ap (holder at) (sym e) ∙ subst (λ q. holder q (stands older q) ≡ true) (same_path_is (parent_of p) at s) h

@@ -1,5 +1,6 @@
 -- When two places are one, and how a place differs from its parent.
-use Rattle.std.proofs.Common.{◌≡◌, ◌+◌, ◌<◌, ℕ, suc, Bool, true, false, List, [], ◌∷◌, length, refl, sym, ◌∙◌, ap, subst, arith, true≢false}
+use Rattle.std.proofs.Common.{◌≡◌, ℕ, suc, Bool, false, List, [], ◌∷◌, length, refl, ◌∙◌, ap, arith, true≢false}
+use Rattle.std.proofs.lemmas.Bool.{false_from_ne_true}
 use Rattle.cds_object.specs.Path.{same_path, parent_of}
 use Rattle.cds_catalog.proofs.Paths.{same_path_is, same_path_swap}
 
@@ -9,17 +10,9 @@ Place = List (List ℕ)
 pub swapped : (p q : Place) (b : Bool) → same_path p q ≡ b → same_path q p ≡ b
 swapped p q b e = same_path_swap q p ∙ e
 
--- a place that is one with one of two that differ is not the other
-pub other_place : (p q r : Place) → same_path p q ≡ true → same_path p r ≡ false → same_path q r ≡ false
-other_place p q r e = subst (λ x. same_path x r ≡ false) (same_path_is p q e)
-
 pub length-parent : (name : List ℕ) (names : Place) → length (parent_of (name ∷ names)) ≡ length names
 length-parent name [] = refl
 length-parent name (next ∷ names) = ap suc (length-parent next names)
-
-pub false_from : (b : Bool) → (b ≡ true → ⊥) → b ≡ false
-false_from true f = absurd (f refl)
-false_from false f = refl
 
 longer : (p : Place) (name : List ℕ) (names : Place) → p ≡ name ∷ names → length p ≡ length names → ⊥
 longer p name names e l = let k : length p ≡ suc (length names) = ap length e in absurd (omega arith)
@@ -28,4 +21,4 @@ longer p name names e l = let k : length p ≡ suc (length names) = ap length e 
 pub parent_differs : (p : Place) → same_path p [] ≡ false → same_path (parent_of p) p ≡ false
 parent_differs [] e = absurd (true≢false e)
 parent_differs (name ∷ names) e =
-    false_from _ (λ s. longer (parent_of (name ∷ names)) name names (same_path_is _ _ s) (length-parent name names))
+    false_from_ne_true _ (λ s. longer (parent_of (name ∷ names)) name names (same_path_is _ _ s) (length-parent name names))

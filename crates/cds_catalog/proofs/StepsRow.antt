@@ -1,6 +1,6 @@
 -- How one more change alters the parts of a row.
-use Rattle.std.proofs.Common.{◌≡◌, ◌+◌, ◌-◌, ◌<◌, ◌≤◌, ℕ, suc, max, Bool, true, false, cond, not, map, List, [], ◌∷◌, ◌++◌, length, Option, Some, None, refl, sym, ◌∙◌, ap, subst, arith, true≢false}
-use Rattle.std.specs.List.{AllByRecursion, count_by}
+use Rattle.std.proofs.Common.{◌≡◌, ◌+◌, ◌≤◌, ℕ, suc, max, Bool, true, false, cond, List, [], ◌∷◌, ◌++◌, length, Option, Some, None, refl, sym, ◌∙◌, ap, arith, true≢false}
+use Rattle.std.specs.List.{count_by}
 use Rattle.std.specs.Option.{option_map}
 use Rattle.std.proofs.lemmas.List.Sums.{sum_by_push}
 use Rattle.cds_object.specs.Path.{same_path, parent_of}
@@ -11,10 +11,10 @@ use Rattle.cds_object.specs.declared.content.Content.TheVariants.{Folder, Track}
 use Rattle.cds_object.specs.declared.row.Trackers.{Trackers}
 use Rattle.cds_catalog.specs.Library.{FolderMap}
 use Rattle.cds_catalog.specs.History.{is_addition, adds, sets, is_under, deletes_under, up_to, after}
-use Rattle.cds_catalog.specs.Catalog.{id_of, parent_id_of, object_update_of, container_update_of, deleted_of, child_count_of, trackers_of, row_at}
+use Rattle.cds_catalog.specs.Catalog.{id_of, parent_id_of, object_update_of, container_update_of, deleted_of, child_count_of, trackers_of}
 use Rattle.cds_catalog.specs.declared.change.Change.{Change}
 use Rattle.cds_catalog.proofs.StepsPaths.{Place}
-use Rattle.cds_catalog.proofs.StepsFind.{Entry, count_by-cons, count_places}
+use Rattle.cds_catalog.proofs.StepsFind.{Entry, count_by-cons}
 use Rattle.cds_catalog.proofs.StepsLive.{rewritten}
 use Rattle.cds_catalog.proofs.StepsIds.{length-up_to}
 

@@ -1,23 +1,23 @@
 -- One more legal change makes of the rows what the step makes of them.
-use Rattle.std.proofs.Common.{◌≡◌, ◌+◌, ◌-◌, ◌<◌, ◌≤◌, ℕ, suc, Bool, true, false, cond, not, filter, map, List, [], ◌∷◌, ◌++◌, length, Option, Some, None, refl, sym, ◌∙◌, ap, subst, arith, true≢false}
+use Rattle.std.proofs.Common.{◌≡◌, ◌+◌, ◌-◌, ℕ, suc, Bool, true, false, cond, not, filter, map, List, [], ◌∷◌, ◌++◌, length, Some, None, refl, sym, ◌∙◌, ap, subst, arith, true≢false}
 use Rattle.std.specs.List.{AllByRecursion, count_by}
+use Rattle.std.proofs.lemmas.Bool.{false_from_ne_true}
 use Rattle.cds_object.specs.Path.{same_path, parent_of}
 use Rattle.cds_object.specs.Content.{same_kind}
 use Rattle.cds_object.specs.Object.{ObjectRow, is_folder}
 use Rattle.cds_object.specs.declared.content.Content.{Content}
 use Rattle.cds_object.specs.declared.content.Content.TheVariants.{Folder, Track}
-use Rattle.cds_object.specs.declared.row.Trackers.{Trackers}
 use Rattle.cds_catalog.specs.Library.{FolderMap}
 use Rattle.cds_catalog.specs.History.{is_addition}
-use Rattle.cds_catalog.specs.Catalog.{PlacedRow, row_at, id_of, parent_id_of, child_count_of, container_update_of, deleted_of, root_entry}
-use Rattle.cds_catalog.specs.Replay.{stands, live, MayFollow, IsLegal}
+use Rattle.cds_catalog.specs.Catalog.{PlacedRow, row_at, id_of, parent_id_of, child_count_of, deleted_of, root_entry}
+use Rattle.cds_catalog.specs.Replay.{stands, live, IsLegal}
 use Rattle.cds_catalog.specs.Steps.{Standing, touched, touch, id_at, child_added, child_modified, child_deleted, modified, new_row, new_trackers, step, stepped}
 use Rattle.cds_catalog.specs.declared.change.Change.{Change}
 use Rattle.cds_catalog.specs.declared.change.Change.TheVariants.{Deletion, Addition, Modification}
 use Rattle.cds_catalog.proofs.Paths.{same_path_is, same_path_itself}
-use Rattle.cds_catalog.proofs.StepsPaths.{Place, false_from, swapped, parent_differs}
-use Rattle.cds_catalog.proofs.StepsFind.{Entry, find_in, Apart, removed, each-all, each-weaker, each_from_found, map-agree, none≢some, away_from_none, Apart_from_Rising, count_removed, count_by-cons}
-use Rattle.cds_catalog.proofs.StepsLive.{shown, shown_holder, rewritten, find_live, stands_named, holder, holds_is, parent_not_added}
+use Rattle.cds_catalog.proofs.StepsPaths.{Place, swapped, parent_differs}
+use Rattle.cds_catalog.proofs.StepsFind.{Entry, find_in, Apart, removed, each-all, each-weaker, each_from_found, map-agree, none≢some, Apart_from_Rising, count_removed, count_by-cons}
+use Rattle.cds_catalog.proofs.StepsLive.{shown, shown_holder, rewritten, find_live, stands_named, holds_is, parent_not_added}
 use Rattle.cds_catalog.proofs.StepsIds.{ids_rise, id_new}
 use Rattle.cds_catalog.proofs.StepsRow.{id_left, parent_left, update_left, update_set, container_left, container_set, container_new, deleted_more, deleted_new, children_pushed, children_rewritten, same_row, same_trackers, tracking, trackers_altered, trackers_left, trackers_are, for_folder, for_same_kind}
 
@@ -168,7 +168,7 @@ untouched older at added l =
     ((swapped at [] false l.1.0, swapped at [] false l.1.0), each_from_found (Untouched at) (live older) (live_apart older l.0).1 one)
   where
     one : (p : Place) (content : Content) → find_in (live older) p ≡ Some content → Untouched at (p, content)
-    one p content f = (false_from _ (λ s. none≢some (stands older p) content (ap (stands older) (same_path_is p at s) ∙ l.1.1) e), parent_not_added older at added l p content e)
+    one p content f = (false_from_ne_true _ (λ s. none≢some (stands older p) content (ap (stands older) (same_path_is p at s) ∙ l.1.1) e), parent_not_added older at added l p content e)
       where
         e : stands older p ≡ Some content
         e = sym (find_live older l.0 p) ∙ f

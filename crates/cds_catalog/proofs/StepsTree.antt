@@ -1,5 +1,5 @@
 -- The catalog's rows are a tree.
-use Rattle.std.proofs.Common.{◌≡◌, ◌+◌, ◌<◌, ◌≤◌, ℕ, Bool, true, false, cond, map, nat_eq, List, [], ◌∷◌, Option, Some, None, is_some, is_none, MatchOption, refl, sym, ◌∙◌, ap, subst, arith, true≢false, eq-eqb, ne_eqb}
+use Rattle.std.proofs.Common.{◌≡◌, ◌+◌, ◌<◌, ℕ, Bool, true, false, cond, map, nat_eq, List, [], ◌∷◌, Some, None, is_some, is_none, MatchOption, refl, sym, ◌∙◌, ap, subst, arith, true≢false, eq-eqb, ne_eqb}
 use Rattle.std.specs.List.{AllByRecursion, count_by}
 use Rattle.std.specs.Option.{option_eq}
 use Rattle.cds_object.specs.Path.{same_path, parent_of}
@@ -8,18 +8,18 @@ use Rattle.cds_object.specs.Tree.{row_of, is_child_of, is_container_row, IdsAsce
 use Rattle.cds_object.specs.declared.content.Content.{Content}
 use Rattle.cds_object.specs.declared.content.Content.TheVariants.{Folder, Track}
 use Rattle.cds_catalog.specs.Library.{FolderMap}
-use Rattle.cds_catalog.specs.History.{History, changes_of}
-use Rattle.cds_catalog.specs.Catalog.{PlacedRow, root_entry, row_at, id_of, parent_id_of, trackers_of, child_count_of, catalog}
+use Rattle.cds_catalog.specs.History.{changes_of}
+use Rattle.cds_catalog.specs.Catalog.{PlacedRow, root_entry, row_at, id_of, parent_id_of, trackers_of, child_count_of}
 use Rattle.cds_catalog.specs.Replay.{stands, live, IsLegal}
-use Rattle.cds_catalog.specs.Laws.{AreLibraries, catalogs_are_trees}
+use Rattle.cds_catalog.specs.Laws.{catalogs_are_trees}
 use Rattle.cds_catalog.specs.declared.change.Change.{Change}
 use Rattle.cds_catalog.proofs.Paths.{same_path_decides, same_path_is}
 use Rattle.cds_catalog.proofs.Found.{history_is_legal}
 use Rattle.cds_catalog.proofs.StepsPaths.{Place}
-use Rattle.cds_catalog.proofs.StepsFind.{Entry, find_in, Rising, each-weaker, each-map, each-both, none≢some, found_holds, each_from_found, Apart_from_Rising, found_first, count_by-cons}
+use Rattle.cds_catalog.proofs.StepsFind.{Entry, find_in, Rising, each-weaker, each-map, each-both, none≢some, found_holds, each_from_found, Apart_from_Rising, count_by-cons}
 use Rattle.cds_catalog.proofs.StepsLive.{shown, shown_holder, find_live, stands_named, held}
 use Rattle.cds_catalog.proofs.StepsIds.{ids_rise, id_root, parent_lower}
-use Rattle.cds_catalog.proofs.StepsRows.{map_map, row_over, rows_over}
+use Rattle.cds_catalog.proofs.StepsRows.{map_map, row_over}
 use Rattle.cds_catalog.proofs.StepsCatalog.{placed_rows_over}
 
 lower_differs : (a b : ℕ) → a < b → a ≡ b → ⊥

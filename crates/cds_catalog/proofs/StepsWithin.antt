@@ -1,14 +1,13 @@
 -- No number of a row is above the number that stands, and there is a row for the root and each place.
-use Rattle.std.proofs.Common.{◌≡◌, ◌+◌, ◌<◌, ◌≤◌, ℕ, suc, max, Bool, true, false, cond, map, List, [], ◌∷◌, length, MatchOption, refl, sym, ◌∙◌, ap, arith}
-use Rattle.std.specs.List.{AllByRecursion, count_by}
+use Rattle.std.proofs.Common.{◌≡◌, ◌+◌, ◌≤◌, ℕ, suc, max, Bool, true, false, cond, map, List, [], ◌∷◌, length, MatchOption, refl, ◌∙◌, ap, arith}
+use Rattle.std.specs.List.{count_by}
 use Rattle.std.proofs.lemmas.List.Sums.{count_by-le-length}
-use Rattle.cds_object.specs.Object.{ObjectRow}
 use Rattle.cds_object.specs.declared.content.Content.{Content}
 use Rattle.cds_object.specs.declared.content.Content.TheVariants.{Folder, Track}
 use Rattle.cds_catalog.specs.Library.{FolderMap}
 use Rattle.cds_catalog.specs.History.{History, latest, changes_of, is_addition, adds, sets, is_under, deletes_under, up_to, after}
-use Rattle.cds_catalog.specs.Catalog.{PlacedRow, in_order, root_entry, row_at, trackers_of, placed_rows, catalog}
-use Rattle.cds_catalog.specs.Steps.{Standing, standing_of}
+use Rattle.cds_catalog.specs.Catalog.{PlacedRow, root_entry, row_at, trackers_of, placed_rows, catalog}
+use Rattle.cds_catalog.specs.Steps.{standing_of}
 use Rattle.cds_catalog.specs.Laws.{IsWithin, rows_are_within}
 use Rattle.cds_catalog.specs.declared.change.Change.{Change}
 use Rattle.cds_catalog.proofs.StepsPaths.{Place}
@@ -24,7 +23,7 @@ length-after test (change ∷ older) = by (test change) (length-after test older
     by true r = omega arith
     by false r = omega arith
 
-length-map : {X Y : Type 0} (f : X → Y) (xs : List X) → length (map f xs) ≡ length xs
+pub length-map : {X Y : Type 0} (f : X → Y) (xs : List X) → length (map f xs) ≡ length xs
 length-map f [] = refl
 length-map f (x ∷ xs) = ap suc (length-map f xs)
 
@@ -46,11 +45,13 @@ trackers_within first changes library p (Folder title) = (
 )
 trackers_within first changes library p (Track track) = tt
 
-row_within : (history : History) (library : FolderMap) (e : Entry) → IsWithin (standing_of history) (row_at history.first (changes_of history.maps) library e)
-row_within history library e = record {
-  id = id_drawn (changes_of history.maps) e.0;
-  object_update = above history.first (length (up_to (sets e.0) (changes_of history.maps))) (length (changes_of history.maps)) (length-up_to (sets e.0) (changes_of history.maps));
-  trackers = trackers_within history.first (changes_of history.maps) library e.0 e.1;
+-- no number of a row that is counted over changes is above theirs
+pub row_within : (rows : List PlacedRow) (first : ℕ) (changes : List Change) (library : FolderMap) (e : Entry)
+    → IsWithin (record { number = first + length changes; drawn = count_by is_addition changes; rows = rows }) (row_at first changes library e)
+row_within rows first changes library e = record {
+  id = id_drawn changes e.0;
+  object_update = above first (length (up_to (sets e.0) changes)) (length changes) (length-up_to (sets e.0) changes);
+  trackers = trackers_within first changes library e.0 e.1;
 }
 
 -- there is a row for the root and for each place of the newest folder map
@@ -68,7 +69,7 @@ rows_are_within-proof history all = (
   each-map (IsWithin (standing_of history)) (λ (placed : PlacedRow). placed.1) (placed_rows history)
       (each-in_order (λ placed. IsWithin (standing_of history) placed.1) (map counted (root_entry ∷ latest history.maps))
       (each-map (λ (placed : PlacedRow). IsWithin (standing_of history) placed.1) counted (root_entry ∷ latest history.maps)
-      (each-all (λ e. IsWithin (standing_of history) (counted e).1) (row_within history (latest history.maps)) (root_entry ∷ latest history.maps)))),
+      (each-all (λ e. IsWithin (standing_of history) (counted e).1) (row_within (placed_rows history) history.first (changes_of history.maps) (latest history.maps)) (root_entry ∷ latest history.maps)))),
   count_by-le-length is_addition (changes_of history.maps),
   length-catalog history,
 )

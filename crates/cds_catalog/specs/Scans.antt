@@ -39,21 +39,21 @@ pub data ScanAnswer : Type 0 where
   TooMany : ℕ → ScanAnswer
   NoNumbers : ℕ → ScanAnswer
 
+abbrev pub answer_by : History → List Record → Option ℕ → ScanAnswer
+answer_by history records (Some line) = BadRecord line
+answer_by history records None =
+    cond (nat_lt 65535 (length records)) (TooMany (length records))
+    (cond (nat_lt 4294967295 (end_of history + needed_by history records)) (NoNumbers (needed_by history records)) Accepted)
+
 abbrev pub scan_answer : History → List Record → ScanAnswer
-scan_answer history records = by_record (bad_record records)
-  where
-    by_record : Option ℕ → ScanAnswer
-    by_record (Some line) = BadRecord line
-    by_record None =
-        cond (nat_lt 65535 (length records)) (TooMany (length records))
-        (cond (nat_lt 4294967295 (end_of history + needed_by history records)) (NoNumbers (needed_by history records)) Accepted)
+scan_answer history records = answer_by history records (bad_record records)
 
 -- the history after a scan, which a refusal leaves as it was
+abbrev pub history_by : History → List Record → ScanAnswer → History
+history_by history records Accepted = with_scan history (map_of records)
+history_by history records (BadRecord line) = history
+history_by history records (TooMany objects) = history
+history_by history records (NoNumbers needed) = history
+
 abbrev pub after_scan : History → List Record → History
-after_scan history records = by_answer (scan_answer history records)
-  where
-    by_answer : ScanAnswer → History
-    by_answer Accepted = with_scan history (map_of records)
-    by_answer (BadRecord line) = history
-    by_answer (TooMany objects) = history
-    by_answer (NoNumbers needed) = history
+after_scan history records = history_by history records (scan_answer history records)

@@ -14,7 +14,9 @@ use Rattle.cds_catalog.specs.Catalog.{catalog, catalog_at}
 use Rattle.cds_catalog.specs.Scans.{ScanAnswer, Accepted, BadRecord, TooMany, NoNumbers, scan_answer, after_scan}
 use Rattle.cds_model.specs.Server.{Moment, reply_to}
 use Rattle.cds_model.specs.Replica.{Held, ReplicaTurn, Begins, Shows, held_by, next_ask, says}
-use Rattle.cds_model.specs.Script.{Meaning, Nothing, Means, Outside, meaning_of, lines_of, ended_lines, script_limit, line_limit}
+use Rattle.cds_model.specs.Script.{meaning_of, lines_of, ended_lines, script_limit, line_limit}
+use Rattle.cds_model.specs.declared.turn.Meaning.{Meaning}
+use Rattle.cds_model.specs.declared.turn.Meaning.TheVariants.{Nothing, Means, Outside}
 use Rattle.cds_model.specs.declared.turn.Turn.{Turn}
 use Rattle.cds_model.specs.declared.turn.Turn.TheVariants.{Folder, Track, Scan, Load, Read, Ask}
 use Rattle.cds_model.specs.declared.exchange.Ask.{Ask as Asked}
@@ -55,18 +57,19 @@ script_token = codes "00000000-0000-8000-8000-000000000000"
 abbrev pub moment_of : List Turn → Moment
 moment_of turns = record { token = script_token; number = end_of (history_of turns); rows = catalog (history_of turns) }
 
--- the replica's turns: a read shows what the server replies to its next ask, and nothing where it asks nothing
+-- the replica's turns after a read, by its next ask: what the server replies is shown, and where nothing is asked nothing is
+abbrev pub after_read : Moment → List ReplicaTurn → Option Asked → List ReplicaTurn
+after_read moment turns None = turns
+after_read moment turns (Some ask) = Shows (reply_to moment ask) ∷ turns
+
+-- the replica's turns
 abbrev pub replica_turns : List Turn → List ReplicaTurn
 replica_turns [] = []
 replica_turns (Folder path ∷ older) = replica_turns older
 replica_turns (Track path content ∷ older) = replica_turns older
 replica_turns (Scan ∷ older) = replica_turns older
 replica_turns (Load ∷ older) = Begins ∷ replica_turns older
-replica_turns (Read ∷ older) = shown (next_ask (held_by (replica_turns older))) (replica_turns older)
-  where
-    shown : Option Asked → List ReplicaTurn → List ReplicaTurn
-    shown None turns = turns
-    shown (Some ask) turns = Shows (reply_to (moment_of older) ask) ∷ turns
+replica_turns (Read ∷ older) = after_read (moment_of older) (replica_turns older) (next_ask (held_by (replica_turns older)))
 replica_turns (Ask ∷ older) = replica_turns older
 
 -- what a scan writes
@@ -135,8 +138,12 @@ ending_from turns number (line ∷ lines) whole =
     cond (nat_lt line_limit (length line)) limit_ending
     (ending_at (meaning_of line) turns number (λ now. ending_from now (number + 1) lines whole))
 
--- how a script ends: the lines before a broken one are answered, and those that ended before the limit was passed
+-- how a script goes on after turns, at the line of this number, where so many bytes more may be taken: the lines before
+-- a broken one are answered, and of a script that is too long those that ended before the limit was passed
+abbrev pub ending_of : List Turn → ℕ → ℕ → List ℕ → Ending
+ending_of turns number room bytes =
+    cond (nat_le (length bytes) room) (ending_from turns number (lines_of bytes) true)
+    (ending_from turns number (ended_lines (take room bytes)) false)
+
 abbrev pub script_ending : List ℕ → Ending
-script_ending bytes =
-    cond (nat_le (length bytes) script_limit) (ending_from [] 1 (lines_of bytes) true)
-    (ending_from [] 1 (ended_lines (take script_limit bytes)) false)
+script_ending bytes = ending_of [] 1 script_limit bytes

@@ -1,9 +1,7 @@
 -- What a server replies at a moment (UPnP ContentDirectory:4 on Browse, GetSystemUpdateID and the reset token).
 use Rattle.std.specs.Prelude.{◌≡◌, ◌+◌, ℕ, Bool, cond, nat_eq, List, [], ◌∷◌, length, take, drop, Option, Some, None, unwrap_or}
-use Rattle.cds_object.specs.Object.{ObjectRow}
+use Rattle.cds_object.specs.Object.{ObjectRow, is_folder}
 use Rattle.cds_object.specs.Tree.{row_of, children_of}
-use Rattle.cds_object.specs.declared.content.Content.{Content}
-use Rattle.cds_object.specs.declared.content.Content.TheVariants.{Folder, Track}
 use Rattle.cds_object.specs.declared.row.Trackers.{Trackers}
 use Rattle.cds_model.specs.declared.exchange.Ask.{Ask}
 use Rattle.cds_model.specs.declared.exchange.Ask.TheVariants.{Token, Number as AskNumber, Metadata, Children}
@@ -32,11 +30,9 @@ container_update (Some row) = of_trackers row.trackers
 -- the UpdateID that a reply on an object bears: the server's number for the root, a container's own, and for a track
 -- its parent's
 abbrev pub update_of : Moment → ObjectRow → ℕ
-update_of moment row = cond (nat_eq row.id 0) moment.number (of_content row.content)
-  where
-    of_content : Content → ℕ
-    of_content (Folder title) = container_update (Some row)
-    of_content (Track track) = container_update (row_of (unwrap_or row.parent 0) moment.rows)
+update_of moment row =
+    cond (nat_eq row.id 0) moment.number
+    (cond (is_folder row.content) (container_update (Some row)) (container_update (row_of (unwrap_or row.parent 0) moment.rows)))
 
 -- the reply to an ask for an object's row
 abbrev pub metadata_reply : Moment → Option ObjectRow → Shown
@@ -46,12 +42,10 @@ metadata_reply moment (Some row) = Page (row ∷ []) 1 (update_of moment row)
 -- the reply to an ask for an object's children from a place on
 abbrev pub children_reply : Moment → ℕ → Option ObjectRow → Shown
 children_reply moment start None = Fault 701
-children_reply moment start (Some row) = of_content row.content
-  where
-    of_content : Content → Shown
-    of_content (Folder title) =
-        Page (take page_size (drop start (children_of row.id moment.rows))) (length (children_of row.id moment.rows)) (update_of moment row)
-    of_content (Track track) = Fault 710
+children_reply moment start (Some row) =
+    cond (is_folder row.content)
+    (Page (take page_size (drop start (children_of row.id moment.rows))) (length (children_of row.id moment.rows)) (update_of moment row))
+    (Fault 710)
 
 -- the reply to an ask
 abbrev pub reply_to : Moment → Ask → Shown

@@ -4,6 +4,7 @@
 
 mod evaluated;
 mod exchange;
+mod line;
 mod turn;
 
 pub use evaluated::{
@@ -11,4 +12,5 @@ pub use evaluated::{
     scan_during_a_load, track_becomes_a_folder, track_without_its_folder,
 };
 pub use exchange::{Ask, Read, Says, Shown};
-pub use turn::Turn;
+pub use line::read_line;
+pub use turn::{Meaning, Turn};

@@ -16,3 +16,13 @@ pub enum Turn {
     /// The replica is asked what it knows.
     Ask,
 }
+
+/// What a line of a script means.
+#[derive(Drop, Debug)]
+pub enum Meaning {
+    /// It is empty or a comment.
+    Nothing,
+    Means(Turn),
+    /// It is outside the grammar.
+    Outside,
+}

@@ -1,5 +1,5 @@
 -- What an object says of itself, and when two objects say the same.
-use Rattle.std.specs.Prelude.{◌≡◌, ◌&&◌, ◌*◌, ◌/◌, ℕ, Bool, true, false, nat_eq, nat_lt, cond, List, [], ◌∷◌, length, take, drop, Option, Some, None}
+use Rattle.std.specs.Prelude.{◌&&◌, ℕ, Bool, true, false, nat_eq, List}
 use Rattle.std.specs.Option.{option_eq}
 use Rattle.std.specs.Cmp.Lexicographic.{pointwise}
 use Rattle.cds_object.specs.declared.content.Content.{Content}

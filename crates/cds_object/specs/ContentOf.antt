@@ -1,6 +1,6 @@
 -- What a track says of itself by its file: the comments that count, the sound's numbers and the file's name (this
 -- project's profile; the names of comments are Vorbis comment field names).
-use Rattle.std.specs.Prelude.{◌≡◌, ◌==◌, ◌+◌, ◌-◌, ◌*◌, ◌/◌, ◌^◌, ℕ, Bool, cond, nat_eq, nat_lt, ◌&&◌, ◌||◌, List, [], ◌∷◌, length, take, drop, take_while, Option, Some, None, unwrap_or, codes}
+use Rattle.std.specs.Prelude.{◌-◌, ◌*◌, ◌/◌, ◌^◌, ℕ, Bool, cond, nat_eq, nat_lt, ◌&&◌, ◌||◌, List, [], ◌∷◌, length, take, drop, take_while, Option, Some, None, unwrap_or, codes}
 use Rattle.std.specs.Option.{option_and_then}
 use Rattle.std.specs.Char.{is_ascii_digit}
 use Rattle.std.specs.Str.{str_to_ascii_lowercase}
@@ -9,7 +9,7 @@ use Rattle.cds_flac.specs.declared.info.FlacInfo.{FlacInfo}
 use Rattle.cds_flac.specs.declared.info.Comment.{Comment}
 use Rattle.cds_object.specs.Content.{same_text}
 use Rattle.cds_object.specs.declared.content.Content.{Content}
-use Rattle.cds_object.specs.declared.content.Content.TheVariants.{Folder, Track}
+use Rattle.cds_object.specs.declared.content.Content.TheVariants.{Track}
 
 -- the value of the first comment of a name, which is given in lower case; the ASCII case of a comment's name does not
 -- count
@@ -36,6 +36,10 @@ has_flac_ending name =
 abbrev pub title_from_name : List ℕ → List ℕ
 title_from_name name = cond (has_flac_ending name) (take (length name - 5) name) name
 
+-- the title by the comments, or by the file's name where they have none
+abbrev pub track_title : List Comment → List ℕ → List ℕ
+track_title comments name = unwrap_or (comment_text (codes "title") comments) (title_from_name name)
+
 -- the number that a text's leading digits are, where there are any and it is below 2^32
 abbrev pub leading_number : List ℕ → Option ℕ
 leading_number text = number_below (2 ^ 32) (take_while is_ascii_digit text)
@@ -51,7 +55,7 @@ milliseconds samples rate = cond (nat_eq samples 0 || nat_eq rate 0) None (Some 
 -- what a track says of itself, by what its file says, its name and its size in bytes
 abbrev pub track_of : FlacInfo → List ℕ → ℕ → Content
 track_of info name size = Track (record {
-  title = unwrap_or (comment_text (codes "title") info.comments) (title_from_name name);
+  title = track_title info.comments name;
   artist = comment_text (codes "artist") info.comments;
   album = comment_text (codes "album") info.comments;
   genre = comment_text (codes "genre") info.comments;
@@ -60,7 +64,7 @@ track_of info name size = Track (record {
   duration = milliseconds info.samples info.rate;
   rate = info.rate;
   channels = info.channels;
-  bits = info.bits
+  bits = info.bits;
 })
 
 -- what a file without comments says: its rate, channels, bits and samples

@@ -1,6 +1,6 @@
 -- The text of a row: a DIDL-Lite element (UPnP ContentDirectory:4 on DIDL-Lite) with the properties of the tracking of
 -- changes, written one way only (this project's profile).
-use Rattle.std.specs.Prelude.{◌≡◌, ◌+◌, ◌*◌, ◌/◌, ◌%◌, ℕ, Bool, nat_eq, nat_lt, cond, List, [], ◌∷◌, ◌++◌, Option, Some, None, codes}
+use Rattle.std.specs.Prelude.{◌/◌, ◌%◌, ℕ, nat_eq, nat_lt, cond, List, [], ◌∷◌, ◌++◌, Option, Some, None, codes}
 use Rattle.std.specs.List.{flat_map}
 use Rattle.std.specs.Fmt.{decimal}
 use Rattle.cds_base.specs.Escape.{escaped}

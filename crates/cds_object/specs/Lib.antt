@@ -3,5 +3,6 @@ pub mod Content
 pub mod ContentOf
 pub mod Fragment
 pub mod Path
+pub mod PathAnswer
 pub mod PathOrder
 pub mod Tree

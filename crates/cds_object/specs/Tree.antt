@@ -1,10 +1,9 @@
 -- Rows as a tree (UPnP ContentDirectory:4 on the hierarchy of objects): each row but the root's stands under a container
 -- of a lower id, and each container counts its children.
-use Rattle.std.specs.Prelude.{◌≡◌, ◌<◌, ℕ, Bool, true, false, cond, nat_eq, filter, map, List, [], ◌∷◌, Option, Some, None, MatchOption}
+use Rattle.std.specs.Prelude.{◌≡◌, ◌<◌, ℕ, Bool, true, false, cond, nat_eq, filter, List, [], ◌∷◌, Option, Some, None, MatchOption}
 use Rattle.std.specs.List.{count_by, AllByRecursion}
 use Rattle.std.specs.Option.{option_eq}
 use Rattle.cds_object.specs.Object.{ObjectRow, IsRow, is_folder}
-use Rattle.cds_object.specs.declared.row.Trackers.{Trackers}
 
 -- the row of an id
 abbrev pub row_of : ℕ → List ObjectRow → Option ObjectRow

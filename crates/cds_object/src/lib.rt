@@ -3,6 +3,8 @@
 #![tactic(auto)]
 
 mod content;
+mod error;
+mod from_flac;
 mod id;
 mod path;
 mod record;
@@ -10,7 +12,12 @@ mod row;
 
 pub use cds_flac::{Comment, Comments, FlacInfo};
 pub use content::{Content, TrackContent};
+pub use error::PathError;
+pub use from_flac::content_of;
 pub use id::ObjectId;
 pub use path::Path;
 pub use record::{Record, Records};
 pub use row::{Row, Rows, Trackers};
+
+#[cfg(test)]
+mod tests;

@@ -1,4 +1,5 @@
 ghost use Rattle.std.specs.Prelude.{◌≡◌, IfOk};
+ghost use Rattle.cds_object.specs.Object.{IsRow};
 
 use crate::{Content, ObjectId};
 use cds_base::{Mem, Sequence};
@@ -39,6 +40,13 @@ impl Model for Row {
 }
 
 impl Row {
+    /// What holds of every row, which this makes known where a proof needs it.
+    pub fn facts(&self)
+        ensures { IsRow self.now }
+    {
+        let _ = &self.id;
+    }
+
     /// An equal row.
     pub fn copy(&self, alloc: Global) -> Result<Self, Mem>
         ensures { IfOk result (λ copy. copy ≡ self.now) }

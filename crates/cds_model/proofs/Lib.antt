@@ -1,0 +1,12 @@
+pub mod Advance
+pub mod Frontier
+pub mod Honest
+pub mod Lines
+pub mod Listings
+pub mod Merge
+pub mod Pages
+pub mod Replies
+pub mod Trees
+pub mod Turns
+pub mod Whole
+pub mod Words

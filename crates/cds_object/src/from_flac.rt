@@ -1,0 +1,149 @@
+//! What a track says of itself, by the comments of its file, its sound and its name.
+
+ghost use Rattle.std.specs.Prelude.{◌≡◌, ◌<◌, ◌≤◌, ◌-◌, ◌^◌, drop, length, IfOk, option_copied};
+ghost use Rattle.std.specs.Char.{is_ascii_digit};
+ghost use Rattle.std.specs.List.{prefix_len};
+ghost use Rattle.std.specs.Str.{str_to_ascii_lowercase};
+ghost use Rattle.cds_object.specs.Content.{same_text};
+ghost use Rattle.cds_object.specs.ContentOf.{first_comment, comment_text, has_flac_ending, title_from_name, leading_number, track_number, milliseconds, track_title, track_of};
+
+use crate::{Comment, Content, FlacInfo, TrackContent};
+use cds_base::{Mem, Text, read_u32};
+use std::alloc::Global;
+
+/// What a track says of itself, by what its file says, its name and its size in bytes: the first TITLE, ARTIST, ALBUM,
+/// GENRE and TRACKNUMBER count, the ASCII case of their names aside, and the file's name where there is no title.
+pub fn content_of(alloc: Global, info: &FlacInfo, name: &str, size: u64) -> Result<Content, Mem>
+    requires { info.now.samples < 2 ^ 36 }
+    ensures { IfOk result (λ content. content ≡ track_of info.now name.now size) }
+{
+    let comments = info.comments.as_slice();
+    let title = title_of(alloc, comments, name)?;
+    let artist = text_of(alloc, "artist", comments)?;
+    let album = text_of(alloc, "album", comments)?;
+    let genre = text_of(alloc, "genre", comments)?;
+    Ok(Content::Track(TrackContent {
+        title,
+        artist,
+        album,
+        genre,
+        number: number_of(comments),
+        size,
+        duration: duration_of(info.samples, info.rate),
+        rate: info.rate,
+        channels: info.channels,
+        bits: info.bits,
+    }))
+}
+
+/// The title by the comments, or by the file's name where they have none.
+fn title_of(alloc: Global, comments: &[Comment], name: &str) -> Result<Text, Mem>
+    ensures { IfOk result (λ title. title ≡ track_title comments.now name.now) }
+{
+    match text_of(alloc, "title", comments)? {
+        Some(title) => Ok(title),
+        None => Text::read(alloc, without_ending(name)),
+    }
+}
+
+/// The text of the first comment of a name, `None` where it is empty. The name is in lower case.
+fn text_of(alloc: Global, name: &str, comments: &[Comment]) -> Result<Option<Text>, Mem>
+    requires { str_to_ascii_lowercase name.now ≡ name.now }
+    ensures { IfOk result (λ text. text ≡ comment_text name.now comments.now) }
+{
+    match value_of(name, comments) {
+        Some(value) if value.len() > 0 => Ok(Some(value.copy(alloc)?)),
+        _ => Ok(None),
+    }
+}
+
+/// The value of the first comment of a name, which is in lower case.
+fn value_of<'a>(name: &str, comments: &'a [Comment]) -> Option<&'a Text>
+    requires { str_to_ascii_lowercase name.now ≡ name.now }
+    ensures { option_copied result ≡ first_comment name.now comments.now }
+{
+    for comment in comments {
+        if is_named(comment, name) {
+            return Some(&comment.value);
+        }
+    }
+    None
+}
+
+/// Whether a comment has this name, which is in lower case.
+fn is_named(comment: &Comment, name: &str) -> bool
+    requires { str_to_ascii_lowercase name.now ≡ name.now }
+    ensures { result ≡ same_text name.now (str_to_ascii_lowercase comment.now.name) }
+{
+    is_in_any_case(name.as_bytes(), comment.name.as_str().as_bytes())
+}
+
+/// Whether a text is the one in lower case, its own ASCII case aside.
+fn is_in_any_case(lower: &[u8], text: &[u8]) -> bool
+    requires { str_to_ascii_lowercase lower.now ≡ lower.now }
+    ensures { result ≡ same_text lower.now (str_to_ascii_lowercase text.now) }
+{
+    lower.eq_ignore_ascii_case(text)
+}
+
+/// A file's name without its `.flac`, or whole where it has no such ending or nothing else.
+fn without_ending(name: &str) -> &str
+    ensures { result.now ≡ title_from_name name.now }
+{
+    if has_ending(name) {
+        name.split_at(name.len() - 5).0
+    } else {
+        name
+    }
+}
+
+/// Whether a name ends in `.flac` in any ASCII case, with something before it.
+fn has_ending(name: &str) -> bool
+    ensures { result ≡ has_flac_ending name.now }
+{
+    name.len() > 5 && is_in_any_case(b".flac", last_five(name))
+}
+
+/// The last five bytes of a name.
+fn last_five(name: &str) -> &[u8]
+    requires { 5 ≤ length name.now }
+    ensures { result.now ≡ drop (length name.now - 5) name.now }
+{
+    name.as_bytes().split_at(name.len() - 5).1
+}
+
+/// The number of the first TRACKNUMBER comment.
+fn number_of(comments: &[Comment]) -> Option<u32>
+    ensures { result ≡ track_number comments.now }
+{
+    match value_of("tracknumber", comments) {
+        Some(value) => number_at_start(value.as_str().as_bytes()),
+        None => None,
+    }
+}
+
+/// The number that a text's leading digits are.
+fn number_at_start(text: &[u8]) -> Option<u32>
+    ensures { result ≡ leading_number text.now }
+{
+    read_u32(text.split_at(leading_digits(text)).0)
+}
+
+/// How many digits a text begins with.
+fn leading_digits(text: &[u8]) -> usize
+    ensures { result ≡ prefix_len is_ascii_digit text.now }
+{
+    text.iter().take_while(|byte| byte.is_ascii_digit()).count()
+}
+
+/// How long so many samples play, in milliseconds, where both numbers are known.
+fn duration_of(samples: u64, rate: u32) -> Option<u64>
+    requires { samples < 2 ^ 36 }
+    ensures { result ≡ milliseconds samples rate }
+{
+    if samples == 0 || rate == 0 {
+        None
+    } else {
+        Some(samples * 1000 / u64::from(rate))
+    }
+}

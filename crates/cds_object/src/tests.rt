@@ -1,0 +1,256 @@
+ghost use Rattle.std.specs.Prelude.{◌≡◌, IfOk};
+
+use crate::{
+    Comment, Comments, Content, FlacInfo, ObjectId, Path, PathError, Row, TrackContent, Trackers,
+    content_of,
+};
+use cds_base::Text;
+use std::alloc::{AllocError, Global};
+use std::test::Fail;
+
+/// A part so many times, and what follows it.
+fn repeated(alloc: Global, part: &str, count: usize, end: &str) -> Result<String, AllocError> {
+    let mut text = String::new(alloc);
+    for _ in 0..count {
+        text.push_str(part)?;
+    }
+    text.push_str(end)?;
+    Ok(text)
+}
+
+/// Names of so many bytes, each followed by `/`.
+fn folders(alloc: Global, bytes: usize, count: usize, end: &str) -> Result<String, AllocError> {
+    let name = repeated(alloc, "n", bytes, "/")?;
+    repeated(alloc, name.as_str(), count, end)
+}
+
+/// The text of a place, its names parted by `/`.
+fn text_of(alloc: Global, path: &Path) -> Result<String, AllocError> {
+    let mut text = String::new(alloc);
+    for (at, name) in path.names().iter().enumerate() {
+        if at > 0 {
+            text.push_str("/")?;
+        }
+        text.push_str(name.as_str())?;
+    }
+    Ok(text)
+}
+
+#[test]
+fn reads_short_paths(rt: HostRuntime) -> Result<(), Fail> {
+    let alloc = rt.alloc();
+    for (text, count, name) in [
+        ("a", 1, "a"),
+        ("Rock/b.flac", 2, "b.flac"),
+        (".../.a/b.", 3, "b."),
+        ("a b/\u{e9}\u{1f3b5}", 2, "\u{e9}\u{1f3b5}"),
+    ] {
+        let path = Path::read(alloc, text)?;
+        assert_eq!(rt; path.names().len(), count, "{text}");
+        assert_eq!(rt; path.name(), name, "{text}");
+        let again = text_of(alloc, &path)?;
+        assert_eq!(rt; again.as_str(), text);
+    }
+    for (text, at) in [
+        ("", 0),
+        ("/", 0),
+        ("/a", 0),
+        ("a//b", 2),
+        ("a/", 2),
+        (".", 0),
+        ("../a", 0),
+        ("a/./b", 2),
+        ("ab/..", 3),
+        ("a/b\0c/..", 2),
+        ("\u{e9}/\0", 3),
+    ] {
+        match Path::read(alloc, text) {
+            Ok(_) => assert!(rt; false, "{text}"),
+            Err(error) => assert_eq!(rt; error, PathError::BadPath { at }, "{text}"),
+        }
+    }
+    Ok(())
+}
+
+#[test]
+fn reads_paths_at_the_limits(rt: HostRuntime) -> Result<(), Fail> {
+    let alloc = rt.alloc();
+    for (text, want) in [
+        (repeated(alloc, "n", 255, "")?, Ok(1)),
+        (repeated(alloc, "n", 256, "")?, Err(0)),
+        (folders(alloc, 255, 1, "a")?, Ok(2)),
+        (folders(alloc, 256, 1, "a")?, Err(0)),
+        (folders(alloc, 1, 15, "a")?, Ok(16)),
+        (folders(alloc, 1, 16, "a")?, Err(32)),
+        (folders(alloc, 1, 17, "")?, Err(32)),
+        (folders(alloc, 255, 4, "")?, Err(1024)),
+        (folders(alloc, 203, 5, "abcd")?, Ok(6)),
+        (folders(alloc, 203, 5, "abcde")?, Err(1024)),
+        (folders(alloc, 203, 6, "..")?, Err(1224)),
+        (folders(alloc, 255, 16, "a")?, Err(4096)),
+    ] {
+        match (Path::read(alloc, text.as_str()), want) {
+            (Ok(path), Ok(count)) => assert_eq!(rt; path.names().len(), count, "{text}"),
+            (Err(error), Err(at)) => assert_eq!(rt; error, PathError::BadPath { at }, "{text}"),
+            _ => assert!(rt; false, "{text}"),
+        }
+    }
+    Ok(())
+}
+
+/// A file with these comments, of so many samples.
+fn info(alloc: Global, comments: &[(&str, &str)], samples: u64, rate: u32) -> Result<FlacInfo, Fail>
+    ensures { IfOk result (λ info. info.samples ≡ samples) }
+{
+    let mut list = Comments::new(alloc);
+    for (name, value) in comments {
+        let name = Text::read(alloc, name)?;
+        let value = Text::read(alloc, value)?;
+        list.push(Comment { name, value })?;
+    }
+    Ok(FlacInfo {
+        rate,
+        channels: 2,
+        bits: 16,
+        samples,
+        comments: list,
+    })
+}
+
+/// What a file of this name with these comments says as a track.
+fn track(alloc: Global, comments: &[(&str, &str)], name: &str) -> Result<TrackContent, Fail> {
+    let info = info(alloc, comments, 441000, 44100)?;
+    match content_of(alloc, &info, name, 1000)? {
+        Content::Track(track) => Ok(track),
+        Content::Folder { title } => Err(Fail::from(title)),
+    }
+}
+
+/// The text that is there.
+fn shown(text: &Option<Text>) -> Option<&str> {
+    match text {
+        Some(text) => Some(text.as_str()),
+        None => None,
+    }
+}
+
+#[test]
+fn titles_come_from_comments_or_the_name(rt: HostRuntime) -> Result<(), Fail> {
+    let alloc = rt.alloc();
+    for (names, name, want) in [
+        (["TITLE", "ALBUM"], "a.flac", "x"),
+        (["ALBUM", "tiTle"], "a.flac", "y"),
+        (["title", "TITLE"], "a.flac", "x"),
+        (["TITLES", "TITL"], "a.flac", "a"),
+        (["", "x"], "a.FLAC", "a"),
+        (["", "x"], "b.flac.FlaC", "b.flac"),
+        (["", "x"], ".flac.flac", ".flac"),
+        (["", "x"], ".flac", ".flac"),
+        (["", "x"], "flac", "flac"),
+        (["", "x"], "a.mp3", "a.mp3"),
+        (["", "x"], "aflac", "aflac"),
+        (["", "x"], "\u{e9}.flac", "\u{e9}"),
+        (["", "x"], "\u{1f3b5}lac", "\u{1f3b5}lac"),
+        (["", "x"], "", ""),
+    ] {
+        let track = track(alloc, &[(names[0], "x"), (names[1], "y")], name)?;
+        assert_eq!(rt; track.title.as_str(), want, "{name}");
+    }
+    // the first TITLE counts though it is empty
+    let track = track(alloc, &[("TITLE", ""), ("TITLE", "y")], "a.flac")?;
+    assert_eq!(rt; track.title.as_str(), "a");
+    Ok(())
+}
+
+#[test]
+fn texts_and_numbers_come_from_first_comments(rt: HostRuntime) -> Result<(), Fail> {
+    let alloc = rt.alloc();
+    let comments = [
+        ("Artist", "A\u{e9}"),
+        ("ARTIST", "other"),
+        ("genre", ""),
+        ("GENRE", "Rock"),
+        ("ALBUM", "B"),
+    ];
+    let track = track(alloc, &comments, "t.flac")?;
+    assert!(rt; shown(&track.artist) == Some("A\u{e9}"));
+    assert!(rt; shown(&track.album) == Some("B"));
+    assert!(rt; shown(&track.genre) == None);
+    assert!(rt; track.number == None && track.size == 1000 && track.duration == Some(10000));
+    assert!(rt; track.rate == 44100 && track.channels == 2 && track.bits == 16);
+    for (value, want) in [
+        ("7", Some(7)),
+        ("07/12", Some(7)),
+        ("12 34", Some(12)),
+        ("", None),
+        ("A1", None),
+        (" 1", None),
+        ("4294967295", Some(4294967295)),
+        ("4294967296", None),
+        ("00000000000000000000012", Some(12)),
+    ] {
+        let comments = [("trackNumber", value), ("TRACKNUMBER", "99")];
+        let info = info(alloc, &comments, 1, 1)?;
+        match content_of(alloc, &info, "t.flac", 0)? {
+            Content::Track(track) => assert_eq!(rt; track.number, want, "{value}"),
+            _ => assert!(rt; false),
+        }
+    }
+    Ok(())
+}
+
+#[test]
+fn durations_are_cut_to_milliseconds(rt: HostRuntime) -> Result<(), Fail> {
+    let alloc = rt.alloc();
+    for (samples, rate, want) in [
+        (441000u32, 44100, Some(10000)),
+        (44099, 44100, Some(999)),
+        (1, 48000, Some(0)),
+        (0, 44100, None),
+        (441000, 0, None),
+        (4294967295, 1, Some(4294967295000)),
+    ] {
+        let info = info(alloc, &[], u64::from(samples), rate)?;
+        match content_of(alloc, &info, "t.flac", 0)? {
+            Content::Track(track) => assert_eq!(rt; track.duration, want, "{samples}"),
+            _ => assert!(rt; false),
+        }
+    }
+    let longest = info(alloc, &[], 68719476735, 1)?;
+    match content_of(alloc, &longest, "t.flac", 0)? {
+        Content::Track(track) => assert_eq!(rt; track.duration, Some(68719476735000)),
+        _ => assert!(rt; false),
+    }
+    Ok(())
+}
+
+#[test]
+fn copies_are_equal(rt: HostRuntime) -> Result<(), Fail> {
+    let alloc = rt.alloc();
+    let path = Path::read(alloc, "Rock/a.flac")?;
+    assert!(rt; path.copy(alloc)? == path && path.parent(alloc)? == Path::read(alloc, "Rock")?);
+    assert!(rt; path.parent(alloc)?.parent(alloc)? == Path::root(alloc));
+    assert!(rt; Path::root(alloc).is_root() && !path.is_root() && Path::root(alloc).name() == "");
+
+    let comments = [("ARTIST", "A"), ("GENRE", "G"), ("TRACKNUMBER", "3")];
+    let content = Content::Track(track(alloc, &comments, "t.flac")?);
+    assert!(rt; content.copy(alloc)?.says_the_same(&content));
+    let row = Row {
+        id: ObjectId(0),
+        parent: None,
+        content: Content::Folder {
+            title: Text::read(alloc, "root")?,
+        },
+        object_update: 0,
+        trackers: Some(Trackers {
+            container_update: 3,
+            child_count: 2,
+            deleted: 1,
+        }),
+    };
+    row.facts();
+    let copy = row.copy(alloc)?;
+    assert!(rt; copy.id == row.id && copy.parent == row.parent && copy.content == row.content);
+    assert!(rt; copy.object_update == row.object_update && copy.trackers == row.trackers);
+    Ok(())
+}

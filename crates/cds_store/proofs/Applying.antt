@@ -1,0 +1,96 @@
+-- What follows for a store from an accepted scan.
+use Rattle.std.proofs.Common.{◌≡◌, ◌+◌, ◌<◌, ◌≤◌, ◌^◌, ℕ, Bool, true, false, nat_lt, List, length, Option, Some, None, refl, sym, ◌∙◌, ap, arith}
+use Rattle.std.proofs.lemmas.Bool.Decides.{nat_tests}
+use Rattle.std.proofs.lemmas.List.{length-append, length-map}
+use Rattle.cds_object.specs.declared.record.Record.{Record}
+use Rattle.cds_catalog.specs.Library.{map_of, found}
+use Rattle.cds_catalog.specs.History.{History, latest, changes_of, end_of, with_scan}
+use Rattle.cds_catalog.specs.Catalog.{PlacedRow, placed_rows}
+use Rattle.cds_catalog.specs.Scans.{Accepted, BadRecord, TooMany, NoNumbers, scan_answer, bad_record, needed_by}
+use Rattle.cds_catalog.specs.Steps.{Standing, stepped}
+use Rattle.cds_catalog.specs.declared.change.Change.{Change}
+use Rattle.cds_catalog.proofs.Accepted.{accepted_map}
+use Rattle.cds_catalog.proofs.StepsWithin.{length-catalog}
+use Rattle.cds_catalog.proofs.StepsCatalog.{steps_lead_to_the_catalog-proof}
+use Rattle.cds_store.specs.Stands.{StandsFor, IsStore, IsScan}
+
+-- what an accepted scan has passed
+record Passed (history : History) (records : List Record) : Type 0 where
+  good : bad_record records ≡ None
+  few : length records ≤ 65535
+  fits : end_of history + needed_by history records < 2 ^ 32
+
+passed : (history : History) (records : List Record) → scan_answer history records ≡ Accepted → Passed history records
+passed history records accepted = by_bad (bad_record records) refl
+  where
+    by_end : (b : Bool) → bad_record records ≡ None → nat_lt 65535 (length records) ≡ false →
+        nat_lt 4294967295 (end_of history + needed_by history records) ≡ b → Passed history records
+    by_end true good few spent =
+        let answer : scan_answer history records ≡ NoNumbers (needed_by history records) = rw (good, few, spent) refl in
+        cc
+    by_end false good few spent = record { good = good; few = grind (arith, nat_tests); fits = grind (arith, nat_tests) }
+
+    by_few : (b : Bool) → bad_record records ≡ None → nat_lt 65535 (length records) ≡ b → Passed history records
+    by_few true good many =
+        let answer : scan_answer history records ≡ TooMany (length records) = rw (good, many) refl in
+        cc
+    by_few false good few = by_end (nat_lt 4294967295 (end_of history + needed_by history records)) good few refl
+
+    by_bad : (o : Option ℕ) → bad_record records ≡ o → Passed history records
+    by_bad (Some line) bad =
+        let answer : scan_answer history records ≡ BadRecord line = rw bad refl in
+        cc
+    by_bad None good = by_few (nat_lt 65535 (length records)) good refl
+
+end_of_scan : (history : History) (records : List Record) → end_of (with_scan history (map_of records)) ≡ end_of history + needed_by history records
+end_of_scan history records =
+    let both = length-append (found (latest history.maps) (map_of records)) (changes_of history.maps) in
+    omega arith
+
+-- the changes of an accepted scan can be made
+pub accepted_is_scan : (s : Standing) (history : History) (records : List Record) (changes : List Change) → StandsFor s history →
+    scan_answer history records ≡ Accepted → changes ≡ found (latest history.maps) (map_of records) → IsScan s changes
+accepted_is_scan s history records changes stands accepted made =
+    let p = passed history records accepted in
+    let fits = p.fits in
+    let end = end_of_scan history records in
+    record {
+      history = history;
+      library = map_of records;
+      stands = stands;
+      is_library = (accepted_map records p.good).0;
+      made = made;
+      fits = omega arith;
+    }
+
+-- once they are made the store stands for the history with the scan
+pub applied_stands : (s now : Standing) (history : History) (records : List Record) (changes : List Change) → StandsFor s history →
+    scan_answer history records ≡ Accepted → changes ≡ found (latest history.maps) (map_of records) → now ≡ stepped s changes →
+    StandsFor now (with_scan history (map_of records))
+applied_stands s now history records changes stands accepted made is =
+    let library = (accepted_map records (passed history records accepted).good).0 in (
+      (library, stands.0),
+      is ∙ ap (stepped s) made ∙ ap (λ (t : Standing). stepped t (found (latest history.maps) (map_of records))) stands.1
+          ∙ sym (steps_lead_to_the_catalog-proof history (map_of records) stands.0 library),
+    )
+
+few_rows : (now : Standing) (history : History) (records : List Record) → scan_answer history records ≡ Accepted →
+    StandsFor now (with_scan history (map_of records)) → length now.rows ≤ 65536
+few_rows now history records accepted stands =
+    let p = passed history records accepted in
+    let few = p.few in
+    let new = (accepted_map records p.good).1 in
+    let counted = length-catalog (with_scan history (map_of records)) in
+    let rows = length-map (placed_rows (with_scan history (map_of records))) (λ (placed : PlacedRow). placed.1) in
+    let same = ap (λ (t : Standing). length t.rows) stands.1 in
+    omega (arith, few, new, counted, rows, same)
+
+pub applied_is_store : (s now : Standing) (history : History) (records : List Record) (changes : List Change) → StandsFor s history →
+    scan_answer history records ≡ Accepted → changes ≡ found (latest history.maps) (map_of records) → now ≡ stepped s changes → IsStore now
+applied_is_store s now history records changes stands accepted made is =
+    let after = applied_stands s now history records changes stands accepted made is in
+    record {
+      history = with_scan history (map_of records);
+      stands = after;
+      few = few_rows now history records accepted after;
+    }

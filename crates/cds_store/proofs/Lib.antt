@@ -1,0 +1,6 @@
+pub mod Loops
+pub mod Children
+pub mod Making
+pub mod Shown
+pub mod Planned
+pub mod Applying

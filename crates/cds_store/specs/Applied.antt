@@ -1,0 +1,33 @@
+-- What a scan does to a store.
+use Rattle.std.specs.Prelude.{◌≡◌, List, reverse, Result, Ok, Err}
+use Rattle.cds_object.specs.declared.record.Record.{Record}
+use Rattle.cds_catalog.specs.Library.{map_of, found}
+use Rattle.cds_catalog.specs.History.{History, latest, end_of, with_scan}
+use Rattle.cds_catalog.specs.Scans.{Accepted, BadRecord, TooMany, NoNumbers, scan_answer}
+use Rattle.cds_catalog.specs.Steps.{Standing}
+use Rattle.cds_catalog.specs.declared.change.Change.{Change}
+use Rattle.cds_store.specs.Stands.{StandsFor}
+use Rattle.cds_store.specs.declared.error.ApplyError.{ApplyError}
+use Rattle.cds_store.specs.declared.error.ApplyError.TheVariants.{BadRecords, Full, Spent, Mem}
+use Rattle.cds_store.specs.declared.span.Span.{Span}
+
+-- whether a refusal is the answer that is owed to a scan; want of memory may stand in place of any answer
+abbrev pub IsRefusal : History → List Record → ApplyError → Type 0
+IsRefusal history records (BadRecords line) = scan_answer history records ≡ BadRecord line
+IsRefusal history records (Full objects) = scan_answer history records ≡ TooMany objects
+IsRefusal history records (Spent needed) = scan_answer history records ≡ NoNumbers needed
+IsRefusal history records Mem = Unit {0}
+
+-- what a store is after a scan of records, from one that stood for a history: it stands for the history with the scan's
+-- folder map, and the span is that of the scan's changes; or it is refused and stays as it was
+abbrev pub Applied : History → List Record → Result Span ApplyError → Standing → Standing → Type 0
+Applied history records (Ok span) before now =
+    (scan_answer history records ≡ Accepted)
+    × StandsFor now (with_scan history (map_of records))
+    × (span ≡ record { from = end_of history; to = end_of (with_scan history (map_of records)) })
+Applied history records (Err refusal) before now = IsRefusal history records refusal × (now ≡ before)
+
+-- whether a scan is accepted, and changes, the oldest first, are those that it makes
+abbrev pub IsPlan : History → List Record → List Change → Type 0
+IsPlan history records changes =
+    (scan_answer history records ≡ Accepted) × (reverse changes ≡ found (latest history.maps) (map_of records))

@@ -1,0 +1,237 @@
+//! The rows as they stand, with the numbers drawn so far, and the changes made to them one by one.
+
+ghost use Rattle.std.specs.Prelude.{◌≡◌, ◌+◌, ◌<◌, ◌^◌, [], ◌∷◌, ◌++◌, reverse, filter, not, IfOk};
+ghost use Rattle.std.specs.List.{AllByRecursion};
+ghost use Rattle.cds_object.specs.Path.{same_path};
+ghost use Rattle.cds_object.specs.Object.{is_folder};
+ghost use Rattle.cds_catalog.specs.Steps.{step, stepped, touch, touched, modified, id_at, new_row, new_trackers};
+ghost use Rattle.cds_store.specs.Rows.{CanMake, KeepsKind};
+ghost use Rattle.cds_store.specs.Stands.{IsScan, beginning};
+
+use crate::placed::Placed;
+use crate::touch::{ChildEvent, touch_parent};
+use cds_base::{Mem, Text};
+use cds_catalog::Change;
+use cds_object::{Content, ObjectId, Path, Row, Trackers};
+use std::alloc::Global;
+use std::marker::Model;
+
+/// What stands: the number of the newest change, how many ids were drawn, and the rows in ascending order of ids.
+#[derive(Drop, Debug)]
+pub(crate) struct Catalog {
+    number: u32,
+    drawn: u32,
+    rows: Vec<Placed>,
+}
+
+impl Model for Catalog {
+    ghost use Rattle.cds_catalog.specs.Steps.{Standing};
+
+    ghost Value = { Standing };
+
+    ghost view = { λ c. record { number = c.number; drawn = c.drawn; rows = c.rows.items } };
+}
+
+fn remove_row(rows: &mut Vec<Placed>, path: &Path)
+    ensures { rows.new.items ≡ filter (λ placed. not (same_path path.now placed.0)) rows.old.items }
+{
+    rows.retain(|placed| !(*path == placed.path));
+}
+
+fn modify_placed(
+    alloc: Global,
+    placed: &mut Placed,
+    path: &Path,
+    content: &Content,
+    number: u32,
+) -> Result<(), Mem>
+    requires { KeepsKind path.now content.now placed.old }
+    ensures { IfOk result (λ _. placed.new ≡ touched path.now (modified number content.now) placed.old) }
+{
+    if *path == placed.path {
+        let content = content.copy(alloc)?;
+        modify_row(&mut placed.row, content, number);
+    }
+    Ok(())
+}
+
+fn modify_row(row: &mut Row, content: Content, number: u32)
+    requires { is_folder row.old.content ≡ is_folder content }
+    ensures { row.new ≡ modified number content row.old }
+{
+    row.content = content;
+    row.object_update = number;
+}
+
+fn modify_rows(
+    alloc: Global,
+    rows: &mut Vec<Placed>,
+    path: &Path,
+    content: &Content,
+    number: u32,
+) -> Result<(), Mem>
+    requires { AllByRecursion (KeepsKind path.now content.now) rows.old.items }
+    ensures { IfOk result (λ _. rows.new.items ≡ touch path.now (modified number content.now) rows.old.items) }
+{
+    for placed in rows.iter_mut() {
+        modify_placed(alloc, placed, path, content, number)?;
+    }
+    Ok(())
+}
+
+fn id_at(rows: &[Placed], path: &Path) -> ObjectId
+    ensures { result.0 ≡ id_at path.now rows.now }
+{
+    for placed in rows {
+        if *path == placed.path {
+            return placed.row.id;
+        }
+    }
+    ObjectId(0)
+}
+
+fn new_trackers(number: u32, content: &Content) -> Option<Trackers>
+    ensures { result ≡ new_trackers number content.now }
+{
+    match content {
+        Content::Folder { .. } => Some(Trackers {
+            container_update: number,
+            child_count: 0,
+            deleted: 0,
+        }),
+        Content::Track(_) => None,
+    }
+}
+
+/// The row of what was just added; an id that was drawn is above 0.
+fn new_row(id: u32, parent: ObjectId, number: u32, content: Content) -> Row
+    requires { 0 < id }
+    ensures { result ≡ new_row id parent.0 number content }
+{
+    let trackers = new_trackers(number, &content);
+    Row {
+        id: ObjectId(id),
+        parent: Some(parent),
+        content,
+        object_update: number,
+        trackers,
+    }
+}
+
+impl Catalog {
+    /// The root alone, before any change.
+    pub(crate) fn new(alloc: Global, first: u32) -> Result<Self, Mem>
+        ensures { IfOk result (λ catalog. catalog ≡ beginning first) }
+    {
+        let root = Row {
+            id: ObjectId(0),
+            parent: None,
+            content: Content::Folder {
+                title: Text::read(alloc, "root")?,
+            },
+            object_update: first,
+            trackers: Some(Trackers {
+                container_update: first,
+                child_count: 0,
+                deleted: 0,
+            }),
+        };
+        let mut rows = Vec::new(alloc);
+        rows.push(Placed {
+            path: Path::root(alloc),
+            row: root,
+        })?;
+        Ok(Catalog {
+            number: first,
+            drawn: 0,
+            rows,
+        })
+    }
+
+    /// The number of the newest change, or the first number.
+    pub(crate) fn number(&self) -> u32
+        ensures { result ≡ self.now.number }
+    {
+        self.number
+    }
+
+    /// The rows in ascending order of ids.
+    pub(crate) fn rows(&self) -> &[Placed]
+        ensures { result.now ≡ self.now.rows }
+    {
+        self.rows.as_slice()
+    }
+
+    /// An equal catalog.
+    pub(crate) fn copy(&self, alloc: Global) -> Result<Self, Mem>
+        ensures { IfOk result (λ copy. copy ≡ self.now) }
+    {
+        let mut rows = Vec::new(alloc);
+        for placed in self.rows.iter() {
+            rows.push(placed.copy(alloc)?)?;
+        }
+        Ok(Catalog {
+            number: self.number,
+            drawn: self.drawn,
+            rows,
+        })
+    }
+
+    fn delete(&mut self, alloc: Global, path: Path) -> Result<(), Mem>
+        requires { CanMake self.old (Change.Deletion path) }
+        ensures { IfOk result (λ _. self.new ≡ step self.old (Change.Deletion path)) }
+    {
+        let parent = path.parent(alloc)?;
+        remove_row(&mut self.rows, &path);
+        self.number += 1;
+        touch_parent(&mut self.rows, &parent, ChildEvent::Deleted, self.number);
+        Ok(())
+    }
+
+    fn add(&mut self, alloc: Global, path: Path, content: Content) -> Result<(), Mem>
+        requires { CanMake self.old (Change.Addition path content) }
+        ensures { IfOk result (λ _. self.new ≡ step self.old (Change.Addition path content)) }
+    {
+        let parent = path.parent(alloc)?;
+        let parent_id = id_at(self.rows.as_slice(), &parent);
+        self.number += 1;
+        self.drawn += 1;
+        let row = new_row(self.drawn, parent_id, self.number, content);
+        touch_parent(&mut self.rows, &parent, ChildEvent::Added, self.number);
+        self.rows.push(Placed { path, row })?;
+        Ok(())
+    }
+
+    fn modify(&mut self, alloc: Global, path: Path, content: Content) -> Result<(), Mem>
+        requires { CanMake self.old (Change.Modification path content) }
+        ensures { IfOk result (λ _. self.new ≡ step self.old (Change.Modification path content)) }
+    {
+        let parent = path.parent(alloc)?;
+        self.number += 1;
+        modify_rows(alloc, &mut self.rows, &path, &content, self.number)?;
+        touch_parent(&mut self.rows, &parent, ChildEvent::Modified, self.number);
+        Ok(())
+    }
+
+    fn make(&mut self, alloc: Global, change: Change) -> Result<(), Mem>
+        requires { CanMake self.old change }
+        ensures { IfOk result (λ _. self.new ≡ step self.old change) }
+    {
+        match change {
+            Change::Deletion { path } => self.delete(alloc, path),
+            Change::Addition { path, content } => self.add(alloc, path, content),
+            Change::Modification { path, content } => self.modify(alloc, path, content),
+        }
+    }
+
+    /// Makes the changes of a scan, the oldest of which comes first. Where memory runs out, some are made.
+    pub(crate) fn make_all(&mut self, alloc: Global, changes: Vec<Change>) -> Result<(), Mem>
+        requires { IsScan self.old (reverse changes.items) }
+        ensures { IfOk result (λ _. self.new ≡ stepped self.old (reverse changes.items)) }
+    {
+        for change in changes {
+            self.make(alloc, change)?;
+        }
+        Ok(())
+    }
+}

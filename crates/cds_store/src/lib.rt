@@ -1,0 +1,19 @@
+//! The store of a server: the catalog after all scans, kept as one list of rows that each change of a scan brings up
+//! to date.
+#![tactic(auto)]
+
+mod catalog;
+mod error;
+mod library;
+mod placed;
+mod records;
+mod span;
+mod store;
+mod touch;
+
+pub use error::ApplyError;
+pub use span::Span;
+pub use store::Store;
+
+#[cfg(test)]
+mod tests;

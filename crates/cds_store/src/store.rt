@@ -1,0 +1,182 @@
+ghost use Rattle.std.specs.Prelude.{◌≡◌, ◌+◌, ◌≤◌, ◌<◌, ◌^◌, true, [], ◌∷◌, ◌++◌, map, reverse, take, drop, length, nat_lt, option_copied, slice_get, IfOk, OnErr, MatchResult};
+ghost use Rattle.cds_object.specs.Tree.{row_of, children_of, is_container_row};
+ghost use Rattle.cds_catalog.specs.Library.{map_of, found};
+ghost use Rattle.cds_catalog.specs.History.{History};
+ghost use Rattle.cds_store.specs.Rows.{rows_of, put_places};
+ghost use Rattle.cds_store.specs.Stands.{StandsFor, beginning};
+ghost use Rattle.cds_store.specs.Applied.{Applied, IsPlan, IsRefusal};
+
+use crate::catalog::Catalog;
+use crate::library::{changes_between, library_of, library_shown};
+use crate::placed::Placed;
+use crate::records::bad_record;
+use crate::{ApplyError, Span};
+use cds_base::Mem;
+use cds_catalog::Change;
+use cds_object::{Record, Records, Row};
+use std::alloc::Global;
+use std::marker::Model;
+
+/// How many objects a library can have beside the root.
+const MAX_OBJECTS: usize = 65_535;
+
+/// The catalog of a server after all its scans. Contracts see the number of the newest change, how many ids were drawn,
+/// and the rows with their places; it stands for a history of scans where these are the catalog of that history.
+#[derive(Drop, Debug)]
+pub struct Store {
+    catalog: Catalog,
+}
+
+impl Model for Store {
+    ghost use Rattle.cds_catalog.specs.Steps.{Standing};
+    ghost use Rattle.cds_store.specs.Stands.{IsStore};
+
+    ghost Value = { Standing };
+
+    ghost view = { λ s. s.catalog };
+
+    ghost invariant = { λ s. IsStore s.catalog };
+}
+
+/// The ids of the children of an object, in ascending order.
+fn child_ids(alloc: Global, rows: &[Placed], id: u32) -> Result<Vec<u32>, Mem>
+    ensures { IfOk result (λ ids. ids.items ≡ map (λ r. r.id) (children_of id (rows_of rows.now))) }
+{
+    let mut ids = Vec::new(alloc);
+    for placed in rows {
+        if let Some(parent) = placed.row.parent
+            && parent.0 == id
+        {
+            ids.push(placed.row.id.0)?;
+        }
+    }
+    Ok(ids)
+}
+
+/// At most `count` of the ids from the place `start` on.
+fn page(ids: &[u32], start: u32, count: u32) -> &[u32]
+    ensures { result.now ≡ take count (drop start ids.now) }
+{
+    let (_, rest) = ids.split_at(ids.len().min(start as usize));
+    let (page, _) = rest.split_at(rest.len().min(count as usize));
+    page
+}
+
+/// The changes from what rows show to what a scan found, the oldest first.
+fn changes_found(alloc: Global, rows: &[Placed], records: &[Record]) -> Result<Vec<Change>, Mem>
+    ensures { IfOk result (λ changes. reverse changes.items ≡ found (put_places [] rows.now) (map_of records.now)) }
+{
+    let old = library_shown(alloc, rows)?;
+    let new = library_of(alloc, records)?;
+    changes_between(alloc, &old, new)
+}
+
+/// Whether changes from a number on lead above the last number.
+fn is_spent(number: u32, needed: u32) -> bool
+    ensures { result ≡ nat_lt 4294967295 (number + needed) }
+{
+    number.checked_add(needed).is_none()
+}
+
+impl Store {
+    /// A store before any scan: the root alone, at the first number.
+    pub fn new(alloc: Global, first: u32) -> Result<Store, Mem>
+        ensures stands { IfOk result (λ store. store ≡ beginning first) }
+    {
+        let catalog = Catalog::new(alloc, first)?;
+        Ok(Store { catalog })
+    }
+
+    /// The changes that a scan makes, the oldest first, or why it is refused.
+    fn plan(&self, alloc: Global, records: &Records) -> Result<Vec<Change>, ApplyError>
+        requires { length records.now < 2 ^ 32 }
+        ensures { (history : History) → StandsFor self.now history → MatchResult result (λ changes. IsPlan history records.now changes.items) (λ refusal. IsRefusal history records.now refusal) }
+    {
+        if let Some(line) = bad_record(alloc, records.as_slice())? {
+            return Err(ApplyError::BadRecords { line });
+        }
+        if records.len() > MAX_OBJECTS {
+            let objects = records.len() as u32;
+            return Err(ApplyError::Full { objects });
+        }
+        let changes = changes_found(alloc, self.catalog.rows(), records.as_slice())?;
+        let needed = changes.len() as u32;
+        if is_spent(self.catalog.number(), needed) {
+            return Err(ApplyError::Spent { needed });
+        }
+        Ok(changes)
+    }
+
+    /// Takes what a scan found as the whole library, and answers the numbers of the changes. Deletions come first, in
+    /// descending order of places, then additions and modifications in ascending order. A refusal, or want of memory,
+    /// leaves the store as it was.
+    pub fn apply(&mut self, alloc: Global, records: &Records) -> Result<Span, ApplyError>
+        requires { length records.now < 2 ^ 32 }
+        ensures { (history : History) → StandsFor self.old history → Applied history records.now result self.old self.new }
+    {
+        let changes = self.plan(alloc, records)?;
+        let from = self.catalog.number();
+        let mut next = self.catalog.copy(alloc)?;
+        next.make_all(alloc, changes)?;
+        let to = next.number();
+        self.catalog = next;
+        Ok(Span { from, to })
+    }
+
+    /// The row of an object, `None` where no object has the id.
+    pub fn get(&self, id: u32) -> Option<&Row>
+        ensures { option_copied result ≡ row_of id (rows_of self.now.rows) }
+    {
+        for placed in self.catalog.rows() {
+            if placed.id() == id {
+                return Some(placed.row());
+            }
+        }
+        None
+    }
+
+    /// The row at a place, counted from 0 in ascending order of ids.
+    pub fn row(&self, at: usize) -> Option<&Row>
+        ensures { option_copied result ≡ slice_get (rows_of self.now.rows) at }
+    {
+        match self.catalog.rows().get(at) {
+            None => None,
+            Some(placed) => Some(&placed.row),
+        }
+    }
+
+    /// How many rows there are, the root's with them.
+    pub fn len(&self) -> usize
+        ensures exact { result ≡ length self.now.rows }
+        ensures few { length self.now.rows ≤ 65536 }
+    {
+        self.catalog.rows().len()
+    }
+
+    /// Adds the ids of a container's children to `out`, in ascending order: at most `count` from the place `start` on,
+    /// counted from 0. Answers how many children there are.
+    pub fn children(
+        &self,
+        alloc: Global,
+        id: u32,
+        start: u32,
+        count: u32,
+        out: &mut Vec<u32>,
+    ) -> Result<u32, Mem>
+        requires { is_container_row (row_of id (rows_of self.now.rows)) ≡ true }
+        ensures total { IfOk result (λ total. total ≡ length (children_of id (rows_of self.now.rows))) }
+        ensures page { IfOk result (λ _. out.new.items ≡ out.old.items ++ map (λ r. r.id) (take count (drop start (children_of id (rows_of self.now.rows))))) }
+        ensures kept { OnErr result (out.new.items ≡ out.old.items) }
+    {
+        let ids = child_ids(alloc, self.catalog.rows(), id)?;
+        out.extend_from_slice(page(ids.as_slice(), start, count))?;
+        Ok(ids.len() as u32)
+    }
+
+    /// The number of the newest change, or the first number (UPnP ContentDirectory:4 on SystemUpdateID).
+    pub fn system_update_id(&self) -> u32
+        ensures { result ≡ self.now.number }
+    {
+        self.catalog.number()
+    }
+}

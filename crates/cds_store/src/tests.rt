@@ -1,0 +1,145 @@
+use crate::{ApplyError, Span, Store};
+use cds_base::Text;
+use cds_object::{Content, Path, Record, Records, TrackContent};
+use std::alloc::Global;
+use std::test::Fail;
+
+/// A folder, whose word ends in `/`, or a track of the size after `=`.
+fn record_of(alloc: Global, word: &str) -> Result<Record, Fail> {
+    if let Some(folder) = word.strip_suffix("/") {
+        let title = Text::read(alloc, folder)?;
+        return Ok(Record {
+            path: Path::read(alloc, folder)?,
+            content: Content::Folder { title },
+        });
+    }
+    let (path, size) = word.split_once("=").unwrap_or((word, "1"));
+    let size: u64 = size.parse()?;
+    let track = TrackContent {
+        title: Text::read(alloc, path)?,
+        artist: None,
+        album: None,
+        genre: None,
+        number: None,
+        size,
+        duration: None,
+        rate: 0,
+        channels: 1,
+        bits: 8,
+    };
+    Ok(Record {
+        path: Path::read(alloc, path)?,
+        content: Content::Track(track),
+    })
+}
+
+fn records_of(alloc: Global, scan: &str) -> Result<Records, Fail> {
+    let mut records = Records::new(alloc);
+    for word in scan.split_whitespace() {
+        records.push(record_of(alloc, word)?)?;
+    }
+    Ok(records)
+}
+
+fn answer_text(alloc: Global, answer: Result<Span, ApplyError>) -> Result<String, Fail> {
+    let text = match answer {
+        Ok(span) => format!(in alloc; "{}-{} ", span.from, span.to)?,
+        Err(ApplyError::BadRecords { line }) => format!(in alloc; "bad {line} ")?,
+        Err(ApplyError::Full { objects }) => format!(in alloc; "full {objects} ")?,
+        Err(ApplyError::Spent { needed }) => format!(in alloc; "spent {needed} ")?,
+        Err(ApplyError::Mem) => format!(in alloc; "memory ")?,
+    };
+    Ok(text)
+}
+
+/// Each row as `id<parent@objectUpdateID`, a folder's with `[containerUpdateID children deleted]`.
+fn rows_text(alloc: Global, store: &Store) -> Result<String, Fail> {
+    let mut text = String::new(alloc);
+    for at in 0..store.len() {
+        let Some(row) = store.row(at) else {
+            return Ok(text);
+        };
+        let parent = row.parent.map(|id| id.0).unwrap_or(0);
+        let id = row.id.0;
+        let update = row.object_update;
+        text.push_str(format!(in alloc; "{id}<{parent}@{update}")?.as_str())?;
+        if let Some(t) = row.trackers {
+            let tracked = format!(in alloc; "[{} {} {}]", t.container_update, t.child_count, t.deleted)?;
+            text.push_str(tracked.as_str())?;
+        }
+        text.push_str(" ")?;
+    }
+    Ok(text)
+}
+
+/// Scans parted by `|`, from a first number; what was answered to each, and the rows after all.
+#[derive(Drop)]
+struct Case {
+    first: u32,
+    scans: &'static str,
+    answers: &'static str,
+    rows: &'static str,
+}
+
+#[test]
+fn scans(rt: HostRuntime) -> Result<(), Fail> {
+    let alloc = rt.alloc();
+    let cases = [
+        Case {
+            first: 0,
+            scans: " | ",
+            answers: "0-0 0-0 ",
+            rows: "0<0@0[0 0 0] ",
+        },
+        Case {
+            first: 0,
+            scans: "Rock/ Rock/a=1000",
+            answers: "0-2 ",
+            rows: "0<0@0[1 1 0] 1<0@1[2 1 0] 2<1@2 ",
+        },
+        Case {
+            first: 0,
+            scans: "R/a=1 R/ | R/a=1 | a=1 a/b=1 | a=1 b=1 a=2 | a=1 a=1 x/y=1",
+            answers: "0-2 bad 1 bad 2 bad 3 bad 2 ",
+            rows: "0<0@0[1 1 0] 1<0@1[2 1 0] 2<1@2 ",
+        },
+        Case {
+            first: 0,
+            scans: "x=1 y=1 | x/ y=1",
+            answers: "0-2 2-4 ",
+            rows: "0<0@0[4 2 1] 2<0@2 3<0@4[4 0 0] ",
+        },
+        Case {
+            first: 4294967293,
+            scans: "a=1 b=1 c=1 | b=1 c=1",
+            answers: "spent 3 4294967293-4294967295 ",
+            rows: "0<0@4294967293[4294967295 2 0] 1<0@4294967294 2<0@4294967295 ",
+        },
+        Case {
+            first: 0,
+            scans: "a!=1 a/ a/b=1",
+            answers: "0-3 ",
+            rows: "0<0@0[3 2 0] 1<0@1[2 1 0] 2<1@2 3<0@3 ",
+        },
+        Case {
+            first: 10,
+            scans: "R/ R/a=1 | | R/ R/a=1 | R/ R/a=2",
+            answers: "10-12 12-14 14-16 16-17 ",
+            rows: "0<0@10[15 1 1] 3<0@15[17 1 0] 4<3@17 ",
+        },
+    ];
+    for case in &cases {
+        let mut store = Store::new(alloc, case.first)?;
+        let mut answers = String::new(alloc);
+        for scan in case.scans.split("|") {
+            let records = records_of(alloc, scan)?;
+            assert!(rt; records.len() < 10);
+            let answer = store.apply(alloc, &records);
+            answers.push_str(answer_text(alloc, answer)?.as_str())?;
+        }
+        assert_eq!(rt; answers.as_str(), case.answers);
+        let rows = rows_text(alloc, &store)?;
+        assert_eq!(rt; rows.as_str(), case.rows);
+    }
+    Ok(())
+}
