@@ -44,6 +44,7 @@ pub struct Script {
 
 impl Script {
     /// A script of which nothing has come.
+    #[tactic(auto, unfolding(cds_model::specs::Report::script_ending))]
     pub fn new(alloc: Global) -> Result<Script, Mem>
         ensures sound { IfOk result Sound }
         ensures left { IfOk result (λ script. left_in script ≡ script_limit) }
