@@ -23,13 +23,7 @@ pub fn read_command(words: &[Text]) -> Option<Command>
 {
     match words.split_first() {
         None => None,
-        Some((word, others)) => {
-            if others.is_empty() {
-                named(word)
-            } else {
-                None
-            }
-        }
+        Some((word, others)) => { if others.is_empty() { named(word) } else { None } }
     }
 }
 

@@ -3,6 +3,7 @@
 ghost use Rattle.std.specs.Prelude.{◌≡◌, ◌≢◌, ◌⊎◌, ◌≤◌, ◌<◌, ◌++◌, ℕ, [], Some, None, List, OnErr, OnOk};
 ghost use Rattle.cds_base.specs.Outside.{raised, Rose, WhereTold};
 ghost use Rattle.cds_model.specs.Report.{script_ending};
+ghost use Rattle.cds_model.specs.Loads.{loads_are_bounded};
 ghost use Rattle.cds_cli.specs.Command.{command_of};
 ghost use Rattle.cds_cli.specs.Run.{Ends, Writes, EndsText, WritesText};
 ghost use Rattle.cds_cli.specs.declared.command.Command.TheVariants.{Replay, Help, Version};
@@ -86,6 +87,10 @@ pub fn run<S: Source, K: Sink>(alloc: Global, words: &Words, source: &mut S, sin
     ensures within_limit { command_of words.now ≡ Some Replay → result ≡ 0 → S.moved source.new ≤ raised (S.moved source.old) 67108864 }
     ensures past_limit { result ≡ 6 → raised (S.moved source.old) 4097 ≤ S.moved source.new }
 
+    // In a report `behind load` stands only where no load was begun, or for as many reads as a load of the catalog takes,
+    // and one more, since the load began and the catalog last changed.
+    ensures load_bound { command_of words.now ≡ Some Replay → loads_are_bounded }
+
     // Faults of the outside come only where their count rose.
     ensures read_fault { result ≡ 2 → Rose (S.faults source.old) (S.faults source.new) }
     ensures write_fault { result ≡ 3 → Rose (K.faults sink.old) (K.faults sink.new) }
@@ -101,6 +106,7 @@ pub fn run<S: Source, K: Sink>(alloc: Global, words: &Words, source: &mut S, sin
     ensures only_replay { (result ≡ 1) ⊎ ((result ≡ 2) ⊎ ((result ≡ 4) ⊎ (result ≡ 6))) → command_of words.now ≡ Some Replay }
     ensures known { result ≤ 6 }
 {
+    cds_model::loads_are_bounded();
     match read_command(words.as_slice()) {
         Some(Command::Replay) => play(alloc, source, sink),
         Some(Command::Help) => write_text(sink, HELP, 0),

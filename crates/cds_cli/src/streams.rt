@@ -1,10 +1,10 @@
 //! The program's own streams: standard input as a source and standard output as a sink. They tell nothing of what they
 //! hold, and count their faults. What a real stream gives or takes is trusted.
 
+ghost use Rattle.std.specs.Prelude.{None};
+
 use cds_base::{Failed, Sink, Source};
 use std::io::{Read, Write};
-
-ghost use Rattle.std.specs.Prelude.{None};
 
 /// A reader as a source.
 #[derive(Drop)]

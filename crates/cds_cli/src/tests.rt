@@ -7,7 +7,9 @@ use std::test::Fail;
 
 /// The root's row with these children, this containerUpdateID and this many deleted children.
 fn root(alloc: Global, children: &str, update: &str, deleted: &str) -> Result<String, AllocError> {
-    format!(in alloc; "<container id=\"0\" parentID=\"-1\" restricted=\"1\" searchable=\"1\" childCount=\"{children}\"><dc:title>root</dc:title><upnp:class>object.container</upnp:class><upnp:objectUpdateID>0</upnp:objectUpdateID><upnp:containerUpdateID>{update}</upnp:containerUpdateID><upnp:totalDeletedChildCount>{deleted}</upnp:totalDeletedChildCount></container>\n")
+    format!(in alloc;
+        "<container id=\"0\" parentID=\"-1\" restricted=\"1\" searchable=\"1\" childCount=\"{children}\"><dc:title>root</dc:title><upnp:class>object.container</upnp:class><upnp:objectUpdateID>0</upnp:objectUpdateID><upnp:containerUpdateID>{update}</upnp:containerUpdateID><upnp:totalDeletedChildCount>{deleted}</upnp:totalDeletedChildCount></container>\n"
+    )
 }
 
 /// The words of a command line.
@@ -42,9 +44,18 @@ fn play(
 #[test]
 fn scripts_give_their_reports(rt: HostRuntime) -> Result<(), Fail> {
     let alloc = rt.alloc();
-    let empty = format!(in alloc; "scan 0\nscan 0\nread ok\nread ok\nread ok\nread ok\nread ok\nread ok\nstands 0\n{}", root(alloc, "0", "0", "0")?)?;
-    let again = format!(in alloc; "read ok\nread ok\nread ok\nread ok\nscan 1\nread ok\nread ok\nbehind load\nread ok\nread ok\nread ok\nread ok\nread ok\nread ok\nstands 1\n{}<item id=\"1\" parentID=\"0\" restricted=\"1\"><dc:title>a</dc:title><upnp:class>object.item.audioItem.musicTrack</upnp:class><upnp:objectUpdateID>1</upnp:objectUpdateID><res protocolInfo=\"http-get:*:audio/flac:*\" size=\"10\" bitsPerSample=\"16\" nrAudioChannels=\"2\">/media/1</res></item>\n", root(alloc, "1", "1", "0")?)?;
-    let kinds = format!(in alloc; "scan 2\nscan 4\nread ok\nread ok\nread ok\nread ok\nread ok\nread ok\nread ok\nread ok\nstands 4\n{}<item id=\"2\" parentID=\"0\" restricted=\"1\"><dc:title>y</dc:title><upnp:class>object.item.audioItem.musicTrack</upnp:class><upnp:objectUpdateID>2</upnp:objectUpdateID><res protocolInfo=\"http-get:*:audio/flac:*\" size=\"1\" bitsPerSample=\"8\" nrAudioChannels=\"1\">/media/2</res></item>\n<container id=\"3\" parentID=\"0\" restricted=\"1\" searchable=\"1\" childCount=\"0\"><dc:title>x.flac</dc:title><upnp:class>object.container</upnp:class><upnp:objectUpdateID>4</upnp:objectUpdateID><upnp:containerUpdateID>4</upnp:containerUpdateID><upnp:totalDeletedChildCount>0</upnp:totalDeletedChildCount></container>\n", root(alloc, "2", "4", "1")?)?;
+    let empty = format!(in alloc;
+        "scan 0\nscan 0\nread ok\nread ok\nread ok\nread ok\nread ok\nread ok\nstands 0\n{}",
+        root(alloc, "0", "0", "0")?
+    )?;
+    let again = format!(in alloc;
+        "read ok\nread ok\nread ok\nread ok\nscan 1\nread ok\nread ok\nbehind load\nread ok\nread ok\nread ok\nread ok\nread ok\nread ok\nstands 1\n{}<item id=\"1\" parentID=\"0\" restricted=\"1\"><dc:title>a</dc:title><upnp:class>object.item.audioItem.musicTrack</upnp:class><upnp:objectUpdateID>1</upnp:objectUpdateID><res protocolInfo=\"http-get:*:audio/flac:*\" size=\"10\" bitsPerSample=\"16\" nrAudioChannels=\"2\">/media/1</res></item>\n",
+        root(alloc, "1", "1", "0")?
+    )?;
+    let kinds = format!(in alloc;
+        "scan 2\nscan 4\nread ok\nread ok\nread ok\nread ok\nread ok\nread ok\nread ok\nread ok\nstands 4\n{}<item id=\"2\" parentID=\"0\" restricted=\"1\"><dc:title>y</dc:title><upnp:class>object.item.audioItem.musicTrack</upnp:class><upnp:objectUpdateID>2</upnp:objectUpdateID><res protocolInfo=\"http-get:*:audio/flac:*\" size=\"1\" bitsPerSample=\"8\" nrAudioChannels=\"1\">/media/2</res></item>\n<container id=\"3\" parentID=\"0\" restricted=\"1\" searchable=\"1\" childCount=\"0\"><dc:title>x.flac</dc:title><upnp:class>object.container</upnp:class><upnp:objectUpdateID>4</upnp:objectUpdateID><upnp:containerUpdateID>4</upnp:containerUpdateID><upnp:totalDeletedChildCount>0</upnp:totalDeletedChildCount></container>\n",
+        root(alloc, "2", "4", "1")?
+    )?;
     let cases: [(&str, u8, &str); 9] = [
         ("", 0, ""),
         ("ask", 0, "behind load\n"),
@@ -65,7 +76,11 @@ fn scripts_give_their_reports(rt: HostRuntime) -> Result<(), Fail> {
         ),
         ("track R/a.flac 1 0 1 8 0\nscan\n", 0, "scan bad 1\n"),
         ("deliver 1\n", 1, "error line 1\n"),
-        ("ask\n\n# \u{fc}\nfolder a b\nask\n", 1, "behind load\nerror line 4\n"),
+        (
+            "ask\n\n# \u{fc}\nfolder a b\nask\n",
+            1,
+            "behind load\nerror line 4\n",
+        ),
         ("read\nask ", 1, "read none\nerror line 2\n"),
     ];
     for (script, status, report) in cases {
