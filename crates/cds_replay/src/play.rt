@@ -48,7 +48,11 @@ impl From<Mem> for ReplayError {
 }
 
 /// Plays the script that a source gives and writes its report. Each line is answered before the source is read again.
-pub fn replay<S: Source, K: Sink>(alloc: Global, source: &mut S, sink: &mut K) -> Result<(), ReplayError>
+pub fn replay<S: Source, K: Sink>(
+    alloc: Global,
+    source: &mut S,
+    sink: &mut K,
+) -> Result<(), ReplayError>
     ensures ok_status { OnOk result (WhereTold (S.left source.old) (λ script. (script_ending script).status ≡ 0)) }
     ensures ok_report { OnOk result (WhereTold (S.left source.old) (λ script. Holds (K.holds sink.old) (script_ending script).text (K.holds sink.new))) }
     ensures ok_end { OnOk result (WhereTold (S.left source.old) (λ script. S.left source.new ≡ Some [])) }
@@ -70,7 +74,13 @@ pub fn replay<S: Source, K: Sink>(alloc: Global, source: &mut S, sink: &mut K) -
 }
 
 /// Plays what a source still gives of a script, piece by piece through the buffer.
-fn play_on<S: Source, K: Sink>(alloc: Global, script: &mut Script, buffer: &mut [u8], source: &mut S, sink: &mut K) -> Result<(), ReplayError>
+fn play_on<S: Source, K: Sink>(
+    alloc: Global,
+    script: &mut Script,
+    buffer: &mut [u8],
+    source: &mut S,
+    sink: &mut K,
+) -> Result<(), ReplayError>
     requires sound { Sound script.old }
     requires some { 0 < length buffer.old }
     ensures well { (ending : List ℕ → Ending) (bytes : List ℕ) → GoesOn script.old ending → S.left source.old ≡ Some bytes → OnOk result (EndsIn (ending bytes) (K.holds sink.old) (K.holds sink.new)) }
@@ -121,7 +131,12 @@ fn read_piece<S: Source>(source: &mut S, buffer: &mut [u8], left: usize) -> Resu
 }
 
 /// Plays a piece of a script and writes what it adds to the report.
-fn take_piece<K: Sink>(alloc: Global, script: &mut Script, piece: &[u8], sink: &mut K) -> Result<(), ReplayError>
+fn take_piece<K: Sink>(
+    alloc: Global,
+    script: &mut Script,
+    piece: &[u8],
+    sink: &mut K,
+) -> Result<(), ReplayError>
     requires { Sound script.old }
     ensures goes { (ending : List ℕ → Ending) → GoesOn script.old ending → OnOk result (Played ending piece.now (K.holds sink.old) (K.holds sink.new) script.new) }
     ensures sound { OnOk result (Sound script.new) }

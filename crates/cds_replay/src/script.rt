@@ -67,7 +67,12 @@ impl Script {
     }
 
     /// Takes the next piece and answers each line that ends in it. After a stop or an error the script is done with.
-    pub fn feed(&mut self, alloc: Global, piece: &[u8], out: &mut String) -> Result<Option<Stop>, Mem>
+    pub fn feed(
+        &mut self,
+        alloc: Global,
+        piece: &[u8],
+        out: &mut String,
+    ) -> Result<Option<Stop>, Mem>
         requires { Sound self.old }
         ensures meaning { (ending : List ℕ → Ending) → GoesOn self.old ending → IfOk result (λ stop. Fed stop ending piece.now [] (string_bytes out.old) (string_bytes out.new) self.new) }
         ensures sound { IfOk result (λ stop. WhileGoing stop (Sound self.new)) }
@@ -99,7 +104,12 @@ impl Script {
     }
 
     /// Answers the line that ends with these bytes and an LF.
-    fn end_line(&mut self, alloc: Global, line: &[u8], out: &mut String) -> Result<Option<Stop>, Mem>
+    fn end_line(
+        &mut self,
+        alloc: Global,
+        line: &[u8],
+        out: &mut String,
+    ) -> Result<Option<Stop>, Mem>
         requires sound { Sound self.old }
         requires whole { is_unbroken line.now ≡ true }
         ensures meaning { (ending : List ℕ → Ending) (after : List ℕ) → GoesOn self.old ending → IfOk result (λ stop. Fed stop ending (line.now ++ 10 ∷ after) after (string_bytes out.old) (string_bytes out.new) self.new) }
@@ -117,7 +127,12 @@ impl Script {
     }
 
     /// Answers a line, given whole and without its LF.
-    fn take_line(&mut self, alloc: Global, line: &[u8], out: &mut String) -> Result<Option<Stop>, Mem>
+    fn take_line(
+        &mut self,
+        alloc: Global,
+        line: &[u8],
+        out: &mut String,
+    ) -> Result<Option<Stop>, Mem>
         requires sound { Sound self.old }
         requires none { self.old.partial.items ≡ [] }
         requires whole { is_unbroken line.now ≡ true }
@@ -169,7 +184,13 @@ fn cut_line(bytes: &[u8]) -> Option<(&[u8], &[u8])>
 }
 
 /// Does what a line means.
-fn answer_line(session: &mut Session, alloc: Global, line: &[u8], number: u32, out: &mut String) -> Result<Option<Stop>, Mem>
+fn answer_line(
+    session: &mut Session,
+    alloc: Global,
+    line: &[u8],
+    number: u32,
+    out: &mut String,
+) -> Result<Option<Stop>, Mem>
     requires { length session.old.records + 1 < 2 ^ 32 }
     ensures meaning { (turns : List Turn) → IsAfter session.old turns → IfOk result (λ stop. LineRead stop turns (meaning_of line.now) number (string_bytes out.old) (string_bytes out.new) session.new) }
     ensures few { OnOk result (length session.new.records ≤ length session.old.records + 1) }

@@ -27,7 +27,7 @@ loop-script-preserved g c =
       omega (arith, kept.1, left),
       λ n.
           let more : (left_in c.args.script.now - left_in c.loop-script.script) + (c.in-Ok.count + n) ≡ (left_in c.args.script.now - left_in c.take_piece.new.script) + n =
-              omega (arith, kept.1, left, size) in
+          omega (arith, kept.1, left, size) in
           ap (λ m. raised m n) c.in-Ok.ensures.count
           ∙ raised-twice (g.S.Source.moved c.loop-script.source) c.in-Ok.count n
           ∙ kept.2 (c.in-Ok.count + n)
@@ -74,5 +74,5 @@ returns-in_err-take_piece-in-Ok-clause-stops g c = λ ending bytes goes told.
     let error = err_from_is_err_and c.from_residual.result c.from_residual.ensures.1 in
     rw (error.1, error.2)
     (under-stops c.in_err-take_piece-in-Ok.field-0.0 (ending bytes) _ _ _ _ c.loop-script.script c.split_at.result.0.now c.in-Ok.count under
-      (c.split_at.ensures.front ∙ c.in-Ok.ensures.content under.bytes under.left)
-      (c.in_err-take_piece-in-Ok.ensures.stops under.later (drop c.in-Ok.count under.bytes) under.goes))
+    (c.split_at.ensures.front ∙ c.in-Ok.ensures.content under.bytes under.left)
+    (c.in_err-take_piece-in-Ok.ensures.stops under.later (drop c.in-Ok.count under.bytes) under.goes))

@@ -12,7 +12,7 @@ invariant-loop-script g l =
     × (left_in l.script ≤ left_in l.initial.script)
     × ((n : ℕ) → raised (g.S.Source.moved l.source) n ≡ raised (g.S.Source.moved l.initial.source) ((left_in l.initial.script - left_in l.script) + n))
     × ((ending : List ℕ → Ending) (bytes : List ℕ) → GoesOn l.initial.script ending → g.S.Source.left l.initial.source ≡ Some bytes →
-      Under (ending bytes) (g.S.Source.left l.source) (g.K.Sink.holds l.initial.sink) (g.K.Sink.holds l.sink) l.script)
+    Under (ending bytes) (g.S.Source.left l.source) (g.K.Sink.holds l.initial.sink) (g.K.Sink.holds l.sink) l.script)
     × (g.S.Source.faults l.initial.source ≤ g.S.Source.faults l.source)
     × (g.K.Sink.faults l.initial.sink ≤ g.K.Sink.faults l.sink)
 

@@ -9,24 +9,24 @@ pub returns-clause-goes : goal.returns-clause-goes
 returns-clause-goes g c = λ ending goes.
     written-ok c.write_out.result c.in_ok-stop.stop _ c.write_out.ensures.answer
     (λ none is.
-      let went =
-          subst (λ stop. Fed stop ending c.args.piece.now [] (string_bytes c.new-out.result) (string_bytes c.feed.new.out) c.feed.new.self) none
-          (c.in_ok-stop.ensures.meaning ending goes) in
-      record {
-        added = went.added;
-        later = went.later;
-        goes = went.goes;
-        held = subst (λ text. Holds (g.K.Sink.holds c.args.sink.now) text (g.K.Sink.holds c.write_out.new.sink))
-            (c.as_bytes.ensures.value ∙ went.out ∙ ap (λ text. text ++ went.added) c.new-out.ensures.bytes)
-            (c.write_out.ensures.held is);
-        first = went.first;
-      })
+    let went =
+    subst (λ stop. Fed stop ending c.args.piece.now [] (string_bytes c.new-out.result) (string_bytes c.feed.new.out) c.feed.new.self) none
+    (c.in_ok-stop.ensures.meaning ending goes) in
+    record {
+      added = went.added;
+      later = went.later;
+      goes = went.goes;
+      held = subst (λ text. Holds (g.K.Sink.holds c.args.sink.now) text (g.K.Sink.holds c.write_out.new.sink))
+          (c.as_bytes.ensures.value ∙ went.out ∙ ap (λ text. text ++ went.added) c.new-out.ensures.bytes)
+          (c.write_out.ensures.held is);
+      first = went.first;
+    })
 
 pub returns-clause-stops : goal.returns-clause-stops
 returns-clause-stops g c = λ ending more goes.
     written-stops c.write_out.result c.in_ok-stop.stop (ending (c.args.piece.now ++ more)) _ _ c.write_out.ensures.answer
     (λ by some is.
-      stops-in _ by c.as_bytes.result.now (string_bytes c.new-out.result) (string_bytes c.feed.new.out) _ _
-      (subst (λ stop. Fed stop ending c.args.piece.now [] (string_bytes c.new-out.result) (string_bytes c.feed.new.out) c.feed.new.self) some
-        (c.in_ok-stop.ensures.meaning ending goes) more)
-      c.new-out.ensures.bytes c.as_bytes.ensures.value (c.write_out.ensures.held is))
+    stops-in _ by c.as_bytes.result.now (string_bytes c.new-out.result) (string_bytes c.feed.new.out) _ _
+    (subst (λ stop. Fed stop ending c.args.piece.now [] (string_bytes c.new-out.result) (string_bytes c.feed.new.out) c.feed.new.self) some
+    (c.in_ok-stop.ensures.meaning ending goes) more)
+    c.new-out.ensures.bytes c.as_bytes.ensures.value (c.write_out.ensures.held is))

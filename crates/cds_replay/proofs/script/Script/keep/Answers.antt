@@ -9,10 +9,10 @@ pub returns-then-left-rest-clause-meaning : goal.returns-then-left-rest-clause-m
 returns-then-left-rest-clause-meaning c = λ ending goes.
     let script = c.args.self.now in
     let past : (script.room - length script.partial.items < length c.args.rest.now) ⊎ (line_limit - length script.partial.items < length c.args.rest.now) =
-        elim c.then-left-rest.branch [
-          | then-left-rest-via-then-left-rest w ↦ inl (omega arith)
-          | then-left-rest-via-else-left-rest+then-len-rest w ↦ inr (omega arith)
-        ] in
+    elim c.then-left-rest.branch [
+      | then-left-rest-via-then-left-rest w ↦ inl (omega arith)
+      | then-left-rest-via-else-left-rest+then-len-rest w ↦ inr (omega arith)
+    ] in
     kept-stops script ending c.args.rest.now _ _ goes c.requires.sound.whole c.requires.whole past c.requires.sound.within c.requires.sound.short
     c.in_ok-write_stop.ensures
 

@@ -8,10 +8,10 @@ use Rattle.cds_replay.proofs.script.Script.take_line.Goals.{then-self-line-via-t
 pub returns-then-self-line-clause-meaning : goal.returns-then-self-line-clause-meaning
 returns-then-self-line-clause-meaning c = λ ending after goes.
     let past : (c.args.self.now.room ≤ length c.args.line.now) ⊎ (line_limit < length c.args.line.now) =
-        elim c.then-self-line.branch [
-          | then-self-line-via-then-self-line w ↦ inl (omega arith)
-          | then-self-line-via-else-self-line+then-line-gt-LINE_LIMIT w ↦ inr (omega arith)
-        ] in
+    elim c.then-self-line.branch [
+      | then-self-line-via-then-self-line w ↦ inl (omega arith)
+      | then-self-line-via-else-self-line+then-line-gt-LINE_LIMIT w ↦ inr (omega arith)
+    ] in
     line-stops c.args.self.now ending c.args.line.now after _ _ goes c.requires.none c.requires.whole past c.in_ok-write_stop.ensures
 
 pub returns-clause-meaning : goal.returns-clause-meaning
