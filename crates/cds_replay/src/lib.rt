@@ -12,4 +12,6 @@ mod session;
 pub use play::{ReplayError, replay};
 
 #[cfg(test)]
+mod play_tests;
+#[cfg(test)]
 mod tests;

@@ -1,0 +1,164 @@
+ghost use Rattle.std.specs.Prelude.{None};
+
+use crate::{ReplayError, replay};
+use cds_base::{Bytes, Failed, MemSink, MemSource, Numbers, Sink, Source};
+use std::alloc::Global;
+use std::cell::Cell;
+use std::test::Fail;
+
+/// A script, the reads and writes that fail, the answer and what the sink holds.
+type Case<'a> = (
+    &'a str,
+    &'a [u32],
+    &'a [u32],
+    Result<(), ReplayError>,
+    &'a str,
+);
+
+/// A comment of so many bytes, with its LF.
+fn comment(alloc: Global, size: usize) -> Result<String, Fail> {
+    let mut line = String::new(alloc);
+    for _ in 0..size {
+        line.push('#')?;
+    }
+    line.push('\n')?;
+    Ok(line)
+}
+
+#[test]
+fn scripts_from_bytes_to_bytes(rt: HostRuntime) -> Result<(), Fail> {
+    let alloc = rt.alloc();
+    let longest = comment(alloc, 4096)?;
+    let too_long = comment(alloc, 4097)?;
+    let cases: [Case; 10] = [
+        ("", &[], &[], Ok(()), ""),
+        ("ask", &[], &[], Ok(()), "behind load\n"),
+        (
+            "ask\n#\n\nscan\n",
+            &[],
+            &[],
+            Ok(()),
+            "behind load\nscan 0\n",
+        ),
+        (
+            "# The lines before a broken one are answered.\nask\nfolder ../outside\nask\n",
+            &[],
+            &[],
+            Err(ReplayError::Line { line: 3 }),
+            "behind load\nerror line 3\n",
+        ),
+        (
+            "read\nask ",
+            &[],
+            &[],
+            Err(ReplayError::Line { line: 2 }),
+            "read none\nerror line 2\n",
+        ),
+        (longest.as_str(), &[], &[], Ok(()), ""),
+        (
+            too_long.as_str(),
+            &[],
+            &[],
+            Err(ReplayError::Limit),
+            "error limit\n",
+        ),
+        ("ask\n", &[1], &[], Err(ReplayError::ReadFault), ""),
+        (
+            "ask\nread",
+            &[2],
+            &[],
+            Err(ReplayError::ReadFault),
+            "behind load\n",
+        ),
+        ("ask\n", &[], &[1], Err(ReplayError::WriteFault), ""),
+    ];
+    for (script, reads, writes, answer, report) in cases {
+        let bytes = Bytes::from(Vec::from_slice(alloc, script.as_bytes())?);
+        let mut source = MemSource::new(bytes, Numbers::from(Vec::from_slice(alloc, reads)?));
+        let mut sink = MemSink::new(
+            Bytes::new(alloc),
+            Numbers::from(Vec::from_slice(alloc, writes)?),
+        );
+        assert!(rt; replay(alloc, &mut source, &mut sink) == answer, "{script}");
+        assert!(rt; sink.as_slice() == report.as_bytes(), "{script}");
+    }
+    Ok(())
+}
+
+/// A line, and how many bytes of the report are written before the source is read for it.
+type Asked<'a> = (&'a [u8], usize);
+
+/// A source that gives one line at a time, and looks whether the answers of those before are written.
+#[derive(Drop)]
+struct Typed<'a> {
+    lines: &'a [Asked<'a>],
+    at: usize,
+    moved: u64,
+    written: &'a Cell<usize>,
+    late: bool,
+}
+
+impl Source for Typed<'_> {
+    ghost left = { λ _. None };
+
+    ghost moved = { λ s. s.moved };
+
+    ghost faults = { λ _. 0 };
+
+    fn read(&mut self, into: &mut [u8]) -> Result<usize, Failed> {
+        let Some((line, answered)) = self.lines.get(self.at) else {
+            return Ok(0);
+        };
+        self.late = self.late || self.written.get() != *answered;
+        self.at = self.at.saturating_add(1);
+        let count = line.len().min(into.len());
+        into[..count].copy_from_slice(&line[..count]);
+        self.moved = self.moved.saturating_add(count as u64);
+        Ok(count)
+    }
+}
+
+/// A sink that says how many bytes it took.
+#[derive(Drop)]
+struct Heard<'a> {
+    written: &'a Cell<usize>,
+}
+
+impl Sink for Heard<'_> {
+    ghost holds = { λ _. None };
+
+    ghost faults = { λ _. 0 };
+
+    fn write(&mut self, piece: &[u8]) -> Result<usize, Failed> {
+        self.written
+            .set(self.written.get().saturating_add(piece.len()));
+        Ok(piece.len())
+    }
+}
+
+#[test]
+fn a_line_is_answered_before_the_next_is_read(rt: HostRuntime) -> Result<(), Fail> {
+    let alloc = rt.alloc();
+    let written = Cell::new(0);
+    let lines: [Asked; 7] = [
+        (b"ask\n", 0),
+        (b"folder a\n", 12),
+        (b"scan\n", 12),
+        (b"re", 19),
+        (b"ad\n", 19),
+        (b"ask", 29),
+        (b"", 29),
+    ];
+    let mut source = Typed {
+        lines: &lines,
+        at: 0,
+        moved: 0,
+        written: &written,
+        late: false,
+    };
+    let mut sink = Heard { written: &written };
+    assert!(rt; replay(alloc, &mut source, &mut sink) == Ok(()));
+    assert!(rt; !source.late && source.at == 7);
+    assert_eq!(rt; written.get(), 41);
+    Ok(())
+}
