@@ -1,5 +1,5 @@
 -- The lines of a report, by what the store and the replica answered.
-use Rattle.std.specs.Prelude.{ℕ, List, [], ◌++◌, Result, Ok, Err, codes}
+use Rattle.std.specs.Prelude.{ℕ, Bool, true, false, List, [], ◌++◌, Result, Ok, Err, codes}
 use Rattle.std.specs.Fmt.{decimal}
 use Rattle.cds_object.specs.Object.{ObjectRow}
 use Rattle.cds_object.specs.Fragment.{full_text}
@@ -10,7 +10,6 @@ use Rattle.cds_model.specs.declared.exchange.Read.{Read}
 use Rattle.cds_model.specs.declared.exchange.Read.TheVariants.{Ok as ReadOk, Fault as ReadFault}
 use Rattle.cds_model.specs.declared.exchange.Says.{Says}
 use Rattle.cds_model.specs.declared.exchange.Says.TheVariants.{BehindLoad, Stands}
-use Rattle.cds_replica.specs.declared.error.AnswerError.{AnswerError}
 
 -- a line of a word and a number
 abbrev pub numbered_line : List ℕ → ℕ → List ℕ
@@ -25,18 +24,17 @@ scan_line (Err (Spent needed)) = numbered_line (codes "scan spent ") needed
 scan_line (Err Mem) = []
 
 -- whether a scan was answered: memory did not run out
-abbrev pub IsAnswered : Result Span ApplyError → Type 0
-IsAnswered (Ok span) = Unit {0}
-IsAnswered (Err (BadRecords line)) = Unit {0}
-IsAnswered (Err (Full objects)) = Unit {0}
-IsAnswered (Err (Spent needed)) = Unit {0}
-IsAnswered (Err Mem) = ⊥
+abbrev pub was_answered : Result Span ApplyError → Bool
+was_answered (Ok span) = true
+was_answered (Err (BadRecords line)) = true
+was_answered (Err (Full objects)) = true
+was_answered (Err (Spent needed)) = true
+was_answered (Err Mem) = false
 
--- the line of what became of a reply; none where it was not taken
-abbrev pub read_line : Result Read AnswerError → List ℕ
-read_line (Ok ReadOk) = codes "read ok\n"
-read_line (Ok (ReadFault code)) = numbered_line (codes "read ") code
-read_line (Err refusal) = []
+-- the line of what became of a reply that was taken
+abbrev pub read_line : Read → List ℕ
+read_line ReadOk = codes "read ok\n"
+read_line (ReadFault code) = numbered_line (codes "read ") code
 
 -- the number of a copy and its rows
 abbrev pub stands_text : ℕ → List ObjectRow → List ℕ

@@ -29,3 +29,8 @@ moment_in store = record { token = script_token; number = store.number; rows = r
 -- a session with one more record
 abbrev pub with_record : Playing → Record → Playing
 with_record playing found = record { store = playing.store; replica = playing.replica; records = playing.records ++ found ∷ [] }
+
+-- what every session keeps: it stands for some turns
+pub record IsPlayed (playing : Playing) : Type 0 where
+  pub turns : List Turn
+  pub after : IsAfter playing turns

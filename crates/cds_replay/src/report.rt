@@ -1,15 +1,15 @@
 //! What turns write: the lines of a report (this project's profile).
 
-ghost use Rattle.std.specs.Prelude.{◌≡◌, ◌++◌, ◌∷◌, [], OnOk, IsOk, string_bytes, codes};
+ghost use Rattle.std.specs.Prelude.{◌≡◌, ◌++◌, ◌∷◌, [], OnOk, string_bytes, codes};
 ghost use Rattle.std.specs.Fmt.{decimal};
 ghost use Rattle.cds_object.specs.Fragment.{fragment, full_text};
-ghost use Rattle.cds_replay.specs.Lines.{scan_line, read_line, stands_text, numbered_line, IsAnswered};
+ghost use Rattle.cds_replay.specs.Lines.{scan_line, read_line, stands_text, numbered_line, was_answered};
 
 use crate::fragment::put_fragment;
 use crate::put::{put, put_number};
 use cds_base::Mem;
 use cds_object::Row;
-use cds_replica::{AnswerError, Read};
+use cds_replica::Read;
 use cds_store::{ApplyError, Span};
 
 /// Puts a line of a word and a number.
@@ -22,10 +22,16 @@ fn put_numbered_line(out: &mut String, word: &str, number: u64) -> Result<(), Me
     Ok(())
 }
 
-/// Puts what a scan was answered. Want of memory is no answer.
+/// Whether a scan was answered: memory did not run out.
+pub fn was_answered(answer: &Result<Span, ApplyError>) -> bool
+    ensures { result ≡ was_answered answer.now }
+{
+    !matches!(answer, Err(ApplyError::Mem))
+}
+
+/// Puts what a scan was answered. Want of memory is no answer, and nothing is written.
 pub fn put_scan(out: &mut String, answer: Result<Span, ApplyError>) -> Result<(), Mem>
-    ensures written { OnOk result (string_bytes out.new ≡ string_bytes out.old ++ scan_line answer) }
-    ensures answered { OnOk result (IsAnswered answer) }
+    ensures { OnOk result (string_bytes out.new ≡ string_bytes out.old ++ scan_line answer) }
 {
     match answer {
         Ok(span) => put_numbered_line(out, "scan ", u64::from(span.to)),
@@ -44,19 +50,17 @@ pub fn put_scan(out: &mut String, answer: Result<Span, ApplyError>) -> Result<()
             "scan spent ",
             u64::from(needed),
         ),
-        Err(ApplyError::Mem) => Err(Mem),
+        Err(ApplyError::Mem) => Ok(()),
     }
 }
 
-/// Puts what became of a reply. One that was not taken is not written: of a store's replies none is refused.
-pub fn put_read(out: &mut String, answer: Result<Read, AnswerError>) -> Result<(), Mem>
-    ensures written { OnOk result (string_bytes out.new ≡ string_bytes out.old ++ read_line answer) }
-    ensures taken { OnOk result (IsOk answer) }
+/// Puts what became of a reply that was taken.
+pub fn put_read(out: &mut String, read: Read) -> Result<(), Mem>
+    ensures { OnOk result (string_bytes out.new ≡ string_bytes out.old ++ read_line read) }
 {
-    match answer {
-        Ok(Read::Ok) => put(out, "read ok\n"),
-        Ok(Read::Fault { code }) => put_numbered_line(out, "read ", u64::from(code)),
-        Err(_) => Err(Mem),
+    match read {
+        Read::Ok => put(out, "read ok\n"),
+        Read::Fault { code } => put_numbered_line(out, "read ", u64::from(code)),
     }
 }
 

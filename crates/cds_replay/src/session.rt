@@ -10,16 +10,17 @@ ghost use Rattle.cds_replay.specs.Session.{IsAfter, with_record};
 
 use crate::put::put;
 use crate::reply::reply;
-use crate::report::{put_copy, put_read, put_scan};
+use crate::report::{put_copy, put_read, put_scan, was_answered};
 use cds_base::{Mem, Sequence, Text};
 use cds_model::Turn;
 use cds_object::{Content, Path, Record, Records};
-use cds_replica::{Replica, Says};
+use cds_replica::{AnswerError, Replica, Says};
 use cds_store::Store;
 use std::alloc::Global;
 use std::marker::Model;
 
-/// A script's server and replica after the turns so far, and the records since its last scan. It keeps no list of turns.
+/// A script's server and replica after the turns so far, and the records since its last scan. It keeps no list of turns,
+/// but always stands for one.
 #[derive(Drop, Debug)]
 pub struct Session {
     store: Store,
@@ -28,11 +29,13 @@ pub struct Session {
 }
 
 impl Model for Session {
-    ghost use Rattle.cds_replay.specs.Session.{Playing};
+    ghost use Rattle.cds_replay.specs.Session.{Playing, IsPlayed};
 
     ghost Value = { Playing };
 
     ghost view = { λ s. record { store = s.store; replica = s.replica; records = s.records } };
+
+    ghost invariant = { λ s. IsPlayed (record { store = s.store; replica = s.replica; records = s.records }) };
 }
 
 impl Session {
@@ -90,6 +93,9 @@ impl Session {
         ensures dropped { OnOk result (self.new.records ≡ []) }
     {
         let answer = self.store.apply(alloc, &self.records);
+        if !was_answered(&answer) {
+            return Err(Mem);
+        }
         self.records = Sequence::new(alloc);
         put_scan(out, answer)
     }
@@ -102,7 +108,7 @@ impl Session {
         self.replica.begin_load()
     }
 
-    /// Sends the next ask of the replica to the store, where there is one, and takes the reply.
+    /// Sends the next ask of the replica to the store, where there is one, and takes the reply, which is never refused.
     fn read(&mut self, alloc: Global, out: &mut String) -> Result<(), Mem>
         ensures after { (turns : List TurnValue) → IsAfter self.old turns → OnOk result (IsAfter self.new (Read ∷ turns)) }
         ensures written { (turns : List TurnValue) → IsAfter self.old turns → OnOk result (string_bytes out.new ≡ string_bytes out.old ++ written_by turns Read) }
@@ -112,8 +118,12 @@ impl Session {
             None => put(out, "read none\n"),
             Some(ask) => {
                 let shown = reply(alloc, &self.store, ask)?;
-                let answer = self.replica.take(alloc, shown);
-                put_read(out, answer)
+                match self.replica.take(alloc, shown) {
+                    Ok(read) => put_read(out, read),
+                    Err(AnswerError::Mem) => Err(Mem),
+                    Err(AnswerError::Unreadable) => unreachable!(),
+                    Err(AnswerError::Torn { .. }) => unreachable!(),
+                }
             }
         }
     }
