@@ -1,11 +1,11 @@
 -- After any turns of a replica each row that it holds was shown.
-use Rattle.std.proofs.Common.{◌≡◌, ℕ, List, [], ◌∷◌, ◌++◌, length, Bool, true, false, cond, ◌&&◌, nat_lt, refl, ◌⊎◌, inl, inr, Option, Some, None}
+use Rattle.std.proofs.Common.{ℕ, List, [], ◌∷◌, ◌++◌, length, Bool, true, false, cond, ◌&&◌, nat_lt, refl, inl, inr, Option, Some, None}
 use Rattle.std.specs.Prelude.{nat_eq}
 use Rattle.std.specs.List.{AllByRecursion}
 use Rattle.cds_object.specs.Object.{ObjectRow, is_folder}
 use Rattle.cds_model.specs.declared.exchange.Shown.{Shown}
 use Rattle.cds_model.specs.declared.exchange.Shown.TheVariants.{Text, Number, Page, Fault}
-use Rattle.cds_model.specs.Replica.{Waiting, Listing, Held, Idle, Begun, HasToken, HasNumber, HasRoot, Lists, HasPage, HasCopy, Taken, Holds, Unreadable, Torn, put_by, puts_by, put_rows, put_containers, others_waiting, listing_of, listed_children, fits, listed, after_page, root_taken, page_taken, taken, held_after, ReplicaTurn, Begins, Shows, held_by, copied}
+use Rattle.cds_model.specs.Replica.{Waiting, Listing, Held, Idle, Begun, HasToken, HasNumber, HasRoot, Lists, HasPage, HasCopy, Taken, Holds, Torn, put_by, puts_by, put_rows, put_containers, others_waiting, listing_of, listed_children, fits, listed, after_page, root_taken, page_taken, taken, held_after, ReplicaTurn, Begins, Shows, held_by, copied}
 use Rattle.cds_model.specs.Seen.{rows_shown, HasVersion, WasShown, copied_rows_were_shown}
 use Rattle.cds_model.proofs.Trees.{id_of, all-map}
 

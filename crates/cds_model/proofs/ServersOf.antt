@@ -1,16 +1,14 @@
 -- A history of scans is an honest server.
-use Rattle.std.proofs.Common.{◌≡◌, ℕ, ◌+◌, ◌-◌, ◌≤◌, List, ◌++◌, length, take, drop, ap, sym, subst, ◌∙◌, arith}
+use Rattle.std.proofs.Common.{◌≡◌, ℕ, ◌+◌, ◌-◌, ◌≤◌, List, length, take, drop, ap, sym, subst, ◌∙◌, arith}
 use Rattle.std.proofs.lemmas.List.{take-append-drop, drop-drop}
-use Rattle.cds_object.specs.Object.{ObjectRow}
 use Rattle.cds_catalog.specs.Library.{FolderMap}
-use Rattle.cds_catalog.specs.History.{History, end_of}
+use Rattle.cds_catalog.specs.History.{end_of}
 use Rattle.cds_catalog.specs.Catalog.{catalog, catalog_at}
 use Rattle.cds_catalog.specs.Laws.{AreLibraries}
 use Rattle.cds_catalog.proofs.Maps.{older_are_libraries}
 use Rattle.cds_catalog.proofs.Numbers.{ends_rise, catalog_at_end}
 use Rattle.cds_catalog.proofs.StepsTree.{catalogs_are_trees-proof}
-use Rattle.cds_model.specs.Loads.{IsServer}
-use Rattle.cds_model.specs.Servers.{server_of, histories_are_servers}
+use Rattle.cds_model.specs.Servers.{histories_are_servers}
 
 -- without some of the newest scans, folder maps are still folder maps
 rest-are_libraries : (n : ℕ) (maps : List FolderMap) → AreLibraries maps → AreLibraries (drop n maps)
