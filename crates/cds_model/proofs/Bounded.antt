@@ -20,7 +20,8 @@ use Rattle.cds_model.specs.Replica.{Held, Idle, Begun, HasToken, HasNumber, HasR
 use Rattle.cds_model.specs.Report.{history_of, moment_of, replica_turns, after_read, records_since, script_token}
 use Rattle.cds_model.specs.Loads.{load_reads, held_with, read_once, was_begun, answered, answered_since, loads_are_bounded}
 use Rattle.cds_model.proofs.Honest.{IsServed, IsGiven}
-use Rattle.cds_model.proofs.Turns.{StoodIn, moment_at, ScanCases, scan-cases, history-serves, turns-are_libraries, turns-given}
+use Rattle.cds_model.specs.Servers.{moment_at}
+use Rattle.cds_model.proofs.Turns.{StoodIn, ScanCases, scan-cases, history-serves, turns-are_libraries, turns-given}
 use Rattle.cds_model.proofs.Ends.{Left, read-left, none-left}
 use Rattle.cds_model.proofs.Bounds.{Stale, Owes, read-stale, scan-stale}
 

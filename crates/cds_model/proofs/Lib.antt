@@ -10,7 +10,9 @@ pub mod Listings
 pub mod Merge
 pub mod Pages
 pub mod Replies
+pub mod Seen
 pub mod Servers
+pub mod ServersOf
 pub mod Trees
 pub mod Turns
 pub mod Whole

@@ -17,17 +17,10 @@ use Rattle.cds_model.specs.declared.turn.Turn.TheVariants.{Folder, Track, Scan, 
 use Rattle.cds_model.specs.declared.exchange.Ask.{Ask as Asked}
 use Rattle.cds_model.specs.Server.{Moment, reply_to}
 use Rattle.cds_model.specs.Replica.{Held, HasCopy, Taken, Holds, held_after, ReplicaTurn, Begins, Shows, held_by, next_ask, taken}
-use Rattle.cds_model.specs.Report.{records_since, history_of, script_token, moment_of, after_read, replica_turns}
+use Rattle.cds_model.specs.Report.{records_since, history_of, moment_of, after_read, replica_turns}
+use Rattle.cds_model.specs.Servers.{moment_at}
 use Rattle.cds_model.proofs.Honest.{IsServed, IsGiven, given-more}
 use Rattle.cds_model.proofs.Replies.{TakesGiven, reply-given}
-
--- what the server of a script has after scans
-abbrev pub moment_at : ℕ → List FolderMap → Moment
-moment_at first maps = record {
-  token = script_token;
-  number = end_of (record { first = first; maps = maps });
-  rows = catalog (record { first = first; maps = maps });
-}
 
 -- a moment that stood at or before the end of a history
 pub record StoodIn (history : History) (moment : Moment) : Type 0 where

@@ -40,6 +40,6 @@ pub enum Read {
 pub enum Says {
     /// No copy stands: a load is to begin or has not ended.
     BehindLoad,
-    /// The copy is exactly the catalog of this number.
+    /// A copy of this number stands: exactly the catalog of this number where the replies were an honest server's.
     Stands { at: u32 },
 }

@@ -1,11 +1,19 @@
 //! Laws of loads: each clause is one of them.
 
 ghost use Rattle.cds_model.specs.Loads as laws;
+ghost use Rattle.cds_model.specs.Seen as seen;
+ghost use Rattle.cds_model.specs.Servers as servers;
 
 /// A load from a server whose number stays ends after exactly the reads that it takes, with the server's rows, and runs
 /// until then.
 pub fn loads_end()
     ensures { laws.loads_end }
+{}
+
+/// A history of scans is an honest server: at each length it has the catalog and the number of so many of its oldest
+/// scans.
+pub fn histories_are_servers()
+    ensures { servers.histories_are_servers }
 {}
 
 /// No reply of an honest server is refused.
@@ -16,6 +24,12 @@ pub fn honest_replies_are_taken()
 /// A copy that was made of an honest server's replies has the rows that stood at its number.
 pub fn honest_copies_stood()
     ensures { laws.honest_copies_stood }
+{}
+
+/// Each row of a copy has the id, the content and the objectUpdateID of a row that a reply showed, whatever server
+/// replied.
+pub fn copied_rows_were_shown()
+    ensures { seen.copied_rows_were_shown }
 {}
 
 /// In a script a replica is behind its load only where none was begun, or for as many reads as a load of the catalog takes,

@@ -13,6 +13,9 @@ pub use evaluated::{
     scan_during_a_load, track_becomes_a_folder, track_without_its_folder,
 };
 pub use exchange::{Ask, Read, Says, Shown};
-pub use laws::{honest_copies_stood, honest_replies_are_taken, loads_are_bounded, loads_end};
+pub use laws::{
+    copied_rows_were_shown, histories_are_servers, honest_copies_stood, honest_replies_are_taken,
+    loads_are_bounded, loads_end,
+};
 pub use line::read_line;
 pub use turn::{Meaning, Turn};

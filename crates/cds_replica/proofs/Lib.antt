@@ -1,2 +1,3 @@
-pub mod Placing
+pub mod Honest
 pub mod Pages
+pub mod Placing

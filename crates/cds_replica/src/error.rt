@@ -6,7 +6,8 @@ pub enum AnswerError {
     /// The reply is of another kind than the ask, or not one row where an object's row was asked.
     #[error("the reply does not answer what was asked")]
     Unreadable,
-    /// What was shown of this object cannot be, though the server's number stayed.
+    /// What was shown of this object cannot be: of the root's row this is said at once, of a page where the number after
+    /// it stayed.
     #[error("what was shown of object {id} cannot be")]
     Torn { id: u32 },
     /// Memory ran out.

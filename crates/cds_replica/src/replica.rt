@@ -1,6 +1,9 @@
-ghost use Rattle.std.specs.Prelude.{◌≡◌, [], List, ◌∷◌, IsOk, IfOk, IsSome, option_copied, slice_get};
+ghost use Rattle.std.specs.Prelude.{◌≡◌, [], List, ◌∷◌, IsOk, IfOk, IfSome, IsSome, option_copied, slice_get};
+ghost use Rattle.std.specs.List.{AllByRecursion};
 ghost use Rattle.cds_model.specs.Replica.{next_ask, taken, says, copied, held_by, Begun, ReplicaTurn, Begins};
+ghost use Rattle.cds_model.specs.Seen.{WasShown};
 ghost use Rattle.cds_replica.specs.Answer.{IsOutcome, UnlessMem, GoesOn, read_of};
+ghost use Rattle.cds_replica.specs.Honest.{BeginsGiven, TakesGiven, SaysGiven};
 
 use crate::AnswerError;
 use crate::stage::Stage;
@@ -41,6 +44,7 @@ impl Replica {
         ensures ok { IsOk result }
         ensures after { self.new ≡ Begun }
         ensures begins { (turns : List ReplicaTurn) → self.old ≡ held_by turns → self.new ≡ held_by (Begins ∷ turns) }
+        ensures given { BeginsGiven self.old self.new }
     {
         self.stage = Stage::Begun;
         Ok(())
@@ -56,12 +60,13 @@ impl Replica {
     /// Takes the reply to the next ask, condition: there is one. A refusal leaves the replica as it was. `Unreadable`
     /// comes where the reply is of another kind than the ask, or is not one row where an object's row was asked; `Torn`
     /// where the row of the root is another's or no container's, or where the number stayed and the page before it was
-    /// refused or does not go on with the container's children.
+    /// refused or does not go on with the container's children. The reply of an honest server is never refused.
     pub fn take(&mut self, alloc: Global, shown: Shown) -> Result<Read, AnswerError>
         requires { IsSome (next_ask self.old) }
         ensures outcome { IsOutcome (taken self.old shown) self.old self.new result }
         ensures read { IfOk result (λ read. read ≡ read_of shown) }
         ensures goes_on { UnlessMem result (GoesOn self.old shown self.new) }
+        ensures given { TakesGiven self.old shown self.new result }
     {
         let stage = mem::replace(&mut self.stage, Stage::Idle);
         let (stage, answer) = stage.take(alloc, shown);
@@ -69,24 +74,29 @@ impl Replica {
         answer
     }
 
-    /// What is known of the server's catalog.
+    /// What is known of the server's catalog. Where all replies were an honest server's, a copy has the rows that stood
+    /// at its number.
     pub fn says(&self) -> Says
-        ensures { result ≡ says self.now }
+        ensures known { result ≡ says self.now }
+        ensures given { SaysGiven self.now result }
     {
         self.stage.says()
     }
 
     /// The row of the copy at a place counted from 0, in ascending order of ids; `None` past the end and where no copy
-    /// stands.
+    /// stands. A reply showed its id, content and objectUpdateID, whatever server replied.
     pub fn rows(&self, at: usize) -> Option<&Row>
-        ensures { option_copied result ≡ slice_get (copied self.now) at }
+        ensures row { option_copied result ≡ slice_get (copied self.now) at }
+        ensures shown { (turns : List ReplicaTurn) → self.now ≡ held_by turns → IfSome result (λ row. WasShown row.now turns) }
     {
         self.stage.copied().get(at)
     }
 
-    /// The rows of the copy, in ascending order of ids; none where no copy stands.
+    /// The rows of the copy, in ascending order of ids; none where no copy stands. A reply showed the id, the content
+    /// and the objectUpdateID of each, whatever server replied.
     pub fn copy(&self) -> &[Row]
-        ensures { result.now ≡ copied self.now }
+        ensures rows { result.now ≡ copied self.now }
+        ensures shown { (turns : List ReplicaTurn) → self.now ≡ held_by turns → AllByRecursion (λ row. WasShown row turns) result.now }
     {
         self.stage.copied()
     }
