@@ -5,7 +5,7 @@
 #   (goal per doubling: at most 4.5 times in time and 2.1 in memory, and below 2 s at 4,000);
 # - peak memory after 40 scans of the same 2,000 tracks against one (goal: at most 1.2 times);
 # - peak memory of 20 loads against one (goal: at most 1.2 times).
-# Needs bash, python3 and GNU time (/usr/bin/time) or python3 alone.
+# Needs bash, python3 and GNU time (/usr/bin/time), which tells the program's own peak memory.
 set -eu
 top=$(cd "$(dirname "$0")/.." && pwd)
 program=$top/crates/cds_cli/out/cds_cli
@@ -46,24 +46,31 @@ python3 - "$work" "$program" <<'PY'
 import os, resource, subprocess, sys, time
 work, program = sys.argv[1:]
 
-def measured(command, name):
-    best = None
-    for _ in range(3):
-        started = time.perf_counter()
-        pid = os.fork()
-        if pid == 0:
-            source = os.open(f"{work}/{name}", os.O_RDONLY)
-            sink = os.open(os.devnull, os.O_WRONLY)
-            os.dup2(source, 0)
-            os.dup2(sink, 1)
-            os.execvp(command[0], command)
-        _, status, usage = os.wait4(pid, 0)
-        wall = time.perf_counter() - started
-        if status != 0:
-            sys.exit(f"{name} ended with {status}")
-        figures = (wall, usage.ru_utime, usage.ru_maxrss / 1024)
-        best = figures if best is None else tuple(map(min, best, figures))
-    return best
+def memory(command, name):
+    with open(f"{work}/{name}", "rb") as source:
+        command = ["/usr/bin/time", "-f", "%M", *command]
+        done = subprocess.run(command, stdin=source, stdout=subprocess.DEVNULL, stderr=subprocess.PIPE, check=True)
+    return int(done.stderr.split()[-1]) / 1024
+
+def once(command, name):
+    started = time.perf_counter()
+    pid = os.fork()
+    if pid == 0:
+        source = os.open(f"{work}/{name}", os.O_RDONLY)
+        sink = os.open(os.devnull, os.O_WRONLY)
+        os.dup2(source, 0)
+        os.dup2(sink, 1)
+        os.execvp(command[0], command)
+    _, status, usage = os.wait4(pid, 0)
+    if status != 0:
+        sys.exit(f"{name} ended with {status}")
+    return time.perf_counter() - started, usage.ru_utime
+
+# The least wall time of the runs, their user time on average, and the least peak memory. A run's own user time is told in
+# ticks, so short runs are many.
+def measured(command, name, runs=25):
+    times = [once(command, name) for _ in range(runs)]
+    return min(t[0] for t in times), sum(t[1] for t in times) / runs, min(memory(command, name) for _ in range(3))
 
 play = [program, "replay"]
 comments, lines = measured(play, "comments"), measured(["wc", "-l"], "comments")
@@ -71,10 +78,10 @@ print(f"20 MB of comments: {comments[0] * 1000:.0f} ms, wc -l {lines[0] * 1000:.
 before = None
 for count in (500, 1000, 2000, 4000):
     now = measured(play, f"load{count}")
-    grown = "" if before is None else f", {now[1] / before[1]:.2f} times in time and {now[2] / before[2]:.2f} in memory"
-    print(f"{count} tracks: {now[1] * 1000:.0f} ms, {now[2]:.1f} MB{grown}")
+    grown = "" if before is None else f", {now[0] / before[0]:.2f} times in time and {now[2] / before[2]:.2f} in memory"
+    print(f"{count} tracks: {now[0] * 1000:.1f} ms ({now[1] * 1000:.1f} ms user), {now[2]:.2f} MB{grown}")
     before = now
 for many, one in (("scans40", "scans1"), ("loads20", "loads1")):
-    a, b = measured(play, many), measured(play, one)
-    print(f"{many} against {one}: {a[2]:.1f} MB and {b[2]:.1f} MB, {a[2] / b[2]:.2f} times")
+    a, b = measured(play, many, 3), measured(play, one, 3)
+    print(f"{many} against {one}: {a[2]:.2f} MB and {b[2]:.2f} MB, {a[2] / b[2]:.2f} times; {a[0] * 1000:.0f} ms and {b[0] * 1000:.0f} ms")
 PY
