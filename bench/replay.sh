@@ -3,6 +3,7 @@
 # - the time of a 20 MB script of comments against `wc -l` on it (goal: at most 10 times);
 # - user time and peak memory of one scan, a full load and an ask for 500, 1,000, 2,000 and 4,000 tracks in folders of 10
 #   (goal per doubling: at most 4.5 times in time and 2.1 in memory, and below 2 s at 4,000);
+# - ten scans of these numbers of tracks with 2 % changed in each, with the growth per doubling;
 # - peak memory after 40 scans of the same 2,000 tracks against one (goal: at most 1.2 times);
 # - peak memory of 20 loads against one (goal: at most 1.2 times).
 # Needs bash, python3 and GNU time (/usr/bin/time), which tells the program's own peak memory.
@@ -16,12 +17,14 @@ python3 - "$work" <<'PY'
 import sys
 work = sys.argv[1]
 
-def tracks(count):
+# Folders of ten tracks; in each scan another 2 % of the tracks have grown by a byte.
+def tracks(count, scan=0):
     lines = []
     for folder in range(count // 10):
         lines.append(f"folder f{folder}")
         for track in range(10):
-            lines.append(f"track f{folder}/t{track}.flac {1000 + track} 44100 2 16 441000")
+            grown = scan if (folder * 10 + track) % 50 == scan % 50 else 0
+            lines.append(f"track f{folder}/t{track}.flac {1000 + track + grown} 44100 2 16 441000")
     return lines
 
 def reads(count):
@@ -36,6 +39,8 @@ with open(f"{work}/comments", "w") as file:
     file.write(line * (20_000_000 // len(line)))
 for count in (500, 1000, 2000, 4000):
     write(f"load{count}", tracks(count) + ["scan", "load"] + ["read"] * reads(count) + ["ask"])
+for count in (500, 1000, 2000, 4000):
+    write(f"changed{count}", [line for scan in range(10) for line in tracks(count, scan) + ["scan"]])
 write("scans1", tracks(2000) + ["scan"])
 write("scans40", (tracks(2000) + ["scan"]) * 40)
 write("loads1", tracks(2000) + ["scan"] + ["load"] + ["read"] * reads(2000) + ["ask"])
@@ -80,6 +85,12 @@ for count in (500, 1000, 2000, 4000):
     now = measured(play, f"load{count}")
     grown = "" if before is None else f", {now[0] / before[0]:.2f} times in time and {now[2] / before[2]:.2f} in memory"
     print(f"{count} tracks: {now[0] * 1000:.1f} ms ({now[1] * 1000:.1f} ms user), {now[2]:.2f} MB{grown}")
+    before = now
+before = None
+for count in (500, 1000, 2000, 4000):
+    now = measured(play, f"changed{count}", 10)
+    grown = "" if before is None else f", {now[0] / before[0]:.2f} times in time and {now[2] / before[2]:.2f} in memory"
+    print(f"ten scans of {count} tracks, 2 % changed in each: {now[0] * 1000:.1f} ms, {now[2]:.2f} MB{grown}")
     before = now
 for many, one in (("scans40", "scans1"), ("loads20", "loads1")):
     a, b = measured(play, many, 3), measured(play, one, 3)
