@@ -141,3 +141,90 @@ fn words_are_commands_or_not(rt: HostRuntime) -> Result<(), Fail> {
     assert!(rt; written.as_slice().starts_with(usage.as_bytes()));
     Ok(())
 }
+
+/// A folder's row under the root.
+fn folder(
+    alloc: Global,
+    id: &str,
+    name: &str,
+    children: &str,
+    object: &str,
+    container: &str,
+) -> Result<String, AllocError> {
+    format!(in alloc;
+        "<container id=\"{id}\" parentID=\"0\" restricted=\"1\" searchable=\"1\" childCount=\"{children}\"><dc:title>{name}</dc:title><upnp:class>object.container</upnp:class><upnp:objectUpdateID>{object}</upnp:objectUpdateID><upnp:containerUpdateID>{container}</upnp:containerUpdateID><upnp:totalDeletedChildCount>0</upnp:totalDeletedChildCount></container>\n"
+    )
+}
+
+/// The row of a small track whose objectUpdateID is its id.
+fn item(alloc: Global, id: &str, parent: &str, title: &str) -> Result<String, AllocError> {
+    format!(in alloc;
+        "<item id=\"{id}\" parentID=\"{parent}\" restricted=\"1\"><dc:title>{title}</dc:title><upnp:class>object.item.audioItem.musicTrack</upnp:class><upnp:objectUpdateID>{id}</upnp:objectUpdateID><res protocolInfo=\"http-get:*:audio/flac:*\" size=\"1\" bitsPerSample=\"8\" nrAudioChannels=\"1\">/media/{id}</res></item>\n"
+    )
+}
+
+/// Puts a line a number of times.
+fn repeat(out: &mut String, line: &str, times: usize) -> Result<(), AllocError> {
+    for _ in 0..times {
+        out.push_str(line)?;
+    }
+    Ok(())
+}
+
+// A load takes eight reads of either catalog. A scan after so many of them leaves so many to go: a number that was read
+// before it is found out by the next number.
+#[test]
+fn a_scan_between_any_two_reads(rt: HostRuntime) -> Result<(), Fail> {
+    let alloc = rt.alloc();
+    let cases: [(usize, usize); 8] = [
+        (0, 8),
+        (1, 7),
+        (2, 10),
+        (3, 9),
+        (4, 10),
+        (5, 9),
+        (6, 10),
+        (7, 9),
+    ];
+    for (before, after) in cases {
+        let mut script = String::from_str(
+            alloc,
+            "folder A\ntrack A/t.flac 1 0 1 8 0\nscan\nload\n",
+        )?;
+        repeat(&mut script, "read\n", before)?;
+        script.push_str("folder A\ntrack A/t.flac 1 0 1 8 0\ntrack b.flac 1 0 1 8 0\nscan\n")?;
+        repeat(&mut script, "read\n", after)?;
+        script.push_str("read\nask\n")?;
+        let mut report = String::from_str(alloc, "scan 2\n")?;
+        repeat(&mut report, "read ok\n", before)?;
+        report.push_str("scan 3\n")?;
+        repeat(&mut report, "read ok\n", after)?;
+        report.push_str("read none\nstands 3\n")?;
+        report.push_str(root(alloc, "2", "3", "0")?.as_str())?;
+        report.push_str(folder(alloc, "1", "A", "1", "1", "2")?.as_str())?;
+        report.push_str(item(alloc, "2", "1", "t")?.as_str())?;
+        report.push_str(item(alloc, "3", "0", "b")?.as_str())?;
+        let (status, written) = play(alloc, &["replay"], script.as_bytes(), &[], &[])?;
+        assert_eq!(rt; status, 0);
+        assert_eq!(rt; written.as_slice(), report.as_bytes());
+    }
+    Ok(())
+}
+
+#[test]
+fn the_container_whose_page_comes_next_is_deleted(rt: HostRuntime) -> Result<(), Fail> {
+    let alloc = rt.alloc();
+    let script =
+        "folder A\nfolder B\nscan\nload\nread\nread\nread\nread\nread\nread\nfolder B\nscan\nread\nask\nread\nread\nread\nread\nread\nread\nread\nread\nread\nask\n";
+    let mut report = String::from_str(alloc, "scan 2\n")?;
+    repeat(&mut report, "read ok\n", 6)?;
+    report.push_str("scan 3\nread 701\nbehind load\n")?;
+    repeat(&mut report, "read ok\n", 9)?;
+    report.push_str("stands 3\n")?;
+    report.push_str(root(alloc, "1", "3", "1")?.as_str())?;
+    report.push_str(folder(alloc, "2", "B", "0", "2", "2")?.as_str())?;
+    let (status, written) = play(alloc, &["replay"], script.as_bytes(), &[], &[])?;
+    assert_eq!(rt; status, 0);
+    assert_eq!(rt; written.as_slice(), report.as_bytes());
+    Ok(())
+}
