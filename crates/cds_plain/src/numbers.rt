@@ -143,14 +143,15 @@ pub(crate) fn trackers_of(
     first: u32,
     changes: &[Change],
     library: &[Entry],
-    entry: &Entry,
+    path: &Path,
+    content: &Content,
 ) -> Result<Option<Trackers>, Mem>
     requires changes { first + length changes.now < 2 ^ 32 }
     requires library { length library.now < 2 ^ 32 }
-    ensures { IfOk result (λ trackers. trackers ≡ trackers_of first changes.now library.now entry.now.0 entry.now.1) }
+    ensures { IfOk result (λ trackers. trackers ≡ trackers_of first changes.now library.now path.now content.now) }
 {
-    let trackers = folder_trackers(alloc, first, changes, library, &entry.path)?;
-    match &entry.content {
+    let trackers = folder_trackers(alloc, first, changes, library, path)?;
+    match content {
         Content::Track(_) => Ok(None),
         Content::Folder { .. } => Ok(Some(trackers)),
     }
