@@ -169,11 +169,7 @@ pub(crate) fn additions(changes: &[Change]) -> usize
 }
 
 /// How many changes delete what stood under a place.
-pub(crate) fn deletions_under(
-    alloc: Global,
-    path: &Path,
-    changes: &[Change],
-) -> Result<usize, Mem>
+pub(crate) fn deletions_under(alloc: Global, path: &Path, changes: &[Change]) -> Result<usize, Mem>
     ensures exact { IfOk result (λ count. count ≡ count_by (deletes_under path.now) changes.now) }
     ensures within { IfOk result (λ count. count ≤ length changes.now) }
 {

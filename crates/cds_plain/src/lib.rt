@@ -4,7 +4,6 @@
 
 mod changes;
 mod entry;
-
 mod history;
 mod library;
 mod numbers;
@@ -13,3 +12,5 @@ mod scans;
 
 pub use history::{PlainAnswer, PlainHistory};
 
+#[cfg(test)]
+mod tests;

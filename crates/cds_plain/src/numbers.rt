@@ -40,12 +40,7 @@ pub(crate) fn parent_id_of(
 }
 
 /// How many changes there were up to and with the newest that does this to a place.
-fn count_up_to(
-    alloc: Global,
-    naming: Naming,
-    path: &Path,
-    changes: &[Change],
-) -> Result<u32, Mem>
+fn count_up_to(alloc: Global, naming: Naming, path: &Path, changes: &[Change]) -> Result<u32, Mem>
     requires { length changes.now < 2 ^ 32 }
     ensures exact { IfOk result (λ count. count ≡ length (up_to (names naming path.now) changes.now)) }
     ensures within { IfOk result (λ count. count ≤ length changes.now) }
