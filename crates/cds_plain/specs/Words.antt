@@ -1,0 +1,67 @@
+-- Words that contracts of the plain programs share: the parts of definitions whose own names are hidden in them.
+use Rattle.std.specs.Prelude.{◌<◌, ◌≤◌, ◌^◌, ℕ, Bool, cond, List, [], ◌∷◌, length, Option, Some, None}
+use Rattle.cds_object.specs.Content.{same_content, same_kind}
+use Rattle.cds_object.specs.declared.content.Content.{Content}
+use Rattle.cds_object.specs.declared.row.Trackers.{Trackers}
+use Rattle.cds_catalog.specs.Library.{FolderMap}
+use Rattle.cds_catalog.specs.History.{History, latest, end_of, adds, sets, is_under}
+use Rattle.cds_catalog.specs.Catalog.{PlacedRow, row_at, put_row, container_update_of, child_count_of, deleted_of}
+use Rattle.cds_catalog.specs.Laws.{AreLibraries}
+use Rattle.cds_catalog.specs.Scans.{ScanAnswer}
+use Rattle.cds_catalog.specs.Scans as scans
+use Rattle.cds_catalog.specs.declared.change.Change.{Change}
+use Rattle.cds_catalog.specs.declared.change.Change.TheVariants.{Deletion, Addition, Modification}
+use Rattle.cds_plain.specs.declared.history.PlainAnswer.{PlainAnswer}
+use Rattle.cds_plain.specs.declared.history.PlainAnswer.TheVariants.{Accepted, BadRecord, TooMany, NoNumbers}
+use Rattle.cds_plain.specs.declared.changes.Naming.{Naming}
+use Rattle.cds_plain.specs.declared.changes.Naming.TheVariants.{Adds, Sets, IsUnder}
+
+-- the deletion of what stood at a place, where nothing stands there now, or something of the other kind
+abbrev pub gone : List (List ℕ) → Content → Option Content → Option Change
+gone path before None = Some (Deletion path)
+gone path before (Some now) = cond (same_kind before now) None (Some (Deletion path))
+
+-- the addition of what stands at a place, where nothing stood there, or something of the other kind; or its modification
+abbrev pub come : List (List ℕ) → Content → Option Content → Option Change
+come path content None = Some (Addition path content)
+come path content (Some before) =
+    cond (same_kind before content)
+    (cond (same_content before content) None (Some (Modification path content)))
+    (Some (Addition path content))
+
+-- whether a change does this to a place
+abbrev pub names : Naming → List (List ℕ) → Change → Bool
+names Adds = adds
+names Sets = sets
+names IsUnder = is_under
+
+-- the row of what stands at a place, with its place
+abbrev pub placed_at : ℕ → List Change → FolderMap → (List (List ℕ) × Content) → PlacedRow
+placed_at first changes library entry = (entry.0, row_at first changes library entry)
+
+-- the trackers of a folder at a place
+abbrev pub folder_trackers : ℕ → List Change → FolderMap → List (List ℕ) → Trackers
+folder_trackers first changes library path = record {
+  container_update = container_update_of first changes path;
+  child_count = child_count_of library path;
+  deleted = deleted_of changes path;
+}
+
+-- rows put one by one, the last first, among others that are in order
+abbrev pub put_all : List PlacedRow → List PlacedRow → List PlacedRow
+put_all [] ordered = ordered
+put_all (placed ∷ others) ordered = put_row placed (put_all others ordered)
+
+-- an answer, in the definitions' words
+abbrev pub answer_of : PlainAnswer → ScanAnswer
+answer_of Accepted = scans.Accepted
+answer_of (BadRecord line) = scans.BadRecord line
+answer_of (TooMany objects) = scans.TooMany objects
+answer_of (NoNumbers needed) = scans.NoNumbers needed
+
+-- what every history that was scanned keeps: folder maps, of which the newest has at most 65,535 places, and numbers
+-- below 2^32
+pub record IsWithinNumbers (history : History) : Type 0 where
+  pub libraries : AreLibraries history.maps
+  pub fits : end_of history < 2 ^ 32
+  pub few : length (latest history.maps) ≤ 65535

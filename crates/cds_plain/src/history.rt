@@ -1,0 +1,132 @@
+ghost use Rattle.std.specs.Prelude.{◌≡◌, [], length, IfOk, OnErr};
+ghost use Rattle.cds_catalog.specs.Library.{map_of, found};
+ghost use Rattle.cds_catalog.specs.History.{latest, end_of};
+ghost use Rattle.cds_catalog.specs.Catalog.{catalog};
+ghost use Rattle.cds_catalog.specs.Scans.{scan_answer, after_scan};
+ghost use Rattle.cds_plain.specs.Words.{answer_of};
+
+use crate::changes::{changes_of, latest};
+use crate::entry::Library;
+use crate::library::{found, map_of};
+use crate::rows::{in_order, rows_at, without_places};
+use crate::scans::bad_record;
+use cds_base::Mem;
+use cds_object::{Records, Rows};
+use std::alloc::Global;
+use std::marker::Model;
+
+/// The most objects of a library beside the root.
+const MAX_OBJECTS: usize = 65_535;
+
+/// The last number that a change can have.
+const LAST_NUMBER: u32 = 4_294_967_295;
+
+/// What is answered to a scan.
+#[derive(Clone, Copy, Debug, PartialEq, Eq)]
+pub enum PlainAnswer {
+    /// It was accepted.
+    Accepted,
+    /// The record of this number, counted from 1, cannot stand.
+    BadRecord { line: usize },
+    /// There are so many objects, more than a library can have.
+    TooMany { objects: usize },
+    /// There are so many changes, more than numbers are left.
+    NoNumbers { needed: usize },
+}
+
+/// A history of scans, kept whole: the number that it began at and the folder map of each scan. All that is asked of
+/// it is counted afresh. Contracts see the history itself.
+#[derive(Drop, Debug)]
+pub struct PlainHistory {
+    first: u32,
+    maps: Vec<Library>,
+}
+
+impl Model for PlainHistory {
+    ghost use Rattle.cds_catalog.specs.History.{History};
+    ghost use Rattle.cds_plain.specs.Words.{IsWithinNumbers};
+
+    ghost Value = { History };
+
+    ghost view = { λ h. record { first = h.first; maps = h.maps.items } };
+
+    ghost invariant = { λ h. IsWithinNumbers (record { first = h.first; maps = h.maps.items }) };
+}
+
+impl PlainHistory {
+    /// A history before any scan.
+    pub fn new(alloc: Global, first: u32) -> Self
+        ensures { result ≡ record { first = first; maps = [] } }
+    {
+        PlainHistory {
+            first,
+            maps: Vec::new(alloc),
+        }
+    }
+
+    /// The number of the newest change, or the first number (UPnP ContentDirectory:4 on SystemUpdateID).
+    pub fn end(&self, alloc: Global) -> Result<u32, Mem>
+        ensures { IfOk result (λ number. number ≡ end_of self.now) }
+    {
+        let changes = changes_of(alloc, self.maps.as_slice())?;
+        Ok(self.first + changes.len() as u32)
+    }
+
+    /// How many changes a scan makes that finds this.
+    fn needed(&self, alloc: Global, library: &Library) -> Result<usize, Mem>
+        ensures { IfOk result (λ needed. needed ≡ length (found (latest self.now.maps) library.now)) }
+    {
+        let changes = found(alloc, latest(self.maps.as_slice()), library.as_slice())?;
+        Ok(changes.len())
+    }
+
+    /// What is answered to a scan of these records, of which this is the folder map.
+    fn answer(
+        &self,
+        alloc: Global,
+        records: &Records,
+        library: &Library,
+    ) -> Result<PlainAnswer, Mem>
+        requires { library.now ≡ map_of records.now }
+        ensures { IfOk result (λ answer. answer_of answer ≡ scan_answer self.now records.now) }
+    {
+        if let Some(line) = bad_record(alloc, records.as_slice())? {
+            return Ok(PlainAnswer::BadRecord { line });
+        }
+        let objects = records.len();
+        if objects > MAX_OBJECTS {
+            return Ok(PlainAnswer::TooMany { objects });
+        }
+        let needed = self.needed(alloc, library)?;
+        let left = LAST_NUMBER - self.end(alloc)?;
+        if needed > left as usize {
+            return Ok(PlainAnswer::NoNumbers { needed });
+        }
+        Ok(PlainAnswer::Accepted)
+    }
+
+    /// Takes what a scan found, and answers what is answered to it. A refusal leaves the history as it was.
+    pub fn scan(&mut self, alloc: Global, records: &Records) -> Result<PlainAnswer, Mem>
+        ensures answer { IfOk result (λ answer. answer_of answer ≡ scan_answer self.old records.now) }
+        ensures after { IfOk result (λ _. self.new ≡ after_scan self.old records.now) }
+        ensures kept { OnErr result (self.new ≡ self.old) }
+    {
+        let library = map_of(alloc, records.as_slice())?;
+        let answer = self.answer(alloc, records, &library)?;
+        if let PlainAnswer::Accepted = answer {
+            self.maps.insert(0, library)?;
+        }
+        Ok(answer)
+    }
+
+    /// The catalog after all scans: its rows in ascending order of ids.
+    pub fn rows(&self, alloc: Global) -> Result<Rows, Mem>
+        ensures { IfOk result (λ rows. rows ≡ catalog self.now) }
+    {
+        let changes = changes_of(alloc, self.maps.as_slice())?;
+        let library = latest(self.maps.as_slice());
+        let placed = rows_at(alloc, self.first, changes.as_slice(), library)?;
+        let ordered = in_order(alloc, placed)?;
+        without_places(alloc, ordered)
+    }
+}
