@@ -28,4 +28,3 @@ taken_line lines line taken now next byte rest whole lf is empty made =
     ∙ ap (λ n. (lines ++ line ∷ []) ++ lines_of (n ++ rest)) empty
     ∙ append_assoc lines (line ∷ []) (lines_of rest)
     ∙ ap (λ l. lines ++ l) (sym (lines_parted line rest whole) ∙ ap (λ b. lines_of (line ++ b ∷ rest)) (sym lf))
-
