@@ -1,6 +1,6 @@
 -- The lines of bytes without an LF, with an LF and more behind them and alone.
-use Rattle.std.proofs.Common.{◌≡◌, ℕ, List, [], ◌∷◌, ◌++◌, true, cond, not, nat_eq, length, arith, refl, ap, sym, append_assoc, ◌∙◌}
-use Rattle.std.specs.List.{list_all, onto_first}
+use Rattle.std.proofs.Common.{◌≡◌, ℕ, List, [], ◌∷◌, ◌++◌, true, cond, nat_eq, length, refl, ap, sym, append_assoc, ◌∙◌}
+use Rattle.std.specs.List.{onto_first}
 use Rattle.std.proofs.lemmas.Bool.{and_parts, not-true}
 use Rattle.cds_model.specs.Script.{lines_of, is_unbroken}
 

@@ -1,5 +1,4 @@
-use Rattle.std.proofs.Common.{◌≡◌, ◌∷◌, ◌++◌, [], List, ℕ, ap, sym, ◌∙◌, append_assoc}
-use Rattle.cds_model.specs.Script.{lines_of}
+use Rattle.std.proofs.Common.{◌∙◌}
 use Rattle.cds_plain.proofs.Broken.{taken_line}
 use Rattle.cds_plain.proofs.report.take_byte.Goals as goal
 
