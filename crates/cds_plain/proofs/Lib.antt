@@ -1,3 +1,4 @@
+pub mod Broken
 pub mod Ordered
 pub mod Scanned
 pub mod Standing

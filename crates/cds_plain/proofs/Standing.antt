@@ -1,5 +1,5 @@
 -- What stands after all scans of a history has an id above 0, so that its row keeps the facts of rows.
-use Rattle.std.proofs.Common.{◌≡◌, ◌<◌, ℕ, Bool, true, false, nat_eq, List, [], ◌∷◌, Some, None, is_some, is_none, refl, sym, subst, zero, suc, length, get_or, ◌∙◌, arith, true≢false, eq-eqb, ne_eqb}
+use Rattle.std.proofs.Common.{◌≡◌, ◌<◌, ℕ, false, nat_eq, List, [], ◌∷◌, Some, is_some, is_none, refl, sym, subst, zero, suc, length, get_or, ◌∙◌, arith, true≢false, eq-eqb, ne_eqb}
 use Rattle.std.specs.List.{AllByRecursion}
 use Rattle.cds_object.specs.Path.{same_path, parent_of}
 use Rattle.cds_object.specs.Object.{IsRow, is_folder}

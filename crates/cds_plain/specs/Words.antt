@@ -1,7 +1,8 @@
 -- Words that contracts of the plain programs share: the parts of definitions whose own names are hidden in them.
-use Rattle.std.specs.Prelude.{◌<◌, ◌≤◌, ◌^◌, ℕ, Bool, cond, List, [], ◌∷◌, length, Option, Some, None}
+use Rattle.std.specs.Prelude.{◌<◌, ◌≤◌, ◌^◌, ℕ, Bool, true, false, cond, List, [], ◌∷◌, ◌++◌, length, Option, Some, None}
 use Rattle.cds_object.specs.Content.{same_content, same_kind}
 use Rattle.cds_object.specs.declared.content.Content.{Content}
+use Rattle.cds_object.specs.declared.record.Record.{Record}
 use Rattle.cds_object.specs.declared.row.Trackers.{Trackers}
 use Rattle.cds_catalog.specs.Library.{FolderMap}
 use Rattle.cds_catalog.specs.History.{History, latest, end_of, adds, sets, is_under}
@@ -11,6 +12,9 @@ use Rattle.cds_catalog.specs.Scans.{ScanAnswer}
 use Rattle.cds_catalog.specs.Scans as scans
 use Rattle.cds_catalog.specs.declared.change.Change.{Change}
 use Rattle.cds_catalog.specs.declared.change.Change.TheVariants.{Deletion, Addition, Modification}
+use Rattle.cds_model.specs.Report.{folder_record}
+use Rattle.cds_model.specs.declared.turn.Turn.{Turn}
+use Rattle.cds_model.specs.declared.turn.Turn.TheVariants as turns
 use Rattle.cds_plain.specs.declared.history.PlainAnswer.{PlainAnswer}
 use Rattle.cds_plain.specs.declared.history.PlainAnswer.TheVariants.{Accepted, BadRecord, TooMany, NoNumbers}
 use Rattle.cds_plain.specs.declared.changes.Naming.{Naming}
@@ -65,3 +69,20 @@ pub record IsWithinNumbers (history : History) : Type 0 where
   pub libraries : AreLibraries history.maps
   pub fits : end_of history < 2 ^ 32
   pub few : length (latest history.maps) ≤ 65535
+
+-- records with what a turn says that the next scan finds
+abbrev pub with_record : Turn → List Record → List Record
+with_record (turns.Folder path) records = records ++ folder_record path ∷ []
+with_record (turns.Track path content) records = records ++ (record { path = path; content = content }) ∷ []
+with_record turns.Scan records = records
+with_record turns.Load records = records
+with_record turns.Read records = records
+with_record turns.Ask records = records
+
+abbrev pub is_scan : Turn → Bool
+is_scan (turns.Folder path) = false
+is_scan (turns.Track path content) = false
+is_scan turns.Scan = true
+is_scan turns.Load = false
+is_scan turns.Read = false
+is_scan turns.Ask = false

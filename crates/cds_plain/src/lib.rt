@@ -7,10 +7,12 @@ mod entry;
 mod history;
 mod library;
 mod numbers;
+mod report;
 mod rows;
 mod scans;
 
 pub use history::{PlainAnswer, PlainHistory};
+pub use report::{history_of, lines_of, records_since};
 
 #[cfg(test)]
 mod tests;

@@ -145,9 +145,11 @@ pub(crate) fn trackers_of(
     requires library { length library.now < 2 ^ 32 }
     ensures { IfOk result (λ trackers. trackers ≡ trackers_of first changes.now library.now path.now content.now) }
 {
-    let trackers = folder_trackers(alloc, first, changes, library, path)?;
     match content {
         Content::Track(_) => Ok(None),
-        Content::Folder { .. } => Ok(Some(trackers)),
+        Content::Folder { .. } => {
+            let trackers = folder_trackers(alloc, first, changes, library, path)?;
+            Ok(Some(trackers))
+        }
     }
 }

@@ -1,5 +1,6 @@
-use crate::{PlainAnswer, PlainHistory};
+use crate::{PlainAnswer, PlainHistory, history_of, lines_of, records_since};
 use cds_base::Text;
+use cds_model::Turn;
 use cds_object::{
     Comments, Content, FlacInfo, ObjectId, Path, Record, Records, Row, Rows, content_of,
 };
@@ -344,6 +345,64 @@ fn loads(rt: HostRuntime) -> Result<(), Fail> {
         ),
     ] {
         assert_eq!(rt; loads_text(alloc, before, later)?.as_str(), outcome);
+    }
+    Ok(())
+}
+
+#[test]
+fn lines(rt: HostRuntime) -> Result<(), Fail> {
+    let alloc = rt.alloc();
+    for (script, lengths) in [
+        ("", ""),
+        ("\n", "0 "),
+        ("ask", "3 "),
+        ("ask\n", "3 "),
+        ("load\n\nread", "4 0 4 "),
+    ] {
+        let mut text = String::new(alloc);
+        for line in lines_of(alloc, script.as_bytes())?.as_slice() {
+            text.push_str(format!(in alloc; "{} ", line.len())?.as_str())?;
+        }
+        assert_eq!(rt; text.as_str(), lengths);
+    }
+    Ok(())
+}
+
+/// The turns of words, the newest first: a folder, a track, or `scan`.
+fn turns_of(alloc: Global, words: &str) -> Result<Vec<Turn>, Fail> {
+    let mut turns = Vec::new(alloc);
+    for word in words.split_whitespace() {
+        if word == "scan" {
+            turns.push(Turn::Scan)?;
+        } else {
+            let Record { path, content } = record_of(alloc, word)?;
+            turns.push(match content {
+                Content::Folder { .. } => Turn::Folder { path },
+                Content::Track(_) => Turn::Track { path, content },
+            })?;
+        }
+    }
+    turns.reverse();
+    Ok(turns)
+}
+
+/// How many records wait for a scan, the number of the newest change, and how many rows there are.
+#[test]
+fn turns(rt: HostRuntime) -> Result<(), Fail> {
+    let alloc = rt.alloc();
+    for (words, waiting, number, rows) in [
+        ("", 0, 0, 1),
+        ("R/ R/a=1", 2, 0, 1),
+        ("R/ R/a=1 scan", 0, 2, 3),
+        ("R/ R/a=1 scan R/", 1, 2, 3),
+        ("R/ R/a=1 scan R/ scan b=1", 1, 3, 2),
+        ("R/ R/a=1 scan R/b=1 scan", 0, 2, 3),
+    ] {
+        let turns = turns_of(alloc, words)?;
+        assert_eq!(rt; records_since(alloc, turns.as_slice())?.len(), waiting);
+        let history = history_of(alloc, turns.as_slice())?;
+        assert_eq!(rt; history.end(alloc)?, number);
+        assert_eq!(rt; history.rows(alloc)?.len(), rows);
     }
     Ok(())
 }
