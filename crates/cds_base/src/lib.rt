@@ -10,6 +10,7 @@ mod order;
 mod outside;
 mod sequence;
 mod text;
+mod unescaping;
 
 pub use escaping::escape;
 pub use mem::Mem;
@@ -18,6 +19,7 @@ pub use number::{read_plain, read_u32};
 pub use outside::{Failed, Sink, Source, write_all};
 pub use sequence::Sequence;
 pub use text::Text;
+pub use unescaping::{TextError, is_allowed, unescape};
 
 /// A list of bytes.
 pub type Bytes = Sequence<u8>;
