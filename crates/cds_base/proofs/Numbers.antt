@@ -59,6 +59,7 @@ number-no_digit base limit (x ∷ xs) i inside h = by (is_number_in base (x ∷ 
   none = above (digit_value (get_or (x ∷ xs) i 0)) base h where
     above : (d b : ℕ) → b ≤ d → nat_lt d b ≡ false
     above d b h = grind (arith, nat_tests)
+
   by : (a : Bool) → a ≡ false → cond (a && nat_lt (value_in base (x ∷ xs)) limit) (Some (value_in base (x ∷ xs))) None ≡ None
   by a e = ap (λ t. cond (t && nat_lt (value_in base (x ∷ xs)) limit) (Some (value_in base (x ∷ xs))) None) e
 
@@ -101,5 +102,5 @@ value_with_digit base bytes i v b d inside is_value is_base is_digit =
 pub all_with_digit : (base : ℕ) (bytes : List ℕ) (i d : ℕ) → i < length bytes → list_all (λ byte. is_digit byte base) (take i bytes) ≡ true → d ≡ digit_value (get_or bytes i 0) → d < base → list_all (λ byte. is_digit byte base) (take (i + 1) bytes) ≡ true
 all_with_digit base bytes i d inside so_far is d_is =
     list_all_more (λ byte. is_digit byte base) bytes i 0 inside ∙ rw so_far (below (digit_value (get_or bytes i 0)) base (omega arith)) where
-  below : (d b : ℕ) → d < b → nat_lt d b ≡ true
-  below d b h = grind (arith, nat_tests)
+      below : (d b : ℕ) → d < b → nat_lt d b ≡ true
+      below d b h = grind (arith, nat_tests)

@@ -1,7 +1,6 @@
 -- Numbers too great for the code name no allowed character.
-use Rattle.std.proofs.Common.{◌≡◌, ℕ, ◌^◌, ◌≤◌, Bool, true, false, cond, ◌&&◌, nat_lt, List, Some, None, refl, arith, ◌⊎◌, inl, inr}
+use Rattle.std.proofs.Common.{◌≡◌, ℕ, ◌^◌, ◌≤◌, Bool, true, false, cond, ◌&&◌, nat_lt, List, Some, None, refl, arith}
 use Rattle.std.proofs.lemmas.Bool.Decides.{nat_tests}
-use Rattle.std.proofs.lemmas.Bool.{cases_lt}
 use Rattle.std.specs.Option.{option_and_then}
 use Rattle.cds_base.specs.Characters.{is_allowed}
 use Rattle.cds_base.specs.Reference.{where_allowed}
@@ -14,6 +13,7 @@ pub allowed_below : (base : ℕ) (digits : List ℕ) → option_and_then where_a
 allowed_below base digits = by (is_number_in base digits) (nat_lt (value_in base digits) (2 ^ 64)) refl where
   great : (v : ℕ) → nat_lt v (2 ^ 64) ≡ false → where_allowed v ≡ None
   great v e = rw (none_so_great v (grind (arith, nat_tests))) refl
+
   by : (a b : Bool) → nat_lt (value_in base digits) (2 ^ 64) ≡ b → option_and_then where_allowed (cond (a && b) (Some (value_in base digits)) None) ≡ option_and_then where_allowed (cond a (Some (value_in base digits)) None)
   by false b e = refl
   by true true e = refl

@@ -1,6 +1,6 @@
 -- A reference ends at its first `;`, so the bytes at the front of a text are one reference at most.
-use Rattle.std.proofs.Common.{◌≡◌, ◌≢◌, ℕ, zero, suc, ◌+◌, ◌<◌, ◌≤◌, Bool, true, false, not, cond, ◌&&◌, nat_eq, List, [], ◌∷◌, ◌++◌, length, get_or, take, drop, Option, Some, None, refl, sym, ap, ◌∙◌, arith, append_assoc, inl, inr, ◌⊎◌, codes, subst, lit<, Bor}
-use Rattle.std.proofs.lemmas.Bool.{eqb-true, eq-eqb}
+use Rattle.std.proofs.Common.{◌≡◌, ◌≢◌, ℕ, suc, ◌<◌, ◌≤◌, Bool, true, false, not, cond, ◌&&◌, nat_eq, List, [], ◌∷◌, ◌++◌, length, get_or, take, drop, Option, Some, None, refl, sym, ap, ◌∙◌, arith, append_assoc, codes, subst, lit<, Bor}
+use Rattle.std.proofs.lemmas.Bool.{eqb-true}
 use Rattle.std.proofs.lemmas.Bool.Decides.{nat_tests}
 use Rattle.std.proofs.lemmas.Slice.Eq.{bytes_eq-Decides}
 use Rattle.std.proofs.lemmas.List.{take-append-drop}
@@ -9,7 +9,7 @@ use Rattle.std.proofs.lemmas.Str.Pattern.{IsSplitOnceResult, split_parts}
 use Rattle.std.specs.List.{list_all}
 use Rattle.std.specs.Option.{option_and_then}
 use Rattle.std.specs.Str.{bytes_eq}
-use Rattle.std.specs.Char.{is_digit, digit_value}
+use Rattle.std.specs.Char.{is_digit}
 use Rattle.cds_base.specs.Number.{value_in, is_number_in, number_in}
 use Rattle.cds_base.specs.Reference.{IsReference, BeginsNoReference, named, numbered, number_after_sign, code_of, where_allowed}
 
@@ -17,7 +17,7 @@ use Rattle.cds_base.specs.Reference.{IsReference, BeginsNoReference, named, numb
 abbrev pub is_clean : List ℕ → Bool
 is_clean name = list_all (λ b. not (nat_eq b 59)) name
 
-and_parts : (a b : Bool) → (a && b) ≡ true → (a ≡ true) × (b ≡ true)
+pub and_parts : (a b : Bool) → (a && b) ≡ true → (a ≡ true) × (b ≡ true)
 and_parts true b e = (refl, e)
 and_parts false b e = absurd (cc)
 
@@ -65,6 +65,7 @@ code_clean name d e =
   where
     same : (word : List ℕ) → is_clean word ≡ true → bytes_eq name word ≡ true → is_clean name ≡ true
     same word clean is = ap is_clean ((bytes_eq-Decides name word).0 is) ∙ clean
+
     by : (p q r s t : Bool) → bytes_eq name (codes "amp") ≡ p → bytes_eq name (codes "lt") ≡ q → bytes_eq name (codes "gt") ≡ r → bytes_eq name (codes "quot") ≡ s → bytes_eq name (codes "apos") ≡ t → cond p (Some 38) (cond q (Some 60) (cond r (Some 62) (cond s (Some 34) (cond t (Some 39) (numbered name))))) ≡ Some d → is_clean name ≡ true
     by true q r s t is_p is_q is_r is_s is_t e = same (codes "amp") refl is_p
     by false true r s t is_p is_q is_r is_s is_t e = same (codes "lt") refl is_q

@@ -62,7 +62,10 @@ pub fn unescape(alloc: Global, text: &str) -> Result<String, TextError>
     let mut rest = text;
     while !rest.is_empty() {
         let at = text.len() - rest.len();
-        let (says, after) = first_piece(rest, at)?;
+        let (says, after) = match first_piece(rest, at) {
+            Ok(piece) => piece,
+            Err(fault) => return Err(fault),
+        };
         read.push(says)?;
         rest = after;
     }

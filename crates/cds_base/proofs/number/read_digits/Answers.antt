@@ -18,14 +18,14 @@ pub returns-in_err-checked_mul : goal.returns-in_err-checked_mul
 returns-in_err-checked_mul c =
     c.from_residual-in_err-checked_mul.ensures
     ∙ sym (number-too_great_product c.args.base _ c.args.digits.now c.loop-byte.byte-index c.loop-byte.value c.from-in-loop-byte.result c.requires.low c.loop-byte-test.true c.loop-byte.invariant.0 c.from-in-loop-byte.ensures
-      (omega (arith, c.in_err-checked_mul.ensures)))
+    (omega (arith, c.in_err-checked_mul.ensures)))
 
 pub returns-in_err-value : goal.returns-in_err-value
 returns-in_err-value c =
     c.from_residual-in_err-value.ensures
     ∙ sym (number-too_great_sum c.args.base _ c.args.digits.now c.loop-byte.byte-index c.loop-byte.value c.from-in-loop-byte.result c.from-in-loop-byte-2.result c.requires.low c.loop-byte-test.true c.loop-byte.invariant.0 c.from-in-loop-byte.ensures
-      (c.from-in-loop-byte-2.ensures ∙ c.in_ok-digit.ensures.value.1 ∙ ap digit_value c.from.ensures)
-      (omega (arith, c.in_err-value.ensures, c.in_ok-checked_mul.ensures)))
+    (c.from-in-loop-byte-2.ensures ∙ c.in_ok-digit.ensures.value.1 ∙ ap digit_value c.from.ensures)
+    (omega (arith, c.in_err-value.ensures, c.in_ok-checked_mul.ensures)))
 
 pub loop-byte-preserved : goal.loop-byte-preserved
 loop-byte-preserved c =
