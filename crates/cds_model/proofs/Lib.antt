@@ -9,6 +9,7 @@ pub mod Lines
 pub mod Listings
 pub mod Merge
 pub mod Pages
+pub mod Played
 pub mod Replies
 pub mod Seen
 pub mod Servers

@@ -1,5 +1,6 @@
 pub mod Evaluated
 pub mod Loads
+pub mod Played
 pub mod Replica
 pub mod Report
 pub mod Script

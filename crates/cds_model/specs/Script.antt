@@ -102,10 +102,12 @@ abbrev pub meaning_of_turn : Option Turn → Meaning
 meaning_of_turn None = Outside
 meaning_of_turn (Some turn) = Means turn
 
--- what a line means: nothing, where it is empty or begins with `#`; a turn; or it is outside the grammar
+-- what the parts of a line mean: a turn, where each is a word and together they are a turn's; else the line is outside the
+-- grammar
 abbrev pub meaning_of_words : List (List ℕ) → Meaning
 meaning_of_words words = cond (list_all is_word words) (meaning_of_turn (turn_of words)) Outside
 
+-- what a line means: nothing, where it is empty or begins with `#`; else what its parts mean
 abbrev pub meaning_of : List ℕ → Meaning
 meaning_of [] = Nothing
 meaning_of (b ∷ rest) = cond (nat_eq b 35) Nothing (meaning_of_words (words_of (b ∷ rest)))

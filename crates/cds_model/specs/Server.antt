@@ -14,7 +14,7 @@ pub record Moment : Type 0 where
   pub number : ℕ
   pub rows : List ObjectRow
 
--- how many rows a page has at most
+-- how many children are asked for at once; so a page of a server that replies as this one has no more rows
 abbrev pub page_size : ℕ
 page_size = 256
 

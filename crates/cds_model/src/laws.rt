@@ -1,6 +1,7 @@
 //! Laws of loads: each clause is one of them.
 
 ghost use Rattle.cds_model.specs.Loads as laws;
+ghost use Rattle.cds_model.specs.Played as played;
 ghost use Rattle.cds_model.specs.Seen as seen;
 ghost use Rattle.cds_model.specs.Servers as servers;
 
@@ -36,4 +37,15 @@ pub fn copied_rows_were_shown()
 /// and one more, since the load began and the catalog last changed.
 pub fn loads_are_bounded()
     ensures { laws.loads_are_bounded }
+{}
+
+/// The report of a script is what its turns write, one after the other, and then its last line: none, or `error line` with
+/// the number of the first line that is outside the grammar, or `error limit`; and the status is accordingly.
+pub fn reports_are_of_turns()
+    ensures { played.reports_are_of_turns }
+{}
+
+/// In the report of any turns each line `behind load` obeys the bound on loads.
+pub fn all_turns_bound_loads()
+    ensures { played.all_turns_bound_loads }
 {}

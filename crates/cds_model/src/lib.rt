@@ -14,8 +14,8 @@ pub use evaluated::{
 };
 pub use exchange::{Ask, Read, Says, Shown};
 pub use laws::{
-    copied_rows_were_shown, histories_are_servers, honest_copies_stood, honest_replies_are_taken,
-    loads_are_bounded, loads_end,
+    all_turns_bound_loads, copied_rows_were_shown, histories_are_servers, honest_copies_stood,
+    honest_replies_are_taken, loads_are_bounded, loads_end, reports_are_of_turns,
 };
 pub use line::read_line;
 pub use turn::{Meaning, Turn};
