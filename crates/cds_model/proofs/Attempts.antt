@@ -1,27 +1,24 @@
 -- What is held after any turns, as the attempt that runs shows it.
-use Rattle.std.proofs.Common.{◌≡◌, ℕ, zero, suc, ◌+◌, ◌-◌, ◌*◌, ◌/◌, ◌<◌, ◌≤◌, List, [], ◌∷◌, ◌++◌, length, map, min, Bool, true, false, cond, not, ◌&&◌, ◌||◌, nat_lt, nat_eq, refl, ap, sym, subst, ◌∙◌, arith, Option, Some, None, ◌⊎◌, inl, inr, length-append, append_assoc}
-use Rattle.std.specs.Prelude.{max, MatchOption, unwrap_or, is_none, is_some}
+use Rattle.std.proofs.Common.{◌≡◌, ℕ, zero, suc, ◌+◌, ◌-◌, ◌*◌, ◌<◌, ◌≤◌, List, [], ◌∷◌, ◌++◌, length, map, min, Bool, true, false, cond, not, ◌&&◌, ◌||◌, nat_lt, nat_eq, refl, ap, sym, subst, ◌∙◌, arith, Some, ◌⊎◌, inl, inr, length-append, append_assoc}
+use Rattle.std.specs.Prelude.{unwrap_or}
 use Rattle.std.specs.List.{AllByRecursion, filter_map, cons_option, list_any, list_all, sum_by, count_by}
-use Rattle.std.specs.Option.{option_map, option_and_then}
-use Rattle.std.proofs.lemmas.Bool.{eqb-true, eq-eqb, ne_eqb, eqb-false, lt-ltb, le-ltb, and_parts, true≢false}
+use Rattle.std.specs.Option.{option_map}
+use Rattle.std.proofs.lemmas.Bool.{eqb-true, ne_eqb, lt-ltb, le-ltb, and_parts, true≢false}
 use Rattle.std.proofs.lemmas.List.{append-nil, map-append}
 use Rattle.std.proofs.lemmas.List.Sums.{sum_by-cons, sum_by-append}
 use Rattle.std.proofs.lemmas.List.Folds.{list_any-append}
-use Rattle.cds_object.specs.Object.{ObjectRow, IsRow, is_folder}
+use Rattle.cds_object.specs.Object.{ObjectRow}
 use Rattle.cds_object.specs.Tree.{is_child_of}
-use Rattle.cds_object.specs.declared.row.Trackers.{Trackers}
-use Rattle.cds_model.specs.declared.exchange.Ask.{Ask}
 use Rattle.cds_model.specs.declared.exchange.Ask.TheVariants.{Token, Number as AskNumber, Metadata, Children}
 use Rattle.cds_model.specs.declared.exchange.Shown.{Shown}
-use Rattle.cds_model.specs.declared.exchange.Shown.TheVariants.{Text, Number, Page, Fault}
+use Rattle.cds_model.specs.declared.exchange.Shown.TheVariants.{Number, Page}
 use Rattle.cds_model.specs.Server.{page_size}
-use Rattle.cds_model.specs.Loads.{load_reads}
-use Rattle.cds_model.specs.Replica.{Waiting, Listing, Held, Idle, Begun, HasToken, HasNumber, HasRoot, Lists, HasPage, HasCopy, waiting_of, puts_by, put_rows, put_containers, listing_of, listed_id, listed_children, others_waiting, known_ids, all_new, fits, listed, after_page}
-use Rattle.cds_model.specs.Attempts.{rows_in, number_in, is_odd, children_among, unasked, first_of, least_unasked, container_after, asked_in, next_container, ask_in, is_complete, can_be, EvenAre}
+use Rattle.cds_model.specs.Replica.{Waiting, Listing, waiting_of, puts_by, put_rows, put_containers, listed_id, listed_children, others_waiting, known_ids, all_new, fits}
+use Rattle.cds_model.specs.Attempts.{rows_in, number_in, is_odd, children_among, unasked, first_of, least_unasked, container_after, asked_in, next_container, ask_in, can_be, EvenAre}
 use Rattle.cds_model.proofs.Merge.{Rises}
 use Rattle.cds_model.proofs.Trees.{id_of, all-map}
-use Rattle.cds_model.proofs.Advance.{waiting_id, waiting-keeps}
-use Rattle.cds_model.proofs.Placed.{is_among, or-none, or-left, or-right, puts-append, any-puts, new-same, new-each, puts-rises, make-puts, sum-puts, count-none, count-all}
+use Rattle.cds_model.proofs.Advance.{waiting_id}
+use Rattle.cds_model.proofs.Placed.{is_among, or-none, or-right, puts-append, any-puts, new-same, new-each, puts-rises, make-puts, sum-puts, count-none, count-all}
 use Rattle.cds_model.proofs.Unasked.{was_asked, times, times-length, times-all, unasked-keeps, first-unasked, others-unasked, new-unasked, not-asked, Under, under-times, under-no_child, child-under, own_pages, row_pages, pages-made}
 
 -- all children of the container of the newest page were shown

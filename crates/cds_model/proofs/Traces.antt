@@ -1,23 +1,20 @@
 -- After any turns what is held is what the attempt that runs shows, and so is what becomes of a reply.
-use Rattle.std.proofs.Common.{◌≡◌, ℕ, zero, suc, ◌+◌, ◌*◌, ◌/◌, ◌<◌, ◌≤◌, List, [], ◌∷◌, ◌++◌, length, Bool, true, false, cond, not, ◌&&◌, nat_eq, refl, ap, sym, subst, ◌∙◌, arith, Option, Some, None, ◌⊎◌, inl, inr}
-use Rattle.std.specs.Prelude.{max, MatchOption, unwrap_or, is_none, is_some}
+use Rattle.std.proofs.Common.{◌≡◌, ℕ, suc, ◌+◌, ◌<◌, List, [], ◌∷◌, ◌++◌, length, Bool, true, false, cond, not, ◌&&◌, nat_eq, refl, ap, sym, subst, ◌∙◌, arith, Option, Some, None, ◌⊎◌, inl, inr}
+use Rattle.std.specs.Prelude.{MatchOption, unwrap_or, is_none, is_some}
 use Rattle.std.specs.List.{AllByRecursion, cons_option, sum_by}
 use Rattle.std.specs.Option.{option_map, option_and_then}
 use Rattle.std.proofs.lemmas.Bool.{eqb-true, eqb-false, eq-eqb, ne_eqb, and_parts, true≢false}
 use Rattle.std.proofs.lemmas.List.Sums.{sum_by-cons, sum_by-append}
 use Rattle.cds_object.specs.Object.{ObjectRow, IsRow, is_folder}
 use Rattle.cds_object.specs.declared.row.Trackers.{Trackers}
-use Rattle.cds_model.specs.declared.exchange.Ask.{Ask}
 use Rattle.cds_model.specs.declared.exchange.Ask.TheVariants.{Token, Number as AskNumber, Metadata, Children}
-use Rattle.cds_model.specs.declared.exchange.Says.{Says}
 use Rattle.cds_model.specs.declared.exchange.Says.TheVariants.{BehindLoad, Stands}
 use Rattle.cds_model.specs.declared.exchange.Shown.{Shown}
 use Rattle.cds_model.specs.declared.exchange.Shown.TheVariants.{Text, Number, Page, Fault}
 use Rattle.cds_model.specs.Loads.{load_reads}
-use Rattle.cds_model.specs.Replica.{Waiting, Listing, Held, Idle, Begun, HasToken, HasNumber, HasRoot, Lists, HasPage, HasCopy, Taken, Holds, Unreadable, Torn, waiting_of, puts_by, put_rows, put_containers, listing_of, listed_id, listed_children, others_waiting, fits, listed, after_page, root_taken, page_taken, taken, held_after, held_by, next_ask, says, copied, ReplicaTurn, Begins, Shows}
+use Rattle.cds_model.specs.Replica.{Waiting, Listing, Held, Idle, Begun, HasToken, HasNumber, HasRoot, Lists, HasPage, HasCopy, Taken, Holds, Torn, waiting_of, puts_by, put_rows, put_containers, listing_of, listed_id, listed_children, others_waiting, fits, listed, after_page, root_taken, page_taken, taken, held_after, held_by, next_ask, says, copied, ReplicaTurn, Begins, Shows}
 use Rattle.cds_model.specs.Seen.{rows_shown}
-use Rattle.cds_model.specs.Attempts.{rows_in, number_in, is_odd, children_among, asked_in, next_container, ask_in, is_complete, can_be, Verdict, Fine, CannotBeRead, CannotBe, verdict_of, page_verdict, differs, reply_verdict, verdict_in, joined, after_verdict, attempt_of, verdict_by, says_by, copied_by, EvenAre, ShowsRows, asks_are_of_attempts, refusals_are_of_attempts, answers_are_of_attempts, copies_are_of_attempts, even_replies_are_the_number}
-use Rattle.cds_model.proofs.Trees.{id_of}
+use Rattle.cds_model.specs.Attempts.{rows_in, number_in, is_odd, children_among, asked_in, next_container, ask_in, is_complete, can_be, Verdict, Fine, CannotBeRead, CannotBe, verdict_of, page_verdict, differs, reply_verdict, verdict_in, after_verdict, attempt_of, verdict_by, says_by, copied_by, EvenAre, ShowsRows, asks_are_of_attempts, refusals_are_of_attempts, answers_are_of_attempts, copies_are_of_attempts, even_replies_are_the_number}
 use Rattle.cds_model.proofs.Advance.{waiting_id}
 use Rattle.cds_model.proofs.Unasked.{Under, own_pages, row_pages}
 use Rattle.cds_model.proofs.Attempts.{Between, Within, between-next, within-begins, within-ask, within-next, within-id, within-children, fits-same, goes-on, ends}

@@ -1,5 +1,5 @@
 -- The containers of which no page was asked, and those of which pages were.
-use Rattle.std.proofs.Common.{◌≡◌, ℕ, zero, suc, ◌+◌, ◌/◌, ◌<◌, ◌≤◌, List, [], ◌∷◌, ◌++◌, length, map, Bool, true, false, cond, not, ◌&&◌, ◌||◌, nat_lt, nat_eq, refl, ap, sym, subst, ◌∙◌, arith, Option, Some, None}
+use Rattle.std.proofs.Common.{◌≡◌, ℕ, zero, suc, ◌+◌, ◌/◌, List, [], ◌∷◌, length, map, Bool, true, false, cond, ◌||◌, nat_eq, refl, ap, sym, ◌∙◌, arith, Option, Some, None}
 use Rattle.std.specs.Prelude.{max, MatchOption}
 use Rattle.std.specs.List.{AllByRecursion, filter_map, cons_option, list_any, sum_by}
 use Rattle.std.specs.Option.{option_map, option_eq}
@@ -14,7 +14,7 @@ use Rattle.cds_model.specs.Attempts.{unasked}
 use Rattle.cds_model.proofs.Merge.{Rises, KeepsKey}
 use Rattle.cds_model.proofs.Trees.{id_of, all-map}
 use Rattle.cds_model.proofs.Advance.{waiting_id, waiting-keeps}
-use Rattle.cds_model.proofs.Placed.{is_among, or-none, or-left, or-right, filter_map-equal}
+use Rattle.cds_model.proofs.Placed.{is_among, or-left, or-right, filter_map-equal}
 
 -- whether an id is that of a container of which a page was asked
 abbrev pub was_asked : ℕ → List Waiting → Bool

@@ -4,7 +4,7 @@
 --
 -- An attempt is the replies that were taken since the load began, or since a number other than the attempt's N was shown.
 -- Its first reply is a token, its second N, its third the root's row, each later odd one a page and each even one N.
-use Rattle.std.specs.Prelude.{◌≡◌, ◌+◌, ◌-◌, ◌*◌, ℕ, min, Bool, true, false, cond, not, nat_eq, nat_lt, ◌&&◌, List, [], ◌∷◌, ◌++◌, map, length, Option, Some, None, unwrap_or}
+use Rattle.std.specs.Prelude.{◌≡◌, ◌-◌, ℕ, min, Bool, true, false, cond, not, nat_eq, nat_lt, ◌&&◌, List, [], ◌∷◌, ◌++◌, map, length, Option, Some, None, unwrap_or}
 use Rattle.std.specs.List.{AllByRecursion, filter_map, cons_option, count_by, list_any, list_all}
 use Rattle.std.specs.Option.{option_map, option_and_then}
 use Rattle.cds_object.specs.Object.{ObjectRow, IsRow, is_folder}
