@@ -1,14 +1,14 @@
 -- A replica of an honest server takes each reply, and its copy stood.
-use Rattle.std.proofs.Common.{◌≡◌, ℕ, ◌+◌, ◌<◌, ◌≤◌, List, [], ◌∷◌, refl, ap, sym, subst, ◌∙◌, arith, Option, Some, None}
-use Rattle.cds_object.specs.Object.{ObjectRow}
+use Rattle.std.proofs.Common.{◌≡◌, ℕ, ◌≤◌, List, [], ◌∷◌, refl, ap, sym, subst, ◌∙◌, arith, Option, Some, None}
 use Rattle.cds_object.specs.Tree.{IsTree}
 use Rattle.cds_model.specs.declared.exchange.Ask.{Ask as Asked}
 use Rattle.cds_model.specs.declared.exchange.Says.{Says}
 use Rattle.cds_model.specs.declared.exchange.Says.TheVariants.{BehindLoad, Stands}
 use Rattle.cds_model.specs.Server.{Moment, reply_to}
-use Rattle.cds_model.specs.Replica.{Held, Idle, Begun, HasToken, HasNumber, HasRoot, Lists, HasPage, HasCopy, Taken, Holds, held_after, held_by, ReplicaTurn, Begins, Shows, taken, next_ask, says, copied}
-use Rattle.cds_model.specs.Loads.{IsServer, Entry, Starts, Asks, length_at, NeverFall, shown_at, given_by, honest_replies_are_taken, honest_copies_stood, loads_end}
-use Rattle.cds_model.proofs.Honest.{IsServed, Had, IsGiven, given-more}
+use Rattle.cds_model.specs.Replica.{Held, Idle, Begun, HasToken, HasNumber, HasRoot, Lists, HasPage, HasCopy, held_after, held_by, taken, next_ask, says, copied}
+use Rattle.cds_model.specs.Report.{after_read}
+use Rattle.cds_model.specs.Loads.{IsServer, Entry, Starts, Asks, length_at, NeverFall, given_by, honest_replies_are_taken, honest_copies_stood, loads_end}
+use Rattle.cds_model.proofs.Honest.{IsServed, IsGiven, given-more}
 use Rattle.cds_model.proofs.Replies.{TakesGiven, reply-given}
 use Rattle.cds_model.proofs.Ends.{load-ends}
 
@@ -51,7 +51,7 @@ entries-given server is (Asks j ∷ older) fall k most =
     (let o = older-fall (Asks j) older fall in entries-given server is older o.0 j o.1))
   where
     by : (o : Option Asked) → next_ask (held_by (given_by server older)) ≡ o → IsGiven (StoodAt server j) (held_by (given_by server older)) →
-        IsGiven (StoodAt server j) (held_by (shown_at (server j) (given_by server older) o))
+        IsGiven (StoodAt server j) (held_by (after_read (server j) (given_by server older) o))
     by None e given = given
     by (Some ask) e given =
         let t : TakesGiven (StoodAt server j) (taken (held_by (given_by server older)) (reply_to (server j) ask)) =

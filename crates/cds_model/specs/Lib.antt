@@ -1,5 +1,7 @@
+pub mod Attempts
 pub mod Evaluated
 pub mod Loads
+pub mod Played
 pub mod Replica
 pub mod Report
 pub mod Script

@@ -1,18 +1,18 @@
 -- How many reads a load takes, and what a replica knows whose replies are those of an honest server: words and laws.
-use Rattle.std.specs.Prelude.{◌≡◌, ◌+◌, ◌*◌, ◌/◌, ◌<◌, ◌≤◌, ◌⊎◌, ℕ, zero, suc, max, Bool, true, false, cond, nat_eq, List, [], ◌∷◌, ◌++◌, length, Option, Some, None, IsSome}
+use Rattle.std.specs.Prelude.{◌≡◌, ◌+◌, ◌*◌, ◌/◌, ◌<◌, ◌≤◌, ◌⊎◌, ℕ, zero, suc, max, Bool, true, false, cond, nat_eq, List, [], ◌∷◌, Option, Some, None, IsSome}
 use Rattle.std.specs.List.{sum_by}
 use Rattle.cds_object.specs.Object.{ObjectRow}
 use Rattle.cds_object.specs.Tree.{IsTree}
 use Rattle.cds_object.specs.declared.row.Trackers.{Trackers}
-use Rattle.cds_catalog.specs.History.{History, end_of}
+use Rattle.cds_catalog.specs.History.{end_of}
 use Rattle.cds_catalog.specs.Catalog.{catalog}
 use Rattle.cds_model.specs.declared.exchange.Ask.{Ask as Asked}
 use Rattle.cds_model.specs.declared.exchange.Says.TheVariants.{BehindLoad, Stands}
 use Rattle.cds_model.specs.declared.turn.Turn.{Turn}
 use Rattle.cds_model.specs.declared.turn.Turn.TheVariants.{Folder, Track, Scan, Load, Read, Ask}
 use Rattle.cds_model.specs.Server.{Moment, reply_to}
-use Rattle.cds_model.specs.Replica.{Held, Begun, HasCopy, Taken, Holds, held_after, held_by, ReplicaTurn, Begins, Shows, taken, next_ask, says, copied}
-use Rattle.cds_model.specs.Report.{history_of, records_since, replica_turns}
+use Rattle.cds_model.specs.Replica.{Held, Begun, HasCopy, Holds, held_after, held_by, ReplicaTurn, Begins, taken, next_ask, says, copied}
+use Rattle.cds_model.specs.Report.{history_of, replica_turns, after_read}
 
 -- how many pages the listing of an object takes: at least one for a container, none for a track
 abbrev pub pages_for : Option Trackers → ℕ
@@ -64,14 +64,10 @@ NeverFall (entry ∷ []) = Unit {0}
 NeverFall (entry ∷ next ∷ older) = (length_at next ≤ length_at entry) × NeverFall (next ∷ older)
 
 -- the replica's turns, each reply being the server's at its length; where nothing is asked nothing is shown
-abbrev pub shown_at : Moment → List ReplicaTurn → Option Asked → List ReplicaTurn
-shown_at moment turns None = turns
-shown_at moment turns (Some ask) = Shows (reply_to moment ask) ∷ turns
-
 abbrev pub given_by : (ℕ → Moment) → List Entry → List ReplicaTurn
 given_by server [] = []
 given_by server (Starts k ∷ older) = Begins ∷ given_by server older
-given_by server (Asks k ∷ older) = shown_at (server k) (given_by server older) (next_ask (held_by (given_by server older)))
+given_by server (Asks k ∷ older) = after_read (server k) (given_by server older) (next_ask (held_by (given_by server older)))
 
 -- a replica of an honest server: no reply to its next ask is refused, and a copy has the rows of a length at which the
 -- server had its number, not above the newest entry's

@@ -1,5 +1,5 @@
 -- A script: lines ended by LF, each of words parted by one space, and what each line means (this project's profile).
-use Rattle.std.specs.Prelude.{◌≡◌, ◌+◌, ◌-◌, ◌^◌, ℕ, Bool, true, false, cond, nat_eq, nat_lt, nat_le, ◌&&◌, ◌||◌, not, List, [], ◌∷◌, ◌++◌, length, take, Option, Some, None, Result, Ok, Err, codes}
+use Rattle.std.specs.Prelude.{◌+◌, ◌^◌, ℕ, Bool, cond, nat_eq, nat_lt, nat_le, ◌&&◌, not, List, [], ◌∷◌, length, Option, Some, None, Result, Ok, Err, codes}
 use Rattle.std.specs.List.{slice_split, list_all, onto_first}
 use Rattle.std.specs.Option.{option_and_then}
 use Rattle.cds_base.specs.Number.{plain_below}
@@ -102,10 +102,12 @@ abbrev pub meaning_of_turn : Option Turn → Meaning
 meaning_of_turn None = Outside
 meaning_of_turn (Some turn) = Means turn
 
--- what a line means: nothing, where it is empty or begins with `#`; a turn; or it is outside the grammar
+-- what the parts of a line mean: a turn, where each is a word and together they are a turn's; else the line is outside the
+-- grammar
 abbrev pub meaning_of_words : List (List ℕ) → Meaning
 meaning_of_words words = cond (list_all is_word words) (meaning_of_turn (turn_of words)) Outside
 
+-- what a line means: nothing, where it is empty or begins with `#`; else what its parts mean
 abbrev pub meaning_of : List ℕ → Meaning
 meaning_of [] = Nothing
 meaning_of (b ∷ rest) = cond (nat_eq b 35) Nothing (meaning_of_words (words_of (b ∷ rest)))

@@ -1,5 +1,5 @@
 -- What a server replies at a moment (UPnP ContentDirectory:4 on Browse, GetSystemUpdateID and the reset token).
-use Rattle.std.specs.Prelude.{◌≡◌, ◌+◌, ℕ, Bool, cond, nat_eq, List, [], ◌∷◌, length, take, drop, Option, Some, None, unwrap_or}
+use Rattle.std.specs.Prelude.{ℕ, cond, nat_eq, List, [], ◌∷◌, length, take, drop, Option, Some, None, unwrap_or}
 use Rattle.cds_object.specs.Object.{ObjectRow, is_folder}
 use Rattle.cds_object.specs.Tree.{row_of, children_of}
 use Rattle.cds_object.specs.declared.row.Trackers.{Trackers}
@@ -14,7 +14,7 @@ pub record Moment : Type 0 where
   pub number : ℕ
   pub rows : List ObjectRow
 
--- how many rows a page has at most
+-- how many children are asked for at once; so a page of a server that replies as this one has no more rows
 abbrev pub page_size : ℕ
 page_size = 256
 

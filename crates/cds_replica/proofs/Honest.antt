@@ -6,7 +6,8 @@ use Rattle.std.specs.List.{AllByRecursion}
 use Rattle.cds_object.specs.Object.{ObjectRow}
 use Rattle.cds_model.specs.Server.{reply_to}
 use Rattle.cds_model.specs.Replica.{Held, Taken, Holds, Unreadable as CannotBeRead, Torn as CannotBe, held_after, held_by, taken, next_ask, says, copied, ReplicaTurn}
-use Rattle.cds_model.specs.Loads.{shown_at, given_by}
+use Rattle.cds_model.specs.Report.{after_read}
+use Rattle.cds_model.specs.Loads.{given_by}
 use Rattle.cds_model.specs.Seen.{WasShown}
 use Rattle.cds_model.specs.declared.exchange.Ask.{Ask as Asked}
 use Rattle.cds_model.specs.declared.exchange.Shown.{Shown}
@@ -35,7 +36,7 @@ outcome-given old new shown result outcome server entries k is fall held replies
     turns = given_by server entries
 
     by : (o : Option Asked) → next_ask (held_by turns) ≡ o → option_map (reply_to (server k)) o ≡ Some shown →
-        TakenHonestly result new (held_by (shown_at (server k) turns o))
+        TakenHonestly result new (held_by (after_read (server k) turns o))
     by None e replied = absurd (cc)
     by (Some ask) e replied =
         let same : reply_to (server k) ask ≡ shown = cc in
