@@ -1,4 +1,5 @@
 pub mod Broken
+pub mod Joined
 pub mod Ordered
 pub mod Scanned
 pub mod Standing
