@@ -1,5 +1,4 @@
 pub mod Broken
-pub mod Joined
 pub mod Ordered
 pub mod Scanned
 pub mod Standing

@@ -102,8 +102,7 @@ children_page moment start row =
 abbrev pub with_part : Listing → List ObjectRow → Listing
 with_part listing part = record { rows = listing.rows; waiting = listing.waiting; part = part }
 
--- pieces of text one after another
-abbrev pub joined : List (List ℕ) → List ℕ
-joined [] = []
-joined (piece ∷ []) = piece
-joined (piece ∷ next ∷ pieces) = piece ++ joined (next ∷ pieces)
+-- pieces put at the end of a text one after another
+abbrev pub joined : List ℕ → List (List ℕ) → List ℕ
+joined text [] = text
+joined text (piece ∷ pieces) = joined (text ++ piece) pieces

@@ -58,7 +58,7 @@ fn object_attributes(alloc: Global, row: &Row) -> Result<Text, Mem>
 {
     let id = id_text(alloc, row)?;
     let parent = parent_text(alloc, row)?;
-    joined(
+    let out = joined(
         alloc,
         &[
             " id=\"",
@@ -67,7 +67,8 @@ fn object_attributes(alloc: Global, row: &Row) -> Result<Text, Mem>
             parent.as_str(),
             "\" restricted=\"1\"",
         ],
-    )
+    )?;
+    Ok(out)
 }
 
 /// A number of one or two digits in two.
@@ -242,7 +243,7 @@ fn item_front(alloc: Global, row: &Row, track: &TrackContent) -> Result<Text, Me
 {
     let attributes = object_attributes(alloc, row)?;
     let title = text_element(alloc, "dc:title", track.title.as_str())?;
-    joined(
+    let out = joined(
         alloc,
         &[
             "<item",
@@ -251,7 +252,8 @@ fn item_front(alloc: Global, row: &Row, track: &TrackContent) -> Result<Text, Me
             title.as_str(),
             "<upnp:class>object.item.audioItem.musicTrack</upnp:class>",
         ],
-    )
+    )?;
+    Ok(out)
 }
 
 /// An item's element.
@@ -262,7 +264,7 @@ fn item_text(alloc: Global, row: &Row, track: &TrackContent) -> Result<Text, Mem
     let work = work_text(alloc, track)?;
     let update = update_text(alloc, row)?;
     let resource = resource_text(alloc, row, track)?;
-    joined(
+    let out = joined(
         alloc,
         &[
             front.as_str(),
@@ -271,7 +273,8 @@ fn item_text(alloc: Global, row: &Row, track: &TrackContent) -> Result<Text, Mem
             resource.as_str(),
             "</item>",
         ],
-    )
+    )?;
+    Ok(out)
 }
 
 /// A container's element up to and with its class.
@@ -282,7 +285,7 @@ fn container_front(alloc: Global, row: &Row, title: &Text, children: u32) -> Res
     let attributes = object_attributes(alloc, row)?;
     let children = decimal_u32(alloc, children)?;
     let title = text_element(alloc, "dc:title", title.as_str())?;
-    joined(
+    let out = joined(
         alloc,
         &[
             "<container",
@@ -293,7 +296,8 @@ fn container_front(alloc: Global, row: &Row, title: &Text, children: u32) -> Res
             title.as_str(),
             "<upnp:class>object.container</upnp:class>",
         ],
-    )
+    )?;
+    Ok(out)
 }
 
 /// How a container tracks the changes of its children.
@@ -304,10 +308,11 @@ fn trackers_text(alloc: Global, row: &Row, trackers: &Trackers) -> Result<Text, 
     let object = update_text(alloc, row)?;
     let container = number_element(alloc, "upnp:containerUpdateID", trackers.container_update)?;
     let deleted = number_element(alloc, "upnp:totalDeletedChildCount", trackers.deleted)?;
-    joined(
+    let out = joined(
         alloc,
         &[object.as_str(), container.as_str(), deleted.as_str()],
-    )
+    )?;
+    Ok(out)
 }
 
 /// A container's element.
@@ -316,10 +321,11 @@ fn container_text(alloc: Global, row: &Row, title: &Text, trackers: &Trackers) -
 {
     let front = container_front(alloc, row, title, trackers.child_count)?;
     let tracked = trackers_text(alloc, row, trackers)?;
-    joined(
+    let out = joined(
         alloc,
         &[front.as_str(), tracked.as_str(), "</container>"],
-    )
+    )?;
+    Ok(out)
 }
 
 /// The text of a row.

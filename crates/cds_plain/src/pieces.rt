@@ -1,6 +1,6 @@
 //! Pieces of text.
 
-ghost use Rattle.std.specs.Prelude.{◌≡◌, map, IfOk};
+ghost use Rattle.std.specs.Prelude.{◌≡◌, [], map, IfOk};
 ghost use Rattle.std.specs.Fmt.{decimal};
 ghost use Rattle.cds_base.specs.Escape.{escaped};
 ghost use Rattle.cds_plain.specs.Words.{joined};
@@ -10,7 +10,7 @@ use std::alloc::Global;
 
 /// Pieces of text, joined.
 pub(crate) fn joined(alloc: Global, pieces: &[&str]) -> Result<Text, Mem>
-    ensures { IfOk result (λ text. text ≡ joined (map (λ piece. piece.now) pieces.now)) }
+    ensures { IfOk result (λ text. text ≡ joined [] (map (λ piece. piece.now) pieces.now)) }
 {
     let mut text = String::new(alloc);
     for piece in pieces {
