@@ -1,12 +1,16 @@
 -- The numbers stay below 2^32 after a scan that was accepted.
-use Rattle.std.proofs.Common.{◌≡◌, ◌+◌, ◌<◌, ◌≤◌, ◌^◌, ℕ, true, false, Bool, nat_lt, List, ◌∷◌, length, Option, Some, None, refl, sym, subst, ◌∙◌, ap, arith}
+use Rattle.std.proofs.Common.{◌≡◌, ◌+◌, ◌<◌, ◌≤◌, ◌^◌, ℕ, true, false, Bool, nat_lt, List, [], ◌∷◌, length, Option, Some, None, refl, sym, subst, ◌∙◌, ap, arith}
+use Rattle.std.specs.List.{AllByRecursion}
 use Rattle.std.proofs.lemmas.Bool.Decides.{nat_tests}
 use Rattle.std.proofs.lemmas.List.{length-append}
+use Rattle.cds_object.specs.Object.{ObjectRow}
 use Rattle.cds_object.specs.declared.record.Record.{Record}
 use Rattle.cds_catalog.specs.Library.{FolderMap, map_of, found}
 use Rattle.cds_catalog.specs.History.{History, latest, changes_of, end_of, with_scan}
 use Rattle.cds_catalog.specs.Scans.{Accepted, BadRecord, TooMany, NoNumbers, scan_answer, bad_record, needed_by}
+use Rattle.cds_catalog.specs.Catalog.{catalog}
 use Rattle.cds_catalog.proofs.Accepted.{accepted_map}
+use Rattle.cds_catalog.proofs.StepsWithin.{rows_are_within-proof}
 use Rattle.cds_plain.specs.Words.{IsWithinNumbers}
 
 -- what an accepted scan has passed
@@ -53,7 +57,7 @@ within_scan history records before accepted =
     record {
       libraries = ((accepted_map records p.good).0, before.libraries);
       fits = omega arith;
-      few = omega arith;
+      few = (omega arith, before.few);
     }
 
 pub within_maps : (first : ℕ) (maps : List FolderMap) (records : List Record) (library : FolderMap) (now : List FolderMap)
@@ -62,3 +66,27 @@ pub within_maps : (first : ℕ) (maps : List FolderMap) (records : List Record) 
 within_maps first maps records library now before accepted is made =
     subst (λ m. IsWithinNumbers (record { first = first; maps = m })) (sym (made ∙ ap (λ l. l ∷ maps) is))
     (within_scan (record { first = first; maps = maps }) records before accepted)
+
+-- scans without the newest
+pub within_older : (first : ℕ) (library : FolderMap) (older : List FolderMap) → IsWithinNumbers (record { first = first; maps = library ∷ older })
+    → IsWithinNumbers (record { first = first; maps = older })
+within_older first library older within =
+    let more = length-append (found (latest older) library) (changes_of older) in
+    let fits = within.fits in
+    record { libraries = within.libraries.1; fits = omega arith; few = within.few.1 }
+
+-- a catalog has at most 65,536 rows
+few_latest : (maps : List FolderMap) → AllByRecursion (λ library. length library ≤ 65535) maps → length (latest maps) ≤ 65535
+few_latest [] few = omega arith
+few_latest (library ∷ older) few = few.0
+
+pub few_rows : (first : ℕ) (maps : List FolderMap) (rows : List ObjectRow) → IsWithinNumbers (record { first = first; maps = maps })
+    → rows ≡ catalog (record { first = first; maps = maps }) → length rows ≤ 65536
+few_rows first maps rows within are =
+    subst (λ (r : List ObjectRow). length r ≤ 65536) (sym are) (few_catalog (record { first = first; maps = maps }) within)
+  where
+    few_catalog : (history : History) → IsWithinNumbers history → length (catalog history) ≤ 65536
+    few_catalog history within =
+        let few : length (latest history.maps) ≤ 65535 = few_latest history.maps within.few in
+        let all : length (catalog history) ≡ length (latest history.maps) + 1 = (rows_are_within-proof history within.libraries).2 in
+        subst (λ (n : ℕ). n ≤ 65536) (sym all) (omega (arith, few))

@@ -1,11 +1,14 @@
 -- Words that contracts of the plain programs share: the parts of definitions whose own names are hidden in them.
-use Rattle.std.specs.Prelude.{◌<◌, ◌≤◌, ◌^◌, ℕ, Bool, true, false, cond, List, [], ◌∷◌, ◌++◌, length, Option, Some, None}
+use Rattle.std.specs.Prelude.{◌<◌, ◌≤◌, ◌^◌, ℕ, Bool, true, false, cond, List, [], ◌∷◌, ◌++◌, length, take, drop, Option, Some, None}
+use Rattle.std.specs.List.{AllByRecursion}
 use Rattle.cds_object.specs.Content.{same_content, same_kind}
+use Rattle.cds_object.specs.Object.{ObjectRow}
+use Rattle.cds_object.specs.Tree.{children_of}
 use Rattle.cds_object.specs.declared.content.Content.{Content}
 use Rattle.cds_object.specs.declared.record.Record.{Record}
 use Rattle.cds_object.specs.declared.row.Trackers.{Trackers}
 use Rattle.cds_catalog.specs.Library.{FolderMap}
-use Rattle.cds_catalog.specs.History.{History, latest, end_of, adds, sets, is_under}
+use Rattle.cds_catalog.specs.History.{History, end_of, adds, sets, is_under}
 use Rattle.cds_catalog.specs.Catalog.{PlacedRow, row_at, put_row, container_update_of, child_count_of, deleted_of}
 use Rattle.cds_catalog.specs.Laws.{AreLibraries}
 use Rattle.cds_catalog.specs.Scans.{ScanAnswer}
@@ -13,6 +16,10 @@ use Rattle.cds_catalog.specs.Scans as scans
 use Rattle.cds_catalog.specs.declared.change.Change.{Change}
 use Rattle.cds_catalog.specs.declared.change.Change.TheVariants.{Deletion, Addition, Modification}
 use Rattle.cds_model.specs.Report.{folder_record}
+use Rattle.cds_model.specs.Replica.{Listing}
+use Rattle.cds_model.specs.Server.{Moment, page_size, update_of}
+use Rattle.cds_model.specs.declared.exchange.Shown.{Shown}
+use Rattle.cds_model.specs.declared.exchange.Shown.TheVariants.{Page}
 use Rattle.cds_model.specs.declared.turn.Turn.{Turn}
 use Rattle.cds_model.specs.declared.turn.Turn.TheVariants as turns
 use Rattle.cds_plain.specs.declared.history.PlainAnswer.{PlainAnswer}
@@ -63,12 +70,11 @@ answer_of (BadRecord line) = scans.BadRecord line
 answer_of (TooMany objects) = scans.TooMany objects
 answer_of (NoNumbers needed) = scans.NoNumbers needed
 
--- what every history that was scanned keeps: folder maps, of which the newest has at most 65,535 places, and numbers
--- below 2^32
+-- what every history that was scanned keeps: folder maps, each of at most 65,535 places, and numbers below 2^32
 pub record IsWithinNumbers (history : History) : Type 0 where
   pub libraries : AreLibraries history.maps
   pub fits : end_of history < 2 ^ 32
-  pub few : length (latest history.maps) ≤ 65535
+  pub few : AllByRecursion (λ library. length library ≤ 65535) history.maps
 
 -- records with what a turn says that the next scan finds
 abbrev pub with_record : Turn → List Record → List Record
@@ -86,3 +92,17 @@ is_scan turns.Scan = true
 is_scan turns.Load = false
 is_scan turns.Read = false
 is_scan turns.Ask = false
+
+-- a page of a container's children from a place on
+abbrev pub children_page : Moment → ℕ → ObjectRow → Shown
+children_page moment start row =
+    Page (take page_size (drop start (children_of row.id moment.rows))) (length (children_of row.id moment.rows)) (update_of moment row)
+
+-- a listing with another part
+abbrev pub with_part : Listing → List ObjectRow → Listing
+with_part listing part = record { rows = listing.rows; waiting = listing.waiting; part = part }
+
+-- pieces put at the end of a text one after another
+abbrev pub joined : List ℕ → List (List ℕ) → List ℕ
+joined text [] = text
+joined text (piece ∷ pieces) = joined (text ++ piece) pieces

@@ -1,9 +1,9 @@
-ghost use Rattle.std.specs.Prelude.{◌≡◌, [], length, IfOk, OnErr};
+ghost use Rattle.std.specs.Prelude.{◌≡◌, ◌≤◌, [], length, IfOk, OnErr};
 ghost use Rattle.cds_catalog.specs.Library.{map_of, found};
 ghost use Rattle.cds_catalog.specs.History.{latest, end_of};
-ghost use Rattle.cds_catalog.specs.Catalog.{catalog};
+ghost use Rattle.cds_catalog.specs.Catalog.{catalog, catalog_at};
 ghost use Rattle.cds_catalog.specs.Scans.{scan_answer, after_scan};
-ghost use Rattle.cds_plain.specs.Words.{answer_of};
+ghost use Rattle.cds_plain.specs.Words.{answer_of, IsWithinNumbers};
 
 use crate::changes::{changes_of, latest};
 use crate::entry::Library;
@@ -68,8 +68,7 @@ impl PlainHistory {
     pub fn end(&self, alloc: Global) -> Result<u32, Mem>
         ensures { IfOk result (λ number. number ≡ end_of self.now) }
     {
-        let changes = changes_of(alloc, self.maps.as_slice())?;
-        Ok(self.first + changes.len() as u32)
+        end_of(alloc, self.first, self.maps.as_slice())
     }
 
     /// How many changes a scan makes that finds this.
@@ -121,12 +120,64 @@ impl PlainHistory {
 
     /// The catalog after all scans: its rows in ascending order of ids.
     pub fn rows(&self, alloc: Global) -> Result<Rows, Mem>
-        ensures { IfOk result (λ rows. rows ≡ catalog self.now) }
+        ensures exact { IfOk result (λ rows. rows ≡ catalog self.now) }
+        ensures few { IfOk result (λ rows. length rows ≤ 65536) }
     {
-        let changes = changes_of(alloc, self.maps.as_slice())?;
-        let library = latest(self.maps.as_slice());
-        let placed = rows_at(alloc, self.first, changes.as_slice(), library)?;
-        let ordered = in_order(alloc, placed)?;
-        without_places(alloc, ordered)
+        catalog(alloc, self.first, self.maps.as_slice())
+    }
+
+    /// The catalog that stands at a number: that of the newest scan whose end is not above it, and before all scans the
+    /// root's alone.
+    pub fn rows_at(&self, alloc: Global, number: u32) -> Result<Rows, Mem>
+        ensures { IfOk result (λ rows. rows ≡ catalog_at self.now.first self.now.maps number) }
+    {
+        catalog_at(alloc, self.first, self.maps.as_slice(), number)
+    }
+}
+
+/// The number of the newest change of scans, or the first number.
+fn end_of(alloc: Global, first: u32, maps: &[Library]) -> Result<u32, Mem>
+    requires { IsWithinNumbers (record { first = first; maps = maps.now }) }
+    ensures { IfOk result (λ number. number ≡ end_of (record { first = first; maps = maps.now })) }
+{
+    let changes = changes_of(alloc, maps)?;
+    Ok(first + changes.len() as u32)
+}
+
+/// The catalog after scans.
+fn counted(alloc: Global, first: u32, maps: &[Library]) -> Result<Rows, Mem>
+    requires { IsWithinNumbers (record { first = first; maps = maps.now }) }
+    ensures { IfOk result (λ rows. rows ≡ catalog (record { first = first; maps = maps.now })) }
+{
+    let changes = changes_of(alloc, maps)?;
+    let placed = rows_at(alloc, first, changes.as_slice(), latest(maps))?;
+    let ordered = in_order(alloc, placed)?;
+    without_places(alloc, ordered)
+}
+
+/// The catalog after scans, whose rows are few.
+fn catalog(alloc: Global, first: u32, maps: &[Library]) -> Result<Rows, Mem>
+    requires { IsWithinNumbers (record { first = first; maps = maps.now }) }
+    ensures exact { IfOk result (λ rows. rows ≡ catalog (record { first = first; maps = maps.now })) }
+    ensures few { IfOk result (λ rows. length rows ≤ 65536) }
+{
+    let rows = counted(alloc, first, maps)?;
+    Ok(rows)
+}
+
+/// The catalog that stands at a number after scans.
+fn catalog_at(alloc: Global, first: u32, maps: &[Library], number: u32) -> Result<Rows, Mem>
+    requires { IsWithinNumbers (record { first = first; maps = maps.now }) }
+    ensures { IfOk result (λ rows. rows ≡ catalog_at first maps.now number) }
+{
+    match maps {
+        [] => catalog(alloc, first, maps),
+        [_, older @ ..] => {
+            if end_of(alloc, first, maps)? <= number {
+                catalog(alloc, first, maps)
+            } else {
+                catalog_at(alloc, first, older, number)
+            }
+        }
     }
 }

@@ -3,16 +3,27 @@
 #![tactic(auto)]
 
 mod changes;
+mod copies;
 mod entry;
+mod fragment;
+mod held;
 mod history;
 mod library;
+mod listing;
 mod numbers;
+
+mod pieces;
+mod played;
 mod report;
 mod rows;
 mod scans;
+mod script;
+mod server;
+mod taken;
 
 pub use history::{PlainAnswer, PlainHistory};
-pub use report::{history_of, lines_of, records_since};
+pub use report::{Ending, plain_report};
+pub use script::{history_of, lines_of, records_since};
 
 #[cfg(test)]
 mod tests;

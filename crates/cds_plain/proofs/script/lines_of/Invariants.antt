@@ -1,6 +1,6 @@
 use Rattle.std.proofs.Common.{◌≡◌, ◌++◌, true, drop}
 use Rattle.cds_model.specs.Script.{lines_of, is_unbroken}
-use Rattle.cds_plain.proofs.report.lines_of.Given as goal
+use Rattle.cds_plain.proofs.script.lines_of.Given as goal
 
 abbrev pub invariant-loop-byte : goal.invariant-loop-byte
 invariant-loop-byte l = record {

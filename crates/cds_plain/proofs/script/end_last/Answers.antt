@@ -1,6 +1,6 @@
 use Rattle.std.proofs.Common.{◌++◌, ap, sym, ◌∙◌, true≢false, eq-eqb}
 use Rattle.cds_plain.proofs.Broken.{last_line}
-use Rattle.cds_plain.proofs.report.end_last.Goals as goal
+use Rattle.cds_plain.proofs.script.end_last.Goals as goal
 
 pub returns : goal.returns
 returns c =
