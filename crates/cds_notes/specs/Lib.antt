@@ -1,0 +1,6 @@
+pub mod Commands
+pub mod Copy
+pub mod Evaluated
+pub mod Follow
+pub mod Given
+pub mod Inbox
