@@ -46,3 +46,12 @@ nested_subtrees = let h : History = record { first = 0; maps = nested ∷ [] } i
     events_between h 0 6
     ≡ ObjAdd 1 1 true 0 Container ∷ ObjAdd 2 2 true 1 Container ∷ ObjAdd 3 3 true 2 Track ∷ StDone 1 3
     ∷ ObjAdd 4 4 true 0 Container ∷ ObjAdd 5 5 true 4 Track ∷ StDone 4 5 ∷ ObjAdd 6 6 false 0 Container ∷ []
+
+-- three scans that each bring one more track: the span of the last two touches the root alone
+abbrev pub three_tracks : FolderMap
+three_tracks = (codes "x" ∷ [], a_track 1) ∷ (codes "y" ∷ [], a_track 1) ∷ (codes "z" ∷ [], a_track 1) ∷ []
+
+abbrev pub span_of_two_scans : Type 0
+span_of_two_scans = let h : History = record { first = 0; maps = three_tracks ∷ two_tracks ∷ ((codes "x" ∷ [], a_track 1) ∷ []) ∷ [] } in
+    (events_between h 1 3 ≡ ObjAdd 2 2 false 0 Track ∷ ObjAdd 3 3 false 0 Track ∷ [])
+    × (containers_between h 1 3 ≡ (0, 3) ∷ [])

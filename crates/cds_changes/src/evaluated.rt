@@ -21,3 +21,8 @@ pub fn kinds_change()
 pub fn nested_subtrees()
     ensures { evaluated.nested_subtrees }
 {}
+
+/// A span of two scans touches each container once, with the last number.
+pub fn span_of_two_scans()
+    ensures { evaluated.span_of_two_scans }
+{}

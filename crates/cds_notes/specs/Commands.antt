@@ -7,6 +7,7 @@ use Rattle.cds_event.specs.declared.Event.{Event}
 use Rattle.cds_catalog.specs.Library.{FolderMap}
 use Rattle.cds_catalog.specs.History.{History, end_of, with_scan}
 use Rattle.cds_changes.specs.Events.{events_between}
+use Rattle.cds_changes.specs.Containers.{containers_between}
 
 -- what a server accepted: a scan with its folder map; a subscription at a moment, which gets the next number as its name;
 -- the end of the subscription of a name; a tick at a moment. Moments are in milliseconds
@@ -92,7 +93,7 @@ abbrev pub granted_time : ℕ
 granted_time = 1800000
 
 -- the moment at which a subscription runs out, where it was granted and has not ended: it was not given up, and no tick
--- came at or past that moment. No list of commands is long enough for its last SEQ
+-- came at or past that moment
 abbrev pub unless_past : ℕ → Option ℕ → Option ℕ
 unless_past moment None = None
 unless_past moment (Some end) = cond (nat_lt moment end) (Some end) None
@@ -108,10 +109,6 @@ runs_until name (Ticks moment ∷ older) = unless_past moment (runs_until name o
 abbrev pub is_alive : ℕ → ℕ → List Command → Bool
 is_alive name now commands = is_some (unless_past now (runs_until name commands))
 
--- the names of the subscriptions that live at a moment, in the order of their making
-abbrev pub alive_names : ℕ → List Command → List ℕ
-alive_names now commands = filter (λ name. is_alive name now commands) (range_with_len 1 (granted commands))
-
 -- a note: the name of its subscription, its SEQ, its SystemUpdateID and its events
 pub record Note : Type 0 where
   pub name : ℕ
@@ -122,6 +119,26 @@ pub record Note : Type 0 where
 -- the next SEQ of a subscription: it counts the notes that were sent to it
 abbrev pub next_seq_of : ℕ → List Note → ℕ
 next_seq_of name sent = length (filter (λ (note : Note). nat_eq note.name name) sent)
+
+-- how many notes a subscription gets at most: it ends after the one with the last SEQ
+abbrev pub seq_limit : ℕ
+seq_limit = 4294967296
+
+-- the names of the subscriptions that live at a moment, in the order of their making, after the notes that were sent
+abbrev pub alive_names : ℕ → List Command → List Note → List ℕ
+alive_names now commands sent =
+    filter (λ name. is_alive name now commands && nat_lt (next_seq_of name sent) seq_limit) (range_with_len 1 (granted commands))
+
+-- how many subscriptions live at most where moments never fall, and so whether one more is granted
+abbrev pub subscription_limit : ℕ
+subscription_limit = 64
+
+abbrev pub has_room : ℕ → List Command → List Note → Bool
+has_room now commands sent = nat_lt (length (alive_names now commands sent)) subscription_limit
+
+-- the containers that ContainerUpdateIDs of a release tells, each with its number
+abbrev pub released_containers : History → Release → List (ℕ × ℕ)
+released_containers history release = containers_between history release.from release.to
 
 -- the note of a release to one of the subscriptions that live
 abbrev pub released_note : History → Release → List Note → ℕ → Note
@@ -147,7 +164,7 @@ sent_by first older sent (Grants moment) = first_note (granted older + 1) (end_o
 sent_by first older sent (Ends name) = []
 sent_by first older sent (Ticks moment) =
     released_notes (scans_of first older) (release_at moment (scans_of first older) (releases_of first older)) sent
-    (alive_names moment older)
+    (alive_names moment older sent)
 
 -- all notes that were sent, the oldest first
 abbrev pub notes_of : ℕ → List Command → List Note

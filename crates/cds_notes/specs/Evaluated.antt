@@ -1,13 +1,13 @@
 -- Replicas of an honest server, evaluated from the definitions.
-use Rattle.std.specs.Prelude.{◌≡◌, ℕ, List, [], ◌∷◌, ◌++◌, map, Option, None, Some, codes, false}
+use Rattle.std.specs.Prelude.{◌≡◌, ℕ, List, [], ◌∷◌, ◌++◌, map, length, Option, None, Some, codes, true, false}
 use Rattle.cds_object.specs.Object.{ObjectRow}
 use Rattle.cds_catalog.specs.Library.{FolderMap}
 use Rattle.cds_catalog.specs.Evaluated.{Outline, outline, a_track}
 use Rattle.cds_event.specs.declared.Class.TheVariants.{Track}
 use Rattle.cds_event.specs.declared.Event.TheVariants.{ObjAdd, ObjMod, ObjDel, StDone}
 use Rattle.cds_notes.specs.Commands.{Command, Scans, Grants, Ends, Ticks, Note, notes_of}
-use Rattle.cds_notes.specs.Inbox.{ReplicaTurn}
-use Rattle.cds_notes.specs.Follow.{known_by, copied, says}
+use Rattle.cds_notes.specs.Inbox.{ReplicaTurn, Requests, Accepts, Delivers, held_notes}
+use Rattle.cds_notes.specs.Follow.{known_by, copied, says, and_turn, is_refused}
 use Rattle.cds_notes.specs.Given.{Entry, Starts, Asks, Calls, Granted, Denied, Gets, given_by}
 use Rattle.cds_notes.specs.declared.says.Says.{Says}
 use Rattle.cds_notes.specs.declared.says.Says.TheVariants.{Gap, BehindLoad, BehindRead, BehindVersion, Stands}
@@ -85,3 +85,26 @@ read_ahead_of_notes =
     × (says (given_by 0 track_changes (Asks 4 ∷ Gets 4 added ∷ prepared)) ≡ BehindVersion 2)
     × Known (given_by 0 track_changes (Gets 5 modified ∷ Asks 4 ∷ Gets 4 added ∷ prepared)) (Stands 2)
     ((0, None, 0, 2 ∷ 1 ∷ 0 ∷ []) ∷ (1, Some 0, 2, []) ∷ [])
+
+-- notes that are taken at once are judged as one: only the first change above the position has to be the next one, and that
+-- goes before what cannot be
+abbrev pub leaps : Note
+leaps = record { name = 1; seq = 2; number = 5; events = ObjAdd 2 5 false 0 Track ∷ [] }
+
+abbrev pub strays : Note
+strays = record { name = 1; seq = 1; number = 1; events = ObjMod 7 1 false ∷ [] }
+
+abbrev pub notes_taken_at_once : Type 0
+notes_taken_at_once =
+    (says (and_turn (Delivers added) (and_turn (Delivers leaps) (given_by 0 tracks_come prepared))) ≡ BehindRead 1)
+    × (is_refused (Delivers strays) (and_turn (Delivers leaps) (given_by 0 tracks_come prepared)) ≡ true)
+    × (says (and_turn (Delivers strays) (and_turn (Delivers leaps) (given_by 0 tracks_come prepared))) ≡ Gap 1)
+    × (is_refused (Delivers (record { name = 1; seq = 1; number = 5; events = ObjAdd 2 5 false 0 Track ∷ [] })) (given_by 0 tracks_come prepared) ≡ true)
+
+-- early notes of several names; the second request drops those of the first
+abbrev pub early_notes_are_dropped : Type 0
+early_notes_are_dropped =
+    (length (held_notes (Delivers added ∷ Delivers first ∷ Requests ∷ [])) ≡ 2)
+    × (held_notes (Requests ∷ Delivers added ∷ Delivers first ∷ Requests ∷ []) ≡ [])
+    × (says (Accepts 1 ∷ Delivers added ∷ Requests ∷ []) ≡ Gap 0)
+    × (says (Delivers first ∷ Accepts 1 ∷ Delivers added ∷ Requests ∷ []) ≡ BehindLoad)

@@ -1,13 +1,13 @@
 -- What a replica knows after its turns: the load or the copy, the changes of the notes that it took, and what it asks and
 -- says (this project's profile).
-use Rattle.std.specs.Prelude.{◌+◌, ◌&&◌, ℕ, Bool, true, false, cond, not, nat_eq, nat_lt, max, List, [], ◌∷◌, ◌++◌, map, filter, reverse, Option, Some, None}
+use Rattle.std.specs.Prelude.{◌+◌, ◌&&◌, ◌||◌, ℕ, Bool, true, false, cond, not, nat_eq, nat_lt, max, List, [], ◌∷◌, ◌++◌, map, filter, reverse, Option, Some, None}
 use Rattle.std.specs.List.{filter_map}
 use Rattle.std.specs.Option.{option_map}
 use Rattle.cds_object.specs.Object.{ObjectRow, is_folder}
 use Rattle.cds_event.specs.declared.Event.{Event}
 use Rattle.cds_changes.specs.Events.{update_of, is_change}
 use Rattle.cds_notes.specs.Commands.{Note}
-use Rattle.cds_notes.specs.Inbox.{ReplicaTurn, Begins, Shows, Requests, Accepts, Refuses, Delivers, missing, taken_by}
+use Rattle.cds_notes.specs.Inbox.{ReplicaTurn, Begins, Shows, Requests, Accepts, Refuses, Delivers, Arrival, IsUnknown, IsRepeat, IsTooMany, IsEarly, IsHeld, IsNext, arrival, missing, taken_by}
 use Rattle.cds_notes.specs.Copy.{KnownRow, Version, Happening, Changes, Reads, rows_after, shown_row, known_of, cannot_be, changed, object_of, least_unread, read_up_to}
 use Rattle.cds_model.specs.Replica.{Held, Idle, Begun, HasToken, HasNumber, HasRoot, Lists, HasPage, HasCopy, Taken, Holds, Unreadable, Torn, taken, next_ask as load_ask}
 use Rattle.cds_model.specs.declared.exchange.Ask.{Ask}
@@ -49,15 +49,15 @@ first_torn rows [] = None
 first_torn rows (event ∷ events) = cond (cannot_be rows event) (Some (object_of event)) (first_torn (changed rows event) events)
 
 -- what becomes of the changes above a position, all of them counted on a copy's rows
-abbrev pub judged : Known → ℕ → List Event → Option ℕ → Outcome
-judged known at events (Some id) = Tears id
-judged known at events None = Knows (record known { happenings = reverse (map Changes events) ++ known.happenings })
+abbrev pub judged : Known → List Event → Option ℕ → Outcome
+judged known events (Some id) = Tears id
+judged known events None = Knows (record known { happenings = reverse (map Changes events) ++ known.happenings })
 
 abbrev pub counted_from : List ObjectRow → Known → ℕ → List Event → Outcome
 counted_from rows known at [] = Knows known
 counted_from rows known at (event ∷ events) =
     cond (nat_eq (update_of event) (at + 1))
-    (judged known at (event ∷ events) (first_torn (rows_after rows known.happenings) (event ∷ events)))
+    (judged known (event ∷ events) (first_torn (rows_after rows known.happenings) (event ∷ events)))
     (Jumps (at + 1) (update_of event))
 
 -- what becomes of changes that are above the position: they are counted on the copy, or kept while none stands
@@ -75,32 +75,35 @@ with_changes (HasCopy number rows) known at events = counted_from rows known at 
 abbrev pub load_begun : Known → Known
 load_begun known = record known { held = Begun; kept = []; happenings = [] }
 
--- a first note above the position drops the copy and begins a load
-abbrev pub dropped : Note → Known → Known
-dropped note known = cond (nat_eq note.seq 0 && nat_lt (position known) note.number) (load_begun known) known
+-- the changes that are new in notes which are taken one after the other: each is above the position before its note
+abbrev pub new_changes : ℕ → List Note → List Event
+new_changes at [] = []
+new_changes at (note ∷ notes) = changes_above at note.events ++ new_changes (max at note.number) notes
 
--- what is known after a note was taken: the position is at least its number
-abbrev pub heard_of : ℕ → Outcome → Outcome
-heard_of number (Knows known) = Knows (record known { heard = max known.heard number })
-heard_of number CannotBeRead = CannotBeRead
-heard_of number (Jumps expected first) = Jumps expected first
-heard_of number (Tears id) = Tears id
+-- the greatest of a number and those of notes
+abbrev pub greatest_of : ℕ → List Note → ℕ
+greatest_of number [] = number
+greatest_of number (note ∷ notes) = greatest_of (max number note.number) notes
 
--- what becomes of one note that is taken, and of several, one after the other
-abbrev pub with_note : Known → Note → Outcome
-with_note known note =
-    heard_of note.number
-    (with_changes (dropped note known).held (dropped note known) (position known) (changes_above (position known) note.events))
+-- a first note above the position drops the copy and begins a load. It is the first of the notes that are taken with it
+abbrev pub is_drop : ℕ → List Note → Bool
+is_drop at [] = false
+is_drop at (note ∷ notes) = nat_eq note.seq 0 && nat_lt at note.number
 
-abbrev pub and_then_notes : (Known → Outcome) → Outcome → Outcome
-and_then_notes rest (Knows now) = rest now
-and_then_notes rest CannotBeRead = CannotBeRead
-and_then_notes rest (Jumps expected first) = Jumps expected first
-and_then_notes rest (Tears id) = Tears id
+abbrev pub dropped : List Note → Known → Known
+dropped notes known = cond (is_drop (position known) notes) (load_begun known) known
 
+-- what is known after notes were taken: the position is at least each of their numbers
+abbrev pub heard_of : List Note → Outcome → Outcome
+heard_of notes (Knows known) = Knows (record known { heard = greatest_of known.heard notes })
+heard_of notes CannotBeRead = CannotBeRead
+heard_of notes (Jumps expected first) = Jumps expected first
+heard_of notes (Tears id) = Tears id
+
+-- what becomes of notes that are to be taken, in ascending order of SEQs
 abbrev pub with_notes : List Note → Known → Outcome
-with_notes [] known = Knows known
-with_notes (note ∷ notes) known = and_then_notes (with_notes notes) (with_note known note)
+with_notes notes known =
+    heard_of notes (with_changes (dropped notes known).held (dropped notes known) (position known) (new_changes (position known) notes))
 
 -- what is known when a load ends with the number that it read and its rows: the changes above that number which notes
 -- told meanwhile are counted on them
@@ -180,6 +183,36 @@ known_by (Requests ∷ older) = known_by older
 known_by (Accepts name ∷ older) = known_after (known_by older) (with_notes (taken_by (Accepts name) older) (known_by older))
 known_by (Refuses ∷ older) = known_by older
 known_by (Delivers note ∷ older) = known_after (known_by older) (with_notes (taken_by (Delivers note) older) (known_by older))
+
+-- whether a note or a reply is refused by what is known, and whether a note is by the notes alone: its name is not known, or
+-- there is no room to hold it
+abbrev pub is_no : Outcome → Bool
+is_no (Knows now) = false
+is_no CannotBeRead = true
+is_no (Jumps expected first) = true
+is_no (Tears id) = true
+
+abbrev pub is_turned_away : Arrival → Bool
+is_turned_away IsUnknown = true
+is_turned_away IsRepeat = false
+is_turned_away (IsTooMany held) = true
+is_turned_away IsEarly = false
+is_turned_away (IsHeld seq) = false
+is_turned_away IsNext = false
+
+-- whether a turn is refused after the older ones
+abbrev pub is_refused : ReplicaTurn → List ReplicaTurn → Bool
+is_refused Begins older = false
+is_refused (Shows shown) older = is_no (with_reply (known_by older) (known_by older).held shown)
+is_refused Requests older = false
+is_refused (Accepts name) older = is_no (with_notes (taken_by (Accepts name) older) (known_by older))
+is_refused Refuses older = false
+is_refused (Delivers note) older =
+    is_turned_away (arrival note older) || is_no (with_notes (taken_by (Delivers note) older) (known_by older))
+
+-- the turns with one more: a refused one is none
+abbrev pub and_turn : ReplicaTurn → List ReplicaTurn → List ReplicaTurn
+and_turn turn older = cond (is_refused turn older) older (turn ∷ older)
 
 -- the next read: that of the load, or else the own row of the least object that is unread
 abbrev pub ask_of : Known → Held → Option Ask

@@ -1,13 +1,15 @@
 -- What an honest server gives a replica: the replies and notes that a server gives which accepted these commands.
 use Rattle.std.specs.Prelude.{◌≡◌, ◌-◌, ◌<◌, ◌≤◌, ℕ, true, List, [], ◌∷◌, length, drop, Option, Some, None, Contains}
 use Rattle.cds_catalog.specs.History.{end_of}
+use Rattle.std.specs.List.{AllByRecursion}
 use Rattle.cds_catalog.specs.Catalog.{catalog}
+use Rattle.cds_catalog.specs.Laws.{AreLibraries}
 use Rattle.cds_model.specs.Server.{Moment, reply_to}
 use Rattle.cds_model.specs.Report.{script_token}
 use Rattle.cds_model.specs.declared.exchange.Ask.{Ask}
 use Rattle.cds_notes.specs.Commands.{Command, Note, scans_of, granted, notes_of}
-use Rattle.cds_notes.specs.Inbox.{ReplicaTurn, Begins, Shows, Requests, Accepts, Refuses, Delivers, Arrival, IsUnknown, IsRepeat, IsTooMany, IsEarly, IsHeld, IsNext, is_out, arrival}
-use Rattle.cds_notes.specs.Follow.{known_by, next_ask}
+use Rattle.cds_notes.specs.Inbox.{ReplicaTurn, Begins, Shows, Requests, Accepts, Refuses, Delivers, is_out}
+use Rattle.cds_notes.specs.Follow.{known_by, next_ask, and_turn}
 
 -- the oldest commands, so many of them; all where there are no more
 abbrev pub oldest : ℕ → List Command → List Command
@@ -39,31 +41,21 @@ length_at (Granted k name) = k
 length_at (Denied k) = k
 length_at (Gets k note) = k
 
--- after a reply to the next ask; where nothing is asked nothing is shown
-abbrev pub after_reply : Moment → List ReplicaTurn → Option Ask → List ReplicaTurn
-after_reply moment turns None = turns
-after_reply moment turns (Some ask) = Shows (reply_to moment ask) ∷ turns
+-- the turns with the reply to the next ask; where nothing is asked nothing is shown
+abbrev pub asked_at : Moment → List ReplicaTurn → Option Ask → List ReplicaTurn
+asked_at moment turns None = turns
+asked_at moment turns (Some ask) = and_turn (Shows (reply_to moment ask)) turns
 
--- after a note was delivered: one of an unknown name, and one that there is no room for, counts as not delivered
-abbrev pub after_note : Note → List ReplicaTurn → Arrival → List ReplicaTurn
-after_note note turns IsUnknown = turns
-after_note note turns IsRepeat = Delivers note ∷ turns
-after_note note turns (IsTooMany held) = turns
-after_note note turns IsEarly = Delivers note ∷ turns
-after_note note turns (IsHeld seq) = Delivers note ∷ turns
-after_note note turns IsNext = Delivers note ∷ turns
-
--- the replica's turns, each reply being the server's at its length
+-- the replica's turns, each reply being the server's at its length; a turn that is refused is none
 abbrev pub given_by : ℕ → List Command → List Entry → List ReplicaTurn
 given_by first commands [] = []
 given_by first commands (Starts k ∷ older) = Begins ∷ given_by first commands older
 given_by first commands (Asks k ∷ older) =
-    after_reply (moment_after first (oldest k commands)) (given_by first commands older) (next_ask (known_by (given_by first commands older)))
+    asked_at (moment_after first (oldest k commands)) (given_by first commands older) (next_ask (known_by (given_by first commands older)))
 given_by first commands (Calls k ∷ older) = Requests ∷ given_by first commands older
-given_by first commands (Granted k name ∷ older) = Accepts name ∷ given_by first commands older
+given_by first commands (Granted k name ∷ older) = and_turn (Accepts name) (given_by first commands older)
 given_by first commands (Denied k ∷ older) = Refuses ∷ given_by first commands older
-given_by first commands (Gets k note ∷ older) =
-    after_note note (given_by first commands older) (arrival note (given_by first commands older))
+given_by first commands (Gets k note ∷ older) = and_turn (Delivers note) (given_by first commands older)
 
 -- the length at the newest entry; 0 before any
 abbrev pub latest_length : List Entry → ℕ
@@ -91,6 +83,12 @@ IsHonest first commands older (Granted k name) =
     × (name ≤ granted (oldest k commands))
 IsHonest first commands older (Denied k) = is_out (given_by first commands older) ≡ true
 IsHonest first commands older (Gets k note) = Contains (notes_of first (oldest k commands)) note
+
+-- commands that a server accepted: each scan's folder map is one, with at most 65,535 places, and no number passes the last
+pub record AreAccepted (first : ℕ) (commands : List Command) : Type 0 where
+  pub libraries : AreLibraries (scans_of first commands).maps
+  pub few : AllByRecursion (λ library. length library ≤ 65535) (scans_of first commands).maps
+  pub numbers : end_of (scans_of first commands) ≤ 4294967295
 
 -- the entries of a replica that an honest server gives: the lengths never fall
 abbrev pub IsGiven : ℕ → List Command → List Entry → Type 0

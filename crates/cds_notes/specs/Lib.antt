@@ -4,3 +4,4 @@ pub mod Evaluated
 pub mod Follow
 pub mod Given
 pub mod Inbox
+pub mod InboxLaws

@@ -21,3 +21,13 @@ pub fn read_of_what_is_gone()
 pub fn read_ahead_of_notes()
     ensures { evaluated.read_ahead_of_notes }
 {}
+
+/// Notes that are taken at once are judged as one.
+pub fn notes_taken_at_once()
+    ensures { evaluated.notes_taken_at_once }
+{}
+
+/// A second subscribe request drops the early notes of the first.
+pub fn early_notes_are_dropped()
+    ensures { evaluated.early_notes_are_dropped }
+{}
