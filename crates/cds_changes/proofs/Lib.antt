@@ -1,0 +1,4 @@
+pub mod Numbers
+pub mod Within
+pub mod Spans
+pub mod Told

@@ -1,0 +1,4 @@
+pub mod Containers
+pub mod Events
+pub mod Evaluated
+pub mod Laws

@@ -1,0 +1,28 @@
+//! Spans of small histories that are evaluated from the definitions: each clause is one of them.
+
+ghost use Rattle.cds_changes.specs.Evaluated as evaluated;
+
+/// A folder that is added with its track is a subtree update.
+pub fn added_subtree()
+    ensures { evaluated.added_subtree }
+{}
+
+/// A folder that goes with its track is one too, and what comes again has new ids.
+pub fn deleted_subtree()
+    ensures { evaluated.deleted_subtree }
+{}
+
+/// A folder with objects below it that becomes a track goes as a subtree.
+pub fn kinds_change()
+    ensures { evaluated.kinds_change }
+{}
+
+/// A folder within a folder belongs to the outer one's subtree update.
+pub fn nested_subtrees()
+    ensures { evaluated.nested_subtrees }
+{}
+
+/// A span of two scans touches each container once, with the last number.
+pub fn span_of_two_scans()
+    ensures { evaluated.span_of_two_scans }
+{}

@@ -1,0 +1,7 @@
+pub mod Commands
+pub mod Copy
+pub mod Evaluated
+pub mod Follow
+pub mod Given
+pub mod Inbox
+pub mod InboxLaws
