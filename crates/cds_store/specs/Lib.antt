@@ -1,5 +1,4 @@
 pub mod Applied
-pub mod Changes
 pub mod Lent
 pub mod Records
 pub mod Rows

@@ -4,10 +4,9 @@ ghost use Rattle.std.specs.Prelude.{◌≡◌, [], ◌++◌, reverse, option_cop
 ghost use Rattle.std.specs.List.{filter_map};
 ghost use Rattle.std.specs.BTreeMap.{insert_entry};
 ghost use Rattle.cds_object.specs.Path.{path_cmp};
-ghost use Rattle.cds_catalog.specs.Library.{map_of, content_at, departure, arrival, found};
+ghost use Rattle.cds_catalog.specs.Library.{map_of, content_at, gone, come, departure, arrival, found};
 ghost use Rattle.cds_store.specs.Lent.{seen};
 ghost use Rattle.cds_store.specs.Rows.{put_places};
-ghost use Rattle.cds_store.specs.Changes.{gone, come};
 
 use crate::placed::Placed;
 use cds_base::Mem;
