@@ -4,7 +4,7 @@ ghost use Rattle.std.specs.Prelude.{◌≡◌, ◌≢◌, ◌⊎◌, ◌≤◌, 
 ghost use Rattle.cds_base.specs.Outside.{raised, Rose, WhereTold};
 ghost use Rattle.cds_model.specs.Report.{script_ending};
 ghost use Rattle.cds_model.specs.Loads.{loads_are_bounded};
-ghost use Rattle.cds_cli.specs.Command.{command_of};
+ghost use Rattle.cds_cli.specs.Command.{command_of, help_text, version_text, usage_text};
 ghost use Rattle.cds_cli.specs.Run.{Ends, Writes, EndsText, WritesText};
 ghost use Rattle.cds_cli.specs.declared.command.Command.TheVariants.{Replay, Help, Version};
 
@@ -96,9 +96,9 @@ pub fn run<S: Source, K: Sink>(alloc: Global, words: &Words, source: &mut S, sin
     ensures write_fault { result ≡ 3 → Rose (K.faults sink.old) (K.faults sink.new) }
 
     // The other commands, and words that are no command's, write one text and take nothing of the source.
-    ensures help { command_of words.now ≡ Some Help → EndsText result 0 × WhereTold (K.holds sink.old) (λ before. WritesText result HELP.now before (K.holds sink.new)) }
-    ensures version { command_of words.now ≡ Some Version → EndsText result 0 × WhereTold (K.holds sink.old) (λ before. WritesText result VERSION.now before (K.holds sink.new)) }
-    ensures usage { command_of words.now ≡ None → EndsText result 5 × WhereTold (K.holds sink.old) (λ before. WritesText result USAGE.now before (K.holds sink.new)) }
+    ensures help { command_of words.now ≡ Some Help → EndsText result 0 × WhereTold (K.holds sink.old) (λ before. WritesText result help_text before (K.holds sink.new)) }
+    ensures version { command_of words.now ≡ Some Version → EndsText result 0 × WhereTold (K.holds sink.old) (λ before. WritesText result version_text before (K.holds sink.new)) }
+    ensures usage { command_of words.now ≡ None → EndsText result 5 × WhereTold (K.holds sink.old) (λ before. WritesText result usage_text before (K.holds sink.new)) }
     ensures untouched { (command_of words.now ≡ Some Replay → ⊥) → source.new ≡ source.old }
 
     // No other status comes.
