@@ -1,8 +1,6 @@
 -- What the bytes of a source mean as a script is what the replay of them does.
-use Rattle.std.proofs.Common.{◌≡◌, ◌++◌, ◌≤◌, Some, [], List, ℕ, arith}
 use Rattle.std.proofs.lemmas.Result.{on_ok_weaker}
-use Rattle.cds_model.specs.Report.{script_ending, outside_ending}
-use Rattle.cds_replay.specs.Replay.{Holds}
+use Rattle.cds_model.specs.Report.{script_ending}
 use Rattle.cds_replay.proofs.Playing.{ok-told, line-told, limit-told}
 use Rattle.cds_replay.proofs.play.replay.Goals as goal
 
