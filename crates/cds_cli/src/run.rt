@@ -1,6 +1,6 @@
 //! The program from its words to its exit status.
 
-ghost use Rattle.std.specs.Prelude.{◌≡◌, ◌≢◌, ◌⊎◌, ◌≤◌, ◌<◌, ◌++◌, ℕ, [], Some, None, List, OnErr, OnOk};
+ghost use Rattle.std.specs.Prelude.{◌≡◌, ◌≢◌, ◌⊎◌, ◌≤◌, ◌<◌, ◌+◌, ◌++◌, ℕ, [], Some, None, List, OnErr, OnOk};
 ghost use Rattle.cds_base.specs.Outside.{raised, Rose, WhereTold};
 ghost use Rattle.cds_model.specs.Report.{script_ending};
 ghost use Rattle.cds_model.specs.Loads.{loads_are_bounded};
@@ -56,6 +56,7 @@ fn play<S: Source, K: Sink>(alloc: Global, source: &mut S, sink: &mut K) -> u8
     ensures writes { WhereTold (S.left source.old) (λ bytes. WhereTold (K.holds sink.old) (λ before. Writes result (script_ending bytes).text before (K.holds sink.new))) }
     ensures whole { WhereTold (S.left source.old) (λ bytes. result ≡ 0 → S.left source.new ≡ Some []) }
     ensures within { result ≡ 0 → S.moved source.new ≤ raised (S.moved source.old) 67108864 }
+    ensures taken { S.moved source.new ≤ S.moved source.old + 67108865 }
     ensures long { result ≡ 6 → raised (S.moved source.old) 4097 ≤ S.moved source.new }
     ensures read_fault { result ≡ 2 → Rose (S.faults source.old) (S.faults source.new) }
     ensures write_fault { result ≡ 3 → Rose (K.faults sink.old) (K.faults sink.new) }
@@ -83,8 +84,10 @@ pub fn run<S: Source, K: Sink>(alloc: Global, words: &Words, source: &mut S, sin
     ensures status { command_of words.now ≡ Some Replay → WhereTold (S.left source.old) (λ bytes. Ends result (script_ending bytes).status) }
     ensures read_to_its_end { command_of words.now ≡ Some Replay → WhereTold (S.left source.old) (λ bytes. result ≡ 0 → S.left source.new ≡ Some []) }
 
-    // The script's limit, by the number of bytes that the source moved.
+    // The script's limit, by the number of bytes that the source moved: however the program ends, it took at most one byte
+    // more than a script may have.
     ensures within_limit { command_of words.now ≡ Some Replay → result ≡ 0 → S.moved source.new ≤ raised (S.moved source.old) 67108864 }
+    ensures taken { S.moved source.new ≤ S.moved source.old + 67108865 }
     ensures past_limit { result ≡ 6 → raised (S.moved source.old) 4097 ≤ S.moved source.new }
 
     // In a report `behind load` stands only where no load was begun, or for as many reads as a load of the catalog takes,
