@@ -1,5 +1,5 @@
--- Which words are a command's (this project's profile).
-use Rattle.std.specs.Prelude.{ℕ, cond, List, [], ◌∷◌, Option, Some, None, codes}
+-- Which words are a command's, and the texts of those that write one (this project's profile).
+use Rattle.std.specs.Prelude.{ℕ, cond, List, [], ◌∷◌, ◌++◌, Option, Some, None, codes}
 use Rattle.cds_object.specs.Content.{same_text}
 use Rattle.cds_cli.specs.declared.command.Command.{Command}
 use Rattle.cds_cli.specs.declared.command.Command.TheVariants.{Replay, Help, Version}
@@ -15,3 +15,28 @@ abbrev pub command_of : List (List ℕ) → Option Command
 command_of [] = None
 command_of (word ∷ []) = command_named word
 command_of (word ∷ next ∷ words) = None
+
+-- what is written where the words are no command's
+abbrev pub usage_text : List ℕ
+usage_text = codes "usage: cds COMMAND\n"
+
+-- what `--version` writes
+abbrev pub version_text : List ℕ
+version_text = codes "cds 0.1.0\n"
+
+-- what `--help` writes: the commands and the exit statuses
+abbrev pub help_text : List ℕ
+help_text =
+    codes "usage: cds COMMAND\n\n"
+    ++ codes "Commands:\n"
+    ++ codes "  replay     play the script on standard input and write its report\n"
+    ++ codes "  --help     write this page\n"
+    ++ codes "  --version  write the version\n\n"
+    ++ codes "Exit status:\n"
+    ++ codes "  0  the input was read to its end and the whole output was written\n"
+    ++ codes "  1  a line of the script is outside the grammar\n"
+    ++ codes "  2  standard input could not be read\n"
+    ++ codes "  3  standard output could not be written\n"
+    ++ codes "  4  memory ran out\n"
+    ++ codes "  5  the words are no command\n"
+    ++ codes "  6  the script or a line of it is too long\n"

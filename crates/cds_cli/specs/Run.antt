@@ -1,6 +1,5 @@
 -- The statuses that the program ends with, and what it leaves written (this project's profile).
 use Rattle.std.specs.Prelude.{◌≡◌, ◌⊎◌, ℕ, List, ◌++◌, Option, Some}
-use Rattle.cds_model.specs.Report.{Ending}
 
 -- a status that may stand in place of any other: the input could not be read, the output could not be written, or memory
 -- ran out. The first two come only with a count that rose, which clauses of their own say

@@ -1,10 +1,10 @@
 //! The program from its words to its exit status.
 
-ghost use Rattle.std.specs.Prelude.{◌≡◌, ◌≢◌, ◌⊎◌, ◌≤◌, ◌<◌, ◌++◌, ℕ, [], Some, None, List, OnErr, OnOk};
+ghost use Rattle.std.specs.Prelude.{◌≡◌, ◌≢◌, ◌⊎◌, ◌≤◌, ◌<◌, ◌+◌, ◌++◌, ℕ, [], Some, None, List, OnErr, OnOk};
 ghost use Rattle.cds_base.specs.Outside.{raised, Rose, WhereTold};
 ghost use Rattle.cds_model.specs.Report.{script_ending};
 ghost use Rattle.cds_model.specs.Played.{script_turns, script_stop, IsReportOf, BoundsLoads};
-ghost use Rattle.cds_cli.specs.Command.{command_of};
+ghost use Rattle.cds_cli.specs.Command.{command_of, help_text, version_text, usage_text};
 ghost use Rattle.cds_cli.specs.Run.{Ends, Writes, EndsText, WritesText};
 ghost use Rattle.cds_cli.specs.declared.command.Command.TheVariants.{Replay, Help, Version};
 
@@ -56,6 +56,7 @@ fn play<S: Source, K: Sink>(alloc: Global, source: &mut S, sink: &mut K) -> u8
     ensures writes { WhereTold (S.left source.old) (λ bytes. WhereTold (K.holds sink.old) (λ before. Writes result (script_ending bytes).text before (K.holds sink.new))) }
     ensures whole { WhereTold (S.left source.old) (λ bytes. result ≡ 0 → S.left source.new ≡ Some []) }
     ensures within { result ≡ 0 → S.moved source.new ≤ raised (S.moved source.old) 67108864 }
+    ensures taken { S.moved source.new ≤ S.moved source.old + 67108865 }
     ensures long { result ≡ 6 → raised (S.moved source.old) 4097 ≤ S.moved source.new }
     ensures read_fault { result ≡ 2 → Rose (S.faults source.old) (S.faults source.new) }
     ensures write_fault { result ≡ 3 → Rose (K.faults sink.old) (K.faults sink.new) }
@@ -85,8 +86,10 @@ pub fn run<S: Source, K: Sink>(alloc: Global, words: &Words, source: &mut S, sin
     ensures status { command_of words.now ≡ Some Replay → WhereTold (S.left source.old) (λ bytes. Ends result (script_ending bytes).status) }
     ensures read_to_its_end { command_of words.now ≡ Some Replay → WhereTold (S.left source.old) (λ bytes. result ≡ 0 → S.left source.new ≡ Some []) }
 
-    // The script's limit, by the number of bytes that the source moved.
+    // The script's limit, by the number of bytes that the source moved: however the program ends, it took at most one byte
+    // more than a script may have.
     ensures within_limit { command_of words.now ≡ Some Replay → result ≡ 0 → S.moved source.new ≤ raised (S.moved source.old) 67108864 }
+    ensures taken { S.moved source.new ≤ S.moved source.old + 67108865 }
     ensures past_limit { result ≡ 6 → raised (S.moved source.old) 4097 ≤ S.moved source.new }
 
     // The report is what the script's turns write, one after the other, and then its last line. Of these turns each ask that
@@ -100,9 +103,9 @@ pub fn run<S: Source, K: Sink>(alloc: Global, words: &Words, source: &mut S, sin
     ensures write_fault { result ≡ 3 → Rose (K.faults sink.old) (K.faults sink.new) }
 
     // The other commands, and words that are no command's, write one text and take nothing of the source.
-    ensures help { command_of words.now ≡ Some Help → EndsText result 0 × WhereTold (K.holds sink.old) (λ before. WritesText result HELP.now before (K.holds sink.new)) }
-    ensures version { command_of words.now ≡ Some Version → EndsText result 0 × WhereTold (K.holds sink.old) (λ before. WritesText result VERSION.now before (K.holds sink.new)) }
-    ensures usage { command_of words.now ≡ None → EndsText result 5 × WhereTold (K.holds sink.old) (λ before. WritesText result USAGE.now before (K.holds sink.new)) }
+    ensures help { command_of words.now ≡ Some Help → EndsText result 0 × WhereTold (K.holds sink.old) (λ before. WritesText result help_text before (K.holds sink.new)) }
+    ensures version { command_of words.now ≡ Some Version → EndsText result 0 × WhereTold (K.holds sink.old) (λ before. WritesText result version_text before (K.holds sink.new)) }
+    ensures usage { command_of words.now ≡ None → EndsText result 5 × WhereTold (K.holds sink.old) (λ before. WritesText result usage_text before (K.holds sink.new)) }
     ensures untouched { (command_of words.now ≡ Some Replay → ⊥) → source.new ≡ source.old }
 
     // No other status comes.

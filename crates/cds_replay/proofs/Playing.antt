@@ -1,8 +1,7 @@
 -- A replay under way, at its next piece and at its end.
-use Rattle.std.proofs.Common.{◌≡◌, ℕ, ◌+◌, ◌-◌, ◌<◌, ◌≤◌, min, ◌^◌, List, [], ◌++◌, take, drop, Option, Some, None, Result, Ok, Err, IfErr, OnOk, refl, ap, sym, subst, ◌∙◌, append_assoc, arith}
+use Rattle.std.proofs.Common.{◌≡◌, ℕ, ◌+◌, ◌-◌, ◌≤◌, min, ◌^◌, List, [], ◌++◌, take, drop, Option, Some, Result, Ok, Err, IfErr, OnOk, refl, ap, sym, subst, ◌∙◌, append_assoc, arith}
 use Rattle.std.proofs.lemmas.List.{append-nil, take-append-drop}
 use Rattle.cds_base.specs.Outside.{raised, WhereTold}
-use Rattle.cds_model.specs.Script.{line_limit, script_limit}
 use Rattle.cds_model.specs.Report.{Ending, written_first}
 use Rattle.cds_replay.specs.declared.script.Script.{Script}
 use Rattle.cds_replay.specs.declared.script.Stop.{Stop}
@@ -75,6 +74,39 @@ under-stops e whole told before mid after script piece n under is =
     ∙ ap (λ bytes. written_first under.added (under.later bytes)) (sym (take-append-drop n under.bytes) ∙ ap (λ front. front ++ drop n under.bytes) (sym is)))
     under.held
 
+-- nothing of a piece was taken yet
+pub played-begin : (ending : List ℕ → Ending) (script : Script) (held : Option (List ℕ)) → GoesOn script ending → Played ending [] held held script
+played-begin ending script held goes = record {
+  added = [];
+  later = ending;
+  goes = goes;
+  held = λ bytes told. told ∙ ap Some (sym (append-nil bytes));
+  first = λ more. refl;
+}
+
+-- a part of a piece after another that was taken
+pub played-on : (ending : List ℕ → Ending) (front part piece : List ℕ) (before mid after : Option (List ℕ)) (script later : Script) →
+    piece ≡ front ++ part → (played : Played ending front before mid script) → Played played.later part mid after later →
+    Played ending piece before after later
+played-on ending front part piece before mid after script later is played last = record {
+  added = played.added ++ last.added;
+  later = last.later;
+  goes = last.goes;
+  held = holds-on before mid after played.added last.added played.held last.held;
+  first = λ more.
+      ap (λ bytes. ending (bytes ++ more)) is
+      ∙ ap ending (append_assoc front part more)
+      ∙ played.first (part ++ more)
+      ∙ ap (written_first played.added) (last.first more)
+      ∙ ap (λ text. record { status = (last.later more).status; text = text }) (sym (append_assoc played.added last.added (last.later more).text));
+}
+
+-- a part of a piece that the script stops in
+pub played-stops : (e : ReplayError) (ending : List ℕ → Ending) (front left : List ℕ) (before mid after : Option (List ℕ)) (script : Script) →
+    (played : Played ending front before mid script) → Stopped e (played.later left) mid after → Stopped e (ending (front ++ left)) before after
+played-stops e ending front left before mid after script played =
+    stopped-on e (ending (front ++ left)) (played.later left) played.added before mid after (played.first left) played.held
+
 -- at the end of the source
 pub under-last : (e : ReplayError) (whole : Ending) (told before mid after : Option (List ℕ)) (script : Script) →
     (under : Under whole told before mid script) → under.bytes ≡ [] → Stopped e (under.later []) mid after → Stopped e whole before after
@@ -131,6 +163,13 @@ limit-told (Err ReadFault) told before after ending P stops from = tt
 limit-told (Err WriteFault) told before after ending P stops from = tt
 limit-told (Err Limit) told before after ending P stops from = λ bytes is. from bytes (stops bytes is)
 limit-told (Err Mem) told before after ending P stops from = tt
+
+-- a count rises by no more than it is raised by
+pub moved-by : (old by new : ℕ) → new ≡ raised old by → new ≤ old + by
+moved-by old by new is = below new (old + by) (2 ^ 64 - 1) is
+  where
+    below : (n a b : ℕ) → n ≡ min a b → n ≤ a
+    below n a b is = omega arith
 
 -- a count that rose twice
 pub raised-twice : (moved one two : ℕ) → raised (raised moved one) two ≡ raised moved (one + two)

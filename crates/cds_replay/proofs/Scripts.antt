@@ -1,6 +1,5 @@
 -- How a script goes on at a line, at a piece of one, at its limits and at its end.
-use Rattle.std.proofs.Common.{◌≡◌, ℕ, zero, suc, ◌+◌, ◌-◌, ◌<◌, ◌≤◌, List, [], ◌∷◌, ◌++◌, length, take, Bool, true, false, cond, not, ◌&&◌, nat_lt, nat_eq, Option, Some, None, refl, ap, sym, subst, ◌∙◌, arith, ◌⊎◌, inl, inr, length-append, append_assoc}
-use Rattle.std.specs.List.{list_all}
+use Rattle.std.proofs.Common.{◌≡◌, ℕ, zero, suc, ◌+◌, ◌-◌, ◌<◌, ◌≤◌, List, [], ◌∷◌, ◌++◌, length, take, true, cond, not, nat_eq, Option, Some, None, refl, ap, sym, subst, ◌∙◌, arith, ◌⊎◌, inl, inr, length-append, append_assoc}
 use Rattle.std.proofs.lemmas.Bool.{and_parts, and_from, le-ltb}
 use Rattle.std.proofs.lemmas.List.{append-nil, take-append-le}
 use Rattle.std.proofs.lemmas.List.Folds.{list_all-append}
@@ -12,7 +11,7 @@ use Rattle.cds_replay.specs.Session.{Playing, IsAfter}
 use Rattle.cds_replay.specs.declared.script.Script.{Script}
 use Rattle.cds_replay.specs.declared.script.Stop.{Stop}
 use Rattle.cds_replay.specs.declared.script.Stop.TheVariants.{Limit}
-use Rattle.cds_replay.specs.Script.{stop_status, stop_text, GoesOn, Went, EndsAt, EndsWell, Fed, Finished, LineRead}
+use Rattle.cds_replay.specs.Script.{stop_text, GoesOn, Went, EndsAt, Fed, Finished, LineRead}
 
 -- two runs of bytes without an LF
 unbroken-append : (front back : List ℕ) → is_unbroken front ≡ true → is_unbroken back ≡ true → is_unbroken (front ++ back) ≡ true
@@ -204,29 +203,3 @@ last-ends stop script ending session old new goes whole short within some read =
       ends = last ∙ taken.first (λ now. record { status = 0; text = [] }) ∙ ap (λ text. record { status = 0; text = text }) (append-nil taken.added);
     }
     by (Some stop) stopped = record { front = []; out = stopped.out; ends = last ∙ stopped.ends (λ now. record { status = 0; text = [] }) }
-
--- two parts of a piece, one after the other
-pub fed-on : (stop : Option Stop) (ending : List ℕ → Ending) (piece middle rest first old new : List ℕ) (script later : Script) →
-    (went : Went ending piece middle first old script) → Fed stop went.later middle rest old new later →
-    Fed stop ending piece rest first new later
-fed-on None ending piece middle rest first old new script later went last = record {
-  added = went.added ++ last.added;
-  later = last.later;
-  goes = last.goes;
-  out = last.out ∙ ap (λ text. text ++ last.added) went.out ∙ append_assoc first went.added last.added;
-  first = λ more.
-      went.first more
-      ∙ ap (written_first went.added) (last.first more)
-      ∙ ap (λ text. record { status = (last.later (rest ++ more)).status; text = text }) (sym (append_assoc went.added last.added (last.later (rest ++ more)).text));
-}
-fed-on (Some stop) ending piece middle rest first old new script later went last =
-    λ more. record {
-      front = went.added ++ (last more).front;
-      out = (last more).out
-          ∙ ap (λ text. text ++ ((last more).front ++ stop_text stop)) went.out
-          ∙ append_assoc first went.added ((last more).front ++ stop_text stop)
-          ∙ ap (λ text. first ++ text) (sym (append_assoc went.added (last more).front (stop_text stop)));
-      ends = went.first more
-          ∙ ap (written_first went.added) (last more).ends
-          ∙ ap (λ text. record { status = stop_status stop; text = text }) (sym (append_assoc went.added (last more).front (stop_text stop)));
-    }

@@ -1,5 +1,5 @@
 -- How a script goes on after its bytes so far, and how it ends.
-use Rattle.std.specs.Prelude.{◌≡◌, ℕ, ◌+◌, ◌-◌, ◌≤◌, ◌<◌, true, List, [], ◌∷◌, ◌++◌, length, Option, Some, None, codes}
+use Rattle.std.specs.Prelude.{◌≡◌, ℕ, ◌+◌, ◌-◌, ◌≤◌, true, List, ◌++◌, length, Option, Some, None, codes}
 use Rattle.std.specs.Fmt.{decimal}
 use Rattle.cds_model.specs.declared.turn.Meaning.{Meaning}
 use Rattle.cds_model.specs.declared.turn.Turn.{Turn}

@@ -1,14 +1,14 @@
 //! A script from a source, and its report into a sink.
 
-ghost use Rattle.std.specs.Prelude.{◌≡◌, ℕ, ◌+◌, ◌-◌, ◌<◌, ◌≤◌, ◌++◌, ◌⊎◌, [], List, Option, Some, length, take, drop, IfOk, IfErr, OnOk, OnErr};
+ghost use Rattle.std.specs.Prelude.{◌≡◌, ℕ, ◌+◌, ◌-◌, ◌<◌, ◌≤◌, ◌++◌, ◌⊎◌, [], ◌∷◌, List, true, Option, Some, length, take, drop, IfOk, IfErr, OnOk, OnErr};
 ghost use Rattle.cds_base.specs.Outside.{raised, Rose, WhereTold};
-ghost use Rattle.cds_model.specs.Script.{line_limit, script_limit};
+ghost use Rattle.cds_model.specs.Script.{is_unbroken, line_limit, script_limit};
 ghost use Rattle.cds_model.specs.Report.{Ending, outside_ending, script_ending};
 ghost use Rattle.cds_model.specs.Played.{script_turns, script_stop, IsReportOf, BoundsLoads};
 ghost use Rattle.cds_replay.specs.Script.{left_in, Sound, GoesOn};
 ghost use Rattle.cds_replay.specs.Replay.{OnLine, OnLimit, OnReadFault, OnWriteFault, Holds, EndsIn, Played, Stopped, answer_of};
 
-use crate::script::{Script, Stop};
+use crate::script::{Script, Stop, cut_line};
 use cds_base::{Failed, Mem, Sink, Source, write_all};
 use std::alloc::Global;
 use std::convert::From;
@@ -48,7 +48,8 @@ impl From<Mem> for ReplayError {
     }
 }
 
-/// Plays the script that a source gives and writes its report. Each line is answered before the source is read again.
+/// Plays the script that a source gives and writes its report. The answer of a line is written before the next line is
+/// looked at. However the replay ends, it takes at most one byte more of the source than a script may have (`taken`).
 ///
 /// The report is what the script's turns write, one after the other, and then its last line (`turns`); each line `behind
 /// load` in it obeys the bound on loads (`load_bound`).
@@ -69,6 +70,7 @@ pub fn replay<S: Source, K: Sink>(
     ensures limit_moved { IfErr result (λ e. OnLimit e (raised (S.moved source.old) 4097 ≤ S.moved source.new)) }
     ensures read_fault { IfErr result (λ e. OnReadFault e (Rose (S.faults source.old) (S.faults source.new))) }
     ensures write_fault { IfErr result (λ e. OnWriteFault e (Rose (K.faults sink.old) (K.faults sink.new))) }
+    ensures taken { S.moved source.new ≤ S.moved source.old + 67108865 }
     ensures source_faults { S.faults source.old ≤ S.faults source.new }
     ensures sink_faults { K.faults sink.old ≤ K.faults sink.new }
     ensures turns { WhereTold (S.left source.old) (λ script. IsReportOf (script_turns script) (script_stop script) (script_ending script)) }
@@ -98,6 +100,7 @@ fn play_on<S: Source, K: Sink>(
     ensures limit { IfErr result (λ e. OnLimit e (raised (S.moved source.old) (left_in script.old + line_limit + 1 - script_limit) ≤ S.moved source.new)) }
     ensures read_fault { IfErr result (λ e. OnReadFault e (Rose (S.faults source.old) (S.faults source.new))) }
     ensures write_fault { IfErr result (λ e. OnWriteFault e (Rose (K.faults sink.old) (K.faults sink.new))) }
+    ensures taken { S.moved source.new ≤ S.moved source.old + (left_in script.old + 1) }
     ensures source_faults { S.faults source.old ≤ S.faults source.new }
     ensures sink_faults { K.faults sink.old ≤ K.faults sink.new }
 {
@@ -124,12 +127,14 @@ fn empty_piece(alloc: Global) -> Result<Vec<u8>, Mem>
 /// Reads a piece into the front of the buffer, at most one byte more than are left.
 fn read_piece<S: Source>(source: &mut S, buffer: &mut [u8], left: usize) -> Result<usize, Failed>
     requires some { 0 < length buffer.old }
-    requires few { left ≤ script_limit }
+    requires within { left ≤ script_limit }
     ensures room { IfOk result (λ n. n ≤ length buffer.old) }
+    ensures few { IfOk result (λ n. n ≤ left + 1) }
     ensures count { IfOk result (λ n. S.moved source.new ≡ raised (S.moved source.old) n) }
     ensures content { IfOk result (λ n. WhereTold (S.left source.old) (λ bytes. take n buffer.new ≡ take n bytes)) }
     ensures rest { IfOk result (λ n. WhereTold (S.left source.old) (λ bytes. S.left source.new ≡ Some (drop n bytes))) }
     ensures end { IfOk result (λ n. n ≡ 0 → WhereTold (S.left source.old) (λ bytes. bytes ≡ [])) }
+    ensures stays { OnErr result (S.moved source.new ≡ S.moved source.old) }
     ensures rose { OnErr result (Rose (S.faults source.old) (S.faults source.new)) }
     ensures never_falls { S.faults source.old ≤ S.faults source.new }
 {
@@ -138,7 +143,8 @@ fn read_piece<S: Source>(source: &mut S, buffer: &mut [u8], left: usize) -> Resu
     source.read(front)
 }
 
-/// Plays a piece of a script and writes what it adds to the report.
+/// Plays a piece of a script: what a line adds to the report is written before the next line is looked at, so that the
+/// answers of a piece never stand in memory together.
 fn take_piece<K: Sink>(
     alloc: Global,
     script: &mut Script,
@@ -155,8 +161,58 @@ fn take_piece<K: Sink>(
     ensures write_fault { IfErr result (λ e. OnWriteFault e (Rose (K.faults sink.old) (K.faults sink.new))) }
     ensures never_falls { K.faults sink.old ≤ K.faults sink.new }
 {
+    let mut rest = piece;
+    while let Some((line, after)) = cut_line(rest) {
+        take_line(alloc, script, line, sink)?;
+        rest = after;
+    }
+    keep_rest(alloc, script, rest, sink)
+}
+
+/// Plays the line that ends with these bytes and an LF, and writes what it adds to the report.
+fn take_line<K: Sink>(
+    alloc: Global,
+    script: &mut Script,
+    line: &[u8],
+    sink: &mut K,
+) -> Result<(), ReplayError>
+    requires sound { Sound script.old }
+    requires whole { is_unbroken line.now ≡ true }
+    ensures goes { (ending : List ℕ → Ending) → GoesOn script.old ending → OnOk result (Played ending (line.now ++ 10 ∷ []) (K.holds sink.old) (K.holds sink.new) script.new) }
+    ensures sound { OnOk result (Sound script.new) }
+    ensures left { OnOk result (left_in script.new + (length line.now + 1) ≡ left_in script.old) }
+    ensures stops { (ending : List ℕ → Ending) (more : List ℕ) → GoesOn script.old ending → IfErr result (λ e. Stopped e (ending ((line.now ++ 10 ∷ []) ++ more)) (K.holds sink.old) (K.holds sink.new)) }
+    ensures limit { IfErr result (λ e. OnLimit e (left_in script.old + line_limit < script_limit + (length line.now + 1))) }
+    ensures no_read { IfErr result (λ e. OnReadFault e ⊥) }
+    ensures write_fault { IfErr result (λ e. OnWriteFault e (Rose (K.faults sink.old) (K.faults sink.new))) }
+    ensures never_falls { K.faults sink.old ≤ K.faults sink.new }
+{
     let mut out = String::new(alloc);
-    let stop = script.feed(alloc, piece, &mut out)?;
+    let stop = script.end_line(alloc, line, &mut out)?;
+    write_out(sink, out.as_bytes(), stop)
+}
+
+/// Keeps the rest of a piece, which has no LF, and writes what this adds to the report: no more than that a limit was
+/// passed.
+fn keep_rest<K: Sink>(
+    alloc: Global,
+    script: &mut Script,
+    rest: &[u8],
+    sink: &mut K,
+) -> Result<(), ReplayError>
+    requires sound { Sound script.old }
+    requires whole { is_unbroken rest.now ≡ true }
+    ensures goes { (ending : List ℕ → Ending) → GoesOn script.old ending → OnOk result (Played ending rest.now (K.holds sink.old) (K.holds sink.new) script.new) }
+    ensures sound { OnOk result (Sound script.new) }
+    ensures left { OnOk result (left_in script.new + length rest.now ≡ left_in script.old) }
+    ensures stops { (ending : List ℕ → Ending) (more : List ℕ) → GoesOn script.old ending → IfErr result (λ e. Stopped e (ending (rest.now ++ more)) (K.holds sink.old) (K.holds sink.new)) }
+    ensures limit { IfErr result (λ e. OnLimit e (left_in script.old + line_limit < script_limit + length rest.now)) }
+    ensures no_read { IfErr result (λ e. OnReadFault e ⊥) }
+    ensures write_fault { IfErr result (λ e. OnWriteFault e (Rose (K.faults sink.old) (K.faults sink.new))) }
+    ensures never_falls { K.faults sink.old ≤ K.faults sink.new }
+{
+    let mut out = String::new(alloc);
+    let stop = script.keep(alloc, rest, &mut out)?;
     write_out(sink, out.as_bytes(), stop)
 }
 

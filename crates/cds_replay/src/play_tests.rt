@@ -136,10 +136,11 @@ impl Source for Typed<'_> {
     }
 }
 
-/// A sink that says how many bytes it took.
+/// A sink that says how many bytes it took, and how many at once.
 #[derive(Drop)]
 struct Heard<'a> {
     written: &'a Cell<usize>,
+    at_once: usize,
 }
 
 impl Sink for Heard<'_> {
@@ -150,6 +151,7 @@ impl Sink for Heard<'_> {
     fn write(&mut self, piece: &[u8]) -> Result<usize, Failed> {
         self.written
             .set(self.written.get().saturating_add(piece.len()));
+        self.at_once = self.at_once.max(piece.len());
         Ok(piece.len())
     }
 }
@@ -158,14 +160,15 @@ impl Sink for Heard<'_> {
 fn a_line_is_answered_before_the_next_is_read(rt: HostRuntime) -> Result<(), Fail> {
     let alloc = rt.alloc();
     let written = Cell::new(0);
-    let lines: [Asked; 7] = [
+    let lines: [Asked; 8] = [
         (b"ask\n", 0),
         (b"folder a\n", 12),
         (b"scan\n", 12),
         (b"re", 19),
         (b"ad\n", 19),
-        (b"ask", 29),
-        (b"", 29),
+        (b"ask\nask\n\nask\nread\n", 29),
+        (b"ask", 75),
+        (b"", 75),
     ];
     let mut source = Typed {
         lines: &lines,
@@ -174,9 +177,14 @@ fn a_line_is_answered_before_the_next_is_read(rt: HostRuntime) -> Result<(), Fai
         written: &written,
         late: false,
     };
-    let mut sink = Heard { written: &written };
+    let mut sink = Heard {
+        written: &written,
+        at_once: 0,
+    };
     assert!(rt; replay(alloc, &mut source, &mut sink) == Ok(()));
-    assert!(rt; !source.late && source.at == 7);
-    assert_eq!(rt; written.get(), 41);
+    assert!(rt; !source.late && source.at == 8);
+    assert_eq!(rt; written.get(), 87);
+    // The lines of one piece are answered one by one.
+    assert_eq!(rt; sink.at_once, 12);
     Ok(())
 }

@@ -1,4 +1,4 @@
-//! A script that comes piece by piece: each line is answered as soon as it has ended.
+//! A script that comes part by part: each line is answered as soon as it has ended.
 
 ghost use Rattle.std.specs.Prelude.{◌≡◌, ℕ, ◌+◌, ◌<◌, ◌≤◌, ◌++◌, ◌^◌, [], ◌∷◌, List, true, length, IfOk, OnOk, MatchOption, string_bytes};
 ghost use Rattle.cds_model.specs.declared.turn.Turn.{Turn};
@@ -67,29 +67,6 @@ impl Script {
         self.room - self.partial.len()
     }
 
-    /// Takes the next piece and answers each line that ends in it. After a stop or an error the script is done with.
-    pub fn feed(
-        &mut self,
-        alloc: Global,
-        piece: &[u8],
-        out: &mut String,
-    ) -> Result<Option<Stop>, Mem>
-        requires { Sound self.old }
-        ensures meaning { (ending : List ℕ → Ending) → GoesOn self.old ending → IfOk result (λ stop. Fed stop ending piece.now [] (string_bytes out.old) (string_bytes out.new) self.new) }
-        ensures sound { IfOk result (λ stop. WhileGoing stop (Sound self.new)) }
-        ensures left { IfOk result (λ stop. WhileGoing stop (left_in self.new + length piece.now ≡ left_in self.old)) }
-        ensures limit { IfOk result (λ stop. AtLimit stop (left_in self.old + line_limit < script_limit + length piece.now)) }
-    {
-        let mut rest = piece;
-        while let Some((line, after)) = cut_line(rest) {
-            match self.end_line(alloc, line, out)? {
-                Some(stop) => return Ok(Some(stop)),
-                None => rest = after,
-            }
-        }
-        self.keep(alloc, rest, out)
-    }
-
     /// Answers the last line, where it has no LF.
     pub fn finish(&mut self, alloc: Global, out: &mut String) -> Result<Option<Stop>, Mem>
         requires { Sound self.old }
@@ -104,8 +81,8 @@ impl Script {
         }
     }
 
-    /// Answers the line that ends with these bytes and an LF.
-    fn end_line(
+    /// Answers the line that ends with these bytes and an LF. After a stop or an error the script is done with.
+    pub fn end_line(
         &mut self,
         alloc: Global,
         line: &[u8],
@@ -152,8 +129,13 @@ impl Script {
         Ok(stop)
     }
 
-    /// Keeps bytes without an LF for the next piece.
-    fn keep(&mut self, alloc: Global, rest: &[u8], out: &mut String) -> Result<Option<Stop>, Mem>
+    /// Keeps bytes without an LF for the line that they begin. After a stop or an error the script is done with.
+    pub fn keep(
+        &mut self,
+        alloc: Global,
+        rest: &[u8],
+        out: &mut String,
+    ) -> Result<Option<Stop>, Mem>
         requires sound { Sound self.old }
         requires whole { is_unbroken rest.now ≡ true }
         ensures meaning { (ending : List ℕ → Ending) → GoesOn self.old ending → IfOk result (λ stop. Fed stop ending rest.now [] (string_bytes out.old) (string_bytes out.new) self.new) }
@@ -171,7 +153,7 @@ impl Script {
 }
 
 /// The first line and what comes after its LF, where one stands in the bytes.
-fn cut_line(bytes: &[u8]) -> Option<(&[u8], &[u8])>
+pub fn cut_line(bytes: &[u8]) -> Option<(&[u8], &[u8])>
     ensures { MatchOption result (is_unbroken bytes.now ≡ true) (λ cut. (is_unbroken cut.0.now ≡ true) × (bytes.now ≡ cut.0.now ++ 10 ∷ cut.1.now)) }
 {
     match memchr(b'\n', bytes) {

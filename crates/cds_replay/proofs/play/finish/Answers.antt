@@ -1,5 +1,5 @@
 -- What the end of a script adds to the text is what the sink takes.
-use Rattle.std.proofs.Common.{◌≡◌, ◌++◌, [], subst, sym, ap, ◌∙◌, string_bytes}
+use Rattle.std.proofs.Common.{◌++◌, [], subst, sym, ap, ◌∙◌, string_bytes}
 use Rattle.cds_replay.specs.Script.{Finished}
 use Rattle.cds_replay.specs.Replay.{Holds}
 use Rattle.cds_replay.proofs.Writing.{written-ok, written-stops, written-no-limit, stops-in}

@@ -1,9 +1,9 @@
 -- Each piece is taken where the last one ended.
-use Rattle.std.proofs.Common.{◌≡◌, ℕ, ◌+◌, ◌-◌, ◌≤◌, [], Some, drop, length, ap, sym, ◌∙◌, arith}
+use Rattle.std.proofs.Common.{◌≡◌, ◌+◌, ◌-◌, Some, drop, ap, ◌∙◌, arith}
 use Rattle.std.proofs.lemmas.Result.{on_ok_weaker, IfErr-weaker, err_from_is_err_and}
 use Rattle.cds_base.specs.Outside.{raised}
 use Rattle.cds_replay.specs.Script.{left_in}
-use Rattle.cds_replay.proofs.Playing.{under-begin, under-piece, under-stops, under-last, under-well, on-ok-any, raised-twice}
+use Rattle.cds_replay.proofs.Playing.{under-begin, under-piece, under-stops, under-last, under-well, on-ok-any, moved-by, raised-twice}
 use Rattle.cds_replay.proofs.play.play_on.Goals as goal
 
 pub loop-script-init : goal.loop-script-init
@@ -16,13 +16,15 @@ loop-script-init g c = (
   λ ending bytes goes told. under-begin c.args.script.now ending _ _ bytes goes told,
   omega arith,
   omega arith,
+  omega arith,
 )
 
 pub loop-script-preserved : goal.loop-script-preserved
 loop-script-preserved g c =
     let kept = c.loop-script.invariant in
     let left = c.in_ok-take_piece-in-Ok.ensures.left in
-    let size = c.split_at.ensures.front_len in (
+    let size = c.split_at.ensures.front_len in
+    let moved = moved-by _ _ _ c.in-Ok.ensures.count in (
       c.in_ok-take_piece-in-Ok.ensures.sound,
       omega (arith, kept.1, left),
       λ n.
@@ -40,7 +42,11 @@ loop-script-preserved g c =
           (c.in_ok-take_piece-in-Ok.ensures.goes under.later under.goes),
       omega (arith, kept.4, c.in-Ok.ensures.never_falls),
       omega (arith, kept.5, c.in_ok-take_piece-in-Ok.ensures.never_falls),
+      omega (arith, kept.1, kept.6, moved, left, size),
     )
+
+pub returns-in-Err-clause-taken : goal.returns-in-Err-clause-taken
+returns-in-Err-clause-taken g c = omega (arith, c.loop-script.invariant.1, c.loop-script.invariant.6, c.in-Err.ensures.stays)
 
 pub returns-in-Ok-eq0-clause-well : goal.returns-in-Ok-eq0-clause-well
 returns-in-Ok-eq0-clause-well g c = λ ending bytes goes told.

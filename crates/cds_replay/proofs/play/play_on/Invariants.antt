@@ -1,5 +1,5 @@
 -- So far the bytes that the source gave were taken, and what they add to the report is in the sink.
-use Rattle.std.proofs.Common.{◌≡◌, ℕ, ◌+◌, ◌-◌, ◌<◌, ◌≤◌, List, Some, length}
+use Rattle.std.proofs.Common.{◌≡◌, ℕ, ◌+◌, ◌-◌, ◌≤◌, List, Some}
 use Rattle.cds_base.specs.Outside.{raised}
 use Rattle.cds_model.specs.Report.{Ending}
 use Rattle.cds_replay.specs.Script.{left_in, Sound, GoesOn}
@@ -15,6 +15,7 @@ invariant-loop-script g l =
     Under (ending bytes) (g.S.Source.left l.source) (g.K.Sink.holds l.initial.sink) (g.K.Sink.holds l.sink) l.script)
     × (g.S.Source.faults l.initial.source ≤ g.S.Source.faults l.source)
     × (g.K.Sink.faults l.initial.sink ≤ g.K.Sink.faults l.sink)
+    × (g.S.Source.moved l.source ≤ g.S.Source.moved l.initial.source + (left_in l.initial.script - left_in l.script))
 
 abbrev pub decreases-loop-script : goal.decreases-loop-script
 decreases-loop-script g l = left_in l.script

@@ -1,11 +1,11 @@
 -- What the bytes of a source mean as a script is what the replay of them does.
-use Rattle.std.proofs.Common.{◌≡◌, ◌+◌, ◌-◌, ◌++◌, ◌≤◌, Some, [], List, ℕ, IfErr, arith, subst}
+use Rattle.std.proofs.Common.{◌+◌, ◌-◌, ◌≤◌, IfErr, subst}
 use Rattle.std.proofs.lemmas.Result.{on_ok_weaker}
 use Rattle.cds_base.specs.Outside.{raised}
 use Rattle.cds_model.specs.Played.{script_turns}
-use Rattle.cds_model.specs.Report.{script_ending, outside_ending}
+use Rattle.cds_model.specs.Report.{script_ending}
 use Rattle.cds_model.specs.Script.{line_limit, script_limit}
-use Rattle.cds_replay.specs.Replay.{Holds, OnLimit}
+use Rattle.cds_replay.specs.Replay.{OnLimit}
 use Rattle.cds_replay.proofs.Playing.{ok-told, line-told, limit-told}
 use Rattle.cds_replay.proofs.play.replay.Goals as goal
 

@@ -1,32 +1,73 @@
--- What a piece adds to the text is what the sink takes.
-use Rattle.std.proofs.Common.{◌≡◌, ◌++◌, [], subst, sym, ap, ◌∙◌, string_bytes}
-use Rattle.cds_replay.specs.Script.{Fed}
-use Rattle.cds_replay.specs.Replay.{Holds}
-use Rattle.cds_replay.proofs.Writing.{written-ok, written-stops, stops-in}
+-- Each line of a piece is played where the last one ended, and what is left is kept.
+use Rattle.std.proofs.Common.{◌≡◌, ◌+◌, ◌++◌, ◌∷◌, [], length, length-append, append_assoc, refl, ap, sym, subst, ◌∙◌, arith}
+use Rattle.std.proofs.lemmas.Result.{on_ok_weaker, IfErr-weaker, err_from_is_err_and}
+use Rattle.cds_replay.specs.Replay.{Stopped}
+use Rattle.cds_replay.proofs.Playing.{played-begin, played-on, played-stops}
 use Rattle.cds_replay.proofs.play.take_piece.Goals as goal
+
+pub loop-line-init : goal.loop-line-init
+loop-line-init g c = (
+  c.requires,
+  omega arith,
+  ([], refl, λ ending goes. played-begin ending c.args.script.now _ goes),
+  omega arith,
+)
+
+pub loop-line-preserved : goal.loop-line-preserved
+loop-line-preserved g c =
+    let kept = c.loop-line.invariant in
+    let line = c.in-Some.line.now in
+    let after = c.in-Some.after.now in
+    let front = kept.2.0 in
+    let taken = c.in_ok-take_line.ensures in
+    let size : length c.loop-line.rest.now ≡ length line + (length after + 1) = ap length c.in-Some.ensures.1 ∙ length-append line (10 ∷ after) ∙ omega arith in
+    let cut : c.args.piece.now ≡ (front ++ (line ++ 10 ∷ [])) ++ after =
+    kept.2.1 ∙ ap (λ bytes. front ++ bytes) (c.in-Some.ensures.1 ∙ sym (append_assoc line (10 ∷ []) after)) ∙ sym (append_assoc front (line ++ 10 ∷ []) after) in (
+      taken.sound,
+      omega (arith, kept.1, taken.left, size),
+      (
+        front ++ (line ++ 10 ∷ []),
+        cut,
+        λ ending goes.
+            let played = kept.2.2 ending goes in
+            played-on ending front (line ++ 10 ∷ []) (front ++ (line ++ 10 ∷ [])) _ _ _ c.loop-line.script c.take_line.new.script refl played
+            (taken.goes played.later played.goes),
+      ),
+      omega (arith, kept.3, taken.never_falls),
+    )
+
+pub returns-in_err-take_line-clause-stops : goal.returns-in_err-take_line-clause-stops
+returns-in_err-take_line-clause-stops g c = λ ending more goes.
+    let kept = c.loop-line.invariant in
+    let line = c.in-Some.line.now in
+    let after = c.in-Some.after.now in
+    let front = kept.2.0 in
+    let played = kept.2.2 ending goes in
+    let error = err_from_is_err_and c.from_residual.result c.from_residual.ensures.1 in
+    let cut : c.args.piece.now ++ more ≡ front ++ ((line ++ 10 ∷ []) ++ (after ++ more)) =
+    ap (λ bytes. bytes ++ more) (kept.2.1 ∙ ap (λ bytes. front ++ bytes) (c.in-Some.ensures.1 ∙ sym (append_assoc line (10 ∷ []) after)))
+    ∙ append_assoc front ((line ++ 10 ∷ []) ++ after) more
+    ∙ ap (λ bytes. front ++ bytes) (append_assoc (line ++ 10 ∷ []) after more) in
+    rw (error.1, error.2, cut)
+    (played-stops c.in_err-take_line.field-0.0 ending front ((line ++ 10 ∷ []) ++ (after ++ more)) _ _ _ c.loop-line.script played
+    (c.in_err-take_line.ensures.stops played.later (after ++ more) played.goes))
 
 pub returns-clause-goes : goal.returns-clause-goes
 returns-clause-goes g c = λ ending goes.
-    written-ok c.write_out.result c.in_ok-stop.stop _ c.write_out.ensures.answer
-    (λ none is.
-    let went =
-    subst (λ stop. Fed stop ending c.args.piece.now [] (string_bytes c.new-out.result) (string_bytes c.feed.new.out) c.feed.new.self) none
-    (c.in_ok-stop.ensures.meaning ending goes) in
-    record {
-      added = went.added;
-      later = went.later;
-      goes = went.goes;
-      held = subst (λ text. Holds (g.K.Sink.holds c.args.sink.now) text (g.K.Sink.holds c.write_out.new.sink))
-          (c.as_bytes.ensures.value ∙ went.out ∙ ap (λ text. text ++ went.added) c.new-out.ensures.bytes)
-          (c.write_out.ensures.held is);
-      first = went.first;
-    })
+    let kept = c.loop-line.invariant in
+    let played = kept.2.2 ending goes in
+    on_ok_weaker c.keep_rest.result
+    (played-on ending kept.2.0 c.loop-line.rest.now c.args.piece.now _ _ _ c.loop-line.script c.keep_rest.new.script kept.2.1 played)
+    (c.keep_rest.ensures.goes played.later played.goes)
 
 pub returns-clause-stops : goal.returns-clause-stops
 returns-clause-stops g c = λ ending more goes.
-    written-stops c.write_out.result c.in_ok-stop.stop (ending (c.args.piece.now ++ more)) _ _ c.write_out.ensures.answer
-    (λ by some is.
-    stops-in _ by c.as_bytes.result.now (string_bytes c.new-out.result) (string_bytes c.feed.new.out) _ _
-    (subst (λ stop. Fed stop ending c.args.piece.now [] (string_bytes c.new-out.result) (string_bytes c.feed.new.out) c.feed.new.self) some
-    (c.in_ok-stop.ensures.meaning ending goes) more)
-    c.new-out.ensures.bytes c.as_bytes.ensures.value (c.write_out.ensures.held is))
+    let kept = c.loop-line.invariant in
+    let played = kept.2.2 ending goes in
+    let rest = c.loop-line.rest.now in
+    let cut : c.args.piece.now ++ more ≡ kept.2.0 ++ (rest ++ more) = ap (λ bytes. bytes ++ more) kept.2.1 ∙ append_assoc kept.2.0 rest more in
+    IfErr-weaker c.keep_rest.result
+    _ _
+    (λ e stops. subst (λ bytes. Stopped e (ending bytes) (g.K.Sink.holds c.args.sink.now) (g.K.Sink.holds c.keep_rest.new.sink)) (sym cut)
+    (played-stops e ending kept.2.0 (rest ++ more) _ _ _ c.loop-line.script played stops))
+    (c.keep_rest.ensures.stops played.later more played.goes)

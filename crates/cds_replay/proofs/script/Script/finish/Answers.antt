@@ -1,5 +1,5 @@
 -- The last line is answered where it has no LF.
-use Rattle.std.proofs.Common.{◌≡◌, ◌==◌, ℕ, length, vec_len, ap, refl, ◌∙◌, sym, subst, rules, arith, string_bytes}
+use Rattle.std.proofs.Common.{◌≡◌, ◌==◌, length, vec_len, ap, ◌∙◌, sym, subst, string_bytes}
 use Rattle.std.proofs.lemmas.Bool.{true≢false}
 use Rattle.std.proofs.lemmas.Result.{IfOk-weaker}
 use Rattle.cds_model.specs.Script.{meaning_of}
