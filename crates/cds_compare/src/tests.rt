@@ -141,26 +141,36 @@ fn a_scan_at_each_place(rt: HostRuntime) -> Result<(), Fail> {
             script.push_str("scan\n")?;
             put_reads(&mut script, 12)?;
             script.push_str("ask\n")?;
-            assert!(rt; agree(alloc, script.as_bytes())?, "{before}, {later} at {place}");
+            assert!(rt;
+                agree(alloc, script.as_bytes())?,
+                "{before}, {later} at {place}"
+            );
         }
     }
     Ok(())
 }
 
-/// A folder of 257 tracks takes two pages, and its first track goes between them.
+/// Puts a folder with tracks from one number on to 256.
+fn put_many(out: &mut String, alloc: Global, from: u32) -> Result<(), Fail> {
+    out.push_str("folder R\n")?;
+    for at in from..257u32 {
+        put_track(out, format!(in alloc; "R/{at}")?.as_str(), "1")?;
+    }
+    Ok(())
+}
+
+/// A folder of 257 tracks takes two pages. Between them nothing changes, its first track goes, or all but its last.
 #[test]
 fn two_pages(rt: HostRuntime) -> Result<(), Fail> {
     let alloc = rt.alloc();
-    let mut script = String::new(alloc);
-    for (from, reads) in [(0, "load 8"), (1, "2 ask")] {
-        put_words(&mut script, "R/")?;
-        for at in from..257u32 {
-            put_track(&mut script, format!(in alloc; "R/{at}")?.as_str(), "1")?;
-        }
-        put_words(&mut script, "scan")?;
-        put_words(&mut script, reads)?;
+    for from in [0, 1, 256] {
+        let mut script = String::new(alloc);
+        put_many(&mut script, alloc, 0)?;
+        put_words(&mut script, "scan load 8")?;
+        put_many(&mut script, alloc, from)?;
+        put_words(&mut script, "scan 2 ask")?;
+        assert!(rt; agree(alloc, script.as_bytes())?, "from {from}");
     }
-    assert!(rt; agree(alloc, script.as_bytes())?);
     Ok(())
 }
 

@@ -11,7 +11,6 @@ mod history;
 mod library;
 mod listing;
 mod numbers;
-
 mod pieces;
 mod played;
 mod report;
