@@ -212,7 +212,13 @@ fn resource_text(alloc: Global, row: &Row, track: &TrackContent) -> Result<Text,
     let id = id_text(alloc, row)?;
     joined(
         alloc,
-        &["<res", attributes.as_str(), ">/media/", id.as_str(), "</res>"],
+        &[
+            "<res",
+            attributes.as_str(),
+            ">/media/",
+            id.as_str(),
+            "</res>",
+        ],
     )
 }
 
@@ -321,10 +327,7 @@ fn container_text(alloc: Global, row: &Row, title: &Text, trackers: &Trackers) -
 {
     let front = container_front(alloc, row, title, trackers.child_count)?;
     let tracked = trackers_text(alloc, row, trackers)?;
-    let out = joined(
-        alloc,
-        &[front.as_str(), tracked.as_str(), "</container>"],
-    )?;
+    let out = joined(alloc, &[front.as_str(), tracked.as_str(), "</container>"])?;
     Ok(out)
 }
 

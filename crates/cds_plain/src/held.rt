@@ -87,10 +87,7 @@ pub(crate) enum Taken {
 }
 
 /// Equal containers.
-pub(crate) fn copy_waiting(
-    alloc: Global,
-    waiting: &[Waiting],
-) -> Result<Sequence<Waiting>, Mem>
+pub(crate) fn copy_waiting(alloc: Global, waiting: &[Waiting]) -> Result<Sequence<Waiting>, Mem>
     ensures { IfOk result (λ copy. copy ≡ waiting.now) }
 {
     let mut copy = Sequence::new(alloc);

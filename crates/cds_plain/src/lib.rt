@@ -1,5 +1,5 @@
-//! The plain, slow programs beside the definitions of the catalog: each function's contract is the definition itself,
-//! counted afresh over all scans, and tests compare the store that serves with them.
+//! The plain, slow programs beside the definitions of the catalog and of the report: each function's contract is the
+//! definition itself, counted afresh over all scans and all turns, and tests compare what serves with them.
 #![tactic(auto)]
 
 mod changes;
@@ -11,7 +11,6 @@ mod history;
 mod library;
 mod listing;
 mod numbers;
-
 mod pieces;
 mod played;
 mod report;
@@ -24,6 +23,3 @@ mod taken;
 pub use history::{PlainAnswer, PlainHistory};
 pub use report::{Ending, plain_report};
 pub use script::{history_of, lines_of, records_since};
-
-#[cfg(test)]
-mod tests;

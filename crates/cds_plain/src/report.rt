@@ -6,13 +6,12 @@ ghost use Rattle.cds_model.specs.Report as report;
 ghost use Rattle.cds_model.specs.declared.turn.Turn.TheVariants as turns;
 ghost use Rattle.cds_plain.specs.Words.{answer_of};
 
-use crate::PlainAnswer;
-use crate::PlainHistory;
 use crate::fragment::full_text;
 use crate::pieces::{decimal, joined};
 use crate::played::{held_by, moment_of};
 use crate::script::{ended_lines, history_of, lines_of, records_since};
 use crate::server::Moment;
+use crate::{PlainAnswer, PlainHistory};
 use cds_base::{Bytes, Mem, Sequence, Text};
 use cds_model::{Ask, Meaning, Says, Shown, Turn, read_line};
 use std::alloc::Global;

@@ -170,9 +170,7 @@ impl Moment {
         match ask {
             Ask::Token => Ok(Shown::Text(self.token.copy(alloc)?)),
             Ask::Number => Ok(Shown::Number(self.number)),
-            Ask::Metadata { id } => {
-                self.metadata_reply(alloc, row_of(id, self.rows.as_slice()))
-            }
+            Ask::Metadata { id } => { self.metadata_reply(alloc, row_of(id, self.rows.as_slice())) }
             Ask::Children { id, start } => {
                 self.children_reply(alloc, start, row_of(id, self.rows.as_slice()))
             }

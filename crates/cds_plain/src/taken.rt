@@ -76,12 +76,7 @@ fn root_taken(alloc: Global, number: u32, rows: &[Row]) -> Result<Taken, Mem>
     }
 }
 
-fn second_number_taken(
-    alloc: Global,
-    number: u32,
-    root: &Row,
-    shown: &Shown,
-) -> Result<Taken, Mem>
+fn second_number_taken(alloc: Global, number: u32, root: &Row, shown: &Shown) -> Result<Taken, Mem>
     ensures { IfOk result (λ taken. taken_in taken ≡ replica.taken (replica.HasRoot number root.now) shown.now) }
 {
     match shown {

@@ -8,6 +8,6 @@ unfolding trackers_text
 returns c =
     c.in_ok-out.ensures
     ∙ (λ i. joined [] (
-        (c.as_str.ensures ∙ c.in_ok-object.ensures) i ∷ (c.as_str-2.ensures ∙ c.in_ok-container.ensures) i
-        ∷ (c.as_str-3.ensures ∙ c.in_ok-deleted.ensures) i ∷ []
+    (c.as_str.ensures ∙ c.in_ok-object.ensures) i ∷ (c.as_str-2.ensures ∙ c.in_ok-container.ensures) i
+    ∷ (c.as_str-3.ensures ∙ c.in_ok-deleted.ensures) i ∷ []
     ))
