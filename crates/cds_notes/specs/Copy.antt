@@ -126,7 +126,7 @@ abbrev pub changed : List KnownRow → Event → List KnownRow
 changed rows (ObjAdd id number st parent class) = put_known (added_row id number parent class) (counted (counts_addition number) (Some parent) rows)
 changed rows (ObjMod id number st) = counted (counts_modification number) (parent_in id rows) rows
 changed rows (ObjDel id number st) =
-    filter (λ (row : KnownRow). not (nat_eq row.id id)) (counted (counts_deletion number) (parent_in id rows) rows)
+    counted (counts_deletion number) (parent_in id rows) (filter (λ (row : KnownRow). not (nat_eq row.id id)) rows)
 changed rows (StDone id number) = rows
 
 -- whether a version takes the place of what is known: a lower one is passed over
