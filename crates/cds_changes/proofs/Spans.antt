@@ -1,5 +1,5 @@
 -- Two spans one behind the other are one, and later scans change nothing of a span.
-use Rattle.std.proofs.Common.{◌≡◌, ◌⊎◌, inl, inr, ◌+◌, ◌≤◌, ◌<◌, ℕ, Bool, true, false, cond, ◌&&◌, nat_lt, nat_le, List, [], ◌∷◌, ◌++◌, filter, length, refl, sym, ap, ◌∙◌, append_assoc, length-append, arith, lt-ltb, le-ltb, le-leb, leb-true, leb-false}
+use Rattle.std.proofs.Common.{◌≡◌, ◌+◌, ◌≤◌, ◌<◌, ℕ, Bool, true, false, cond, ◌&&◌, nat_lt, nat_le, List, [], ◌∷◌, ◌++◌, filter, length, refl, sym, ap, ◌∙◌, append_assoc, length-append, arith, lt-ltb, le-ltb, le-leb, leb-true, leb-false}
 use Rattle.std.specs.List.{AllByRecursion}
 use Rattle.std.proofs.lemmas.Bool.{lt-leb}
 use Rattle.std.proofs.lemmas.List.{append-nil}
@@ -9,7 +9,7 @@ use Rattle.cds_catalog.specs.Library.{FolderMap, found}
 use Rattle.cds_catalog.specs.History.{History, latest, changes_of, end_of}
 use Rattle.cds_catalog.specs.declared.change.Change.{Change}
 use Rattle.cds_catalog.proofs.Numbers.{length_of_more}
-use Rattle.cds_changes.specs.Events.{event_of, scan_events, all_events, done_events, heads_done, is_in_subtree, change_events, update_of, events_between}
+use Rattle.cds_changes.specs.Events.{scan_events, all_events, heads_done, is_in_subtree, change_events, update_of, events_between}
 use Rattle.cds_changes.proofs.Numbers.{numbered}
 use Rattle.cds_changes.proofs.Within.{Lies, scan-lies, all-lie, done-are}
 
@@ -67,14 +67,17 @@ joins-append from middle to cut low high older newer few many one other =
     Goal : Type 0
     Goal = (span from middle older ++ span middle to older) ++ (span from middle newer ++ span middle to newer)
         ≡ (span from middle older ++ span from middle newer) ++ (span middle to older ++ span middle to newer)
+
     swap-none : (a b c d : List Event) → b ≡ [] → (a ++ b) ++ (c ++ d) ≡ (a ++ c) ++ (b ++ d)
     swap-none a b c d none =
         ap (λ (l : List Event). (a ++ l) ++ (c ++ d)) none ∙ ap (λ (l : List Event). l ++ (c ++ d)) (append-nil a)
         ∙ sym (append_assoc a c d) ∙ ap (λ (l : List Event). (a ++ c) ++ (l ++ d)) (sym none)
+
     swap-none-after : (a b c d : List Event) → c ≡ [] → (a ++ b) ++ (c ++ d) ≡ (a ++ c) ++ (b ++ d)
     swap-none-after a b c d none =
         ap (λ (l : List Event). (a ++ b) ++ (l ++ d)) none ∙ append_assoc a b d
         ∙ ap (λ (l : List Event). l ++ (b ++ d)) (sym (append-nil a)) ∙ ap (λ (l : List Event). (a ++ l) ++ (b ++ d)) (sym none)
+
     by : (b : Bool) → nat_le cut middle ≡ b → Goal
     by true e = swap-none _ _ _ _ (none_above middle to cut low older few (leb-true cut middle e))
     by false e =
@@ -97,11 +100,13 @@ joins-one from middle to number events low high all = by (nat_le number middle) 
         let here : update_of event ≤ middle = omega (arith, l, e) in
         let there : update_of event ≤ to = omega (arith, l, e, high) in
         ap (λ (b : Bool). nat_lt from (update_of event) && b) (le-leb (update_of event) to there ∙ sym (le-leb (update_of event) middle here))
+
     past : middle < number → (event : Event) → update_of event ≡ number → is_in from to event ≡ is_in middle to event
     past l event e =
         let here : from < update_of event = omega (arith, l, e, low) in
         let there : middle < update_of event = omega (arith, l, e) in
         ap (λ (b : Bool). b && nat_le (update_of event) to) (lt-ltb from (update_of event) here ∙ sym (lt-ltb middle (update_of event) there))
+
     by : (b : Bool) → nat_le number middle ≡ b → Joins from middle to events
     by true e =
         let l : number ≤ middle = leb-true number middle e in
@@ -133,6 +138,7 @@ scan-joins from middle to first before scan (change ∷ earlier) low high =
       numbered (first + length (change ∷ earlier ++ before)) (earlier ++ before) change (is_in_subtree scan change),
       done-are (first + length (change ∷ earlier ++ before)) (change ∷ earlier ++ before) (heads_done scan change),
     )
+
     lies : (event : Event) → update_of event ≡ first + length (change ∷ earlier ++ before)
         → Lies (first + length before + length earlier) (first + length (change ∷ earlier ++ before)) event
     lies event n = let sum = length-append earlier before in record {

@@ -85,5 +85,6 @@ spans-tell history from more low high =
   where
     past : List ℕ
     past = range_with_len (history.first + 1 + (from - history.first) + more) (length (changes_of history.maps) - (from - history.first + more))
+
     start : history.first + 1 + (from - history.first) ≡ from + 1
     start = omega (arith, low)

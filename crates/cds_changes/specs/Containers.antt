@@ -1,10 +1,10 @@
 -- Which containers changed in a span, as ContainerUpdateIDs tells (UPnP ContentDirectory:4).
-use Rattle.std.specs.Prelude.{◌+◌, ◌&&◌, ℕ, Bool, true, false, cond, nat_eq, nat_lt, nat_le, List, [], ◌∷◌, ◌++◌, length, Option, Some, None}
-use Rattle.std.specs.List.{list_any, count_by, filter_map, range_with_len}
+use Rattle.std.specs.Prelude.{◌+◌, ◌&&◌, ℕ, Bool, true, false, cond, nat_eq, nat_le, List, [], ◌∷◌, length, Option, Some, None}
+use Rattle.std.specs.List.{count_by, filter_map, range_with_len}
 use Rattle.std.specs.Option.{option_map}
 use Rattle.cds_object.specs.Path.{parent_of}
 use Rattle.cds_object.specs.Object.{is_folder}
-use Rattle.cds_catalog.specs.History.{History, changes_of, place_of, is_addition, is_deletion}
+use Rattle.cds_catalog.specs.History.{History, changes_of, place_of, is_addition}
 use Rattle.cds_catalog.specs.Catalog.{id_of}
 use Rattle.cds_catalog.specs.declared.change.Change.{Change}
 use Rattle.cds_catalog.specs.declared.change.Change.TheVariants.{Deletion, Addition, Modification}

@@ -1,5 +1,5 @@
 -- Spans of small histories, evaluated from the definitions.
-use Rattle.std.specs.Prelude.{◌≡◌, ℕ, true, false, List, [], ◌∷◌, codes}
+use Rattle.std.specs.Prelude.{◌≡◌, true, false, [], ◌∷◌, codes}
 use Rattle.cds_event.specs.declared.Class.TheVariants.{Container, Track}
 use Rattle.cds_event.specs.declared.Event.TheVariants.{ObjAdd, ObjMod, ObjDel, StDone}
 use Rattle.cds_catalog.specs.Library.{FolderMap}
@@ -19,7 +19,7 @@ abbrev pub deleted_subtree : Type 0
 deleted_subtree = let h : History = record { first = 10; maps = changed_track ∷ one_folder ∷ [] ∷ one_folder ∷ [] } in
     (end_of h ≡ 17)
     × (events_between h 12 17
-      ≡ ObjDel 2 13 true ∷ ObjDel 1 14 true ∷ StDone 1 14 ∷ ObjAdd 3 15 true 0 Container ∷ ObjAdd 4 16 true 3 Track ∷ StDone 3 16 ∷ ObjMod 4 17 false ∷ [])
+    ≡ ObjDel 2 13 true ∷ ObjDel 1 14 true ∷ StDone 1 14 ∷ ObjAdd 3 15 true 0 Container ∷ ObjAdd 4 16 true 3 Track ∷ StDone 3 16 ∷ ObjMod 4 17 false ∷ [])
     × (containers_between h 12 17 ≡ (0, 15) ∷ (3, 17) ∷ [])
     × (events_between h 16 17 ≡ ObjMod 4 17 false ∷ [])
     × (containers_between h 16 17 ≡ (3, 17) ∷ [])

@@ -1,5 +1,5 @@
 -- Laws of spans: every change is told once, by its number; spans join; and later scans change nothing of them.
-use Rattle.std.specs.Prelude.{◌≡◌, ◌+◌, ◌≤◌, ◌<◌, ℕ, List, ◌++◌, map, filter, length}
+use Rattle.std.specs.Prelude.{◌≡◌, ◌+◌, ◌≤◌, ℕ, List, ◌++◌, map, filter, length}
 use Rattle.std.specs.List.{range_with_len}
 use Rattle.cds_catalog.specs.Library.{FolderMap}
 use Rattle.cds_catalog.specs.History.{History, changes_of, end_of}

@@ -26,11 +26,22 @@ pub enum Event {
         class: Class,
     },
     /// An object says something else.
-    ObjMod { id: u32, update: u32, st: bool },
+    ObjMod {
+        id: u32,
+        update: u32,
+        st: bool,
+    },
     /// An object was deleted.
-    ObjDel { id: u32, update: u32, st: bool },
+    ObjDel {
+        id: u32,
+        update: u32,
+        st: bool,
+    },
     /// The subtree update of this object is done; `update` is the number of its last change.
-    StDone { id: u32, update: u32 },
+    StDone {
+        id: u32,
+        update: u32,
+    },
 }
 
 /// Events in order.

@@ -1,5 +1,5 @@
 -- The longest run of SEQs that were received, and the least one that is missing.
-use Rattle.std.proofs.Common.{◌≡◌, ◌≢◌, ◌⊎◌, inl, inr, ◌+◌, ◌<◌, ◌≤◌, ℕ, zero, suc, Bool, true, false, cond, nat_eq, nat_lt, ◌||◌, List, [], ◌∷◌, map, length, Option, Some, None, refl, sym, ap, ◌∙◌, subst, arith, true≢false, ltb-true, ltb-false, lt-ltb, eq-eqb, ne_eqb, eqb-true, le_refl}
+use Rattle.std.proofs.Common.{◌≡◌, ◌⊎◌, inl, inr, ◌+◌, ◌<◌, ◌≤◌, ℕ, zero, suc, Bool, true, false, cond, nat_eq, nat_lt, ◌||◌, List, [], ◌∷◌, map, length, Option, Some, None, refl, sym, ap, ◌∙◌, subst, arith, true≢false, ltb-true, ltb-false, eq-eqb, ne_eqb, eqb-true}
 use Rattle.std.specs.Prelude.{unwrap_or}
 use Rattle.std.specs.List.{list_any, range_with_len, AllByRecursion, IsDistinct}
 use Rattle.std.specs.Cmp.{nat_eq_equiv}
@@ -8,7 +8,7 @@ use Rattle.std.proofs.lemmas.List.FromFn.{length-range_with_len}
 use Rattle.std.proofs.lemmas.Map.Made.{length-le_from_is_member}
 use Rattle.cds_catalog.proofs.StepsFind.{none≢some}
 use Rattle.cds_notes.specs.Commands.{Note}
-use Rattle.cds_notes.specs.Inbox.{ReplicaTurn, received, has_seq, least_outside, next_seq, missing_of, missing}
+use Rattle.cds_notes.specs.Inbox.{ReplicaTurn, received, has_seq, least_outside, next_seq, missing}
 
 -- ---- numbers in a row
 
@@ -48,6 +48,7 @@ seq-member (note ∷ notes) q e = by (nat_eq note.seq q) refl (seq-member notes 
     other : (b : Bool) → list_any (nat_eq q) (seqs notes) ≡ true → b || list_any (nat_eq q) (seqs notes) ≡ true
     other true h = refl
     other false h = h
+
     by : (b : Bool) → nat_eq note.seq q ≡ b → (has_seq notes q ≡ true → list_any (nat_eq q) (seqs notes) ≡ true)
         → b || has_seq notes q ≡ true → nat_eq q note.seq || list_any (nat_eq q) (seqs notes) ≡ true
     by true same rest e = (λ i. eq-eqb q note.seq (sym (eqb-true note.seq q same)) i || list_any (nat_eq q) (seqs notes))
@@ -94,6 +95,7 @@ ends (suc more) from notes = by (has_seq notes from) refl (ends more (from + 1) 
         → (has_seq notes (least_outside more (from + 1) notes) ≡ false) ⊎ (least_outside more (from + 1) notes ≡ from + suc more)
     on (inl h) = inl h
     on (inr h) = inr (omega (arith, h))
+
     by : (b : Bool) → has_seq notes from ≡ b
         → (has_seq notes (least_outside more (from + 1) notes) ≡ false) ⊎ (least_outside more (from + 1) notes ≡ from + 1 + more)
         → (has_seq notes (cond b (least_outside more (from + 1) notes) from) ≡ false) ⊎ (cond b (least_outside more (from + 1) notes) from ≡ from + suc more)
@@ -112,6 +114,7 @@ next-is_outside notes = by (has_seq notes (least_outside (length notes) 0 notes)
       where
         absurd-at : ⊥ → has_seq notes (least_outside (length notes) 0 notes) ≡ false
         absurd-at none = absurd none
+
         all : (q : ℕ) → q < length notes + 1 → has_seq notes q ≡ true
         all q l = one (cases_lt q (length notes))
           where
@@ -138,6 +141,7 @@ above (note ∷ notes) next e = by (nat_lt next note.seq) refl (above notes next
     either : (b : Bool) (seq : ℕ) → has_seq notes seq ≡ true → b || has_seq notes seq ≡ true
     either true seq h = refl
     either false seq h = h
+
     by : (b : Bool) → nat_lt next note.seq ≡ b
         → (list_any (λ (note : Note). nat_lt next note.seq) notes ≡ true → (more : ℕ) × (next < more) × (has_seq notes more ≡ true))
         → b || list_any (λ (note : Note). nat_lt next note.seq) notes ≡ true
@@ -178,6 +182,7 @@ least-missing turns seq = (found, none)
             some-is : Some (next_seq turns) ≡ Some seq → next_seq turns ≡ seq
             some-is e = ap (λ (o : Option ℕ). unwrap_or o 0) e
         by false any e = none≢some None seq refl e
+
     none : has_seq (received turns) seq ≡ true → missing turns ≡ None → seq < next_seq turns
     none h e = by (list_any (λ (note : Note). nat_lt (next_seq turns) note.seq) (received turns)) refl e
       where

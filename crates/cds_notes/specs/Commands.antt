@@ -1,7 +1,7 @@
 -- What a server accepted, in order, and what follows from it: its history of scans, its releases of changes, its
 -- subscriptions and the notes that it sent (UPnP Device Architecture 2.0 on eventing; the moderation of 200 milliseconds
 -- is UPnP ContentDirectory:4's, its rule in full this project's profile).
-use Rattle.std.specs.Prelude.{◌≡◌, ◌+◌, ◌*◌, ◌&&◌, ◌||◌, ℕ, Bool, true, false, cond, not, nat_eq, nat_lt, nat_le, List, [], ◌∷◌, ◌++◌, map, filter, length, Option, Some, None, is_some}
+use Rattle.std.specs.Prelude.{◌+◌, ◌&&◌, ℕ, Bool, true, cond, nat_eq, nat_lt, nat_le, List, [], ◌∷◌, ◌++◌, map, filter, length, Option, Some, None, is_some}
 use Rattle.std.specs.List.{range_with_len}
 use Rattle.cds_event.specs.declared.Event.{Event}
 use Rattle.cds_catalog.specs.Library.{FolderMap}

@@ -1,6 +1,6 @@
 -- A copy that goes on with the changes of notes: its rows, what was read of them since, and what is still to be read (this
 -- project's profile, over UPnP ContentDirectory:4 on tracking changes).
-use Rattle.std.specs.Prelude.{◌+◌, ◌-◌, ◌&&◌, ◌||◌, ℕ, Bool, true, false, cond, not, nat_eq, nat_lt, nat_le, max, min, List, [], ◌∷◌, ◌++◌, map, filter, length, Option, Some, None}
+use Rattle.std.specs.Prelude.{◌+◌, ◌-◌, ◌&&◌, ◌||◌, ℕ, Bool, true, false, cond, not, nat_eq, nat_lt, nat_le, max, min, List, [], ◌∷◌, map, filter, Option, Some, None}
 use Rattle.std.specs.List.{list_any, filter_map}
 use Rattle.std.specs.Option.{option_map, option_eq}
 use Rattle.cds_object.specs.Object.{ObjectRow, is_folder}
@@ -126,7 +126,7 @@ abbrev pub changed : List KnownRow → Event → List KnownRow
 changed rows (ObjAdd id number st parent class) = put_known (added_row id number parent class) (counted (counts_addition number) (Some parent) rows)
 changed rows (ObjMod id number st) = counted (counts_modification number) (parent_in id rows) rows
 changed rows (ObjDel id number st) =
-    filter (λ (row : KnownRow). not (nat_eq row.id id)) (counted (counts_deletion number) (parent_in id rows) rows)
+    counted (counts_deletion number) (parent_in id rows) (filter (λ (row : KnownRow). not (nat_eq row.id id)) rows)
 changed rows (StDone id number) = rows
 
 -- whether a version takes the place of what is known: a lower one is passed over

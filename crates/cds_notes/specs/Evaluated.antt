@@ -1,14 +1,13 @@
 -- Replicas of an honest server, evaluated from the definitions.
-use Rattle.std.specs.Prelude.{◌≡◌, ℕ, List, [], ◌∷◌, ◌++◌, map, length, Option, None, Some, codes, true, false}
-use Rattle.cds_object.specs.Object.{ObjectRow}
+use Rattle.std.specs.Prelude.{◌≡◌, List, [], ◌∷◌, map, length, None, Some, codes, true, false}
 use Rattle.cds_catalog.specs.Library.{FolderMap}
 use Rattle.cds_catalog.specs.Evaluated.{Outline, outline, a_track}
 use Rattle.cds_event.specs.declared.Class.TheVariants.{Track}
-use Rattle.cds_event.specs.declared.Event.TheVariants.{ObjAdd, ObjMod, ObjDel, StDone}
-use Rattle.cds_notes.specs.Commands.{Command, Scans, Grants, Ends, Ticks, Note, notes_of}
+use Rattle.cds_event.specs.declared.Event.TheVariants.{ObjAdd, ObjMod, ObjDel}
+use Rattle.cds_notes.specs.Commands.{Command, Scans, Grants, Ticks, Note, notes_of}
 use Rattle.cds_notes.specs.Inbox.{ReplicaTurn, Requests, Accepts, Delivers, held_notes}
 use Rattle.cds_notes.specs.Follow.{known_by, copied, says, and_turn, is_refused}
-use Rattle.cds_notes.specs.Given.{Entry, Starts, Asks, Calls, Granted, Denied, Gets, given_by}
+use Rattle.cds_notes.specs.Given.{Entry, Starts, Asks, Calls, Granted, Gets, given_by}
 use Rattle.cds_notes.specs.declared.says.Says.{Says}
 use Rattle.cds_notes.specs.declared.says.Says.TheVariants.{Gap, BehindLoad, BehindRead, BehindVersion, Stands}
 

@@ -8,7 +8,7 @@ use Rattle.cds_event.specs.declared.Event.{Event}
 use Rattle.cds_changes.specs.Events.{update_of, is_change}
 use Rattle.cds_notes.specs.Commands.{Note}
 use Rattle.cds_notes.specs.Inbox.{ReplicaTurn, Begins, Shows, Requests, Accepts, Refuses, Delivers, Arrival, IsUnknown, IsRepeat, IsTooMany, IsEarly, IsHeld, IsNext, arrival, missing, taken_by}
-use Rattle.cds_notes.specs.Copy.{KnownRow, Version, Happening, Changes, Reads, rows_after, shown_row, known_of, cannot_be, changed, object_of, least_unread, read_up_to}
+use Rattle.cds_notes.specs.Copy.{KnownRow, Happening, Changes, Reads, rows_after, shown_row, known_of, cannot_be, changed, object_of, least_unread, read_up_to}
 use Rattle.cds_model.specs.Replica.{Held, Idle, Begun, HasToken, HasNumber, HasRoot, Lists, HasPage, HasCopy, Taken, Holds, Unreadable, Torn, taken, next_ask as load_ask}
 use Rattle.cds_model.specs.declared.exchange.Ask.{Ask}
 use Rattle.cds_model.specs.declared.exchange.Ask.TheVariants.{Metadata}

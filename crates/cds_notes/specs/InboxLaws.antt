@@ -1,5 +1,5 @@
 -- Laws of which notes were taken and which are missing, over every list of turns.
-use Rattle.std.specs.Prelude.{◌≡◌, ◌<◌, ℕ, true, false, List, Option, Some, None}
+use Rattle.std.specs.Prelude.{◌≡◌, ◌<◌, ℕ, true, false, List, Some, None}
 use Rattle.cds_notes.specs.Inbox.{ReplicaTurn, received, has_seq, next_seq, missing}
 
 -- the notes that were taken are the longest run of SEQs from 0 on that were received: each before the next one was, and

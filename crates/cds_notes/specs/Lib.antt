@@ -5,3 +5,4 @@ pub mod Follow
 pub mod Given
 pub mod Inbox
 pub mod InboxLaws
+pub mod StepLaws
