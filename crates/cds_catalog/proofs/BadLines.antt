@@ -1,7 +1,7 @@
 -- The line of the first record that cannot stand.
-use Rattle.std.proofs.Common.{◌≡◌, ◌↔◌, ℕ, ◌+◌, Bool, true, false, cond, List, [], ◌∷◌, ◌++◌, length, Option, Some, None, refl, sym, ap, ◌∙◌}
+use Rattle.std.proofs.Common.{◌≡◌, ℕ, ◌+◌, Bool, true, false, cond, List, [], ◌∷◌, ◌++◌, length, Option, Some, None, refl, sym, ap, ◌∙◌}
 use Rattle.std.specs.Option.{option_map}
-use Rattle.cds_object.specs.First.{NoneRefused, IsFirstRefused}
+use Rattle.cds_object.specs.First.{NoneRefused}
 use Rattle.cds_object.specs.declared.record.Record.{Record}
 use Rattle.cds_object.proofs.Firsts.{walk, walk_finds, walk_passes, found_by_walk, passed_by_walk}
 use Rattle.cds_catalog.specs.Scans.{is_bad, bad_from, bad_record}
