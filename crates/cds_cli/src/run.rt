@@ -3,7 +3,7 @@
 ghost use Rattle.std.specs.Prelude.{◌≡◌, ◌≢◌, ◌⊎◌, ◌≤◌, ◌<◌, ◌+◌, ◌++◌, ℕ, [], Some, None, List, OnErr, OnOk};
 ghost use Rattle.cds_base.specs.Outside.{raised, Rose, WhereTold};
 ghost use Rattle.cds_model.specs.Report.{script_ending};
-ghost use Rattle.cds_model.specs.Loads.{loads_are_bounded};
+ghost use Rattle.cds_model.specs.Played.{script_turns, script_stop, IsReportOf, BoundsLoads};
 ghost use Rattle.cds_cli.specs.Command.{command_of, help_text, version_text, usage_text};
 ghost use Rattle.cds_cli.specs.Run.{Ends, Writes, EndsText, WritesText};
 ghost use Rattle.cds_cli.specs.declared.command.Command.TheVariants.{Replay, Help, Version};
@@ -61,6 +61,8 @@ fn play<S: Source, K: Sink>(alloc: Global, source: &mut S, sink: &mut K) -> u8
     ensures read_fault { result ≡ 2 → Rose (S.faults source.old) (S.faults source.new) }
     ensures write_fault { result ≡ 3 → Rose (K.faults sink.old) (K.faults sink.new) }
     ensures known { (result ≡ 5 → ⊥) × (result ≤ 6) }
+    ensures turns { WhereTold (S.left source.old) (λ bytes. IsReportOf (script_turns bytes) (script_stop bytes) (script_ending bytes)) }
+    ensures load_bound { WhereTold (S.left source.old) (λ bytes. BoundsLoads (script_turns bytes)) }
 {
     match replay(alloc, source, sink) {
         Ok(()) => 0,
@@ -90,9 +92,11 @@ pub fn run<S: Source, K: Sink>(alloc: Global, words: &Words, source: &mut S, sin
     ensures taken { S.moved source.new ≤ S.moved source.old + 67108865 }
     ensures past_limit { result ≡ 6 → raised (S.moved source.old) 4097 ≤ S.moved source.new }
 
-    // In a report `behind load` stands only where no load was begun, or for as many reads as a load of the catalog takes,
-    // and one more, since the load began and the catalog last changed.
-    ensures load_bound { command_of words.now ≡ Some Replay → loads_are_bounded }
+    // The report is what the script's turns write, one after the other, and then its last line. Of these turns each ask that
+    // writes `behind load` comes before any load was begun, or after fewer reads than a load of the catalog takes, and two
+    // more, since the load began and the catalog last changed.
+    ensures turns { command_of words.now ≡ Some Replay → WhereTold (S.left source.old) (λ bytes. IsReportOf (script_turns bytes) (script_stop bytes) (script_ending bytes)) }
+    ensures load_bound { command_of words.now ≡ Some Replay → WhereTold (S.left source.old) (λ bytes. BoundsLoads (script_turns bytes)) }
 
     // Faults of the outside come only where their count rose.
     ensures read_fault { result ≡ 2 → Rose (S.faults source.old) (S.faults source.new) }
@@ -109,7 +113,6 @@ pub fn run<S: Source, K: Sink>(alloc: Global, words: &Words, source: &mut S, sin
     ensures only_replay { (result ≡ 1) ⊎ ((result ≡ 2) ⊎ ((result ≡ 4) ⊎ (result ≡ 6))) → command_of words.now ≡ Some Replay }
     ensures known { result ≤ 6 }
 {
-    cds_model::loads_are_bounded();
     match read_command(words.as_slice()) {
         Some(Command::Replay) => play(alloc, source, sink),
         Some(Command::Help) => write_text(sink, HELP, 0),

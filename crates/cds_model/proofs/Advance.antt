@@ -1,19 +1,18 @@
 -- How a load goes on through a tree: where nothing waits all is known, else the first that waits is listed next; and
 -- a whole listing leads to what is known one id further.
-use Rattle.std.proofs.Common.{◌≡◌, ℕ, zero, suc, ◌+◌, ◌<◌, ◌≤◌, ◌==◌, nat_eq, List, [], ◌∷◌, ◌++◌, length, Bool, true, false, cond, ◌||◌, ◌&&◌, nat_lt, refl, ap, sym, subst, ◌∙◌, arith, Option, Some, None, inl, inr}
+use Rattle.std.proofs.Common.{◌≡◌, ℕ, ◌+◌, ◌<◌, ◌≤◌, List, [], ◌∷◌, length, Bool, true, false, cond, ◌&&◌, nat_lt, refl, ap, sym, subst, ◌∙◌, arith, Option, Some, None, inl, inr}
 use Rattle.std.specs.Prelude.{MatchOption, nat_le, is_some, ◌⊎◌}
-use Rattle.std.proofs.lemmas.Bool.{eq-eqb, ne_eqb, eqb-true, eqb-false, lt-ltb, le-ltb, ltb-true, ltb-false, le-leb, lt-leb, leb-true, leb-false, and_parts, and_from, and_right, cases_Bool, cases_lt}
-use Rattle.std.proofs.lemmas.Bool.Decides.{nat_tests}
+use Rattle.std.proofs.lemmas.Bool.{ltb-false, le-leb, lt-leb, leb-true, leb-false, and_parts}
 use Rattle.std.proofs.lemmas.List.Sums.{length-filter}
 use Rattle.std.specs.List.{AllByRecursion, filter, filter_map, cons_option, count_by}
-use Rattle.std.specs.Option.{option_eq, option_map}
+use Rattle.std.specs.Option.{option_map}
 use Rattle.cds_object.specs.Object.{ObjectRow, IsRow, is_folder}
-use Rattle.cds_object.specs.Tree.{row_of, is_child_of, children_of, is_container_row, IdsAscend, IsHeld, CountsChildren, IsTree}
+use Rattle.cds_object.specs.Tree.{row_of, is_child_of, children_of, is_container_row, IsHeld, CountsChildren, IsTree}
 use Rattle.cds_object.specs.declared.row.Trackers.{Trackers}
-use Rattle.cds_model.specs.Replica.{Waiting, waiting_of, puts_by, put_rows, put_containers}
-use Rattle.cds_model.proofs.Merge.{Rises, Apart, merged, KeepsKey, filter-all, made-above}
-use Rattle.cds_model.proofs.Trees.{id_of, all-map, all-map_two, ascend-rises, each-found, found-id, all-at, folder-found}
-use Rattle.cds_model.proofs.Frontier.{below, known, waits, waiting_at, filter_map-same, filter-same, filter-everything, made-at, folder-waits, track-waits_not, descends, all-descend, all-known_alike}
+use Rattle.cds_model.specs.Replica.{Waiting, waiting_of}
+use Rattle.cds_model.proofs.Merge.{Rises, KeepsKey, filter-all, made-above}
+use Rattle.cds_model.proofs.Trees.{id_of, all-map, all-map_two, ascend-rises, each-found, found-id, folder-found}
+use Rattle.cds_model.proofs.Frontier.{below, known, waits, waiting_at, filter_map-same, filter-same, filter-everything, track-waits_not, descends, all-descend, all-known_alike}
 
 abbrev pub waiting_id : Waiting → ℕ
 waiting_id w = w.id

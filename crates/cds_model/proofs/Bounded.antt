@@ -1,22 +1,21 @@
 -- The bound on the reads of a load, over any turns of a script.
-use Rattle.std.proofs.Common.{◌≡◌, ◌≢◌, ℕ, zero, suc, ◌+◌, ◌*◌, ◌<◌, ◌≤◌, List, [], ◌∷◌, ◌++◌, Bool, true, false, cond, nat_eq, refl, ap, sym, subst, ◌∙◌, arith, ◌⊎◌, inl, inr, Option, Some, None}
+use Rattle.std.proofs.Common.{◌≡◌, ◌≢◌, ℕ, zero, suc, ◌+◌, ◌<◌, ◌≤◌, List, [], ◌∷◌, Bool, true, false, cond, nat_eq, refl, ap, sym, subst, ◌∙◌, arith, ◌⊎◌, inl, inr, Option, Some, None}
 use Rattle.std.proofs.lemmas.Bool.{eqb-true, eqb-false}
 use Rattle.cds_object.specs.Object.{ObjectRow}
 use Rattle.cds_object.specs.Tree.{IsTree}
 use Rattle.cds_object.specs.declared.record.Record.{Record}
-use Rattle.cds_catalog.specs.Library.{FolderMap, map_of}
+use Rattle.cds_catalog.specs.Library.{map_of}
 use Rattle.cds_catalog.specs.History.{History, end_of, with_scan}
 use Rattle.cds_catalog.specs.Catalog.{catalog}
 use Rattle.cds_catalog.specs.Laws.{AreLibraries}
-use Rattle.cds_catalog.specs.Scans.{after_scan, bad_record}
 use Rattle.cds_catalog.proofs.Accepted.{accepted_map}
 use Rattle.cds_catalog.proofs.Numbers.{ends_rise, equal_ends_equal_catalogs}
 use Rattle.cds_model.specs.declared.exchange.Ask.{Ask as Asked}
-use Rattle.cds_model.specs.declared.exchange.Says.TheVariants.{BehindLoad, Stands}
+use Rattle.cds_model.specs.declared.exchange.Says.TheVariants.{Stands}
 use Rattle.cds_model.specs.declared.turn.Turn.{Turn}
 use Rattle.cds_model.specs.declared.turn.Turn.TheVariants.{Folder, Track, Scan, Load, Read, Ask}
-use Rattle.cds_model.specs.Server.{Moment, reply_to}
-use Rattle.cds_model.specs.Replica.{Held, Idle, Begun, HasToken, HasNumber, HasRoot, Lists, HasPage, HasCopy, held_after, held_by, taken, next_ask, says, ReplicaTurn}
+use Rattle.cds_model.specs.Server.{Moment}
+use Rattle.cds_model.specs.Replica.{Held, Idle, Begun, HasToken, HasNumber, HasRoot, Lists, HasPage, HasCopy, held_by, next_ask, says}
 use Rattle.cds_model.specs.Report.{history_of, moment_of, replica_turns, after_read, records_since, script_token}
 use Rattle.cds_model.specs.Loads.{load_reads, held_with, read_once, was_begun, answered, answered_since, loads_are_bounded}
 use Rattle.cds_model.proofs.Honest.{IsServed, IsGiven}

@@ -1,26 +1,19 @@
 -- A replica is behind its load only for so many reads: those that a load of the catalog takes, and two more where a scan
 -- came between.
-use Rattle.std.proofs.Common.{◌≡◌, ◌≢◌, ℕ, zero, suc, ◌+◌, ◌-◌, ◌<◌, ◌≤◌, List, [], ◌∷◌, length, ◌*◌, ◌&&◌, Bool, true, false, cond, nat_eq, refl, ap, sym, subst, ◌∙◌, arith, ◌⊎◌, inl, inr, Option, Some, None}
-use Rattle.std.proofs.lemmas.Bool.{ne_eqb, eq-eqb, and_from, eqb-true, eqb-false}
+use Rattle.std.proofs.Common.{◌≡◌, ◌≢◌, ℕ, suc, ◌+◌, ◌<◌, ◌≤◌, List, length, ◌*◌, cond, refl, ap, sym, subst, ◌∙◌, arith, ◌⊎◌, inl, inr, Some}
+use Rattle.std.proofs.lemmas.Bool.{ne_eqb, eq-eqb, and_from}
 use Rattle.std.specs.List.{sum_by}
-use Rattle.cds_object.specs.Object.{ObjectRow, is_folder}
-use Rattle.cds_object.specs.Tree.{row_of, IsTree}
-use Rattle.cds_catalog.specs.History.{History, end_of}
-use Rattle.cds_catalog.specs.Catalog.{catalog}
+use Rattle.cds_object.specs.Object.{ObjectRow}
+use Rattle.cds_object.specs.Tree.{row_of}
 use Rattle.cds_model.specs.declared.exchange.Ask.{Ask as Asked}
-use Rattle.cds_model.specs.declared.exchange.Ask.TheVariants.{Token, Number as AskNumber, Metadata, Children}
-use Rattle.cds_model.specs.declared.exchange.Says.TheVariants.{BehindLoad, Stands}
-use Rattle.cds_model.specs.declared.turn.Turn.{Turn}
-use Rattle.cds_model.specs.declared.turn.Turn.TheVariants.{Folder, Track, Scan, Load, Read, Ask}
+use Rattle.cds_model.specs.declared.exchange.Ask.TheVariants.{Metadata}
 use Rattle.cds_model.specs.Server.{Moment, reply_to, metadata_reply}
-use Rattle.cds_model.specs.Replica.{Held, Idle, Begun, HasToken, HasNumber, HasRoot, Lists, HasPage, HasCopy, Taken, Holds, held_after, held_by, listing_of, listed_id, page_taken, Torn, taken, next_ask, says}
-use Rattle.cds_model.specs.Report.{history_of, moment_of, replica_turns, after_read, records_since}
-use Rattle.cds_model.specs.Loads.{pages_for, load_reads, held_with, read_once, was_begun, answered, answered_since, loads_are_bounded}
+use Rattle.cds_model.specs.Replica.{Held, Idle, Begun, HasToken, HasNumber, HasRoot, Lists, HasPage, HasCopy, Holds, held_after, listing_of, listed_id, page_taken, Torn, taken, next_ask}
+use Rattle.cds_model.specs.Loads.{pages_for, load_reads, held_with, read_once}
 use Rattle.cds_model.proofs.Trees.{folder-found, found-id}
-use Rattle.cds_model.proofs.Honest.{IsServed, Had, HadTwo, IsGiven}
+use Rattle.cds_model.proofs.Honest.{IsServed, IsGiven}
 use Rattle.cds_model.proofs.Replies.{page-shown}
-use Rattle.cds_model.proofs.Turns.{StoodIn, history-serves, turns-are_libraries, turns-given}
-use Rattle.cds_model.proofs.Ends.{Left, read-left, none-left}
+use Rattle.cds_model.proofs.Ends.{Left}
 
 -- a load that has read another number than the one that stands: how many reads it owes
 abbrev pub Stale : Moment → Held → ℕ → Type 0

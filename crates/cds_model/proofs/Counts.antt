@@ -1,18 +1,18 @@
 -- How many pages are left in a tree from an id on.
-use Rattle.std.proofs.Common.{◌≡◌, ℕ, zero, suc, ◌+◌, ◌-◌, ◌*◌, ◌/◌, ◌<◌, ◌≤◌, ◌==◌, nat_eq, min, List, [], ◌∷◌, ◌++◌, length, take, drop, Bool, true, false, cond, nat_lt, refl, ap, sym, subst, ◌∙◌, arith, Option, Some, None, inl, inr}
-use Rattle.std.specs.Prelude.{MatchOption, nat_le, max, is_some, ◌⊎◌}
-use Rattle.std.proofs.lemmas.Bool.{le-leb, lt-leb, leb-true, leb-false, cases_lt, eqb-true}
+use Rattle.std.proofs.Common.{◌≡◌, ℕ, ◌+◌, ◌/◌, ◌<◌, ◌≤◌, nat_eq, List, [], ◌∷◌, length, Bool, true, false, cond, refl, ap, sym, subst, ◌∙◌, arith, Option, Some, None}
+use Rattle.std.specs.Prelude.{MatchOption, nat_le, max, is_some}
+use Rattle.std.proofs.lemmas.Bool.{le-leb, lt-leb, leb-true, leb-false}
 use Rattle.std.proofs.lemmas.List.Sums.{length-filter, sum_by-cons}
-use Rattle.std.specs.List.{AllByRecursion, filter, sum_by, count_by}
+use Rattle.std.specs.List.{AllByRecursion, sum_by, count_by}
 use Rattle.cds_object.specs.Object.{ObjectRow, IsRow, is_folder}
 use Rattle.cds_object.specs.Tree.{row_of, is_child_of, children_of, IsTree, CountsChildren}
 use Rattle.cds_object.specs.declared.row.Trackers.{Trackers}
-use Rattle.cds_model.specs.Loads.{pages_for, load_reads}
+use Rattle.cds_model.specs.Loads.{pages_for}
 use Rattle.cds_model.specs.Replica.{Waiting}
 use Rattle.cds_model.proofs.Merge.{Rises}
 use Rattle.cds_model.proofs.Trees.{id_of, all-map, all-map_two, ascend-rises, each-found, all-at}
 use Rattle.cds_model.proofs.Frontier.{waiting_at, folder-waits, all-descend, descends}
-use Rattle.cds_model.proofs.Advance.{Stands, first-is_least, first-stands}
+use Rattle.cds_model.proofs.Advance.{first-is_least, first-stands}
 
 -- the pages of a row that is not below an id
 abbrev pub pages_past : ℕ → ObjectRow → ℕ

@@ -1,17 +1,15 @@
 -- A load from a server whose number stays ends after exactly the reads that it takes.
-use Rattle.std.proofs.Common.{◌≡◌, ℕ, zero, suc, ◌+◌, ◌-◌, ◌*◌, ◌/◌, ◌<◌, ◌≤◌, ◌==◌, nat_eq, min, List, [], ◌∷◌, ◌++◌, length, take, drop, filter, Bool, true, false, cond, nat_lt, refl, ap, sym, subst, ◌∙◌, arith, Option, Some, None, inl, inr}
+use Rattle.std.proofs.Common.{◌≡◌, ℕ, zero, suc, ◌+◌, ◌-◌, ◌*◌, ◌/◌, ◌<◌, ◌≤◌, nat_eq, min, List, [], ◌∷◌, ◌++◌, length, take, drop, filter, Bool, true, false, cond, refl, ap, sym, subst, ◌∙◌, arith, Some, inl, inr}
 use Rattle.std.specs.Prelude.{max, IsSome, ◌⊎◌}
 use Rattle.std.proofs.lemmas.Bool.{eq-eqb, and_from, eqb-true, eqb-false, cases_lt}
-use Rattle.std.proofs.lemmas.List.{length-take, length-drop}
+use Rattle.std.proofs.lemmas.List.{length-take}
 use Rattle.cds_object.specs.Object.{ObjectRow, is_folder}
 use Rattle.cds_object.specs.Tree.{row_of, children_of, IsTree}
-use Rattle.cds_model.specs.declared.exchange.Ask.{Ask}
-use Rattle.cds_model.specs.declared.exchange.Ask.TheVariants.{Token, Number as AskNumber, Metadata, Children}
+use Rattle.cds_model.specs.declared.exchange.Ask.TheVariants.{Number as AskNumber, Metadata, Children}
 use Rattle.cds_model.specs.declared.exchange.Says.TheVariants.{BehindLoad}
-use Rattle.cds_model.specs.declared.exchange.Shown.TheVariants.{Page}
-use Rattle.cds_model.specs.Server.{Moment, page_size, reply_to, metadata_reply, children_reply, update_of}
-use Rattle.cds_model.specs.Replica.{Waiting, Listing, Held, Idle, Begun, HasToken, HasNumber, HasRoot, Lists, HasPage, HasCopy, Taken, Holds, Torn, listing_of, listed, listed_id, listed_children, others_waiting, fits, after_page, page_taken, taken, held_after, next_ask, says, put_rows, put_containers}
-use Rattle.cds_model.specs.Loads.{pages_for, load_reads, held_with, read_once, reads, loads_end}
+use Rattle.cds_model.specs.Server.{Moment, page_size, reply_to, metadata_reply, children_reply}
+use Rattle.cds_model.specs.Replica.{Waiting, Listing, Held, Idle, Begun, HasToken, HasNumber, HasRoot, Lists, HasPage, HasCopy, Holds, Torn, listing_of, listed, listed_id, listed_children, others_waiting, fits, after_page, page_taken, taken, held_after, next_ask, says, put_rows, put_containers}
+use Rattle.cds_model.specs.Loads.{load_reads, read_once, reads}
 use Rattle.cds_model.proofs.Trees.{found-id, folder-found}
 use Rattle.cds_model.proofs.Frontier.{known, waiting_at}
 use Rattle.cds_model.proofs.Advance.{Stands, nothing-waits, known-first, waiting-first, first-stands}

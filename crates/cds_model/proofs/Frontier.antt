@@ -1,16 +1,15 @@
 -- What a load knows of a tree once every container below some id is listed: the rows whose parent is below it, and the
 -- containers among them that are not below it, which wait.
-use Rattle.std.proofs.Common.{◌≡◌, ℕ, zero, suc, ◌+◌, ◌<◌, ◌≤◌, ◌==◌, nat_eq, List, [], ◌∷◌, ◌++◌, length, Bool, true, false, cond, ◌||◌, ◌&&◌, nat_lt, refl, ap, sym, subst, ◌∙◌, arith, Option, Some, None, inl, inr}
+use Rattle.std.proofs.Common.{◌≡◌, ℕ, zero, suc, ◌<◌, ◌≤◌, nat_eq, List, [], ◌∷◌, Bool, true, false, cond, ◌&&◌, nat_lt, refl, ap, sym, subst, ◌∙◌, arith, Option, Some, None, inl, inr}
 use Rattle.std.specs.Prelude.{MatchOption, nat_le, is_some, ◌⊎◌}
-use Rattle.std.proofs.lemmas.Bool.{eq-eqb, ne_eqb, eqb-true, eqb-false, lt-ltb, le-ltb, ltb-true, ltb-false, le-leb, lt-leb, leb-true, leb-false, and_parts, and_from, cases_Bool}
-use Rattle.std.specs.List.{AllByRecursion, filter, filter_map, cons_option, count_by}
-use Rattle.std.specs.Option.{option_eq, option_map}
+use Rattle.std.proofs.lemmas.Bool.{lt-ltb, le-ltb, ltb-true, ltb-false, le-leb, and_from}
+use Rattle.std.specs.List.{AllByRecursion, filter, filter_map, cons_option}
+use Rattle.std.specs.Option.{option_map}
 use Rattle.cds_object.specs.Object.{ObjectRow, IsRow, is_folder}
-use Rattle.cds_object.specs.Tree.{row_of, is_child_of, children_of, is_container_row, IdsAscend, IsHeld, CountsChildren, IsTree}
+use Rattle.cds_object.specs.Tree.{row_of, is_container_row, IsHeld, IsTree}
 use Rattle.cds_object.specs.declared.row.Trackers.{Trackers}
-use Rattle.cds_model.specs.Replica.{Waiting, waiting_of, puts_by, put_rows, put_containers}
-use Rattle.cds_model.proofs.Merge.{Rises, Apart, merged, KeepsKey, filter-all}
-use Rattle.cds_model.proofs.Trees.{id_of, all-map, all-map_two, ascend-rises, each-found, found-id, all-at, folder-found}
+use Rattle.cds_model.specs.Replica.{Waiting, waiting_of}
+use Rattle.cds_model.proofs.Trees.{all-map, ascend-rises, each-found, found-id, all-at, folder-found}
 
 -- whether a row's parent is below an id; the root has none
 abbrev pub below : ℕ → Option ℕ → Bool

@@ -1,22 +1,18 @@
 -- A replica whose replies are those of a server at moments that stood: no reply is refused, and a copy is the catalog of
 -- a moment that had its number.
-use Rattle.std.proofs.Common.{◌≡◌, ℕ, zero, suc, ◌+◌, ◌-◌, ◌<◌, ◌≤◌, ◌==◌, nat_eq, min, List, [], ◌∷◌, ◌++◌, length, take, drop, map, Bool, true, false, cond, not, ◌||◌, ◌&&◌, nat_lt, refl, ap, sym, subst, ◌∙◌, arith, Option, Some, None, inl, inr}
-use Rattle.std.specs.Prelude.{MatchOption, nat_le, is_some, is_none, ◌⊎◌}
-use Rattle.std.proofs.lemmas.Bool.{eq-eqb, ne_eqb, eqb-true, eqb-false, and_from, le-ltb, le-leb}
+use Rattle.std.proofs.Common.{◌≡◌, ℕ, ◌<◌, ◌≤◌, nat_eq, List, [], ◌∷◌, length, Bool, true, false, cond, ◌&&◌, refl, ap, sym, ◌∙◌, arith, Option, Some, None, inl}
+use Rattle.std.specs.Prelude.{nat_le, is_none}
+use Rattle.std.proofs.lemmas.Bool.{ne_eqb, le-ltb, le-leb}
 use Rattle.std.specs.List.{AllByRecursion, filter, filter_map, cons_option}
 use Rattle.cds_object.specs.Object.{ObjectRow, IsRow, is_folder}
-use Rattle.cds_object.specs.Tree.{row_of, is_child_of, children_of, is_container_row, IsHeld, IsTree}
-use Rattle.cds_model.specs.declared.exchange.Ask.{Ask}
-use Rattle.cds_model.specs.declared.exchange.Ask.TheVariants.{Token, Number as AskNumber, Metadata, Children}
-use Rattle.cds_model.specs.declared.exchange.Shown.{Shown}
-use Rattle.cds_model.specs.declared.exchange.Shown.TheVariants.{Text, Number, Page, Fault}
-use Rattle.cds_model.specs.Server.{Moment, page_size, reply_to, metadata_reply, children_reply, update_of}
-use Rattle.cds_model.specs.Replica.{Waiting, Listing, Held, Idle, Begun, HasToken, HasNumber, HasRoot, Lists, HasPage, HasCopy, Taken, Holds, Unreadable, Torn, waiting_of, puts_by, put_containers, listing_of, listed_id, fits, after_page, page_taken, root_taken, taken, next_ask}
+use Rattle.cds_object.specs.Tree.{row_of, is_container_row, IsTree}
+use Rattle.cds_model.specs.declared.exchange.Ask.TheVariants.{Children}
+use Rattle.cds_model.specs.Server.{Moment, reply_to}
+use Rattle.cds_model.specs.Replica.{Waiting, Held, Idle, Begun, HasToken, HasNumber, HasRoot, Lists, HasPage, HasCopy, Holds, waiting_of, puts_by, put_containers, listing_of, listed_id, taken}
 use Rattle.cds_model.proofs.Merge.{Rises}
-use Rattle.cds_model.proofs.Trees.{id_of, all-map, all-map_two, ascend-rises, found-id, all-at, folder-found}
+use Rattle.cds_model.proofs.Trees.{id_of, all-map, all-map_two, ascend-rises, found-id, all-at}
 use Rattle.cds_model.proofs.Frontier.{below, known, waits, waiting_at, filter-same, folder-waits}
-use Rattle.cds_model.proofs.Advance.{Stands, first-stands}
-use Rattle.cds_model.proofs.Listings.{IsListing, Follows, page-fits, page-follows}
+use Rattle.cds_model.proofs.Listings.{IsListing, Follows}
 
 -- the root stands first, and is the only one that is known before any listing
 root-alone : (rows : List ObjectRow) (root : ObjectRow) → Rises id_of rows → AllByRecursion IsRow rows → row_of 0 rows ≡ Some root →

@@ -1,4 +1,5 @@
 pub mod Advance
+pub mod Attempts
 pub mod Bounded
 pub mod Bounds
 pub mod Counts
@@ -8,13 +9,17 @@ pub mod Honest
 pub mod Lines
 pub mod Listings
 pub mod Merge
+pub mod Moments
 pub mod Pages
+pub mod Placed
 pub mod Played
 pub mod Replies
 pub mod Seen
 pub mod Servers
 pub mod ServersOf
+pub mod Traces
 pub mod Trees
 pub mod Turns
+pub mod Unasked
 pub mod Whole
 pub mod Words

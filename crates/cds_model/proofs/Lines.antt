@@ -1,8 +1,8 @@
 -- How a script goes on at its next line, at its end, and where a limit is passed.
-use Rattle.std.proofs.Common.{◌≡◌, ℕ, zero, suc, ◌+◌, ◌-◌, ◌<◌, ◌≤◌, List, [], ◌∷◌, ◌++◌, length, take, Bool, true, false, cond, not, ◌&&◌, nat_lt, nat_eq, refl, ap, sym, subst, ◌∙◌, arith, ◌⊎◌, inl, inr, length-append}
+use Rattle.std.proofs.Common.{◌≡◌, ℕ, zero, suc, ◌+◌, ◌-◌, ◌<◌, ◌≤◌, List, [], ◌∷◌, ◌++◌, length, take, Bool, true, false, cond, nat_lt, nat_eq, refl, ap, sym, ◌∙◌, arith, ◌⊎◌, inl, inr, length-append}
 use Rattle.std.specs.Prelude.{nat_le}
-use Rattle.std.specs.List.{list_all, onto_first}
-use Rattle.std.proofs.lemmas.Bool.{and_parts, and_from, le-leb, lt-leb, leb-true, leb-false, lt-ltb, le-ltb, not-true, cases_lt}
+use Rattle.std.specs.List.{onto_first}
+use Rattle.std.proofs.lemmas.Bool.{and_parts, and_from, le-leb, lt-leb, lt-ltb, not-true, cases_lt}
 use Rattle.cds_model.specs.declared.turn.Turn.{Turn}
 use Rattle.cds_model.specs.Script.{lines_of, ended_lines, onto_line, is_unbroken, line_limit, meaning_of}
 use Rattle.cds_model.specs.Report.{Ending, limit_ending, ending_at, ending_from, ending_of}

@@ -1,20 +1,17 @@
 -- A listing of a tree: what a load under one catalog holds, and what each page of that catalog makes of it.
-use Rattle.std.proofs.Common.{◌≡◌, ℕ, zero, suc, ◌+◌, ◌-◌, ◌<◌, ◌≤◌, ◌==◌, nat_eq, min, List, [], ◌∷◌, ◌++◌, length, take, drop, map, Bool, true, false, cond, not, ◌||◌, ◌&&◌, nat_lt, refl, ap, sym, subst, ◌∙◌, arith, Option, Some, None, inl, inr, length-append}
-use Rattle.std.specs.Prelude.{MatchOption, nat_le, is_some, ◌⊎◌}
+use Rattle.std.proofs.Common.{◌≡◌, ℕ, ◌+◌, ◌-◌, ◌<◌, nat_eq, min, List, [], ◌∷◌, ◌++◌, length, take, drop, map, Bool, true, false, cond, refl, ap, sym, subst, ◌∙◌, arith, inl, inr}
+use Rattle.std.specs.Prelude.{◌⊎◌}
 use Rattle.std.proofs.lemmas.List.{length-take, length-drop}
-use Rattle.std.proofs.lemmas.Bool.{eq-eqb, ne_eqb, eqb-true, eqb-false, and_from, and_parts, le-ltb, cases_lt}
-use Rattle.std.proofs.lemmas.List.Sums.{length-filter}
-use Rattle.std.specs.List.{AllByRecursion, filter, filter_map, cons_option, list_all, list_any, count_by}
-use Rattle.std.specs.Option.{option_map}
-use Rattle.cds_object.specs.Object.{ObjectRow, IsRow, is_folder}
-use Rattle.cds_object.specs.Tree.{row_of, is_child_of, children_of, is_container_row, IsHeld, IsTree}
-use Rattle.cds_object.specs.declared.row.Trackers.{Trackers}
+use Rattle.std.proofs.lemmas.Bool.{eq-eqb, eqb-true, eqb-false, and_from, cases_lt}
+use Rattle.std.specs.List.{AllByRecursion, filter, list_all}
+use Rattle.cds_object.specs.Object.{ObjectRow}
+use Rattle.cds_object.specs.Tree.{is_child_of, children_of, IsTree}
 use Rattle.cds_model.specs.Server.{page_size}
-use Rattle.cds_model.specs.Replica.{Waiting, Listing, Held, Idle, Begun, HasToken, HasNumber, HasRoot, Lists, HasPage, HasCopy, waiting_of, put_rows, put_containers, listing_of, listed_id, listed_children, others_waiting, known_ids, all_new, fits, listed, after_page}
-use Rattle.cds_model.proofs.Merge.{Rises, filter-all}
-use Rattle.cds_model.proofs.Trees.{id_of, all-map, all-map_two, ascend-rises, each-found, found-id, all-at}
-use Rattle.cds_model.proofs.Frontier.{below, known, waits, waiting_at, filter-same, folder-waits}
-use Rattle.cds_model.proofs.Advance.{Stands, nothing-waits, known-first, waiting-first, first-stands}
+use Rattle.cds_model.specs.Replica.{Waiting, Listing, Held, Idle, Begun, HasToken, HasNumber, HasRoot, Lists, HasPage, HasCopy, put_rows, put_containers, listed_id, listed_children, others_waiting, known_ids, all_new, fits, listed, after_page}
+use Rattle.cds_model.proofs.Merge.{Rises}
+use Rattle.cds_model.proofs.Trees.{id_of, all-map, all-map_two, ascend-rises}
+use Rattle.cds_model.proofs.Frontier.{known, waiting_at}
+use Rattle.cds_model.proofs.Advance.{nothing-waits, known-first, waiting-first}
 use Rattle.cds_model.proofs.Whole.{rows-after, waiting-after, apart-child, all-of}
 use Rattle.cds_model.proofs.Pages.{take-all, drop-all, take-rises, drop-rises, filter-rises, front-below, passes-all, all-list_all, rising-new, ids-all, tests-part, front-and-page, front-whole}
 

@@ -1,10 +1,8 @@
 -- A page of a tree's children fits the listing that asks for it.
-use Rattle.std.proofs.Common.{◌≡◌, ℕ, zero, suc, ◌+◌, ◌-◌, ◌<◌, ◌≤◌, ◌==◌, nat_eq, min, List, [], ◌∷◌, ◌++◌, length, take, drop, map, Bool, true, false, cond, not, ◌||◌, ◌&&◌, nat_lt, refl, ap, sym, subst, ◌∙◌, arith, Option, Some, None, inl, inr, length-append}
-use Rattle.std.proofs.lemmas.List.{length-take, length-drop}
+use Rattle.std.proofs.Common.{◌≡◌, ℕ, zero, suc, ◌+◌, ◌<◌, ◌≤◌, nat_eq, List, [], ◌∷◌, ◌++◌, length, take, drop, map, Bool, true, false, cond, not, ◌&&◌, refl, ap, sym, ◌∙◌, arith}
 use Rattle.std.proofs.lemmas.Bool.{ne_eqb, or_from, and_from}
 use Rattle.std.specs.List.{AllByRecursion, filter, list_all, list_any}
 use Rattle.cds_object.specs.Object.{ObjectRow}
-use Rattle.cds_object.specs.Tree.{row_of, is_child_of, children_of, IsTree}
 use Rattle.cds_model.specs.Replica.{all_new}
 use Rattle.cds_model.proofs.Merge.{Rises, filter-all}
 use Rattle.cds_model.proofs.Trees.{id_of, all-map, all-map_two}

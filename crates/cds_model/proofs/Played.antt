@@ -1,5 +1,5 @@
 -- The report of a script is that of its turns and its last line, and what an ask that writes `behind load` says.
-use Rattle.std.proofs.Common.{◌≡◌, ℕ, zero, suc, ◌+◌, List, [], ◌∷◌, ◌++◌, length, take, drop, reverse, Bool, true, false, cond, not, ◌&&◌, refl, ap, sym, subst, ◌∙◌, arith, append_assoc, Option, Some, None}
+use Rattle.std.proofs.Common.{◌≡◌, ℕ, suc, ◌+◌, List, [], ◌∷◌, length, take, drop, reverse, Bool, true, false, cond, not, ◌&&◌, refl, ap, sym, ◌∙◌, arith, append_assoc, Option, Some, None}
 use Rattle.std.specs.Prelude.{nat_le, codes}
 use Rattle.std.specs.List.{filter_map, cons_option, take_while, prefix_len}
 use Rattle.std.proofs.lemmas.List.Sums.{take_while-cons}
@@ -7,13 +7,12 @@ use mathlib.Core.List.{reverse_aux}
 use Rattle.cds_model.specs.declared.turn.Meaning.{Meaning}
 use Rattle.cds_model.specs.declared.turn.Meaning.TheVariants.{Nothing, Means, Outside}
 use Rattle.cds_model.specs.declared.turn.Turn.{Turn}
-use Rattle.cds_model.specs.declared.turn.Turn.TheVariants.{Ask}
 use Rattle.cds_model.specs.declared.exchange.Says.{Says}
 use Rattle.cds_model.specs.declared.exchange.Says.TheVariants.{BehindLoad, Stands}
 use Rattle.cds_model.specs.Script.{lines_of, ended_lines, script_limit, meaning_of}
 use Rattle.cds_model.specs.Replica.{held_by, says}
 use Rattle.cds_model.specs.Report.{Ending, written_by, written_first, outside_ending, limit_ending, ending_at, ending_from, script_ending, history_of, replica_turns, answer_text}
-use Rattle.cds_model.specs.Played.{is_long, is_within, is_answered, turn_in, report_of, stop_at, reports_are_of_turns, BoundsLoads, all_turns_bound_loads}
+use Rattle.cds_model.specs.Played.{is_long, is_within, is_answered, turn_in, report_of, stop_at, reports_are_of_turns, all_turns_bound_loads}
 use Rattle.cds_model.proofs.Bounded.{loads-bounded}
 
 -- the turns of lines, the oldest first

@@ -1,15 +1,13 @@
 -- Each reply of a server that stands now is taken, and leaves what is held given.
-use Rattle.std.proofs.Common.{◌≡◌, ℕ, zero, suc, ◌+◌, ◌-◌, ◌<◌, ◌≤◌, ◌==◌, nat_eq, min, List, [], ◌∷◌, ◌++◌, length, take, drop, map, Bool, true, false, cond, not, ◌||◌, ◌&&◌, nat_lt, refl, ap, sym, subst, ◌∙◌, arith, Option, Some, None, inl, inr}
-use Rattle.std.specs.Prelude.{◌⊎◌}
+use Rattle.std.proofs.Common.{◌≡◌, ℕ, ◌≤◌, nat_eq, List, length, take, drop, Bool, true, false, cond, refl, ap, sym, subst, ◌∙◌, arith, Option, Some, None}
 use Rattle.std.proofs.lemmas.Bool.{eq-eqb, eqb-true, and_from}
 use Rattle.cds_object.specs.Object.{ObjectRow, is_folder}
-use Rattle.cds_object.specs.Tree.{row_of, children_of, is_container_row, IsTree}
+use Rattle.cds_object.specs.Tree.{row_of, children_of, IsTree}
 use Rattle.cds_model.specs.declared.exchange.Ask.{Ask}
 use Rattle.cds_model.specs.declared.exchange.Ask.TheVariants.{Token, Number as AskNumber, Metadata, Children}
-use Rattle.cds_model.specs.declared.exchange.Shown.{Shown}
-use Rattle.cds_model.specs.declared.exchange.Shown.TheVariants.{Text, Number, Page, Fault}
+use Rattle.cds_model.specs.declared.exchange.Shown.TheVariants.{Page, Fault}
 use Rattle.cds_model.specs.Server.{Moment, page_size, reply_to, metadata_reply, children_reply, update_of}
-use Rattle.cds_model.specs.Replica.{Waiting, Listing, Held, Idle, Begun, HasToken, HasNumber, HasRoot, Lists, HasPage, HasCopy, Taken, Holds, Unreadable, Torn, listing_of, listed_id, fits, after_page, page_taken, root_taken, taken, next_ask}
+use Rattle.cds_model.specs.Replica.{Listing, Held, Idle, Begun, HasToken, HasNumber, HasRoot, Lists, HasPage, HasCopy, Taken, Holds, Torn, listing_of, listed_id, fits, after_page, page_taken, taken, next_ask}
 use Rattle.cds_model.proofs.Trees.{found-id, folder-found}
 use Rattle.cds_model.proofs.Advance.{Stands, first-stands}
 use Rattle.cds_model.proofs.Listings.{IsListing, Follows, page-fits, page-follows}

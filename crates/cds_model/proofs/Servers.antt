@@ -1,15 +1,14 @@
 -- A replica of an honest server takes each reply, and its copy stood.
-use Rattle.std.proofs.Common.{◌≡◌, ℕ, ◌+◌, ◌<◌, ◌≤◌, List, [], ◌∷◌, refl, ap, sym, subst, ◌∙◌, arith, Option, Some, None}
-use Rattle.cds_object.specs.Object.{ObjectRow}
+use Rattle.std.proofs.Common.{◌≡◌, ℕ, ◌≤◌, List, [], ◌∷◌, refl, ap, sym, subst, ◌∙◌, arith, Option, Some, None}
 use Rattle.cds_object.specs.Tree.{IsTree}
 use Rattle.cds_model.specs.declared.exchange.Ask.{Ask as Asked}
 use Rattle.cds_model.specs.declared.exchange.Says.{Says}
 use Rattle.cds_model.specs.declared.exchange.Says.TheVariants.{BehindLoad, Stands}
 use Rattle.cds_model.specs.Server.{Moment, reply_to}
-use Rattle.cds_model.specs.Replica.{Held, Idle, Begun, HasToken, HasNumber, HasRoot, Lists, HasPage, HasCopy, Taken, Holds, held_after, held_by, ReplicaTurn, Begins, Shows, taken, next_ask, says, copied}
+use Rattle.cds_model.specs.Replica.{Held, Idle, Begun, HasToken, HasNumber, HasRoot, Lists, HasPage, HasCopy, held_after, held_by, taken, next_ask, says, copied}
 use Rattle.cds_model.specs.Report.{after_read}
 use Rattle.cds_model.specs.Loads.{IsServer, Entry, Starts, Asks, length_at, NeverFall, given_by, honest_replies_are_taken, honest_copies_stood, loads_end}
-use Rattle.cds_model.proofs.Honest.{IsServed, Had, IsGiven, given-more}
+use Rattle.cds_model.proofs.Honest.{IsServed, IsGiven, given-more}
 use Rattle.cds_model.proofs.Replies.{TakesGiven, reply-given}
 use Rattle.cds_model.proofs.Ends.{load-ends}
 

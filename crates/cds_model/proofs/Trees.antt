@@ -1,10 +1,9 @@
 -- Rows that are a tree, by look-ups of their ids.
-use Rattle.std.proofs.Common.{◌≡◌, ℕ, ◌+◌, ◌<◌, ◌≤◌, ◌==◌, nat_eq, List, [], ◌∷◌, ◌++◌, length, Bool, true, false, cond, ◌||◌, ◌&&◌, nat_lt, refl, ap, sym, subst, ◌∙◌, arith, Option, Some, None}
-use Rattle.std.specs.Prelude.{MatchOption, nat_le}
+use Rattle.std.proofs.Common.{◌≡◌, ℕ, ◌<◌, nat_eq, List, [], ◌∷◌, Bool, true, false, cond, refl, ap, sym, subst, ◌∙◌, arith, Option, Some, None}
 use Rattle.std.proofs.lemmas.Bool.{eq-eqb, ne_eqb, eqb-true}
-use Rattle.std.specs.List.{AllByRecursion, filter, filter_map, cons_option, count_by}
-use Rattle.cds_object.specs.Object.{ObjectRow, IsRow, is_folder}
-use Rattle.cds_object.specs.Tree.{row_of, is_child_of, children_of, is_container_row, IdsAscend, IsHeld, CountsChildren, IsTree}
+use Rattle.std.specs.List.{AllByRecursion}
+use Rattle.cds_object.specs.Object.{ObjectRow, is_folder}
+use Rattle.cds_object.specs.Tree.{row_of, is_container_row, IdsAscend}
 use Rattle.cds_model.proofs.Merge.{Rises}
 
 abbrev pub id_of : ObjectRow → ℕ

@@ -1,13 +1,13 @@
 -- After any turns of a script the replica holds what moments of its server showed, and a copy is the catalog of its number.
-use Rattle.std.proofs.Common.{◌≡◌, ℕ, ◌+◌, ◌<◌, ◌≤◌, nat_lt, List, [], ◌∷◌, ◌++◌, length, Bool, true, false, cond, refl, ap, sym, subst, ◌∙◌, arith, ◌⊎◌, inl, inr, Option, Some, None}
+use Rattle.std.proofs.Common.{◌≡◌, ℕ, ◌≤◌, List, [], ◌∷◌, ◌++◌, Bool, true, false, cond, refl, ap, sym, subst, ◌∙◌, ◌⊎◌, inl, inr, Option, Some, None}
 use Rattle.cds_object.specs.Object.{ObjectRow}
 use Rattle.cds_object.specs.Tree.{IsTree}
 use Rattle.cds_object.specs.declared.record.Record.{Record}
 use Rattle.cds_catalog.specs.Library.{FolderMap, map_of}
 use Rattle.cds_catalog.specs.History.{History, end_of, with_scan}
 use Rattle.cds_catalog.specs.Catalog.{catalog, catalog_at}
-use Rattle.cds_catalog.specs.Laws.{IsLibrary, AreLibraries}
-use Rattle.cds_catalog.specs.Scans.{ScanAnswer, Accepted, BadRecord, TooMany, NoNumbers, bad_record, scan_answer, answer_by, history_by, after_scan, needed_by}
+use Rattle.cds_catalog.specs.Laws.{AreLibraries}
+use Rattle.cds_catalog.specs.Scans.{Accepted, TooMany, NoNumbers, bad_record, answer_by, history_by, after_scan}
 use Rattle.cds_catalog.proofs.Accepted.{accepted_map}
 use Rattle.cds_catalog.proofs.Maps.{older_are_libraries}
 use Rattle.cds_catalog.proofs.Numbers.{ends_rise, catalog_at_end}
@@ -16,7 +16,7 @@ use Rattle.cds_model.specs.declared.turn.Turn.{Turn}
 use Rattle.cds_model.specs.declared.turn.Turn.TheVariants.{Folder, Track, Scan, Load, Read, Ask}
 use Rattle.cds_model.specs.declared.exchange.Ask.{Ask as Asked}
 use Rattle.cds_model.specs.Server.{Moment, reply_to}
-use Rattle.cds_model.specs.Replica.{Held, HasCopy, Taken, Holds, held_after, ReplicaTurn, Begins, Shows, held_by, next_ask, taken}
+use Rattle.cds_model.specs.Replica.{Held, HasCopy, Holds, held_after, ReplicaTurn, Shows, held_by, next_ask, taken}
 use Rattle.cds_model.specs.Report.{records_since, history_of, moment_of, after_read, replica_turns}
 use Rattle.cds_model.specs.Servers.{moment_at}
 use Rattle.cds_model.proofs.Honest.{IsServed, IsGiven, given-more}

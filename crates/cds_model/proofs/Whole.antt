@@ -1,16 +1,16 @@
 -- A whole listing of the first container that waits: its children join the known rows, and its folders those that wait.
-use Rattle.std.proofs.Common.{◌≡◌, ℕ, zero, suc, ◌+◌, ◌<◌, ◌≤◌, ◌==◌, nat_eq, List, [], ◌∷◌, ◌++◌, length, Bool, true, false, cond, ◌||◌, ◌&&◌, nat_lt, refl, ap, sym, subst, ◌∙◌, arith, Option, Some, None, inl, inr}
-use Rattle.std.specs.Prelude.{MatchOption, nat_le, is_some, ◌⊎◌}
-use Rattle.std.proofs.lemmas.Bool.{eq-eqb, ne_eqb, eqb-true, eqb-false, lt-ltb, le-ltb, ltb-true, ltb-false, le-leb, lt-leb, leb-true, leb-false, and_parts, and_from, and_left, and_right, cases_Bool, cases_lt}
+use Rattle.std.proofs.Common.{◌≡◌, ℕ, ◌+◌, ◌<◌, ◌≤◌, nat_eq, List, [], ◌∷◌, Bool, true, false, cond, ◌||◌, ◌&&◌, nat_lt, refl, ap, sym, subst, ◌∙◌, arith, Option, Some, None}
+use Rattle.std.specs.Prelude.{MatchOption, nat_le}
+use Rattle.std.proofs.lemmas.Bool.{ltb-true, ltb-false, le-leb, lt-leb, and_from, and_left, and_right}
 use Rattle.std.proofs.lemmas.Bool.Decides.{nat_tests}
-use Rattle.std.specs.List.{AllByRecursion, filter, filter_map, cons_option, count_by}
-use Rattle.std.specs.Option.{option_eq, option_map}
-use Rattle.cds_object.specs.Object.{ObjectRow, IsRow, is_folder}
-use Rattle.cds_object.specs.Tree.{row_of, is_child_of, children_of, is_container_row, IdsAscend, IsHeld, CountsChildren, IsTree}
-use Rattle.cds_model.specs.Replica.{Waiting, waiting_of, puts_by, put_rows, put_containers}
-use Rattle.cds_model.proofs.Merge.{Rises, Apart, merged, KeepsKey, filter-all, made-above}
-use Rattle.cds_model.proofs.Trees.{id_of, all-map, all-map_two, ascend-rises, each-found, found-id, all-at, folder-found}
-use Rattle.cds_model.proofs.Frontier.{below, known, waits, waiting_at, filter_map-same, filter-same}
+use Rattle.std.specs.List.{AllByRecursion, filter, filter_map, cons_option}
+use Rattle.std.specs.Option.{option_eq}
+use Rattle.cds_object.specs.Object.{ObjectRow}
+use Rattle.cds_object.specs.Tree.{row_of, is_child_of, children_of, is_container_row, IsHeld, IsTree}
+use Rattle.cds_model.specs.Replica.{Waiting, waiting_of, put_rows, put_containers}
+use Rattle.cds_model.proofs.Merge.{Rises, merged, filter-all, made-above}
+use Rattle.cds_model.proofs.Trees.{id_of, all-map, ascend-rises}
+use Rattle.cds_model.proofs.Frontier.{below, known, waits, waiting_at, filter-same}
 use Rattle.cds_model.proofs.Advance.{waiting_id, waiting-keeps}
 
 -- whether a row that passes a test is above an id

@@ -1,6 +1,6 @@
 -- The words of a line: they are text, and each stands at its place.
-use Rattle.std.proofs.Common.{◌≡◌, ℕ, zero, suc, ◌+◌, ◌<◌, ◌≤◌, ◌^◌, List, [], ◌∷◌, length, map, Bool, true, false, not, ◌&&◌, nat_lt, refl, ap, sym, subst, ◌∙◌, arith, Option, Some, None, Result, Ok, Err, slice_index_or, lit<}
-use Rattle.std.specs.Prelude.{nat_le, nat_eq, slice_index}
+use Rattle.std.proofs.Common.{◌≡◌, ℕ, zero, suc, ◌≤◌, ◌^◌, List, [], ◌∷◌, length, map, Bool, true, not, ◌&&◌, refl, ap, arith, Option, Some, None, Result, Ok, Err, slice_index_or, lit<}
+use Rattle.std.specs.Prelude.{nat_le, nat_eq}
 use Rattle.std.specs.Result.{result_ok}
 use Rattle.std.specs.Str.{IsAscii, IsUtf8}
 use Rattle.std.proofs.lemmas.Bool.{and_parts, leb-true}

@@ -1,6 +1,6 @@
 -- Scripts whose reports are evaluated from the definitions, from bytes to status and text.
-use Rattle.std.specs.Prelude.{◌≡◌, ℕ, List, [], ◌∷◌, ◌++◌, codes}
-use Rattle.cds_model.specs.Report.{Ending, script_ending}
+use Rattle.std.specs.Prelude.{◌≡◌, ℕ, List, [], ◌++◌, codes}
+use Rattle.cds_model.specs.Report.{script_ending}
 
 -- what a script leaves
 abbrev pub Leaves : List ℕ → ℕ → List ℕ → Type 0

@@ -1,3 +1,4 @@
+pub mod Attempts
 pub mod Evaluated
 pub mod Loads
 pub mod Played

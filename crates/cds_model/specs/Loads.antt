@@ -1,18 +1,18 @@
 -- How many reads a load takes, and what a replica knows whose replies are those of an honest server: words and laws.
-use Rattle.std.specs.Prelude.{◌≡◌, ◌+◌, ◌*◌, ◌/◌, ◌<◌, ◌≤◌, ◌⊎◌, ℕ, zero, suc, max, Bool, true, false, cond, nat_eq, List, [], ◌∷◌, ◌++◌, length, Option, Some, None, IsSome}
+use Rattle.std.specs.Prelude.{◌≡◌, ◌+◌, ◌*◌, ◌/◌, ◌<◌, ◌≤◌, ◌⊎◌, ℕ, zero, suc, max, Bool, true, false, cond, nat_eq, List, [], ◌∷◌, Option, Some, None, IsSome}
 use Rattle.std.specs.List.{sum_by}
 use Rattle.cds_object.specs.Object.{ObjectRow}
 use Rattle.cds_object.specs.Tree.{IsTree}
 use Rattle.cds_object.specs.declared.row.Trackers.{Trackers}
-use Rattle.cds_catalog.specs.History.{History, end_of}
+use Rattle.cds_catalog.specs.History.{end_of}
 use Rattle.cds_catalog.specs.Catalog.{catalog}
 use Rattle.cds_model.specs.declared.exchange.Ask.{Ask as Asked}
 use Rattle.cds_model.specs.declared.exchange.Says.TheVariants.{BehindLoad, Stands}
 use Rattle.cds_model.specs.declared.turn.Turn.{Turn}
 use Rattle.cds_model.specs.declared.turn.Turn.TheVariants.{Folder, Track, Scan, Load, Read, Ask}
 use Rattle.cds_model.specs.Server.{Moment, reply_to}
-use Rattle.cds_model.specs.Replica.{Held, Begun, HasCopy, Taken, Holds, held_after, held_by, ReplicaTurn, Begins, Shows, taken, next_ask, says, copied}
-use Rattle.cds_model.specs.Report.{history_of, records_since, replica_turns, after_read}
+use Rattle.cds_model.specs.Replica.{Held, Begun, HasCopy, Holds, held_after, held_by, ReplicaTurn, Begins, taken, next_ask, says, copied}
+use Rattle.cds_model.specs.Report.{history_of, replica_turns, after_read}
 
 -- how many pages the listing of an object takes: at least one for a container, none for a track
 abbrev pub pages_for : Option Trackers → ℕ

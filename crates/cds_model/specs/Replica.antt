@@ -4,7 +4,7 @@
 -- A load reads the reset token, the number N, the root's metadata and the number again; then page by page, each
 -- followed by the number, the children of each container, the container of the least id that is not listed yet first.
 -- A number other than N ends the attempt, and the next read begins a new one.
-use Rattle.std.specs.Prelude.{◌≡◌, ◌+◌, ◌-◌, ℕ, Bool, true, false, cond, not, nat_eq, nat_lt, min, ◌&&◌, ◌||◌, List, [], ◌∷◌, ◌++◌, map, length, Option, Some, None}
+use Rattle.std.specs.Prelude.{◌-◌, ℕ, Bool, true, cond, not, nat_eq, nat_lt, min, ◌&&◌, List, [], ◌∷◌, ◌++◌, map, length, Option, Some, None}
 use Rattle.std.specs.List.{list_all, list_any, filter_map}
 use Rattle.std.specs.Option.{option_map}
 use Rattle.cds_object.specs.Object.{ObjectRow, is_folder}

@@ -1,19 +1,16 @@
 -- The report of a script: what its turns write, by the history of the accepted scans and by what the replica's turns
 -- showed it (this project's profile).
-use Rattle.std.specs.Prelude.{◌≡◌, ◌+◌, ℕ, Bool, true, false, cond, nat_lt, nat_le, List, [], ◌∷◌, ◌++◌, length, take, Option, Some, None, codes}
+use Rattle.std.specs.Prelude.{◌+◌, ℕ, Bool, true, false, cond, nat_lt, nat_le, List, [], ◌∷◌, ◌++◌, length, take, Option, Some, None, codes}
 use Rattle.std.specs.Fmt.{decimal}
-use Rattle.cds_object.specs.Object.{ObjectRow}
 use Rattle.cds_object.specs.Path.{name_of}
 use Rattle.cds_object.specs.Fragment.{full_text}
-use Rattle.cds_object.specs.declared.content.Content.{Content}
 use Rattle.cds_object.specs.declared.content.Content.TheVariants.{Folder as AsFolder}
 use Rattle.cds_object.specs.declared.record.Record.{Record}
-use Rattle.cds_catalog.specs.Library.{FolderMap}
 use Rattle.cds_catalog.specs.History.{History, end_of}
 use Rattle.cds_catalog.specs.Catalog.{catalog, catalog_at}
 use Rattle.cds_catalog.specs.Scans.{ScanAnswer, Accepted, BadRecord, TooMany, NoNumbers, scan_answer, after_scan}
 use Rattle.cds_model.specs.Server.{Moment, reply_to}
-use Rattle.cds_model.specs.Replica.{Held, ReplicaTurn, Begins, Shows, held_by, next_ask, says}
+use Rattle.cds_model.specs.Replica.{ReplicaTurn, Begins, Shows, held_by, next_ask, says}
 use Rattle.cds_model.specs.Script.{meaning_of, lines_of, ended_lines, script_limit, line_limit}
 use Rattle.cds_model.specs.declared.turn.Meaning.{Meaning}
 use Rattle.cds_model.specs.declared.turn.Meaning.TheVariants.{Nothing, Means, Outside}

@@ -1,5 +1,5 @@
 -- A script: lines ended by LF, each of words parted by one space, and what each line means (this project's profile).
-use Rattle.std.specs.Prelude.{◌≡◌, ◌+◌, ◌-◌, ◌^◌, ℕ, Bool, true, false, cond, nat_eq, nat_lt, nat_le, ◌&&◌, ◌||◌, not, List, [], ◌∷◌, ◌++◌, length, take, Option, Some, None, Result, Ok, Err, codes}
+use Rattle.std.specs.Prelude.{◌+◌, ◌^◌, ℕ, Bool, cond, nat_eq, nat_lt, nat_le, ◌&&◌, not, List, [], ◌∷◌, length, Option, Some, None, Result, Ok, Err, codes}
 use Rattle.std.specs.List.{slice_split, list_all, onto_first}
 use Rattle.std.specs.Option.{option_and_then}
 use Rattle.cds_base.specs.Number.{plain_below}

@@ -1,5 +1,5 @@
 -- What a server replies at a moment (UPnP ContentDirectory:4 on Browse, GetSystemUpdateID and the reset token).
-use Rattle.std.specs.Prelude.{◌≡◌, ◌+◌, ℕ, Bool, cond, nat_eq, List, [], ◌∷◌, length, take, drop, Option, Some, None, unwrap_or}
+use Rattle.std.specs.Prelude.{ℕ, cond, nat_eq, List, [], ◌∷◌, length, take, drop, Option, Some, None, unwrap_or}
 use Rattle.cds_object.specs.Object.{ObjectRow, is_folder}
 use Rattle.cds_object.specs.Tree.{row_of, children_of}
 use Rattle.cds_object.specs.declared.row.Trackers.{Trackers}

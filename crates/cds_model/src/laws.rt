@@ -1,5 +1,6 @@
 //! Laws of loads: each clause is one of them.
 
+ghost use Rattle.cds_model.specs.Attempts as attempts;
 ghost use Rattle.cds_model.specs.Loads as laws;
 ghost use Rattle.cds_model.specs.Played as played;
 ghost use Rattle.cds_model.specs.Seen as seen;
@@ -15,6 +16,12 @@ pub fn loads_end()
 /// scans.
 pub fn histories_are_servers()
     ensures { servers.histories_are_servers }
+{}
+
+/// The server of a script is that of its history: after each of its turns it has what the history's server has after as
+/// many scans as were accepted by then.
+pub fn moments_are_of_histories()
+    ensures { servers.moments_are_of_histories }
 {}
 
 /// No reply of an honest server is refused.
@@ -48,4 +55,32 @@ pub fn reports_are_of_turns()
 /// In the report of any turns each line `behind load` obeys the bound on loads.
 pub fn all_turns_bound_loads()
     ensures { played.all_turns_bound_loads }
+{}
+
+/// The next ask is that of the attempt that runs, by the replies that were taken since the load began or the number last
+/// changed, whatever server replied.
+pub fn asks_are_of_attempts()
+    ensures { attempts.asks_are_of_attempts }
+{}
+
+/// Exactly the replies are refused that the attempt refuses: a reply of another kind than the ask's; a row in place of the
+/// root's; and a page that cannot be, at the number after it.
+pub fn refusals_are_of_attempts()
+    ensures { attempts.refusals_are_of_attempts }
+{}
+
+/// A copy stands exactly where the attempt is complete: where it has as many replies as a load of the rows that it showed
+/// takes. It stands at the attempt's number.
+pub fn answers_are_of_attempts()
+    ensures { attempts.answers_are_of_attempts }
+{}
+
+/// The rows of a copy are those that the attempt showed, in ascending order of ids.
+pub fn copies_are_of_attempts()
+    ensures { attempts.copies_are_of_attempts }
+{}
+
+/// In an attempt each even reply is the number that was shown first.
+pub fn even_replies_are_the_number()
+    ensures { attempts.even_replies_are_the_number }
 {}

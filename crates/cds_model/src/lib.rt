@@ -14,8 +14,10 @@ pub use evaluated::{
 };
 pub use exchange::{Ask, Read, Says, Shown};
 pub use laws::{
-    all_turns_bound_loads, copied_rows_were_shown, histories_are_servers, honest_copies_stood,
-    honest_replies_are_taken, loads_are_bounded, loads_end, reports_are_of_turns,
+    all_turns_bound_loads, answers_are_of_attempts, asks_are_of_attempts, copied_rows_were_shown,
+    copies_are_of_attempts, even_replies_are_the_number, histories_are_servers,
+    honest_copies_stood, honest_replies_are_taken, loads_are_bounded, loads_end,
+    moments_are_of_histories, refusals_are_of_attempts, reports_are_of_turns,
 };
 pub use line::read_line;
 pub use turn::{Meaning, Turn};

@@ -4,6 +4,7 @@ ghost use Rattle.std.specs.Prelude.{◌≡◌, ℕ, ◌+◌, ◌-◌, ◌<◌, �
 ghost use Rattle.cds_base.specs.Outside.{raised, Rose, WhereTold};
 ghost use Rattle.cds_model.specs.Script.{is_unbroken, line_limit, script_limit};
 ghost use Rattle.cds_model.specs.Report.{Ending, outside_ending, script_ending};
+ghost use Rattle.cds_model.specs.Played.{script_turns, script_stop, IsReportOf, BoundsLoads};
 ghost use Rattle.cds_replay.specs.Script.{left_in, Sound, GoesOn};
 ghost use Rattle.cds_replay.specs.Replay.{OnLine, OnLimit, OnReadFault, OnWriteFault, Holds, EndsIn, Played, Stopped, answer_of};
 
@@ -49,6 +50,9 @@ impl From<Mem> for ReplayError {
 
 /// Plays the script that a source gives and writes its report. The answer of a line is written before the next line is
 /// looked at. However the replay ends, it takes at most one byte more of the source than a script may have (`taken`).
+///
+/// The report is what the script's turns write, one after the other, and then its last line (`turns`); each line `behind
+/// load` in it obeys the bound on loads (`load_bound`).
 pub fn replay<S: Source, K: Sink>(
     alloc: Global,
     source: &mut S,
@@ -69,7 +73,11 @@ pub fn replay<S: Source, K: Sink>(
     ensures taken { S.moved source.new ≤ S.moved source.old + 67108865 }
     ensures source_faults { S.faults source.old ≤ S.faults source.new }
     ensures sink_faults { K.faults sink.old ≤ K.faults sink.new }
+    ensures turns { WhereTold (S.left source.old) (λ script. IsReportOf (script_turns script) (script_stop script) (script_ending script)) }
+    ensures load_bound { WhereTold (S.left source.old) (λ script. BoundsLoads (script_turns script)) }
 {
+    cds_model::reports_are_of_turns();
+    cds_model::all_turns_bound_loads();
     let mut script = Script::new(alloc)?;
     let mut buffer = empty_piece(alloc)?;
     play_on(alloc, &mut script, buffer.as_mut_slice(), source, sink)

@@ -6,15 +6,6 @@ use std::alloc::Global;
 use std::cell::Cell;
 use std::test::Fail;
 
-/// A script, the reads and writes that fail, the answer and what the sink holds.
-type Case<'a> = (
-    &'a str,
-    &'a [u32],
-    &'a [u32],
-    Result<(), ReplayError>,
-    &'a str,
-);
-
 /// A comment of so many bytes, with its LF.
 fn comment(alloc: Global, size: usize) -> Result<String, Fail> {
     let mut line = String::new(alloc);
@@ -25,62 +16,89 @@ fn comment(alloc: Global, size: usize) -> Result<String, Fail> {
     Ok(line)
 }
 
+/// The answer to a script and what the sink holds then, where these reads and these writes fail, counted from 1.
+fn played(
+    alloc: Global,
+    script: &str,
+    reads: &[u32],
+    writes: &[u32],
+) -> Result<(Result<(), ReplayError>, Vec<u8>), Fail> {
+    let bytes = Bytes::from(Vec::from_slice(alloc, script.as_bytes())?);
+    let mut source = MemSource::new(bytes, Numbers::from(Vec::from_slice(alloc, reads)?));
+    let mut sink = MemSink::new(
+        Bytes::new(alloc),
+        Numbers::from(Vec::from_slice(alloc, writes)?),
+    );
+    let answer = replay(alloc, &mut source, &mut sink);
+    Ok((answer, Vec::from_slice(alloc, sink.as_slice())?))
+}
+
 #[test]
 fn scripts_from_bytes_to_bytes(rt: HostRuntime) -> Result<(), Fail> {
     let alloc = rt.alloc();
-    let longest = comment(alloc, 4096)?;
-    let too_long = comment(alloc, 4097)?;
-    let cases: [Case; 10] = [
-        ("", &[], &[], Ok(()), ""),
-        ("ask", &[], &[], Ok(()), "behind load\n"),
-        (
-            "ask\n#\n\nscan\n",
-            &[],
-            &[],
-            Ok(()),
-            "behind load\nscan 0\n",
-        ),
+    let cases: [(&str, Result<(), ReplayError>, &str); 5] = [
+        ("", Ok(()), ""),
+        ("ask", Ok(()), "behind load\n"),
+        ("ask\n#\n\nscan\n", Ok(()), "behind load\nscan 0\n"),
         (
             "# The lines before a broken one are answered.\nask\nfolder ../outside\nask\n",
-            &[],
-            &[],
             Err(ReplayError::Line { line: 3 }),
             "behind load\nerror line 3\n",
         ),
         (
             "read\nask ",
-            &[],
-            &[],
             Err(ReplayError::Line { line: 2 }),
             "read none\nerror line 2\n",
         ),
-        (longest.as_str(), &[], &[], Ok(()), ""),
-        (
-            too_long.as_str(),
-            &[],
-            &[],
-            Err(ReplayError::Limit),
-            "error limit\n",
-        ),
-        ("ask\n", &[1], &[], Err(ReplayError::ReadFault), ""),
+    ];
+    for (script, answer, report) in cases {
+        let (given, written) = played(alloc, script, &[], &[])?;
+        assert!(rt;
+            given == answer && written.as_slice() == report.as_bytes(),
+            "{script}"
+        );
+    }
+    Ok(())
+}
+
+#[test]
+fn the_longest_line(rt: HostRuntime) -> Result<(), Fail> {
+    let alloc = rt.alloc();
+    let cases: [(usize, Result<(), ReplayError>, &str); 2] = [
+        (4096, Ok(()), ""),
+        (4097, Err(ReplayError::Limit), "error limit\n"),
+    ];
+    for (size, answer, report) in cases {
+        let line = comment(alloc, size)?;
+        let (given, written) = played(alloc, line.as_str(), &[], &[])?;
+        assert!(rt;
+            given == answer && written.as_slice() == report.as_bytes(),
+            "{size}"
+        );
+    }
+    Ok(())
+}
+
+#[test]
+fn reads_and_writes_that_fail(rt: HostRuntime) -> Result<(), Fail> {
+    let alloc = rt.alloc();
+    let cases: [(&str, &[u32], &[u32], ReplayError, &str); 3] = [
+        ("ask\n", &[1], &[], ReplayError::ReadFault, ""),
         (
             "ask\nread",
             &[2],
             &[],
-            Err(ReplayError::ReadFault),
+            ReplayError::ReadFault,
             "behind load\n",
         ),
-        ("ask\n", &[], &[1], Err(ReplayError::WriteFault), ""),
+        ("ask\n", &[], &[1], ReplayError::WriteFault, ""),
     ];
-    for (script, reads, writes, answer, report) in cases {
-        let bytes = Bytes::from(Vec::from_slice(alloc, script.as_bytes())?);
-        let mut source = MemSource::new(bytes, Numbers::from(Vec::from_slice(alloc, reads)?));
-        let mut sink = MemSink::new(
-            Bytes::new(alloc),
-            Numbers::from(Vec::from_slice(alloc, writes)?),
+    for (script, reads, writes, fault, report) in cases {
+        let (given, written) = played(alloc, script, reads, writes)?;
+        assert!(rt;
+            given == Err(fault) && written.as_slice() == report.as_bytes(),
+            "{script}"
         );
-        assert!(rt; replay(alloc, &mut source, &mut sink) == answer, "{script}");
-        assert!(rt; sink.as_slice() == report.as_bytes(), "{script}");
     }
     Ok(())
 }

@@ -1,6 +1,7 @@
 -- What a replica answers to a reply.
 use Rattle.std.specs.Prelude.{◌≡◌, List, [], ◌∷◌, Option, Some, None, Result, Ok, Err}
 use Rattle.cds_model.specs.Replica.{Held, Taken, Holds, Unreadable as CannotBeRead, Torn as CannotBe, ReplicaTurn, Shows, held_by}
+use Rattle.cds_model.specs.Attempts.{Verdict, Fine, CannotBeRead as Unread, CannotBe as NoSuch}
 use Rattle.cds_model.specs.declared.exchange.Shown.{Shown}
 use Rattle.cds_model.specs.declared.exchange.Shown.TheVariants.{Text, Number, Page, Fault}
 use Rattle.cds_model.specs.declared.exchange.Read.{Read}
@@ -33,6 +34,13 @@ UnlessMem (Err Mem) fact = Unit {0}
 -- what stood for some turns stands for them and this reply
 abbrev pub GoesOn : Held → Shown → Held → Type 0
 GoesOn old shown new = (turns : List ReplicaTurn) → old ≡ held_by turns → new ≡ held_by (Shows shown ∷ turns)
+
+-- an answer is the verdict on a reply; a want of memory may stand in its place
+abbrev pub IsVerdict : Verdict → Result Read AnswerError → Type 0
+IsVerdict verdict (Ok read) = verdict ≡ Fine
+IsVerdict verdict (Err Unreadable) = verdict ≡ Unread
+IsVerdict verdict (Err (Torn id)) = verdict ≡ NoSuch id
+IsVerdict verdict (Err Mem) = Unit {0}
 
 -- the item of a list, where there is only one
 abbrev pub only : {X : Type 0} → List X → Option X

@@ -1,4 +1,4 @@
-use Rattle.std.proofs.Common.{◌≡◌, ℕ, List, map, Bool, true, false, cond, Bor, sym, ap, ◌∙◌}
+use Rattle.std.proofs.Common.{◌≡◌, ℕ, List, map, true, false, cond, Bor, sym, ap, ◌∙◌}
 use Rattle.std.specs.List.{list_all}
 use Rattle.cds_model.specs.Script.{is_word, words_of, turn_of, meaning_of_turn}
 use Rattle.cds_model.specs.declared.turn.Meaning.TheVariants.{Outside}

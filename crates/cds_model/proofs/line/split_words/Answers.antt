@@ -1,4 +1,4 @@
-use Rattle.std.proofs.Common.{nat_eq, refl, rules}
+use Rattle.std.proofs.Common.{nat_eq, rules}
 use Rattle.std.proofs.lemmas.Iterator.Splits.{YieldsList-from_slice_split}
 use Rattle.std.proofs.lemmas.Iterator.Consumers.{map_from_collect}
 use Rattle.cds_model.proofs.line.split_words.Goals as goal

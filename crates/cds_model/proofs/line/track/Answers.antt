@@ -1,10 +1,9 @@
-use Rattle.std.proofs.Common.{◌≡◌, ◌^◌, ℕ, List, [], map, length, Bor, Option, Some, None, slice_index_or, sym, ap, ◌∙◌, arith}
-use Rattle.std.specs.Result.{result_ok}
+use Rattle.std.proofs.Common.{◌≡◌, ◌^◌, ℕ, List, [], map, length, Bor, Some, None, slice_index_or, sym, ap, ◌∙◌}
 use Rattle.cds_base.specs.Number.{plain_below}
 use Rattle.cds_object.specs.Path.{path_read}
 use Rattle.cds_object.specs.ContentOf.{track_of}
 use Rattle.cds_model.specs.declared.turn.Turn.TheVariants.{Track}
-use Rattle.cds_model.specs.Script.{track_line, track_turn, info_from, number_from_to}
+use Rattle.cds_model.specs.Script.{track_turn, info_from, number_from_to}
 use Rattle.cds_model.proofs.Words.{track-words, track-others, track_turn-no_size, track_turn-no_info, ok-there, map-length}
 use Rattle.cds_model.proofs.line.track.Goals as goal
 

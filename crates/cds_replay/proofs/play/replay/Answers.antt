@@ -1,6 +1,11 @@
 -- What the bytes of a source mean as a script is what the replay of them does.
+use Rattle.std.proofs.Common.{◌+◌, ◌-◌, ◌≤◌, IfErr, subst}
 use Rattle.std.proofs.lemmas.Result.{on_ok_weaker}
+use Rattle.cds_base.specs.Outside.{raised}
+use Rattle.cds_model.specs.Played.{script_turns}
 use Rattle.cds_model.specs.Report.{script_ending}
+use Rattle.cds_model.specs.Script.{line_limit, script_limit}
+use Rattle.cds_replay.specs.Replay.{OnLimit}
 use Rattle.cds_replay.proofs.Playing.{ok-told, line-told, limit-told}
 use Rattle.cds_replay.proofs.play.replay.Goals as goal
 
@@ -47,3 +52,17 @@ returns-clause-limit_report g c =
     limit-told c.play_on.result _ _ _ script_ending _
     (λ bytes told. c.play_on.ensures.stops script_ending bytes c.in_ok-script.ensures.goes told)
     (λ bytes stops. stops.held)
+
+pub returns-clause-limit_moved : goal.returns-clause-limit_moved
+returns-clause-limit_moved g c =
+    subst (λ n. IfErr c.play_on.result (λ e. OnLimit e (raised (g.S.Source.moved c.args.source.now) (n + line_limit + 1 - script_limit) ≤ g.S.Source.moved c.play_on.new.source)))
+    c.in_ok-script.ensures.left c.play_on.ensures.limit
+
+pub returns-clause-load_bound : goal.returns-clause-load_bound
+returns-clause-load_bound g c = λ bytes told. c.all_turns_bound_loads.ensures (script_turns bytes)
+
+pub returns-in_err-script-clause-load_bound : goal.returns-in_err-script-clause-load_bound
+returns-in_err-script-clause-load_bound g c = λ bytes told. c.all_turns_bound_loads.ensures (script_turns bytes)
+
+pub returns-in_err-buffer-clause-load_bound : goal.returns-in_err-buffer-clause-load_bound
+returns-in_err-buffer-clause-load_bound g c = λ bytes told. c.all_turns_bound_loads.ensures (script_turns bytes)
