@@ -5,7 +5,8 @@
 #   (goal per doubling: at most 4.5 times in time and 2.1 in memory, and below 2 s at 4,000);
 # - ten scans of these numbers of tracks with 2 % changed in each, with the growth per doubling;
 # - peak memory after 40 scans of the same 2,000 tracks against one (goal: at most 1.2 times);
-# - peak memory of 20 loads against one (goal: at most 1.2 times).
+# - peak memory of 20 loads against one (goal: at most 1.2 times);
+# - peak memory of 20 asks that come in one piece against one (goal: at most 1.2 times).
 # Needs bash, python3 and GNU time (/usr/bin/time), which tells the program's own peak memory.
 set -eu
 top=$(cd "$(dirname "$0")/.." && pwd)
@@ -45,6 +46,7 @@ write("scans1", tracks(2000) + ["scan"])
 write("scans40", (tracks(2000) + ["scan"]) * 40)
 write("loads1", tracks(2000) + ["scan"] + ["load"] + ["read"] * reads(2000) + ["ask"])
 write("loads20", tracks(2000) + ["scan"] + (["load"] + ["read"] * reads(2000)) * 20 + ["ask"])
+write("asks20", tracks(2000) + ["scan"] + ["load"] + ["read"] * reads(2000) + ["ask"] * 20)
 PY
 
 python3 - "$work" "$program" <<'PY'
@@ -92,7 +94,7 @@ for count in (500, 1000, 2000, 4000):
     grown = "" if before is None else f", {now[0] / before[0]:.2f} times in time and {now[2] / before[2]:.2f} in memory"
     print(f"ten scans of {count} tracks, 2 % changed in each: {now[0] * 1000:.1f} ms, {now[2]:.2f} MB{grown}")
     before = now
-for many, one in (("scans40", "scans1"), ("loads20", "loads1")):
+for many, one in (("scans40", "scans1"), ("loads20", "loads1"), ("asks20", "loads1")):
     a, b = measured(play, many, 3), measured(play, one, 3)
     print(f"{many} against {one}: {a[2]:.2f} MB and {b[2]:.2f} MB, {a[2] / b[2]:.2f} times; {a[0] * 1000:.0f} ms and {b[0] * 1000:.0f} ms")
 PY
