@@ -4,6 +4,7 @@ ghost use Rattle.std.specs.Prelude.{◌≡◌, ◌≢◌, ◌⊎◌, ◌≤◌, 
 ghost use Rattle.cds_base.specs.Outside.{raised, Rose, WhereTold};
 ghost use Rattle.cds_model.specs.Report.{script_ending};
 ghost use Rattle.cds_model.specs.Played.{script_turns, script_stop, IsReportOf, BoundsLoads};
+ghost use Rattle.cds_model.specs.Stood.{StandsAtScanEnds};
 ghost use Rattle.cds_cli.specs.Command.{command_of, help_text, version_text, usage_text};
 ghost use Rattle.cds_cli.specs.Run.{Ends, Writes, EndsText, WritesText};
 ghost use Rattle.cds_cli.specs.declared.command.Command.TheVariants.{Replay, Help, Version};
@@ -63,6 +64,7 @@ fn play<S: Source, K: Sink>(alloc: Global, source: &mut S, sink: &mut K) -> u8
     ensures known { (result ≡ 5 → ⊥) × (result ≤ 6) }
     ensures turns { WhereTold (S.left source.old) (λ bytes. IsReportOf (script_turns bytes) (script_stop bytes) (script_ending bytes)) }
     ensures load_bound { WhereTold (S.left source.old) (λ bytes. BoundsLoads (script_turns bytes)) }
+    ensures stands { WhereTold (S.left source.old) (λ bytes. StandsAtScanEnds (script_turns bytes)) }
 {
     match replay(alloc, source, sink) {
         Ok(()) => 0,
@@ -97,6 +99,10 @@ pub fn run<S: Source, K: Sink>(alloc: Global, words: &Words, source: &mut S, sin
     // more, since the load began and the catalog last changed.
     ensures turns { command_of words.now ≡ Some Replay → WhereTold (S.left source.old) (λ bytes. IsReportOf (script_turns bytes) (script_stop bytes) (script_ending bytes)) }
     ensures load_bound { command_of words.now ≡ Some Replay → WhereTold (S.left source.old) (λ bytes. BoundsLoads (script_turns bytes)) }
+
+    // Each ask of these turns that writes `stands` and a number writes a scan end of the scans that were accepted by then, and
+    // after it the rows of the catalog after the scans up to this one.
+    ensures stands { command_of words.now ≡ Some Replay → WhereTold (S.left source.old) (λ bytes. StandsAtScanEnds (script_turns bytes)) }
 
     // Faults of the outside come only where their count rose.
     ensures read_fault { result ≡ 2 → Rose (S.faults source.old) (S.faults source.new) }

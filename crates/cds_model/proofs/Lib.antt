@@ -6,6 +6,7 @@ pub mod Counts
 pub mod Ends
 pub mod Frontier
 pub mod Honest
+pub mod LineLaws
 pub mod Lines
 pub mod Listings
 pub mod Merge
@@ -17,6 +18,7 @@ pub mod Replies
 pub mod Seen
 pub mod Servers
 pub mod ServersOf
+pub mod Stood
 pub mod Traces
 pub mod Trees
 pub mod Turns

@@ -8,27 +8,27 @@ use Rattle.cds_model.specs.Script.{lines_of, ended_lines, onto_line, is_unbroken
 use Rattle.cds_model.specs.Report.{Ending, limit_ending, ending_at, ending_from, ending_of}
 
 -- bytes without an LF, and one more line behind them
-lines-append : (line after : List ℕ) → is_unbroken line ≡ true → lines_of (line ++ 10 ∷ after) ≡ line ∷ lines_of after
+pub lines-append : (line after : List ℕ) → is_unbroken line ≡ true → lines_of (line ++ 10 ∷ after) ≡ line ∷ lines_of after
 lines-append [] after whole = refl
 lines-append (b ∷ line) after whole =
     ap (λ c. cond c ([] ∷ lines_of (line ++ 10 ∷ after)) (onto_first b (lines_of (line ++ 10 ∷ after)))) (not-true (nat_eq b 10) (and_parts _ _ whole).0)
     ∙ ap (onto_first b) (lines-append line after (and_parts _ _ whole).1)
 
-ended-append : (line after : List ℕ) → is_unbroken line ≡ true → ended_lines (line ++ 10 ∷ after) ≡ line ∷ ended_lines after
+pub ended-append : (line after : List ℕ) → is_unbroken line ≡ true → ended_lines (line ++ 10 ∷ after) ≡ line ∷ ended_lines after
 ended-append [] after whole = refl
 ended-append (b ∷ line) after whole =
     ap (λ c. cond c ([] ∷ ended_lines (line ++ 10 ∷ after)) (onto_line b (ended_lines (line ++ 10 ∷ after)))) (not-true (nat_eq b 10) (and_parts _ _ whole).0)
     ∙ ap (onto_line b) (ended-append line after (and_parts _ _ whole).1)
 
 -- bytes without an LF end no line
-ended-none : (bytes : List ℕ) → is_unbroken bytes ≡ true → ended_lines bytes ≡ []
+pub ended-none : (bytes : List ℕ) → is_unbroken bytes ≡ true → ended_lines bytes ≡ []
 ended-none [] whole = refl
 ended-none (b ∷ bytes) whole =
     ap (λ c. cond c ([] ∷ ended_lines bytes) (onto_line b (ended_lines bytes))) (not-true (nat_eq b 10) (and_parts _ _ whole).0)
     ∙ ap (onto_line b) (ended-none bytes (and_parts _ _ whole).1)
 
 -- and are one line, if there are any
-lines-last : (b : ℕ) (bytes : List ℕ) → is_unbroken (b ∷ bytes) ≡ true → lines_of (b ∷ bytes) ≡ (b ∷ bytes) ∷ []
+pub lines-last : (b : ℕ) (bytes : List ℕ) → is_unbroken (b ∷ bytes) ≡ true → lines_of (b ∷ bytes) ≡ (b ∷ bytes) ∷ []
 lines-last b [] whole = ap (λ c. cond c ([] ∷ []) (onto_first b [])) (not-true (nat_eq b 10) (and_parts _ _ whole).0)
 lines-last b (next ∷ bytes) whole =
     ap (λ c. cond c ([] ∷ lines_of (next ∷ bytes)) (onto_first b (lines_of (next ∷ bytes)))) (not-true (nat_eq b 10) (and_parts _ _ whole).0)

@@ -32,7 +32,7 @@ fewer-ends first n m maps low =
     same (rest-ends first (n - m) (drop m maps))
 
 -- and their catalog is that of their number
-rest-catalog : (first n : ℕ) (maps : List FolderMap) → AreLibraries maps →
+pub rest-catalog : (first n : ℕ) (maps : List FolderMap) → AreLibraries maps →
     catalog_at first maps (end_of (record { first = first; maps = drop n maps })) ≡ catalog (record { first = first; maps = drop n maps })
 rest-catalog first n maps all =
     ap (λ (v : List FolderMap). catalog_at first v (end_of (record { first = first; maps = drop n maps }))) (sym (take-append-drop n maps))

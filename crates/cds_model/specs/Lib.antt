@@ -1,5 +1,6 @@
 pub mod Attempts
 pub mod Evaluated
+pub mod LineLaws
 pub mod Loads
 pub mod Played
 pub mod Replica
@@ -8,3 +9,4 @@ pub mod Script
 pub mod Seen
 pub mod Server
 pub mod Servers
+pub mod Stood

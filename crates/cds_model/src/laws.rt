@@ -5,6 +5,7 @@ ghost use Rattle.cds_model.specs.Loads as laws;
 ghost use Rattle.cds_model.specs.Played as played;
 ghost use Rattle.cds_model.specs.Seen as seen;
 ghost use Rattle.cds_model.specs.Servers as servers;
+ghost use Rattle.cds_model.specs.Stood as stood;
 
 /// A load from a server whose number stays ends after exactly the reads that it takes, with the server's rows, and runs
 /// until then.
@@ -55,6 +56,18 @@ pub fn reports_are_of_turns()
 /// In the report of any turns each line `behind load` obeys the bound on loads.
 pub fn all_turns_bound_loads()
     ensures { played.all_turns_bound_loads }
+{}
+
+/// In a script a replica stands at a scan end of the scans that were accepted, and its copy is the catalog after the scans
+/// up to it.
+pub fn copies_are_of_scan_ends()
+    ensures { stood.copies_are_of_scan_ends }
+{}
+
+/// In the report of any turns each line `stands` tells a scan end of the scans that were accepted by then, and after it come
+/// the rows of the catalog after the scans up to it.
+pub fn all_turns_stand_at_scan_ends()
+    ensures { stood.all_turns_stand_at_scan_ends }
 {}
 
 /// The next ask is that of the attempt that runs, by the replies that were taken since the load began or the number last

@@ -6,6 +6,7 @@ mod evaluated;
 mod exchange;
 mod laws;
 mod line;
+mod line_laws;
 mod turn;
 
 pub use evaluated::{
@@ -14,10 +15,12 @@ pub use evaluated::{
 };
 pub use exchange::{Ask, Read, Says, Shown};
 pub use laws::{
-    all_turns_bound_loads, answers_are_of_attempts, asks_are_of_attempts, copied_rows_were_shown,
-    copies_are_of_attempts, even_replies_are_the_number, histories_are_servers,
-    honest_copies_stood, honest_replies_are_taken, loads_are_bounded, loads_end,
-    moments_are_of_histories, refusals_are_of_attempts, reports_are_of_turns,
+    all_turns_bound_loads, all_turns_stand_at_scan_ends, answers_are_of_attempts,
+    asks_are_of_attempts, copied_rows_were_shown, copies_are_of_attempts, copies_are_of_scan_ends,
+    even_replies_are_the_number, histories_are_servers, honest_copies_stood,
+    honest_replies_are_taken, loads_are_bounded, loads_end, moments_are_of_histories,
+    refusals_are_of_attempts, reports_are_of_turns,
 };
 pub use line::read_line;
+pub use line_laws::{ended_lines_are_read, last_lines_are_read, scripts_are_lines};
 pub use turn::{Meaning, Turn};

@@ -1,24 +1,27 @@
 -- A replica of an honest server, and what any replica was shown.
-use Rattle.std.proofs.Common.{◌≡◌, ℕ, List, [], ◌∷◌, zero, suc, refl, ap, sym, subst, ◌∙◌, Bor, length, get_or, ◌<◌, ◌≤◌, arith, Option, Some, None, Result, Ok, Err}
+use Rattle.std.proofs.Common.{◌≡◌, ℕ, List, [], ◌∷◌, zero, suc, refl, ap, sym, subst, ◌∙◌, Bor, length, get_or, ◌-◌, ◌<◌, ◌≤◌, arith, Option, Some, None, Result, Ok, Err}
 use Rattle.std.specs.Prelude.{MatchOption, IfSome}
 use Rattle.std.specs.Option.{option_map}
 use Rattle.std.specs.List.{AllByRecursion}
 use Rattle.cds_object.specs.Object.{ObjectRow}
+use Rattle.cds_catalog.specs.Catalog.{catalog_at}
 use Rattle.cds_model.specs.Server.{reply_to}
 use Rattle.cds_model.specs.Replica.{Held, Taken, Holds, Unreadable as CannotBeRead, Torn as CannotBe, held_after, held_by, taken, next_ask, says, copied, ReplicaTurn}
 use Rattle.cds_model.specs.Report.{after_read}
 use Rattle.cds_model.specs.Loads.{given_by}
+use Rattle.cds_model.specs.Servers.{server_of}
 use Rattle.cds_model.specs.Seen.{WasShown}
 use Rattle.cds_model.specs.declared.exchange.Ask.{Ask as Asked}
 use Rattle.cds_model.specs.declared.exchange.Shown.{Shown}
 use Rattle.cds_model.specs.declared.exchange.Says.{Says}
 use Rattle.cds_model.specs.declared.exchange.Read.{Read}
 use Rattle.cds_model.proofs.Servers.{replies-taken, copies-stood}
+use Rattle.cds_model.proofs.ServersOf.{histories-serve, rest-catalog}
 use Rattle.cds_model.proofs.Seen.{copied-shown}
 use Rattle.cds_replica.specs.declared.error.AnswerError.{AnswerError}
 use Rattle.cds_replica.specs.declared.error.AnswerError.TheVariants.{Unreadable, Torn, Mem}
 use Rattle.cds_replica.specs.Answer.{IsOutcome}
-use Rattle.cds_replica.specs.Honest.{IsReplyOf, TakenHonestly, TakesGiven, SaysGiven}
+use Rattle.cds_replica.specs.Honest.{IsReplyOf, TakenHonestly, TakesGiven, SaysGiven, SaysScanEnd}
 
 -- an answer to a reply that is taken
 honest-outcome : (becomes : Taken) (old new held : Held) (result : Result Read AnswerError) → IsOutcome becomes old new result → becomes ≡ Holds held →
@@ -54,6 +57,19 @@ pub says-given : (held : Held) (result : Says) → result ≡ says held → Says
 says-given held result is server newest older number honest fall given stands =
     let stood = copies-stood server newest older number honest fall (ap says (sym given) ∙ sym is ∙ stands) in
     record { length = stood.0; within = stood.1; numbered = stood.2; has_rows = ap copied given ∙ stood.3 }
+
+-- of a server with a history of scans
+pub says-scan_end : (held : Held) (result : Says) → result ≡ says held → SaysScanEnd held result
+says-scan_end held result is history newest older number libraries fall given stands =
+    let stood = says-given held result is (server_of history) newest older number (histories-serve history libraries) fall given stands in
+    record {
+      scans = stood.length;
+      within = stood.within;
+      ends = stood.numbered;
+      has_catalog = stood.has_rows
+          ∙ sym (rest-catalog history.first (length history.maps - stood.length) history.maps libraries)
+          ∙ ap (catalog_at history.first history.maps) stood.numbered;
+    }
 
 -- what holds of each row holds of the row at a place
 at-place : (P : ObjectRow → Type 0) (rows : List ObjectRow) (at : ℕ) (row : ObjectRow) → AllByRecursion P rows → at < length rows → P (get_or rows at row)

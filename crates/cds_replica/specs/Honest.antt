@@ -2,9 +2,13 @@
 use Rattle.std.specs.Prelude.{◌≡◌, ◌≤◌, ℕ, List, ◌∷◌, Some, Result, Ok, Err}
 use Rattle.std.specs.Option.{option_map}
 use Rattle.cds_object.specs.Object.{ObjectRow}
+use Rattle.cds_catalog.specs.History.{History, end_of}
+use Rattle.cds_catalog.specs.Catalog.{catalog_at}
+use Rattle.cds_catalog.specs.Laws.{AreLibraries}
 use Rattle.cds_model.specs.Server.{Moment, reply_to}
 use Rattle.cds_model.specs.Replica.{Held, held_by, next_ask, copied}
 use Rattle.cds_model.specs.Loads.{IsServer, Entry, Starts, Asks, length_at, NeverFall, given_by}
+use Rattle.cds_model.specs.Servers.{oldest, server_of}
 use Rattle.cds_model.specs.declared.exchange.Shown.{Shown}
 use Rattle.cds_model.specs.declared.exchange.Says.{Says}
 use Rattle.cds_model.specs.declared.exchange.Says.TheVariants.{Stands}
@@ -48,3 +52,15 @@ pub record StoodBy (server : ℕ → Moment) (most number : ℕ) (rows : List Ob
 abbrev pub SaysGiven : Held → Says → Type 0
 SaysGiven held result = (server : ℕ → Moment) (newest : Entry) (older : List Entry) (number : ℕ) → IsServer server → NeverFall (newest ∷ older) →
     IsHeldOf server (newest ∷ older) held → result ≡ Stands number → StoodBy server (length_at newest) number (copied held)
+
+-- a number is the end of some of the oldest scans of a history, at most so many, and rows are the catalog at this number
+pub record StoodAfter (history : History) (most number : ℕ) (rows : List ObjectRow) : Type 0 where
+  pub scans : ℕ
+  pub within : scans ≤ most
+  pub ends : end_of (record { first = history.first; maps = oldest scans history.maps }) ≡ number
+  pub has_catalog : rows ≡ catalog_at history.first history.maps number
+
+-- after some entries of the server of a history of folder maps, a copy stands at a scan end, with the catalog at it
+abbrev pub SaysScanEnd : Held → Says → Type 0
+SaysScanEnd held result = (history : History) (newest : Entry) (older : List Entry) (number : ℕ) → AreLibraries history.maps → NeverFall (newest ∷ older) →
+    IsHeldOf (server_of history) (newest ∷ older) held → result ≡ Stands number → StoodAfter history (length_at newest) number (copied held)

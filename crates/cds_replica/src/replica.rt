@@ -5,7 +5,7 @@ ghost use Rattle.cds_model.specs.Replica.{next_ask, taken, says, copied, held_by
 ghost use Rattle.cds_model.specs.Attempts.{attempt_of, ask_in, says_by, copied_by, verdict_by, ShowsRows};
 ghost use Rattle.cds_model.specs.Seen.{WasShown};
 ghost use Rattle.cds_replica.specs.Answer.{IsOutcome, IsVerdict, UnlessMem, GoesOn, read_of};
-ghost use Rattle.cds_replica.specs.Honest.{BeginsGiven, TakesGiven, SaysGiven};
+ghost use Rattle.cds_replica.specs.Honest.{BeginsGiven, TakesGiven, SaysGiven, SaysScanEnd};
 
 use crate::AnswerError;
 use crate::stage::Stage;
@@ -83,10 +83,12 @@ impl Replica {
     }
 
     /// What is known of the server's catalog: a copy stands exactly where the attempt is complete, whatever server
-    /// replied. Where all replies were an honest server's, it has the rows that stood at its number.
+    /// replied. Where all replies were an honest server's, it has the rows that stood at its number; where they were those
+    /// of a server with a history of scans, its number is a scan end, and its rows are the catalog at it.
     pub fn says(&self) -> Says
         ensures known { result ≡ says self.now }
         ensures given { SaysGiven self.now result }
+        ensures scan_end { SaysScanEnd self.now result }
         ensures attempt { (turns : List ReplicaTurn) → ShowsRows turns → self.now ≡ held_by turns → result ≡ says_by (attempt_of turns) }
     {
         cds_model::answers_are_of_attempts();

@@ -66,3 +66,12 @@ returns-in_err-script-clause-load_bound g c = λ bytes told. c.all_turns_bound_l
 
 pub returns-in_err-buffer-clause-load_bound : goal.returns-in_err-buffer-clause-load_bound
 returns-in_err-buffer-clause-load_bound g c = λ bytes told. c.all_turns_bound_loads.ensures (script_turns bytes)
+
+pub returns-clause-stands : goal.returns-clause-stands
+returns-clause-stands g c = λ bytes told. c.all_turns_stand_at_scan_ends.ensures (script_turns bytes)
+
+pub returns-in_err-script-clause-stands : goal.returns-in_err-script-clause-stands
+returns-in_err-script-clause-stands g c = λ bytes told. c.all_turns_stand_at_scan_ends.ensures (script_turns bytes)
+
+pub returns-in_err-buffer-clause-stands : goal.returns-in_err-buffer-clause-stands
+returns-in_err-buffer-clause-stands g c = λ bytes told. c.all_turns_stand_at_scan_ends.ensures (script_turns bytes)
