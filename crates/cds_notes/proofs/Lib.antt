@@ -1,2 +1,6 @@
 pub mod Received
 pub mod Like
+pub mod Told
+pub mod Counted
+pub mod Leads
+pub mod LeadsSpan

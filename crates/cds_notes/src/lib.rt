@@ -9,5 +9,5 @@ pub use evaluated::{
     early_notes_are_dropped, notes_out_of_order, notes_taken_at_once, read_ahead_of_notes,
     read_of_what_is_gone, repeated_notes,
 };
-pub use laws::{the_least_is_missing, the_longest_run_is_taken};
+pub use laws::{spans_lead_to_the_rows, the_least_is_missing, the_longest_run_is_taken};
 pub use says::Says;
