@@ -1,3 +1,6 @@
 pub mod Parts
 pub mod Escapes
 pub mod Numbers
+pub mod Pieces
+pub mod References
+pub mod Semicolons

@@ -1,5 +1,6 @@
 -- Text that can stand in the character data and the attribute values of XML 1.0.
-use Rattle.std.specs.Prelude.{◌==◌, ℕ, if◌then◌else◌, List, [], ◌∷◌, codes}
+use Rattle.std.specs.Prelude.{◌==◌, ℕ, Bool, not, if◌then◌else◌, List, [], ◌∷◌, length, take_while, codes}
+use Rattle.std.specs.Str.{bytes_eq}
 use Rattle.std.specs.List.{flat_map}
 
 -- What stands for a byte: an entity for the five characters of markup, a reference for the three that a reader of
@@ -15,6 +16,14 @@ escaped_byte b =
     else if b == 10 then codes "&#10;"
     else if b == 13 then codes "&#13;"
     else (b ∷ [])
+
+-- Whether something else stands for a byte.
+abbrev pub is_replaced : ℕ → Bool
+is_replaced b = not (bytes_eq (escaped_byte b) (b ∷ []))
+
+-- How many bytes stand before the first that is replaced.
+abbrev pub plain_run_of : List ℕ → ℕ
+plain_run_of bytes = length (take_while (λ b. not (is_replaced b)) bytes)
 
 -- The escaped text.
 abbrev pub escaped : List ℕ → List ℕ

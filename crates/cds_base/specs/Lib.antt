@@ -1,4 +1,7 @@
+pub mod Characters
 pub mod Escape
 pub mod Memory
 pub mod Number
 pub mod Outside
+pub mod Reference
+pub mod Unescape

@@ -1,21 +1,30 @@
--- Numbers in decimal digits.
-use Rattle.std.specs.Prelude.{◌==◌, ℕ, ◌+◌, ◌-◌, ◌*◌, ◌^◌, nat_lt, Bool, false, ◌&&◌, if◌then◌else◌, Option, Some, None, List, [], ◌∷◌, length}
+-- Numbers in digits.
+use Rattle.std.specs.Prelude.{◌==◌, ℕ, ◌+◌, ◌*◌, ◌^◌, nat_lt, Bool, false, ◌&&◌, if◌then◌else◌, Option, Some, None, List, [], ◌∷◌, length}
 use Rattle.std.specs.List.{list_all}
-use Rattle.std.specs.Char.{is_ascii_digit}
+use Rattle.std.specs.Char.{is_digit, digit_value}
 
--- The value of a run of digits: each counts as the power of ten of its place.
-abbrev pub digits_value : List ℕ → ℕ
-digits_value [] = 0
-digits_value (digit ∷ rest) = (digit - 48) * 10 ^ length rest + digits_value rest
+-- The value of a run of digits to a base, where letters of either case come after the nine: each digit counts as the
+-- power of the base of its place.
+abbrev pub value_in : ℕ → List ℕ → ℕ
+value_in base [] = 0
+value_in base (digit ∷ rest) = digit_value digit * base ^ length rest + value_in base rest
 
--- Whether there is at least one byte and all are digits.
-abbrev pub is_number : List ℕ → Bool
-is_number [] = false
-is_number (first ∷ rest) = list_all is_ascii_digit (first ∷ rest)
+-- Whether there is at least one byte and all are digits to the base.
+abbrev pub is_number_in : ℕ → List ℕ → Bool
+is_number_in base [] = false
+is_number_in base (first ∷ rest) = list_all (λ byte. is_digit byte base) (first ∷ rest)
 
--- The number that the bytes are, where it is below the limit. Leading zeros are accepted.
+-- The number to the base that the bytes are. Leading zeros are accepted.
+abbrev pub number_in : ℕ → List ℕ → Option ℕ
+number_in base bytes = if is_number_in base bytes then Some (value_in base bytes) else None
+
+-- The same, where it is below the limit.
+abbrev pub number_in_below : ℕ → ℕ → List ℕ → Option ℕ
+number_in_below base limit bytes = if is_number_in base bytes && nat_lt (value_in base bytes) limit then Some (value_in base bytes) else None
+
+-- The number that the bytes are in decimal digits, where it is below the limit. Leading zeros are accepted.
 abbrev pub number_below : ℕ → List ℕ → Option ℕ
-number_below limit bytes = if is_number bytes && nat_lt (digits_value bytes) limit then Some (digits_value bytes) else None
+number_below limit bytes = number_in_below 10 limit bytes
 
 -- Whether a zero stands before further bytes.
 abbrev pub has_leading_zero : List ℕ → Bool

@@ -8,16 +8,20 @@ mod memory;
 mod number;
 mod order;
 mod outside;
+mod runs;
 mod sequence;
 mod text;
+mod unescaping;
 
 pub use escaping::escape;
 pub use mem::Mem;
 pub use memory::{MemSink, MemSource};
 pub use number::{read_plain, read_u32};
 pub use outside::{Failed, Sink, Source, write_all};
+pub use runs::{first_forbidden, plain_run};
 pub use sequence::Sequence;
 pub use text::Text;
+pub use unescaping::{TextError, is_allowed, unescape};
 
 /// A list of bytes.
 pub type Bytes = Sequence<u8>;

@@ -1,12 +1,12 @@
-ghost use Rattle.std.specs.Prelude.{◌≡◌, ◌^◌};
-ghost use Rattle.cds_base.specs.Number.{number_below, plain_below, has_leading_zero};
+ghost use Rattle.std.specs.Prelude.{◌≡◌, ◌≤◌, ◌^◌};
+ghost use Rattle.cds_base.specs.Number.{number_in_below, number_below, plain_below, has_leading_zero};
 
 /// The value of a run of ASCII digits, leading zeros accepted. `None` exactly where a byte is no digit, there is none,
 /// or the value passes `u32::MAX`.
 pub fn read_u32(digits: &[u8]) -> Option<u32>
     ensures { result ≡ number_below (2 ^ 32) digits.now }
 {
-    match read_number(digits) {
+    match read_digits(10, digits) {
         Some(value) if value <= u64::from(u32::MAX) => Some(value as u32),
         _ => None,
     }
@@ -19,7 +19,7 @@ pub fn read_plain(digits: &[u8]) -> Option<u64>
     if begins_with_zero(digits) {
         None
     } else {
-        read_number(digits)
+        read_digits(10, digits)
     }
 }
 
@@ -29,21 +29,21 @@ fn begins_with_zero(digits: &[u8]) -> bool
     digits.len() > 1 && digits[0] == b'0'
 }
 
-/// The value of a run of ASCII digits, leading zeros accepted, below 2^64.
-fn read_number(digits: &[u8]) -> Option<u64>
-    ensures { result ≡ number_below (2 ^ 64) digits.now }
+/// The value of a run of ASCII digits to a base, leading zeros accepted, below 2^64. Letters may be of either case.
+pub(crate) fn read_digits(base: u32, digits: &[u8]) -> Option<u64>
+    requires low { 2 ≤ base }
+    requires high { base ≤ 36 }
+    ensures { result ≡ number_in_below base (2 ^ 64) digits.now }
 {
     if digits.is_empty() {
         return None;
     }
     let mut value: u64 = 0;
-    for digit in digits {
-        if !digit.is_ascii_digit() {
-            return None;
-        }
+    for byte in digits {
+        let digit = char::from(*byte).to_digit(base)?;
         value = value
-            .checked_mul(10)?
-            .checked_add(u64::from(*digit - b'0'))?;
+            .checked_mul(u64::from(base))?
+            .checked_add(u64::from(digit))?;
     }
     Some(value)
 }

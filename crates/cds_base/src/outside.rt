@@ -27,8 +27,8 @@ pub trait Source {
     // How many calls failed so far.
     ghost faults: { Self → ℕ };
 
-    /// Moves a front part of what is left into the front of `into`, and answers how many bytes that are.
-    /// None for an `into` that is not empty is the end.
+    /// Moves a front part of what is left into the front of `into`, and answers how many bytes that are. 0 for an
+    /// `into` that is not empty says that none are left, where the source tells its bytes.
     fn read(&mut self, into: &mut [u8]) -> Result<usize, Failed>
         ensures room { IfOk result (λ n. n ≤ length into.old) }
         ensures count { IfOk result (λ n. moved self.new ≡ raised (moved self.old) n) }

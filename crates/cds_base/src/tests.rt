@@ -1,7 +1,8 @@
 use crate::{
-    Bytes, Failed, Mem, MemSink, MemSource, Numbers, Sink, Source, Text, Words, escape, read_plain,
-    read_u32, write_all,
+    Bytes, Failed, Mem, MemSink, MemSource, Numbers, Sink, Source, Text, TextError, Words, escape,
+    first_forbidden, plain_run, read_plain, read_u32, unescape, write_all,
 };
+use std::alloc::Global;
 use std::convert::From;
 use std::test::Fail;
 
@@ -76,4 +77,70 @@ fn lists_and_texts_keep_what_they_are_given(rt: HostRuntime) -> Result<(), Fail>
     bytes.extend(&[2, 3])?;
     assert!(rt; bytes.as_slice() == [1, 2, 3].as_slice() && bytes.get(2) == Some(&3));
     Ok(())
+}
+
+/// What a text says, or the fault and its place.
+fn unescaped(alloc: Global, text: &str) -> Result<String, Fail> {
+    match unescape(alloc, text) {
+        Ok(says) => Ok(says),
+        Err(TextError::BadReference { at }) => Ok(format!(in alloc; "reference {at}")?),
+        Err(TextError::BadCharacter { at }) => Ok(format!(in alloc; "character {at}")?),
+        Err(TextError::Mem) => Ok(String::from_str(alloc, "memory")?),
+    }
+}
+
+#[test]
+fn unescapes_references(rt: HostRuntime) -> Result<(), Fail> {
+    for (text, want) in [
+        ("", ""),
+        ("&amp;&lt;&gt;&quot;&apos;", "&<>\"'"),
+        ("a&#65;b&#x4a;&#x4A;", "aAbJJ"),
+        ("&#00000000000000000000000065;", "A"),
+        ("&#x00000000000000000000041;", "A"),
+        ("&#9;\t&#10;\n&#13;\r", "\t\t\n\n\r\r"),
+        ("&amp;lt; ]]> &#x10FFFF;", "&lt; ]]> \u{10ffff}"),
+        (
+            "\u{7f}\u{e9}\u{fffd}\u{10000}",
+            "\u{7f}\u{e9}\u{fffd}\u{10000}",
+        ),
+    ] {
+        assert_eq!(rt; unescaped(rt.alloc(), text)?.as_str(), want, "{text}");
+    }
+    Ok(())
+}
+
+/// Texts parted by `|`, all with the same first fault.
+#[test]
+fn names_the_first_fault_of_a_text(rt: HostRuntime) -> Result<(), Fail> {
+    for (want, texts) in [
+        (
+            "reference 0",
+            "&|&AMP;|&nbsp;|&#;|&#x;|&#X41;|&#x4g;|&#4a;|&#+5;|&#0;|&#xD800;|&#57343;|&#xFFFE;|&#xffff;|&#x110000;|&#4294967361;|&#18446744073709551681;|&#x100000000000000000000000000000041;|&<",
+        ),
+        ("reference 2", "ab&amp|\u{e9}& ;|ab&;<"),
+        ("reference 5", "&amp;&;"),
+        ("character 0", "<|\u{1}|\u{fffe}"),
+        ("character 4", "&lt;<&|\u{10000}\u{ffff}&|]]>\t<"),
+    ] {
+        for text in texts.split("|") {
+            assert_eq!(rt; unescaped(rt.alloc(), text)?.as_str(), want, "{text}");
+        }
+    }
+    Ok(())
+}
+
+#[test]
+fn runs_end_at_the_first_such_byte(rt: HostRuntime) {
+    for (bytes, plain, forbidden) in [
+        (b"".as_slice(), 0, None),
+        (b"plain text \x7f\xff", 13, None),
+        (b"ab&c", 2, None),
+        (b"ab'c\x1f", 2, Some(4)),
+        (b"\t\n\r\x0b", 0, Some(3)),
+        (b"\x00<", 1, Some(0)),
+        (b"0123456789012345678901234567890123\"", 34, None),
+    ] {
+        assert_eq!(rt; plain_run(bytes), plain);
+        assert_eq!(rt; first_forbidden(bytes), forbidden);
+    }
 }

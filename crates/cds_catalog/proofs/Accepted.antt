@@ -106,19 +106,26 @@ container_held : (records : List Record) (library : FolderMap) → Built records
 container_held records library built [] container = refl
 container_held records library built (name ∷ names) container = folder_held library (name ∷ names) records built.recorded container
 
-pub accepted_map : (records : List Record) → bad_record records ≡ None → IsLibrary (map_of records) × (length (map_of records) ≡ length records)
-accepted_map records good = (
-  record {
-    ascending = built.ascending;
-    rootless = All-map (λ e. Stands records e.0) (λ e. same_path e.0 [] ≡ false) (λ e stands. stands.0) (map_of records) built.placed;
-    held = All-map (λ e. Stands records e.0) (λ e. holds (map_of records) (parent_of e.0) ≡ true)
-        (λ e stands. container_held records (map_of records) built (parent_of e.0) stands.1) (map_of records) built.placed;
-  },
-  built.long,
-)
-  where
-    nothing : Built records [] []
-    nothing = record { ascending = tt; long = refl; recorded = tt; absent = λ p none. refl; placed = tt }
+nothing : (records : List Record) → Built records [] []
+nothing records = record { ascending = tt; long = refl; recorded = tt; absent = λ p none. refl; placed = tt }
 
-    built : Built records records (map_of records)
-    built = grow records [] records [] nothing good
+built_of : (records : List Record) → bad_record records ≡ None → Built records records (map_of records)
+built_of records good = grow records [] records [] (nothing records) good
+
+pub accepted_map : (records : List Record) → bad_record records ≡ None → IsLibrary (map_of records) × (length (map_of records) ≡ length records)
+accepted_map records good =
+    let built = built_of records good in (
+      record {
+        ascending = built.ascending;
+        rootless = All-map (λ e. Stands records e.0) (λ e. same_path e.0 [] ≡ false) (λ e stands. stands.0) (map_of records) built.placed;
+        held = All-map (λ e. Stands records e.0) (λ e. holds (map_of records) (parent_of e.0) ≡ true)
+            (λ e stands. container_held records (map_of records) built (parent_of e.0) stands.1) (map_of records) built.placed;
+      },
+      built.long,
+    )
+
+pub accepted_stand : (records : List Record) → bad_record records ≡ None →
+    AllByRecursion (λ r. content_at (map_of records) r.path ≡ Some r.content) records
+    × ((path : List (List ℕ)) → list_any (λ r. same_path path r.path) records ≡ false → content_at (map_of records) path ≡ None)
+accepted_stand records good =
+    let built = built_of records good in (built.recorded, built.absent)

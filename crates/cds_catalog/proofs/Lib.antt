@@ -17,3 +17,4 @@ pub mod StepsTree
 pub mod Numbers
 pub mod Versions
 pub mod StepsScan
+pub mod BadLines

@@ -1,7 +1,8 @@
 -- The laws of the catalog, which everything above leans on.
-use Rattle.std.specs.Prelude.{◌≡◌, ◌+◌, ◌≤◌, ℕ, Bool, true, false, List, [], ◌∷◌, ◌++◌, length, Option, Some, None, MatchOption, IsTrue}
-use Rattle.std.specs.List.{AllByRecursion}
+use Rattle.std.specs.Prelude.{◌≡◌, ◌↔◌, ◌+◌, ◌≤◌, ℕ, Bool, true, false, List, [], ◌∷◌, ◌++◌, length, Option, Some, None, MatchOption, IsTrue}
+use Rattle.std.specs.List.{AllByRecursion, list_any}
 use Rattle.std.specs.Ordering.{is_lt}
+use Rattle.cds_object.specs.First.{NoneRefused, IsFirstRefused}
 use Rattle.cds_object.specs.Path.{path_cmp, same_path, parent_of}
 use Rattle.cds_object.specs.Object.{ObjectRow, is_folder}
 use Rattle.cds_object.specs.Tree.{IsTree, row_of}
@@ -11,7 +12,7 @@ use Rattle.cds_catalog.specs.Library.{FolderMap, content_at, map_of, found}
 use Rattle.cds_catalog.specs.History.{History, latest, changes_of, end_of, with_scan}
 use Rattle.cds_catalog.specs.Catalog.{catalog, catalog_at}
 use Rattle.cds_catalog.specs.Replay.{stands, IsLegal}
-use Rattle.cds_catalog.specs.Scans.{bad_record}
+use Rattle.cds_catalog.specs.Scans.{is_bad, bad_record}
 use Rattle.cds_catalog.specs.Steps.{Standing, standing_of, stepped}
 
 -- the places rise strictly
@@ -42,6 +43,26 @@ AreLibraries = AllByRecursion IsLibrary
 abbrev pub accepted_records_are_a_library : Type 0
 accepted_records_are_a_library = (records : List Record) → bad_record records ≡ None →
     IsLibrary (map_of records) × (length (map_of records) ≡ length records)
+
+-- the record of a line, counted from 1, is the first that cannot stand
+pub record IsBadLine (records : List Record) (line : ℕ) : Type 0 where
+  pub before : List Record
+  pub bad : Record
+  pub rest : List Record
+  pub first : IsFirstRefused (is_bad records) records before bad rest
+  pub place : line ≡ length before + 1
+
+-- a line is named exactly where its record is the first that cannot stand, and none where every record can
+abbrev pub bad_records_have_their_line : Type 0
+bad_records_have_their_line =
+    ((records : List Record) (line : ℕ) → (bad_record records ≡ Some line) ↔ IsBadLine records line)
+    × ((records : List Record) → (bad_record records ≡ None) ↔ NoneRefused (is_bad records) records)
+
+-- where no record spoils them, at the place of each record stands what it says, and nothing stands elsewhere
+abbrev pub accepted_records_stand_at_their_places : Type 0
+accepted_records_stand_at_their_places = (records : List Record) → bad_record records ≡ None →
+    AllByRecursion (λ r. content_at (map_of records) r.path ≡ Some r.content) records
+    × ((path : List (List ℕ)) → list_any (λ r. same_path path r.path) records ≡ false → content_at (map_of records) path ≡ None)
 
 -- the changes of a scan, one by one from what stood before it, lead to the catalog counted afresh after it
 abbrev pub steps_lead_to_the_catalog : Type 0

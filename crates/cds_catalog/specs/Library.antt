@@ -28,24 +28,24 @@ abbrev pub map_of : List Record → FolderMap
 map_of records = map_from [] records
 
 -- the deletion of what stood at a place, where nothing stands there now, or something of the other kind
+abbrev pub gone : List (List ℕ) → Content → Option Content → Option Change
+gone path before None = Some (Deletion path)
+gone path before (Some now) = cond (same_kind before now) None (Some (Deletion path))
+
 abbrev pub departure : FolderMap → (List (List ℕ) × Content) → Option Change
-departure new entry = gone (content_at new entry.0)
-  where
-    gone : Option Content → Option Change
-    gone None = Some (Deletion entry.0)
-    gone (Some now) = cond (same_kind entry.1 now) None (Some (Deletion entry.0))
+departure new entry = gone entry.0 entry.1 (content_at new entry.0)
 
 -- the addition of what stands at a place, where nothing stood there, or something of the other kind; or its
 -- modification, where something of its kind stood there and said something else
+abbrev pub come : List (List ℕ) → Content → Option Content → Option Change
+come path content None = Some (Addition path content)
+come path content (Some before) =
+    cond (same_kind before content)
+    (cond (same_content before content) None (Some (Modification path content)))
+    (Some (Addition path content))
+
 abbrev pub arrival : FolderMap → (List (List ℕ) × Content) → Option Change
-arrival old entry = come (content_at old entry.0)
-  where
-    come : Option Content → Option Change
-    come None = Some (Addition entry.0 entry.1)
-    come (Some before) =
-        cond (same_kind before entry.1)
-        (cond (same_content before entry.1) None (Some (Modification entry.0 entry.1)))
-        (Some (Addition entry.0 entry.1))
+arrival old entry = come entry.0 entry.1 (content_at old entry.0)
 
 -- the changes from one folder map to the next, the newest first: before all others came the deletions, in descending
 -- order of places, and then the additions and modifications, in ascending order

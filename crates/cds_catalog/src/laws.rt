@@ -7,6 +7,16 @@ pub fn accepted_records_are_a_library()
     ensures { laws.accepted_records_are_a_library }
 {}
 
+/// A scan is refused at its first record that cannot stand, and only where there is one.
+pub fn bad_records_have_their_line()
+    ensures { laws.bad_records_have_their_line }
+{}
+
+/// At the place of each accepted record stands what it says, and nothing stands elsewhere.
+pub fn accepted_records_stand_at_their_places()
+    ensures { laws.accepted_records_stand_at_their_places }
+{}
+
 /// Each change of a history may follow those before it.
 pub fn changes_are_legal()
     ensures { laws.changes_are_legal }

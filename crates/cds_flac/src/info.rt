@@ -13,13 +13,13 @@ pub type Comments = Sequence<Comment>;
 /// What STREAMINFO and the first VORBIS_COMMENT block say.
 #[derive(Drop, Debug)]
 pub struct FlacInfo {
-    /// Samples in a second, below 2^20; 0 where it is not known.
+    /// Samples in a second, in what is read below 2^20; 0 where it is not known.
     pub rate: u32,
-    /// Channels, 1 to 8.
+    /// Channels, in what is read 1 to 8.
     pub channels: u8,
-    /// Bits in a sample, 1 to 32.
+    /// Bits in a sample, in what is read 1 to 32.
     pub bits: u8,
-    /// Samples of one channel, below 2^36; 0 where it is not known.
+    /// Samples of one channel, in what is read below 2^36; 0 where it is not known.
     pub samples: u64,
     pub comments: Comments,
 }

@@ -1,7 +1,9 @@
 pub mod Object
 pub mod Content
 pub mod ContentOf
+pub mod First
 pub mod Fragment
+pub mod Laws
 pub mod Path
 pub mod PathAnswer
 pub mod PathOrder

@@ -9,11 +9,11 @@ use std::marker::Model;
 /// How a container tracks the changes of its children (UPnP ContentDirectory:4 on tracking changes).
 #[derive(Clone, Copy, Debug, PartialEq, Eq)]
 pub struct Trackers {
-    /// The SystemUpdateID at which a child last changed.
+    /// The SystemUpdateID of the last change of a child that it counts, or of its own start where there is none.
     pub container_update: u32,
     /// How many children there are.
     pub child_count: u32,
-    /// How many children were ever deleted.
+    /// How many deletions of children it counts.
     pub deleted: u32,
 }
 

@@ -5,3 +5,4 @@ pub mod Shown
 pub mod Planned
 pub mod Applying
 pub mod Bad
+pub mod Lending

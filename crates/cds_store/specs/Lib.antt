@@ -1,5 +1,5 @@
 pub mod Applied
-pub mod Changes
+pub mod Lent
 pub mod Records
 pub mod Rows
 pub mod Stands

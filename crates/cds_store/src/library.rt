@@ -2,9 +2,11 @@
 
 ghost use Rattle.std.specs.Prelude.{◌≡◌, [], ◌++◌, reverse, option_copied, IfOk};
 ghost use Rattle.std.specs.List.{filter_map};
-ghost use Rattle.cds_catalog.specs.Library.{map_of, departure, arrival, found};
+ghost use Rattle.std.specs.BTreeMap.{insert_entry};
+ghost use Rattle.cds_object.specs.Path.{path_cmp};
+ghost use Rattle.cds_catalog.specs.Library.{map_of, content_at, gone, come, departure, arrival, found};
+ghost use Rattle.cds_store.specs.Lent.{seen};
 ghost use Rattle.cds_store.specs.Rows.{put_places};
-ghost use Rattle.cds_store.specs.Changes.{gone, come};
 
 use crate::placed::Placed;
 use cds_base::Mem;
@@ -13,32 +15,37 @@ use cds_object::{Content, Path, Record};
 use std::alloc::Global;
 use std::collections::BTreeMap;
 
-/// What stands at each place, in ascending order of places; the root is not in it.
-pub(crate) type Library = BTreeMap<Path, Content>;
+/// What stands at each place, in ascending order of places; the root is not in it. Places and contents are lent by the
+/// records or rows that have them.
+pub(crate) type Library<'a> = BTreeMap<&'a Path, &'a Content>;
+
+/// Puts what stands at a place into a folder map, in place of what stood there.
+fn put<'a>(library: &mut Library<'a>, path: &'a Path, content: &'a Content) -> Result<(), Mem>
+    ensures { IfOk result (λ _. seen library.new.entries ≡ insert_entry path_cmp (seen library.old.entries) path.now content.now) }
+{
+    library.insert(path, content)?;
+    Ok(())
+}
 
 /// The folder map of what a scan found.
-pub(crate) fn library_of(alloc: Global, records: &[Record]) -> Result<Library, Mem>
-    ensures { IfOk result (λ library. library.entries ≡ map_of records.now) }
+pub(crate) fn library_of(alloc: Global, records: &[Record]) -> Result<Library<'_>, Mem>
+    ensures { IfOk result (λ library. seen library.entries ≡ map_of records.now) }
 {
     let mut library = BTreeMap::new(alloc);
     for found in records {
-        let path = found.path.copy(alloc)?;
-        let content = found.content.copy(alloc)?;
-        library.insert(path, content)?;
+        put(&mut library, &found.path, &found.content)?;
     }
     Ok(library)
 }
 
 /// The folder map that rows show.
-pub(crate) fn library_shown(alloc: Global, rows: &[Placed]) -> Result<Library, Mem>
-    ensures { IfOk result (λ library. library.entries ≡ put_places [] rows.now) }
+pub(crate) fn library_shown(alloc: Global, rows: &[Placed]) -> Result<Library<'_>, Mem>
+    ensures { IfOk result (λ library. seen library.entries ≡ put_places [] rows.now) }
 {
     let mut library = BTreeMap::new(alloc);
     for placed in rows {
         if !placed.path.is_root() {
-            let path = placed.path.copy(alloc)?;
-            let content = placed.row.content.copy(alloc)?;
-            library.insert(path, content)?;
+            put(&mut library, &placed.path, &placed.row.content)?;
         }
     }
     Ok(library)
@@ -63,28 +70,49 @@ fn departure(
 }
 
 /// The addition or modification of what stands at a place, by what stood there before.
-fn arrival(path: Path, before: Option<&Content>, content: Content) -> Option<Change>
-    ensures { result ≡ come path content (option_copied before.entry) }
+fn arrival(
+    alloc: Global,
+    path: &Path,
+    before: Option<&Content>,
+    content: &Content,
+) -> Result<Option<Change>, Mem>
+    ensures { IfOk result (λ change. change ≡ come path.now content.now (option_copied before.entry)) }
 {
-    let Some(before) = before else {
-        return Some(Change::Addition { path, content });
+    let stays = match before {
+        Some(before) => before.is_of_kind(content),
+        None => false,
     };
-    if !before.is_of_kind(&content) {
-        Some(Change::Addition { path, content })
-    } else if before.says_the_same(&content) {
-        None
-    } else {
-        Some(Change::Modification { path, content })
+    if let Some(before) = before
+        && stays
+        && before.says_the_same(content)
+    {
+        return Ok(None);
     }
+    let path = path.copy(alloc)?;
+    let content = content.copy(alloc)?;
+    let change = if stays {
+        Change::Modification { path, content }
+    } else {
+        Change::Addition { path, content }
+    };
+    Ok(Some(change))
+}
+
+/// What stands at a place.
+fn content_at<'a>(library: &Library<'a>, path: &'a Path) -> Option<&'a Content>
+    ensures { option_copied result ≡ content_at (seen library.now.entries) path.now }
+{
+    library.get(&path).copied()
 }
 
 /// The deletions, in ascending order of places.
-fn departures(alloc: Global, old: &Library, new: &Library) -> Result<Vec<Change>, Mem>
-    ensures { IfOk result (λ changes. changes.items ≡ filter_map (departure new.now.entries) old.now.entries) }
+fn departures<'a>(alloc: Global, old: &Library<'a>, new: &Library<'a>) -> Result<Vec<Change>, Mem>
+    ensures { IfOk result (λ changes. changes.items ≡ filter_map (departure (seen new.now.entries)) (seen old.now.entries)) }
 {
     let mut changes = Vec::new(alloc);
     for (path, before) in old.iter() {
-        if let Some(change) = departure(alloc, path, before, new.get(path))? {
+        let now = content_at(new, path);
+        if let Some(change) = departure(alloc, path, before, now)? {
             changes.push(change)?;
         }
     }
@@ -92,12 +120,17 @@ fn departures(alloc: Global, old: &Library, new: &Library) -> Result<Vec<Change>
 }
 
 /// Adds the additions and modifications, in ascending order of places.
-fn arrivals(old: &Library, new: Library, changes: &mut Vec<Change>) -> Result<(), Mem>
-    ensures { IfOk result (λ _. changes.new.items ≡ changes.old.items ++ filter_map (arrival old.now.entries) new.entries) }
+fn arrivals<'a>(
+    alloc: Global,
+    old: &Library<'a>,
+    new: &Library<'a>,
+    changes: &mut Vec<Change>,
+) -> Result<(), Mem>
+    ensures { IfOk result (λ _. changes.new.items ≡ changes.old.items ++ filter_map (arrival (seen old.now.entries)) (seen new.now.entries)) }
 {
-    for (path, content) in new {
-        let before = old.get(&path);
-        if let Some(change) = arrival(path, before, content) {
+    for (path, content) in new.iter() {
+        let before = content_at(old, path);
+        if let Some(change) = arrival(alloc, path, before, content)? {
             changes.push(change)?;
         }
     }
@@ -106,15 +139,15 @@ fn arrivals(old: &Library, new: Library, changes: &mut Vec<Change>) -> Result<()
 
 /// The changes from one folder map to the next, the oldest first: the deletions in descending order of places, then the
 /// additions and modifications in ascending order.
-pub(crate) fn changes_between(
+pub(crate) fn changes_between<'a>(
     alloc: Global,
-    old: &Library,
-    new: Library,
+    old: &Library<'a>,
+    new: &Library<'a>,
 ) -> Result<Vec<Change>, Mem>
-    ensures { IfOk result (λ changes. reverse changes.items ≡ found old.now.entries new.entries) }
+    ensures { IfOk result (λ changes. reverse changes.items ≡ found (seen old.now.entries) (seen new.now.entries)) }
 {
-    let mut changes = departures(alloc, old, &new)?;
+    let mut changes = departures(alloc, old, new)?;
     changes.reverse();
-    arrivals(old, new, &mut changes)?;
+    arrivals(alloc, old, new, &mut changes)?;
     Ok(changes)
 }

@@ -63,12 +63,16 @@ fn page(ids: &[u32], start: u32, count: u32) -> &[u32]
 }
 
 /// The changes from what rows show to what a scan found, the oldest first.
-fn changes_found(alloc: Global, rows: &[Placed], records: &[Record]) -> Result<Vec<Change>, Mem>
+fn changes_found<'a>(
+    alloc: Global,
+    rows: &'a [Placed],
+    records: &'a [Record],
+) -> Result<Vec<Change>, Mem>
     ensures { IfOk result (λ changes. reverse changes.items ≡ found (put_places [] rows.now) (map_of records.now)) }
 {
     let old = library_shown(alloc, rows)?;
     let new = library_of(alloc, records)?;
-    changes_between(alloc, &old, new)
+    changes_between(alloc, &old, &new)
 }
 
 /// Whether changes from a number on lead above the last number.
@@ -116,6 +120,9 @@ impl Store {
     {
         let changes = self.plan(alloc, records)?;
         let from = self.catalog.number();
+        if changes.is_empty() {
+            return Ok(Span { from, to: from });
+        }
         let mut next = self.catalog.copy(alloc)?;
         next.make_all(alloc, changes)?;
         let to = next.number();
