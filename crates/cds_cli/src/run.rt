@@ -3,7 +3,7 @@
 ghost use Rattle.std.specs.Prelude.{◌≡◌, ◌≢◌, ◌⊎◌, ◌≤◌, ◌<◌, ◌+◌, ◌++◌, ℕ, [], Some, None, List, OnErr, OnOk};
 ghost use Rattle.cds_base.specs.Outside.{raised, Rose, WhereTold};
 ghost use Rattle.cds_model.specs.Report.{script_ending};
-ghost use Rattle.cds_model.specs.Played.{script_turns, script_stop, IsReportOf, BoundsLoads};
+ghost use Rattle.cds_model.specs.Played.{script_turns, script_stop, report_of, IsReportOf, BoundsLoads};
 ghost use Rattle.cds_model.specs.Stood.{StandsAtScanEnds};
 ghost use Rattle.cds_cli.specs.Command.{command_of, help_text, version_text, usage_text};
 ghost use Rattle.cds_cli.specs.Run.{Ends, Writes, EndsText, WritesText};
@@ -94,10 +94,10 @@ pub fn run<S: Source, K: Sink>(alloc: Global, words: &Words, source: &mut S, sin
     ensures taken { S.moved source.new ≤ S.moved source.old + 67108865 }
     ensures past_limit { result ≡ 6 → raised (S.moved source.old) 4097 ≤ S.moved source.new }
 
-    // The report is what the script's turns write, one after the other, and then its last line. Of these turns each ask that
-    // writes `behind load` comes before any load was begun, or after fewer reads than a load of the catalog takes, and two
-    // more, since the load began and the catalog last changed.
-    ensures turns { command_of words.now ≡ Some Replay → WhereTold (S.left source.old) (λ bytes. IsReportOf (script_turns bytes) (script_stop bytes) (script_ending bytes)) }
+    // What was written is what the script's turns write, one after the other, and then its last line. Each ask of these
+    // turns that writes `behind load` comes before any load was begun, or after fewer reads than a load of the catalog takes,
+    // and two more, since the load began and the catalog last changed.
+    ensures turns { command_of words.now ≡ Some Replay → WhereTold (S.left source.old) (λ bytes. WhereTold (K.holds sink.old) (λ before. Writes result (report_of (script_turns bytes) ++ (script_stop bytes).text) before (K.holds sink.new))) }
     ensures load_bound { command_of words.now ≡ Some Replay → WhereTold (S.left source.old) (λ bytes. BoundsLoads (script_turns bytes)) }
 
     // Each ask of these turns that writes `stands` and a number writes a scan end of the scans that were accepted by then, and

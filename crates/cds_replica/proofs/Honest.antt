@@ -21,7 +21,7 @@ use Rattle.cds_model.proofs.Seen.{copied-shown}
 use Rattle.cds_replica.specs.declared.error.AnswerError.{AnswerError}
 use Rattle.cds_replica.specs.declared.error.AnswerError.TheVariants.{Unreadable, Torn, Mem}
 use Rattle.cds_replica.specs.Answer.{IsOutcome}
-use Rattle.cds_replica.specs.Honest.{IsReplyOf, TakenHonestly, TakesGiven, SaysGiven, SaysScanEnd}
+use Rattle.cds_replica.specs.Honest.{IsReplyOf, TakenHonestly, TakesGiven, TakesOfScans, SaysGiven, SaysScanEnd}
 
 -- an answer to a reply that is taken
 honest-outcome : (becomes : Taken) (old new held : Held) (result : Result Read AnswerError) → IsOutcome becomes old new result → becomes ≡ Holds held →
@@ -52,6 +52,11 @@ pub takes-given : (before old new : Held) (shown : Shown) (result : Result Read 
     IsOutcome (taken before shown) before new result → TakesGiven old shown new result
 takes-given before old new shown result same outcome =
     outcome-given old new shown result (subst (λ h. IsOutcome (taken h shown) h new result) same outcome)
+
+pub takes-of_scans : (before old new : Held) (shown : Shown) (result : Result Read AnswerError) → before ≡ old →
+    IsOutcome (taken before shown) before new result → TakesOfScans old shown new result
+takes-of_scans before old new shown result same outcome history entries k libraries =
+    takes-given before old new shown result same outcome (server_of history) entries k (histories-serve history libraries)
 
 pub says-given : (held : Held) (result : Says) → result ≡ says held → SaysGiven held result
 says-given held result is server newest older number honest fall given stands =

@@ -41,6 +41,12 @@ abbrev pub TakesGiven : Held → Shown → Held → Result Read AnswerError → 
 TakesGiven old shown new result = (server : ℕ → Moment) (entries : List Entry) (k : ℕ) → IsServer server → NeverFall (Asks k ∷ entries) →
     IsHeldOf server entries old → IsReplyOf (server k) old shown → TakenHonestly result new (held_by (given_by server (Asks k ∷ entries)))
 
+-- the same of the server of a history of folder maps, which is an honest one
+abbrev pub TakesOfScans : Held → Shown → Held → Result Read AnswerError → Type 0
+TakesOfScans old shown new result = (history : History) (entries : List Entry) (k : ℕ) → AreLibraries history.maps → NeverFall (Asks k ∷ entries) →
+    IsHeldOf (server_of history) entries old → IsReplyOf (server_of history k) old shown →
+    TakenHonestly result new (held_by (given_by (server_of history) (Asks k ∷ entries)))
+
 -- a server had this number and these rows at a length of its commands which is not above another
 pub record StoodBy (server : ℕ → Moment) (most number : ℕ) (rows : List ObjectRow) : Type 0 where
   pub length : ℕ

@@ -5,7 +5,7 @@ ghost use Rattle.cds_model.specs.Replica.{next_ask, taken, says, copied, held_by
 ghost use Rattle.cds_model.specs.Attempts.{attempt_of, ask_in, says_by, copied_by, verdict_by, ShowsRows};
 ghost use Rattle.cds_model.specs.Seen.{WasShown};
 ghost use Rattle.cds_replica.specs.Answer.{IsOutcome, IsVerdict, UnlessMem, GoesOn, read_of};
-ghost use Rattle.cds_replica.specs.Honest.{BeginsGiven, TakesGiven, SaysGiven, SaysScanEnd};
+ghost use Rattle.cds_replica.specs.Honest.{BeginsGiven, TakesGiven, TakesOfScans, SaysGiven, SaysScanEnd};
 
 use crate::AnswerError;
 use crate::stage::Stage;
@@ -66,13 +66,14 @@ impl Replica {
     /// comes where the reply is of another kind than the ask, or is not one row where an object's row was asked; `Torn`
     /// where the row of the root is another's or no container's, or where the number stayed and the page before it was
     /// refused or does not go on with the container's children: exactly by the attempt under way, whatever server
-    /// replied. The reply of an honest server is never refused.
+    /// replied. The reply of an honest server is never refused, and a server with a history of scans is one.
     pub fn take(&mut self, alloc: Global, shown: Shown) -> Result<Read, AnswerError>
         requires { IsSome (next_ask self.old) }
         ensures outcome { IsOutcome (taken self.old shown) self.old self.new result }
         ensures read { IfOk result (λ read. read ≡ read_of shown) }
         ensures goes_on { UnlessMem result (GoesOn self.old shown self.new) }
         ensures given { TakesGiven self.old shown self.new result }
+        ensures of_scans { TakesOfScans self.old shown self.new result }
         ensures attempt { (turns : List ReplicaTurn) → ShowsRows (Shows shown ∷ turns) → self.old ≡ held_by turns → IsVerdict (verdict_by (attempt_of turns) shown) result }
     {
         cds_model::refusals_are_of_attempts();

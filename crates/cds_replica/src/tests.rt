@@ -205,9 +205,23 @@ fn root_with(alloc: Global, tracks: u32) -> Result<Vec<Object>, AllocError> {
     Ok(objects)
 }
 
-/// Loads of small and large catalogs, some with a number that changes at a read.
+/// The objects of a load, the read from which on the server's number is another, counted from 1, and what is known
+/// before, asked, and known at last.
+type Case<'a> = (&'a [Object], u32, &'a str);
+
+/// What is wanted of the first load that asks or knows something else, or that does not copy all objects.
+fn first_wrong<'a>(alloc: Global, cases: &[Case<'a>]) -> Result<Option<&'a str>, Fail> {
+    for (objects, changes, want) in cases {
+        let (asked, copied) = loaded(alloc, objects, *changes)?;
+        if asked.as_str() != *want || !copied {
+            return Ok(Some(*want));
+        }
+    }
+    Ok(None)
+}
+
 #[test]
-fn loads(rt: HostRuntime) -> Result<(), Fail> {
+fn loads_of_a_number_that_stays(rt: HostRuntime) -> Result<(), Fail> {
     let alloc = rt.alloc();
     let many = root_with(alloc, 257)?;
     let full = root_with(alloc, 512)?;
@@ -221,11 +235,29 @@ fn loads(rt: HostRuntime) -> Result<(), Fail> {
         folder(4, 0, 1),
         track(5, 4),
     ];
-    for (objects, changes, want) in [
+    let cases: [Case; 5] = [
         (&empty[..], 99, "behind: T N M0 N 0+0 N at 7"),
+        (&rock[..], 99, "behind: T N M0 N 0+0 N 1+0 N at 7"),
+        (
+            &nested[..],
+            99,
+            "behind: T N M0 N 0+0 N 1+0 N 3+0 N 4+0 N at 7",
+        ),
+        (&many[..], 99, "behind: T N M0 N 0+0 N 0+256 N at 7"),
+        (&full[..], 99, "behind: T N M0 N 0+0 N 0+256 N at 7"),
+    ];
+    assert_eq!(rt; first_wrong(alloc, &cases)?, None);
+    Ok(())
+}
+
+#[test]
+fn loads_begin_again_at_another_number(rt: HostRuntime) -> Result<(), Fail> {
+    let alloc = rt.alloc();
+    let empty = [folder(0, 0, 0)];
+    let rock = [folder(0, 0, 1), folder(1, 0, 1), track(2, 1)];
+    let cases: [Case; 6] = [
         (&empty[..], 4, "behind: T N M0 N T N M0 N 0+0 N at 9"),
         (&empty[..], 5, "behind: T N M0 N 0+0 N T N M0 N 0+0 N at 9"),
-        (&rock[..], 99, "behind: T N M0 N 0+0 N 1+0 N at 7"),
         (&rock[..], 2, "behind: T N M0 N 0+0 N 1+0 N at 9"),
         (&rock[..], 3, "behind: T N M0 N T N M0 N 0+0 N 1+0 N at 9"),
         (
@@ -238,18 +270,8 @@ fn loads(rt: HostRuntime) -> Result<(), Fail> {
             7,
             "behind: T N M0 N 0+0 N 1+0 N T N M0 N 0+0 N 1+0 N at 9",
         ),
-        (
-            &nested[..],
-            99,
-            "behind: T N M0 N 0+0 N 1+0 N 3+0 N 4+0 N at 7",
-        ),
-        (&many[..], 99, "behind: T N M0 N 0+0 N 0+256 N at 7"),
-        (&full[..], 99, "behind: T N M0 N 0+0 N 0+256 N at 7"),
-    ] {
-        let (asked, copied) = loaded(alloc, objects, changes)?;
-        assert_eq!(rt; asked.as_str(), want);
-        assert!(rt; copied, "from read {changes}");
-    }
+    ];
+    assert_eq!(rt; first_wrong(alloc, &cases)?, None);
     Ok(())
 }
 

@@ -209,17 +209,31 @@ fn flat(alloc: Global, count: u32) -> Result<Records, Fail> {
     Ok(records)
 }
 
+/// What a store from a first number answers to a scan of records.
+fn answer_from(alloc: Global, first: u32, records: &Records) -> Result<String, Fail> {
+    let mut store = Store::new(alloc, first)?;
+    if records.len() > 100_000 {
+        return Ok(String::new(alloc));
+    }
+    let answer = store.apply(alloc, records);
+    answer_text(alloc, answer)
+}
+
+/// As many objects as fit, and one more. Of several causes the first in this order is answered: a record that cannot
+/// stand, too many records, too few numbers.
 #[test]
 fn as_many_as_fit(rt: HostRuntime) -> Result<(), Fail> {
     let alloc = rt.alloc();
-    let mut store = Store::new(alloc, 0)?;
-    for (count, answer) in [(65_536, "full 65536 "), (65_535, "0-65535 ")] {
-        let records = flat(alloc, count)?;
-        assert!(rt; records.len() < 100_000);
-        let answered = store.apply(alloc, &records);
-        let text = answer_text(alloc, answered)?;
-        assert_eq!(rt; text.as_str(), answer);
-    }
-    assert_eq!(rt; store.len(), 65_536);
+    let mut most = flat(alloc, 65_535)?;
+    let whole = answer_from(alloc, 0, &most)?;
+    assert_eq!(rt; whole.as_str(), "0-65535 ");
+    let spent = answer_from(alloc, 4_294_967_295, &most)?;
+    assert_eq!(rt; spent.as_str(), "spent 65535 ");
+    most.push(record_of(alloc, "one_more")?)?;
+    let full = answer_from(alloc, 4_294_967_295, &most)?;
+    assert_eq!(rt; full.as_str(), "full 65536 ");
+    most.push(record_of(alloc, "t7")?)?;
+    let bad = answer_from(alloc, 4_294_967_295, &most)?;
+    assert_eq!(rt; bad.as_str(), "bad 65537 ");
     Ok(())
 }
