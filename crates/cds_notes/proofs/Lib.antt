@@ -4,3 +4,5 @@ pub mod Told
 pub mod Counted
 pub mod Leads
 pub mod LeadsSpan
+pub mod Kept
+pub mod Settled
