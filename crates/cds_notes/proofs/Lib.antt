@@ -6,3 +6,4 @@ pub mod Leads
 pub mod LeadsSpan
 pub mod Kept
 pub mod Settled
+pub mod Served

@@ -6,3 +6,4 @@ pub mod Given
 pub mod Inbox
 pub mod InboxLaws
 pub mod StepLaws
+pub mod ServerLaws
