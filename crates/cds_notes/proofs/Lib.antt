@@ -7,3 +7,5 @@ pub mod LeadsSpan
 pub mod Kept
 pub mod Settled
 pub mod Served
+pub mod Among
+pub mod Sent
