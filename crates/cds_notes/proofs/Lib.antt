@@ -9,3 +9,4 @@ pub mod Settled
 pub mod Served
 pub mod Among
 pub mod Sent
+pub mod Spanned
