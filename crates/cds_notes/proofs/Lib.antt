@@ -10,3 +10,4 @@ pub mod Served
 pub mod Among
 pub mod Sent
 pub mod Spanned
+pub mod Chain

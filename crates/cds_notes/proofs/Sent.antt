@@ -344,6 +344,12 @@ all-sound first (command ∷ older) =
     (among-all (Fresh first older (granted (command ∷ older)) (released_to first (releases_of first (command ∷ older)))) (sent_by first older (notes_of first older) command) note
     (fresh first older command (all-sound first older) (some-older first older)) a)))
 
+pub all-fresh : (first : ℕ) (older : List Command) (command : Command) (note : Note) → Among note (sent_by first older (notes_of first older) command)
+    → Fresh first older (granted (command ∷ older)) (released_to first (releases_of first (command ∷ older))) note
+all-fresh first older command note a =
+    among-all (Fresh first older (granted (command ∷ older)) (released_to first (releases_of first (command ∷ older)))) (sent_by first older (notes_of first older) command) note
+    (fresh first older command (all-sound first older) (some-older first older)) a
+
 -- ---- one note after another
 
 -- a note's events are those of a span that begins at or below the number of the note before it, and at that number where
@@ -386,8 +392,7 @@ follows-all first (command ∷ older) before note a b named next =
     sound n c = among-all (Sound first older) (notes_of first older) n (all-sound first older) c
 
     new : (n : Note) → Among n sent → Fresh first older (granted (command ∷ older)) (released_to first (releases_of first (command ∷ older))) n
-    new n c = among-all (Fresh first older (granted (command ∷ older)) (released_to first (releases_of first (command ∷ older)))) sent n
-        (fresh first older command (all-sound first older) (some-older first older)) c
+    new n c = all-fresh first older command n c
 
     same : next_seq_of before.name (notes_of first older) ≡ next_seq_of note.name (notes_of first older)
     same = ap (λ (n : ℕ). next_seq_of n (notes_of first older)) named

@@ -1,5 +1,5 @@
 -- Changes of spans: those above a number, spans that join, and spans without a change.
-use Rattle.std.proofs.Common.{◌≡◌, ◌⊎◌, inl, inr, ◌+◌, ◌<◌, ◌≤◌, ℕ, max, Bool, true, false, cond, ◌&&◌, nat_lt, nat_le, List, [], ◌∷◌, ◌++◌, filter, refl, sym, ap, ◌∙◌, arith, true≢false, lt-ltb, le-ltb, ltb-true, ltb-false, le-leb}
+use Rattle.std.proofs.Common.{◌≡◌, ◌⊎◌, inl, inr, ◌+◌, ◌<◌, ◌≤◌, ℕ, max, Bool, true, false, cond, ◌&&◌, nat_lt, nat_le, List, [], ◌∷◌, ◌++◌, filter, refl, sym, ap, ◌∙◌, arith, true≢false, lt-ltb, le-ltb, ltb-true, ltb-false, leb-true, leb-false}
 use Rattle.std.proofs.lemmas.Bool.{lt-leb}
 use Rattle.std.proofs.lemmas.List.Elements.{filter-append}
 use Rattle.cds_event.specs.declared.Event.{Event}
@@ -110,9 +110,9 @@ told-then-new history p middle to l = by (nat_le p middle) refl
     by : (b : Bool) → nat_le p middle ≡ b
         → filter is_change (events_between history p middle) ++ changes_above p (events_between history middle to) ≡ filter is_change (events_between history p to)
     by true e =
-        let low = Rattle.std.proofs.Common.leb-true p middle e in
+        let low = leb-true p middle e in
         ap (λ (x : List Event). filter is_change (events_between history p middle) ++ x) (above-all history p middle to low) ∙ told-join history p middle to low l
     by false e =
-        let high = Rattle.std.proofs.Common.leb-false p middle e in
+        let high = leb-false p middle e in
         ap (λ (x : List Event). x ++ changes_above p (events_between history middle to)) (none-told history p middle (omega (arith, high)))
         ∙ above-told history p middle to (omega (arith, high))

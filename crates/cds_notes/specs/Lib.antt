@@ -7,3 +7,4 @@ pub mod Inbox
 pub mod InboxLaws
 pub mod StepLaws
 pub mod ServerLaws
+pub mod NoteLaws

@@ -1,6 +1,7 @@
 //! Laws of notes: each function's contract is one of them, and calling it gives the law.
 
 ghost use Rattle.cds_notes.specs.InboxLaws as inbox;
+ghost use Rattle.cds_notes.specs.NoteLaws as notes;
 ghost use Rattle.cds_notes.specs.ServerLaws as server;
 ghost use Rattle.cds_notes.specs.StepLaws as steps;
 
@@ -45,4 +46,10 @@ pub fn versions_are_told()
 /// Between two equal numbers no change lies.
 pub fn equal_numbers_have_no_change_between()
     ensures { server.equal_numbers_have_no_change_between }
+{}
+
+/// The notes of a subscription from the first after its initial one hold every change above that one's number, up to the
+/// last one's, each once and in order, whatever was released before it was granted.
+pub fn notes_hold_every_change()
+    ensures { notes.notes_hold_every_change }
 {}
