@@ -11,3 +11,4 @@ pub mod Among
 pub mod Sent
 pub mod Spanned
 pub mod Chain
+pub mod Happened
