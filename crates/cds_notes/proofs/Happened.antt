@@ -135,7 +135,7 @@ marks-known id number rows (StDone other n) can m = none≢some None number refl
 -- ---- a read
 
 -- a read of an object's own row
-reads-known : (id other : ℕ) (v : Version) (rows : List KnownRow) (row : KnownRow) → known_of id rows ≡ Some row
+pub reads-known : (id other : ℕ) (v : Version) (rows : List KnownRow) (row : KnownRow) → known_of id rows ≡ Some row
     → (now : KnownRow) × (known_of id (read_anew rows other v) ≡ Some now)
     × (now.says ≡ cond (nat_eq other id) (Some (newer v row.says)) row.says)
 reads-known id other v [] row e = none≢some None row refl e

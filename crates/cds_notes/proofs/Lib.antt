@@ -12,3 +12,5 @@ pub mod Sent
 pub mod Spanned
 pub mod Chain
 pub mod Happened
+pub mod Copies
+pub mod CopyOf
