@@ -14,3 +14,4 @@ pub mod Chain
 pub mod Happened
 pub mod Copies
 pub mod CopyOf
+pub mod Stages
