@@ -15,3 +15,4 @@ pub mod Happened
 pub mod Copies
 pub mod CopyOf
 pub mod Stages
+pub mod Following
