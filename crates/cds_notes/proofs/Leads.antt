@@ -30,7 +30,7 @@ use Rattle.cds_changes.specs.Events.{event_of, class_of}
 use Rattle.cds_notes.specs.Copy.{KnownRow, knows, knows_container, knows_child, raised_count, counts_addition, counts_modification, counts_deletion, counted, parent_in, put_known, added_row, cannot_be, changed}
 use Rattle.cds_notes.specs.StepLaws.{IsLike, AreLike}
 use Rattle.cds_notes.proofs.Like.{unplaced, like-filter, like-any, like-push}
-use Rattle.cds_notes.proofs.Told.{numbers-tell, any-found, any-none, id_at-found, parent-is, shown-is, parent-shown, rows-tell, above-root}
+use Rattle.cds_notes.proofs.Told.{kinds, numbers-tell, any-found, any-none, id_at-found, parent-is, shown-is, parent-shown, rows-tell, above-root}
 use Rattle.cds_notes.proofs.Counted.{tracked, agree, Counts, like-counted, like-kept, each-known, each-counted, put-last, new-like, parent-found}
 
 -- what an event does: it can be on the rows that are known, and leads to rows like others
@@ -250,12 +250,6 @@ module _ (first : ℕ) (older : List Change) (legal : IsLegal older) (room : fir
   module _ (at : Place) (written : Content) (may : MayFollow older (Modification at written)) where
     Fits : PlacedRow → Type 0
     Fits placed = same_path at placed.0 ≡ true → is_folder placed.1.content ≡ is_folder written
-
-    kinds : (a b : Content) → same_kind a b ≡ true → is_folder a ≡ is_folder b
-    kinds (Folder title) (Folder other) e = refl
-    kinds (Folder title) (Track track) e = absurd (true≢false (sym e))
-    kinds (Track track) (Folder title) e = absurd (true≢false (sym e))
-    kinds (Track track) (Track other) e = refl
 
     stood : find_in (shown older) at ≡ Some may.0
     stood = shown-is first older legal at may.0 may.1

@@ -66,7 +66,7 @@ no-change-done number changes [] = refl
 no-change-done number changes (head ∷ heads) = no-change-done number changes heads
 
 -- of the events of a change its own alone tells one
-one-change : (first : ℕ) (scan : List Change) (change : Change) (older : List Change)
+pub one-change : (first : ℕ) (scan : List Change) (change : Change) (older : List Change)
     → filter is_change (change_events first scan change older) ≡ event_of (first + length (change ∷ older)) older change (is_in_subtree scan change) ∷ []
 one-change first scan change older =
     (λ i. cond (tells (first + length (change ∷ older)) older change (is_in_subtree scan change) i) (told ∷ filter is_change done) (filter is_change done))
@@ -126,20 +126,31 @@ newest-span first library older =
     sum : first + length (changes_of older) + length (found (latest older) library) ≡ to
     sum = let both = length-append (found (latest older) library) (changes_of older) in omega (arith, both)
 
-pub catalog-over : (first : ℕ) (maps : List FolderMap) → AreLibraries maps
-    → catalog (record { first = first; maps = maps }) ≡ unplaced (rows_over first (changes_of maps))
-catalog-over first maps all = ap unplaced (placed_rows_over first maps all)
+-- the changes of the folder maps that came after older ones
+abbrev pub told : ℕ → List FolderMap → List FolderMap → List Event
+told first newer older =
+    filter is_change (events_between (record { first = first; maps = newer ++ older }) (end_of (record { first = first; maps = older })) (end_of (record { first = first; maps = newer ++ older })))
 
-pub spans-lead : spans_lead_to_the_rows
-spans-lead first [] older known all room like =
-    subst (λ (l : List Event). LeadsTo known (filter is_change l) (catalog (record { first = first; maps = older })))
-    (sym (none_above end end end first (all_events first older) (all-lie first older) (omega arith))) (refl, like)
+-- the changes that a scan found
+abbrev pub scan_told : ℕ → FolderMap → List FolderMap → List Event
+scan_told first library older = filter is_change (scan_events first (changes_of older) (found (latest older) library) (found (latest older) library))
+
+pub nothing-told : (first : ℕ) (older : List FolderMap) → told first [] older ≡ []
+nothing-told first older = ap (filter is_change) (none_above end end end first (all_events first older) (all-lie first older) (omega arith))
   where
     end : ℕ
     end = end_of (record { first = first; maps = older })
-spans-lead first (library ∷ newer) older known all room like =
+
+pub told-more : (first : ℕ) (library : FolderMap) (newer older : List FolderMap)
+    → told first (library ∷ newer) older ≡ told first newer older ++ scan_told first library (newer ++ older)
+told-more first library newer older =
+    let rise = length_of_more newer older in
     let both = length-append (found (latest (newer ++ older)) library) (changes_of (newer ++ older)) in
-    on (spans-lead first newer older known all.1 (omega (arith, both, room)) like)
+    ap (filter is_change) (spans-join now from to (end_of now) (omega (arith, rise)) (omega (arith, both))
+    ∙ ap (λ (l : List Event). l ++ events_between now to (end_of now)) (spans-stay first (library ∷ []) (newer ++ older) from to (omega arith))
+    ∙ ap (λ (l : List Event). events_between before from to ++ l) (newest-span first library (newer ++ older)))
+    ∙ filter-append is_change (events_between before from to)
+    (scan_events first (changes_of (newer ++ older)) (found (latest (newer ++ older)) library) (found (latest (newer ++ older)) library))
   where
     before : History
     before = record { first = first; maps = newer ++ older }
@@ -153,26 +164,25 @@ spans-lead first (library ∷ newer) older known all room like =
     to : ℕ
     to = end_of before
 
-    scan : List Event
-    scan = scan_events first (changes_of (newer ++ older)) (found (latest (newer ++ older)) library) (found (latest (newer ++ older)) library)
+pub catalog-over : (first : ℕ) (maps : List FolderMap) → AreLibraries maps
+    → catalog (record { first = first; maps = maps }) ≡ unplaced (rows_over first (changes_of maps))
+catalog-over first maps all = ap unplaced (placed_rows_over first maps all)
 
-    earlier : List Event
-    earlier = filter is_change (events_between before from to)
+pub spans-lead : spans_lead_to_the_rows
+spans-lead first [] older known all room like =
+    subst (λ (l : List Event). LeadsTo known l (catalog (record { first = first; maps = older }))) (sym (nothing-told first older)) (refl, like)
+spans-lead first (library ∷ newer) older known all room like =
+    let both = length-append (found (latest (newer ++ older)) library) (changes_of (newer ++ older)) in
+    on (spans-lead first newer older known all.1 (omega (arith, both, room)) like)
+  where
+    now : List ObjectRow
+    now = catalog (record { first = first; maps = library ∷ newer ++ older })
 
-    parts : filter is_change (events_between now from (end_of now)) ≡ earlier ++ filter is_change scan
-    parts =
-        let rise = length_of_more newer older in
-        let both = length-append (found (latest (newer ++ older)) library) (changes_of (newer ++ older)) in
-        ap (filter is_change) (spans-join now from to (end_of now) (omega (arith, rise)) (omega (arith, both))
-        ∙ ap (λ (l : List Event). l ++ events_between now to (end_of now)) (spans-stay first (library ∷ []) (newer ++ older) from to (omega arith))
-        ∙ ap (λ (l : List Event). events_between before from to ++ l) (newest-span first library (newer ++ older)))
-        ∙ filter-append is_change (events_between before from to) scan
-
-    on : LeadsTo known earlier (catalog before) → LeadsTo known (filter is_change (events_between now from (end_of now))) (catalog now)
+    on : LeadsTo known (told first newer older) (catalog (record { first = first; maps = newer ++ older })) → LeadsTo known (told first (library ∷ newer) older) now
     on led =
-        subst (λ (l : List Event). LeadsTo known l (catalog now)) (sym parts)
-        (leads-append known earlier (filter is_change scan) (catalog now) led.0
-        (subst (LeadsTo (changed_by known earlier) (filter is_change scan)) (sym (catalog-over first (library ∷ newer ++ older) all))
+        subst (λ (l : List Event). LeadsTo known l now) (sym (told-more first library newer older))
+        (leads-append known (told first newer older) (scan_told first library (newer ++ older)) now led.0
+        (subst (LeadsTo (changed_by known (told first newer older)) (scan_told first library (newer ++ older))) (sym (catalog-over first (library ∷ newer ++ older) all))
         (scan-leads first (changes_of (newer ++ older)) (found (latest (newer ++ older)) library) (found (latest (newer ++ older)) library)
-        (changed_by known earlier) (history_is_legal (library ∷ newer ++ older) all).0 room
-        (subst (AreLike (changed_by known earlier)) (catalog-over first (newer ++ older) all.1) led.1))))
+        (changed_by known (told first newer older)) (history_is_legal (library ∷ newer ++ older) all).0 room
+        (subst (AreLike (changed_by known (told first newer older))) (catalog-over first (newer ++ older) all.1) led.1))))

@@ -4,3 +4,15 @@ pub mod Told
 pub mod Counted
 pub mod Leads
 pub mod LeadsSpan
+pub mod Kept
+pub mod Settled
+pub mod Served
+pub mod Among
+pub mod Sent
+pub mod Spanned
+pub mod Chain
+pub mod Happened
+pub mod Copies
+pub mod CopyOf
+pub mod Stages
+pub mod Following

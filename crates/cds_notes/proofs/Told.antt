@@ -4,8 +4,10 @@ use Rattle.std.specs.List.{AllByRecursion, list_any, count_by}
 use Rattle.std.specs.Option.{option_eq}
 use Rattle.std.proofs.lemmas.Bool.{false_from_ne_true}
 use Rattle.cds_object.specs.Path.{same_path, parent_of}
+use Rattle.cds_object.specs.Content.{same_kind}
 use Rattle.cds_object.specs.Object.{is_folder}
 use Rattle.cds_object.specs.declared.content.Content.{Content}
+use Rattle.cds_object.specs.declared.content.Content.TheVariants.{Folder, Track}
 use Rattle.cds_catalog.specs.Library.{FolderMap}
 use Rattle.cds_catalog.specs.Catalog.{PlacedRow, id_of, parent_id_of, root_entry}
 use Rattle.cds_catalog.specs.Replay.{stands, live, IsLegal}
@@ -83,6 +85,12 @@ id_at-found first changes (e ∷ es) p content f = by (same_path p e.0) refl f (
     by false x k r = r k
 
 -- ---- what stands
+
+pub kinds : (a b : Content) → same_kind a b ≡ true → is_folder a ≡ is_folder b
+kinds (Folder title) (Folder other) e = refl
+kinds (Folder title) (Track track) e = absurd (true≢false (sym e))
+kinds (Track track) (Folder title) e = absurd (true≢false (sym e))
+kinds (Track track) (Track other) e = refl
 
 pub parent-is : (changes : List Change) (p : Place) → same_path p [] ≡ false → parent_id_of changes p ≡ Some (id_of changes (parent_of p))
 parent-is changes [] n = absurd (true≢false n)

@@ -6,3 +6,5 @@ pub mod Given
 pub mod Inbox
 pub mod InboxLaws
 pub mod StepLaws
+pub mod ServerLaws
+pub mod NoteLaws

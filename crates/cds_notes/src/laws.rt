@@ -1,6 +1,8 @@
 //! Laws of notes: each function's contract is one of them, and calling it gives the law.
 
 ghost use Rattle.cds_notes.specs.InboxLaws as inbox;
+ghost use Rattle.cds_notes.specs.NoteLaws as notes;
+ghost use Rattle.cds_notes.specs.ServerLaws as server;
 ghost use Rattle.cds_notes.specs.StepLaws as steps;
 
 /// The notes that were taken are the longest run of SEQs from 0 on that were received.
@@ -17,4 +19,37 @@ pub fn the_least_is_missing()
 /// end: what a copy counts from notes is what the server's catalog has.
 pub fn spans_lead_to_the_rows()
     ensures { steps.spans_lead_to_the_rows }
+{}
+
+/// Commands that were accepted make an honest server: its rows are trees, its numbers never fall, and equal numbers have
+/// equal rows.
+pub fn commands_are_servers()
+    ensures { server.commands_are_servers }
+{}
+
+/// An id and an objectUpdateID determine what the object says, and an id alone its parent and its kind.
+pub fn versions_have_one_content()
+    ensures { server.versions_have_one_content }
+{}
+
+/// An objectUpdateID that is not above an earlier number is that of the object's row then, which said the same.
+pub fn versions_are_settled()
+    ensures { server.versions_are_settled }
+{}
+
+/// Of what stands now the changes since an earlier number tell: it was added or modified at its objectUpdateID, where that
+/// is above this number, and nothing deleted it since.
+pub fn versions_are_told()
+    ensures { server.versions_are_told }
+{}
+
+/// Between two equal numbers no change lies.
+pub fn equal_numbers_have_no_change_between()
+    ensures { server.equal_numbers_have_no_change_between }
+{}
+
+/// The notes of a subscription from the first after its initial one hold every change above that one's number, up to the
+/// last one's, each once and in order, whatever was released before it was granted.
+pub fn notes_hold_every_change()
+    ensures { notes.notes_hold_every_change }
 {}

@@ -9,5 +9,9 @@ pub use evaluated::{
     early_notes_are_dropped, notes_out_of_order, notes_taken_at_once, read_ahead_of_notes,
     read_of_what_is_gone, repeated_notes,
 };
-pub use laws::{spans_lead_to_the_rows, the_least_is_missing, the_longest_run_is_taken};
+pub use laws::{
+    commands_are_servers, equal_numbers_have_no_change_between, notes_hold_every_change,
+    spans_lead_to_the_rows, the_least_is_missing, the_longest_run_is_taken, versions_are_settled, versions_are_told,
+    versions_have_one_content,
+};
 pub use says::Says;

@@ -1,0 +1,260 @@
+-- A replica of an honest server takes each reply and each note, and goes on following it.
+use Rattle.std.proofs.Common.{◌≡◌, ◌⊎◌, inl, inr, ◌+◌, ◌-◌, ◌<◌, ◌≤◌, ℕ, zero, suc, max, Bool, true, false, cond, not, ◌&&◌, nat_eq, nat_lt, nat_le, List, [], ◌∷◌, ◌++◌, map, filter, reverse, length, Option, Some, None, refl, sym, ap, ◌∙◌, subst, arith, true≢false, eq-eqb, lt-ltb, ltb-true, ltb-false, append_assoc}
+use Rattle.std.specs.List.{AllByRecursion, range_with_len}
+use Rattle.std.specs.Option.{option_map}
+use Rattle.std.proofs.lemmas.Bool.{cases_lt}
+use Rattle.std.proofs.lemmas.List.{append-nil}
+use Rattle.cds_object.specs.Object.{ObjectRow, is_folder}
+use Rattle.cds_object.specs.Tree.{row_of}
+use Rattle.cds_event.specs.declared.Event.{Event}
+use Rattle.cds_catalog.specs.History.{end_of}
+use Rattle.cds_catalog.proofs.StepsFind.{none≢some}
+use Rattle.cds_model.specs.declared.exchange.Ask.{Ask}
+use Rattle.cds_model.specs.declared.exchange.Ask.TheVariants.{Token, Number as AskNumber, Metadata, Children}
+use Rattle.cds_model.specs.declared.exchange.Shown.{Shown}
+use Rattle.cds_model.specs.declared.exchange.Shown.TheVariants.{Text, Number, Page, Fault}
+use Rattle.cds_model.specs.Server.{Moment, reply_to, metadata_reply, update_of as reply_update}
+use Rattle.cds_model.specs.Replica.{Listing, Held, Idle, Begun, HasToken, HasNumber, HasRoot, Lists, HasPage, HasCopy, Taken, Holds, Unreadable, Torn, taken, next_ask as load_ask}
+use Rattle.cds_model.proofs.Trees.{found-id}
+use Rattle.cds_model.proofs.Honest.{Had, IsGiven}
+use Rattle.cds_model.proofs.Replies.{TakesGiven, reply-given}
+use Rattle.cds_model.proofs.Servers.{StoodAt, server-serves}
+use Rattle.cds_changes.specs.Events.{events_between, is_change, update_of}
+use Rattle.cds_changes.proofs.Told.{spans-tell}
+use Rattle.cds_notes.specs.Commands.{Command, Note, scans_of}
+use Rattle.cds_notes.specs.Copy.{KnownRow, Happening, Changes, Reads, rows_after, known_of, least_unread}
+use Rattle.cds_notes.specs.Follow.{Known, position, changes_above, Outcome, Knows, CannotBeRead, Jumps, Tears, first_torn, judged, counted_from, with_changes, load_begun, new_changes, greatest_of, is_drop, dropped, heard_of, with_notes, load_ended, loaded, is_of, row_read, object_read, copy_read, with_reply, ask_of, next_ask}
+use Rattle.cds_notes.specs.Given.{AreAccepted, oldest}
+use Rattle.cds_notes.specs.ServerLaws.{served, told_between, befalling}
+use Rattle.cds_notes.proofs.Spanned.{above-changes, none-told, told-join}
+use Rattle.cds_notes.proofs.Served.{risen, serves, one-id, dropped-grows}
+use Rattle.cds_notes.proofs.Sent.{first-is, grows-rise}
+use Rattle.cds_notes.proofs.Copies.{known-like}
+use Rattle.cds_notes.proofs.CopyOf.{IsCopy, copy-begins, copy-later, copy-goes, copy-reads, least-is-unread, unread-known}
+use Rattle.cds_notes.proofs.Stages.{Bounds, bounds-later, taken-bounds, reply-number, greatest-least, greatest-max, Past, IsLoading, Stage, IsFollowing, AreNext, AreTaken, past-low}
+
+-- what becomes of a note or a reply: it is taken, and what is known then follows the server
+abbrev pub Follows : ℕ → List Command → ℕ → Outcome → Type 0
+Follows first commands k outcome = (now : Known) × (outcome ≡ Knows now) × IsFollowing first commands k now
+
+module _ (first : ℕ) (commands : List Command) (accepted : AreAccepted first commands) where
+  abbrev told : ℕ → ℕ → List Event
+  told from to = told_between first commands from to
+
+  number-bounds : (k : ℕ) → (first ≤ (served first commands k).number) × ((served first commands k).number ≤ end_of (scans_of first commands))
+  number-bounds k = (
+    let is = first-is first (oldest k commands) in omega (arith, is),
+    grows-rise first commands (oldest k commands) (dropped-grows first (length commands - k) commands),
+  )
+
+  -- the first change that is told above a number is the one after it
+  starts : (i j : ℕ) (event : Event) (events : List Event) → (served first commands i).number ≤ (served first commands j).number
+      → told (served first commands i).number (served first commands j).number ≡ event ∷ events → update_of event ≡ (served first commands i).number + 1
+  starts i j event events l e = by (to - from) refl row
+    where
+      from : ℕ
+      from = (served first commands i).number
+
+      to : ℕ
+      to = (served first commands j).number
+
+      more : from + (to - from) ≡ to
+      more = omega (arith, l)
+
+      row : update_of event ∷ map update_of events ≡ range_with_len (from + 1) (to - from)
+      row =
+          let low = (number-bounds i).0 in
+          let high = (number-bounds j).1 in
+          let is = first-is first commands in
+          ap (map update_of) (sym e) ∙ ap (λ (n : ℕ). map update_of (told from n)) (sym more)
+          ∙ spans-tell (scans_of first commands) from (to - from) (omega (arith, low, is)) (omega (arith, l, high))
+
+      by : (n : ℕ) → to - from ≡ n → update_of event ∷ map update_of events ≡ range_with_len (from + 1) n → update_of event ≡ from + 1
+      by zero s r = absurd (cc)
+      by (suc n) s r = cc
+
+  -- changes that go on from a copy's position are counted on it
+  counted : (k base : ℕ) (rows : List ObjectRow) (happenings : List Happening) (at j : ℕ) (known : Known) → j ≤ k
+      → IsCopy first commands k base rows happenings at → at ≤ (served first commands j).number → known.happenings ≡ happenings
+      → (now : List Happening) × (counted_from rows known at (told at (served first commands j).number) ≡ Knows (record known { happenings = now }))
+      × IsCopy first commands k base rows now (served first commands j).number
+  counted k base rows happenings at j known l copy ahead same =
+      let goes = copy-goes first commands accepted k base rows happenings at j l copy ahead in
+      by (told at (served first commands j).number) refl goes.0 goes.1
+    where
+      here : at ≡ (served first commands copy.at).number
+      here = copy.here
+
+      by : (events : List Event) → told at (served first commands j).number ≡ events → first_torn (rows_after rows happenings) events ≡ None
+          → IsCopy first commands k base rows (befalling events ++ happenings) (served first commands j).number
+          → (now : List Happening) × (counted_from rows known at events ≡ Knows (record known { happenings = now }))
+          × IsCopy first commands k base rows now (served first commands j).number
+      by [] e none goes = (happenings, (λ i. Knows (record known { happenings = same i })), goes)
+      by (event ∷ events) e none goes =
+          let first-one : update_of event ≡ at + 1 =
+          starts copy.at j event events (let h = here in let a = ahead in omega (arith, h, a)) (ap (λ (n : ℕ). told n (served first commands j).number) (sym here) ∙ e)
+          ∙ ap (λ (n : ℕ). n + 1) (sym here) in (
+            befalling (event ∷ events) ++ happenings,
+            (λ i. cond (eq-eqb (update_of event) (at + 1) first-one i) (judged known (event ∷ events) (first_torn (rows_after rows known.happenings) (event ∷ events))) (Jumps (at + 1) (update_of event)))
+                ∙ ap (judged known (event ∷ events)) (ap (λ (hs : List Happening). first_torn (rows_after rows hs) (event ∷ events)) same ∙ none)
+                ∙ (λ i. Knows (record known { happenings = befalling (event ∷ events) ++ same i })),
+            goes,
+          )
+
+  -- ---- notes
+
+  new-told : (k at : ℕ) (notes : List Note) → AreNext first commands k at notes → new_changes at notes ≡ told at (greatest_of at notes)
+  new-told k at [] next = sym (none-told (scans_of first commands) at at (omega arith))
+  new-told k at (note ∷ notes) next =
+      ap (λ (l : List Event). l ++ new_changes (max at note.number) notes) (next.1 at (omega arith))
+      ∙ ap (λ (l : List Event). told at note.number ++ l) (new-told k (max at note.number) notes next.2)
+      ∙ by (cases_lt at note.number)
+    where
+      by : (at < note.number) ⊎ (note.number ≤ at)
+          → told at note.number ++ told (max at note.number) (greatest_of (max at note.number) notes) ≡ told at (greatest_of (max at note.number) notes)
+      by (inl l) =
+          let most : max at note.number ≡ note.number = omega (arith, l) in
+          let least = greatest-least (max at note.number) notes in
+          ap (λ (n : ℕ). told at note.number ++ told n (greatest_of (max at note.number) notes)) most
+          ∙ told-join (scans_of first commands) at note.number (greatest_of (max at note.number) notes) (omega (arith, l)) (omega (arith, least, most))
+      by (inr l) =
+          let most : max at note.number ≡ at = omega (arith, l) in
+          ap (λ (x : List Event). x ++ told (max at note.number) (greatest_of (max at note.number) notes)) (none-told (scans_of first commands) at note.number l)
+          ∙ ap (λ (n : ℕ). told n (greatest_of (max at note.number) notes)) most
+
+  past-max : (k a b : ℕ) → Past first commands k a → Past first commands k b → Past first commands k (max a b)
+  past-max k a b p q = by (cases_lt a b)
+    where
+      by : (a < b) ⊎ (b ≤ a) → Past first commands k (max a b)
+      by (inl l) = let same : b ≡ max a b = omega (arith, l) in subst (Past first commands k) same q
+      by (inr l) = let same : a ≡ max a b = omega (arith, l) in subst (Past first commands k) same p
+
+  greatest-past : (k at : ℕ) (notes : List Note) → Past first commands k at → AreNext first commands k at notes → Past first commands k (greatest_of at notes)
+  greatest-past k at [] past next = past
+  greatest-past k at (note ∷ notes) past next = greatest-past k (max at note.number) notes (past-max k at note.number past (inr next.0)) next.2
+
+  position-of : (known : Known) (notes : List Note) → max known.base (greatest_of known.heard notes) ≡ greatest_of (position known) notes
+  position-of known notes = sym (greatest-max known.base known.heard notes)
+
+  -- what the load keeps goes on
+  keeps-on : (k : ℕ) (held : Held) (known : Known) (notes : List Note) → AreNext first commands k (position known) notes → IsLoading first commands k held known
+      → IsLoading first commands k held (record known { kept = known.kept ++ new_changes (position known) notes; heard = greatest_of known.heard notes })
+  keeps-on k held known notes next loading =
+      let least = greatest-least (position known) notes in
+      let is = position-of known notes in
+      let low = loading.before-position in
+      record {
+        from = loading.from;
+        after-base = loading.after-base;
+        before-position = omega (arith, least, is, low);
+        bounds = loading.bounds;
+        kept = ap (λ (l : List Event). l ++ new_changes (position known) notes) loading.kept
+            ∙ ap (λ (l : List Event). told loading.from (position known) ++ l) (new-told k (position known) notes next)
+            ∙ told-join (scans_of first commands) loading.from (position known) (greatest_of (position known) notes) low least
+            ∙ ap (λ (n : ℕ). told loading.from n) (sym is);
+      }
+
+  -- notes that go on from the position
+  next-follow : (k : ℕ) (known : Known) (notes : List Note) → IsFollowing first commands k known → AreNext first commands k (position known) notes
+      → Follows first commands k (heard_of notes (with_changes known.held known (position known) (new_changes (position known) notes)))
+  next-follow k known notes f next = by known.held refl f.given f.stage
+    where
+      new : List Event
+      new = new_changes (position known) notes
+
+      past : Past first commands k (max known.base (greatest_of known.heard notes))
+      past = subst (Past first commands k) (sym (position-of known notes)) (greatest-past k (position known) notes f.past next)
+
+      kept : Known
+      kept = record known { kept = known.kept ++ new; heard = greatest_of known.heard notes }
+
+      loading : (held : Held) → known.held ≡ held → IsGiven (StoodAt (served first commands) k) held → Stage first commands k held kept → Follows first commands k (Knows kept)
+      loading held same given stage = (kept, refl, record {
+        given = subst (IsGiven (StoodAt (served first commands) k)) (sym same) given;
+        past = past;
+        stage = subst (λ (h : Held). Stage first commands k h kept) (sym same) stage;
+      })
+
+      by : (held : Held) → known.held ≡ held → IsGiven (StoodAt (served first commands) k) held → Stage first commands k held known
+          → Follows first commands k (heard_of notes (with_changes held known (position known) new))
+      by Idle same given stage = (record known { heard = greatest_of known.heard notes }, refl, record {
+        given = subst (IsGiven (StoodAt (served first commands) k)) (sym same) given;
+        past = past;
+        stage = subst (λ (h : Held). Stage first commands k h (record known { heard = greatest_of known.heard notes })) (sym same) tt;
+      })
+      by Begun same given stage = loading Begun same given (keeps-on k Begun known notes next stage)
+      by HasToken same given stage = loading HasToken same given (keeps-on k HasToken known notes next stage)
+      by (HasNumber number) same given stage = loading (HasNumber number) same given (keeps-on k (HasNumber number) known notes next stage)
+      by (HasRoot number root) same given stage = loading (HasRoot number root) same given (keeps-on k (HasRoot number root) known notes next stage)
+      by (Lists number listing) same given stage = loading (Lists number listing) same given (keeps-on k (Lists number listing) known notes next stage)
+      by (HasPage number listing page) same given stage = loading (HasPage number listing page) same given (keeps-on k (HasPage number listing page) known notes next stage)
+      by (HasCopy number rows) same given stage = on (there (greatest-past k (position known) notes f.past next))
+        where
+          copy : IsCopy first commands k number rows known.happenings (position known)
+          copy = stage.1
+
+          -- the new position is a number that the server had
+          there : Past first commands k (greatest_of (position known) notes) → (j : ℕ) × (j ≤ k) × (greatest_of (position known) notes ≡ (served first commands j).number)
+          there (inr p) = p
+          there (inl none) =
+              let least = greatest-least (position known) notes in
+              let here = copy.here in
+              (copy.at, copy.within, omega (arith, none, least, here))
+
+          on : (j : ℕ) × (j ≤ k) × (greatest_of (position known) notes ≡ (served first commands j).number)
+              → Follows first commands k (heard_of notes (counted_from rows known (position known) new))
+          on (j, l, is) =
+              let least = greatest-least (position known) notes in
+              let c = counted k number rows known.happenings (position known) j known l copy (omega (arith, least, is)) refl in (
+                record known { happenings = c.0; heard = greatest_of known.heard notes },
+                ap (λ (events : List Event). heard_of notes (counted_from rows known (position known) events))
+                    (new-told k (position known) notes next ∙ ap (λ (n : ℕ). told (position known) n) is)
+                    ∙ ap (heard_of notes) c.1,
+                record {
+                  given = subst (IsGiven (StoodAt (served first commands) k)) (sym same) given;
+                  past = past;
+                  stage = subst (λ (h : Held). Stage first commands k h (record known { happenings = c.0; heard = greatest_of known.heard notes })) (sym same)
+                      (stage.0, subst (IsCopy first commands k number rows c.0) (sym (position-of known notes ∙ is)) c.2);
+                },
+              )
+
+  -- a first note above the position, and those that go on from it
+  drop-follows : (k : ℕ) (known : Known) (note : Note) (rest : List Note) → IsFollowing first commands k known → note.events ≡ [] → position known < note.number
+      → ((j : ℕ) × (j ≤ k) × (note.number ≡ (served first commands j).number)) → AreNext first commands k note.number rest
+      → Follows first commands k (heard_of (note ∷ rest) (with_changes Begun (load_begun known) (position known) (new_changes (position known) (note ∷ rest))))
+  drop-follows k known note rest f none above stood next = (now, refl, record {
+    given = tt;
+    past = subst (Past first commands k) (sym is) (greatest-past k note.number rest (inr stood) next);
+    stage = record {
+      from = note.number;
+      after-base = omega (arith, above);
+      before-position = let least = greatest-least note.number rest in let at = is in omega (arith, least, at);
+      bounds = past-low first commands accepted k note.number (inr stood);
+      kept = ap (λ (events : List Event). changes_above (position known) events ++ new_changes (max (position known) note.number) rest) none
+          ∙ ap (λ (n : ℕ). new_changes n rest) most
+          ∙ new-told k note.number rest next
+          ∙ ap (λ (n : ℕ). told note.number n) (sym is);
+    };
+  })
+    where
+      now : Known
+      now = record (load_begun known) { kept = new_changes (position known) (note ∷ rest); heard = greatest_of known.heard (note ∷ rest) }
+
+      most : max (position known) note.number ≡ note.number
+      most = omega (arith, above)
+
+      is : max known.base (greatest_of known.heard (note ∷ rest)) ≡ greatest_of note.number rest
+      is = position-of known (note ∷ rest) ∙ ap (λ (n : ℕ). greatest_of n rest) most
+
+  -- notes that are taken are none of them refused
+  pub notes-follow : (k : ℕ) (known : Known) (notes : List Note) → IsFollowing first commands k known → AreTaken first commands k (position known) notes
+      → Follows first commands k (with_notes notes known)
+  notes-follow k known notes f (inl t) =
+      subst (λ (d : Known). Follows first commands k (heard_of notes (with_changes d.held d (position known) (new_changes (position known) notes))))
+      (λ i. cond (sym t.0 i) (load_begun known) known)
+      (next-follow k known notes f t.1)
+  notes-follow k known notes f (inr (note, rest, is, zeroth, none, above, stood, next)) =
+      subst (λ (l : List Note). Follows first commands k (with_notes l known)) (sym is)
+      (subst (λ (d : Known). Follows first commands k (heard_of (note ∷ rest) (with_changes d.held d (position known) (new_changes (position known) (note ∷ rest)))))
+      (sym (λ i. cond (eq-eqb note.seq 0 zeroth i && lt-ltb (position known) note.number above i) (load_begun known) known))
+      (drop-follows k known note rest f none above stood next))
