@@ -16,3 +16,4 @@ pub mod Copies
 pub mod CopyOf
 pub mod Stages
 pub mod Following
+pub mod Taken
