@@ -17,3 +17,5 @@ pub mod CopyOf
 pub mod Stages
 pub mod Following
 pub mod Taken
+pub mod Heard
+pub mod Honest
