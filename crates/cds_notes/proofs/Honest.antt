@@ -199,3 +199,174 @@ module _ (first : ℕ) (commands : List Command) (accepted : AreAccepted first c
   pub record IsServed (k : ℕ) (turns : List ReplicaTurn) : Type 0 where
     pub following : IsFollowing first commands k (known_by turns)
     pub hearing : IsHearing first commands k turns (known_by turns).heard
+
+  served-later : (j k : ℕ) (turns : List ReplicaTurn) → j ≤ k → IsServed j turns → IsServed k turns
+  served-later j k turns l s = record {
+    following = following-later first commands accepted j k (known_by turns) l s.following;
+    hearing = hearing-later j k turns (known_by turns).heard l s.hearing;
+  }
+
+  served-by : (k : ℕ) (turns : List ReplicaTurn) (now : Known) → known_by turns ≡ now → IsFollowing first commands k now → IsHearing first commands k turns now.heard → IsServed k turns
+  served-by k turns now is following hearing = record {
+    following = subst (IsFollowing first commands k) (sym is) following;
+    hearing = subst (λ (n : Known). IsHearing first commands k turns n.heard) (sym is) hearing;
+  }
+
+  -- a turn that is not refused
+  and-served : (k : ℕ) (turn : ReplicaTurn) (turns : List ReplicaTurn) → is_refused turn turns ≡ false → IsServed k (turn ∷ turns) → IsServed k (and_turn turn turns)
+  and-served k turn turns free s = subst (IsServed k) (λ i. cond (sym free i) turns (turn ∷ turns)) s
+
+  shows-served : (k : ℕ) (turns : List ReplicaTurn) (ask : Ask) → IsServed k turns → next_ask (known_by turns) ≡ Some ask
+      → IsServed k (and_turn (Shows (reply_to (served first commands k) ask)) turns)
+  shows-served k turns ask s asks =
+      let r = reply-follows first commands accepted k (known_by turns) ask s.following asks in
+      and-served k (Shows (reply_to (served first commands k) ask)) turns (ap is_no r.1)
+      (served-by k (Shows (reply_to (served first commands k) ask) ∷ turns) r.0 (ap (known_after (known_by turns)) r.1) r.2
+      (subst (IsHearing first commands k (Shows (reply_to (served first commands k) ask) ∷ turns))
+      (sym (reply-heard (known_by turns) r.0 (known_by turns).held (reply_to (served first commands k) ask) r.1))
+      (record { sent = s.hearing.sent; early = s.hearing.early; last = s.hearing.last })))
+
+  accepts-served : (k : ℕ) (turns : List ReplicaTurn) (name : ℕ) → IsServed k turns → IsServed k (and_turn (Accepts name) turns)
+  accepts-served k turns name s =
+      let r = notes-follow first commands accepted k (known_by turns) (taken_by (Accepts name) turns) s.following (accepted-taken k turns name s.hearing) in
+      and-served k (Accepts name) turns (ap is_no r.1)
+      (served-by k (Accepts name ∷ turns) r.0 (ap (known_after (known_by turns)) r.1) r.2
+      (accepted-hearing k turns name s.hearing r.0.heard (notes-heard (taken_by (Accepts name) turns) (known_by turns) r.0 r.1)))
+
+  delivers-served : (k : ℕ) (turns : List ReplicaTurn) (note : Note) → Among note (notes_of first (oldest k commands)) → IsServed k turns
+      → IsServed k (and_turn (Delivers note) turns)
+  delivers-served k turns note here s = by (is_turned_away (arrival note turns)) refl
+    where
+      r : Follows first commands k (with_notes (taken_by (Delivers note) turns) (known_by turns))
+      r = notes-follow first commands accepted k (known_by turns) (taken_by (Delivers note) turns) s.following (delivered-taken k turns note here s.following s.hearing)
+
+      by : (b : Bool) → is_turned_away (arrival note turns) ≡ b → IsServed k (and_turn (Delivers note) turns)
+      by true e =
+          subst (IsServed k) (λ i. cond (sym e i || is_no (with_notes (taken_by (Delivers note) turns) (known_by turns))) turns (Delivers note ∷ turns)) s
+      by false e =
+          and-served k (Delivers note) turns (λ i. e i || is_no (r.1 i))
+          (served-by k (Delivers note ∷ turns) r.0 (ap (known_after (known_by turns)) r.1) r.2
+          (delivered-hearing k turns note here s.following s.hearing r.0.heard (notes-heard (taken_by (Delivers note) turns) (known_by turns) r.0 r.1)))
+
+  nothing-served : IsServed 0 []
+  nothing-served = record {
+    following = record { given = tt; past = inl (omega arith); stage = tt };
+    hearing = record {
+      sent = λ note a. absurd a;
+      early = λ note a. absurd a;
+      last = λ seq l. let no : ⊥ = omega (arith, l) in absurd no;
+    };
+  }
+
+  pub entries-served : (entries : List Entry) → IsGiven first commands entries → IsServed (latest_length entries) (given_by first commands entries)
+  entries-served [] given = nothing-served
+  entries-served (Starts k ∷ older) given =
+      let s = served-later (latest_length older) k (given_by first commands older) given.0 (entries-served older given.2) in
+      record {
+        following = following-begins first commands accepted k (known_by (given_by first commands older)) s.following;
+        hearing = record { sent = s.hearing.sent; early = s.hearing.early; last = s.hearing.last };
+      }
+  entries-served (Asks k ∷ older) given =
+      by (next_ask (known_by (given_by first commands older))) refl (served-later (latest_length older) k (given_by first commands older) given.0 (entries-served older given.2))
+    where
+      by : (o : Option Ask) → next_ask (known_by (given_by first commands older)) ≡ o → IsServed k (given_by first commands older)
+          → IsServed k (asked_at (moment_after first (oldest k commands)) (given_by first commands older) o)
+      by None e s = s
+      by (Some ask) e s = shows-served k (given_by first commands older) ask s e
+  entries-served (Calls k ∷ older) given =
+      let s = served-later (latest_length older) k (given_by first commands older) given.0 (entries-served older given.2) in
+      record {
+        following = s.following;
+        hearing = record { sent = s.hearing.sent; early = λ note a. absurd a; last = s.hearing.last };
+      }
+  entries-served (Granted k name ∷ older) given =
+      accepts-served k (given_by first commands older) name
+      (served-later (latest_length older) k (given_by first commands older) given.0 (entries-served older given.2))
+  entries-served (Denied k ∷ older) given =
+      let s = served-later (latest_length older) k (given_by first commands older) given.0 (entries-served older given.2) in
+      record {
+        following = s.following;
+        hearing = record { sent = s.hearing.sent; early = λ note a. absurd a; last = s.hearing.last };
+      }
+  entries-served (Gets k note ∷ older) given =
+      delivers-served k (given_by first commands older) note (among-contained (notes_of first (oldest k commands)) note given.1)
+      (served-later (latest_length older) k (given_by first commands older) given.0 (entries-served older given.2))
+
+  -- before an entry
+  before-entry : (entry : Entry) (older : List Entry) → IsGiven first commands (entry ∷ older) → IsServed (length_at entry) (given_by first commands older)
+  before-entry entry older given = served-later (latest_length older) (length_at entry) (given_by first commands older) given.0 (entries-served older given.2)
+
+  pub entry-taken : (entry : Entry) (older : List Entry) → IsGiven first commands (entry ∷ older) → IsTaken first commands entry (given_by first commands older)
+  entry-taken (Starts k) older given = tt
+  entry-taken (Asks k) older given = λ ask asks.
+      let s = before-entry (Asks k) older given in
+      let r = reply-follows first commands accepted k (known_by (given_by first commands older)) ask s.following asks in
+      (r.0, r.1)
+  entry-taken (Calls k) older given = tt
+  entry-taken (Granted k name) older given =
+      let s = before-entry (Granted k name) older given in
+      let turns : List ReplicaTurn = given_by first commands older in
+      let r = notes-follow first commands accepted k (known_by turns) (taken_by (Accepts name) turns) s.following (accepted-taken k turns name s.hearing) in
+      (r.0, r.1)
+  entry-taken (Denied k) older given = tt
+  entry-taken (Gets k note) older given =
+      let s = before-entry (Gets k note) older given in
+      let turns : List ReplicaTurn = given_by first commands older in
+      let here = among-contained (notes_of first (oldest k commands)) note given.1 in
+      let r = notes-follow first commands accepted k (known_by turns) (taken_by (Delivers note) turns) s.following (delivered-taken k turns note here s.following s.hearing) in
+      (r.0, r.1)
+
+  -- where a replica stands
+  pub stood : (k number : ℕ) (turns : List ReplicaTurn) → IsServed k turns → says turns ≡ Stands number
+      → (j : ℕ) × (j ≤ k) × (end_of (scans_of first (oldest j commands)) ≡ number) × (copied (known_by turns) ≡ catalog (scans_of first (oldest j commands)))
+  stood k number turns s stands = by (missing turns) stands
+    where
+      now : Known
+      now = known_by turns
+
+      Goal : List ObjectRow → Type 0
+      Goal rows = (j : ℕ) × (j ≤ k) × (end_of (scans_of first (oldest j commands)) ≡ number) × (rows ≡ catalog (scans_of first (oldest j commands)))
+
+      copy-on : (n : ℕ) (rows : List ObjectRow) → Stage first commands k (HasCopy n rows) (known_by turns) → (o : Option ℕ) → least_unread (known_by turns).happenings ≡ o
+          → copy_says (known_by turns) o ≡ Stands number → Goal (rows_held (HasCopy n rows) (known_by turns).happenings)
+      copy-on n rows stage (Some id) e k = absurd (cc)
+      copy-on n rows stage None e says = read (nat_lt (position (known_by turns)) (read_up_to (known_by turns).happenings)) refl says
+        where
+          copy : IsCopy first commands k n rows (known_by turns).happenings (position (known_by turns))
+          copy = stage.1
+
+          read : (b : Bool) → nat_lt (position (known_by turns)) (read_up_to (known_by turns).happenings) ≡ b
+              → cond b (BehindVersion (read_up_to (known_by turns).happenings)) (Stands (position (known_by turns))) ≡ Stands number
+              → Goal (rows_held (HasCopy n rows) (known_by turns).happenings)
+          read true l f = absurd (cc)
+          read false l f =
+              let most = ltb-false (position (known_by turns)) (read_up_to (known_by turns).happenings) l in
+              let is : position (known_by turns) ≡ number = cc in
+              let base = stage.0 in (
+                copy.at,
+                copy.within,
+                sym copy.here ∙ is,
+                copy-stands first commands accepted k n rows (known_by turns).happenings (position (known_by turns)) copy e (omega (arith, base)) most,
+              )
+
+      on : (held : Held) → Stage first commands k held (known_by turns) → says_without_gap (known_by turns) held ≡ Stands number → Goal (rows_held held (known_by turns).happenings)
+      on Idle stage e = absurd (cc)
+      on Begun stage e = absurd (cc)
+      on HasToken stage e = absurd (cc)
+      on (HasNumber n) stage e = absurd (cc)
+      on (HasRoot n root) stage e = absurd (cc)
+      on (Lists n listing) stage e = absurd (cc)
+      on (HasPage n listing page) stage e = absurd (cc)
+      on (HasCopy n rows) stage e = copy-on n rows stage (least_unread (known_by turns).happenings) refl e
+
+      by : (o : Option ℕ) → says_of o (known_by turns) ≡ Stands number → Goal (copied (known_by turns))
+      by (Some seq) e = absurd (cc)
+      by None e = on (known_by turns).held s.following.stage e
+
+pub calls-taken : honest_calls_are_taken
+calls-taken first commands entry older accepted given = entry-taken first commands accepted entry older given
+
+pub copies-stood : honest_copies_stood
+copies-stood first commands newest older number accepted given stands =
+    stood first commands accepted (length_at newest) number (given_by first commands (newest ∷ older))
+    (entries-served first commands accepted (newest ∷ older) given) stands
