@@ -20,7 +20,7 @@ use Rattle.cds_notes.proofs.Spanned.{above-told, none-told, told-then-new}
 
 -- ---- the note of a SEQ
 
-note-later : (seq : ℕ) (note first : Note) (older : List Note) → note_of seq older ≡ Some first → note_of seq (note ∷ older) ≡ Some first
+pub note-later : (seq : ℕ) (note first : Note) (older : List Note) → note_of seq older ≡ Some first → note_of seq (note ∷ older) ≡ Some first
 note-later seq note first older e = rw e refl
 
 note-here : (seq : ℕ) (note : Note) (older : List Note) → note_of seq older ≡ None → note_of seq (note ∷ older) ≡ cond (nat_eq note.seq seq) (Some note) None

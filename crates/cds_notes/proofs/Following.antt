@@ -169,27 +169,19 @@ module _ (first : ℕ) (commands : List Command) (accepted : AreAccepted first c
       kept = record known { kept = known.kept ++ new; heard = greatest_of known.heard notes }
 
       loading : (held : Held) → known.held ≡ held → IsGiven (StoodAt (served first commands) k) held → Stage first commands k held kept → Follows first commands k (Knows kept)
-      loading held same given stage = (
-        kept,
-        refl,
-        record {
-          given = subst (IsGiven (StoodAt (served first commands) k)) (sym same) given;
-          past = past;
-          stage = subst (λ (h : Held). Stage first commands k h kept) (sym same) stage;
-        },
-      )
+      loading held same given stage = (kept, refl, record {
+        given = subst (IsGiven (StoodAt (served first commands) k)) (sym same) given;
+        past = past;
+        stage = subst (λ (h : Held). Stage first commands k h kept) (sym same) stage;
+      })
 
       by : (held : Held) → known.held ≡ held → IsGiven (StoodAt (served first commands) k) held → Stage first commands k held known
           → Follows first commands k (heard_of notes (with_changes held known (position known) new))
-      by Idle same given stage = (
-        record known { heard = greatest_of known.heard notes },
-        refl,
-        record {
-          given = subst (IsGiven (StoodAt (served first commands) k)) (sym same) given;
-          past = past;
-          stage = subst (λ (h : Held). Stage first commands k h (record known { heard = greatest_of known.heard notes })) (sym same) tt;
-        },
-      )
+      by Idle same given stage = (record known { heard = greatest_of known.heard notes }, refl, record {
+        given = subst (IsGiven (StoodAt (served first commands) k)) (sym same) given;
+        past = past;
+        stage = subst (λ (h : Held). Stage first commands k h (record known { heard = greatest_of known.heard notes })) (sym same) tt;
+      })
       by Begun same given stage = loading Begun same given (keeps-on k Begun known notes next stage)
       by HasToken same given stage = loading HasToken same given (keeps-on k HasToken known notes next stage)
       by (HasNumber number) same given stage = loading (HasNumber number) same given (keeps-on k (HasNumber number) known notes next stage)
@@ -230,24 +222,20 @@ module _ (first : ℕ) (commands : List Command) (accepted : AreAccepted first c
   drop-follows : (k : ℕ) (known : Known) (note : Note) (rest : List Note) → IsFollowing first commands k known → note.events ≡ [] → position known < note.number
       → ((j : ℕ) × (j ≤ k) × (note.number ≡ (served first commands j).number)) → AreNext first commands k note.number rest
       → Follows first commands k (heard_of (note ∷ rest) (with_changes Begun (load_begun known) (position known) (new_changes (position known) (note ∷ rest))))
-  drop-follows k known note rest f none above stood next = (
-    now,
-    refl,
-    record {
-      given = tt;
-      past = subst (Past first commands k) (sym is) (greatest-past k note.number rest (inr stood) next);
-      stage = record {
-        from = note.number;
-        after-base = omega (arith, above);
-        before-position = let least = greatest-least note.number rest in let at = is in omega (arith, least, at);
-        bounds = past-low first commands accepted k note.number (inr stood);
-        kept = ap (λ (events : List Event). changes_above (position known) events ++ new_changes (max (position known) note.number) rest) none
-            ∙ ap (λ (n : ℕ). new_changes n rest) most
-            ∙ new-told k note.number rest next
-            ∙ ap (λ (n : ℕ). told note.number n) (sym is);
-      };
-    },
-  )
+  drop-follows k known note rest f none above stood next = (now, refl, record {
+    given = tt;
+    past = subst (Past first commands k) (sym is) (greatest-past k note.number rest (inr stood) next);
+    stage = record {
+      from = note.number;
+      after-base = omega (arith, above);
+      before-position = let least = greatest-least note.number rest in let at = is in omega (arith, least, at);
+      bounds = past-low first commands accepted k note.number (inr stood);
+      kept = ap (λ (events : List Event). changes_above (position known) events ++ new_changes (max (position known) note.number) rest) none
+          ∙ ap (λ (n : ℕ). new_changes n rest) most
+          ∙ new-told k note.number rest next
+          ∙ ap (λ (n : ℕ). told note.number n) (sym is);
+    };
+  })
     where
       now : Known
       now = record (load_begun known) { kept = new_changes (position known) (note ∷ rest); heard = greatest_of known.heard (note ∷ rest) }
@@ -270,3 +258,150 @@ module _ (first : ℕ) (commands : List Command) (accepted : AreAccepted first c
       (subst (λ (d : Known). Follows first commands k (heard_of (note ∷ rest) (with_changes d.held d (position known) (new_changes (position known) (note ∷ rest)))))
       (sym (λ i. cond (eq-eqb note.seq 0 zeroth i && lt-ltb (position known) note.number above i) (load_begun known) known))
       (drop-follows k known note rest f none above stood next))
+
+  -- ---- replies
+
+  -- a copy from a load that ended, with the changes that were kept
+  ended-follows : (k : ℕ) (known : Known) (number : ℕ) (rows : List ObjectRow) → Past first commands k (position known)
+      → IsGiven (StoodAt (served first commands) k) (HasCopy number rows)
+      → (from : ℕ) → from ≤ number → known.base ≤ from → known.kept ≡ told from (position known) → Follows first commands k (load_ended known number rows)
+  ended-follows k known number rows past given from low after kept = on given.0.stood
+    where
+      ended : Known
+      ended = record { held = HasCopy number rows; base = number; heard = known.heard; kept = []; happenings = [] }
+
+      left : changes_above number known.kept ≡ told number (position known)
+      left = ap (changes_above number) kept ∙ above-changes (scans_of first commands) number from (position known) low
+
+      on : StoodAt (served first commands) k given.0.moment → Follows first commands k (counted_from rows ended number (changes_above number known.kept))
+      on stood = by (cases_lt number (position known))
+        where
+          numbered : number ≡ (served first commands stood.at).number
+          numbered = given.0.numbered ∙ ap (λ (m : Moment). m.number) stood.is
+
+          of-rows : rows ≡ (served first commands stood.at).rows
+          of-rows = given.1 ∙ ap (λ (m : Moment). m.rows) stood.is
+
+          copy : IsCopy first commands k number rows [] number
+          copy =
+              subst (λ (n : ℕ). IsCopy first commands k n rows [] n) (sym numbered)
+              (subst (λ (r : List ObjectRow). IsCopy first commands k (served first commands stood.at).number r [] (served first commands stood.at).number) (sym of-rows)
+              (copy-begins first commands accepted stood.at k stood.within))
+
+          by : (number < position known) ⊎ (position known ≤ number) → Follows first commands k (counted_from rows ended number (changes_above number known.kept))
+          by (inr most) =
+              let same : number ≡ max number known.heard = omega (arith, most) in (
+                ended,
+                ap (counted_from rows ended number) (left ∙ none-told (scans_of first commands) number (position known) most),
+                record {
+                  given = given;
+                  past = inr (stood.at, stood.within, (let n = numbered in omega (arith, n, same)));
+                  stage = (refl, subst (IsCopy first commands k number rows []) same copy);
+                },
+              )
+          by (inl more) = there past
+            where
+              there : Past first commands k (position known) → Follows first commands k (counted_from rows ended number (changes_above number known.kept))
+              there (inl none) = let no : ⊥ = omega (arith, none, more) in absurd no
+              there (inr (j, l, is)) =
+                  let same : (served first commands j).number ≡ max number known.heard = omega (arith, is, more, after, low) in
+                  let c = counted k number rows [] number j ended l copy (omega (arith, is, more)) refl in (
+                    record ended { happenings = c.0 },
+                    ap (counted_from rows ended number) (left ∙ ap (λ (n : ℕ). told number n) is) ∙ c.1,
+                    record {
+                      given = given;
+                      past = inr (j, l, sym same);
+                      stage = (refl, subst (IsCopy first commands k number rows c.0) same c.2);
+                    },
+                  )
+
+  -- a reply to a read of the load
+  load-follows : (k : ℕ) (held : Held) (known : Known) (ask : Ask) → IsFollowing first commands k known → IsLoading first commands k held known
+      → IsGiven (StoodAt (served first commands) k) held → load_ask held ≡ Some ask
+      → Follows first commands k (loaded known (taken held (reply_to (served first commands k) ask)))
+  load-follows k held known ask f loading given asks =
+      let t = reply-given (StoodAt (served first commands) k) (served first commands k) (server-serves (served first commands) k (serves first commands accepted)) held ask asks given in
+      let low = loading.before-position in
+      let most = past-low first commands accepted k (position known) f.past in
+      let bounds = taken-bounds loading.from (served first commands k).number held t.0 (reply_to (served first commands k) ask) (omega (arith, low, most))
+      (λ n e. let is = reply-number (served first commands k) ask n e in omega (arith, low, most, is)) loading.bounds t.1 in
+      subst (λ (x : Taken). Follows first commands k (loaded known x)) (sym t.1) (by t.0 t.2 bounds)
+    where
+      still : (now : Held) → Bounds loading.from (served first commands k).number now → IsLoading first commands k now (record known { held = now })
+      still now bounds = record {
+        from = loading.from;
+        after-base = loading.after-base;
+        before-position = loading.before-position;
+        bounds = bounds;
+        kept = loading.kept;
+      }
+
+      by : (now : Held) → IsGiven (StoodAt (served first commands) k) now → Bounds loading.from (served first commands k).number now → Follows first commands k (loaded known (Holds now))
+      by Idle g b = (record known { held = Idle }, refl, record { given = g; past = f.past; stage = tt })
+      by Begun g b = (record known { held = Begun }, refl, record { given = g; past = f.past; stage = still Begun b })
+      by HasToken g b = (record known { held = HasToken }, refl, record { given = g; past = f.past; stage = still HasToken b })
+      by (HasNumber number) g b = (record known { held = HasNumber number }, refl, record { given = g; past = f.past; stage = still (HasNumber number) b })
+      by (HasRoot number root) g b = (record known { held = HasRoot number root }, refl, record { given = g; past = f.past; stage = still (HasRoot number root) b })
+      by (Lists number listing) g b = (record known { held = Lists number listing }, refl, record { given = g; past = f.past; stage = still (Lists number listing) b })
+      by (HasPage number listing page) g b = (record known { held = HasPage number listing page }, refl, record { given = g; past = f.past; stage = still (HasPage number listing page) b })
+      by (HasCopy number rows) g b = ended-follows k known number rows f.past g loading.from b loading.after-base loading.kept
+
+  -- a reply to a read of an unread object
+  object-follows : (k : ℕ) (known : Known) (number : ℕ) (rows : List ObjectRow) (id : ℕ) → IsFollowing first commands k known → known.held ≡ HasCopy number rows
+      → IsGiven (StoodAt (served first commands) k) (HasCopy number rows) → Stage first commands k (HasCopy number rows) known → least_unread known.happenings ≡ Some id
+      → Follows first commands k (object_read known rows id (metadata_reply (served first commands k) (row_of id (served first commands k).rows)))
+  object-follows k known number rows id f same given stage unread = by (row_of id (served first commands k).rows) refl
+    where
+      copy : IsCopy first commands k number rows known.happenings (position known)
+      copy = stage.1
+
+      kinds : (b c : Bool) → b ≡ c → cond b c (not c) ≡ true
+      kinds true true e = refl
+      kinds true false e = absurd (true≢false e)
+      kinds false true e = absurd (true≢false (sym e))
+      kinds false false e = refl
+
+      by : (o : Option ObjectRow) → row_of id (served first commands k).rows ≡ o → Follows first commands k (object_read known rows id (metadata_reply (served first commands k) o))
+      by None e = (known, refl, f)
+      by (Some row) e =
+          let there = unread-known first commands accepted rows known.happenings copy.possible id (least-is-unread first commands accepted known.happenings id unread) in
+          let was = known-like (rows_after rows known.happenings) (served first commands copy.at).rows id there.0 copy.like there.1 in
+          let one = one-id first commands accepted copy.at k id row was.0 copy.within e was.1 in
+          let kind : is_folder row.content ≡ there.0.folder = sym one.1 ∙ sym was.2.folder in
+          let is : is_of id row (known_of id (rows_after rows known.happenings)) ≡ true =
+          ap (is_of id row) there.1
+          ∙ (λ i. eq-eqb row.id id (found-id id (served first commands k).rows row e) i && kinds (is_folder row.content) there.0.folder kind i) in
+          let now : Known = record known { happenings = Reads id (record { content = row.content; object_update = row.object_update }) ∷ known.happenings } in (
+            now,
+            (λ i. cond (is i) (Knows now) (Tears id)),
+            record {
+              given = subst (IsGiven (StoodAt (served first commands) k)) (sym same) given;
+              past = f.past;
+              stage = subst (λ (h : Held). Stage first commands k h now) (sym same)
+                  (stage.0, copy-reads first commands accepted k number rows known.happenings (position known) copy id row there.0 e there.1);
+            },
+          )
+
+  -- a reply to the next read is not refused
+  pub reply-follows : (k : ℕ) (known : Known) (ask : Ask) → IsFollowing first commands k known → next_ask known ≡ Some ask
+      → Follows first commands k (with_reply known known.held (reply_to (served first commands k) ask))
+  reply-follows k known ask f asks = by known.held refl f.given f.stage asks
+    where
+      by : (held : Held) → known.held ≡ held → IsGiven (StoodAt (served first commands) k) held → Stage first commands k held known → ask_of known held ≡ Some ask
+          → Follows first commands k (with_reply known held (reply_to (served first commands k) ask))
+      by Idle same given stage a = none≢some None ask refl a
+      by Begun same given stage a = load-follows k Begun known ask f stage given a
+      by HasToken same given stage a = load-follows k HasToken known ask f stage given a
+      by (HasNumber number) same given stage a = load-follows k (HasNumber number) known ask f stage given a
+      by (HasRoot number root) same given stage a = load-follows k (HasRoot number root) known ask f stage given a
+      by (Lists number listing) same given stage a = load-follows k (Lists number listing) known ask f stage given a
+      by (HasPage number listing page) same given stage a = load-follows k (HasPage number listing page) known ask f stage given a
+      by (HasCopy number rows) same given stage a = on (least_unread known.happenings) refl a
+        where
+          on : (o : Option ℕ) → least_unread known.happenings ≡ o → option_map (λ (id : ℕ). Metadata id) o ≡ Some ask
+              → Follows first commands k (copy_read known rows o (reply_to (served first commands k) ask))
+          on None e b = none≢some None ask refl b
+          on (Some id) e b =
+              let is : Metadata id ≡ ask = cc in
+              subst (λ (x : Ask). Follows first commands k (copy_read known rows (Some id) (reply_to (served first commands k) x))) is
+              (object-follows k known number rows id f same given stage e)

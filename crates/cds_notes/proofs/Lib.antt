@@ -16,3 +16,6 @@ pub mod Copies
 pub mod CopyOf
 pub mod Stages
 pub mod Following
+pub mod Taken
+pub mod Heard
+pub mod Honest

@@ -8,3 +8,4 @@ pub mod InboxLaws
 pub mod StepLaws
 pub mod ServerLaws
 pub mod NoteLaws
+pub mod HonestLaws

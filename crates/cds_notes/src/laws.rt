@@ -1,5 +1,6 @@
 //! Laws of notes: each function's contract is one of them, and calling it gives the law.
 
+ghost use Rattle.cds_notes.specs.HonestLaws as honest;
 ghost use Rattle.cds_notes.specs.InboxLaws as inbox;
 ghost use Rattle.cds_notes.specs.NoteLaws as notes;
 ghost use Rattle.cds_notes.specs.ServerLaws as server;
@@ -52,4 +53,15 @@ pub fn equal_numbers_have_no_change_between()
 /// last one's, each once and in order, whatever was released before it was granted.
 pub fn notes_hold_every_change()
     ensures { notes.notes_hold_every_change }
+{}
+
+/// No reply and no note of an honest server is refused, in whatever order they come, with losses and repeats.
+pub fn honest_calls_are_taken()
+    ensures { honest.honest_calls_are_taken }
+{}
+
+/// Where a replica of an honest server stands at a number, this is a scan end of the server, and the copy is the catalog
+/// that stood there.
+pub fn honest_copies_stood()
+    ensures { honest.honest_copies_stood }
 {}

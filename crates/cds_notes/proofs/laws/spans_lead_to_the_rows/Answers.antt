@@ -1,4 +1,3 @@
-use Rattle.cds_notes.proofs.Following.{notes-follow}
 use Rattle.cds_notes.proofs.LeadsSpan.{spans-lead}
 use Rattle.cds_notes.proofs.laws.spans_lead_to_the_rows.Goals as goal
 

@@ -1,0 +1,37 @@
+-- Laws of a replica that an honest server gives its replies and notes, in every order, with losses and repeats: nothing that
+-- comes is refused, and where it stands its copy is the server's catalog at a scan end.
+use Rattle.std.specs.Prelude.{◌≡◌, ◌≤◌, ℕ, List, ◌∷◌, Some}
+use Rattle.cds_catalog.specs.History.{end_of}
+use Rattle.cds_catalog.specs.Catalog.{catalog}
+use Rattle.cds_model.specs.Server.{reply_to}
+use Rattle.cds_model.specs.declared.exchange.Ask.{Ask}
+use Rattle.cds_notes.specs.Commands.{Command, scans_of}
+use Rattle.cds_notes.specs.Inbox.{ReplicaTurn, Accepts, Delivers, taken_by}
+use Rattle.cds_notes.specs.Follow.{Known, Knows, known_by, next_ask, with_reply, with_notes, says, copied}
+use Rattle.cds_notes.specs.Given.{oldest, moment_after, Entry, Starts, Asks, Calls, Granted, Denied, Gets, length_at, given_by, AreAccepted, IsGiven}
+use Rattle.cds_notes.specs.declared.says.Says.TheVariants.{Stands}
+
+-- what an entry brings is taken after the turns before it: the reply to the next read, the notes that came early for a name
+-- that is accepted, and those that follow a note which is delivered
+abbrev pub IsTaken : ℕ → List Command → Entry → List ReplicaTurn → Type 0
+IsTaken first commands (Starts k) turns = Unit {0}
+IsTaken first commands (Asks k) turns =
+    (ask : Ask) → next_ask (known_by turns) ≡ Some ask →
+    (now : Known) × (with_reply (known_by turns) (known_by turns).held (reply_to (moment_after first (oldest k commands)) ask) ≡ Knows now)
+IsTaken first commands (Calls k) turns = Unit {0}
+IsTaken first commands (Granted k name) turns = (now : Known) × (with_notes (taken_by (Accepts name) turns) (known_by turns) ≡ Knows now)
+IsTaken first commands (Denied k) turns = Unit {0}
+IsTaken first commands (Gets k note) turns = (now : Known) × (with_notes (taken_by (Delivers note) turns) (known_by turns) ≡ Knows now)
+
+-- no reply and no note of an honest server is refused: none cannot be read, jumps over a change, or tells what cannot be
+abbrev pub honest_calls_are_taken : Type 0
+honest_calls_are_taken = (first : ℕ) (commands : List Command) (entry : Entry) (older : List Entry) → AreAccepted first commands →
+    IsGiven first commands (entry ∷ older) → IsTaken first commands entry (given_by first commands older)
+
+-- where the replica stands at a number, this is the end of the scans of some of the commands, not more than the newest entry
+-- knew, and the copy is the catalog after them
+abbrev pub honest_copies_stood : Type 0
+honest_copies_stood = (first : ℕ) (commands : List Command) (newest : Entry) (older : List Entry) (number : ℕ) → AreAccepted first commands →
+    IsGiven first commands (newest ∷ older) → says (given_by first commands (newest ∷ older)) ≡ Stands number →
+    (j : ℕ) × (j ≤ length_at newest) × (end_of (scans_of first (oldest j commands)) ≡ number)
+    × (copied (known_by (given_by first commands (newest ∷ older))) ≡ catalog (scans_of first (oldest j commands)))
