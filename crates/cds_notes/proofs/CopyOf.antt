@@ -123,9 +123,9 @@ module _ (first : ℕ) (commands : List Command) (accepted : AreAccepted first c
     comes = each-known (λ row e. (j, l, (row, e, refl))) (served first commands j).rows (each-found (served first commands j).rows (rises j));
     bounded = each-bounded (served first commands j).rows (each-found (served first commands j).rows (rises j));
     fresh = λ id row known e f. inl (
-        record { content = row.content; object_update = row.object_update },
-        ap (λ (x : KnownRow). x.says) (same-known (known_of id (map known_row (served first commands j).rows)) known (known_row row) f (known-row (served first commands j).rows id row e)),
-        omega arith,
+      record { content = row.content; object_update = row.object_update },
+      ap (λ (x : KnownRow). x.says) (same-known (known_of id (map known_row (served first commands j).rows)) known (known_row row) f (known-row (served first commands j).rows id row e)),
+      omega arith,
     );
   }
     where
@@ -178,19 +178,21 @@ module _ (first : ℕ) (commands : List Command) (accepted : AreAccepted first c
     unfolding Goes
     goes m =
         subst (λ (n : ℕ). (first_torn (rows_after rows happenings) (told_between first commands n (served first commands j).number) ≡ None)
-        × IsCopy first commands k base rows (befalling (told_between first commands n (served first commands j).number) ++ happenings) (served first commands j).number) (sym copy.here)
-        (led.0, record {
-          at = j;
-          within = l;
-          here = refl;
-          like = subst (λ (known : List KnownRow). AreLike known (served first commands j).rows) (sym after) led.1;
-          possible = possible-befalling rows told happenings copy.possible led.0;
-          comes = subst (AllByRecursion (Comes (ComesFrom first commands k))) (sym after) (comes-changes (ComesFrom first commands k) (rows_after rows happenings) told copy.comes);
-          bounded = subst (λ (n : ℕ). AllByRecursion (Comes (λ id v. v.object_update ≤ max base n)) (rows_after rows (befalling told ++ happenings))) (sym (read-up-to told happenings))
-              (subst (AllByRecursion (Comes (λ id v. v.object_update ≤ max base (read_up_to happenings)))) (sym after)
-              (comes-changes (λ id v. v.object_update ≤ max base (read_up_to happenings)) (rows_after rows happenings) told copy.bounded));
-          fresh = fresh;
-        })
+        × IsCopy first commands k base rows (befalling (told_between first commands n (served first commands j).number) ++ happenings) (served first commands j).number) (sym copy.here) (
+          led.0,
+          record {
+            at = j;
+            within = l;
+            here = refl;
+            like = subst (λ (known : List KnownRow). AreLike known (served first commands j).rows) (sym after) led.1;
+            possible = possible-befalling rows told happenings copy.possible led.0;
+            comes = subst (AllByRecursion (Comes (ComesFrom first commands k))) (sym after) (comes-changes (ComesFrom first commands k) (rows_after rows happenings) told copy.comes);
+            bounded = subst (λ (n : ℕ). AllByRecursion (Comes (λ id v. v.object_update ≤ max base n)) (rows_after rows (befalling told ++ happenings))) (sym (read-up-to told happenings))
+                (subst (AllByRecursion (Comes (λ id v. v.object_update ≤ max base (read_up_to happenings)))) (sym after)
+                (comes-changes (λ id v. v.object_update ≤ max base (read_up_to happenings)) (rows_after rows happenings) told copy.bounded));
+            fresh = fresh;
+          },
+        )
       where
         told : List Event
         told = told_between first commands (served first commands copy.at).number (served first commands j).number

@@ -169,19 +169,27 @@ module _ (first : ℕ) (commands : List Command) (accepted : AreAccepted first c
       kept = record known { kept = known.kept ++ new; heard = greatest_of known.heard notes }
 
       loading : (held : Held) → known.held ≡ held → IsGiven (StoodAt (served first commands) k) held → Stage first commands k held kept → Follows first commands k (Knows kept)
-      loading held same given stage = (kept, refl, record {
-        given = subst (IsGiven (StoodAt (served first commands) k)) (sym same) given;
-        past = past;
-        stage = subst (λ (h : Held). Stage first commands k h kept) (sym same) stage;
-      })
+      loading held same given stage = (
+        kept,
+        refl,
+        record {
+          given = subst (IsGiven (StoodAt (served first commands) k)) (sym same) given;
+          past = past;
+          stage = subst (λ (h : Held). Stage first commands k h kept) (sym same) stage;
+        },
+      )
 
       by : (held : Held) → known.held ≡ held → IsGiven (StoodAt (served first commands) k) held → Stage first commands k held known
           → Follows first commands k (heard_of notes (with_changes held known (position known) new))
-      by Idle same given stage = (record known { heard = greatest_of known.heard notes }, refl, record {
-        given = subst (IsGiven (StoodAt (served first commands) k)) (sym same) given;
-        past = past;
-        stage = subst (λ (h : Held). Stage first commands k h (record known { heard = greatest_of known.heard notes })) (sym same) tt;
-      })
+      by Idle same given stage = (
+        record known { heard = greatest_of known.heard notes },
+        refl,
+        record {
+          given = subst (IsGiven (StoodAt (served first commands) k)) (sym same) given;
+          past = past;
+          stage = subst (λ (h : Held). Stage first commands k h (record known { heard = greatest_of known.heard notes })) (sym same) tt;
+        },
+      )
       by Begun same given stage = loading Begun same given (keeps-on k Begun known notes next stage)
       by HasToken same given stage = loading HasToken same given (keeps-on k HasToken known notes next stage)
       by (HasNumber number) same given stage = loading (HasNumber number) same given (keeps-on k (HasNumber number) known notes next stage)
@@ -222,20 +230,24 @@ module _ (first : ℕ) (commands : List Command) (accepted : AreAccepted first c
   drop-follows : (k : ℕ) (known : Known) (note : Note) (rest : List Note) → IsFollowing first commands k known → note.events ≡ [] → position known < note.number
       → ((j : ℕ) × (j ≤ k) × (note.number ≡ (served first commands j).number)) → AreNext first commands k note.number rest
       → Follows first commands k (heard_of (note ∷ rest) (with_changes Begun (load_begun known) (position known) (new_changes (position known) (note ∷ rest))))
-  drop-follows k known note rest f none above stood next = (now, refl, record {
-    given = tt;
-    past = subst (Past first commands k) (sym is) (greatest-past k note.number rest (inr stood) next);
-    stage = record {
-      from = note.number;
-      after-base = omega (arith, above);
-      before-position = let least = greatest-least note.number rest in let at = is in omega (arith, least, at);
-      bounds = past-low first commands accepted k note.number (inr stood);
-      kept = ap (λ (events : List Event). changes_above (position known) events ++ new_changes (max (position known) note.number) rest) none
-          ∙ ap (λ (n : ℕ). new_changes n rest) most
-          ∙ new-told k note.number rest next
-          ∙ ap (λ (n : ℕ). told note.number n) (sym is);
-    };
-  })
+  drop-follows k known note rest f none above stood next = (
+    now,
+    refl,
+    record {
+      given = tt;
+      past = subst (Past first commands k) (sym is) (greatest-past k note.number rest (inr stood) next);
+      stage = record {
+        from = note.number;
+        after-base = omega (arith, above);
+        before-position = let least = greatest-least note.number rest in let at = is in omega (arith, least, at);
+        bounds = past-low first commands accepted k note.number (inr stood);
+        kept = ap (λ (events : List Event). changes_above (position known) events ++ new_changes (max (position known) note.number) rest) none
+            ∙ ap (λ (n : ℕ). new_changes n rest) most
+            ∙ new-told k note.number rest next
+            ∙ ap (λ (n : ℕ). told note.number n) (sym is);
+      };
+    },
+  )
     where
       now : Known
       now = record (load_begun known) { kept = new_changes (position known) (note ∷ rest); heard = greatest_of known.heard (note ∷ rest) }

@@ -199,16 +199,19 @@ fresh : (first : ℕ) (older : List Command) (command : Command) → AllByRecurs
     → ((name : ℕ) → 1 ≤ name → name ≤ granted older → 1 ≤ next_seq_of name (notes_of first older))
     → AllByRecursion (Fresh first older (granted (command ∷ older)) (released_to first (releases_of first (command ∷ older)))) (sent_by first older (notes_of first older) command)
 fresh first older (Scans library) sound some = tt
-fresh first older (Grants moment) sound some = (record {
-  named = omega arith;
-  known = omega arith;
-  seq = sym (seq-none (granted older + 1) (notes_of first older)
-      (λ note a e. let known = (among-all (Sound first older) (notes_of first older) note sound a).known in omega (arith, known, e)));
-  stood = (0, refl);
-  begins = λ e. refl;
-  reaches = (stood-below first older (released_to first (releases_of first older)) (released-stood first older), inl refl);
-  follows = λ l. let no : ⊥ = omega (arith, l) in absurd no;
-}, tt)
+fresh first older (Grants moment) sound some = (
+  record {
+    named = omega arith;
+    known = omega arith;
+    seq = sym (seq-none (granted older + 1) (notes_of first older)
+        (λ note a e. let known = (among-all (Sound first older) (notes_of first older) note sound a).known in omega (arith, known, e)));
+    stood = (0, refl);
+    begins = λ e. refl;
+    reaches = (stood-below first older (released_to first (releases_of first older)) (released-stood first older), inl refl);
+    follows = λ l. let no : ⊥ = omega (arith, l) in absurd no;
+  },
+  tt,
+)
 fresh first older (Ends name) sound some = tt
 fresh first older (Ticks moment) sound some = by (release_at moment (scans_of first older) (releases_of first older)) refl
   where

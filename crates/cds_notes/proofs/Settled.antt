@@ -184,9 +184,10 @@ told-place first (happening ∷ happenings) (change ∷ older) tells legal p con
         let rest = r kept.before in
         let not : deletes (id_of older p) happening ≡ false =
         ap (deletes (id_of older p)) tells.0.1 ∙ not-deleted (first + length (change ∷ older)) change older p tells.0.0 kept.stays in
-        subst (λ (id : ℕ). IsTold id (length (up_to (sets p) older)) (first + length (up_to (sets p) older)) (length (change ∷ older)) (happening ∷ happenings)) (sym kept.id)
-        ((λ l. (not, rest.0 (omega (arith, l)))),
-        (λ l. marked-tail (id_of older p) (first + length (up_to (sets p) older)) happening happenings not (rest.1 (omega (arith, l)))))
+        subst (λ (id : ℕ). IsTold id (length (up_to (sets p) older)) (first + length (up_to (sets p) older)) (length (change ∷ older)) (happening ∷ happenings)) (sym kept.id) (
+          (λ l. (not, rest.0 (omega (arith, l)))),
+          (λ l. marked-tail (id_of older p) (first + length (up_to (sets p) older)) happening happenings not (rest.1 (omega (arith, l)))),
+        )
 
 pub told-rows : (first : ℕ) (happenings : List Happening) (changes : List Change) → Tells first happenings changes → IsLegal changes → (id : ℕ) (row : ObjectRow)
     → row_of id (unplaced (rows_over first changes)) ≡ Some row

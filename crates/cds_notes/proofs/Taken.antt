@@ -143,8 +143,16 @@ module _ (first : ℕ) (commands : List Command) (k name : ℕ) (received : List
       by : (at < note.number) ⊎ (note.number ≤ at) → AreTaken first commands k at (run seq (suc n))
       by (inl above) =
           let most : max at note.number ≡ note.number = omega (arith, above) in
-          inr (note, run (seq + 1) n, ap (λ (o : Option Note). cons_option o (run (seq + 1) n)) here.1, among.1 ∙ zeroth, none, above, stood note s,
-            subst (λ (m : ℕ). AreNext first commands k m (run (seq + 1) n)) most rest)
+          inr (
+            note,
+            run (seq + 1) n,
+            ap (λ (o : Option Note). cons_option o (run (seq + 1) n)) here.1,
+            among.1 ∙ zeroth,
+            none,
+            above,
+            stood note s,
+            subst (λ (m : ℕ). AreNext first commands k m (run (seq + 1) n)) most rest,
+          )
       by (inr low) =
           subst (λ (o : Option Note). AreTaken first commands k at (cons_option o (run (seq + 1) n))) (sym here.1) (inl (
             (λ i. nat_eq note.seq 0 && le-ltb at note.number low i) ∙ neither (nat_eq note.seq 0),

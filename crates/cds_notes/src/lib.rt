@@ -11,7 +11,7 @@ pub use evaluated::{
 };
 pub use laws::{
     commands_are_servers, equal_numbers_have_no_change_between, honest_calls_are_taken,
-    honest_copies_stood, notes_hold_every_change, spans_lead_to_the_rows, the_least_is_missing, the_longest_run_is_taken, versions_are_settled, versions_are_told,
-    versions_have_one_content,
+    honest_copies_stood, notes_hold_every_change, spans_lead_to_the_rows, the_least_is_missing,
+    the_longest_run_is_taken, versions_are_settled, versions_are_told, versions_have_one_content,
 };
 pub use says::Says;
