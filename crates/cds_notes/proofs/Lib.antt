@@ -20,3 +20,4 @@ pub mod Taken
 pub mod Heard
 pub mod Honest
 pub mod Position
+pub mod Ended

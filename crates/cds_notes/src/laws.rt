@@ -82,3 +82,8 @@ pub fn counted_changes_are_fresh()
 pub fn notes_leave_the_load()
     ensures { known.notes_leave_the_load }
 {}
+
+/// The number that the last load read is the one that was shown when it ended.
+pub fn base_is_the_last_end()
+    ensures { known.base_is_the_last_end }
+{}
