@@ -1,14 +1,14 @@
 -- The number that a copy's load read is the one that was shown last before it stood.
-use Rattle.std.proofs.Common.{◌≡◌, ◌+◌, ℕ, Bool, true, false, cond, not, ◌&&◌, nat_eq, List, [], ◌∷◌, ◌++◌, length, Option, Some, None, refl, sym, ap, ◌∙◌, subst, eqb-true}
+use Rattle.std.proofs.Common.{◌≡◌, ℕ, Bool, true, false, cond, not, ◌&&◌, nat_eq, List, [], ◌∷◌, ◌++◌, length, Option, Some, None, refl, sym, ap, ◌∙◌, eqb-true}
 use Rattle.cds_object.specs.Object.{ObjectRow, is_folder}
 use Rattle.cds_model.specs.declared.exchange.Shown.{Shown}
 use Rattle.cds_model.specs.declared.exchange.Shown.TheVariants.{Text, Number, Page, Fault}
 use Rattle.cds_model.specs.Replica.{Waiting, Listing, Held, Idle, Begun, HasToken, HasNumber, HasRoot, Lists, HasPage, HasCopy, Taken, Holds, Unreadable, Torn, taken, listed, after_page, page_taken, root_taken, listing_of, listed_id, listed_children, fits, others_waiting, put_rows, put_containers}
 use Rattle.cds_notes.specs.Commands.{Note}
-use Rattle.cds_notes.specs.Copy.{Happening, Reads, rows_after, known_of, least_unread}
+use Rattle.cds_notes.specs.Copy.{Reads, rows_after, known_of, least_unread}
 use Rattle.cds_notes.specs.Inbox.{ReplicaTurn, Begins, Shows, Requests, Accepts, Refuses, Delivers, taken_by}
-use Rattle.cds_notes.specs.Follow.{Known, position, changes_above, Outcome, Knows, CannotBeRead, Jumps, Tears, load_begun, is_drop, dropped, with_notes, load_ended, loaded, is_of, row_read, copy_read, with_reply, known_after, known_by}
-use Rattle.cds_notes.specs.KnownLaws.{has_copy, shown_number, number_shown, ended_at, base_is_the_last_end}
+use Rattle.cds_notes.specs.Follow.{Known, position, changes_above, Outcome, Knows, CannotBeRead, Jumps, Tears, load_begun, is_drop, with_notes, loaded, is_of, row_read, copy_read, with_reply, known_after, known_by}
+use Rattle.cds_notes.specs.KnownLaws.{has_copy, shown_number, ended_at, base_is_the_last_end}
 use Rattle.cds_notes.proofs.Heard.{knows-is, counted-stays, notes-leave}
 
 -- ---- the reply with which a load ends

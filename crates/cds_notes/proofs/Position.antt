@@ -1,5 +1,5 @@
 -- The position and the changes that were counted, over every list of turns.
-use Rattle.std.proofs.Common.{◌≡◌, ◌+◌, ◌<◌, ◌≤◌, ℕ, max, Bool, true, false, cond, ◌&&◌, nat_eq, nat_lt, List, [], ◌∷◌, ◌++◌, map, filter, reverse, Option, Some, None, refl, sym, ap, ◌∙◌, subst, arith, append_assoc, lt-ltb, ltb-true}
+use Rattle.std.proofs.Common.{◌≡◌, ◌+◌, ◌≤◌, ℕ, max, Bool, true, false, cond, ◌&&◌, nat_eq, nat_lt, List, [], ◌∷◌, ◌++◌, map, reverse, Option, Some, None, refl, sym, ap, ◌∙◌, subst, arith, append_assoc, lt-ltb, ltb-true}
 use Rattle.std.proofs.lemmas.List.{append-nil, reverse-append}
 use Rattle.std.proofs.lemmas.List.Elements.{filter-append}
 use Rattle.cds_object.specs.Object.{ObjectRow}
@@ -11,7 +11,7 @@ use Rattle.cds_model.specs.Replica.{Held, Idle, Begun, HasToken, HasNumber, HasR
 use Rattle.cds_notes.specs.Commands.{Note}
 use Rattle.cds_notes.specs.Copy.{Happening, Changes, Reads, rows_after, known_of, least_unread}
 use Rattle.cds_notes.specs.Inbox.{ReplicaTurn, Begins, Shows, Requests, Accepts, Refuses, Delivers, taken_by}
-use Rattle.cds_notes.specs.Follow.{Known, position, changes_above, Outcome, Knows, CannotBeRead, Jumps, Tears, first_torn, judged, counted_from, with_changes, load_begun, new_changes, greatest_of, is_drop, dropped, heard_of, with_notes, load_ended, loaded, is_of, row_read, object_read, copy_read, with_reply, known_after, known_by, is_no}
+use Rattle.cds_notes.specs.Follow.{Known, position, changes_above, Outcome, Knows, CannotBeRead, Jumps, Tears, first_torn, judged, counted_from, with_changes, load_begun, new_changes, greatest_of, is_drop, dropped, heard_of, with_notes, loaded, is_of, row_read, copy_read, with_reply, known_after, known_by, is_no}
 use Rattle.cds_notes.specs.ServerLaws.{befalling}
 use Rattle.cds_notes.specs.KnownLaws.{taken_notes, and_told, told_since, counted_changes, position_is_the_greatest, counted_changes_are_fresh, notes_leave_the_load}
 use Rattle.cds_notes.proofs.Heard.{knows-is, notes-leave, notes-heard, reply-heard}
