@@ -1,6 +1,7 @@
 -- Elements of lists, and how many notes have a name.
-use Rattle.std.proofs.Common.{◌≡◌, ◌⊎◌, inl, inr, ◌+◌, ◌<◌, ◌≤◌, ℕ, zero, suc, Bool, true, false, cond, nat_eq, List, [], ◌∷◌, ◌++◌, map, filter, length, Option, Some, None, refl, sym, ap, ◌∙◌, subst, arith, true≢false, eq-eqb, eqb-true, ne_eqb, length-append}
-use Rattle.std.specs.List.{AllByRecursion, Contains, range_with_len}
+use Rattle.std.proofs.Common.{◌≡◌, ◌⊎◌, inl, inr, ◌+◌, ◌<◌, ◌≤◌, ℕ, zero, suc, Bool, true, false, cond, nat_eq, List, [], ◌∷◌, ◌++◌, map, filter, length, refl, sym, ap, ◌∙◌, subst, arith, true≢false, eq-eqb, eqb-true, length-append}
+use Rattle.std.specs.List.{AllByRecursion, Contains, slice_index_or, range_with_len}
+use Rattle.std.proofs.lemmas.Bool.{cases_lt, eqb-false}
 use Rattle.std.proofs.lemmas.List.Elements.{filter-append}
 use Rattle.cds_notes.specs.Commands.{Note, next_seq_of}
 
@@ -15,7 +16,7 @@ among-contained [] x c = absurd (none c.0 c.1)
     none k l = omega (arith, l)
 among-contained {X} (y ∷ ys) x c = by c.0 c.1 c.2 (λ d. among-contained ys x d)
   where
-    by : (k : ℕ) → k < length (y ∷ ys) → Rattle.std.specs.List.slice_index_or (y ∷ ys) k x ≡ x → (Contains ys x → Among x ys) → (x ≡ y) ⊎ Among x ys
+    by : (k : ℕ) → k < length (y ∷ ys) → slice_index_or (y ∷ ys) k x ≡ x → (Contains ys x → Among x ys) → (x ≡ y) ⊎ Among x ys
     by zero l e r = inl (sym e)
     by (suc k) l e r = inr (r (k, omega (arith, l), e))
 
@@ -92,10 +93,10 @@ among-row a (suc n) x l h = by (nat_eq x a) refl (λ m. among-row (a + 1) n x m 
   where
     by : (t : Bool) → nat_eq x a ≡ t → (a + 1 ≤ x → Among x (range_with_len (a + 1) n)) → (x ≡ a) ⊎ Among x (range_with_len (a + 1) n)
     by true e r = inl (eqb-true x a e)
-    by false e r = inr (r (let d = Rattle.std.proofs.lemmas.Bool.eqb-false x a e in more d))
+    by false e r = inr (r (let d = eqb-false x a e in more d))
       where
         more : (x ≡ a → ⊥) → a + 1 ≤ x
-        more d = apart (Rattle.std.proofs.lemmas.Bool.cases_lt a x)
+        more d = apart (cases_lt a x)
           where
             apart : (a < x) ⊎ (x ≤ a) → a + 1 ≤ x
             apart (inl m) = omega (arith, m)

@@ -1,6 +1,6 @@
 -- The notes of one subscription hold every change above its first note's number.
-use Rattle.std.proofs.Common.{◌≡◌, ◌⊎◌, inl, inr, ◌+◌, ◌-◌, ◌<◌, ◌≤◌, ℕ, zero, suc, Bool, true, false, cond, ◌&&◌, nat_eq, nat_lt, List, [], ◌∷◌, ◌++◌, map, filter, length, Option, Some, None, refl, sym, ap, ◌∙◌, subst, arith, true≢false, eq-eqb, eqb-true, ne_eqb, append_assoc}
-use Rattle.std.specs.List.{AllByRecursion, range_with_len, filter_map, cons_option}
+use Rattle.std.proofs.Common.{◌≡◌, ◌⊎◌, inl, inr, ◌+◌, ◌-◌, ◌<◌, ◌≤◌, ℕ, zero, suc, Bool, true, false, cond, ◌&&◌, nat_eq, nat_lt, List, [], ◌∷◌, ◌++◌, map, filter, length, Option, Some, None, refl, sym, ap, ◌∙◌, arith, eq-eqb, eqb-true, ne_eqb, append_assoc}
+use Rattle.std.specs.List.{range_with_len, filter_map, cons_option}
 use Rattle.std.proofs.lemmas.Bool.{cases_lt}
 use Rattle.std.proofs.lemmas.List.{append-nil}
 use Rattle.std.proofs.lemmas.List.Elements.{filter-append, filter_map-append}
@@ -14,8 +14,8 @@ use Rattle.cds_notes.specs.Inbox.{note_of, notes_from_to}
 use Rattle.cds_notes.specs.Follow.{changes_above}
 use Rattle.cds_notes.specs.ServerLaws.{told_between}
 use Rattle.cds_notes.specs.NoteLaws.{sent_to, events_of, notes_hold_every_change}
-use Rattle.cds_notes.proofs.Among.{Among, among-all, among-left, among-right, among-append, among-filter, filter-among, seq-append}
-use Rattle.cds_notes.proofs.Sent.{Fresh, Sound, all-sound, all-fresh, Follows, follows-all}
+use Rattle.cds_notes.proofs.Among.{Among, among-all, among-left, among-right, among-filter, filter-among, seq-append}
+use Rattle.cds_notes.proofs.Sent.{Sound, all-sound, all-fresh, Follows, follows-all}
 use Rattle.cds_notes.proofs.Spanned.{above-told, none-told, told-then-new}
 
 -- ---- the note of a SEQ

@@ -1,34 +1,18 @@
 -- A copy of an honest server: what keeps it like the server's rows, and when it is them.
-use Rattle.std.proofs.Common.{◌≡◌, ◌⊎◌, inl, inr, ◌+◌, ◌<◌, ◌≤◌, ℕ, max, min, Bool, true, false, cond, not, ◌&&◌, ◌||◌, nat_eq, nat_lt, nat_le, List, [], ◌∷◌, ◌++◌, map, filter, reverse, Option, Some, None, MatchOption, refl, sym, ap, ◌∙◌, subst, arith, true≢false, eq-eqb, eqb-true, ne_eqb, leb-true, leb-false, append_assoc}
+use Rattle.std.proofs.Common.{◌≡◌, ℕ, Bool, true, false, cond, not, ◌||◌, nat_eq, nat_lt, List, [], ◌∷◌, ◌++◌, map, filter, Option, Some, None, MatchOption, refl, sym, ap, ◌∙◌, subst, true≢false, eqb-true, append_assoc}
 use Rattle.std.specs.List.{AllByRecursion, list_any, filter_map, cons_option}
 use Rattle.std.specs.Option.{option_map, option_eq}
-use Rattle.std.proofs.lemmas.Bool.{cases_lt}
-use Rattle.std.proofs.lemmas.List.{reverse-append, append-nil}
-use Rattle.cds_object.specs.Object.{ObjectRow, is_folder}
+use Rattle.std.proofs.lemmas.List.{reverse-append}
+use Rattle.cds_object.specs.Object.{ObjectRow}
 use Rattle.cds_object.specs.Tree.{row_of}
 use Rattle.cds_object.specs.declared.row.Trackers.{Trackers}
 use Rattle.cds_event.specs.declared.Event.{Event}
 use Rattle.cds_event.specs.declared.Event.TheVariants.{ObjAdd, ObjMod, ObjDel, StDone}
-use Rattle.cds_catalog.specs.History.{end_of}
-use Rattle.cds_catalog.specs.Catalog.{catalog}
-use Rattle.cds_catalog.specs.Steps.{standing_of}
-use Rattle.cds_catalog.specs.Laws.{IsWithin}
-use Rattle.cds_catalog.proofs.Maps.{older_are_libraries}
-use Rattle.cds_catalog.proofs.StepsFind.{none≢some, each-filter, each-weaker, each-append}
-use Rattle.cds_catalog.proofs.StepsWithin.{rows_are_within-proof}
-use Rattle.cds_model.proofs.Merge.{Rises}
-use Rattle.cds_model.proofs.Trees.{id_of, ascend-rises, each-found, found-id, all-at}
-use Rattle.cds_notes.specs.Commands.{Command, scans_of}
-use Rattle.cds_notes.specs.Copy.{Version, KnownRow, known_row, shown_row, known_of, counted, counts_addition, counts_modification, counts_deletion, parent_in, added_row, put_known, changed, newer, read_anew, Happening, Changes, Reads, rows_after, deletes, marks, shows_from, since_deletion, is_unread, named, least, least_unread, object_of, read_up_to}
-use Rattle.cds_notes.specs.Follow.{first_torn}
-use Rattle.cds_notes.specs.Given.{AreAccepted}
+use Rattle.cds_catalog.proofs.StepsFind.{none≢some, each-filter, each-weaker}
+use Rattle.cds_notes.specs.Copy.{Version, KnownRow, known_row, known_of, counted, counts_addition, counts_modification, counts_deletion, parent_in, added_row, put_known, changed, newer, read_anew, Happening, Changes, deletes, marks, since_deletion, read_up_to}
 use Rattle.cds_notes.specs.StepLaws.{IsLike, AreLike, changed_by}
-use Rattle.cds_notes.specs.ServerLaws.{served, told_between, befalling}
-use Rattle.cds_notes.proofs.Among.{Among, among-filter}
+use Rattle.cds_notes.specs.ServerLaws.{befalling}
 use Rattle.cds_notes.proofs.Settled.{is_marked, marked-tail}
-use Rattle.cds_notes.proofs.Spanned.{none-told}
-use Rattle.cds_notes.proofs.Happened.{Possible, marked-known, shown-says, reads-known, newer-least, newer-before, rows-befalling, possible-befalling, keeps-changes}
-use Rattle.cds_notes.proofs.Served.{Pair, pair, risen, serves, served-leads, settled, one-id, told-of}
 
 -- ---- rows that are like others, found by their ids
 

@@ -1,9 +1,9 @@
 -- A copy of an honest server goes on with what the server tells and shows, and when it stands it is the server's rows.
-use Rattle.std.proofs.Common.{◌≡◌, ◌⊎◌, inl, inr, ◌+◌, ◌<◌, ◌≤◌, ℕ, max, min, Bool, true, false, cond, not, ◌&&◌, ◌||◌, nat_eq, nat_lt, nat_le, List, [], ◌∷◌, ◌++◌, map, filter, reverse, Option, Some, None, MatchOption, refl, sym, ap, ◌∙◌, subst, arith, true≢false, eq-eqb, eqb-true, ne_eqb, leb-true, leb-false}
+use Rattle.std.proofs.Common.{◌≡◌, ◌⊎◌, inl, inr, ◌<◌, ◌≤◌, ℕ, max, min, Bool, true, false, cond, not, ◌||◌, nat_eq, List, [], ◌∷◌, ◌++◌, map, filter, Option, Some, None, refl, sym, ap, ◌∙◌, subst, arith, true≢false, eq-eqb, eqb-true, ne_eqb}
 use Rattle.std.specs.List.{AllByRecursion, list_any, filter_map, cons_option}
-use Rattle.std.specs.Option.{option_map, option_eq}
+use Rattle.std.specs.Option.{option_map}
 use Rattle.std.proofs.lemmas.Bool.{cases_lt}
-use Rattle.cds_object.specs.Object.{ObjectRow, is_folder}
+use Rattle.cds_object.specs.Object.{ObjectRow}
 use Rattle.cds_object.specs.Tree.{row_of}
 use Rattle.cds_event.specs.declared.Event.{Event}
 use Rattle.cds_event.specs.declared.Event.TheVariants.{ObjAdd, ObjMod, ObjDel, StDone}
@@ -12,23 +12,23 @@ use Rattle.cds_catalog.specs.Catalog.{catalog}
 use Rattle.cds_catalog.specs.Steps.{standing_of}
 use Rattle.cds_catalog.specs.Laws.{IsWithin}
 use Rattle.cds_catalog.proofs.Maps.{older_are_libraries}
-use Rattle.cds_catalog.proofs.StepsFind.{none≢some, each-weaker}
+use Rattle.cds_catalog.proofs.StepsFind.{none≢some}
 use Rattle.cds_catalog.proofs.StepsWithin.{rows_are_within-proof}
 use Rattle.cds_model.proofs.Merge.{Rises}
 use Rattle.cds_model.proofs.Trees.{id_of, ascend-rises, each-found, found-id, all-at}
 use Rattle.cds_notes.specs.Commands.{Command, scans_of}
-use Rattle.cds_notes.specs.Copy.{Version, KnownRow, known_row, shown_row, known_of, newer, read_anew, Happening, Changes, Reads, rows_after, deletes, marks, shows_from, since_deletion, is_unread, named, least, least_unread, object_of, read_up_to}
+use Rattle.cds_notes.specs.Copy.{Version, KnownRow, known_row, shown_row, known_of, newer, read_anew, Happening, Changes, Reads, rows_after, deletes, marks, shows_from, since_deletion, is_unread, named, least, least_unread, read_up_to}
 use Rattle.cds_notes.specs.Follow.{first_torn}
 use Rattle.cds_notes.specs.Given.{AreAccepted}
-use Rattle.cds_notes.specs.StepLaws.{IsLike, AreLike, changed_by}
+use Rattle.cds_notes.specs.StepLaws.{AreLike, changed_by}
 use Rattle.cds_notes.specs.ServerLaws.{served, told_between, befalling}
 use Rattle.cds_notes.proofs.Among.{Among, among-filter, filter-among}
 use Rattle.cds_notes.proofs.Settled.{is_marked, marked-tail}
 use Rattle.cds_notes.proofs.Spanned.{none-told}
-use Rattle.cds_notes.proofs.Happened.{Possible, marked-known, shown-says, reads-known, newer-least, newer-before, rows-befalling, possible-befalling, keeps-changes}
+use Rattle.cds_notes.proofs.Happened.{Possible, marked-known, shown-says, reads-known, newer-before, rows-befalling, possible-befalling, keeps-changes}
 use Rattle.cds_notes.proofs.LeadsSpan.{LeadsTo}
-use Rattle.cds_notes.proofs.Served.{Pair, pair, risen, serves, served-leads, settled, one-id, told-of}
-use Rattle.cds_notes.proofs.Copies.{like-known, known-like, like-itself, like-read, known-row, Comes, comes-changes, comes-read, comes-from, comes-weaker, marked-more, marked-still, none-deleted, read-up-to}
+use Rattle.cds_notes.proofs.Served.{pair, risen, serves, served-leads, settled, told-of}
+use Rattle.cds_notes.proofs.Copies.{like-known, like-itself, like-read, known-row, Comes, comes-changes, comes-read, comes-from, comes-weaker, marked-more, marked-still, none-deleted, read-up-to}
 
 -- what is known of a row is at least as new as it, or it is marked as unread with its number
 abbrev pub IsFresh : ℕ → ObjectRow → KnownRow → List Happening → Type 0

@@ -1,9 +1,9 @@
 -- Rows stay like others when an event counts a change on the one and the step makes it on the other.
-use Rattle.std.proofs.Common.{◌≡◌, ◌+◌, ◌-◌, ◌<◌, ◌≤◌, ℕ, Bool, true, false, cond, not, min, ◌&&◌, nat_eq, nat_lt, List, [], ◌∷◌, ◌++◌, map, filter, Option, Some, None, MatchOption, refl, sym, ap, ◌∙◌, subst, arith, true≢false, le-ltb}
+use Rattle.std.proofs.Common.{◌≡◌, ◌<◌, ℕ, Bool, true, false, cond, nat_eq, List, [], ◌∷◌, ◌++◌, map, Option, Some, None, MatchOption, refl, sym, ap, ◌∙◌, subst, arith, le-ltb}
 use Rattle.std.specs.List.{AllByRecursion}
-use Rattle.std.specs.Option.{option_map, option_eq}
-use Rattle.cds_object.specs.Path.{same_path, parent_of}
-use Rattle.cds_object.specs.Object.{ObjectRow, is_folder}
+use Rattle.std.specs.Option.{option_map}
+use Rattle.cds_object.specs.Path.{same_path}
+use Rattle.cds_object.specs.Object.{ObjectRow}
 use Rattle.cds_object.specs.declared.content.Content.{Content}
 use Rattle.cds_object.specs.declared.content.Content.TheVariants.{Folder, Track}
 use Rattle.cds_object.specs.declared.row.Trackers.{Trackers}
@@ -13,10 +13,10 @@ use Rattle.cds_catalog.specs.Steps.{touched, new_row}
 use Rattle.cds_catalog.specs.declared.change.Change.{Change}
 use Rattle.cds_catalog.proofs.Paths.{same_path_is}
 use Rattle.cds_catalog.proofs.StepsPaths.{Place}
-use Rattle.cds_catalog.proofs.StepsFind.{Entry, find_in, none≢some, each-map}
+use Rattle.cds_catalog.proofs.StepsFind.{Entry, find_in, none≢some}
 use Rattle.cds_catalog.proofs.StepsRows.{row_over}
 use Rattle.cds_changes.specs.Events.{class_of}
-use Rattle.cds_notes.specs.Copy.{KnownRow, counted, counts_addition, counts_deletion, known_of, parent_in, put_known, added_row}
+use Rattle.cds_notes.specs.Copy.{KnownRow, counted, known_of, parent_in, put_known, added_row}
 use Rattle.cds_notes.specs.StepLaws.{IsLike, AreLike}
 use Rattle.cds_notes.proofs.Like.{unplaced, like-map}
 

@@ -1,37 +1,34 @@
 -- A replica of an honest server takes each reply and each note, and goes on following it.
-use Rattle.std.proofs.Common.{◌≡◌, ◌⊎◌, inl, inr, ◌+◌, ◌-◌, ◌<◌, ◌≤◌, ℕ, zero, suc, max, Bool, true, false, cond, not, ◌&&◌, nat_eq, nat_lt, nat_le, List, [], ◌∷◌, ◌++◌, map, filter, reverse, length, Option, Some, None, refl, sym, ap, ◌∙◌, subst, arith, true≢false, eq-eqb, lt-ltb, ltb-true, ltb-false, append_assoc}
-use Rattle.std.specs.List.{AllByRecursion, range_with_len}
+use Rattle.std.proofs.Common.{◌≡◌, ◌⊎◌, inl, inr, ◌+◌, ◌-◌, ◌<◌, ◌≤◌, ℕ, zero, suc, max, Bool, true, false, cond, not, ◌&&◌, List, [], ◌∷◌, ◌++◌, map, length, Option, Some, None, refl, sym, ap, ◌∙◌, subst, arith, true≢false, eq-eqb, lt-ltb}
+use Rattle.std.specs.List.{range_with_len}
 use Rattle.std.specs.Option.{option_map}
 use Rattle.std.proofs.lemmas.Bool.{cases_lt}
-use Rattle.std.proofs.lemmas.List.{append-nil}
 use Rattle.cds_object.specs.Object.{ObjectRow, is_folder}
 use Rattle.cds_object.specs.Tree.{row_of}
 use Rattle.cds_event.specs.declared.Event.{Event}
 use Rattle.cds_catalog.specs.History.{end_of}
 use Rattle.cds_catalog.proofs.StepsFind.{none≢some}
 use Rattle.cds_model.specs.declared.exchange.Ask.{Ask}
-use Rattle.cds_model.specs.declared.exchange.Ask.TheVariants.{Token, Number as AskNumber, Metadata, Children}
-use Rattle.cds_model.specs.declared.exchange.Shown.{Shown}
-use Rattle.cds_model.specs.declared.exchange.Shown.TheVariants.{Text, Number, Page, Fault}
-use Rattle.cds_model.specs.Server.{Moment, reply_to, metadata_reply, update_of as reply_update}
-use Rattle.cds_model.specs.Replica.{Listing, Held, Idle, Begun, HasToken, HasNumber, HasRoot, Lists, HasPage, HasCopy, Taken, Holds, Unreadable, Torn, taken, next_ask as load_ask}
+use Rattle.cds_model.specs.declared.exchange.Ask.TheVariants.{Metadata}
+use Rattle.cds_model.specs.Server.{Moment, reply_to, metadata_reply}
+use Rattle.cds_model.specs.Replica.{Held, Idle, Begun, HasToken, HasNumber, HasRoot, Lists, HasPage, HasCopy, Taken, Holds, taken, next_ask as load_ask}
 use Rattle.cds_model.proofs.Trees.{found-id}
-use Rattle.cds_model.proofs.Honest.{Had, IsGiven}
-use Rattle.cds_model.proofs.Replies.{TakesGiven, reply-given}
+use Rattle.cds_model.proofs.Honest.{IsGiven}
+use Rattle.cds_model.proofs.Replies.{reply-given}
 use Rattle.cds_model.proofs.Servers.{StoodAt, server-serves}
-use Rattle.cds_changes.specs.Events.{events_between, is_change, update_of}
+use Rattle.cds_changes.specs.Events.{update_of}
 use Rattle.cds_changes.proofs.Told.{spans-tell}
 use Rattle.cds_notes.specs.Commands.{Command, Note, scans_of}
-use Rattle.cds_notes.specs.Copy.{KnownRow, Happening, Changes, Reads, rows_after, known_of, least_unread}
-use Rattle.cds_notes.specs.Follow.{Known, position, changes_above, Outcome, Knows, CannotBeRead, Jumps, Tears, first_torn, judged, counted_from, with_changes, load_begun, new_changes, greatest_of, is_drop, dropped, heard_of, with_notes, load_ended, loaded, is_of, row_read, object_read, copy_read, with_reply, ask_of, next_ask}
+use Rattle.cds_notes.specs.Copy.{Happening, Reads, rows_after, known_of, least_unread}
+use Rattle.cds_notes.specs.Follow.{Known, position, changes_above, Outcome, Knows, Jumps, Tears, first_torn, judged, counted_from, with_changes, load_begun, new_changes, greatest_of, heard_of, with_notes, load_ended, loaded, is_of, object_read, copy_read, with_reply, ask_of, next_ask}
 use Rattle.cds_notes.specs.Given.{AreAccepted, oldest}
 use Rattle.cds_notes.specs.ServerLaws.{served, told_between, befalling}
 use Rattle.cds_notes.proofs.Spanned.{above-changes, none-told, told-join}
-use Rattle.cds_notes.proofs.Served.{risen, serves, one-id, dropped-grows}
+use Rattle.cds_notes.proofs.Served.{serves, one-id, dropped-grows}
 use Rattle.cds_notes.proofs.Sent.{first-is, grows-rise}
 use Rattle.cds_notes.proofs.Copies.{known-like}
-use Rattle.cds_notes.proofs.CopyOf.{IsCopy, copy-begins, copy-later, copy-goes, copy-reads, least-is-unread, unread-known}
-use Rattle.cds_notes.proofs.Stages.{Bounds, bounds-later, taken-bounds, reply-number, greatest-least, greatest-max, Past, IsLoading, Stage, IsFollowing, AreNext, AreTaken, past-low}
+use Rattle.cds_notes.proofs.CopyOf.{IsCopy, copy-begins, copy-goes, copy-reads, least-is-unread, unread-known}
+use Rattle.cds_notes.proofs.Stages.{Bounds, taken-bounds, reply-number, greatest-least, greatest-max, Past, IsLoading, Stage, IsFollowing, AreNext, AreTaken, past-low}
 
 -- what becomes of a note or a reply: it is taken, and what is known then follows the server
 abbrev pub Follows : ℕ → List Command → ℕ → Outcome → Type 0

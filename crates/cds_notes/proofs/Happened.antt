@@ -1,18 +1,17 @@
 -- What befell a copy, where each change could be: what is known of an id, and of what was read of it.
-use Rattle.std.proofs.Common.{◌≡◌, ◌⊎◌, inl, inr, ◌+◌, ◌<◌, ◌≤◌, ℕ, Bool, true, false, cond, not, ◌&&◌, ◌||◌, nat_eq, nat_lt, nat_le, List, [], ◌∷◌, ◌++◌, map, filter, reverse, Option, Some, None, MatchOption, refl, sym, ap, ◌∙◌, subst, arith, true≢false, eq-eqb, eqb-true, ne_eqb, leb-true, ltb-true, ltb-false, append_assoc}
+use Rattle.std.proofs.Common.{◌≡◌, ◌≤◌, ℕ, Bool, true, false, cond, not, ◌&&◌, ◌||◌, nat_eq, nat_lt, nat_le, List, [], ◌∷◌, ◌++◌, map, filter, Option, Some, None, refl, sym, ap, ◌∙◌, subst, arith, true≢false, eq-eqb, eqb-true, ne_eqb, leb-true, ltb-true, ltb-false, append_assoc}
 use Rattle.std.specs.List.{AllByRecursion, list_any, filter_map, cons_option}
 use Rattle.std.specs.Option.{option_map, option_eq}
 use Rattle.std.proofs.lemmas.Bool.{eqb-false}
 use Rattle.std.proofs.lemmas.List.{reverse-append}
-use Rattle.cds_object.specs.Object.{ObjectRow, is_folder}
-use Rattle.cds_object.specs.Tree.{row_of}
+use Rattle.cds_object.specs.Object.{ObjectRow}
 use Rattle.cds_object.specs.declared.row.Trackers.{Trackers}
 use Rattle.cds_event.specs.declared.Event.{Event}
 use Rattle.cds_event.specs.declared.Event.TheVariants.{ObjAdd, ObjMod, ObjDel, StDone}
-use Rattle.cds_catalog.proofs.StepsFind.{none≢some, each-filter}
-use Rattle.cds_notes.specs.Copy.{Version, KnownRow, known_row, known_of, knows, knows_container, counted, counts_addition, counts_modification, counts_deletion, parent_in, added_row, put_known, cannot_be, object_of, changed, newer, read_anew, Happening, Changes, Reads, rows_after, deletes, marks, shows_from, since_deletion, is_unread}
+use Rattle.cds_catalog.proofs.StepsFind.{none≢some}
+use Rattle.cds_notes.specs.Copy.{Version, KnownRow, known_of, knows, knows_container, counted, counts_addition, counts_modification, counts_deletion, parent_in, added_row, put_known, cannot_be, object_of, changed, newer, read_anew, Happening, Changes, Reads, rows_after, deletes, marks, shows_from, since_deletion}
 use Rattle.cds_notes.specs.Follow.{first_torn}
-use Rattle.cds_notes.specs.StepLaws.{IsLike, AreLike, changed_by}
+use Rattle.cds_notes.specs.StepLaws.{changed_by}
 use Rattle.cds_notes.specs.ServerLaws.{befalling}
 use Rattle.cds_notes.proofs.Among.{Among}
 
@@ -141,9 +140,6 @@ pub reads-known : (id other : ℕ) (v : Version) (rows : List KnownRow) (row : K
 reads-known id other v [] row e = none≢some None row refl e
 reads-known id other v (next ∷ rows) row e = by (nat_eq next.id other) (nat_eq next.id id) refl refl e (λ k. reads-known id other v rows row k)
   where
-    Goal : List KnownRow → Type 0
-    Goal rows = (now : KnownRow) × (known_of id rows ≡ Some now) × (now.says ≡ cond (nat_eq other id) (Some (newer v row.says)) row.says)
-
     by : (c b : Bool) → nat_eq next.id other ≡ c → nat_eq next.id id ≡ b → cond b (Some next) (known_of id rows) ≡ Some row
         → (known_of id rows ≡ Some row → (now : KnownRow) × (known_of id (read_anew rows other v) ≡ Some now) × (now.says ≡ cond (nat_eq other id) (Some (newer v row.says)) row.says))
         → (now : KnownRow) × (known_of id (cond c (record next { says = Some (newer v next.says) }) next ∷ read_anew rows other v) ≡ Some now)
@@ -199,9 +195,6 @@ marked-known rows [] possible id number a = absurd a
 marked-known rows (Changes event ∷ older) possible id number a =
     by (deletes id (Changes event)) (marks id (Changes event)) refl refl a (λ b. marked-known rows older possible.1 id number b)
   where
-    Known : List KnownRow → Type 0
-    Known known = (row : KnownRow) × (known_of id known ≡ Some row)
-
     still : deletes id (Changes event) ≡ false → (row : KnownRow) × (known_of id (rows_after rows older) ≡ Some row)
         → (row : KnownRow) × (known_of id (changed (rows_after rows older) event) ≡ Some row)
     still d r = let kept = keeps-change id (rows_after rows older) event possible.0 d r.0 r.1 in (kept.0, kept.1)

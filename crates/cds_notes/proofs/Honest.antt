@@ -1,26 +1,22 @@
 -- A replica of an honest server: nothing that comes is refused, and its copies stood.
-use Rattle.std.proofs.Common.{◌≡◌, ◌⊎◌, inl, inr, ◌+◌, ◌-◌, ◌<◌, ◌≤◌, ℕ, zero, suc, max, Bool, true, false, cond, not, ◌&&◌, ◌||◌, nat_eq, nat_lt, List, [], ◌∷◌, ◌++◌, map, filter, length, Option, Some, None, refl, sym, ap, ◌∙◌, subst, arith, true≢false, eqb-true, ltb-false}
-use Rattle.std.specs.List.{AllByRecursion, filter_map, range_with_len}
+use Rattle.std.proofs.Common.{◌≡◌, ◌⊎◌, inl, inr, ◌-◌, ◌<◌, ◌≤◌, ℕ, zero, suc, Bool, true, false, cond, ◌||◌, nat_eq, nat_lt, List, [], ◌∷◌, length, Option, Some, None, refl, sym, ap, ◌∙◌, subst, arith, true≢false, eqb-true, ltb-false}
 use Rattle.std.specs.Option.{option_eq}
 use Rattle.std.proofs.lemmas.Bool.{cases_lt}
 use Rattle.cds_object.specs.Object.{ObjectRow}
 use Rattle.cds_catalog.specs.History.{end_of}
 use Rattle.cds_catalog.specs.Catalog.{catalog}
-use Rattle.cds_catalog.proofs.StepsFind.{none≢some}
 use Rattle.cds_model.specs.declared.exchange.Ask.{Ask}
-use Rattle.cds_model.specs.declared.exchange.Shown.{Shown}
 use Rattle.cds_model.specs.Server.{reply_to}
 use Rattle.cds_model.specs.Replica.{Held, Idle, Begun, HasToken, HasNumber, HasRoot, Lists, HasPage, HasCopy}
 use Rattle.cds_notes.specs.Commands.{Command, Note, scans_of, notes_of}
-use Rattle.cds_notes.specs.Copy.{Happening, least_unread, read_up_to}
-use Rattle.cds_notes.specs.Inbox.{ReplicaTurn, Begins, Shows, Requests, Accepts, Refuses, Delivers, is_out, accepted as accepted_name, is_accepted, is_early, early_notes, received, has_seq, least_outside, next_seq, missing, note_of, notes_from_to, taken_by, arrival}
-use Rattle.cds_notes.specs.Follow.{Known, position, Outcome, Knows, CannotBeRead, Jumps, Tears, greatest_of, with_notes, with_reply, known_after, known_by, is_no, is_turned_away, is_refused, and_turn, next_ask, copy_says, says_without_gap, says_of, says, rows_held, copied}
-use Rattle.cds_notes.specs.Given.{oldest, moment_after, Entry, Starts, Asks, Calls, Granted, Denied, Gets, length_at, asked_at, given_by, latest_length, AreAccepted, IsHonest, IsGiven}
+use Rattle.cds_notes.specs.Copy.{least_unread, read_up_to}
+use Rattle.cds_notes.specs.Inbox.{ReplicaTurn, Shows, Accepts, Delivers, accepted as accepted_name, is_accepted, is_early, early_notes, received, least_outside, next_seq, missing, note_of, notes_from_to, taken_by, arrival}
+use Rattle.cds_notes.specs.Follow.{Known, position, greatest_of, with_notes, known_after, known_by, is_no, is_turned_away, is_refused, and_turn, next_ask, copy_says, says_without_gap, says_of, says, rows_held, copied}
+use Rattle.cds_notes.specs.Given.{oldest, moment_after, Entry, Starts, Asks, Calls, Granted, Denied, Gets, length_at, asked_at, given_by, latest_length, AreAccepted, IsGiven}
 use Rattle.cds_notes.specs.HonestLaws.{IsTaken, honest_calls_are_taken, honest_copies_stood}
 use Rattle.cds_notes.specs.ServerLaws.{served}
-use Rattle.cds_notes.specs.declared.says.Says.{Says}
-use Rattle.cds_notes.specs.declared.says.Says.TheVariants.{Gap, BehindLoad, BehindRead, BehindVersion, Stands}
-use Rattle.cds_notes.proofs.Among.{Among, among-all, among-contained, all-among, filter-among}
+use Rattle.cds_notes.specs.declared.says.Says.TheVariants.{BehindVersion, Stands}
+use Rattle.cds_notes.proofs.Among.{Among, among-contained, filter-among}
 use Rattle.cds_notes.proofs.Received.{longest-run}
 use Rattle.cds_notes.proofs.Chain.{note-later, note-among}
 use Rattle.cds_notes.proofs.CopyOf.{IsCopy, copy-stands}
@@ -79,9 +75,6 @@ module _ (first : ℕ) (commands : List Command) (accepted : AreAccepted first c
           )
 
   -- ---- a delivered note
-
-  abbrev known : List ReplicaTurn → Known
-  known turns = known_by turns
 
   module _ (k : ℕ) (turns : List ReplicaTurn) (note : Note) (here : Among note (notes_of first (oldest k commands)))
       (following : IsFollowing first commands k (known_by turns)) (hearing : IsHearing first commands k turns (known_by turns).heard) where
@@ -321,9 +314,6 @@ module _ (first : ℕ) (commands : List Command) (accepted : AreAccepted first c
       → (j : ℕ) × (j ≤ k) × (end_of (scans_of first (oldest j commands)) ≡ number) × (copied (known_by turns) ≡ catalog (scans_of first (oldest j commands)))
   stood k number turns s stands = by (missing turns) stands
     where
-      now : Known
-      now = known_by turns
-
       Goal : List ObjectRow → Type 0
       Goal rows = (j : ℕ) × (j ≤ k) × (end_of (scans_of first (oldest j commands)) ≡ number) × (rows ≡ catalog (scans_of first (oldest j commands)))
 

@@ -1,22 +1,22 @@
 -- What a change leaves of what it does not set, and what later changes leave of the objects of earlier ones.
-use Rattle.std.proofs.Common.{◌≡◌, ◌+◌, ◌<◌, ◌≤◌, ℕ, suc, Bool, true, false, cond, not, ◌||◌, nat_eq, List, [], ◌∷◌, ◌++◌, map, length, Option, Some, None, refl, sym, ap, ◌∙◌, subst, arith, true≢false, eq-eqb, length-append}
-use Rattle.std.specs.List.{AllByRecursion, list_any, count_by, filter_map, cons_option}
+use Rattle.std.proofs.Common.{◌≡◌, ◌+◌, ◌≤◌, ℕ, Bool, true, false, cond, nat_eq, List, [], ◌∷◌, ◌++◌, length, Option, Some, None, refl, sym, ap, ◌∙◌, arith, true≢false, length-append}
+use Rattle.std.specs.List.{count_by}
 use Rattle.cds_object.specs.Path.{same_path, parent_of}
 use Rattle.cds_object.specs.Object.{is_folder}
 use Rattle.cds_object.specs.declared.content.Content.{Content}
 use Rattle.cds_catalog.specs.History.{is_addition, adds, sets, up_to}
 use Rattle.cds_catalog.specs.Catalog.{id_of, parent_id_of, root_entry}
-use Rattle.cds_catalog.specs.Replay.{stands, live, IsLegal, MayFollow}
+use Rattle.cds_catalog.specs.Replay.{stands, IsLegal}
 use Rattle.cds_catalog.specs.declared.change.Change.{Change}
 use Rattle.cds_catalog.specs.declared.change.Change.TheVariants.{Deletion, Addition, Modification}
-use Rattle.cds_catalog.proofs.Paths.{same_path_is, same_path_swap}
+use Rattle.cds_catalog.proofs.Paths.{same_path_is}
 use Rattle.cds_catalog.proofs.StepsPaths.{Place, swapped}
 use Rattle.cds_catalog.proofs.StepsFind.{Entry, find_in, none≢some, found_holds, count_by-cons}
 use Rattle.cds_catalog.proofs.StepsLive.{shown, find_live, stands_named, parent_not_added}
 use Rattle.cds_catalog.proofs.StepsIds.{ids_rise, id_new}
 use Rattle.cds_catalog.proofs.StepsRow.{id_left, parent_left}
 use Rattle.cds_changes.specs.Events.{event_of}
-use Rattle.cds_notes.specs.Copy.{Happening, Changes, deletes, marks, since_deletion}
+use Rattle.cds_notes.specs.Copy.{Changes, deletes}
 use Rattle.cds_notes.proofs.Told.{kinds, numbers-tell, shown-is}
 
 -- what is shown is the root and what stands

@@ -1,19 +1,16 @@
 -- The event of one change can be, and leads from rows like those before it to rows like those after it.
-use Rattle.std.proofs.Common.{◌≡◌, ◌+◌, ◌-◌, ◌<◌, ◌≤◌, ℕ, suc, min, Bool, true, false, cond, not, ◌&&◌, ◌||◌, nat_eq, List, [], ◌∷◌, ◌++◌, map, filter, length, Option, Some, None, MatchOption, refl, sym, ap, ◌∙◌, subst, arith, true≢false, eq-eqb, ne_eqb}
-use Rattle.std.specs.List.{AllByRecursion, list_any, count_by}
-use Rattle.std.specs.Option.{option_map, option_eq}
+use Rattle.std.proofs.Common.{◌≡◌, ◌+◌, ◌-◌, ◌<◌, ◌≤◌, ℕ, Bool, true, false, cond, not, ◌&&◌, ◌||◌, nat_eq, List, [], ◌∷◌, ◌++◌, filter, length, Option, Some, None, MatchOption, refl, sym, ap, ◌∙◌, subst, arith, true≢false, eq-eqb, ne_eqb}
+use Rattle.std.specs.List.{AllByRecursion, count_by}
+use Rattle.std.specs.Option.{option_eq}
 use Rattle.std.proofs.lemmas.Bool.{false_from_ne_true}
 use Rattle.std.proofs.lemmas.List.Sums.{count_by-le-length}
 use Rattle.cds_object.specs.Path.{same_path, parent_of}
-use Rattle.cds_object.specs.Content.{same_kind}
-use Rattle.cds_object.specs.Object.{ObjectRow, is_folder}
+use Rattle.cds_object.specs.Object.{is_folder}
 use Rattle.cds_object.specs.declared.content.Content.{Content}
-use Rattle.cds_object.specs.declared.content.Content.TheVariants.{Folder, Track}
 use Rattle.cds_object.specs.declared.row.Trackers.{Trackers}
 use Rattle.cds_event.specs.declared.Event.{Event}
-use Rattle.cds_catalog.specs.Library.{FolderMap}
 use Rattle.cds_catalog.specs.History.{is_addition}
-use Rattle.cds_catalog.specs.Catalog.{PlacedRow, id_of, parent_id_of, root_entry}
+use Rattle.cds_catalog.specs.Catalog.{PlacedRow, id_of, parent_id_of}
 use Rattle.cds_catalog.specs.Laws.{IsWithin}
 use Rattle.cds_catalog.specs.Replay.{stands, live, IsLegal, MayFollow}
 use Rattle.cds_catalog.specs.Steps.{Standing, touched, touch, id_at, child_added, child_modified, child_deleted, modified, new_row}
@@ -24,14 +21,14 @@ use Rattle.cds_catalog.proofs.StepsPaths.{Place}
 use Rattle.cds_catalog.proofs.StepsFind.{Entry, find_in, each-all, each-map, each-both, each-weaker, each-filter, each_from_found, found_holds, none≢some, Apart_from_Rising}
 use Rattle.cds_catalog.proofs.StepsLive.{shown, shown_holder, find_live, stands_named, holds_is}
 use Rattle.cds_catalog.proofs.StepsIds.{ids_rise, id_new}
-use Rattle.cds_catalog.proofs.StepsRows.{map_map, row_over, rows_over, standing_over, step_over}
+use Rattle.cds_catalog.proofs.StepsRows.{row_over, rows_over, standing_over, step_over}
 use Rattle.cds_catalog.proofs.StepsScan.{rows_over_within, children_within}
 use Rattle.cds_changes.specs.Events.{event_of, class_of}
 use Rattle.cds_notes.specs.Copy.{KnownRow, knows, knows_container, knows_child, raised_count, counts_addition, counts_modification, counts_deletion, counted, parent_in, put_known, added_row, cannot_be, changed}
 use Rattle.cds_notes.specs.StepLaws.{IsLike, AreLike}
 use Rattle.cds_notes.proofs.Like.{unplaced, like-filter, like-any, like-push}
 use Rattle.cds_notes.proofs.Told.{kinds, numbers-tell, any-found, any-none, id_at-found, parent-is, shown-is, parent-shown, rows-tell, above-root}
-use Rattle.cds_notes.proofs.Counted.{tracked, agree, Counts, like-counted, like-kept, each-known, each-counted, put-last, new-like, parent-found}
+use Rattle.cds_notes.proofs.Counted.{agree, Counts, like-counted, like-kept, each-known, each-counted, put-last, new-like, parent-found}
 
 -- what an event does: it can be on the rows that are known, and leads to rows like others
 abbrev pub Leads : List KnownRow → Event → List PlacedRow → Type 0

@@ -1,12 +1,12 @@
 -- The changes of a scan, and those of a span, lead from rows like those before them to rows like those after them.
-use Rattle.std.proofs.Common.{◌≡◌, ◌+◌, ◌≤◌, ◌<◌, ℕ, Bool, true, false, cond, ◌&&◌, nat_lt, nat_le, List, [], ◌∷◌, ◌++◌, map, filter, length, Option, Some, None, refl, sym, ap, ◌∙◌, subst, arith, append_assoc, length-append, lt-ltb, le-leb}
+use Rattle.std.proofs.Common.{◌≡◌, ◌+◌, ◌≤◌, ℕ, Bool, true, false, cond, ◌&&◌, List, [], ◌∷◌, ◌++◌, filter, length, Some, None, refl, sym, ap, ◌∙◌, subst, arith, length-append, lt-ltb, le-leb}
 use Rattle.std.specs.List.{AllByRecursion}
 use Rattle.std.proofs.lemmas.List.Elements.{filter-append}
 use Rattle.cds_object.specs.Object.{ObjectRow}
 use Rattle.cds_event.specs.declared.Event.{Event}
 use Rattle.cds_catalog.specs.Library.{FolderMap, found}
 use Rattle.cds_catalog.specs.History.{History, latest, changes_of, end_of}
-use Rattle.cds_catalog.specs.Catalog.{PlacedRow, catalog}
+use Rattle.cds_catalog.specs.Catalog.{catalog}
 use Rattle.cds_catalog.specs.Laws.{AreLibraries}
 use Rattle.cds_catalog.specs.Replay.{IsLegal}
 use Rattle.cds_catalog.specs.declared.change.Change.{Change}
@@ -22,7 +22,7 @@ use Rattle.cds_notes.specs.Copy.{KnownRow, cannot_be, changed, object_of}
 use Rattle.cds_notes.specs.Follow.{first_torn}
 use Rattle.cds_notes.specs.StepLaws.{AreLike, changed_by, spans_lead_to_the_rows}
 use Rattle.cds_notes.proofs.Like.{unplaced}
-use Rattle.cds_notes.proofs.Leads.{Leads, change-leads}
+use Rattle.cds_notes.proofs.Leads.{change-leads}
 
 -- changes that can all be, one by one, and what they lead to
 abbrev pub LeadsTo : List KnownRow → List Event → List ObjectRow → Type 0

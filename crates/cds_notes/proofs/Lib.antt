@@ -19,3 +19,5 @@ pub mod Following
 pub mod Taken
 pub mod Heard
 pub mod Honest
+pub mod Position
+pub mod Ended

@@ -1,8 +1,7 @@
 -- Rows that are like others: what keeps them so.
-use Rattle.std.proofs.Common.{◌≡◌, ℕ, Bool, true, false, cond, not, ◌&&◌, ◌||◌, nat_eq, List, [], ◌∷◌, ◌++◌, map, filter, Option, Some, None, refl, sym, ap, ◌∙◌, subst, arith, true≢false}
+use Rattle.std.proofs.Common.{◌≡◌, Bool, true, false, cond, ◌||◌, List, [], ◌∷◌, ◌++◌, map, filter, refl, sym, ap, ◌∙◌, subst}
 use Rattle.std.specs.List.{AllByRecursion, list_any}
-use Rattle.cds_object.specs.Path.{same_path, parent_of}
-use Rattle.cds_object.specs.Object.{ObjectRow, is_folder}
+use Rattle.cds_object.specs.Object.{ObjectRow}
 use Rattle.cds_catalog.specs.Catalog.{PlacedRow}
 use Rattle.cds_notes.specs.Copy.{KnownRow}
 use Rattle.cds_notes.specs.StepLaws.{IsLike, AreLike}

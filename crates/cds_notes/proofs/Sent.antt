@@ -1,16 +1,15 @@
 -- What holds of the notes that commands send: their names, SEQs, numbers and events.
-use Rattle.std.proofs.Common.{◌≡◌, ◌⊎◌, inl, inr, ◌+◌, ◌-◌, ◌<◌, ◌≤◌, ℕ, zero, suc, Bool, true, false, cond, ◌&&◌, nat_eq, nat_lt, nat_le, List, [], ◌∷◌, ◌++◌, map, filter, length, drop, Option, Some, None, is_some, refl, sym, ap, ◌∙◌, subst, arith, true≢false, eqb-true, ne_eqb, ltb-true, lt-ltb, le-leb, leb-true, leb-false}
+use Rattle.std.proofs.Common.{◌≡◌, ◌⊎◌, inl, inr, ◌+◌, ◌<◌, ◌≤◌, ℕ, zero, suc, Bool, true, false, cond, ◌&&◌, nat_eq, nat_lt, nat_le, List, [], ◌∷◌, ◌++◌, map, drop, Option, Some, None, is_some, refl, sym, ap, ◌∙◌, subst, arith, true≢false, eqb-true, ne_eqb, ltb-true, lt-ltb, leb-false}
 use Rattle.std.specs.List.{AllByRecursion, range_with_len}
 use Rattle.std.proofs.lemmas.Bool.{cases_lt, eqb-false}
-use Rattle.cds_event.specs.declared.Event.{Event}
 use Rattle.cds_catalog.specs.Library.{FolderMap}
-use Rattle.cds_catalog.specs.History.{History, changes_of, end_of}
+use Rattle.cds_catalog.specs.History.{History, end_of}
 use Rattle.cds_catalog.proofs.Numbers.{ends_rise}
 use Rattle.cds_catalog.proofs.StepsFind.{each-append, each-weaker, each-map, none≢some}
 use Rattle.cds_changes.specs.Events.{events_between}
 use Rattle.cds_changes.proofs.Spans.{spans-stay}
 use Rattle.cds_notes.specs.Commands.{Command, Scans, Grants, Ends, Ticks, scans_of, Release, release_size, released_to, may_release, scan_end_within, release_at, and_release, releases_of, granted, granted_time, unless_past, runs_until, is_alive, Note, next_seq_of, seq_limit, alive_names, released_note, released_notes, first_note, sent_by, notes_of}
-use Rattle.cds_notes.proofs.Among.{Among, among-all, all-among, among-left, among-right, among-append, among-map, among-filter, filter-among, among-row, row-among, seq-append, seq-among, seq-none}
+use Rattle.cds_notes.proofs.Among.{Among, among-all, all-among, among-append, among-map, among-filter, filter-among, among-row, row-among, seq-append, seq-among, seq-none}
 use Rattle.cds_notes.proofs.Served.{scans-first, Grows, dropped-grows}
 
 -- ---- scan ends

@@ -1,8 +1,8 @@
 -- What a server has at two lengths of the list of its commands, and what it tells between.
-use Rattle.std.proofs.Common.{◌≡◌, ◌⊎◌, inl, inr, ◌+◌, ◌-◌, ◌<◌, ◌≤◌, ℕ, zero, suc, Bool, true, false, cond, nat_eq, List, [], ◌∷◌, ◌++◌, map, filter, reverse, length, drop, Option, Some, None, refl, sym, ap, ◌∙◌, subst, arith, append_assoc, length-append}
+use Rattle.std.proofs.Common.{◌≡◌, ◌⊎◌, inl, inr, ◌+◌, ◌-◌, ◌<◌, ◌≤◌, ℕ, zero, suc, true, false, nat_eq, List, [], ◌∷◌, ◌++◌, map, filter, length, drop, Some, refl, sym, ap, ◌∙◌, subst, arith, length-append}
 use Rattle.std.specs.List.{AllByRecursion, list_any, filter_map}
 use Rattle.std.proofs.lemmas.Bool.{cases_lt}
-use Rattle.std.proofs.lemmas.List.{drop-drop, length-reverse, append-nil}
+use Rattle.std.proofs.lemmas.List.{drop-drop, length-reverse}
 use Rattle.std.proofs.lemmas.List.FromFn.{length-range_with_len}
 use Rattle.cds_object.specs.Object.{ObjectRow, is_folder}
 use Rattle.cds_object.specs.Tree.{row_of, IsTree}
@@ -19,14 +19,13 @@ use Rattle.cds_catalog.proofs.StepsTree.{catalogs_are_trees-proof}
 use Rattle.cds_catalog.proofs.StepsWithin.{length-map}
 use Rattle.cds_catalog.proofs.StepsRows.{rows_over}
 use Rattle.cds_catalog.proofs.Versions.{versions_determine}
-use Rattle.cds_model.specs.Server.{Moment}
 use Rattle.cds_model.specs.Loads.{IsServer}
-use Rattle.cds_changes.specs.Events.{events_between, is_change, update_of, scan_events}
+use Rattle.cds_changes.specs.Events.{events_between, is_change, update_of}
 use Rattle.cds_changes.proofs.Spans.{spans-stay}
 use Rattle.cds_changes.proofs.Numbers.{scan-numbers}
 use Rattle.cds_notes.specs.Commands.{Command, Scans, Grants, Ends, Ticks, scans_of}
 use Rattle.cds_notes.specs.Copy.{Happening, Changes, deletes, marks, since_deletion, KnownRow}
-use Rattle.cds_notes.specs.Given.{oldest, moment_after, AreAccepted}
+use Rattle.cds_notes.specs.Given.{oldest, AreAccepted}
 use Rattle.cds_notes.specs.StepLaws.{AreLike}
 use Rattle.cds_notes.specs.ServerLaws.{served, told_between, befalling, commands_are_servers, versions_have_one_content, versions_are_settled, versions_are_told, equal_numbers_have_no_change_between}
 use Rattle.cds_notes.proofs.Like.{unplaced}

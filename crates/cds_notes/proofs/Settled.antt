@@ -1,6 +1,6 @@
 -- What the rows after more changes share with the rows before them, and what the changes between tell of each.
-use Rattle.std.proofs.Common.{◌≡◌, ◌+◌, ◌<◌, ◌≤◌, ℕ, suc, Bool, true, false, cond, ◌||◌, nat_eq, List, [], ◌∷◌, ◌++◌, map, filter, reverse, length, Option, Some, None, refl, sym, ap, ◌∙◌, subst, arith, true≢false, eq-eqb, length-append}
-use Rattle.std.specs.List.{AllByRecursion, list_any, count_by, filter_map, cons_option}
+use Rattle.std.proofs.Common.{◌≡◌, ◌+◌, ◌<◌, ◌≤◌, ℕ, Bool, true, false, cond, ◌||◌, nat_eq, List, [], ◌∷◌, ◌++◌, map, filter, reverse, length, Option, Some, None, refl, sym, ap, ◌∙◌, subst, arith, true≢false, eq-eqb}
+use Rattle.std.specs.List.{AllByRecursion, list_any, filter_map, cons_option}
 use Rattle.std.proofs.lemmas.List.{map-append, reverse-append}
 use Rattle.std.proofs.lemmas.List.Elements.{filter-append}
 use Rattle.cds_object.specs.Path.{same_path}
@@ -9,7 +9,7 @@ use Rattle.cds_object.specs.Tree.{row_of}
 use Rattle.cds_object.specs.declared.content.Content.{Content}
 use Rattle.cds_event.specs.declared.Event.{Event}
 use Rattle.cds_catalog.specs.Library.{FolderMap, found}
-use Rattle.cds_catalog.specs.History.{latest, changes_of, is_addition, sets, up_to}
+use Rattle.cds_catalog.specs.History.{latest, changes_of, sets, up_to}
 use Rattle.cds_catalog.specs.Catalog.{PlacedRow, id_of, parent_id_of}
 use Rattle.cds_catalog.specs.Replay.{IsLegal}
 use Rattle.cds_catalog.specs.declared.change.Change.{Change}
@@ -26,7 +26,7 @@ use Rattle.cds_changes.specs.Events.{event_of, scan_events, is_change, is_in_sub
 use Rattle.cds_notes.specs.Copy.{Happening, Changes, deletes, marks, since_deletion}
 use Rattle.cds_notes.proofs.Like.{unplaced}
 use Rattle.cds_notes.proofs.Told.{numbers-tell}
-use Rattle.cds_notes.proofs.Kept.{Kept, not-deleted, kept-one, settled-place, of-one-id}
+use Rattle.cds_notes.proofs.Kept.{not-deleted, kept-one, settled-place, of-one-id}
 use Rattle.cds_notes.proofs.LeadsSpan.{told, scan_told, nothing-told, told-more, one-change}
 
 -- ---- rows and places

@@ -1,36 +1,23 @@
 -- What a replica knows of an honest server: its load or copy, and the changes that it keeps or counted.
-use Rattle.std.proofs.Common.{◌≡◌, ◌⊎◌, inl, inr, ◌+◌, ◌-◌, ◌<◌, ◌≤◌, ℕ, zero, suc, max, Bool, true, false, cond, not, ◌&&◌, nat_eq, nat_lt, nat_le, List, [], ◌∷◌, ◌++◌, map, filter, reverse, length, take, drop, Option, Some, None, refl, sym, ap, ◌∙◌, subst, arith, true≢false, eq-eqb, lt-ltb, ltb-true, ltb-false, append_assoc}
-use Rattle.std.specs.List.{AllByRecursion, range_with_len}
-use Rattle.std.specs.Option.{option_map}
-use Rattle.std.proofs.lemmas.Bool.{cases_lt}
-use Rattle.std.proofs.lemmas.List.{append-nil}
+use Rattle.std.proofs.Common.{◌≡◌, ◌⊎◌, inl, inr, ◌<◌, ◌≤◌, ℕ, max, Bool, true, false, cond, ◌&&◌, nat_eq, List, [], ◌∷◌, ◌++◌, length, take, drop, Option, Some, None, refl, sym, ap, ◌∙◌, subst, arith}
 use Rattle.cds_object.specs.Object.{ObjectRow, is_folder}
 use Rattle.cds_object.specs.Tree.{row_of, children_of}
 use Rattle.cds_event.specs.declared.Event.{Event}
-use Rattle.cds_catalog.specs.History.{end_of}
-use Rattle.cds_catalog.proofs.StepsFind.{none≢some}
 use Rattle.cds_model.specs.declared.exchange.Ask.{Ask}
 use Rattle.cds_model.specs.declared.exchange.Ask.TheVariants.{Token, Number as AskNumber, Metadata, Children}
 use Rattle.cds_model.specs.declared.exchange.Shown.{Shown}
 use Rattle.cds_model.specs.declared.exchange.Shown.TheVariants.{Text, Number, Page, Fault}
 use Rattle.cds_model.specs.Server.{Moment, page_size, reply_to, metadata_reply, children_reply, update_of as reply_update}
-use Rattle.cds_model.specs.Replica.{Listing, Waiting, Held, Idle, Begun, HasToken, HasNumber, HasRoot, Lists, HasPage, HasCopy, Taken, Holds, Unreadable, Torn, taken, listed, after_page, page_taken, root_taken, listing_of, fits, others_waiting, listed_children, put_rows, put_containers, listed_id, next_ask as load_ask}
-use Rattle.cds_model.proofs.Trees.{found-id}
-use Rattle.cds_model.proofs.Honest.{Had, HadTwo, IsGiven, given-more}
-use Rattle.cds_model.proofs.Replies.{TakesGiven, reply-given}
-use Rattle.cds_model.proofs.Servers.{StoodAt, server-serves}
-use Rattle.cds_changes.specs.Events.{events_between, is_change, update_of}
-use Rattle.cds_changes.proofs.Told.{spans-tell}
+use Rattle.cds_model.specs.Replica.{Listing, Waiting, Held, Idle, Begun, HasToken, HasNumber, HasRoot, Lists, HasPage, HasCopy, Holds, Torn, taken, listed, after_page, page_taken, root_taken, listing_of, fits, others_waiting, listed_children, put_rows, put_containers, listed_id}
+use Rattle.cds_model.proofs.Honest.{IsGiven, given-more}
+use Rattle.cds_model.proofs.Servers.{StoodAt}
 use Rattle.cds_notes.specs.Commands.{Command, Note, scans_of}
-use Rattle.cds_notes.specs.Copy.{KnownRow, Happening, Changes, Reads, rows_after, known_of, least_unread}
-use Rattle.cds_notes.specs.Follow.{Known, position, changes_above, Outcome, Knows, CannotBeRead, Jumps, Tears, first_torn, judged, counted_from, with_changes, load_begun, new_changes, greatest_of, is_drop, dropped, heard_of, with_notes, load_ended, loaded, is_of, row_read, object_read, copy_read, with_reply, ask_of, next_ask}
+use Rattle.cds_notes.specs.Follow.{Known, position, changes_above, load_begun, greatest_of, is_drop}
 use Rattle.cds_notes.specs.Given.{AreAccepted}
-use Rattle.cds_notes.specs.ServerLaws.{served, told_between, befalling}
-use Rattle.cds_notes.proofs.Spanned.{above-changes, none-told, told-join}
-use Rattle.cds_notes.proofs.Served.{risen, serves, one-id, dropped-grows}
-use Rattle.cds_notes.proofs.Sent.{first-is, grows-rise}
-use Rattle.cds_notes.proofs.Copies.{known-like}
-use Rattle.cds_notes.proofs.CopyOf.{IsCopy, copy-begins, copy-later, copy-goes, copy-reads, least-is-unread, unread-known}
+use Rattle.cds_notes.specs.ServerLaws.{served, told_between}
+use Rattle.cds_notes.proofs.Spanned.{none-told}
+use Rattle.cds_notes.proofs.Served.{risen}
+use Rattle.cds_notes.proofs.CopyOf.{IsCopy, copy-later}
 
 -- ---- the stage of a load
 

@@ -1,17 +1,16 @@
 -- Of the notes that a replica received from an honest server, those that are taken go on from the position.
-use Rattle.std.proofs.Common.{◌≡◌, ◌⊎◌, inl, inr, ◌+◌, ◌-◌, ◌<◌, ◌≤◌, ℕ, zero, suc, max, Bool, true, false, cond, not, ◌&&◌, ◌||◌, nat_eq, nat_lt, List, [], ◌∷◌, ◌++◌, map, filter, length, drop, Option, Some, None, refl, sym, ap, ◌∙◌, subst, arith, true≢false, eq-eqb, eqb-true, ne_eqb, le-ltb}
-use Rattle.std.specs.List.{AllByRecursion, list_any, range_with_len, filter_map, cons_option}
+use Rattle.std.proofs.Common.{◌≡◌, ◌⊎◌, inl, inr, ◌+◌, ◌-◌, ◌<◌, ◌≤◌, ℕ, zero, suc, max, Bool, true, false, ◌&&◌, ◌||◌, nat_eq, nat_lt, List, [], ◌∷◌, length, drop, Option, Some, refl, sym, ap, ◌∙◌, subst, arith, true≢false, eqb-true, ne_eqb, le-ltb}
+use Rattle.std.specs.List.{range_with_len, filter_map, cons_option}
 use Rattle.std.proofs.lemmas.Bool.{cases_lt, eqb-false}
 use Rattle.std.proofs.lemmas.List.{drop-drop}
 use Rattle.cds_catalog.specs.History.{end_of}
-use Rattle.cds_catalog.proofs.StepsFind.{none≢some}
 use Rattle.cds_notes.specs.Commands.{Command, Note, scans_of, sent_by, notes_of}
 use Rattle.cds_notes.specs.Inbox.{note_of, has_seq}
-use Rattle.cds_notes.specs.Follow.{Known, changes_above, greatest_of, is_drop}
-use Rattle.cds_notes.specs.Given.{oldest, AreAccepted}
-use Rattle.cds_notes.specs.ServerLaws.{served, told_between}
+use Rattle.cds_notes.specs.Follow.{changes_above, greatest_of, is_drop}
+use Rattle.cds_notes.specs.Given.{oldest}
+use Rattle.cds_notes.specs.ServerLaws.{served}
 use Rattle.cds_notes.proofs.Among.{Among, among-all, among-left}
-use Rattle.cds_notes.proofs.Sent.{Stood, Sound, all-sound, Follows, follows-all}
+use Rattle.cds_notes.proofs.Sent.{Stood, Sound, all-sound, follows-all}
 use Rattle.cds_notes.proofs.Spanned.{above-told, none-told}
 use Rattle.cds_notes.proofs.Chain.{note-among, among-note}
 use Rattle.cds_notes.proofs.Stages.{greatest-least, AreNext, AreTaken}

@@ -1,7 +1,6 @@
 -- What the ids of rows tell of the places that stand after legal changes, and which rows are found by them.
-use Rattle.std.proofs.Common.{◌≡◌, ◌+◌, ◌<◌, ◌≤◌, ℕ, Bool, true, false, cond, not, ◌||◌, nat_eq, List, [], ◌∷◌, map, Option, Some, None, MatchOption, refl, sym, ap, ◌∙◌, subst, arith, true≢false, eq-eqb, ne_eqb}
-use Rattle.std.specs.List.{AllByRecursion, list_any, count_by}
-use Rattle.std.specs.Option.{option_eq}
+use Rattle.std.proofs.Common.{◌≡◌, ◌<◌, ℕ, Bool, true, false, cond, ◌||◌, nat_eq, List, [], ◌∷◌, map, Some, None, refl, sym, ap, ◌∙◌, arith, true≢false, eq-eqb, ne_eqb}
+use Rattle.std.specs.List.{AllByRecursion, list_any}
 use Rattle.std.proofs.lemmas.Bool.{false_from_ne_true}
 use Rattle.cds_object.specs.Path.{same_path, parent_of}
 use Rattle.cds_object.specs.Content.{same_kind}

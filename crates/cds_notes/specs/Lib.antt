@@ -9,3 +9,4 @@ pub mod StepLaws
 pub mod ServerLaws
 pub mod NoteLaws
 pub mod HonestLaws
+pub mod KnownLaws

@@ -4,7 +4,7 @@ use Rattle.std.specs.List.{AllByRecursion, list_any, filter_map}
 use Rattle.cds_object.specs.Object.{ObjectRow, is_folder}
 use Rattle.cds_object.specs.Tree.{row_of}
 use Rattle.cds_event.specs.declared.Event.{Event}
-use Rattle.cds_catalog.specs.History.{changes_of, end_of}
+use Rattle.cds_catalog.specs.History.{changes_of}
 use Rattle.cds_model.specs.Server.{Moment}
 use Rattle.cds_model.specs.Loads.{IsServer}
 use Rattle.cds_changes.specs.Events.{events_between, is_change}

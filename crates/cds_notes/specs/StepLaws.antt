@@ -3,7 +3,7 @@ use Rattle.std.specs.Prelude.{◌≡◌, ◌≤◌, ℕ, List, [], ◌∷◌, �
 use Rattle.cds_object.specs.Object.{ObjectRow, is_folder}
 use Rattle.cds_event.specs.declared.Event.{Event}
 use Rattle.cds_catalog.specs.Library.{FolderMap}
-use Rattle.cds_catalog.specs.History.{History, end_of}
+use Rattle.cds_catalog.specs.History.{end_of}
 use Rattle.cds_catalog.specs.Catalog.{catalog}
 use Rattle.cds_catalog.specs.Laws.{AreLibraries}
 use Rattle.cds_changes.specs.Events.{events_between, is_change}

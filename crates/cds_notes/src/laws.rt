@@ -2,6 +2,7 @@
 
 ghost use Rattle.cds_notes.specs.HonestLaws as honest;
 ghost use Rattle.cds_notes.specs.InboxLaws as inbox;
+ghost use Rattle.cds_notes.specs.KnownLaws as known;
 ghost use Rattle.cds_notes.specs.NoteLaws as notes;
 ghost use Rattle.cds_notes.specs.ServerLaws as server;
 ghost use Rattle.cds_notes.specs.StepLaws as steps;
@@ -64,4 +65,25 @@ pub fn honest_calls_are_taken()
 /// that stood there.
 pub fn honest_copies_stood()
     ensures { honest.honest_copies_stood }
+{}
+
+/// The position is the greatest of the number that the last ended load read and the numbers of all notes that were taken.
+pub fn position_is_the_greatest()
+    ensures { known.position_is_the_greatest }
+{}
+
+/// Where a copy stands, exactly the new changes above the number that its load read were counted on it, each once and in
+/// order.
+pub fn counted_changes_are_fresh()
+    ensures { known.counted_changes_are_fresh }
+{}
+
+/// Notes that are taken leave a running load, and a copy's rows, as they are, but for a first note that drops them.
+pub fn notes_leave_the_load()
+    ensures { known.notes_leave_the_load }
+{}
+
+/// The number that the last load read is the one that was shown when it ended.
+pub fn base_is_the_last_end()
+    ensures { known.base_is_the_last_end }
 {}
