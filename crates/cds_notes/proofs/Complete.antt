@@ -1,23 +1,22 @@
 -- The answer is complete: where every note was received, all is released and nothing is to be read, the replica stands at the
 -- server's number.
-use Rattle.std.proofs.Common.{◌≡◌, ◌⊎◌, inl, inr, ◌+◌, ◌-◌, ◌<◌, ◌≤◌, ℕ, max, Bool, true, false, cond, not, ◌&&◌, ◌||◌, nat_eq, nat_lt, List, [], ◌∷◌, ◌++◌, length, drop, Option, Some, None, is_some, refl, sym, ap, ◌∙◌, subst, arith, true≢false, le-ltb, ltb-true}
+use Rattle.std.proofs.Common.{◌≡◌, ◌⊎◌, inl, inr, ◌-◌, ◌<◌, ◌≤◌, ℕ, Bool, true, false, cond, not, ◌&&◌, ◌||◌, nat_eq, nat_lt, List, [], ◌∷◌, ◌++◌, length, drop, Option, Some, None, is_some, refl, sym, ap, ◌∙◌, subst, arith, true≢false, le-ltb, ltb-true}
 use Rattle.std.specs.Option.{option_map}
-use Rattle.std.specs.List.{AllByRecursion, Contains, list_any, range_with_len}
+use Rattle.std.specs.List.{AllByRecursion, range_with_len}
 use Rattle.std.proofs.lemmas.Bool.{cases_lt}
 use Rattle.cds_object.specs.Object.{ObjectRow, is_folder}
 use Rattle.cds_catalog.specs.History.{end_of}
 use Rattle.cds_catalog.proofs.StepsFind.{none≢some}
-use Rattle.cds_model.specs.declared.exchange.Ask.{Ask}
 use Rattle.cds_model.specs.declared.exchange.Ask.TheVariants.{Metadata}
 use Rattle.cds_model.specs.declared.exchange.Shown.{Shown}
 use Rattle.cds_model.specs.declared.exchange.Shown.TheVariants.{Text, Number, Page, Fault}
 use Rattle.cds_model.specs.Replica.{Waiting, Listing, Held, Idle, Begun, HasToken, HasNumber, HasRoot, Lists, HasPage, HasCopy, Taken, Holds, Unreadable, Torn, taken, listed, after_page, page_taken, root_taken, listing_of, listed_id, listed_children, fits, others_waiting, put_rows, put_containers}
 use Rattle.cds_notes.specs.Commands.{Command, Note, scans_of, released_to, releases_of, granted, runs_until, unless_past, is_alive, next_seq_of, seq_limit, alive_names, notes_of}
 use Rattle.cds_notes.specs.Copy.{Reads, least_unread, read_up_to, rows_after, known_of}
-use Rattle.cds_notes.specs.Inbox.{ReplicaTurn, Begins, Shows, Requests, Accepts, Refuses, Delivers, accepted, received, has_seq, next_seq, missing, missing_of, note_of, taken_by}
-use Rattle.cds_notes.specs.Follow.{Known, position, changes_above, Outcome, Knows, CannotBeRead, Jumps, Tears, load_begun, is_drop, dropped, with_changes, new_changes, heard_of, with_notes, loaded, is_of, row_read, copy_read, with_reply, known_after, known_by, ask_of, next_ask, says_of, says_without_gap, copy_says, says}
-use Rattle.cds_notes.specs.Given.{oldest, Entry, length_at, given_by, AreAccepted, IsGiven}
-use Rattle.cds_notes.specs.HonestLaws.{begins_load, load_was_begun, honest_answers_are_complete}
+use Rattle.cds_notes.specs.Inbox.{ReplicaTurn, Begins, Shows, Requests, Accepts, Refuses, Delivers, accepted, received, has_seq, next_seq, missing, taken_by}
+use Rattle.cds_notes.specs.Follow.{Known, position, changes_above, Outcome, Knows, CannotBeRead, Jumps, Tears, load_begun, is_drop, with_changes, new_changes, heard_of, with_notes, loaded, is_of, row_read, copy_read, with_reply, known_after, known_by, ask_of, next_ask, says_of, says_without_gap, copy_says, says}
+use Rattle.cds_notes.specs.Given.{oldest, length_at, given_by, AreAccepted}
+use Rattle.cds_notes.specs.HonestLaws.{load_was_begun, honest_answers_are_complete}
 use Rattle.cds_notes.specs.declared.says.Says.TheVariants.{BehindVersion, Stands}
 use Rattle.cds_notes.proofs.Among.{Among, among-all, among-contained, all-among, filter-among, row-among}
 use Rattle.cds_notes.proofs.Told.{any-none}
@@ -27,7 +26,7 @@ use Rattle.cds_notes.proofs.Chain.{note-among, every-seq}
 use Rattle.cds_notes.proofs.CopyOf.{IsCopy}
 use Rattle.cds_notes.proofs.Stages.{Stage, past-low}
 use Rattle.cds_notes.proofs.Heard.{knows-is, counted-stays, notes-leave}
-use Rattle.cds_notes.proofs.Honest.{IsHearing, IsServed, entries-served}
+use Rattle.cds_notes.proofs.Honest.{IsServed, entries-served}
 
 -- ---- a load that was begun is not idle
 
