@@ -52,6 +52,7 @@ pub record IsCopy (first : ℕ) (commands : List Command) (k base : ℕ) (rows :
   pub bounded : AllByRecursion (Comes (λ id v. v.object_update ≤ max base (read_up_to happenings))) (rows_after rows happenings)
   pub fresh : (id : ℕ) (row : ObjectRow) (known : KnownRow) → row_of id (served first commands at).rows ≡ Some row
       → known_of id (rows_after rows happenings) ≡ Some known → IsFresh id row known happenings
+  pub read : read_up_to happenings ≤ (served first commands k).number
 
 fresh-of : (id : ℕ) (row : ObjectRow) (one other : KnownRow) (happenings : List Happening) → one.says ≡ other.says → IsFresh id row one happenings → IsFresh id row other happenings
 fresh-of id row one other happenings same (inl f) = inl (f.0, sym same ∙ f.1, f.2)
@@ -127,6 +128,7 @@ module _ (first : ℕ) (commands : List Command) (accepted : AreAccepted first c
       ap (λ (x : KnownRow). x.says) (same-known (known_of id (map known_row (served first commands j).rows)) known (known_row row) f (known-row (served first commands j).rows id row e)),
       omega arith,
     );
+    read = omega arith;
   }
     where
       each-known : ((row : ObjectRow) → row_of row.id (served first commands j).rows ≡ Some row → ComesFrom first commands k row.id (record { content = row.content; object_update = row.object_update }))
@@ -151,6 +153,7 @@ module _ (first : ℕ) (commands : List Command) (accepted : AreAccepted first c
     comes = comes-weaker (ComesFrom first commands j) (ComesFrom first commands k) (λ id v c. (c.0, (let w = c.1 in omega (arith, w, l)), c.2)) (rows_after rows happenings) copy.comes;
     bounded = copy.bounded;
     fresh = copy.fresh;
+    read = let low = copy.read in let rise = risen first commands accepted j k l in omega (arith, low, rise);
   }
 
   -- ---- a copy goes on with what is told
@@ -191,6 +194,7 @@ module _ (first : ℕ) (commands : List Command) (accepted : AreAccepted first c
                 (subst (AllByRecursion (Comes (λ id v. v.object_update ≤ max base (read_up_to happenings)))) (sym after)
                 (comes-changes (λ id v. v.object_update ≤ max base (read_up_to happenings)) (rows_after rows happenings) told copy.bounded));
             fresh = fresh;
+            read = let low = copy.read in let same = read-up-to told happenings in omega (arith, low, same);
           },
         )
       where
@@ -249,6 +253,7 @@ module _ (first : ℕ) (commands : List Command) (accepted : AreAccepted first c
         (comes-weaker (λ i w. w.object_update ≤ max base (read_up_to happenings)) (λ i w. w.object_update ≤ max base (max v.object_update (read_up_to happenings)))
         (λ i w low. omega (arith, low)) (rows_after rows happenings) copy.bounded);
     fresh = fresh;
+    read = let low = copy.read in let most = row-within k id row e in omega (arith, low, most);
   }
     where
       v : Version

@@ -21,3 +21,4 @@ pub mod Heard
 pub mod Honest
 pub mod Position
 pub mod Ended
+pub mod Complete

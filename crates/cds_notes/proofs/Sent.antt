@@ -271,7 +271,7 @@ granted-more (Ends name) older = omega arith
 granted-more (Ticks moment) older = omega arith
 
 -- each name that was granted has a note
-some-older : (first : ℕ) (commands : List Command) (name : ℕ) → 1 ≤ name → name ≤ granted commands → 1 ≤ next_seq_of name (notes_of first commands)
+pub some-older : (first : ℕ) (commands : List Command) (name : ℕ) → 1 ≤ name → name ≤ granted commands → 1 ≤ next_seq_of name (notes_of first commands)
 some-older first [] name low high = let no : ⊥ = omega (arith, low, high) in absurd no
 some-older first (Scans library ∷ older) name low high = let more = seq-append name (notes_of first older) [] in let r = some-older first older name low high in omega (arith, more, r)
 some-older first (Ends other ∷ older) name low high = let more = seq-append name (notes_of first older) [] in let r = some-older first older name low high in omega (arith, more, r)

@@ -1,13 +1,14 @@
 -- Laws of a replica that an honest server gives its replies and notes, in every order, with losses and repeats: nothing that
 -- comes is refused, and where it stands its copy is the server's catalog at a scan end.
-use Rattle.std.specs.Prelude.{◌≡◌, ◌≤◌, ℕ, List, ◌∷◌, Some}
+use Rattle.std.specs.Prelude.{◌≡◌, ◌≤◌, ◌||◌, ℕ, Bool, true, false, List, [], ◌∷◌, length, Some, None, Contains}
+use Rattle.std.specs.List.{AllByRecursion}
 use Rattle.cds_catalog.specs.History.{end_of}
 use Rattle.cds_catalog.specs.Catalog.{catalog}
 use Rattle.cds_model.specs.Server.{reply_to}
 use Rattle.cds_model.specs.declared.exchange.Ask.{Ask}
-use Rattle.cds_notes.specs.Commands.{Command, scans_of}
-use Rattle.cds_notes.specs.Inbox.{ReplicaTurn, Accepts, Delivers, taken_by}
-use Rattle.cds_notes.specs.Follow.{Known, Knows, known_by, next_ask, with_reply, with_notes, says, copied}
+use Rattle.cds_notes.specs.Commands.{Command, Note, scans_of, released_to, releases_of, alive_names, notes_of}
+use Rattle.cds_notes.specs.Inbox.{ReplicaTurn, Begins, Shows, Requests, Accepts, Refuses, Delivers, accepted, received, has_seq, taken_by}
+use Rattle.cds_notes.specs.Follow.{Known, Knows, position, is_drop, known_by, next_ask, with_reply, with_notes, says, copied}
 use Rattle.cds_notes.specs.Given.{oldest, moment_after, Entry, Starts, Asks, Calls, Granted, Denied, Gets, length_at, given_by, AreAccepted, IsGiven}
 use Rattle.cds_notes.specs.declared.says.Says.TheVariants.{Stands}
 
@@ -35,3 +36,30 @@ honest_copies_stood = (first : ℕ) (commands : List Command) (newest : Entry) (
     IsGiven first commands (newest ∷ older) → says (given_by first commands (newest ∷ older)) ≡ Stands number →
     (j : ℕ) × (j ≤ length_at newest) × (end_of (scans_of first (oldest j commands)) ≡ number)
     × (copied (known_by (given_by first commands (newest ∷ older))) ≡ catalog (scans_of first (oldest j commands)))
+
+-- whether a turn begins a load; and whether one of some turns did, or took a first note that drops the copy
+abbrev pub begins_load : ReplicaTurn → Bool
+begins_load Begins = true
+begins_load (Shows shown) = false
+begins_load Requests = false
+begins_load (Accepts name) = false
+begins_load Refuses = false
+begins_load (Delivers note) = false
+
+abbrev pub load_was_begun : List ReplicaTurn → Bool
+load_was_begun [] = false
+load_was_begun (turn ∷ older) = begins_load turn || is_drop (position (known_by older)) (taken_by turn older) || load_was_begun older
+
+-- the answer is complete: where a load was begun, the newest entry knew all commands, the subscription that was accepted last
+-- lives, each note that was sent to it was received, no change waits for its release, and nothing is to be read, the replica
+-- stands at the server's number
+abbrev pub honest_answers_are_complete : Type 0
+honest_answers_are_complete = (first : ℕ) (commands : List Command) (newest : Entry) (older : List Entry) (name now : ℕ) → AreAccepted first commands →
+    IsGiven first commands (newest ∷ older) → length commands ≤ length_at newest →
+    load_was_begun (given_by first commands (newest ∷ older)) ≡ true →
+    accepted (given_by first commands (newest ∷ older)) ≡ Some name →
+    Contains (alive_names now commands (notes_of first commands)) name →
+    AllByRecursion (λ (note : Note). note.name ≡ name → has_seq (received (given_by first commands (newest ∷ older))) note.seq ≡ true) (notes_of first commands) →
+    released_to first (releases_of first commands) ≡ end_of (scans_of first commands) →
+    next_ask (known_by (given_by first commands (newest ∷ older))) ≡ None →
+    says (given_by first commands (newest ∷ older)) ≡ Stands (end_of (scans_of first commands))

@@ -87,3 +87,9 @@ pub fn notes_leave_the_load()
 pub fn base_is_the_last_end()
     ensures { known.base_is_the_last_end }
 {}
+
+/// The answer is complete: where a load was begun, the accepted subscription lives, each of its notes was received, every
+/// change is released, and nothing is to be read, the replica stands at the server's number.
+pub fn honest_answers_are_complete()
+    ensures { honest.honest_answers_are_complete }
+{}
