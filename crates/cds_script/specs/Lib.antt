@@ -1,0 +1,5 @@
+pub mod Evaluated
+pub mod Noted
+pub mod Played
+pub mod Report
+pub mod Script

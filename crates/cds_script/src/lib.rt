@@ -1,0 +1,18 @@
+//! Scripts with notes: the turns of a script, what is asked of a server and what it sends, and the report.
+#![tactic(auto)]
+
+mod evaluated;
+mod line;
+mod turn;
+
+pub use evaluated::{
+    ask_before_any_load, broken_line, early_note, early_notes_are_dropped, empty_library,
+    empty_script, first_note_above, first_note_while_loading, first_number_first,
+    folder_with_a_track, gap_before_load, given_up_once, longest_line, lost_reply, moments_rise,
+    note_never_sent, notes_out_of_order, numbers_end, read_ahead_of_notes, read_of_what_is_gone,
+    releases_are_apart, repeat_of_the_first, repeated_notes, replies_are_used_up,
+    scan_during_a_load, subscriptions_are_limited, track_becomes_a_folder,
+    track_without_its_folder,
+};
+pub use line::read_line;
+pub use turn::{Meaning, Turn};
