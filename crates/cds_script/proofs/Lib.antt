@@ -1,1 +1,3 @@
+pub mod MayBe
+pub mod Played
 pub mod Words
