@@ -1,3 +1,4 @@
+pub mod Given
 pub mod MayBe
 pub mod Played
 pub mod Words

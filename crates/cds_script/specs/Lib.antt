@@ -3,3 +3,4 @@ pub mod Noted
 pub mod Played
 pub mod Report
 pub mod Script
+pub mod ScriptGiven
