@@ -21,20 +21,20 @@ use Rattle.cds_script.specs.ScriptGiven.{AreGiven, scripts_are_given}
 
 -- ---- the oldest commands
 
-oldest-more : (k : ℕ) (command : Command) (commands : List Command) → k ≤ length commands → oldest k (command ∷ commands) ≡ oldest k commands
+pub oldest-more : (k : ℕ) (command : Command) (commands : List Command) → k ≤ length commands → oldest k (command ∷ commands) ≡ oldest k commands
 oldest-more k command commands low =
     let e : suc (length commands) - k ≡ suc (length commands - k) = omega (arith, low) in ap (λ (m : ℕ). drop m (command ∷ commands)) e
 
 pub oldest-all : (commands : List Command) → oldest (length commands) commands ≡ commands
 oldest-all commands = let e : length commands - length commands ≡ 0 = omega arith in ap (λ (m : ℕ). drop m commands) e
 
-granted-rises : (command : Command) (commands : List Command) → granted commands ≤ granted (command ∷ commands)
+pub granted-rises : (command : Command) (commands : List Command) → granted commands ≤ granted (command ∷ commands)
 granted-rises (Scans library) commands = omega arith
 granted-rises (Grants moment) commands = omega arith
 granted-rises (Ends name) commands = omega arith
 granted-rises (Ticks moment) commands = omega arith
 
-granted-dropped : (n : ℕ) (commands : List Command) → granted (drop n commands) ≤ granted commands
+pub granted-dropped : (n : ℕ) (commands : List Command) → granted (drop n commands) ≤ granted commands
 granted-dropped zero commands = omega arith
 granted-dropped (suc n) [] = omega arith
 granted-dropped (suc n) (command ∷ commands) =
@@ -90,20 +90,20 @@ module _ (first : ℕ) (command : Command) (commands : List Command) where
 
 -- ---- a request that is out stays out
 
-out-and : (turn : ReplicaTurn) (turns : List ReplicaTurn) → is_out (turn ∷ turns) ≡ is_out turns → is_out (and_turn turn turns) ≡ is_out turns
+pub out-and : (turn : ReplicaTurn) (turns : List ReplicaTurn) → is_out (turn ∷ turns) ≡ is_out turns → is_out (and_turn turn turns) ≡ is_out turns
 out-and turn turns e = by (is_refused turn turns)
   where
     by : (b : Bool) → is_out (cond b turns (turn ∷ turns)) ≡ is_out turns
     by true = refl
     by false = e
 
-out-asked : (moment : Moment) (turns : List ReplicaTurn) (o : Option Asked) → is_out (asked_at moment turns o) ≡ is_out turns
+pub out-asked : (moment : Moment) (turns : List ReplicaTurn) (o : Option Asked) → is_out (asked_at moment turns o) ≡ is_out turns
 out-asked moment turns None = refl
 out-asked moment turns (Some ask) = out-and (Shows (reply_to moment ask)) turns refl
 
 -- ---- a note of a number is among those that were sent
 
-sent-contained : (number : ℕ) (notes : List Note) (note : Note) → sent_note number notes ≡ Some note → Contains notes note
+pub sent-contained : (number : ℕ) (notes : List Note) (note : Note) → sent_note number notes ≡ Some note → Contains notes note
 sent-contained number [] note e = absurd (cc)
 sent-contained number (other ∷ notes) note e = by (nat_eq number 1) (nat_eq number 0) e (λ f. sent-contained (number - 1) notes note f)
   where
@@ -115,11 +115,11 @@ sent-contained number (other ∷ notes) note e = by (nat_eq number 1) (nat_eq nu
 
 -- ---- a scan that is accepted
 
-abbrev ScannedCases : History → List Record → List Command → List Command → Type 0
+abbrev pub ScannedCases : History → List Record → List Command → List Command → Type 0
 ScannedCases history records commands now = (now ≡ commands)
     ⊎ ((bad_record records ≡ None) × (length records ≤ 65535) × (end_of history + needed_by history records ≤ 4294967295) × (now ≡ Scans (map_of records) ∷ commands))
 
-scanned-cases : (history : History) (records : List Record) (commands : List Command) → ScannedCases history records commands (scanned (scan_answer history records) records commands)
+pub scanned-cases : (history : History) (records : List Record) (commands : List Command) → ScannedCases history records commands (scanned (scan_answer history records) records commands)
 scanned-cases history records commands = by (bad_record records) refl
   where
     by_test : (b c : Bool) → nat_lt 65535 (length records) ≡ b → nat_lt 4294967295 (end_of history + needed_by history records) ≡ c → bad_record records ≡ None →
@@ -148,7 +148,7 @@ scan-accepted first records commands a good few most =
 -- ---- what a script keeps
 
 -- the reply that is held back: a request is out, and a name was granted after all that was given before the request
-abbrev Waits : List Command → List Entry → List ReplicaTurn → Option (Option ℕ) → Type 0
+abbrev pub Waits : List Command → List Entry → List ReplicaTurn → Option (Option ℕ) → Type 0
 Waits commands entries replica None = Unit {0}
 Waits commands entries replica (Some None) = is_out replica ≡ true
 Waits commands entries replica (Some (Some name)) =

@@ -18,3 +18,20 @@ pub fn script_turns_may_be()
 pub fn scripts_are_given()
     ensures { given.scripts_are_given }
 {}
+
+/// No reply and no note of a script is refused: none cannot be read, jumps over a change, or tells what cannot be.
+pub fn nothing_is_refused()
+    ensures { given.nothing_is_refused }
+{}
+
+/// In the report of a script each line `stands` tells a scan end of the scans that were accepted by then, and after it come the
+/// rows of the catalog after the scans up to it.
+pub fn all_turns_stand_at_scan_ends()
+    ensures { given.all_turns_stand_at_scan_ends }
+{}
+
+/// The answer is complete: where a load was begun, the accepted subscription lives, each of its notes was received, every change
+/// is released, and nothing is to be read, an ask writes the server's number and the catalog after all scans.
+pub fn answers_are_complete()
+    ensures { given.answers_are_complete }
+{}
