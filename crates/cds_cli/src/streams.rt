@@ -1,7 +1,7 @@
 //! The program's own streams: standard input as a source and standard output as a sink. They tell nothing of what they
 //! hold, and count their faults. What a real stream gives or takes is trusted.
 
-ghost use Rattle.std.specs.Prelude.{None};
+ghost use Rattle.std.specs.Prelude.{◌≡◌, None};
 
 use cds_base::{Failed, Sink, Source};
 use std::io::{Read, Write};
@@ -15,7 +15,11 @@ pub struct Input<R: Read + Drop> {
 }
 
 impl<R: Read + Drop> Input<R> {
-    pub fn new(reader: R) -> Self {
+    /// Nothing has been moved, and no call has failed.
+    pub fn new(reader: R) -> Self
+        ensures moved { Source.moved result ≡ 0 }
+        ensures faults { Source.faults result ≡ 0 }
+    {
         Input {
             reader,
             moved: 0,
@@ -53,7 +57,10 @@ pub struct Output<W: Write + Drop> {
 }
 
 impl<W: Write + Drop> Output<W> {
-    pub fn new(writer: W) -> Self {
+    /// No call has failed.
+    pub fn new(writer: W) -> Self
+        ensures { Sink.faults result ≡ 0 }
+    {
         Output { writer, faults: 0 }
     }
 }

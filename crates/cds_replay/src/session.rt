@@ -1,41 +1,43 @@
 //! A script's server and replica, which take its turns one by one.
 
-ghost use Rattle.std.specs.Prelude.{◌≡◌, ◌+◌, ◌<◌, ◌≤◌, ◌++◌, ◌^◌, [], ◌∷◌, List, length, IfOk, OnOk, string_bytes};
-ghost use Rattle.cds_model.specs.declared.turn.Turn.{Turn as TurnValue};
-ghost use Rattle.cds_model.specs.declared.turn.Turn.TheVariants.{Scan, Load, Read};
-ghost use Rattle.cds_model.specs.Replica.{says, copied};
-ghost use Rattle.cds_model.specs.Report.{written_by, folder_record};
-ghost use Rattle.cds_replay.specs.Lines.{known_text};
-ghost use Rattle.cds_replay.specs.Session.{IsAfter, with_record};
+ghost use Rattle.std.specs.Prelude.{◌≡◌, ◌+◌, ◌<◌, ◌≤◌, ◌++◌, ◌^◌, [], ◌∷◌, List, true, length, IfOk, OnOk, string_bytes};
+ghost use Rattle.cds_script.specs.declared.turn.Turn.{Turn as TurnValue};
+ghost use Rattle.cds_script.specs.declared.turn.Turn.TheVariants.{Scan, Load, Read, Ask, Subscribe, Accept, Unsubscribe, ReadFault, First, At, Deliver};
+ghost use Rattle.cds_script.specs.Report.{may_stand, written_by};
+ghost use Rattle.cds_replay.specs.Session.{IsAfter, IsPlayed, IsBounded, TurnFits};
 
 use crate::put::put;
 use crate::reply::reply;
-use crate::report::{put_copy, put_read, put_scan, was_answered};
+use crate::report::{put_accepted, put_copy, put_ended, put_known, put_notes, put_read, put_scan, put_taken, was_answered};
+use crate::server::Server;
 use cds_base::{Mem, Sequence, Text};
-use cds_model::Turn;
 use cds_object::{Content, Path, Record, Records};
-use cds_replica::{AnswerError, Replica, Says};
-use cds_store::Store;
+use cds_replica::{AnswerError, NotifyError, Replica, Says, Sid};
+use cds_script::Turn;
 use std::alloc::Global;
 use std::marker::Model;
 
-/// A script's server and replica after the turns so far, and the records since its last scan. It keeps no list of turns,
-/// but always stands for one.
+/// A script's server and replica after the turns so far, the records since its last scan, and the reply that is held back.
+/// It keeps no list of turns, but stands for one.
 #[derive(Drop, Debug)]
 pub struct Session {
-    store: Store,
+    server: Server,
     replica: Replica,
     records: Records,
+    /// The current moment, in milliseconds.
+    clock: u64,
+    /// The reply to a subscribe request that has not reached the replica: a name, or a refusal.
+    reply: Option<Option<u32>>,
+    /// Whether no turn came yet.
+    fresh: bool,
 }
 
 impl Model for Session {
-    ghost use Rattle.cds_replay.specs.Session.{Playing, IsPlayed};
+    ghost use Rattle.cds_replay.specs.Session.{Playing};
 
     ghost Value = { Playing };
 
-    ghost view = { λ s. record { store = s.store; replica = s.replica; records = s.records } };
-
-    ghost invariant = { λ s. IsPlayed (record { store = s.store; replica = s.replica; records = s.records }) };
+    ghost view = { λ s. record { server = s.server; replica = s.replica; records = s.records; clock = s.clock; reply = s.reply; fresh = s.fresh } };
 }
 
 impl Session {
@@ -43,17 +45,36 @@ impl Session {
     pub fn new(alloc: Global) -> Result<Session, Mem>
         ensures { IfOk result (λ session. IsAfter session []) }
     {
-        let store = Store::new(alloc, 0)?;
+        let server = Server::new(alloc, 0)?;
         Ok(Session {
-            store,
+            server,
             replica: Replica::new(),
             records: Sequence::new(alloc),
+            clock: 0,
+            reply: None,
+            fresh: true,
         })
     }
 
-    /// Takes a turn, and puts what it writes at the end.
+    /// Whether a turn may stand after those so far: the first number comes before all else, moments never fall, and a note
+    /// that is delivered was sent.
+    pub fn may_stand(&self, turn: &Turn) -> bool
+        ensures { (turns : List TurnValue) → IsAfter self.now turns → result ≡ may_stand turns turn.now }
+    {
+        match turn {
+            Turn::First { .. } => self.fresh,
+            Turn::At { moment } => self.clock <= *moment,
+            Turn::Deliver { note } => self.server.has_sent(*note),
+            _ => true,
+        }
+    }
+
+    /// Takes a turn that may stand, and puts what it writes at the end.
     pub fn answer(&mut self, alloc: Global, turn: Turn, out: &mut String) -> Result<(), Mem>
-        requires { length self.old.records + 1 < 2 ^ 32 }
+        requires played { IsPlayed self.old }
+        requires stands { (turns : List TurnValue) → IsAfter self.old turns → may_stand turns turn ≡ true }
+        requires fits { TurnFits turn }
+        requires bounded { IsBounded self.old }
         ensures after { (turns : List TurnValue) → IsAfter self.old turns → OnOk result (IsAfter self.new (turn ∷ turns)) }
         ensures written { (turns : List TurnValue) → IsAfter self.old turns → OnOk result (string_bytes out.new ≡ string_bytes out.old ++ written_by turns turn) }
         ensures few { OnOk result (length self.new.records ≤ length self.old.records + 1) }
@@ -65,6 +86,13 @@ impl Session {
             Turn::Load => self.load(),
             Turn::Read => self.read(alloc, out),
             Turn::Ask => self.ask(out),
+            Turn::First { number } => self.begin_at(alloc, number),
+            Turn::At { moment } => self.tick(alloc, moment, out),
+            Turn::Subscribe => self.subscribe(alloc, out),
+            Turn::Accept => self.accept(alloc, out),
+            Turn::Unsubscribe => self.unsubscribe(out),
+            Turn::Deliver { note } => self.deliver(alloc, note, out),
+            Turn::ReadFault => self.lose_read(out),
         }
     }
 
@@ -73,6 +101,7 @@ impl Session {
         ensures { OnOk result (self.new ≡ with_record self.old found) }
     {
         self.records.push(found)?;
+        self.fresh = false;
         Ok(())
     }
 
@@ -91,50 +120,160 @@ impl Session {
         ensures after { (turns : List TurnValue) → IsAfter self.old turns → OnOk result (IsAfter self.new (Scan ∷ turns)) }
         ensures written { (turns : List TurnValue) → IsAfter self.old turns → OnOk result (string_bytes out.new ≡ string_bytes out.old ++ written_by turns Scan) }
         ensures dropped { OnOk result (self.new.records ≡ []) }
+        ensures granted { OnOk result (self.new.server.subscribed.granted ≡ self.old.server.subscribed.granted) }
     {
-        let answer = self.store.apply(alloc, &self.records);
+        let answer = self.server.scan(alloc, &self.records);
         if !was_answered(&answer) {
             return Err(Mem);
         }
         self.records = Sequence::new(alloc);
+        self.fresh = false;
         put_scan(out, answer)
     }
 
     /// Begins a load.
     fn load(&mut self) -> Result<(), Mem>
         ensures after { (turns : List TurnValue) → IsAfter self.old turns → OnOk result (IsAfter self.new (Load ∷ turns)) }
-        ensures kept { self.new.records ≡ self.old.records }
     {
-        self.replica.begin_load()
+        self.replica.begin_load()?;
+        self.fresh = false;
+        Ok(())
     }
 
-    /// Sends the next ask of the replica to the store, where there is one, and takes the reply, which is never refused.
+    /// Sends the next ask of the replica to the server, where there is one, and takes the reply, which is never refused.
     fn read(&mut self, alloc: Global, out: &mut String) -> Result<(), Mem>
+        requires { IsPlayed self.old }
         ensures after { (turns : List TurnValue) → IsAfter self.old turns → OnOk result (IsAfter self.new (Read ∷ turns)) }
         ensures written { (turns : List TurnValue) → IsAfter self.old turns → OnOk result (string_bytes out.new ≡ string_bytes out.old ++ written_by turns Read) }
-        ensures kept { self.new.records ≡ self.old.records }
     {
+        self.fresh = false;
         match self.replica.next_ask() {
             None => put(out, "read none\n"),
             Some(ask) => {
-                let shown = reply(alloc, &self.store, ask)?;
+                let shown = reply(alloc, self.server.store(), ask)?;
                 match self.replica.take(alloc, shown) {
                     Ok(read) => put_read(out, read),
                     Err(AnswerError::Mem) => Err(Mem),
                     Err(AnswerError::Unreadable) => unreachable!(),
+                    Err(AnswerError::Jump { .. }) => unreachable!(),
                     Err(AnswerError::Torn { .. }) => unreachable!(),
                 }
             }
         }
     }
 
-    /// Puts what the replica knows, and the rows of its copy where one stands.
-    fn ask(&self, out: &mut String) -> Result<(), Mem>
-        ensures { OnOk result (string_bytes out.new ≡ string_bytes out.old ++ known_text (says self.now.replica) (copied self.now.replica)) }
+    /// Puts what the replica knows, and the rows of its copy where it stands.
+    fn ask(&mut self, out: &mut String) -> Result<(), Mem>
+        ensures after { (turns : List TurnValue) → IsAfter self.old turns → OnOk result (IsAfter self.new (Ask ∷ turns)) }
+        ensures written { (turns : List TurnValue) → IsAfter self.old turns → OnOk result (string_bytes out.new ≡ string_bytes out.old ++ written_by turns Ask) }
     {
-        match self.replica.says() {
-            Says::BehindLoad => put(out, "behind load\n"),
-            Says::Stands { at } => put_copy(out, at, self.replica.copy()),
+        self.fresh = false;
+        put_known(out, self.replica.says(), &self.replica)
+    }
+
+    /// Begins again with a server whose first number is another. No turn came before.
+    fn begin_at(&mut self, alloc: Global, number: u32) -> Result<(), Mem>
+        requires { self.old.fresh ≡ true }
+        ensures after { (turns : List TurnValue) → IsAfter self.old turns → OnOk result (IsAfter self.new (First number ∷ turns)) }
+    {
+        self.server = Server::new(alloc, number)?;
+        self.fresh = false;
+        Ok(())
+    }
+
+    /// The moment is another from now on, and the server releases what is due.
+    fn tick(&mut self, alloc: Global, moment: u64, out: &mut String) -> Result<(), Mem>
+        requires { self.old.clock ≤ moment }
+        ensures after { (turns : List TurnValue) → IsAfter self.old turns → OnOk result (IsAfter self.new (At moment ∷ turns)) }
+        ensures written { (turns : List TurnValue) → IsAfter self.old turns → OnOk result (string_bytes out.new ≡ string_bytes out.old ++ written_by turns (At moment)) }
+    {
+        let sent = self.server.sent().len();
+        self.server.tick(alloc, moment)?;
+        self.clock = moment;
+        self.fresh = false;
+        put_notes(out, self.server.sent(), sent)
+    }
+
+    /// A subscribe request of the replica goes out; the server answers it, and the reply is held back.
+    fn subscribe(&mut self, alloc: Global, out: &mut String) -> Result<(), Mem>
+        requires granted { self.old.server.subscribed.granted + 1 < 2 ^ 32 }
+        requires moment { self.old.clock + 1800000 < 2 ^ 64 }
+        ensures after { (turns : List TurnValue) → IsAfter self.old turns → OnOk result (IsAfter self.new (Subscribe ∷ turns)) }
+        ensures written { (turns : List TurnValue) → IsAfter self.old turns → OnOk result (string_bytes out.new ≡ string_bytes out.old ++ written_by turns Subscribe) }
+    {
+        let sent = self.server.sent().len();
+        self.replica.subscribing()?;
+        self.reply = Some(self.server.subscribe(alloc, self.clock)?);
+        self.fresh = false;
+        put_notes(out, self.server.sent(), sent)
+    }
+
+    /// The reply that was held back reaches the replica, which takes it.
+    fn accept(&mut self, alloc: Global, out: &mut String) -> Result<(), Mem>
+        requires { IsPlayed self.old }
+        ensures after { (turns : List TurnValue) → IsAfter self.old turns → OnOk result (IsAfter self.new (Accept ∷ turns)) }
+        ensures written { (turns : List TurnValue) → IsAfter self.old turns → OnOk result (string_bytes out.new ≡ string_bytes out.old ++ written_by turns Accept) }
+    {
+        self.fresh = false;
+        match self.reply.take() {
+            None => put(out, "accept none\n"),
+            Some(None) => {
+                self.replica.not_subscribed();
+                put(out, "accept 503\n")
+            }
+            Some(Some(name)) => {
+                match self.replica.subscribed(alloc, Sid(u128::from(name))) {
+                    Ok(()) => put(out, "accept 200\n"),
+                    Err(NotifyError::Mem) => Err(Mem),
+                    Err(_) => unreachable!(),
+                }
+            }
         }
+    }
+
+    /// Gives up the subscription that the replica accepted last.
+    fn unsubscribe(&mut self, out: &mut String) -> Result<(), Mem>
+        ensures after { (turns : List TurnValue) → IsAfter self.old turns → OnOk result (IsAfter self.new (Unsubscribe ∷ turns)) }
+        ensures written { (turns : List TurnValue) → IsAfter self.old turns → OnOk result (string_bytes out.new ≡ string_bytes out.old ++ written_by turns Unsubscribe) }
+    {
+        self.fresh = false;
+        match self.replica.accepted() {
+            None => put(out, "unsubscribe none\n"),
+            Some(sid) => {
+                if self.server.end(sid.0, self.clock) {
+                    put(out, "unsubscribe 200\n")
+                } else {
+                    put(out, "unsubscribe 412\n")
+                }
+            }
+        }
+    }
+
+    /// The note of a number reaches the replica, which does not refuse it but where its name is not known or there is no room.
+    fn deliver(&mut self, alloc: Global, number: u32, out: &mut String) -> Result<(), Mem>
+        requires { IsPlayed self.old }
+        ensures after { (turns : List TurnValue) → IsAfter self.old turns → may_stand turns (Deliver number) ≡ true → OnOk result (IsAfter self.new (Deliver number ∷ turns)) }
+        ensures written { (turns : List TurnValue) → IsAfter self.old turns → OnOk result (string_bytes out.new ≡ string_bytes out.old ++ written_by turns (Deliver number)) }
+    {
+        self.fresh = false;
+        match self.server.note(alloc, number)? {
+            None => Ok(()),
+            Some(note) => {
+                put(out, "deliver ")?;
+                put_number(out, u64::from(number))?;
+                put(out, " ")?;
+                let taken = self.replica.notify(alloc, note);
+                put_arrival(out, arrival)
+            }
+        }
+    }
+
+    /// The reply to one read is lost.
+    fn lose_read(&mut self, out: &mut String) -> Result<(), Mem>
+        ensures after { (turns : List TurnValue) → IsAfter self.old turns → OnOk result (IsAfter self.new (ReadFault ∷ turns)) }
+        ensures written { OnOk result (string_bytes out.new ≡ string_bytes out.old ++ codes "readfault\n") }
+    {
+        self.fresh = false;
+        put(out, "readfault\n")
     }
 }

@@ -13,8 +13,8 @@ use Rattle.cds_model.specs.Played.{is_long, script_lines}
 use Rattle.cds_script.specs.declared.turn.Meaning.{Meaning}
 use Rattle.cds_script.specs.declared.turn.Meaning.TheVariants.{Nothing, Means, Outside}
 use Rattle.cds_script.specs.declared.turn.Turn.{Turn}
-use Rattle.cds_script.specs.declared.turn.Turn.TheVariants.{Scan, Load, Read, Ask, Subscribe, Accept, Unsubscribe, ReadFault}
-use Rattle.cds_script.specs.Script.{folder_turn, track_turn, plain_turn, moment_limit, first_turn, at_turn, deliver_turn, number_turn, folder_line, track_line, plain_line, turn_of, meaning_of_turn, meaning_of_words, meaning_of}
+use Rattle.cds_script.specs.declared.turn.Turn.TheVariants.{Folder, Track, Scan, Load, Read, Ask, First, At, Subscribe, Accept, Unsubscribe, Deliver, ReadFault}
+use Rattle.cds_script.specs.Script.{folder_turn, track_turn, plain_turn, moment_limit, first_turn, at_turn, deliver_turn, number_turn, folder_line, track_line, plain_line, turn_of, meaning_of_turn, meaning_of_words, meaning_of, IsInRange, MeansInRange, lines_mean_in_range}
 use Rattle.cds_script.specs.Report.{number_of, first_of, may_stand}
 use Rattle.cds_script.specs.Played.{turn_in, is_within, is_answered, and_meant, answered_lines, AllStand, MayBe, script_turns_may_be}
 use Rattle.cds_script.proofs.Played.{turns_in}
@@ -30,10 +30,25 @@ below-limit limit bytes n = by (has_leading_zero bytes) (is_number_in 10 bytes) 
     by false true false l e = absurd (cc)
     by false true true l e = let is : value_in 10 bytes ≡ n = cc in let low = ltb-true (value_in 10 bytes) limit l in omega (arith, is, low)
 
--- a turn, if it is one, names no first number above the last
+-- the numbers of a turn, if it is one, are within their ranges
 abbrev Fine : Option Turn → Type 0
 Fine None = Unit {0}
-Fine (Some turn) = number_of turn ≤ 4294967295
+Fine (Some turn) = IsInRange turn
+
+low-number : (turn : Turn) → IsInRange turn → number_of turn ≤ 4294967295
+low-number (Folder path) f = omega arith
+low-number (Track path content) f = omega arith
+low-number Scan f = omega arith
+low-number Load f = omega arith
+low-number Read f = omega arith
+low-number Ask f = omega arith
+low-number (First number) f = f
+low-number (At moment) f = omega arith
+low-number Subscribe f = omega arith
+low-number Accept f = omega arith
+low-number Unsubscribe f = omega arith
+low-number (Deliver note) f = omega arith
+low-number ReadFault f = omega arith
 
 cond-fine : (b : Bool) (x y : Option Turn) → Fine x → Fine y → Fine (cond b x y)
 cond-fine true x y fx fy = fx
@@ -43,20 +58,20 @@ first-fine : (o : Option ℕ) → ((n : ℕ) → o ≡ Some n → n < 2 ^ 32) �
 first-fine None h = tt
 first-fine (Some n) h = let l : n < 4294967296 = h n refl in omega (arith, l)
 
-at-fine : (o : Option ℕ) → Fine (at_turn o)
-at-fine None = tt
-at-fine (Some n) = omega arith
+at-fine : (o : Option ℕ) → ((n : ℕ) → o ≡ Some n → n < moment_limit) → Fine (at_turn o)
+at-fine None h = tt
+at-fine (Some n) h = h n refl
 
 deliver-fine : (o : Option ℕ) → Fine (deliver_turn o)
 deliver-fine None = tt
-deliver-fine (Some n) = omega arith
+deliver-fine (Some n) = tt
 
 folder-fine : (r : Result (List (List ℕ)) ℕ) → Fine (folder_turn r)
-folder-fine (Ok path) = omega arith
+folder-fine (Ok path) = tt
 folder-fine (Err at) = tt
 
 track-fine : (r : Result (List (List ℕ)) ℕ) (size : Option ℕ) (info : Option FlacInfo) → Fine (track_turn r size info)
-track-fine (Ok path) (Some size) (Some info) = omega arith
+track-fine (Ok path) (Some size) (Some info) = tt
 track-fine (Ok path) (Some size) None = tt
 track-fine (Ok path) None info = tt
 track-fine (Err at) size info = tt
@@ -80,19 +95,19 @@ track_line-fine (a ∷ b ∷ c ∷ d ∷ f ∷ g ∷ h ∷ words) = tt
 number-fine : (word number : List ℕ) → Fine (number_turn word number)
 number-fine word number =
     cond-fine (same_text word (codes "first")) _ _ (first-fine (plain_below (2 ^ 32) number) (below-limit (2 ^ 32) number))
-    (cond-fine (same_text word (codes "at")) _ _ (at-fine (plain_below moment_limit number))
+    (cond-fine (same_text word (codes "at")) _ _ (at-fine (plain_below moment_limit number) (below-limit moment_limit number))
     (cond-fine (same_text word (codes "deliver")) _ _ (deliver-fine (plain_below (2 ^ 32) number)) tt))
 
 plain-fine : (word : List ℕ) → Fine (plain_turn word)
 plain-fine word =
-    cond-fine (same_text word (codes "scan")) (Some Scan) _ (omega arith)
-    (cond-fine (same_text word (codes "load")) (Some Load) _ (omega arith)
-    (cond-fine (same_text word (codes "read")) (Some Read) _ (omega arith)
-    (cond-fine (same_text word (codes "ask")) (Some Ask) _ (omega arith)
-    (cond-fine (same_text word (codes "subscribe")) (Some Subscribe) _ (omega arith)
-    (cond-fine (same_text word (codes "accept")) (Some Accept) _ (omega arith)
-    (cond-fine (same_text word (codes "unsubscribe")) (Some Unsubscribe) _ (omega arith)
-    (cond-fine (same_text word (codes "readfault")) (Some ReadFault) None (omega arith) tt)))))))
+    cond-fine (same_text word (codes "scan")) (Some Scan) _ tt
+    (cond-fine (same_text word (codes "load")) (Some Load) _ tt
+    (cond-fine (same_text word (codes "read")) (Some Read) _ tt
+    (cond-fine (same_text word (codes "ask")) (Some Ask) _ tt
+    (cond-fine (same_text word (codes "subscribe")) (Some Subscribe) _ tt
+    (cond-fine (same_text word (codes "accept")) (Some Accept) _ tt
+    (cond-fine (same_text word (codes "unsubscribe")) (Some Unsubscribe) _ tt
+    (cond-fine (same_text word (codes "readfault")) (Some ReadFault) None tt tt)))))))
 
 plain_line-fine : (word : List ℕ) (words : List (List ℕ)) → Fine (plain_line word words)
 plain_line-fine word [] = plain-fine word
@@ -131,7 +146,7 @@ AreFine turns = AllStand turns × AllByRecursion (λ turn. number_of turn ≤ 42
 
 and-fine : (turns : List Turn) (o : Option Turn) → Fine o → ((turn : Turn) → o ≡ Some turn → may_stand turns turn ≡ true) → AreFine turns → AreFine (and_meant o turns)
 and-fine turns None f stands all = all
-and-fine turns (Some turn) f stands all = ((stands turn refl, all.0), (f, all.1))
+and-fine turns (Some turn) f stands all = ((stands turn refl, all.0), (low-number turn f, all.1))
 
 within-stands : (turns : List Turn) (meaning : Meaning) (turn : Turn) → is_within turns meaning ≡ true → turn_in meaning ≡ Some turn → may_stand turns turn ≡ true
 within-stands turns Nothing turn w e = absurd (cc)
@@ -173,3 +188,13 @@ pub turns-may_be : script_turns_may_be
 turns-may_be bytes =
     let all = lines-fine [] (script_lines bytes) (tt, tt) in
     record { stand = all.0; number = first-low _ all.1 }
+
+-- ---- the numbers of what a line means
+
+meant-range : (meaning : Meaning) → Fine (turn_in meaning) → MeansInRange meaning
+meant-range Nothing f = tt
+meant-range (Means turn) f = f
+meant-range Outside f = tt
+
+pub lines-range : lines_mean_in_range
+lines-range line = meant-range (meaning_of line) (line-fine line)

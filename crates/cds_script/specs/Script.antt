@@ -1,6 +1,6 @@
 -- What each line of a script means (this project's profile). Its lines and the words of a line are those of scripts without
 -- notes.
-use Rattle.std.specs.Prelude.{◌^◌, ℕ, cond, nat_eq, List, [], ◌∷◌, Option, Some, None, Result, Ok, Err, codes}
+use Rattle.std.specs.Prelude.{◌^◌, ◌<◌, ◌≤◌, ℕ, cond, nat_eq, List, [], ◌∷◌, Option, Some, None, Result, Ok, Err, codes}
 use Rattle.std.specs.List.{list_all}
 use Rattle.cds_base.specs.Number.{plain_below}
 use Rattle.cds_flac.specs.declared.info.FlacInfo.{FlacInfo}
@@ -98,3 +98,28 @@ meaning_of_words words = cond (list_all is_word words) (meaning_of_turn (turn_of
 abbrev pub meaning_of : List ℕ → Meaning
 meaning_of [] = Nothing
 meaning_of (b ∷ rest) = cond (nat_eq b 35) Nothing (meaning_of_words (words_of (b ∷ rest)))
+
+-- the numbers of a turn are within their ranges
+abbrev pub IsInRange : Turn → Type 0
+IsInRange (Folder path) = Unit {0}
+IsInRange (Track path content) = Unit {0}
+IsInRange Scan = Unit {0}
+IsInRange Load = Unit {0}
+IsInRange Read = Unit {0}
+IsInRange Ask = Unit {0}
+IsInRange (First number) = number ≤ 4294967295
+IsInRange (At moment) = moment < moment_limit
+IsInRange Subscribe = Unit {0}
+IsInRange Accept = Unit {0}
+IsInRange Unsubscribe = Unit {0}
+IsInRange (Deliver note) = Unit {0}
+IsInRange ReadFault = Unit {0}
+
+abbrev pub MeansInRange : Meaning → Type 0
+MeansInRange Nothing = Unit {0}
+MeansInRange (Means turn) = IsInRange turn
+MeansInRange Outside = Unit {0}
+
+-- the numbers of what a line means are within their ranges
+abbrev pub lines_mean_in_range : Type 0
+lines_mean_in_range = (line : List ℕ) → MeansInRange (meaning_of line)
