@@ -1,4 +1,7 @@
 pub mod Lines
 pub mod Replay
 pub mod Script
+pub mod Sending
+pub mod Served
+pub mod Serving
 pub mod Session

@@ -1,12 +1,17 @@
 //! Scripts, played: a server's store and a replica take the turns of a script, and the report is written line by line.
 #![tactic(auto)]
 
+mod book;
 mod fragment;
+mod note;
 mod play;
 mod put;
+mod releases;
 mod reply;
 mod report;
 mod script;
+mod sent;
+mod served;
 mod session;
 
 pub use play::{ReplayError, replay};

@@ -1,0 +1,177 @@
+//! The notes that a script's server sent.
+
+ghost use Rattle.std.specs.Prelude.{◌≡◌, ◌++◌, [], ◌∷◌, map, length, slice_get, option_map, IfOk, OnErr, OnOk};
+ghost use Rattle.cds_notes.specs.Commands.{first_note};
+ghost use Rattle.cds_replay.specs.Serving.{alive, note_to, sent_note};
+ghost use Rattle.cds_replay.specs.Sending.{events_at, head_of, kept_note};
+
+use crate::book::Subscription;
+use crate::note::{Note, Sid};
+use cds_base::Mem;
+use cds_event::{Event, Events};
+use std::alloc::Global;
+use std::marker::Model;
+
+/// What a script writes of a note: its SEQ and its SystemUpdateID.
+#[derive(Clone, Copy, Debug)]
+pub struct SentHead {
+    pub seq: u32,
+    pub number: u32,
+}
+
+/// A note without its events: those of a release's note are found by the place of the release.
+#[derive(Clone, Copy, Debug)]
+pub struct SentNote {
+    pub name: u32,
+    pub seq: u32,
+    pub number: u32,
+    pub release: Option<usize>,
+}
+
+/// All notes that were sent, the oldest first, and the events of each release that one of them tells. Contracts see the
+/// list of the notes.
+#[derive(Drop, Debug)]
+pub struct Sent {
+    notes: Vec<SentNote>,
+    releases: Vec<Events>,
+}
+
+impl Model for Sent {
+    ghost use Rattle.std.specs.Prelude.{List, map};
+    ghost use Rattle.cds_notes.specs.Commands.{Note};
+
+    ghost Value = { List Note };
+
+    ghost use Rattle.cds_replay.specs.Sending.{told_note, AreKept};
+
+    ghost view = { λ s. map (told_note s.releases.items) s.notes.items };
+
+    ghost invariant = { λ s. AreKept s.releases.items s.notes.items };
+}
+
+/// The notes of a release to the subscriptions that have not run out at a moment.
+fn notes_to(
+    alloc: Global,
+    subscriptions: &[Subscription],
+    now: u64,
+    number: u32,
+    release: usize,
+) -> Result<Vec<SentNote>, Mem>
+    ensures { IfOk result (λ notes. notes.items ≡ map (kept_note number release) (alive now subscriptions.now)) }
+{
+    let mut notes = Vec::new(alloc);
+    for s in subscriptions {
+        if now < s.end {
+            notes.push(SentNote {
+                name: s.name,
+                seq: s.next_seq,
+                number,
+                release: Some(release),
+            })?;
+        }
+    }
+    Ok(notes)
+}
+
+/// The events of the release at a place, none where there is no place.
+fn events_at(releases: &[Events], release: Option<usize>) -> &[Event]
+    ensures { result.now ≡ events_at releases.now release }
+{
+    match release {
+        None => &[],
+        Some(at) => match releases.get(at) {
+            None => &[],
+            Some(events) => events.as_slice(),
+        },
+    }
+}
+
+impl Sent {
+    /// No notes.
+    pub fn new(alloc: Global) -> Sent
+        ensures { result ≡ [] }
+    {
+        Sent {
+            notes: Vec::new(alloc),
+            releases: Vec::new(alloc),
+        }
+    }
+
+    /// How many notes were sent.
+    pub fn len(&self) -> usize
+        ensures { result ≡ length self.now }
+    {
+        self.notes.len()
+    }
+
+    /// What is written of the note at a place counted from 0, `None` past the end.
+    pub fn head(&self, at: usize) -> Option<SentHead>
+        ensures { result ≡ option_map head_of (slice_get self.now at) }
+    {
+        match self.notes.get(at) {
+            None => None,
+            Some(sent) => Some(SentHead {
+                seq: sent.seq,
+                number: sent.number,
+            }),
+        }
+    }
+
+    /// A copy of the note of a number, counted from 1, `None` where none has it.
+    pub fn note(&self, alloc: Global, number: u32) -> Result<Option<Note>, Mem>
+        ensures { IfOk result (λ note. note ≡ sent_note number self.now) }
+    {
+        if number == 0 {
+            return Ok(None);
+        }
+        match self.notes.get(number as usize - 1) {
+            None => Ok(None),
+            Some(sent) => {
+                let mut events = Events::new(alloc);
+                events.extend(events_at(self.releases.as_slice(), sent.release))?;
+                Ok(Some(Note {
+                    sid: Sid(u128::from(sent.name)),
+                    seq: sent.seq,
+                    number: sent.number,
+                    events,
+                }))
+            }
+        }
+    }
+
+    /// Sends the first note of a subscription.
+    pub fn send_first(&mut self, name: u32, number: u32) -> Result<(), Mem>
+        ensures sent { OnOk result (self.new ≡ self.old ++ first_note name number ∷ []) }
+        ensures kept { OnErr result (self.new ≡ self.old) }
+    {
+        self.notes.push(SentNote {
+            name,
+            seq: 0,
+            number,
+            release: None,
+        })?;
+        Ok(())
+    }
+
+    /// Sends the note of a release, up to a number and with these events, to each of the subscriptions that has not run
+    /// out at a moment, and answers to how many.
+    pub fn send(
+        &mut self,
+        alloc: Global,
+        subscriptions: &[Subscription],
+        now: u64,
+        number: u32,
+        events: Events,
+    ) -> Result<usize, Mem>
+        ensures sent { OnOk result (self.new ≡ self.old ++ map (note_to number events) (alive now subscriptions.now)) }
+        ensures count { IfOk result (λ count. count ≡ length (alive now subscriptions.now)) }
+        ensures kept { OnErr result (self.new ≡ self.old) }
+    {
+        let notes = notes_to(alloc, subscriptions, now, number, self.releases.len())?;
+        if !notes.is_empty() {
+            self.releases.push(events)?;
+            self.notes.extend_from_slice(notes.as_slice())?;
+        }
+        Ok(notes.len())
+    }
+}
