@@ -1,12 +1,14 @@
 //! What turns write: the lines of a report (this project's profile).
 
-ghost use Rattle.std.specs.Prelude.{◌≡◌, ◌++◌, ◌∷◌, [], OnOk, string_bytes, codes};
+ghost use Rattle.std.specs.Prelude.{◌≡◌, ◌+◌, ◌++◌, ◌∷◌, [], OnOk, drop, string_bytes, codes};
 ghost use Rattle.std.specs.Fmt.{decimal};
 ghost use Rattle.cds_object.specs.Fragment.{fragment, full_text};
-ghost use Rattle.cds_replay.specs.Lines.{scan_line, read_line, stands_text, numbered_line, was_answered};
+ghost use Rattle.cds_script.specs.Report.{notes_text};
+ghost use Rattle.cds_replay.specs.Lines.{scan_line, read_line, stands_text, numbered_line, note_line, delivered_line, taken_text, was_answered};
 
 use crate::fragment::put_fragment;
 use crate::put::{put, put_number};
+use crate::sent::{Sent, SentHead};
 use cds_base::Mem;
 use cds_object::Row;
 use cds_replica::Read;
@@ -89,5 +91,70 @@ fn put_row(out: &mut String, row: &Row) -> Result<(), Mem>
 {
     put_fragment(out, row)?;
     put(out, "\n")?;
+    Ok(())
+}
+
+/// Puts a line for each note that was sent, from a place on that is counted from 0.
+pub fn put_notes(out: &mut String, sent: &Sent, from: usize) -> Result<(), Mem>
+    ensures { OnOk result (string_bytes out.new ≡ string_bytes out.old ++ notes_text (from + 1) (drop from sent.now)) }
+{
+    for at in from..sent.len() {
+        if let Some(head) = sent.head(at) {
+            put_note(out, at as u64 + 1, head)?;
+        }
+    }
+    Ok(())
+}
+
+/// Puts the number of a note, its SEQ and its SystemUpdateID.
+fn put_note(out: &mut String, number: u64, head: SentHead) -> Result<(), Mem>
+    ensures { OnOk result (string_bytes out.new ≡ string_bytes out.old ++ note_line number head) }
+{
+    put(out, "note ")?;
+    put_number(out, number)?;
+    put(out, " seq ")?;
+    put_number(out, u64::from(head.seq))?;
+    put_numbered_line(out, " at ", u64::from(head.number))?;
+    Ok(())
+}
+
+/// Puts what became of the note of a number. Want of memory is no answer, nor is what no note of a script is answered, and
+/// nothing is written.
+pub fn put_delivered(
+    out: &mut String,
+    number: u64,
+    answer: Result<Taken, NotifyError>,
+) -> Result<(), Mem>
+    ensures { OnOk result (string_bytes out.new ≡ string_bytes out.old ++ delivered_line number answer) }
+{
+    put(out, "deliver ")?;
+    put_number(out, number)?;
+    put(out, " ")?;
+    put_taken(out, answer)?;
+    put(out, "\n")?;
+    Ok(())
+}
+
+/// Puts the word of what became of a note.
+fn put_taken(out: &mut String, answer: Result<Taken, NotifyError>) -> Result<(), Mem>
+    ensures { OnOk result (string_bytes out.new ≡ string_bytes out.old ++ taken_text answer) }
+{
+    match answer {
+        Ok(Taken::Took) => put(out, "took"),
+        Ok(Taken::Repeat) => put(out, "repeat"),
+        Ok(Taken::Early) => put(out, "early"),
+        Ok(Taken::Held { missing }) => put_numbered(out, "held ", u64::from(missing)),
+        Err(NotifyError::Unknown) => put(out, "unknown"),
+        Err(NotifyError::Full { held }) => put_numbered(out, "full ", u64::from(held)),
+        Err(_) => Ok(()),
+    }
+}
+
+/// Puts a word and a number.
+fn put_numbered(out: &mut String, word: &str, number: u64) -> Result<(), Mem>
+    ensures { OnOk result (string_bytes out.new ≡ string_bytes out.old ++ (word.now ++ decimal number)) }
+{
+    put(out, word)?;
+    put_number(out, number)?;
     Ok(())
 }
