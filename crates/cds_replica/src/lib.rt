@@ -5,7 +5,9 @@
 mod checking;
 mod error;
 mod growing;
+mod inbox;
 mod listing;
+mod note;
 mod order;
 mod replica;
 mod stage;
@@ -13,6 +15,7 @@ mod taking;
 
 pub use cds_model::{Ask, Read, Says, Shown};
 pub use error::AnswerError;
+pub use note::{Note, Sid, Taken};
 pub use replica::Replica;
 
 #[cfg(test)]
