@@ -11,7 +11,7 @@ use Rattle.cds_notes.proofs.Chain.{note-among, note-later}
 use Rattle.cds_replica.specs.Inboxed.{run_end, behind, of_name}
 
 -- a note that is among others has its SEQ among theirs
-among-has : (q : ℕ) (notes : List Note) (note : Note) → Among note notes → note.seq ≡ q → has_seq notes q ≡ true
+pub among-has : (q : ℕ) (notes : List Note) (note : Note) → Among note notes → note.seq ≡ q → has_seq notes q ≡ true
 among-has q [] note a e = absurd a
 among-has q (other ∷ notes) note a e = by a (λ b. among-has q notes note b e)
   where
@@ -52,7 +52,7 @@ shifted-has from q (note ∷ notes) e = by (nat_eq note.seq (from + q)) refl (sh
     by false s rest e = either (nat_eq (note.seq - from) q) (rest e)
 
 -- not all of one more number in a row than there are notes are among their SEQs
-not-all_from : (from : ℕ) (notes : List Note) → ((q : ℕ) → from ≤ q → q < from + (length notes + 1) → has_seq notes q ≡ true) → ⊥
+pub not-all_from : (from : ℕ) (notes : List Note) → ((q : ℕ) → from ≤ q → q < from + (length notes + 1) → has_seq notes q ≡ true) → ⊥
 unfolding shifted
 not-all_from from notes all =
     not-all (shifted from notes) (λ q l.
@@ -160,7 +160,7 @@ behind-none next q (note ∷ notes) l = by (nat_lt next note.seq) refl (behind-n
 
 -- ---- the note of a SEQ among notes and one more
 
-note-here : (q : ℕ) (note : Note) (older : List Note) → note_of q older ≡ None → note_of q (note ∷ older) ≡ cond (nat_eq note.seq q) (Some note) None
+pub note-here : (q : ℕ) (note : Note) (older : List Note) → note_of q older ≡ None → note_of q (note ∷ older) ≡ cond (nat_eq note.seq q) (Some note) None
 note-here q note older e = rw e refl
 
 note-on : (q : ℕ) (note : Note) (xs ys : List Note) → note_of q xs ≡ note_of q ys → note_of q (note ∷ xs) ≡ note_of q (note ∷ ys)

@@ -117,7 +117,7 @@ taken_in IsNext note kept = note ∷ followers kept
 -- what holds of each inbox: not more notes are held than may be; and those that wait are of the accepted name, behind the
 -- next SEQ, which is not above the number of all SEQs
 abbrev pub IsWaiting : Option ℕ → ℕ → Note → Type 0
-IsWaiting accepted next note = (accepted ≡ Some note.name) × (next < note.seq) × (note.seq < 4294967296)
+IsWaiting accepted next note = (accepted ≡ Some note.name) × (next < note.seq)
 
 pub record IsInbox (kept : KeptInbox) : Type 0 where
   pub few : held_count kept ≤ held_limit

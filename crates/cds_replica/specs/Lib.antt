@@ -4,3 +4,4 @@ pub mod Holding
 pub mod Honest
 pub mod Inboxed
 pub mod Known
+pub mod Telling

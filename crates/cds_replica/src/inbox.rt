@@ -1,15 +1,19 @@
 //! Which notes are taken and which are held, with no copy in it (this project's profile, over UPnP Device Architecture 2.0
 //! on event keys).
 
-ghost use Rattle.std.specs.Prelude.{◌≡◌, ◌+◌, ◌^◌, ◌≤◌, ◌<◌, ◌&&◌, ◌||◌, not, nat_eq, nat_lt, nat_le, Some, None, OnOk, OnErr, option_copied};
+ghost use Rattle.std.specs.Prelude.{◌≡◌, ◌^◌, ◌<◌, ◌&&◌, ◌||◌, [], ◌∷◌, cond, not, nat_lt, nat_le, IsTrue, IfOk, OnOk, OnErr};
 ghost use Rattle.std.specs.List.{list_any};
-ghost use Rattle.cds_notes.specs.Inbox.{has_seq, is_same_note, held_limit, note_of, missing_of};
-ghost use Rattle.cds_replica.specs.Inboxed.{accepts, repeats, follows, held_count, arrival_in, run_end, of_name, with_request, with_refusal, with_name, with_early, with_waiting, run_after, with_next};
+ghost use Rattle.cds_notes.specs.Inbox.{has_seq, is_same_note, held_limit, missing_of, IsEarly, IsHeld, IsNext};
+ghost use Rattle.cds_notes.specs.Follow.{is_drop};
 ghost use Rattle.cds_replica.specs.Arrivals.{arrival_of};
+ghost use Rattle.cds_replica.specs.Inboxed.{inbox_of, accepts, repeats, follows, held_count, arrival_in, of_name, behind, with_request, with_refusal, with_name, with_early, with_waiting, with_next, followers, taken_early};
+ghost use Rattle.cds_replica.specs.Telling.{nothing_told, tells};
 
 use crate::note::{Note, Sid};
+use crate::telling::{Telling, note_of, run_end};
 use std::alloc::{AllocError, Global};
 use std::marker::Model;
+use std::mem;
 
 /// How many notes are held at most.
 const HELD_LIMIT: u32 = 64;
@@ -90,7 +94,10 @@ impl Inbox {
         ensures waits { result ≡ list_any (λ note. nat_lt self.now.next note.seq) self.now.waiting }
         ensures fits { IsTrue result → self.now.next < 2 ^ 32 }
     {
-        !self.waiting.is_empty()
+        match self.waiting.first() {
+            Some(note) => self.next < u64::from(note.seq),
+            None => false,
+        }
     }
 
     /// What becomes of a delivered note.
@@ -181,6 +188,117 @@ impl Inbox {
     {
         (self.waiting.len() + self.early.len()) as u32
     }
+
+    /// What the next note and those that follow it tell.
+    pub fn told_by(
+        &self,
+        alloc: Global,
+        note: &Note,
+        position: u32,
+        heard: u32,
+    ) -> Result<Telling, AllocError>
+        requires { IsTrue (follows note.now self.now) }
+        ensures { IfOk result (λ told. told ≡ tells (note.now ∷ followers self.now) (nothing_told position heard)) }
+    {
+        let from = u64::from(note.seq) + 1;
+        let to = run_end(&self.waiting, note.sid, from);
+        let mut told = Telling::new(alloc, position, heard);
+        told.add(note)?;
+        told.add_run(&self.waiting, note.sid, from, to)?;
+        Ok(told)
+    }
+
+    /// What the early notes of a name tell that are taken where it is accepted.
+    pub fn told_early(
+        &self,
+        alloc: Global,
+        sid: Sid,
+        position: u32,
+        heard: u32,
+    ) -> Result<Telling, AllocError>
+        ensures { IfOk result (λ told. told ≡ tells (taken_early sid.0 self.now) (nothing_told position heard)) }
+    {
+        let to = run_end(&self.early, sid, 0);
+        let mut told = Telling::new(alloc, position, heard);
+        told.add_run(&self.early, sid, 0, to)?;
+        Ok(told)
+    }
+
+    /// Whether the first of these drops the copy.
+    pub fn drops_early(&self, sid: Sid, position: u32) -> bool
+        ensures { result ≡ is_drop position (taken_early sid.0 self.now) }
+    {
+        match note_of(&self.early, sid, 0) {
+            Some(note) => position < note.number,
+            None => false,
+        }
+    }
+
+    /// A subscribe request goes out.
+    pub fn request(&mut self)
+        ensures { self.new ≡ with_request self.old }
+    {
+        self.early.clear();
+        self.out = true;
+    }
+
+    /// The request was refused.
+    pub fn refuse(&mut self)
+        ensures { self.new ≡ with_refusal self.old }
+    {
+        self.early.clear();
+        self.out = false;
+    }
+
+    /// A name was accepted: its early notes are taken, or wait.
+    pub fn accept(&mut self, sid: Sid)
+        ensures { self.new ≡ with_name sid.0 self.old }
+    {
+        self.next = run_end(&self.early, sid, 0);
+        self.accepted = Some(sid);
+        self.out = false;
+        keep_behind(&mut self.early, sid, self.next);
+        self.waiting.clear();
+        mem::swap(&mut self.waiting, &mut self.early);
+    }
+
+    /// Holds an early note. Without memory it is dropped, and the inbox is as before.
+    pub fn hold_early(&mut self, note: Note) -> Result<(), AllocError>
+        requires { held_count self.old < held_limit }
+        ensures ok { OnOk result (self.new ≡ with_early note self.old) }
+        ensures err { OnErr result (self.new ≡ self.old) }
+    {
+        self.early.insert(0, note)?;
+        Ok(())
+    }
+
+    /// Holds a note for a SEQ before it. Without memory it is dropped, and the inbox is as before.
+    pub fn hold(&mut self, note: Note) -> Result<(), AllocError>
+        requires few { held_count self.old < held_limit }
+        requires accepted { IsTrue (accepts note.name self.old) }
+        requires later { self.old.next < note.seq }
+        ensures ok { OnOk result (self.new ≡ with_waiting note self.old) }
+        ensures err { OnErr result (self.new ≡ self.old) }
+    {
+        self.waiting.insert(0, note)?;
+        Ok(())
+    }
+
+    /// Takes the next note and those that follow it.
+    pub fn take(&mut self, note: &Note)
+        requires { IsTrue (follows note.now self.old) }
+        ensures { self.new ≡ with_next self.old }
+    {
+        self.next = run_end(&self.waiting, note.sid, u64::from(note.seq) + 1);
+        keep_behind(&mut self.waiting, note.sid, self.next);
+    }
+}
+
+/// Keeps the notes of a name behind a SEQ.
+fn keep_behind(notes: &mut Vec<Note>, sid: Sid, next: u64)
+    ensures { notes.new.items ≡ behind next (of_name sid.0 notes.old.items) }
+{
+    notes.retain(|note| note.is_of(sid) && note.is_behind(next));
 }
 
 /// Whether one of these notes has this SEQ.

@@ -1,6 +1,6 @@
 //! Notes of a subscription, and what becomes of them.
 
-ghost use Rattle.std.specs.Prelude.{◌≡◌, nat_eq};
+ghost use Rattle.std.specs.Prelude.{◌≡◌, nat_eq, nat_lt};
 ghost use Rattle.cds_notes.specs.Inbox.{is_same_note};
 
 use cds_event::Events;
@@ -40,6 +40,13 @@ impl Note {
         ensures { result ≡ nat_eq self.now.seq seq }
     {
         u64::from(self.seq) == seq
+    }
+
+    /// Whether its SEQ is above another.
+    pub fn is_behind(&self, next: u64) -> bool
+        ensures { result ≡ nat_lt next self.now.seq }
+    {
+        next < u64::from(self.seq)
     }
 
     /// Whether it has the name and the SEQ of another.
