@@ -1,3 +1,7 @@
 pub mod Honest
+pub mod Inboxed
 pub mod Pages
 pub mod Placing
+pub mod Runs
+pub mod Tellings
+pub mod Waiting

@@ -5,14 +5,20 @@
 mod checking;
 mod error;
 mod growing;
+mod inbox;
 mod listing;
+mod note;
+mod notify_error;
 mod order;
 mod replica;
 mod stage;
 mod taking;
+mod telling;
 
 pub use cds_model::{Ask, Read, Says, Shown};
 pub use error::AnswerError;
+pub use note::{Note, Sid, Taken};
+pub use notify_error::NotifyError;
 pub use replica::Replica;
 
 #[cfg(test)]

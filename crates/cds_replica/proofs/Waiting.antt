@@ -1,0 +1,131 @@
+-- The notes that wait in an inbox, and what those tell that follow the next one.
+use Rattle.std.proofs.Common.{◌≡◌, ◌⊎◌, inl, inr, ◌+◌, ◌-◌, ◌<◌, ◌≤◌, ℕ, zero, suc, Bool, true, false, cond, ◌&&◌, ◌||◌, nat_eq, nat_lt, List, [], ◌∷◌, length, Option, Some, None, refl, sym, ap, ◌∙◌, subst, arith, true≢false, eq-eqb, eqb-true, lt-ltb, ltb-true}
+use Rattle.std.specs.Prelude.{IsTrue}
+use Rattle.std.specs.Option.{option_eq}
+use Rattle.std.specs.List.{AllByRecursion, list_any, filter, cons_option}
+use Rattle.cds_notes.specs.Commands.{Note}
+use Rattle.cds_notes.specs.Inbox.{has_seq, note_of, notes_from_to, held_limit}
+use Rattle.cds_notes.specs.Follow.{is_drop}
+use Rattle.cds_notes.proofs.Taken.{has-note}
+use Rattle.cds_replica.specs.Inboxed.{KeptInbox, IsInbox, IsWaiting, accepts, follows, held_count, run_end, behind, of_name, with_name, with_waiting, run_after, followers, with_next}
+use Rattle.cds_replica.specs.Telling.{KeptTelling, tells, tells_note, nothing_told, drops_first}
+use Rattle.cds_replica.proofs.Runs.{AreOf, run-outside, run-from, run-is, notes-more, notes-none, of_name-of}
+use Rattle.cds_replica.proofs.Tellings.{note-seq, note-has, tells-append, tells-one}
+
+-- ---- notes of the accepted name
+
+pub accepts-name : (name : ℕ) (accepted : Option ℕ) → option_eq nat_eq accepted (Some name) ≡ true → accepted ≡ Some name
+accepts-name name None e = absurd (true≢false (sym e))
+accepts-name name (Some other) e = ap (λ (n : ℕ). Some n) (eqb-true other name e)
+
+some-same : (a b : ℕ) → Some a ≡ Some b → a ≡ b
+some-same a b e = cc
+
+pub waiting-of : (name next : ℕ) (accepted : Option ℕ) (notes : List Note) → accepted ≡ Some name → AllByRecursion (IsWaiting accepted next) notes → AreOf name notes
+waiting-of name next accepted [] e all = tt
+waiting-of name next accepted (note ∷ notes) e all = (some-same note.name name (sym all.0.0 ∙ e), waiting-of name next accepted notes e all.1)
+
+pub of_name-same : (name : ℕ) (notes : List Note) → AreOf name notes → of_name name notes ≡ notes
+of_name-same name [] all = refl
+of_name-same name (note ∷ notes) all =
+    (λ i. cond (eq-eqb note.name name all.0 i) (note ∷ of_name-same name notes all.1 i) (of_name-same name notes all.1 i))
+
+pub waiting-name : (name : ℕ) (kept : KeptInbox) → IsInbox kept → accepts name kept ≡ true → of_name name kept.waiting ≡ kept.waiting
+waiting-name name kept inbox e = of_name-same name kept.waiting (waiting-of name kept.next kept.accepted kept.waiting (accepts-name name kept.accepted e) inbox.waiting)
+
+and-parts : (a b : Bool) → a && b ≡ true → (a ≡ true) × (b ≡ true)
+and-parts true b e = (refl, e)
+and-parts false b e = absurd (true≢false (sym e))
+
+-- the next note is one of the accepted name and has the next SEQ
+pub follows-parts : (note : Note) (kept : KeptInbox) → follows note kept ≡ true → (accepts note.name kept ≡ true) × (note.seq ≡ kept.next)
+follows-parts note kept e = let parts = and-parts (accepts note.name kept) (nat_eq note.seq kept.next) e in (parts.0, eqb-true note.seq kept.next parts.1)
+
+-- ---- what the next note and those that follow it tell
+
+pub told-by : (note : Note) (kept : KeptInbox) (to : ℕ) (told : KeptTelling) → IsInbox kept → follows note kept ≡ true → to ≡ run_end (note.seq + 1) (of_name note.name kept.waiting)
+    → tells (notes_from_to (note.seq + 1) to (of_name note.name kept.waiting)) (tells_note note told) ≡ tells (note ∷ followers kept) told
+told-by note kept to told inbox e is =
+    let parts = follows-parts note kept e in
+    let same = waiting-name note.name kept inbox parts.0 in
+    (λ i. tells (notes_from_to (parts.1 i + 1) ((is ∙ (λ j. run_end (parts.1 j + 1) (same j))) i) (same i)) (sym (tells-one note told) i))
+    ∙ sym (tells-append (note ∷ []) (followers kept) told)
+
+pub run-after : (note : Note) (kept : KeptInbox) → IsInbox kept → follows note kept ≡ true → run_end (note.seq + 1) (of_name note.name kept.waiting) ≡ run_after kept
+run-after note kept inbox e =
+    let parts = follows-parts note kept e in
+    let same = waiting-name note.name kept inbox parts.0 in
+    (λ i. run_end (parts.1 i + 1) (same i))
+
+-- ---- the first note of a run
+
+pub drop-first : (position : ℕ) (notes : List Note) → is_drop position (notes_from_to 0 (run_end 0 notes) notes) ≡ drops_first position (note_of 0 notes)
+drop-first position notes = by (note_of 0 notes) refl
+  where
+    by : (o : Option Note) → note_of 0 notes ≡ o → is_drop position (notes_from_to 0 (run_end 0 notes) notes) ≡ drops_first position o
+    by None e =
+        let out = sym (note-has 0 notes None e) in
+        let ends = run-is 0 0 notes (omega arith) (λ q low l. none q l) out in
+        ap (is_drop position) (notes-none 0 (run_end 0 notes) notes (omega (arith, ends)))
+      where
+        none : (q : ℕ) → q < 0 → has_seq notes q ≡ true
+        none q l = let no : ⊥ = omega (arith, l) in absurd no
+    by (Some note) e =
+        ap (is_drop position) (notes-more 0 (run_end 0 notes) notes (positive (run_end 0 notes) refl) ∙ ap (λ (o : Option Note). cons_option o (notes_from_to (0 + 1) (run_end 0 notes) notes)) e)
+        ∙ (λ i. eq-eqb note.seq 0 (note-seq 0 notes note e) i && nat_lt position note.number)
+      where
+        positive : (n : ℕ) → run_end 0 notes ≡ n → 0 < n
+        positive zero is = let clash : true ≡ false = note-has 0 notes (Some note) e ∙ ap (has_seq notes) (sym is) ∙ run-outside 0 notes in absurd (true≢false clash)
+        positive (suc n) is = omega arith
+
+-- ---- what holds of an inbox after a step
+
+filter-length : (p : Note → Bool) (notes : List Note) → length (filter p notes) ≤ length notes
+filter-length p [] = omega arith
+filter-length p (note ∷ notes) = by (p note) (filter-length p notes)
+  where
+    by : (b : Bool) → length (filter p notes) ≤ length notes → length (cond b (note ∷ filter p notes) (filter p notes)) ≤ suc (length notes)
+    by true l = omega (arith, l)
+    by false l = omega (arith, l)
+
+-- notes of a name behind a SEQ
+pub behind-waiting : (name next : ℕ) (notes : List Note) → AreOf name notes
+    → AllByRecursion (IsWaiting (Some name) next) (behind next notes)
+behind-waiting name next [] of = tt
+behind-waiting name next (note ∷ notes) of = by (nat_lt next note.seq) refl (behind-waiting name next notes of.1)
+  where
+    by : (b : Bool) → nat_lt next note.seq ≡ b → AllByRecursion (IsWaiting (Some name) next) (behind next notes)
+        → AllByRecursion (IsWaiting (Some name) next) (cond b (note ∷ behind next notes) (behind next notes))
+    by true e rest = ((ap (λ (n : ℕ). Some n) (sym of.0), ltb-true next note.seq e), rest)
+    by false e rest = rest
+
+-- notes that wait are behind the next SEQ
+pub waits-any : (accepted : Option ℕ) (next : ℕ) (note : Note) (notes : List Note) → AllByRecursion (IsWaiting accepted next) (note ∷ notes)
+    → list_any (λ (n : Note). nat_lt next n.seq) (note ∷ notes) ≡ true
+waits-any accepted next note notes all = λ i. lt-ltb next note.seq all.0.1 i || list_any (λ (n : Note). nat_lt next n.seq) notes
+
+-- what holds of an inbox when a name was accepted
+pub inbox-named : (name : ℕ) (kept : KeptInbox) → IsInbox kept → run_end 0 (of_name name kept.early) ≤ 4294967296 → IsInbox (with_name name kept)
+inbox-named name kept inbox within =
+    let a = filter-length (λ (note : Note). nat_lt (run_end 0 (of_name name kept.early)) note.seq) (of_name name kept.early) in
+    let b = filter-length (λ (note : Note). nat_eq note.name name) kept.early in
+    let few = inbox.few in
+    record {
+      few = omega (arith, a, b, few);
+      next = within;
+      waiting = behind-waiting name (run_end 0 (of_name name kept.early)) (of_name name kept.early) (of_name-of name kept.early);
+    }
+
+-- what holds of an inbox when the next note was taken
+pub inbox-next : (note : Note) (kept : KeptInbox) → IsInbox kept → follows note kept ≡ true → run_after kept ≤ 4294967296 → IsInbox (with_next kept)
+inbox-next note kept inbox e within =
+    let parts = follows-parts note kept e in
+    let a = filter-length (λ (n : Note). nat_lt (run_after kept) n.seq) kept.waiting in
+    let few = inbox.few in
+    let accepted = accepts-name note.name kept.accepted parts.0 in
+    record {
+      few = omega (arith, a, few);
+      next = within;
+      waiting = subst (λ (o : Option ℕ). AllByRecursion (IsWaiting o (run_after kept)) (behind (run_after kept) kept.waiting)) (sym accepted)
+          (behind-waiting note.name (run_after kept) kept.waiting (waiting-of note.name kept.next kept.accepted kept.waiting accepted inbox.waiting));
+    }

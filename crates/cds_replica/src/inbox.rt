@@ -1,0 +1,316 @@
+//! Which notes are taken and which are held, with no copy in it (this project's profile, over UPnP Device Architecture 2.0
+//! on event keys).
+
+ghost use Rattle.std.specs.Prelude.{◌≡◌, ◌^◌, ◌<◌, ◌&&◌, ◌||◌, [], ◌∷◌, cond, not, nat_lt, nat_le, IsTrue, IfOk, OnOk, OnErr};
+ghost use Rattle.std.specs.List.{list_any};
+ghost use Rattle.cds_notes.specs.Inbox.{has_seq, is_same_note, held_limit, missing_of, IsEarly, IsHeld, IsNext};
+ghost use Rattle.cds_notes.specs.Follow.{is_drop};
+ghost use Rattle.cds_replica.specs.Arrivals.{arrival_of};
+ghost use Rattle.cds_replica.specs.Inboxed.{inbox_of, accepts, repeats, follows, held_count, arrival_in, of_name, behind, with_request, with_refusal, with_name, with_early, with_waiting, with_next, followers, taken_early};
+ghost use Rattle.cds_replica.specs.Telling.{nothing_told, tells};
+
+use crate::note::{Note, Sid};
+use crate::telling::{Telling, note_of, run_end};
+use std::alloc::{AllocError, Global};
+use std::marker::Model;
+use std::mem;
+
+/// How many notes are held at most.
+const HELD_LIMIT: u32 = 64;
+
+/// What becomes of a delivered note by the notes alone, in the order in which it is asked.
+#[derive(Clone, Copy, Debug, PartialEq, Eq)]
+pub enum Arrival {
+    /// Its name is not the accepted one, and no subscribe request is out.
+    Unknown,
+    /// It came before.
+    Repeat,
+    /// It cannot be taken now, and so many notes are held.
+    Full { held: u32 },
+    /// It is held for the request that is out.
+    Early,
+    /// It is held for a SEQ before it that is missing.
+    Held { missing: u32 },
+    /// It is the next one.
+    Next,
+}
+
+/// The name that was accepted last, whether a subscribe request is out, the SEQ after those that were taken, the notes
+/// that were received and not taken, and the early ones. Of the held notes the newest stands first.
+#[derive(Drop, Debug)]
+pub struct Inbox {
+    accepted: Option<Sid>,
+    out: bool,
+    next: u64,
+    waiting: Vec<Note>,
+    early: Vec<Note>,
+}
+
+impl Model for Inbox {
+    ghost use Rattle.std.specs.Option.{option_map};
+    ghost use Rattle.cds_replica.specs.Inboxed.{KeptInbox, IsInbox};
+
+    ghost Value = { KeptInbox };
+
+    ghost view = { λ i. record { accepted = option_map (λ s. s.0) i.accepted; out = i.out; next = i.next; waiting = i.waiting.items; early = i.early.items } };
+
+    ghost invariant = { λ i. IsInbox (record { accepted = option_map (λ s. s.0) i.accepted; out = i.out; next = i.next; waiting = i.waiting.items; early = i.early.items }) };
+}
+
+impl Inbox {
+    /// The inbox before any turn, which takes no memory.
+    pub fn new(alloc: Global) -> Inbox
+        ensures { result ≡ inbox_of [] }
+    {
+        Inbox {
+            accepted: None,
+            out: false,
+            next: 0,
+            waiting: Vec::new(alloc),
+            early: Vec::new(alloc),
+        }
+    }
+
+    /// Whether a subscribe request is out.
+    pub fn is_out(&self) -> bool
+        ensures { result ≡ self.now.out }
+    {
+        self.out
+    }
+
+    /// The SEQ that is missing: a later one was received.
+    pub fn missing(&self) -> Option<u32>
+        ensures { result ≡ missing_of self.now.waiting self.now.next }
+    {
+        if self.waits() {
+            Some(self.next as u32)
+        } else {
+            None
+        }
+    }
+
+    /// Whether a note waits for the next SEQ.
+    fn waits(&self) -> bool
+        ensures waits { result ≡ list_any (λ note. nat_lt self.now.next note.seq) self.now.waiting }
+        ensures fits { IsTrue result → self.now.next < 2 ^ 32 }
+    {
+        match self.waiting.first() {
+            Some(note) => self.next < u64::from(note.seq),
+            None => false,
+        }
+    }
+
+    /// What becomes of a delivered note.
+    pub fn arrival(&self, note: &Note) -> Arrival
+        ensures { arrival_of result ≡ arrival_in note.now self.now }
+    {
+        if self.is_unknown(note.sid) {
+            return Arrival::Unknown;
+        }
+        if self.repeats(note) {
+            return Arrival::Repeat;
+        }
+        if self.is_full(note) {
+            return Arrival::Full { held: self.held() };
+        }
+        self.placed(note)
+    }
+
+    /// What becomes of a note that is none of those before.
+    fn placed(&self, note: &Note) -> Arrival
+        ensures { arrival_of result ≡ cond (not (accepts note.now.name self.now)) IsEarly (cond (nat_lt self.now.next note.now.seq) (IsHeld self.now.next) IsNext) }
+    {
+        if !self.accepts(note.sid) {
+            return Arrival::Early;
+        }
+        if self.next < u64::from(note.seq) {
+            Arrival::Held {
+                missing: self.next as u32,
+            }
+        } else {
+            Arrival::Next
+        }
+    }
+
+    /// Whether a name is the accepted one.
+    fn accepts(&self, sid: Sid) -> bool
+        ensures { result ≡ accepts sid.0 self.now }
+    {
+        match self.accepted {
+            Some(accepted) => accepted.0 == sid.0,
+            None => false,
+        }
+    }
+
+    /// Whether nothing is known of a name.
+    fn is_unknown(&self, sid: Sid) -> bool
+        ensures { result ≡ (not (accepts sid.0 self.now) && not self.now.out) }
+    {
+        !self.accepts(sid) && !self.out
+    }
+
+    /// Whether a note came before.
+    fn repeats(&self, note: &Note) -> bool
+        ensures { result ≡ repeats note.now self.now }
+    {
+        if self.accepts(note.sid) {
+            self.has_received(note.seq)
+        } else {
+            self.out && has_same(&self.early, note)
+        }
+    }
+
+    /// Whether a note of the accepted name with this SEQ was taken or waits.
+    fn has_received(&self, seq: u32) -> bool
+        ensures { result ≡ (nat_lt seq self.now.next || has_seq self.now.waiting seq) }
+    {
+        let seq = u64::from(seq);
+        seq < self.next || has_seq(&self.waiting, seq)
+    }
+
+    /// Whether a note is the next one.
+    fn follows(&self, note: &Note) -> bool
+        ensures { result ≡ follows note.now self.now }
+    {
+        self.accepts(note.sid) && u64::from(note.seq) == self.next
+    }
+
+    /// Whether a note cannot be taken now, and no room is left to hold it.
+    fn is_full(&self, note: &Note) -> bool
+        ensures { result ≡ (not (follows note.now self.now) && nat_le held_limit (held_count self.now)) }
+    {
+        !self.follows(note) && HELD_LIMIT <= self.held()
+    }
+
+    /// How many notes are held.
+    fn held(&self) -> u32
+        ensures { result ≡ held_count self.now }
+    {
+        (self.waiting.len() + self.early.len()) as u32
+    }
+
+    /// What the next note and those that follow it tell.
+    pub fn told_by(
+        &self,
+        alloc: Global,
+        note: &Note,
+        position: u32,
+        heard: u32,
+    ) -> Result<Telling, AllocError>
+        requires { IsTrue (follows note.now self.now) }
+        ensures { IfOk result (λ told. told ≡ tells (note.now ∷ followers self.now) (nothing_told position heard)) }
+    {
+        let from = u64::from(note.seq) + 1;
+        let to = run_end(&self.waiting, note.sid, from);
+        let mut told = Telling::new(alloc, position, heard);
+        told.add(note)?;
+        told.add_run(&self.waiting, note.sid, from, to)?;
+        Ok(told)
+    }
+
+    /// What the early notes of a name tell that are taken where it is accepted.
+    pub fn told_early(
+        &self,
+        alloc: Global,
+        sid: Sid,
+        position: u32,
+        heard: u32,
+    ) -> Result<Telling, AllocError>
+        ensures { IfOk result (λ told. told ≡ tells (taken_early sid.0 self.now) (nothing_told position heard)) }
+    {
+        let to = run_end(&self.early, sid, 0);
+        let mut told = Telling::new(alloc, position, heard);
+        told.add_run(&self.early, sid, 0, to)?;
+        Ok(told)
+    }
+
+    /// Whether the first of these drops the copy.
+    pub fn drops_early(&self, sid: Sid, position: u32) -> bool
+        ensures { result ≡ is_drop position (taken_early sid.0 self.now) }
+    {
+        match note_of(&self.early, sid, 0) {
+            Some(note) => position < note.number,
+            None => false,
+        }
+    }
+
+    /// A subscribe request goes out.
+    pub fn request(&mut self)
+        ensures { self.new ≡ with_request self.old }
+    {
+        self.early.clear();
+        self.out = true;
+    }
+
+    /// The request was refused.
+    pub fn refuse(&mut self)
+        ensures { self.new ≡ with_refusal self.old }
+    {
+        self.early.clear();
+        self.out = false;
+    }
+
+    /// A name was accepted: its early notes are taken, or wait.
+    pub fn accept(&mut self, sid: Sid)
+        ensures { self.new ≡ with_name sid.0 self.old }
+    {
+        self.next = run_end(&self.early, sid, 0);
+        self.accepted = Some(sid);
+        self.out = false;
+        keep_behind(&mut self.early, sid, self.next);
+        self.waiting.clear();
+        mem::swap(&mut self.waiting, &mut self.early);
+    }
+
+    /// Holds an early note. Without memory it is dropped, and the inbox is as before.
+    pub fn hold_early(&mut self, note: Note) -> Result<(), AllocError>
+        requires { held_count self.old < held_limit }
+        ensures ok { OnOk result (self.new ≡ with_early note self.old) }
+        ensures err { OnErr result (self.new ≡ self.old) }
+    {
+        self.early.insert(0, note)?;
+        Ok(())
+    }
+
+    /// Holds a note for a SEQ before it. Without memory it is dropped, and the inbox is as before.
+    pub fn hold(&mut self, note: Note) -> Result<(), AllocError>
+        requires few { held_count self.old < held_limit }
+        requires accepted { IsTrue (accepts note.name self.old) }
+        requires later { self.old.next < note.seq }
+        ensures ok { OnOk result (self.new ≡ with_waiting note self.old) }
+        ensures err { OnErr result (self.new ≡ self.old) }
+    {
+        self.waiting.insert(0, note)?;
+        Ok(())
+    }
+
+    /// Takes the next note and those that follow it.
+    pub fn take(&mut self, note: &Note)
+        requires { IsTrue (follows note.now self.old) }
+        ensures { self.new ≡ with_next self.old }
+    {
+        self.next = run_end(&self.waiting, note.sid, u64::from(note.seq) + 1);
+        keep_behind(&mut self.waiting, note.sid, self.next);
+    }
+}
+
+/// Keeps the notes of a name behind a SEQ.
+fn keep_behind(notes: &mut Vec<Note>, sid: Sid, next: u64)
+    ensures { notes.new.items ≡ behind next (of_name sid.0 notes.old.items) }
+{
+    notes.retain(|note| note.is_of(sid) && note.is_behind(next));
+}
+
+/// Whether one of these notes has this SEQ.
+fn has_seq(notes: &[Note], seq: u64) -> bool
+    ensures { result ≡ has_seq notes.now seq }
+{
+    notes.iter().any(|note| note.has_seq(seq))
+}
+
+/// Whether one of these notes has the name and the SEQ of another.
+fn has_same(notes: &[Note], note: &Note) -> bool
+    ensures { result ≡ list_any (is_same_note note.now) notes.now }
+{
+    notes.iter().any(|held| note.is_same(held))
+}

@@ -1,0 +1,140 @@
+//! What notes that are taken one after the other tell, and the runs of SEQs in which they are taken.
+
+ghost use Rattle.std.specs.Prelude.{◌≡◌, ◌+◌, ◌^◌, ◌≤◌, ◌<◌, ◌&&◌, ◌++◌, nat_eq, nat_lt, OnOk, IfSome, is_some, option_copied};
+ghost use Rattle.cds_notes.specs.Inbox.{has_seq, note_of, notes_from_to};
+ghost use Rattle.cds_notes.specs.Follow.{changes_above};
+ghost use Rattle.cds_changes.specs.Events.{update_of, is_change};
+ghost use Rattle.cds_replica.specs.Inboxed.{run_end, of_name};
+ghost use Rattle.cds_replica.specs.Telling.{nothing_told, tells, tells_note};
+
+use crate::note::{Note, Sid};
+use cds_event::Event;
+use std::alloc::{AllocError, Global};
+use std::marker::Model;
+
+/// The position and the greatest number of a note after some notes, and the changes that were new in them.
+#[derive(Drop, Debug)]
+pub struct Telling {
+    position: u32,
+    heard: u32,
+    changes: Vec<Event>,
+}
+
+impl Model for Telling {
+    ghost use Rattle.cds_replica.specs.Telling.{KeptTelling};
+
+    ghost Value = { KeptTelling };
+
+    ghost view = { λ t. record { position = t.position; heard = t.heard; changes = t.changes.items } };
+}
+
+impl Telling {
+    /// What no note tells, at a position.
+    pub fn new(alloc: Global, position: u32, heard: u32) -> Telling
+        ensures { result ≡ nothing_told position heard }
+    {
+        Telling {
+            position,
+            heard,
+            changes: Vec::new(alloc),
+        }
+    }
+
+    /// The greatest number of a note.
+    pub fn heard(&self) -> u32
+        ensures { result ≡ self.now.heard }
+    {
+        self.heard
+    }
+
+    /// The changes that were new.
+    pub fn changes(&self) -> &[Event]
+        ensures { result.now ≡ self.now.changes }
+    {
+        self.changes.as_slice()
+    }
+
+    /// Adds what one more note tells.
+    pub fn add(&mut self, note: &Note) -> Result<(), AllocError>
+        ensures { OnOk result (self.new ≡ tells_note note.now self.old) }
+    {
+        push_changes(&mut self.changes, self.position, note.events.as_slice())?;
+        self.position = self.position.max(note.number);
+        self.heard = self.heard.max(note.number);
+        Ok(())
+    }
+
+    /// Adds what the notes of a name tell whose SEQs go from one up to another.
+    pub fn add_run(
+        &mut self,
+        notes: &[Note],
+        sid: Sid,
+        from: u64,
+        to: u64,
+    ) -> Result<(), AllocError>
+        ensures { OnOk result (self.new ≡ tells (notes_from_to from to (of_name sid.0 notes.now)) self.old) }
+    {
+        for seq in from..to {
+            if let Some(note) = note_of(notes, sid, seq) {
+                self.add(note)?;
+            }
+        }
+        Ok(())
+    }
+}
+
+/// Adds the changes above a position.
+fn push_changes(
+    changes: &mut Vec<Event>,
+    position: u32,
+    events: &[Event],
+) -> Result<(), AllocError>
+    ensures { OnOk result (changes.new.items ≡ changes.old.items ++ changes_above position events.now) }
+{
+    for event in events {
+        if is_above(event, position) {
+            changes.push(*event)?;
+        }
+    }
+    Ok(())
+}
+
+/// Whether an event is a change above a position.
+fn is_above(event: &Event, position: u32) -> bool
+    ensures { result ≡ (is_change event.now && nat_lt position (update_of event.now)) }
+{
+    match event {
+        Event::ObjAdd { update, .. }
+        | Event::ObjMod { update, .. }
+        | Event::ObjDel { update, .. } => position < *update,
+        Event::StDone { .. } => false,
+    }
+}
+
+/// The note of a name and a SEQ, which came first of these: the newest stands first.
+pub fn note_of(notes: &[Note], sid: Sid, seq: u64) -> Option<&Note>
+    ensures note { option_copied result ≡ note_of seq (of_name sid.0 notes.now) }
+    ensures seq { IfSome result (λ note. note.now.seq ≡ seq) }
+    ensures found { is_some result ≡ has_seq (of_name sid.0 notes.now) seq }
+{
+    notes
+        .iter()
+        .rev()
+        .find(|note| note.is_of(sid) && note.has_seq(seq))
+}
+
+/// The SEQ after those that the notes of a name have from one on without a hole.
+pub fn run_end(notes: &[Note], sid: Sid, from: u64) -> u64
+    requires { from ≤ 2 ^ 32 }
+    ensures end { result ≡ run_end from (of_name sid.0 notes.now) }
+    ensures within { result ≤ 2 ^ 32 }
+{
+    let mut seq = from;
+    for _held in 0..notes.len() {
+        match note_of(notes, sid, seq) {
+            None => return seq,
+            Some(note) => seq = u64::from(note.seq) + 1,
+        }
+    }
+    seq
+}
