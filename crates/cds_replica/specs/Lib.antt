@@ -2,3 +2,6 @@ pub mod Answer
 pub mod Holding
 pub mod Honest
 pub mod Known
+pub mod Copied
+pub mod CopySteps
+pub mod Outlines
