@@ -60,7 +60,7 @@ unmarked rows (Reads other v ∷ older) sound id e =
 
 -- ---- rows one by one
 
-rows-of : (happenings : List Happening) (rows : List KnownRow) → map (λ (kept : KeptRow). kept.row) (map (kept_row happenings) rows) ≡ rows
+pub rows-of : (happenings : List Happening) (rows : List KnownRow) → map (λ (kept : KeptRow). kept.row) (map (kept_row happenings) rows) ≡ rows
 rows-of happenings [] = refl
 rows-of happenings (row ∷ rows) = ap (λ (rest : List KnownRow). row ∷ rest) (rows-of happenings rows)
 

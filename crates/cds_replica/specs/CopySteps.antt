@@ -11,8 +11,8 @@ use Rattle.cds_event.specs.declared.Event.TheVariants.{ObjAdd, ObjMod, ObjDel, S
 use Rattle.cds_changes.specs.Events.{update_of}
 use Rattle.cds_model.specs.Replica.{put_by}
 use Rattle.cds_notes.specs.Copy.{Version, KnownRow, known_row, known_of, parent_in, counts_addition, counts_modification, counts_deletion, is_container, added_row, changed, cannot_be, object_of, newer}
-use Rattle.cds_notes.specs.Follow.{is_of}
-use Rattle.cds_replica.specs.Copied.{KeptRow, KeptCopy, kept_id, known_rows}
+use Rattle.cds_notes.specs.Follow.{Outcome, Knows, CannotBeRead, Jumps, Tears as Cannot, is_of}
+use Rattle.cds_replica.specs.Copied.{KeptRow, KeptCopy, kept_id, copy_of, known_rows}
 use Rattle.cds_replica.specs.declared.copy_row.ChildChange.{ChildChange}
 use Rattle.cds_replica.specs.declared.copy_row.ChildChange.TheVariants.{Added, Modified, Deleted}
 use Rattle.cds_replica.specs.declared.count_error.CountError.{CountError}
@@ -122,6 +122,13 @@ count_from copy at [] = Counts copy
 count_from copy at (event ∷ events) =
     cond (nat_eq (update_of event) (at + 1)) (judged_count copy (event ∷ events) (first_cannot (known_rows copy) (event ∷ events)))
     (Leaps (at + 1) (update_of event))
+
+-- the same of what a replica knows whose copy began with these rows
+abbrev pub count_of : List ObjectRow → Outcome → Count
+count_of rows (Knows now) = Counts (copy_of rows now.happenings)
+count_of rows CannotBeRead = Tears 0
+count_of rows (Jumps expected first) = Leaps expected first
+count_of rows (Cannot id) = Tears id
 
 -- the refusal where the first of changes is not the one after a position
 abbrev pub leap_from : ℕ → List Event → Option CountError
