@@ -131,7 +131,7 @@ distinct-counted f parent (row ∷ rows) all =
     by true = knows-counted row.id f parent rows ∙ all.0
     by false = knows-counted row.id f parent rows ∙ all.0
 
-distinct-put : (new : KnownRow) (rows : List KnownRow) → knows new.id rows ≡ false → AreDistinct rows → AreDistinct (put_known new rows)
+pub distinct-put : (new : KnownRow) (rows : List KnownRow) → knows new.id rows ≡ false → AreDistinct rows → AreDistinct (put_known new rows)
 distinct-put new [] absent all = (refl, tt)
 distinct-put new (next ∷ rows) absent all = by (nat_lt new.id next.id) (distinct-put new rows apart.1 all.1)
   where

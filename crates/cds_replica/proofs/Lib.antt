@@ -6,3 +6,5 @@ pub mod KeptSteps
 pub mod KeptUnread
 pub mod KeptCounts
 pub mod KeptOutlines
+pub mod KeptLoops
+pub mod KeptTurns
