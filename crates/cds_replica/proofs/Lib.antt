@@ -5,3 +5,10 @@ pub mod Placing
 pub mod Runs
 pub mod Tellings
 pub mod Waiting
+pub mod KeptIds
+pub mod KeptSteps
+pub mod KeptUnread
+pub mod KeptCounts
+pub mod KeptOutlines
+pub mod KeptLoops
+pub mod KeptTurns

@@ -5,3 +5,6 @@ pub mod Honest
 pub mod Inboxed
 pub mod Known
 pub mod Telling
+pub mod Copied
+pub mod CopySteps
+pub mod Outlines
