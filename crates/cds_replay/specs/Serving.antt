@@ -1,7 +1,7 @@
 -- What the private server of a script keeps of the commands that it accepted: a function of its first number and of these
 -- commands, the newest of which stands first. What a subscription, a release and a note are, the commands alone say (UPnP
 -- Device Architecture 2.0 on eventing, UPnP ContentDirectory:4 on the moderation of events).
-use Rattle.std.specs.Prelude.{◌≡◌, ◌+◌, ◌&&◌, ℕ, zero, suc, Bool, true, cond, not, nat_eq, nat_lt, nat_le, List, [], ◌∷◌, ◌++◌, map, filter, Option, Some, None, slice_get}
+use Rattle.std.specs.Prelude.{◌≡◌, ◌+◌, ◌-◌, ◌&&◌, ℕ, Bool, true, cond, not, nat_eq, nat_lt, nat_le, List, [], ◌∷◌, ◌++◌, map, filter, Option, Some, None, slice_get}
 use Rattle.std.specs.List.{list_any, filter_map, range_with_len}
 use Rattle.cds_event.specs.declared.Event.{Event}
 use Rattle.cds_catalog.specs.Library.{FolderMap}
@@ -142,8 +142,7 @@ note_to number events s = record { name = s.name; seq = s.next_seq; number = num
 
 -- the note of a number, counted from 1 over all that were sent
 abbrev pub sent_note : ℕ → List Note → Option Note
-sent_note zero sent = None
-sent_note (suc at) sent = slice_get sent at
+sent_note number sent = cond (nat_eq number 0) None (slice_get sent (number - 1))
 
 -- ---- the server
 

@@ -3,7 +3,7 @@
 ghost use Rattle.std.specs.Prelude.{◌≡◌, ◌++◌, [], ◌∷◌, map, length, slice_get, option_map, IfOk, OnErr, OnOk};
 ghost use Rattle.cds_notes.specs.Commands.{first_note};
 ghost use Rattle.cds_replay.specs.Serving.{alive, note_to, sent_note};
-ghost use Rattle.cds_replay.specs.Sending.{events_at, head_of, kept_note};
+ghost use Rattle.cds_replay.specs.Sending.{events_at, head_of, kept_note, told_note};
 
 use crate::book::Subscription;
 use crate::note::{Note, Sid};
@@ -73,6 +73,26 @@ fn notes_to(
     Ok(notes)
 }
 
+/// Adds a release's notes and its events; a refusal leaves both as they were.
+fn put_release(
+    notes: &mut Vec<SentNote>,
+    releases: &mut Vec<Events>,
+    added: &[SentNote],
+    events: Events,
+) -> Result<(), Mem>
+    ensures notes { OnOk result (notes.new.items ≡ notes.old.items ++ added.now) }
+    ensures releases { OnOk result (releases.new.items ≡ releases.old.items ++ events ∷ []) }
+    ensures notes_kept { OnErr result (notes.new.items ≡ notes.old.items) }
+    ensures releases_kept { OnErr result (releases.new.items ≡ releases.old.items) }
+{
+    releases.reserve(1)?;
+    notes.extend_from_slice(added)?;
+    if releases.push(events).is_err() {
+        unreachable!();
+    }
+    Ok(())
+}
+
 /// The events of the release at a place, none where there is no place.
 fn events_at(releases: &[Events], release: Option<usize>) -> &[Event]
     ensures { result.now ≡ events_at releases.now release }
@@ -84,6 +104,20 @@ fn events_at(releases: &[Events], release: Option<usize>) -> &[Event]
             Some(events) => events.as_slice(),
         },
     }
+}
+
+/// A note with its events.
+fn told_note(alloc: Global, releases: &[Events], sent: &SentNote) -> Result<Note, Mem>
+    ensures { IfOk result (λ note. note ≡ told_note releases.now sent.now) }
+{
+    let mut events = Events::new(alloc);
+    events.extend(events_at(releases, sent.release))?;
+    Ok(Note {
+        sid: Sid(u128::from(sent.name)),
+        seq: sent.seq,
+        number: sent.number,
+        events,
+    })
 }
 
 impl Sent {
@@ -126,16 +160,7 @@ impl Sent {
         }
         match self.notes.get(number as usize - 1) {
             None => Ok(None),
-            Some(sent) => {
-                let mut events = Events::new(alloc);
-                events.extend(events_at(self.releases.as_slice(), sent.release))?;
-                Ok(Some(Note {
-                    sid: Sid(u128::from(sent.name)),
-                    seq: sent.seq,
-                    number: sent.number,
-                    events,
-                }))
-            }
+            Some(sent) => Ok(Some(told_note(alloc, self.releases.as_slice(), sent)?)),
         }
     }
 
@@ -168,10 +193,10 @@ impl Sent {
         ensures kept { OnErr result (self.new ≡ self.old) }
     {
         let notes = notes_to(alloc, subscriptions, now, number, self.releases.len())?;
-        if !notes.is_empty() {
-            self.releases.push(events)?;
-            self.notes.extend_from_slice(notes.as_slice())?;
+        if notes.is_empty() {
+            return Ok(0);
         }
+        put_release(&mut self.notes, &mut self.releases, notes.as_slice(), events)?;
         Ok(notes.len())
     }
 }
