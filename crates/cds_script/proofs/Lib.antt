@@ -1,4 +1,5 @@
 pub mod Given
+pub mod Held
 pub mod MayBe
 pub mod Played
 pub mod Stood

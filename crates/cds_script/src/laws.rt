@@ -1,5 +1,6 @@
 //! Laws of scripts with notes: each function's contract is one of them.
 
+ghost use Rattle.cds_script.specs.LoadTurns as loads;
 ghost use Rattle.cds_script.specs.Played as played;
 ghost use Rattle.cds_script.specs.ScriptGiven as given;
 
@@ -34,4 +35,9 @@ pub fn all_turns_stand_at_scan_ends()
 /// is released, and nothing is to be read, an ask writes the server's number and the catalog after all scans.
 pub fn answers_are_complete()
     ensures { given.answers_are_complete }
+{}
+
+/// What a replica holds is what the turns of its load alone make of it, for every list of turns.
+pub fn loads_are_held()
+    ensures { loads.loads_are_held }
 {}
