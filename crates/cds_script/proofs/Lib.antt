@@ -1,3 +1,4 @@
+pub mod Bounded
 pub mod Given
 pub mod Held
 pub mod MayBe

@@ -1,4 +1,5 @@
 pub mod Evaluated
+pub mod LoadBounds
 pub mod LoadTurns
 pub mod Noted
 pub mod Played
