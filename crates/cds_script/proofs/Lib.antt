@@ -1,4 +1,6 @@
+pub mod Bounded
 pub mod Given
+pub mod Held
 pub mod MayBe
 pub mod Played
 pub mod Stood

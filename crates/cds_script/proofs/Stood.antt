@@ -63,21 +63,21 @@ module _ (first : ℕ) (p : Played) (kept : Kept first p) where
   abbrev n : ℕ
   n = length p.commands
 
-  read-taken : (ask : Asked) → next_ask (known_by r) ≡ Some ask →
+  pub read-taken : (ask : Asked) → next_ask (known_by r) ≡ Some ask →
       (now : Known) × (with_reply (known_by r) (known_by r).held (reply_to (moment_after first p.commands) ask) ≡ Knows now)
   read-taken ask asks =
       let t = entry-taken first p.commands kept.accepted (Asks n) kept.entries (kept.within, tt, kept.given) ask
       (ap (λ turns. next_ask (known_by turns)) (sym kept.are) ∙ asks) in
       (t.0, (λ i. with_reply (known_by (kept.are i)) (known_by (kept.are i)).held (reply_to (moment_after first (sym (oldest-all p.commands) i)) ask)) ∙ t.1)
 
-  note-taken : (number : ℕ) (note : Note) → sent_note number (notes_of first p.commands) ≡ Some note →
+  pub note-taken : (number : ℕ) (note : Note) → sent_note number (notes_of first p.commands) ≡ Some note →
       (now : Known) × (with_notes (taken_by (Delivers note) r) (known_by r) ≡ Knows now)
   note-taken number note sent =
       let here = subst (λ (cs : List Command). Contains (notes_of first cs) note) (sym (oldest-all p.commands)) (sent-contained number (notes_of first p.commands) note sent) in
       let t = entry-taken first p.commands kept.accepted (Gets n note) kept.entries (kept.within, here, kept.given) in
       (t.0, (λ i. with_notes (taken_by (Delivers note) (kept.are i)) (known_by (kept.are i))) ∙ t.1)
 
-name-taken : (first : ℕ) (p : Played) (kept : Kept first p) (name : ℕ) → p.reply ≡ Some (Some name) →
+pub name-taken : (first : ℕ) (p : Played) (kept : Kept first p) (name : ℕ) → p.reply ≡ Some (Some name) →
     (now : Known) × (with_notes (taken_by (Accepts name) p.replica) (known_by p.replica) ≡ Knows now)
 name-taken first p kept name held =
     let waits : Waits p.commands kept.entries p.replica (Some (Some name)) = subst (Waits p.commands kept.entries p.replica) held kept.waits in

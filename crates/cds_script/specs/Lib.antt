@@ -1,4 +1,6 @@
 pub mod Evaluated
+pub mod LoadBounds
+pub mod LoadTurns
 pub mod Noted
 pub mod Played
 pub mod Report
