@@ -5,3 +5,4 @@ pub mod Known
 pub mod Copied
 pub mod CopySteps
 pub mod Outlines
+pub mod Ended
