@@ -12,3 +12,4 @@ pub mod KeptCounts
 pub mod KeptOutlines
 pub mod KeptLoops
 pub mod KeptTurns
+pub mod KeptEnding

@@ -8,3 +8,4 @@ pub mod Telling
 pub mod Copied
 pub mod CopySteps
 pub mod Outlines
+pub mod Ended

@@ -1,6 +1,6 @@
 //! Which events of notes are changes that a replica did not count yet.
 
-ghost use Rattle.std.specs.Prelude.{◌≡◌, ◌++◌, ◌&&◌, nat_lt, OnOk, OnErr, IfOk};
+ghost use Rattle.std.specs.Prelude.{◌≡◌, ◌&&◌, nat_lt, IfOk};
 ghost use Rattle.cds_changes.specs.Events.{update_of, is_change};
 ghost use Rattle.cds_notes.specs.Follow.{changes_above};
 
@@ -34,26 +34,15 @@ fn is_above(number: u32, event: &Event) -> bool
     is_change(event) && number < update_of(event)
 }
 
-/// Adds the changes above a number at the end of others. Without memory these stay as they were.
-pub fn add_changes_above(number: u32, events: &[Event], changes: &mut Vec<Event>) -> Result<(), Mem>
-    ensures ok { OnOk result (changes.new.items ≡ changes.old.items ++ changes_above number events.now) }
-    ensures err { OnErr result (changes.new.items ≡ changes.old.items) }
-{
-    let before = changes.len();
-    for event in events {
-        if is_above(number, event) && changes.push(*event).is_err() {
-            changes.truncate(before);
-            return Err(Mem);
-        }
-    }
-    Ok(())
-}
-
 /// The changes above a number.
 pub fn changes_above(alloc: Global, number: u32, events: &[Event]) -> Result<Vec<Event>, Mem>
     ensures { IfOk result (λ changes. changes.items ≡ changes_above number events.now) }
 {
     let mut changes = Vec::new(alloc);
-    add_changes_above(number, events, &mut changes)?;
+    for event in events {
+        if is_above(number, event) {
+            changes.push(*event)?;
+        }
+    }
     Ok(changes)
 }

@@ -34,7 +34,7 @@ impl Model for CatalogCopy {
 }
 
 /// Whether the first change is not the one after the position; then the number of it.
-fn leap(at: u32, events: &[Event]) -> Option<CountError>
+pub fn leap(at: u32, events: &[Event]) -> Option<CountError>
     requires { AreAbove at events.now }
     ensures { result ≡ leap_from at events.now }
 {
@@ -63,6 +63,16 @@ fn lesser(least: Option<u32>, id: u32) -> Option<u32>
 }
 
 impl CatalogCopy {
+    /// A copy of rows, of which nothing was read since the load.
+    pub fn new(rows: Vec<CopyRow>) -> CatalogCopy
+        ensures { result ≡ record { rows = rows.items; read_up_to = 0 } }
+    {
+        CatalogCopy {
+            rows,
+            read_up_to: 0,
+        }
+    }
+
     /// The rows, in ascending order of ids.
     pub fn rows(&self) -> &[CopyRow]
         ensures { result.now ≡ self.now.rows }
@@ -114,12 +124,14 @@ impl CatalogCopy {
         requires { AreAbove at events.now }
         ensures { IsCount (count_from self.old at events.now) self.old self.new result }
     {
-        if let Some(leap) = leap(at, events) {
-            return Err(leap);
+        match leap(at, events) {
+            Some(leap) => return Err(leap),
+            None => {}
         }
         let outlines = outlines_of(alloc, self.rows.as_slice())?;
-        if let Some(id) = first_cannot(outlines, events)? {
-            return Err(CountError::Torn { id });
+        match first_cannot(outlines, events)? {
+            Some(id) => return Err(CountError::Torn { id }),
+            None => {}
         }
         self.rows.reserve(additions(events))?;
         change_all(&mut self.rows, alloc, events);

@@ -8,6 +8,7 @@ mod copy;
 mod copy_row;
 mod copy_rows;
 mod count_error;
+mod ending;
 mod error;
 mod growing;
 mod inbox;

@@ -1,7 +1,7 @@
 //! The rows of a copy in outline, and whether changes can be: what is told is judged as a whole before any of it is
 //! counted.
 
-ghost use Rattle.std.specs.Prelude.{◌≡◌, nat_eq, Some, IfOk};
+ghost use Rattle.std.specs.Prelude.{◌≡◌, nat_eq, not, filter, IfOk};
 ghost use Rattle.std.specs.Option.{option_eq};
 ghost use Rattle.cds_model.specs.Replica.{put_by};
 ghost use Rattle.cds_notes.specs.Copy.{is_container, object_of};
@@ -99,12 +99,19 @@ fn is_container(class: Class) -> bool
 }
 
 /// Puts the outline of an object in its place.
-fn put_outline(outlines: &mut Vec<Outline>, outline: Outline) -> Result<(), Mem>
+pub fn put_outline(outlines: &mut Vec<Outline>, outline: Outline) -> Result<(), Mem>
     ensures { IfOk result (λ _. outlines.new.items ≡ put_by outline_id outline outlines.old.items) }
 {
     outlines.reserve(1)?;
     put(outlines, outline);
     Ok(())
+}
+
+/// Takes the outline of an object out.
+fn remove(outlines: &mut Vec<Outline>, id: u32)
+    ensures { outlines.new.items ≡ filter (λ outline. not (nat_eq outline.id id)) outlines.old.items }
+{
+    outlines.retain(|outline| !(outline.id == id));
 }
 
 /// Makes a change in outline.
@@ -123,7 +130,7 @@ fn change(outlines: &mut Vec<Outline>, event: &Event) -> Result<(), Mem>
             },
         ),
         Event::ObjDel { id, .. } => {
-            outlines.retain(|outline| !(outline.id == id));
+            remove(outlines, id);
             Ok(())
         }
         Event::ObjMod { .. } | Event::StDone { .. } => Ok(()),
