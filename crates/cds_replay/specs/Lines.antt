@@ -8,8 +8,13 @@ use Rattle.cds_store.specs.declared.error.ApplyError.{ApplyError}
 use Rattle.cds_store.specs.declared.error.ApplyError.TheVariants.{BadRecords, Full, Spent, Mem}
 use Rattle.cds_model.specs.declared.exchange.Read.{Read}
 use Rattle.cds_model.specs.declared.exchange.Read.TheVariants.{Ok as ReadOk, Fault as ReadFault}
-use Rattle.cds_model.specs.declared.exchange.Says.{Says}
-use Rattle.cds_model.specs.declared.exchange.Says.TheVariants.{BehindLoad, Stands}
+use Rattle.cds_notes.specs.declared.says.Says.{Says}
+use Rattle.cds_notes.specs.declared.says.Says.TheVariants.{Gap, BehindLoad, BehindRead, BehindVersion, Stands}
+use Rattle.cds_replica.specs.declared.note.Taken.{Taken}
+use Rattle.cds_replica.specs.declared.note.Taken.TheVariants.{Took, Repeat, Early, Held}
+use Rattle.cds_replica.specs.declared.notify_error.NotifyError.{NotifyError}
+use Rattle.cds_replica.specs.declared.notify_error.NotifyError.TheVariants.{Unknown, Full as TooMany, Jump, Torn, Mem as NoMemory}
+use Rattle.cds_replay.specs.declared.sent.SentHead.{SentHead}
 
 -- a line of a word and a number
 abbrev pub numbered_line : List ℕ → ℕ → List ℕ
@@ -42,5 +47,28 @@ stands_text number rows = numbered_line (codes "stands ") number ++ full_text ro
 
 -- what a replica that says this writes, by the rows of its copy
 abbrev pub known_text : Says → List ObjectRow → List ℕ
+known_text (Gap missing) rows = numbered_line (codes "gap ") missing
 known_text BehindLoad rows = codes "behind load\n"
+known_text (BehindRead id) rows = numbered_line (codes "behind read ") id
+known_text (BehindVersion version) rows = numbered_line (codes "behind version ") version
 known_text (Stands number) rows = stands_text number rows
+
+-- the line of a note that was sent, with its number
+abbrev pub note_line : ℕ → SentHead → List ℕ
+note_line number head = codes "note " ++ decimal number ++ codes " seq " ++ decimal head.seq ++ numbered_line (codes " at ") head.number
+
+-- the word of what became of a note; none where memory ran out, or where it was refused as none of a script is
+abbrev pub taken_text : Result Taken NotifyError → List ℕ
+taken_text (Ok Took) = codes "took"
+taken_text (Ok Repeat) = codes "repeat"
+taken_text (Ok Early) = codes "early"
+taken_text (Ok (Held missing)) = codes "held " ++ decimal missing
+taken_text (Err Unknown) = codes "unknown"
+taken_text (Err (TooMany held)) = codes "full " ++ decimal held
+taken_text (Err (Jump expected first)) = []
+taken_text (Err (Torn id)) = []
+taken_text (Err NoMemory) = []
+
+-- the line of what became of the note of a number
+abbrev pub delivered_line : ℕ → Result Taken NotifyError → List ℕ
+delivered_line number answer = codes "deliver " ++ decimal number ++ codes " " ++ taken_text answer ++ codes "\n"

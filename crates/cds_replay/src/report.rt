@@ -11,7 +11,7 @@ use crate::put::{put, put_number};
 use crate::sent::{Sent, SentHead};
 use cds_base::Mem;
 use cds_object::Row;
-use cds_replica::Read;
+use cds_replica::{NotifyError, Read, Taken};
 use cds_store::{ApplyError, Span};
 
 /// Puts a line of a word and a number.

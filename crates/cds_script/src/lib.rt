@@ -15,7 +15,10 @@ pub use evaluated::{
     scan_during_a_load, subscriptions_are_limited, track_becomes_a_folder,
     track_without_its_folder,
 };
-pub use laws::{all_turns_stand_at_scan_ends, answers_are_complete, lines_mean_in_range, nothing_is_refused, reports_are_of_turns, script_turns_may_be, scripts_are_given};
-pub use laws::{all_turns_bound_loads, all_turns_stand_at_scan_ends, answers_are_complete, loads_are_bounded, loads_are_held, nothing_is_refused, reports_are_of_turns, script_turns_may_be, scripts_are_given};
+pub use laws::{
+    all_turns_bound_loads, all_turns_stand_at_scan_ends, answers_are_complete, lines_mean_in_range,
+    loads_are_bounded, loads_are_held, nothing_is_refused, reports_are_of_turns,
+    script_turns_may_be, scripts_are_given,
+};
 pub use line::read_line;
 pub use turn::{Meaning, Turn};
