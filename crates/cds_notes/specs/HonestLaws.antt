@@ -50,13 +50,12 @@ abbrev pub load_was_begun : List ReplicaTurn → Bool
 load_was_begun [] = false
 load_was_begun (turn ∷ older) = begins_load turn || is_drop (position (known_by older)) (taken_by turn older) || load_was_begun older
 
--- the answer is complete: where a load was begun, the newest entry knew all commands, the subscription that was accepted last
--- lives, each note that was sent to it was received, no change waits for its release, and nothing is to be read, the replica
--- stands at the server's number
+-- the answer is complete: where a load was begun, the subscription that was accepted last lives, each note that was sent to it
+-- was received, no change waits for its release, and nothing is to be read, the replica stands at the server's number, whatever
+-- the server did without a change since the newest entry
 abbrev pub honest_answers_are_complete : Type 0
 honest_answers_are_complete = (first : ℕ) (commands : List Command) (newest : Entry) (older : List Entry) (name now : ℕ) → AreAccepted first commands →
-    IsGiven first commands (newest ∷ older) → length commands ≤ length_at newest →
-    load_was_begun (given_by first commands (newest ∷ older)) ≡ true →
+    IsGiven first commands (newest ∷ older) → load_was_begun (given_by first commands (newest ∷ older)) ≡ true →
     accepted (given_by first commands (newest ∷ older)) ≡ Some name →
     Contains (alive_names now commands (notes_of first commands)) name →
     AllByRecursion (λ (note : Note). note.name ≡ name → has_seq (received (given_by first commands (newest ∷ older))) note.seq ≡ true) (notes_of first commands) →
