@@ -13,4 +13,5 @@ abbrev pub the_least_is_missing : Type 0
 the_least_is_missing = (turns : List ReplicaTurn) (seq : ℕ) →
     (missing turns ≡ Some seq → (has_seq (received turns) seq ≡ false) × ((less : ℕ) → less < seq → has_seq (received turns) less ≡ true)
     × ((more : ℕ) × (seq < more) × (has_seq (received turns) more ≡ true)))
-    × (has_seq (received turns) seq ≡ true → missing turns ≡ None → seq < next_seq turns)
+    × (has_seq (received turns) seq ≡ false → ((less : ℕ) → less < seq → has_seq (received turns) less ≡ true) →
+    (more : ℕ) → seq < more → has_seq (received turns) more ≡ true → missing turns ≡ Some seq)
