@@ -22,3 +22,4 @@ pub mod Honest
 pub mod Position
 pub mod Ended
 pub mod Complete
+pub mod Delivered

@@ -264,7 +264,7 @@ fresh first older (Ticks moment) sound some = by (release_at moment (scans_of fi
 
 -- ---- all notes
 
-granted-more : (command : Command) (older : List Command) → granted older ≤ granted (command ∷ older)
+pub granted-more : (command : Command) (older : List Command) → granted older ≤ granted (command ∷ older)
 granted-more (Scans library) older = omega arith
 granted-more (Grants moment) older = omega arith
 granted-more (Ends name) older = omega arith

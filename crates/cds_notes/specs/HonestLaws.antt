@@ -1,13 +1,13 @@
 -- Laws of a replica that an honest server gives its replies and notes, in every order, with losses and repeats: nothing that
 -- comes is refused, and where it stands its copy is the server's catalog at a scan end.
-use Rattle.std.specs.Prelude.{◌≡◌, ◌≤◌, ◌||◌, ℕ, Bool, true, false, List, [], ◌∷◌, length, Some, None, Contains}
+use Rattle.std.specs.Prelude.{◌≡◌, ◌≤◌, ◌||◌, ℕ, Bool, true, false, List, [], ◌∷◌, ◌++◌, Some, None, Contains}
 use Rattle.std.specs.List.{AllByRecursion}
 use Rattle.cds_catalog.specs.History.{end_of}
 use Rattle.cds_catalog.specs.Catalog.{catalog}
 use Rattle.cds_model.specs.Server.{reply_to}
 use Rattle.cds_model.specs.declared.exchange.Ask.{Ask}
 use Rattle.cds_notes.specs.Commands.{Command, Note, scans_of, released_to, releases_of, alive_names, notes_of}
-use Rattle.cds_notes.specs.Inbox.{ReplicaTurn, Begins, Shows, Requests, Accepts, Refuses, Delivers, accepted, received, has_seq, taken_by}
+use Rattle.cds_notes.specs.Inbox.{ReplicaTurn, Begins, Shows, Requests, Accepts, Refuses, Delivers, accepted, received, has_seq, taken_by, IsTooMany, arrival}
 use Rattle.cds_notes.specs.Follow.{Known, Knows, position, is_drop, known_by, next_ask, with_reply, with_notes, says, copied}
 use Rattle.cds_notes.specs.Given.{oldest, moment_after, Entry, Starts, Asks, Calls, Granted, Denied, Gets, length_at, given_by, AreAccepted, IsGiven}
 use Rattle.cds_notes.specs.declared.says.Says.TheVariants.{Stands}
@@ -36,6 +36,15 @@ honest_copies_stood = (first : ℕ) (commands : List Command) (newest : Entry) (
     IsGiven first commands (newest ∷ older) → says (given_by first commands (newest ∷ older)) ≡ Stands number →
     (j : ℕ) × (j ≤ length_at newest) × (end_of (scans_of first (oldest j commands)) ≡ number)
     × (copied (known_by (given_by first commands (newest ∷ older))) ≡ catalog (scans_of first (oldest j commands)))
+
+-- a note that was delivered is received, where its name is the accepted one and there was room to hold it: no request, refusal
+-- or other name that came later lost it
+abbrev pub delivered_notes_are_received : Type 0
+delivered_notes_are_received = (first : ℕ) (commands : List Command) (newer : List Entry) (k : ℕ) (note : Note) (older : List Entry) →
+    AreAccepted first commands → IsGiven first commands (newer ++ Gets k note ∷ older) →
+    accepted (given_by first commands (newer ++ Gets k note ∷ older)) ≡ Some note.name →
+    ((held : ℕ) → arrival note (given_by first commands older) ≡ IsTooMany held → ⊥) →
+    has_seq (received (given_by first commands (newer ++ Gets k note ∷ older))) note.seq ≡ true
 
 -- whether a turn begins a load; and whether one of some turns did, or took a first note that drops the copy
 abbrev pub begins_load : ReplicaTurn → Bool

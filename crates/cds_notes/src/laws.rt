@@ -67,6 +67,11 @@ pub fn honest_copies_stood()
     ensures { honest.honest_copies_stood }
 {}
 
+/// A note that was delivered is received, where its name is the accepted one and there was room to hold it.
+pub fn delivered_notes_are_received()
+    ensures { honest.delivered_notes_are_received }
+{}
+
 /// The position is the greatest of the number that the last ended load read and the numbers of all notes that were taken.
 pub fn position_is_the_greatest()
     ensures { known.position_is_the_greatest }
