@@ -23,7 +23,7 @@ pub fn spans_lead_to_the_rows()
     ensures { steps.spans_lead_to_the_rows }
 {}
 
-/// Commands that were accepted make an honest server: its rows are trees, its numbers never fall, and equal numbers have
+/// Commands whose scans have folder maps make an honest server: its rows are trees, its numbers never fall, and equal numbers have
 /// equal rows.
 pub fn commands_are_servers()
     ensures { server.commands_are_servers }
