@@ -23,3 +23,4 @@ pub mod Position
 pub mod Ended
 pub mod Complete
 pub mod Delivered
+pub mod LoadTurns

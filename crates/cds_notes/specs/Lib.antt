@@ -10,3 +10,4 @@ pub mod ServerLaws
 pub mod NoteLaws
 pub mod HonestLaws
 pub mod KnownLaws
+pub mod LoadTurns

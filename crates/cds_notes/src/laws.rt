@@ -3,6 +3,7 @@
 ghost use Rattle.cds_notes.specs.HonestLaws as honest;
 ghost use Rattle.cds_notes.specs.InboxLaws as inbox;
 ghost use Rattle.cds_notes.specs.KnownLaws as known;
+ghost use Rattle.cds_notes.specs.LoadTurns as loads;
 ghost use Rattle.cds_notes.specs.NoteLaws as notes;
 ghost use Rattle.cds_notes.specs.ServerLaws as server;
 ghost use Rattle.cds_notes.specs.StepLaws as steps;
@@ -97,4 +98,9 @@ pub fn base_is_the_last_end()
 /// change is released, and nothing is to be read, the replica stands at the server's number.
 pub fn honest_answers_are_complete()
     ensures { honest.honest_answers_are_complete }
+{}
+
+/// What a replica holds of its load is what the turns of its loads hold, with notes between them or not.
+pub fn loads_are_of_turns()
+    ensures { loads.loads_are_of_turns }
 {}
