@@ -24,3 +24,4 @@ pub mod Ended
 pub mod Complete
 pub mod Delivered
 pub mod LoadTurns
+pub mod Seen

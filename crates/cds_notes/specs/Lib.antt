@@ -11,3 +11,4 @@ pub mod NoteLaws
 pub mod HonestLaws
 pub mod KnownLaws
 pub mod LoadTurns
+pub mod Seen

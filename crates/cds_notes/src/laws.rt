@@ -5,6 +5,7 @@ ghost use Rattle.cds_notes.specs.InboxLaws as inbox;
 ghost use Rattle.cds_notes.specs.KnownLaws as known;
 ghost use Rattle.cds_notes.specs.LoadTurns as loads;
 ghost use Rattle.cds_notes.specs.NoteLaws as notes;
+ghost use Rattle.cds_notes.specs.Seen as seen;
 ghost use Rattle.cds_notes.specs.ServerLaws as server;
 ghost use Rattle.cds_notes.specs.StepLaws as steps;
 
@@ -103,4 +104,9 @@ pub fn honest_answers_are_complete()
 /// What a replica holds of its load is what the turns of its loads hold, with notes between them or not.
 pub fn loads_are_of_turns()
     ensures { loads.loads_are_of_turns }
+{}
+
+/// Each row of a copy has the content and the objectUpdateID that one reply showed for its id, whatever server replied.
+pub fn copied_rows_were_shown()
+    ensures { seen.copied_rows_were_shown }
 {}

@@ -10,7 +10,7 @@ pub use evaluated::{
     read_of_what_is_gone, repeated_notes,
 };
 pub use laws::{
-    base_is_the_last_end, commands_are_servers, counted_changes_are_fresh,
+    base_is_the_last_end, commands_are_servers, copied_rows_were_shown, counted_changes_are_fresh,
     delivered_notes_are_received, equal_numbers_have_no_change_between,
     honest_answers_are_complete, honest_calls_are_taken, honest_copies_stood, loads_are_of_turns,
     notes_hold_every_change, notes_leave_the_load, position_is_the_greatest,
