@@ -25,3 +25,4 @@ pub mod Complete
 pub mod Delivered
 pub mod LoadTurns
 pub mod Seen
+pub mod TakenOnce

@@ -110,3 +110,8 @@ pub fn loads_are_of_turns()
 pub fn copied_rows_were_shown()
     ensures { seen.copied_rows_were_shown }
 {}
+
+/// Each note of the longest run was taken once, in the order of SEQs, and as it was received first.
+pub fn each_note_is_taken_once()
+    ensures { inbox.each_note_is_taken_once }
+{}
