@@ -26,3 +26,4 @@ pub mod Delivered
 pub mod LoadTurns
 pub mod Seen
 pub mod TakenOnce
+pub mod FewHeld

@@ -41,7 +41,7 @@ module _ (note : Note) (older : List ReplicaTurn) (is : is_accepted note.name ol
   more : received now ≡ note ∷ received older
   more = λ i. cond (is i) (note ∷ received older) (received older)
 
-  rises : next_seq older ≤ next_seq now
+  pub rises : next_seq older ≤ next_seq now
   rises = by (cases_lt (next_seq now) (next_seq older))
     where
       either : (b : Bool) (seq : ℕ) → has_seq (received older) seq ≡ true → b || has_seq (received older) seq ≡ true

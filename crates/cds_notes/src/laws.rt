@@ -115,3 +115,8 @@ pub fn copied_rows_were_shown()
 pub fn each_note_is_taken_once()
     ensures { inbox.each_note_is_taken_once }
 {}
+
+/// At most 64 notes are held, early ones included, where no turn was refused.
+pub fn at_most_64_are_held()
+    ensures { known.at_most_64_are_held }
+{}
