@@ -27,3 +27,5 @@ pub mod LoadTurns
 pub mod Seen
 pub mod TakenOnce
 pub mod FewHeld
+pub mod Releases
+pub mod Seqs

@@ -12,3 +12,4 @@ pub mod HonestLaws
 pub mod KnownLaws
 pub mod LoadTurns
 pub mod Seen
+pub mod ReleaseLaws

@@ -5,6 +5,7 @@ ghost use Rattle.cds_notes.specs.InboxLaws as inbox;
 ghost use Rattle.cds_notes.specs.KnownLaws as known;
 ghost use Rattle.cds_notes.specs.LoadTurns as loads;
 ghost use Rattle.cds_notes.specs.NoteLaws as notes;
+ghost use Rattle.cds_notes.specs.ReleaseLaws as releases;
 ghost use Rattle.cds_notes.specs.Seen as seen;
 ghost use Rattle.cds_notes.specs.ServerLaws as server;
 ghost use Rattle.cds_notes.specs.StepLaws as steps;
@@ -119,4 +120,15 @@ pub fn each_note_is_taken_once()
 /// At most 64 notes are held, early ones included, where no turn was refused.
 pub fn at_most_64_are_held()
     ensures { known.at_most_64_are_held }
+{}
+
+/// Each release begins where the one before it ended, comes after its pause, has at least one change and no more than its size
+/// allows, and ends at a scan end.
+pub fn releases_go_on()
+    ensures { releases.releases_go_on }
+{}
+
+/// The notes of a subscription have the SEQs 0, 1, 2 and so on.
+pub fn seqs_count_from_zero()
+    ensures { releases.seqs_count_from_zero }
 {}
