@@ -1,14 +1,14 @@
 -- A note of an honest server that was delivered is received, where its name is the accepted one and there was room to hold it.
-use Rattle.std.proofs.Common.{◌≡◌, ◌⊎◌, inl, inr, ◌+◌, ◌-◌, ◌<◌, ◌≤◌, ℕ, zero, suc, Bool, true, false, cond, not, ◌&&◌, ◌||◌, nat_eq, nat_lt, nat_le, List, [], ◌∷◌, ◌++◌, length, drop, filter, Option, Some, None, refl, sym, ap, ◌∙◌, subst, arith, true≢false, eq-eqb, eqb-true}
+use Rattle.std.proofs.Common.{◌≡◌, ◌⊎◌, inl, inr, ◌+◌, ◌-◌, ◌≤◌, ℕ, zero, suc, Bool, true, false, cond, not, ◌&&◌, ◌||◌, nat_eq, nat_lt, nat_le, List, [], ◌∷◌, ◌++◌, length, drop, Option, Some, None, refl, sym, ap, ◌∙◌, subst, arith, true≢false, eq-eqb, eqb-true}
 use Rattle.std.specs.Option.{option_eq}
 use Rattle.std.proofs.lemmas.List.{drop-drop}
 use Rattle.cds_catalog.proofs.StepsFind.{none≢some}
 use Rattle.cds_model.specs.Server.{Moment, reply_to}
 use Rattle.cds_model.specs.declared.exchange.Ask.{Ask}
 use Rattle.cds_notes.specs.Commands.{Command, Note, granted, notes_of}
-use Rattle.cds_notes.specs.Inbox.{ReplicaTurn, Begins, Shows, Requests, Accepts, Refuses, Delivers, is_out, accepted as accepted_name, is_accepted, is_early, early_notes, received, has_seq, next_seq, held_notes, held_limit, taken_by, Arrival, IsUnknown, IsRepeat, IsTooMany, IsEarly, IsHeld, IsNext, is_repeat, is_next, arrival}
-use Rattle.cds_notes.specs.Follow.{Known, Knows, with_notes, known_by, is_no, is_turned_away, is_refused, and_turn, next_ask}
-use Rattle.cds_notes.specs.Given.{oldest, moment_after, Entry, Starts, Asks, Calls, Granted, Denied, Gets, length_at, asked_at, given_by, latest_length, length_before_call, AreAccepted, IsGiven}
+use Rattle.cds_notes.specs.Inbox.{ReplicaTurn, Shows, Accepts, Delivers, is_out, accepted as accepted_name, is_accepted, is_early, early_notes, received, has_seq, next_seq, held_notes, held_limit, Arrival, IsUnknown, IsRepeat, IsTooMany, IsEarly, IsHeld, IsNext, is_repeat, is_next, arrival}
+use Rattle.cds_notes.specs.Follow.{known_by, is_no, is_turned_away, is_refused, and_turn, next_ask}
+use Rattle.cds_notes.specs.Given.{oldest, moment_after, Entry, Starts, Asks, Calls, Granted, Denied, Gets, asked_at, given_by, latest_length, length_before_call, AreAccepted, IsGiven}
 use Rattle.cds_notes.specs.HonestLaws.{delivered_notes_are_received}
 use Rattle.cds_notes.proofs.Among.{Among, among-all, among-filter, among-contained}
 use Rattle.cds_notes.proofs.Sent.{Sound, all-sound, granted-more}

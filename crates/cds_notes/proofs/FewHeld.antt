@@ -1,14 +1,12 @@
 -- At most 64 notes are held.
-use Rattle.std.proofs.Common.{◌≡◌, ◌⊎◌, inl, inr, ◌+◌, ◌<◌, ◌≤◌, ℕ, suc, Bool, true, false, cond, not, ◌&&◌, ◌||◌, nat_eq, nat_lt, nat_le, List, [], ◌∷◌, ◌++◌, filter, length, Option, Some, None, refl, sym, ap, ◌∙◌, subst, arith, true≢false, eq-eqb, eqb-true, ltb-true, lt-ltb, le-ltb, leb-false, length-append}
+use Rattle.std.proofs.Common.{◌≡◌, ◌⊎◌, inl, inr, ◌+◌, ◌<◌, ◌≤◌, ℕ, Bool, true, false, cond, not, ◌&&◌, ◌||◌, nat_eq, nat_lt, nat_le, List, [], ◌∷◌, filter, length, Option, Some, None, refl, sym, ap, ◌∙◌, arith, true≢false, eq-eqb, eqb-true, ltb-true, lt-ltb, le-ltb, leb-false, length-append}
 use Rattle.std.specs.List.{list_any}
 use Rattle.std.specs.Option.{option_eq}
-use Rattle.std.proofs.lemmas.Bool.{cases_lt, eqb-false}
 use Rattle.cds_notes.specs.Commands.{Note}
-use Rattle.cds_notes.specs.Inbox.{ReplicaTurn, Begins, Shows, Requests, Accepts, Refuses, Delivers, is_out, accepted, is_accepted, is_early, early_notes, received, has_seq, least_outside, next_seq, is_same_note, different, waiting_notes, held_notes, held_limit, Arrival, IsUnknown, IsRepeat, IsTooMany, IsEarly, IsHeld, IsNext, is_repeat, is_next, arrival, taken_by}
+use Rattle.cds_notes.specs.Inbox.{ReplicaTurn, Begins, Shows, Requests, Accepts, Refuses, Delivers, is_out, accepted, is_accepted, early_notes, received, has_seq, least_outside, next_seq, is_same_note, different, waiting_notes, held_notes, held_limit, IsUnknown, IsRepeat, IsTooMany, IsEarly, IsHeld, IsNext, is_repeat, is_next, arrival, taken_by}
 use Rattle.cds_notes.specs.Follow.{is_turned_away, is_no, with_notes, known_by}
-use Rattle.cds_notes.specs.KnownLaws.{NoneRefused, at_most_64_are_held}
+use Rattle.cds_notes.specs.KnownLaws.{at_most_64_are_held}
 use Rattle.cds_notes.proofs.Among.{Among, filter-among}
-use Rattle.cds_notes.proofs.Received.{longest-run}
 use Rattle.cds_notes.proofs.Chain.{note-among}
 use Rattle.cds_notes.proofs.Taken.{has-note}
 use Rattle.cds_notes.proofs.TakenOnce.{rises}

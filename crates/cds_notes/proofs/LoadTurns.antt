@@ -6,7 +6,7 @@ use Rattle.cds_model.specs.declared.exchange.Shown.TheVariants.{Text, Number, Pa
 use Rattle.cds_model.specs.Replica.{Held, Idle, Begun, HasToken, HasNumber, HasRoot, Lists, HasPage, HasCopy, Taken, Holds, Unreadable, Torn, taken, held_after, ReplicaTurn as LoadTurn, Begins as LoadBegins, Shows as LoadShows, held_by}
 use Rattle.cds_notes.specs.Commands.{Note}
 use Rattle.cds_notes.specs.Copy.{Reads, rows_after, known_of, least_unread}
-use Rattle.cds_notes.specs.Inbox.{ReplicaTurn, Begins, Shows, Requests, Accepts, Refuses, Delivers, taken_by}
+use Rattle.cds_notes.specs.Inbox.{Begins, Shows, Requests, Accepts, Refuses, Delivers, taken_by}
 use Rattle.cds_notes.specs.Follow.{Known, position, changes_above, Outcome, Knows, CannotBeRead, Jumps, Tears, with_changes, load_begun, new_changes, is_drop, heard_of, with_notes, load_ended, loaded, is_of, row_read, copy_read, with_reply, known_after, known_by, is_no}
 use Rattle.cds_notes.specs.KnownLaws.{has_copy}
 use Rattle.cds_notes.specs.LoadTurns.{load_turns, loads_are_of_turns}

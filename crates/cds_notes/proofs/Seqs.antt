@@ -1,10 +1,10 @@
 -- The notes of a name have the SEQs 0, 1, 2 and so on.
-use Rattle.std.proofs.Common.{◌≡◌, inl, ◌+◌, ◌≤◌, ℕ, nat_eq, List, [], ◌∷◌, ◌++◌, map, filter, length, refl, sym, ap, ◌∙◌, arith, eqb-true}
+use Rattle.std.proofs.Common.{◌≡◌, inl, ◌+◌, ◌≤◌, ℕ, nat_eq, List, [], ◌∷◌, ◌++◌, map, length, refl, sym, ap, ◌∙◌, arith, eqb-true}
 use Rattle.std.specs.List.{range_with_len}
 use Rattle.std.proofs.lemmas.List.{map-append}
 use Rattle.std.proofs.lemmas.List.Elements.{filter-append}
 use Rattle.cds_changes.proofs.Numbers.{range-append}
-use Rattle.cds_notes.specs.Commands.{Command, Note, next_seq_of, sent_by, notes_of}
+use Rattle.cds_notes.specs.Commands.{Note, next_seq_of, sent_by, notes_of}
 use Rattle.cds_notes.specs.NoteLaws.{sent_to}
 use Rattle.cds_notes.specs.ReleaseLaws.{seqs_count_from_zero}
 use Rattle.cds_notes.proofs.Among.{Among, filter-among, seq-append}
