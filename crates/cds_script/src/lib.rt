@@ -15,6 +15,11 @@ pub use evaluated::{
     scan_during_a_load, subscriptions_are_limited, track_becomes_a_folder,
     track_without_its_folder,
 };
-pub use laws::{all_turns_bound_loads, all_turns_stand_at_scan_ends, answers_are_complete, loads_are_bounded, loads_are_held, nothing_is_refused, reports_are_of_turns, script_turns_may_be, scripts_are_given};
+pub use laws::{
+    all_answers_are_complete, all_turns_bound_loads, all_turns_stand_at_scan_ends,
+    answers_are_complete, delivered_notes_are_received, loads_are_bounded, loads_are_held,
+    nothing_is_refused, nothing_is_to_be_read, reports_are_of_turns, script_turns_may_be,
+    scripts_are_given,
+};
 pub use line::read_line;
 pub use turn::{Meaning, Turn};
