@@ -4,6 +4,8 @@
 mod evaluated;
 mod laws;
 mod line;
+#[cfg(test)]
+mod tests;
 mod turn;
 
 pub use evaluated::{
@@ -11,8 +13,8 @@ pub use evaluated::{
     empty_script, first_note_above, first_note_while_loading, first_number_first,
     folder_with_a_track, gap_before_load, given_up_once, longest_line, lost_reply, moments_rise,
     note_never_sent, notes_out_of_order, numbers_end, read_ahead_of_notes, read_of_what_is_gone,
-    releases_are_apart, repeat_of_the_first, repeated_notes, replies_are_used_up,
-    scan_during_a_load, subscriptions_are_limited, track_becomes_a_folder,
+    releases_are_apart, releases_tell, repeat_of_the_first, repeated_notes, replies_are_used_up,
+    scan_during_a_load, sixty_four_are_held, subscriptions_are_limited, track_becomes_a_folder,
     track_without_its_folder,
 };
 pub use laws::{
