@@ -1,0 +1,414 @@
+-- The bound on the reads of a load, over any turns of a script.
+use Rattle.std.proofs.Common.{◌≡◌, ◌≢◌, ℕ, zero, suc, ◌+◌, ◌<◌, ◌≤◌, List, [], ◌∷◌, length, Bool, true, false, cond, not, ◌&&◌, ◌||◌, nat_eq, nat_lt, refl, ap, sym, subst, ◌∙◌, arith, true≢false, ◌⊎◌, inl, inr, Option, Some, None}
+use Rattle.std.specs.Prelude.{codes}
+use Rattle.std.proofs.lemmas.Bool.{eqb-true, eqb-false}
+use Rattle.cds_object.specs.Object.{ObjectRow}
+use Rattle.cds_object.specs.Tree.{IsTree}
+use Rattle.cds_object.specs.declared.record.Record.{Record}
+use Rattle.cds_catalog.specs.Library.{map_of}
+use Rattle.cds_catalog.specs.History.{end_of, with_scan}
+use Rattle.cds_catalog.specs.Catalog.{catalog}
+use Rattle.cds_catalog.specs.Laws.{AreLibraries}
+use Rattle.cds_catalog.proofs.Accepted.{accepted_map}
+use Rattle.cds_catalog.proofs.Numbers.{ends_rise, equal_ends_equal_catalogs}
+use Rattle.cds_model.specs.declared.exchange.Ask.{Ask as Asked}
+use Rattle.cds_model.specs.Server.{Moment, reply_to}
+use Rattle.cds_model.specs.Replica.{Held, Idle, Begun, HasToken, HasNumber, HasRoot, Lists, HasPage, HasCopy, held_after, next_ask as load_ask}
+use Rattle.cds_model.specs.Report.{script_token}
+use Rattle.cds_model.specs.Loads.{load_reads, held_with, read_once, answered}
+use Rattle.cds_model.proofs.Honest.{IsServed, IsGiven as IsHeldGiven}
+use Rattle.cds_model.proofs.Servers.{StoodAt, server-serves}
+use Rattle.cds_model.proofs.Ends.{Left, read-left, none-left}
+use Rattle.cds_model.proofs.Bounds.{Stale, Owes, read-stale, scan-stale}
+use Rattle.cds_notes.specs.Commands.{Command, Grants, Ends, Note, scans_of, granted, has_room, notes_of}
+use Rattle.cds_notes.specs.Copy.{least_unread, read_up_to}
+use Rattle.cds_notes.specs.Inbox.{ReplicaTurn, Begins, Shows, Requests, Accepts, Refuses, Delivers, accepted, missing, taken_by, arrival}
+use Rattle.cds_notes.specs.Follow.{Known, Knows, position, is_drop, with_notes, with_reply, known_after, known_by, is_no, is_turned_away, is_refused, and_turn, ask_of, next_ask, copy_says, says_without_gap, says_of, says}
+use Rattle.cds_notes.specs.Given.{moment_after, asked_at, given_by, latest_length}
+use Rattle.cds_notes.specs.HonestLaws.{begins_load, load_was_begun}
+use Rattle.cds_notes.specs.KnownLaws.{has_copy}
+use Rattle.cds_notes.specs.ServerLaws.{served}
+use Rattle.cds_notes.specs.declared.says.Says.{Says}
+use Rattle.cds_notes.specs.declared.says.Says.TheVariants.{Gap, BehindLoad, BehindRead, BehindVersion, Stands}
+use Rattle.cds_notes.proofs.Served.{commands-serve}
+use Rattle.cds_notes.proofs.Stages.{following-later}
+use Rattle.cds_notes.proofs.Honest.{entries-served}
+use Rattle.cds_script.specs.declared.turn.Turn.{Turn}
+use Rattle.cds_script.specs.declared.turn.Turn.TheVariants.{Folder, Track, Scan, Load, Read, Ask, First, At, Subscribe, Accept, Unsubscribe, Deliver, ReadFault}
+use Rattle.cds_script.specs.Report.{number_of, first_of, clock_of, records_since, Played, after_reply, after_note, sent_note, given_up, lives, play, played, history_of, answer_text}
+use Rattle.cds_script.specs.LoadBounds.{drops, reply_drops, note_drops, answered_after, answered_since, loads_are_bounded, all_turns_bound_loads}
+use Rattle.cds_script.proofs.Given.{Kept, ScannedCases, scanned-cases, oldest-all, turns-kept}
+use Rattle.cds_script.proofs.Held.{reply-becomes, reply-stays, notes-become}
+use Rattle.cds_script.proofs.Stood.{read-taken, note-taken, name-taken, may-before_ask}
+
+-- ---- what is owed
+
+left-not_idle : (m : Moment) (held : Held) (r : ℕ) → Left m held r → held ≢ Idle
+left-not_idle m held r left e = let P : Held → Type 0 = λ h. Left m h r in subst P e left
+
+stale-not_idle : (m : Moment) (held : Held) (r : ℕ) → Stale m held r → held ≢ Idle
+stale-not_idle m held r stale e = let P : Held → Type 0 = λ h. Stale m h r in subst P e stale
+
+stale-some : (m : Moment) (held : Held) → Stale m held 0 → ⊥
+stale-some m Idle stale = stale
+stale-some m Begun stale = stale
+stale-some m HasToken stale = stale
+stale-some m (HasNumber number) stale = omega (arith, stale.1)
+stale-some m (HasRoot number root) stale = omega (arith, stale.1)
+stale-some m (Lists number l) stale = omega (arith, stale.1)
+stale-some m (HasPage number l page) stale = omega (arith, stale.1)
+stale-some m (HasCopy number rows) stale = stale
+
+-- a replica that holds no copy owes so many reads
+pub record Owing (m : Moment) (held : Held) (n : ℕ) : Type 0 where
+  pub begun : held ≢ Idle
+  pub left : ℕ
+  pub bound : n + left ≤ load_reads m.rows + 2
+  pub owes : Left m held left ⊎ Stale m held left
+
+-- no load was begun; or a copy stands; or so many reads are owed
+abbrev Bound : Moment → List ReplicaTurn → ℕ → Type 0
+Bound m r n = ((load_was_begun r ≡ false) × ((known_by r).held ≡ Idle)) ⊎ ((has_copy (known_by r).held ≡ true) ⊎ Owing m (known_by r).held n)
+
+owing-by : (m : Moment) (held : Held) (n left : ℕ) → held ≢ Idle → n + left ≤ load_reads m.rows + 2 → Owes m held left → (has_copy held ≡ true) ⊎ Owing m held n
+owing-by m held n left begun bound (inl copy) = inl (ap has_copy copy.2)
+owing-by m held n left begun bound (inr owes) = inr (record { begun = begun; left = left; bound = bound; owes = owes })
+
+-- other turns of the replica that leave what it holds
+same-bound : (m : Moment) (r then : List ReplicaTurn) (n : ℕ) → load_was_begun then ≡ load_was_begun r → (known_by then).held ≡ (known_by r).held → Bound m r n → Bound m then n
+same-bound m r then n begun held (inl none) = inl (begun ∙ none.0, held ∙ none.1)
+same-bound m r then n begun held (inr (inl copy)) = inr (inl (ap has_copy held ∙ copy))
+same-bound m r then n begun held (inr (inr owing)) = inr (inr (subst (λ (h : Held). Owing m h n) (sym held) owing))
+
+begun-bound : (m : Moment) (r : List ReplicaTurn) → (known_by r).held ≡ Begun → Bound m r 0
+begun-bound m r held = inr (inr (subst (λ (h : Held). Owing m h 0) (sym held) (record {
+  begun = λ (e : Begun ≡ Idle). cc;
+  left = load_reads m.rows;
+  bound = omega arith;
+  owes = inl refl;
+})))
+
+-- ---- the server of a script
+
+module _ (first : ℕ) (p : Played) (kept : Kept first p) where
+  abbrev m : Moment
+  m = moment_after first p.commands
+
+  abbrev n : ℕ
+  n = length p.commands
+
+  abbrev Stood : Moment → Type 0
+  Stood = StoodAt (served first p.commands) n
+
+  now-serves : IsServed Stood m
+  now-serves =
+      subst (λ (cs : List Command). IsServed Stood (moment_after first cs)) (oldest-all p.commands)
+      (server-serves (served first p.commands) n (commands-serve first p.commands kept.accepted))
+
+  held-given : IsHeldGiven Stood (known_by p.replica).held
+  held-given =
+      let s = entries-served first p.commands kept.accepted kept.entries kept.given in
+      subst (λ turns. IsHeldGiven Stood (known_by turns).held) (sym kept.are)
+      (following-later first p.commands kept.accepted (latest_length kept.entries) n (known_by (given_by first p.commands kept.entries)) kept.within s.following).given
+
+-- ---- a scan
+
+-- a scan that keeps the number keeps the moment
+same-moment : (first : ℕ) (records : List Record) (commands now : List Command) → AreLibraries (scans_of first commands).maps →
+    ScannedCases (scans_of first commands) records commands now → end_of (scans_of first now) ≡ end_of (scans_of first commands) →
+    moment_after first now ≡ moment_after first commands
+same-moment first records commands now libraries (inl e) ends = ap (moment_after first) e
+same-moment first records commands now libraries (inr e) ends =
+    let accepted : AreLibraries (map_of records ∷ (scans_of first commands).maps) = ((accepted_map records e.0).0, libraries) in
+    let same : end_of (with_scan (scans_of first commands) (map_of records)) ≡ end_of (scans_of first commands) = ap (λ cs. end_of (scans_of first cs)) (sym e.3) ∙ ends in
+    ap (moment_after first) e.3
+    ∙ (let M : ℕ → List ObjectRow → Moment = λ k rows. record { token = script_token; number = k; rows = rows } in
+    λ i. M (same i) ((equal_ends_equal_catalogs (scans_of first commands).first (map_of records ∷ []) (scans_of first commands).maps accepted same) i))
+
+number-above : (first : ℕ) (records : List Record) (commands now : List Command) → ScannedCases (scans_of first commands) records commands now →
+    (end_of (scans_of first now) ≡ end_of (scans_of first commands) → ⊥) → end_of (scans_of first commands) < end_of (scans_of first now)
+number-above first records commands now (inl e) apart = absurd (apart (ap (λ cs. end_of (scans_of first cs)) e))
+number-above first records commands now (inr e) apart =
+    let rise : end_of (scans_of first commands) ≤ end_of (with_scan (scans_of first commands) (map_of records)) =
+    ends_rise (scans_of first commands).first (map_of records ∷ []) (scans_of first commands).maps in
+    let same : end_of (scans_of first now) ≡ end_of (with_scan (scans_of first commands) (map_of records)) = ap (λ cs. end_of (scans_of first cs)) e.3 in
+    omega (arith, rise, same, apart)
+
+scan-bound : (first : ℕ) (records : List Record) (p : Played) → Kept first p → (n : ℕ) → Bound (moment_after first p.commands) p.replica n → (now : List Command) →
+    ScannedCases (scans_of first p.commands) records p.commands now →
+    Bound (moment_after first now) p.replica (cond (nat_eq (end_of (scans_of first now)) (end_of (scans_of first p.commands))) n 0)
+scan-bound first records p kept n (inl none) now cases = inl none
+scan-bound first records p kept n (inr (inl copy)) now cases = inr (inl copy)
+scan-bound first records p kept n (inr (inr owing)) now cases = by (nat_eq (end_of (scans_of first now)) (end_of (scans_of first p.commands))) refl
+  where
+    by : (b : Bool) → nat_eq (end_of (scans_of first now)) (end_of (scans_of first p.commands)) ≡ b → Bound (moment_after first now) p.replica (cond b n 0)
+    by true e =
+        let same = same-moment first records p.commands now kept.accepted.libraries cases (eqb-true _ _ e) in
+        inr (inr (subst (λ m. Owing m (known_by p.replica).held n) (sym same) owing))
+    by false e =
+        let above = number-above first records p.commands now cases (eqb-false _ _ e) in
+        let stale = scan-stale (Stood first p kept) (moment_after first p.commands) (moment_after first now) (now-serves first p kept) above (known_by p.replica).held owing.begun
+        (held-given first p kept) in
+        inr (owing-by (moment_after first now) (known_by p.replica).held 0 stale.0 owing.begun (omega (arith, stale.1)) stale.2)
+
+-- ---- a read
+
+-- what a read leaves of what was owed
+pub record OneLess (m : Moment) (now : Held) (left : ℕ) : Type 0 where
+  pub begun : now ≢ Idle
+  pub less : ℕ
+  pub fewer : less + 1 ≡ left
+  pub owes : Left m now less ⊎ Stale m now less
+
+read-owes : (Stood : Moment → Type 0) (m : Moment) → IsServed Stood m → IsTree m.rows → (held : Held) (ask : Asked) (left : ℕ) →
+    load_ask held ≡ Some ask → IsHeldGiven Stood held → Left m held left ⊎ Stale m held left → OneLess m (read_once m held) left
+read-owes Stood m served tree held ask zero asks given (inl fresh) =
+    let none : load_ask held ≡ None = ap load_ask (none-left m tree held fresh) in absurd (cc)
+read-owes Stood m served tree held ask (suc n) asks given (inl fresh) =
+    let now : Left m (read_once m held) n = read-left m tree held n fresh in
+    record { begun = left-not_idle m (read_once m held) n now; less = n; fewer = omega arith; owes = inl now }
+read-owes Stood m served tree held ask zero asks given (inr stale) = absurd (stale-some m held stale)
+read-owes Stood m served tree held ask (suc n) asks given (inr stale) = by (read-stale Stood m served held n given stale)
+  where
+    by : Stale m (read_once m held) n ⊎ Left m (read_once m held) n → OneLess m (read_once m held) (suc n)
+    by (inl now) = record { begun = stale-not_idle m (read_once m held) n now; less = n; fewer = omega arith; owes = inr now }
+    by (inr now) = record { begun = left-not_idle m (read_once m held) n now; less = n; fewer = omega arith; owes = inl now }
+
+-- while no copy stands the next ask is the load's
+ask-load : (known : Known) (held : Held) → has_copy held ≡ false → ask_of known held ≡ load_ask held
+ask-load known Idle c = refl
+ask-load known Begun c = refl
+ask-load known HasToken c = refl
+ask-load known (HasNumber number) c = refl
+ask-load known (HasRoot number root) c = refl
+ask-load known (Lists number listing) c = refl
+ask-load known (HasPage number listing page) c = refl
+ask-load known (HasCopy number rows) c = absurd (cc)
+
+-- a reply that is taken
+shows-by : (r : List ReplicaTurn) (turn : ReplicaTurn) → is_refused turn r ≡ false → and_turn turn r ≡ turn ∷ r
+shows-by r turn free = ap (λ b. cond b r (turn ∷ r)) free
+
+read-bound : (first : ℕ) (p : Played) → Kept first p → (n : ℕ) → Bound (moment_after first p.commands) p.replica n → (o : Option Asked) → next_ask (known_by p.replica) ≡ o →
+    Bound (moment_after first p.commands) (asked_at (moment_after first p.commands) p.replica o) (answered o n)
+read-bound first p kept n bound None asks = bound
+read-bound first p kept n bound (Some ask) asks =
+    subst (λ turns. Bound m turns (n + 1)) (sym turns) (by bound (has_copy known.held) refl)
+  where
+    m : Moment
+    m = moment_after first p.commands
+
+    known : Known
+    known = known_by p.replica
+
+    ok : (now : Known) × (with_reply known known.held (reply_to m ask) ≡ Knows now)
+    ok = read-taken first p kept ask asks
+
+    turns : asked_at m p.replica (Some ask) ≡ Shows (reply_to m ask) ∷ p.replica
+    turns = shows-by p.replica (Shows (reply_to m ask)) (ap is_no ok.1)
+
+    after : (known_by (Shows (reply_to m ask) ∷ p.replica)).held ≡ ok.0.held
+    after = ap (λ o. (known_after known o).held) ok.1
+
+    by : Bound m p.replica n → (b : Bool) → has_copy known.held ≡ b → Bound m (Shows (reply_to m ask) ∷ p.replica) (n + 1)
+    by any true c = inr (inl (ap has_copy (after ∙ reply-stays known ok.0 known.held (reply_to m ask) c ok.1) ∙ c))
+    by (inl none) false c =
+        let idle : next_ask known ≡ None = ask-load known known.held c ∙ ap load_ask none.1 in absurd (cc)
+    by (inr (inl copy)) false c = absurd (cc)
+    by (inr (inr owing)) false c =
+        let became = reply-becomes known ok.0 known.held (reply_to m ask) c ok.1 in
+        let asked : load_ask known.held ≡ Some ask = sym (ask-load known known.held c) ∙ asks in
+        let now : (known_by (Shows (reply_to m ask) ∷ p.replica)).held ≡ read_once m known.held =
+        after ∙ became.2 ∙ ap (held_after known.held) (sym became.1) ∙ sym (ap (held_with m known.held) asked) in
+        let serves = now-serves first p kept in
+        let less = read-owes (Stood first p kept) m serves (serves.trees m serves.stood) known.held ask owing.left asked (held-given first p kept) owing.owes in
+        let bound = owing.bound in let fewer = less.fewer in
+        inr (inr (subst (λ (h : Held). Owing m h (n + 1)) (sym now) (record {
+          begun = less.begun;
+          left = less.less;
+          bound = omega (arith, bound, fewer);
+          owes = less.owes;
+        })))
+
+-- ---- notes that are taken
+
+taken-bound : (m : Moment) (r : List ReplicaTurn) (turn : ReplicaTurn) (notes : List Note) (now : Known) (n : ℕ) → begins_load turn ≡ false → taken_by turn r ≡ notes →
+    with_notes notes (known_by r) ≡ Knows now → known_by (turn ∷ r) ≡ known_after (known_by r) (with_notes (taken_by turn r) (known_by r)) → Bound m r n →
+    Bound m (turn ∷ r) (cond (is_drop (position (known_by r)) notes) 0 n)
+taken-bound m r turn notes now n begins takes knows after bound = by (is_drop (position (known_by r)) notes) refl
+  where
+    held : (known_by (turn ∷ r)).held ≡ cond (is_drop (position (known_by r)) notes) Begun (known_by r).held
+    held = ap (λ (k : Known). k.held) (after ∙ (λ i. known_after (known_by r) (with_notes (takes i) (known_by r))) ∙ ap (known_after (known_by r)) knows)
+        ∙ notes-become notes (known_by r) now knows
+
+    by : (b : Bool) → is_drop (position (known_by r)) notes ≡ b → Bound m (turn ∷ r) (cond b 0 n)
+    by true e = begun-bound m (turn ∷ r) (held ∙ ap (λ b. cond b Begun (known_by r).held) e)
+    by false e = same-bound m r (turn ∷ r) n
+        ((λ i. begins i || is_drop (position (known_by r)) (takes i) || load_was_begun r) ∙ ap (λ b. b || load_was_begun r) e)
+        (held ∙ ap (λ b. cond b Begun (known_by r).held) e) bound
+
+reply-bound : (first : ℕ) (m : Moment) (p : Played) → Kept first p → (n : ℕ) → Bound m p.replica n → (o : Option (Option ℕ)) → p.reply ≡ o →
+    Bound m (after_reply o p.replica) (cond (reply_drops o p.replica) 0 n)
+reply-bound first m p kept n bound None e = bound
+reply-bound first m p kept n bound (Some None) e = same-bound m p.replica (Refuses ∷ p.replica) n refl refl bound
+reply-bound first m p kept n bound (Some (Some name)) e =
+    let ok = name-taken first p kept name e in
+    let free : is_refused (Accepts name) p.replica ≡ false = ap is_no ok.1 in
+    subst (λ turns. Bound m turns (cond (drops (Accepts name) p.replica) 0 n)) (sym (shows-by p.replica (Accepts name) free))
+    (subst (λ (b : Bool). Bound m (Accepts name ∷ p.replica) (cond (not b && is_drop (position (known_by p.replica)) (taken_by (Accepts name) p.replica)) 0 n)) (sym free)
+    (taken-bound m p.replica (Accepts name) (taken_by (Accepts name) p.replica) ok.0 n refl refl ok.1 refl bound))
+
+note-bound : (first : ℕ) (m : Moment) (p : Played) → Kept first p → (n number : ℕ) → Bound m p.replica n → (o : Option Note) → sent_note number (notes_of first p.commands) ≡ o →
+    Bound m (after_note o p.replica) (cond (note_drops o p.replica) 0 n)
+note-bound first m p kept n number bound None e = bound
+note-bound first m p kept n number bound (Some note) e = by (is_turned_away (arrival note p.replica)) refl
+  where
+    ok : (now : Known) × (with_notes (taken_by (Delivers note) p.replica) (known_by p.replica) ≡ Knows now)
+    ok = note-taken first p kept number note e
+
+    refused : (b : Bool) → is_turned_away (arrival note p.replica) ≡ b → is_refused (Delivers note) p.replica ≡ b || false
+    refused b a = λ i. a i || is_no (ok.1 i)
+
+    by : (b : Bool) → is_turned_away (arrival note p.replica) ≡ b → Bound m (and_turn (Delivers note) p.replica) (cond (drops (Delivers note) p.replica) 0 n)
+    by true a =
+        subst (λ (b : Bool). Bound m (cond b p.replica (Delivers note ∷ p.replica)) (cond (not b && is_drop (position (known_by p.replica)) (taken_by (Delivers note) p.replica)) 0 n))
+        (sym (refused true a)) bound
+    by false a =
+        subst (λ (b : Bool). Bound m (cond b p.replica (Delivers note ∷ p.replica)) (cond (not b && is_drop (position (known_by p.replica)) (taken_by (Delivers note) p.replica)) 0 n))
+        (sym (refused false a))
+        (taken-bound m p.replica (Delivers note) (taken_by (Delivers note) p.replica) ok.0 n refl refl ok.1 refl bound)
+
+-- ---- all turns
+
+given_up-same : (first now : ℕ) (commands : List Command) (o : Option ℕ) → moment_after first (given_up o first now commands) ≡ moment_after first commands
+given_up-same first now commands None = refl
+given_up-same first now commands (Some name) = by (lives name first now commands)
+  where
+    by : (b : Bool) → moment_after first (cond b (Ends name ∷ commands) commands) ≡ moment_after first commands
+    by true = refl
+    by false = refl
+
+step : (first now : ℕ) (records : List Record) (p : Played) → Kept first p → (n : ℕ) → Bound (moment_after first p.commands) p.replica n → (turn : Turn) →
+    Bound (moment_after first (play first now records p turn).commands) (play first now records p turn).replica (answered_after first records p n turn)
+step first now records p kept n bound (Folder path) = bound
+step first now records p kept n bound (Track path content) = bound
+step first now records p kept n bound Scan = scan-bound first records p kept n bound _ (scanned-cases (scans_of first p.commands) records p.commands)
+step first now records p kept n bound Load = begun-bound (moment_after first p.commands) (Begins ∷ p.replica) refl
+step first now records p kept n bound Read = read-bound first p kept n bound (next_ask (known_by p.replica)) refl
+step first now records p kept n bound Ask = bound
+step first now records p kept n bound (First number) = bound
+step first now records p kept n bound (At moment) = bound
+step first now records p kept n bound Subscribe = by (has_room now p.commands (notes_of first p.commands))
+  where
+    called : Bound (moment_after first p.commands) (Requests ∷ p.replica) n
+    called = same-bound (moment_after first p.commands) p.replica (Requests ∷ p.replica) n refl refl bound
+
+    by : (b : Bool) → let after : Played = cond b
+        (record { commands = Grants now ∷ p.commands; replica = Requests ∷ p.replica; reply = Some (Some (granted p.commands + 1)) })
+        (record { commands = p.commands; replica = Requests ∷ p.replica; reply = Some None }) in Bound (moment_after first after.commands) after.replica n
+    by true = called
+    by false = called
+step first now records p kept n bound Accept = reply-bound first (moment_after first p.commands) p kept n bound p.reply refl
+step first now records p kept n bound Unsubscribe =
+    subst (λ m. Bound m p.replica n) (sym (given_up-same first now p.commands (accepted p.replica))) bound
+step first now records p kept n bound (Deliver note) = note-bound first (moment_after first p.commands) p kept n note bound (sent_note note (notes_of first p.commands)) refl
+step first now records p kept n bound ReadFault = bound
+
+nothing-bound : (m : Moment) → Bound m [] 0
+nothing-bound m = inl (refl, refl)
+
+first-bound : (turn : Turn) → number_of turn ≤ 4294967295 → Bound (moment_after (number_of turn) (play 0 0 [] (played []) turn).commands) (play 0 0 [] (played []) turn).replica
+    (answered_after 0 [] (played []) 0 turn)
+first-bound (First number) low = nothing-bound (moment_after number [])
+first-bound (Folder path) low = nothing-bound (moment_after 0 [])
+first-bound (Track path content) low = nothing-bound (moment_after 0 [])
+first-bound Scan low = step 0 0 [] (played []) (turns-kept [] low) 0 (nothing-bound (moment_after 0 [])) Scan
+first-bound Load low = step 0 0 [] (played []) (turns-kept [] low) 0 (nothing-bound (moment_after 0 [])) Load
+first-bound Read low = step 0 0 [] (played []) (turns-kept [] low) 0 (nothing-bound (moment_after 0 [])) Read
+first-bound Ask low = nothing-bound (moment_after 0 [])
+first-bound (At moment) low = step 0 0 [] (played []) (turns-kept [] low) 0 (nothing-bound (moment_after 0 [])) (At moment)
+first-bound Subscribe low = step 0 0 [] (played []) (turns-kept [] low) 0 (nothing-bound (moment_after 0 [])) Subscribe
+first-bound Accept low = step 0 0 [] (played []) (turns-kept [] low) 0 (nothing-bound (moment_after 0 [])) Accept
+first-bound Unsubscribe low = step 0 0 [] (played []) (turns-kept [] low) 0 (nothing-bound (moment_after 0 [])) Unsubscribe
+first-bound (Deliver note) low = step 0 0 [] (played []) (turns-kept [] low) 0 (nothing-bound (moment_after 0 [])) (Deliver note)
+first-bound ReadFault low = nothing-bound (moment_after 0 [])
+
+bounds : (turns : List Turn) → first_of turns ≤ 4294967295 → Bound (moment_after (first_of turns) (played turns).commands) (played turns).replica (answered_since turns)
+bounds [] low = nothing-bound (moment_after 0 [])
+bounds (turn ∷ []) low = first-bound turn low
+bounds (turn ∷ next ∷ older) low =
+    step (first_of (next ∷ older)) (clock_of (next ∷ older)) (records_since (next ∷ older)) (played (next ∷ older)) (turns-kept (next ∷ older) low)
+    (answered_since (next ∷ older)) (bounds (next ∷ older) low) turn
+
+-- where no copy stands some reads are owed
+behind-no_copy : (r : List ReplicaTurn) → says r ≡ BehindLoad → has_copy (known_by r).held ≡ false
+behind-no_copy r behind = by (missing r) behind
+  where
+    copy-on : (o : Option ℕ) → copy_says (known_by r) o ≡ BehindLoad → ⊥
+    copy-on (Some id) e = cc
+    copy-on None e = on (nat_lt (position (known_by r)) (read_up_to (known_by r).happenings)) e
+      where
+        on : (b : Bool) → cond b (BehindVersion (read_up_to (known_by r).happenings)) (Stands (position (known_by r))) ≡ BehindLoad → ⊥
+        on true k = cc
+        on false k = cc
+
+    held-on : (held : Held) → says_without_gap (known_by r) held ≡ BehindLoad → has_copy held ≡ false
+    held-on Idle e = refl
+    held-on Begun e = refl
+    held-on HasToken e = refl
+    held-on (HasNumber number) e = refl
+    held-on (HasRoot number root) e = refl
+    held-on (Lists number listing) e = refl
+    held-on (HasPage number listing page) e = refl
+    held-on (HasCopy number rows) e = absurd (copy-on (least_unread (known_by r).happenings) e)
+
+    by : (o : Option ℕ) → says_of o (known_by r) ≡ BehindLoad → has_copy (known_by r).held ≡ false
+    by (Some seq) e = absurd (cc)
+    by None e = held-on (known_by r).held e
+
+pub loads-bounded : loads_are_bounded
+loads-bounded turns may behind = by (bounds turns may.number)
+  where
+    kept : Kept (first_of turns) (played turns)
+    kept = turns-kept turns may.number
+
+    m : Moment
+    m = moment_after (first_of turns) (played turns).commands
+
+    held : Held
+    held = (known_by (played turns).replica).held
+
+    no-copy : has_copy held ≡ false
+    no-copy = behind-no_copy (played turns).replica behind
+
+    some : (left : ℕ) → Left m held left ⊎ Stale m held left → 0 < left
+    some zero (inl fresh) =
+        let serves = now-serves (first_of turns) (played turns) kept in
+        let copy : has_copy held ≡ true = ap has_copy (none-left m (serves.trees m serves.stood) held fresh) in absurd (true≢false (sym copy ∙ no-copy))
+    some (suc n) (inl fresh) = omega arith
+    some zero (inr stale) = absurd (stale-some m held stale)
+    some (suc n) (inr stale) = omega arith
+
+    by : Bound m (played turns).replica (answered_since turns) →
+        (load_was_begun (played turns).replica ≡ false) ⊎ (answered_since turns < load_reads (catalog (history_of turns)) + 2)
+    by (inl none) = inl none.0
+    by (inr (inl copy)) = absurd (true≢false (sym copy ∙ no-copy))
+    by (inr (inr owing)) = let left = some owing.left owing.owes in let bound = owing.bound in inr (omega (arith, bound, left))
+
+-- an ask that writes `behind load` comes where the replica is behind its load
+letter_at : ℕ → List ℕ → ℕ
+letter_at k [] = 0
+letter_at zero (b ∷ bytes) = b
+letter_at (suc k) (b ∷ bytes) = letter_at k bytes
+
+pub turns-bound_loads : all_turns_bound_loads
+unfolding letter_at
+turns-bound_loads turns may newer older parts written =
+    loads-bounded older (may-before_ask newer older turns parts may) (by (says (played older).replica) written)
+  where
+    by : (s : Says) → answer_text (history_of older) s ≡ codes "behind load\n" → s ≡ BehindLoad
+    by (Gap seq) e = let letter : 103 ≡ 98 = ap (letter_at 0) e in absurd (omega (arith, letter))
+    by BehindLoad e = refl
+    by (BehindRead id) e = let letter : 114 ≡ 108 = ap (letter_at 7) e in absurd (omega (arith, letter))
+    by (BehindVersion number) e = let letter : 118 ≡ 108 = ap (letter_at 7) e in absurd (omega (arith, letter))
+    by (Stands number) e = let letter : 115 ≡ 98 = ap (letter_at 0) e in absurd (omega (arith, letter))

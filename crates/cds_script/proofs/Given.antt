@@ -1,0 +1,397 @@
+-- The replica of a script is one of an honest server.
+use Rattle.std.proofs.Common.{◌≡◌, ◌⊎◌, inl, inr, ℕ, zero, suc, ◌+◌, ◌-◌, ◌<◌, ◌≤◌, List, [], ◌∷◌, length, drop, Bool, true, false, cond, nat_eq, nat_lt, refl, ap, sym, subst, ◌∙◌, arith, length-append, ltb-false, Option, Some, None}
+use Rattle.std.specs.List.{Contains}
+use Rattle.cds_object.specs.declared.record.Record.{Record}
+use Rattle.cds_catalog.specs.Library.{found, map_of}
+use Rattle.cds_catalog.specs.History.{History, latest, changes_of, end_of}
+use Rattle.cds_catalog.specs.Scans.{Accepted, TooMany, NoNumbers, bad_record, needed_by, answer_by, scan_answer}
+use Rattle.cds_catalog.proofs.Accepted.{accepted_map}
+use Rattle.cds_model.specs.Server.{Moment, reply_to}
+use Rattle.cds_model.specs.declared.exchange.Ask.{Ask as Asked}
+use Rattle.cds_notes.specs.Commands.{Command, Scans, Grants, Ends, Ticks, Note, scans_of, granted, has_room, notes_of}
+use Rattle.cds_notes.specs.Inbox.{ReplicaTurn, Begins, Shows, Requests, Accepts, Refuses, Delivers, accepted, is_out}
+use Rattle.cds_notes.specs.Follow.{is_refused, and_turn, known_by, next_ask}
+use Rattle.cds_notes.specs.Given.{oldest, moment_after, Entry, Starts, Asks, Calls, Granted, Denied, Gets, asked_at, given_by, latest_length, length_before_call, AreAccepted, IsGiven}
+use Rattle.cds_script.specs.declared.turn.Turn.{Turn}
+use Rattle.cds_script.specs.declared.turn.Turn.TheVariants.{Folder, Track, Scan, Load, Read, Ask, First, At, Subscribe, Accept, Unsubscribe, Deliver, ReadFault}
+use Rattle.cds_script.specs.Report.{number_of, first_of, clock_of, records_since, Played, scanned, after_reply, after_note, sent_note, lives, given_up, play, played}
+use Rattle.cds_script.specs.ScriptGiven.{scripts_are_given}
+
+-- ---- the oldest commands
+
+pub oldest-more : (k : ℕ) (command : Command) (commands : List Command) → k ≤ length commands → oldest k (command ∷ commands) ≡ oldest k commands
+oldest-more k command commands low =
+    let e : suc (length commands) - k ≡ suc (length commands - k) = omega (arith, low) in ap (λ (m : ℕ). drop m (command ∷ commands)) e
+
+pub oldest-all : (commands : List Command) → oldest (length commands) commands ≡ commands
+oldest-all commands = let e : length commands - length commands ≡ 0 = omega arith in ap (λ (m : ℕ). drop m commands) e
+
+pub granted-rises : (command : Command) (commands : List Command) → granted commands ≤ granted (command ∷ commands)
+granted-rises (Scans library) commands = omega arith
+granted-rises (Grants moment) commands = omega arith
+granted-rises (Ends name) commands = omega arith
+granted-rises (Ticks moment) commands = omega arith
+
+pub granted-dropped : (n : ℕ) (commands : List Command) → granted (drop n commands) ≤ granted commands
+granted-dropped zero commands = omega arith
+granted-dropped (suc n) [] = omega arith
+granted-dropped (suc n) (command ∷ commands) =
+    let rest = granted-dropped n commands in let rise = granted-rises command commands in omega (arith, rest, rise)
+
+-- ---- more commands leave what was given
+
+call-low : (first : ℕ) (commands : List Command) (entries : List Entry) → IsGiven first commands entries → length_before_call entries ≤ latest_length entries
+call-low first commands [] given = omega arith
+call-low first commands (Starts k ∷ older) given = let low = given.0 in let rest = call-low first commands older given.2 in omega (arith, low, rest)
+call-low first commands (Asks k ∷ older) given = let low = given.0 in let rest = call-low first commands older given.2 in omega (arith, low, rest)
+call-low first commands (Calls k ∷ older) given = given.0
+call-low first commands (Granted k name ∷ older) given = let low = given.0 in let rest = call-low first commands older given.2 in omega (arith, low, rest)
+call-low first commands (Denied k ∷ older) given = let low = given.0 in let rest = call-low first commands older given.2 in omega (arith, low, rest)
+call-low first commands (Gets k note ∷ older) given = let low = given.0 in let rest = call-low first commands older given.2 in omega (arith, low, rest)
+
+module _ (first : ℕ) (command : Command) (commands : List Command) where
+  abbrev Stays : List Entry → Type 0
+  Stays entries = IsGiven first (command ∷ commands) entries × (given_by first (command ∷ commands) entries ≡ given_by first commands entries)
+
+  given-more : (entries : List Entry) → IsGiven first commands entries → latest_length entries ≤ length commands → Stays entries
+  given-more [] given low = (tt, refl)
+  given-more (Starts k ∷ older) given low =
+      let under = given.0 in let rest = given-more older given.2 (omega (arith, under, low)) in
+      ((given.0, tt, rest.0), ap (λ turns. Begins ∷ turns) rest.1)
+  given-more (Asks k ∷ older) given low =
+      let under = given.0 in let rest = given-more older given.2 (omega (arith, under, low)) in
+      let same : oldest k (command ∷ commands) ≡ oldest k commands = oldest-more k command commands low in
+      ((given.0, tt, rest.0), λ i. asked_at (moment_after first (same i)) (rest.1 i) (next_ask (known_by (rest.1 i))))
+  given-more (Calls k ∷ older) given low =
+      let under = given.0 in let rest = given-more older given.2 (omega (arith, under, low)) in
+      ((given.0, tt, rest.0), ap (λ turns. Requests ∷ turns) rest.1)
+  given-more (Granted k name ∷ older) given low =
+      let under = given.0 in let rest = given-more older given.2 (omega (arith, under, low)) in
+      let call = call-low first commands older given.2 in
+      let before : oldest (length_before_call older) (command ∷ commands) ≡ oldest (length_before_call older) commands =
+      oldest-more (length_before_call older) command commands (omega (arith, call, under, low)) in (
+        (
+          given.0,
+          (
+            ap is_out rest.1 ∙ given.1.0,
+            subst (λ (cs : List Command). granted cs < name) (sym before) given.1.1,
+            subst (λ (cs : List Command). name ≤ granted cs) (sym (oldest-more k command commands low)) given.1.2,
+          ),
+          rest.0,
+        ),
+        ap (and_turn (Accepts name)) rest.1,
+      )
+  given-more (Denied k ∷ older) given low =
+      let under = given.0 in let rest = given-more older given.2 (omega (arith, under, low)) in
+      ((given.0, ap is_out rest.1 ∙ given.1, rest.0), ap (λ turns. Refuses ∷ turns) rest.1)
+  given-more (Gets k note ∷ older) given low =
+      let under = given.0 in let rest = given-more older given.2 (omega (arith, under, low)) in
+      ((given.0, subst (λ (cs : List Command). Contains (notes_of first cs) note) (sym (oldest-more k command commands low)) given.1, rest.0), ap (and_turn (Delivers note)) rest.1)
+
+-- ---- a request that is out stays out
+
+pub out-and : (turn : ReplicaTurn) (turns : List ReplicaTurn) → is_out (turn ∷ turns) ≡ is_out turns → is_out (and_turn turn turns) ≡ is_out turns
+out-and turn turns e = by (is_refused turn turns)
+  where
+    by : (b : Bool) → is_out (cond b turns (turn ∷ turns)) ≡ is_out turns
+    by true = refl
+    by false = e
+
+pub out-asked : (moment : Moment) (turns : List ReplicaTurn) (o : Option Asked) → is_out (asked_at moment turns o) ≡ is_out turns
+out-asked moment turns None = refl
+out-asked moment turns (Some ask) = out-and (Shows (reply_to moment ask)) turns refl
+
+-- ---- a note of a number is among those that were sent
+
+pub sent-contained : (number : ℕ) (notes : List Note) (note : Note) → sent_note number notes ≡ Some note → Contains notes note
+sent-contained number [] note e = absurd (cc)
+sent-contained number (other ∷ notes) note e = by (nat_eq number 1) (nat_eq number 0) e (λ f. sent-contained (number - 1) notes note f)
+  where
+    by : (b c : Bool) → cond b (Some other) (cond c None (sent_note (number - 1) notes)) ≡ Some note →
+        (sent_note (number - 1) notes ≡ Some note → Contains notes note) → Contains (other ∷ notes) note
+    by true c f later = let same : other ≡ note = cc in (0, omega arith, same)
+    by false true f later = absurd (cc)
+    by false false f later = let there = later f in let low = there.1 in (suc there.0, omega (arith, low), there.2)
+
+-- ---- a scan that is accepted
+
+abbrev pub ScannedCases : History → List Record → List Command → List Command → Type 0
+ScannedCases history records commands now = (now ≡ commands)
+    ⊎ ((bad_record records ≡ None) × (length records ≤ 65535) × (end_of history + needed_by history records ≤ 4294967295) × (now ≡ Scans (map_of records) ∷ commands))
+
+pub scanned-cases : (history : History) (records : List Record) (commands : List Command) → ScannedCases history records commands (scanned (scan_answer history records) records commands)
+scanned-cases history records commands = by (bad_record records) refl
+  where
+    by_test : (b c : Bool) → nat_lt 65535 (length records) ≡ b → nat_lt 4294967295 (end_of history + needed_by history records) ≡ c → bad_record records ≡ None →
+        ScannedCases history records commands (scanned (cond b (TooMany (length records)) (cond c (NoNumbers (needed_by history records)) Accepted)) records commands)
+    by_test true c l m e = inl refl
+    by_test false true l m e = inl refl
+    by_test false false l m e = inr (e, ltb-false 65535 (length records) l, ltb-false 4294967295 (end_of history + needed_by history records) m, refl)
+
+    by : (o : Option ℕ) → bad_record records ≡ o → ScannedCases history records commands (scanned (answer_by history records o) records commands)
+    by (Some line) e = inl refl
+    by None e = by_test _ _ refl refl e
+
+scan-accepted : (first : ℕ) (records : List Record) (commands : List Command) → AreAccepted first commands → bad_record records ≡ None → length records ≤ 65535 →
+    end_of (scans_of first commands) + needed_by (scans_of first commands) records ≤ 4294967295 → AreAccepted first (Scans (map_of records) ∷ commands)
+scan-accepted first records commands a good few most =
+    let map = accepted_map records good in
+    let history : History = scans_of first commands in
+    let parts = length-append (found (latest history.maps) (map_of records)) (changes_of history.maps) in
+    let long = map.1 in
+    record {
+      libraries = (map.0, a.libraries);
+      few = (omega (arith, long, few), a.few);
+      numbers = omega (arith, parts, most);
+    }
+
+-- ---- what a script keeps
+
+-- the reply that is held back: a request is out, and a name was granted after all that was given before the request
+abbrev pub Waits : List Command → List Entry → List ReplicaTurn → Option (Option ℕ) → Type 0
+Waits commands entries replica None = Unit {0}
+Waits commands entries replica (Some None) = is_out replica ≡ true
+Waits commands entries replica (Some (Some name)) =
+    (is_out replica ≡ true) × (granted (oldest (length_before_call entries) commands) < name) × (name ≤ granted commands)
+
+pub record Kept (first : ℕ) (p : Played) : Type 0 where
+  pub accepted : AreAccepted first p.commands
+  pub entries : List Entry
+  pub given : IsGiven first p.commands entries
+  pub are : p.replica ≡ given_by first p.commands entries
+  pub within : latest_length entries ≤ length p.commands
+  pub waits : Waits p.commands entries p.replica p.reply
+
+-- one more command
+more-waits : (command : Command) (commands : List Command) (entries : List Entry) (replica : List ReplicaTurn) → length_before_call entries ≤ length commands →
+    (reply : Option (Option ℕ)) → Waits commands entries replica reply → Waits (command ∷ commands) entries replica reply
+more-waits command commands entries replica low None w = tt
+more-waits command commands entries replica low (Some None) w = w
+more-waits command commands entries replica low (Some (Some name)) w =
+    let rise = granted-rises command commands in let high = w.2 in (
+      w.0,
+      subst (λ (cs : List Command). granted cs < name) (sym (oldest-more (length_before_call entries) command commands low)) w.1,
+      omega (arith, rise, high),
+    )
+
+more-command : (first : ℕ) (p : Played) (command : Command) → Kept first p → AreAccepted first (command ∷ p.commands) → Kept first (record p { commands = command ∷ p.commands })
+more-command first p command kept a =
+    let stays = given-more first command p.commands kept.entries kept.given kept.within in
+    let within = kept.within in
+    let call = call-low first p.commands kept.entries kept.given in
+    record {
+      accepted = a;
+      entries = kept.entries;
+      given = stays.0;
+      are = kept.are ∙ sym stays.1;
+      within = omega (arith, within);
+      waits = more-waits command p.commands kept.entries p.replica (omega (arith, call, within)) p.reply kept.waits;
+    }
+
+-- turns that leave the request leave what is held back
+same-waits : (commands : List Command) (entries now : List Entry) (replica then : List ReplicaTurn) → length_before_call now ≡ length_before_call entries →
+    is_out then ≡ is_out replica → (reply : Option (Option ℕ)) → Waits commands entries replica reply → Waits commands now then reply
+same-waits commands entries now replica then calls out None w = tt
+same-waits commands entries now replica then calls out (Some None) w = out ∙ w
+same-waits commands entries now replica then calls out (Some (Some name)) w =
+    (out ∙ w.0, subst (λ (k : ℕ). granted (oldest k commands) < name) (sym calls) w.1, w.2)
+
+load-kept : (first : ℕ) (p : Played) → Kept first p → Kept first (record p { replica = Begins ∷ p.replica })
+load-kept first p kept = record {
+  accepted = kept.accepted;
+  entries = Starts (length p.commands) ∷ kept.entries;
+  given = (kept.within, tt, kept.given);
+  are = ap (λ turns. Begins ∷ turns) kept.are;
+  within = omega arith;
+  waits = same-waits p.commands kept.entries (Starts (length p.commands) ∷ kept.entries) p.replica (Begins ∷ p.replica) refl refl p.reply kept.waits;
+}
+
+read-kept : (first : ℕ) (p : Played) → Kept first p →
+    Kept first (record p { replica = asked_at (moment_after first p.commands) p.replica (next_ask (known_by p.replica)) })
+read-kept first p kept = record {
+  accepted = kept.accepted;
+  entries = Asks (length p.commands) ∷ kept.entries;
+  given = (kept.within, tt, kept.given);
+  are = λ i. asked_at (moment_after first (sym (oldest-all p.commands) i)) (kept.are i) (next_ask (known_by (kept.are i)));
+  within = omega arith;
+  waits = same-waits p.commands kept.entries (Asks (length p.commands) ∷ kept.entries) p.replica
+      (asked_at (moment_after first p.commands) p.replica (next_ask (known_by p.replica))) refl
+      (out-asked (moment_after first p.commands) p.replica (next_ask (known_by p.replica))) p.reply kept.waits;
+}
+
+note-kept : (first : ℕ) (p : Played) (o : Option Note) → ((note : Note) → o ≡ Some note → Contains (notes_of first p.commands) note) → Kept first p →
+    Kept first (record p { replica = after_note o p.replica })
+note-kept first p None sent kept = record {
+  accepted = kept.accepted;
+  entries = kept.entries;
+  given = kept.given;
+  are = kept.are;
+  within = kept.within;
+  waits = kept.waits;
+}
+note-kept first p (Some note) sent kept = record {
+  accepted = kept.accepted;
+  entries = Gets (length p.commands) note ∷ kept.entries;
+  given = (kept.within, subst (λ (cs : List Command). Contains (notes_of first cs) note) (sym (oldest-all p.commands)) (sent note refl), kept.given);
+  are = ap (and_turn (Delivers note)) kept.are;
+  within = omega arith;
+  waits = same-waits p.commands kept.entries (Gets (length p.commands) note ∷ kept.entries) p.replica (and_turn (Delivers note) p.replica) refl
+      (out-and (Delivers note) p.replica refl) p.reply kept.waits;
+}
+
+refused-kept : (first : ℕ) (p : Played) → Kept first p → Kept first (record { commands = p.commands; replica = Requests ∷ p.replica; reply = Some None })
+refused-kept first p kept = record {
+  accepted = kept.accepted;
+  entries = Calls (length p.commands) ∷ kept.entries;
+  given = (kept.within, tt, kept.given);
+  are = ap (λ turns. Requests ∷ turns) kept.are;
+  within = omega arith;
+  waits = refl;
+}
+
+granted-kept : (first now : ℕ) (p : Played) → Kept first p →
+    Kept first (record { commands = Grants now ∷ p.commands; replica = Requests ∷ p.replica; reply = Some (Some (granted p.commands + 1)) })
+granted-kept first now p kept =
+    let a = kept.accepted in
+    let stays = given-more first (Grants now) p.commands kept.entries kept.given kept.within in
+    let within = kept.within in
+    let before = granted-dropped (length p.commands - latest_length kept.entries) p.commands in
+    record {
+      accepted = record { libraries = a.libraries; few = a.few; numbers = a.numbers };
+      entries = Calls (length p.commands) ∷ kept.entries;
+      given = (kept.within, tt, stays.0);
+      are = ap (λ turns. Requests ∷ turns) (kept.are ∙ sym stays.1);
+      within = omega arith;
+      waits = (
+        refl,
+        subst (λ (cs : List Command). granted cs < granted p.commands + 1) (sym (oldest-more (latest_length kept.entries) (Grants now) p.commands within)) (omega (arith, before)),
+        omega arith,
+      );
+    }
+
+accept-kept : (first : ℕ) (commands : List Command) (replica : List ReplicaTurn) (reply : Option (Option ℕ)) →
+    Kept first (record { commands = commands; replica = replica; reply = reply }) → Kept first (record { commands = commands; replica = after_reply reply replica; reply = None })
+accept-kept first commands replica None kept = record {
+  accepted = kept.accepted;
+  entries = kept.entries;
+  given = kept.given;
+  are = kept.are;
+  within = kept.within;
+  waits = tt;
+}
+accept-kept first commands replica (Some None) kept = record {
+  accepted = kept.accepted;
+  entries = Denied (length commands) ∷ kept.entries;
+  given = (kept.within, ap is_out (sym kept.are) ∙ kept.waits, kept.given);
+  are = ap (λ turns. Refuses ∷ turns) kept.are;
+  within = omega arith;
+  waits = tt;
+}
+accept-kept first commands replica (Some (Some name)) kept = record {
+  accepted = kept.accepted;
+  entries = Granted (length commands) name ∷ kept.entries;
+  given = (
+    kept.within,
+    (
+      ap is_out (sym kept.are) ∙ kept.waits.0,
+      kept.waits.1,
+      subst (λ (cs : List Command). name ≤ granted cs) (sym (oldest-all commands)) kept.waits.2,
+    ),
+    kept.given,
+  );
+  are = ap (and_turn (Accepts name)) kept.are;
+  within = omega arith;
+  waits = tt;
+}
+
+same-commands : (first : ℕ) (p : Played) (commands : List Command) → commands ≡ p.commands → Kept first p → Kept first (record p { commands = commands })
+same-commands first p commands e kept =
+    subst (λ (cs : List Command). Kept first (record p { commands = cs })) (sym e)
+    (record { accepted = kept.accepted; entries = kept.entries; given = kept.given; are = kept.are; within = kept.within; waits = kept.waits })
+
+scan-kept : (first : ℕ) (records : List Record) (p : Played) → Kept first p →
+    Kept first (record p { commands = scanned (scan_answer (scans_of first p.commands) records) records p.commands })
+scan-kept first records p kept = by _ (scanned-cases (scans_of first p.commands) records p.commands)
+  where
+    by : (now : List Command) → ScannedCases (scans_of first p.commands) records p.commands now → Kept first (record p { commands = now })
+    by now (inl e) = same-commands first p now e kept
+    by now (inr e) =
+        subst (λ (cs : List Command). Kept first (record p { commands = cs })) (sym e.3)
+        (more-command first p (Scans (map_of records)) kept (scan-accepted first records p.commands kept.accepted e.0 e.1 e.2))
+
+tick-kept : (first moment : ℕ) (p : Played) → Kept first p → Kept first (record p { commands = Ticks moment ∷ p.commands })
+tick-kept first moment p kept =
+    let a = kept.accepted in more-command first p (Ticks moment) kept (record { libraries = a.libraries; few = a.few; numbers = a.numbers })
+
+given_up-kept : (first now : ℕ) (p : Played) (o : Option ℕ) → Kept first p → Kept first (record p { commands = given_up o first now p.commands })
+given_up-kept first now p None kept = same-commands first p p.commands refl kept
+given_up-kept first now p (Some name) kept = by (lives name first now p.commands)
+  where
+    by : (b : Bool) → Kept first (record p { commands = cond b (Ends name ∷ p.commands) p.commands })
+    by true = let a = kept.accepted in more-command first p (Ends name) kept (record { libraries = a.libraries; few = a.few; numbers = a.numbers })
+    by false = same-commands first p p.commands refl kept
+
+step : (first now : ℕ) (records : List Record) (p : Played) → Kept first p → (turn : Turn) → Kept first (play first now records p turn)
+step first now records p kept (Folder path) = kept
+step first now records p kept (Track path content) = kept
+step first now records p kept Scan = scan-kept first records p kept
+step first now records p kept Load = load-kept first p kept
+step first now records p kept Read = read-kept first p kept
+step first now records p kept Ask = kept
+step first now records p kept (First number) = kept
+step first now records p kept (At moment) = tick-kept first moment p kept
+step first now records p kept Subscribe = by (has_room now p.commands (notes_of first p.commands))
+  where
+    by : (b : Bool) → Kept first (cond b
+        (record { commands = Grants now ∷ p.commands; replica = Requests ∷ p.replica; reply = Some (Some (granted p.commands + 1)) })
+        (record { commands = p.commands; replica = Requests ∷ p.replica; reply = Some None }))
+    by true = granted-kept first now p kept
+    by false = refused-kept first p kept
+step first now records p kept Accept = accept-kept first p.commands p.replica p.reply (record {
+  accepted = kept.accepted;
+  entries = kept.entries;
+  given = kept.given;
+  are = kept.are;
+  within = kept.within;
+  waits = kept.waits;
+})
+step first now records p kept Unsubscribe = given_up-kept first now p (accepted p.replica) kept
+step first now records p kept (Deliver note) =
+    note-kept first p (sent_note note (notes_of first p.commands)) (λ n e. sent-contained note (notes_of first p.commands) n e) kept
+step first now records p kept ReadFault = kept
+
+nothing-kept : (first : ℕ) → first ≤ 4294967295 → Kept first (played [])
+nothing-kept first low = record {
+  accepted = record { libraries = tt; few = tt; numbers = omega (arith, low) };
+  entries = [];
+  given = tt;
+  are = refl;
+  within = omega arith;
+  waits = tt;
+}
+
+first-kept : (turn : Turn) → number_of turn ≤ 4294967295 → Kept (number_of turn) (play 0 0 [] (played []) turn)
+first-kept (First number) low = nothing-kept number low
+first-kept (Folder path) low = nothing-kept 0 low
+first-kept (Track path content) low = nothing-kept 0 low
+first-kept Scan low = step 0 0 [] (played []) (nothing-kept 0 low) Scan
+first-kept Load low = step 0 0 [] (played []) (nothing-kept 0 low) Load
+first-kept Read low = step 0 0 [] (played []) (nothing-kept 0 low) Read
+first-kept Ask low = nothing-kept 0 low
+first-kept (At moment) low = step 0 0 [] (played []) (nothing-kept 0 low) (At moment)
+first-kept Subscribe low = step 0 0 [] (played []) (nothing-kept 0 low) Subscribe
+first-kept Accept low = step 0 0 [] (played []) (nothing-kept 0 low) Accept
+first-kept Unsubscribe low = step 0 0 [] (played []) (nothing-kept 0 low) Unsubscribe
+first-kept (Deliver note) low = step 0 0 [] (played []) (nothing-kept 0 low) (Deliver note)
+first-kept ReadFault low = nothing-kept 0 low
+
+pub turns-kept : (turns : List Turn) → first_of turns ≤ 4294967295 → Kept (first_of turns) (played turns)
+turns-kept [] low = nothing-kept 0 low
+turns-kept (turn ∷ []) low = first-kept turn low
+turns-kept (turn ∷ next ∷ older) low =
+    step (first_of (next ∷ older)) (clock_of (next ∷ older)) (records_since (next ∷ older)) (played (next ∷ older)) (turns-kept (next ∷ older) low) turn
+
+pub scripts-given : scripts_are_given
+scripts-given turns may =
+    let kept = turns-kept turns may.number in
+    record { accepted = kept.accepted; entries = kept.entries; given = kept.given; are = kept.are; within = kept.within }

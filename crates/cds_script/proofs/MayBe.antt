@@ -1,0 +1,175 @@
+-- The turns of a script may be: each may stand after the older ones, and its first number is one of the server's.
+use Rattle.std.proofs.Common.{◌≡◌, ℕ, suc, ◌+◌, ◌<◌, ◌≤◌, ◌^◌, List, [], ◌∷◌, take, Bool, true, false, cond, ◌&&◌, refl, ap, sym, subst, ◌∙◌, arith, Option, Some, None, Result, Ok, Err}
+use Rattle.std.specs.Prelude.{nat_lt, codes}
+use Rattle.std.specs.List.{AllByRecursion, list_all, cons_option}
+use Rattle.std.proofs.lemmas.Bool.{and_parts, ltb-true}
+use mathlib.Core.List.{reverse_aux}
+use Rattle.cds_base.specs.Number.{plain_below, has_leading_zero, is_number_in, value_in}
+use Rattle.cds_flac.specs.declared.info.FlacInfo.{FlacInfo}
+use Rattle.cds_object.specs.Path.{path_read}
+use Rattle.cds_object.specs.Content.{same_text}
+use Rattle.cds_model.specs.Script.{words_of, is_word, number_from_to, info_from}
+use Rattle.cds_model.specs.Played.{script_lines}
+use Rattle.cds_script.specs.declared.turn.Meaning.{Meaning}
+use Rattle.cds_script.specs.declared.turn.Meaning.TheVariants.{Nothing, Means, Outside}
+use Rattle.cds_script.specs.declared.turn.Turn.{Turn}
+use Rattle.cds_script.specs.declared.turn.Turn.TheVariants.{Scan, Load, Read, Ask, Subscribe, Accept, Unsubscribe, ReadFault}
+use Rattle.cds_script.specs.Script.{folder_turn, track_turn, plain_turn, moment_limit, first_turn, at_turn, deliver_turn, number_turn, folder_line, track_line, plain_line, turn_of, meaning_of_turn, meaning_of_words, meaning_of}
+use Rattle.cds_script.specs.Report.{number_of, first_of, may_stand}
+use Rattle.cds_script.specs.Played.{turn_in, is_within, is_answered, and_meant, answered_lines, AllStand, script_turns_may_be}
+use Rattle.cds_script.proofs.Played.{turns_in}
+
+-- ---- a first number that a line names is below its limit
+
+below-limit : (limit : ℕ) (bytes : List ℕ) (n : ℕ) → plain_below limit bytes ≡ Some n → n < limit
+below-limit limit bytes n = by (has_leading_zero bytes) (is_number_in 10 bytes) (nat_lt (value_in 10 bytes) limit) refl
+  where
+    by : (a b c : Bool) → nat_lt (value_in 10 bytes) limit ≡ c → cond a None (cond (b && c) (Some (value_in 10 bytes)) None) ≡ Some n → n < limit
+    by true b c l e = absurd (cc)
+    by false false c l e = absurd (cc)
+    by false true false l e = absurd (cc)
+    by false true true l e = let is : value_in 10 bytes ≡ n = cc in let low = ltb-true (value_in 10 bytes) limit l in omega (arith, is, low)
+
+-- a turn, if it is one, names no first number above the last
+abbrev Fine : Option Turn → Type 0
+Fine None = Unit {0}
+Fine (Some turn) = number_of turn ≤ 4294967295
+
+cond-fine : (b : Bool) (x y : Option Turn) → Fine x → Fine y → Fine (cond b x y)
+cond-fine true x y fx fy = fx
+cond-fine false x y fx fy = fy
+
+first-fine : (o : Option ℕ) → ((n : ℕ) → o ≡ Some n → n < 2 ^ 32) → Fine (first_turn o)
+first-fine None h = tt
+first-fine (Some n) h = let l : n < 4294967296 = h n refl in omega (arith, l)
+
+at-fine : (o : Option ℕ) → Fine (at_turn o)
+at-fine None = tt
+at-fine (Some n) = omega arith
+
+deliver-fine : (o : Option ℕ) → Fine (deliver_turn o)
+deliver-fine None = tt
+deliver-fine (Some n) = omega arith
+
+folder-fine : (r : Result (List (List ℕ)) ℕ) → Fine (folder_turn r)
+folder-fine (Ok path) = omega arith
+folder-fine (Err at) = tt
+
+track-fine : (r : Result (List (List ℕ)) ℕ) (size : Option ℕ) (info : Option FlacInfo) → Fine (track_turn r size info)
+track-fine (Ok path) (Some size) (Some info) = omega arith
+track-fine (Ok path) (Some size) None = tt
+track-fine (Ok path) None info = tt
+track-fine (Err at) size info = tt
+
+folder_line-fine : (words : List (List ℕ)) → Fine (folder_line words)
+folder_line-fine [] = tt
+folder_line-fine (path ∷ []) = folder-fine (path_read path)
+folder_line-fine (path ∷ next ∷ words) = tt
+
+track_line-fine : (words : List (List ℕ)) → Fine (track_line words)
+track_line-fine [] = tt
+track_line-fine (a ∷ []) = tt
+track_line-fine (a ∷ b ∷ []) = tt
+track_line-fine (a ∷ b ∷ c ∷ []) = tt
+track_line-fine (a ∷ b ∷ c ∷ d ∷ []) = tt
+track_line-fine (a ∷ b ∷ c ∷ d ∷ f ∷ []) = tt
+track_line-fine (a ∷ b ∷ c ∷ d ∷ f ∷ g ∷ []) = track-fine (path_read a) (plain_below (2 ^ 64) b)
+    (info_from (plain_below (2 ^ 20) c) (number_from_to 1 8 d) (number_from_to 1 32 f) (plain_below (2 ^ 36) g))
+track_line-fine (a ∷ b ∷ c ∷ d ∷ f ∷ g ∷ h ∷ words) = tt
+
+number-fine : (word number : List ℕ) → Fine (number_turn word number)
+number-fine word number =
+    cond-fine (same_text word (codes "first")) _ _ (first-fine (plain_below (2 ^ 32) number) (below-limit (2 ^ 32) number))
+    (cond-fine (same_text word (codes "at")) _ _ (at-fine (plain_below moment_limit number))
+    (cond-fine (same_text word (codes "deliver")) _ _ (deliver-fine (plain_below (2 ^ 32) number)) tt))
+
+plain-fine : (word : List ℕ) → Fine (plain_turn word)
+plain-fine word =
+    cond-fine (same_text word (codes "scan")) (Some Scan) _ (omega arith)
+    (cond-fine (same_text word (codes "load")) (Some Load) _ (omega arith)
+    (cond-fine (same_text word (codes "read")) (Some Read) _ (omega arith)
+    (cond-fine (same_text word (codes "ask")) (Some Ask) _ (omega arith)
+    (cond-fine (same_text word (codes "subscribe")) (Some Subscribe) _ (omega arith)
+    (cond-fine (same_text word (codes "accept")) (Some Accept) _ (omega arith)
+    (cond-fine (same_text word (codes "unsubscribe")) (Some Unsubscribe) _ (omega arith)
+    (cond-fine (same_text word (codes "readfault")) (Some ReadFault) None (omega arith) tt)))))))
+
+plain_line-fine : (word : List ℕ) (words : List (List ℕ)) → Fine (plain_line word words)
+plain_line-fine word [] = plain-fine word
+plain_line-fine word (number ∷ []) = number-fine word number
+plain_line-fine word (number ∷ next ∷ words) = tt
+
+turn-fine : (words : List (List ℕ)) → Fine (turn_of words)
+turn-fine [] = tt
+turn-fine (word ∷ words) =
+    cond-fine (same_text word (codes "folder")) (folder_line words) _ (folder_line-fine words)
+    (cond-fine (same_text word (codes "track")) (track_line words) (plain_line word words) (track_line-fine words) (plain_line-fine word words))
+
+meant-fine : (o : Option Turn) → Fine o → Fine (turn_in (meaning_of_turn o))
+meant-fine None f = tt
+meant-fine (Some turn) f = f
+
+words-fine : (words : List (List ℕ)) → Fine (turn_in (meaning_of_words words))
+words-fine words = by (list_all is_word words)
+  where
+    by : (b : Bool) → Fine (turn_in (cond b (meaning_of_turn (turn_of words)) Outside))
+    by true = meant-fine (turn_of words) (turn-fine words)
+    by false = tt
+
+line-fine : (line : List ℕ) → Fine (turn_in (meaning_of line))
+line-fine [] = tt
+line-fine (b ∷ rest) = by _
+  where
+    by : (c : Bool) → Fine (turn_in (cond c Nothing (meaning_of_words (words_of (b ∷ rest)))))
+    by true = tt
+    by false = words-fine (words_of (b ∷ rest))
+
+-- ---- the turns of answered lines
+
+abbrev AreFine : List Turn → Type 0
+AreFine turns = AllStand turns × AllByRecursion (λ turn. number_of turn ≤ 4294967295) turns
+
+and-fine : (turns : List Turn) (o : Option Turn) → Fine o → ((turn : Turn) → o ≡ Some turn → may_stand turns turn ≡ true) → AreFine turns → AreFine (and_meant o turns)
+and-fine turns None f stands all = all
+and-fine turns (Some turn) f stands all = ((stands turn refl, all.0), (f, all.1))
+
+within-stands : (turns : List Turn) (meaning : Meaning) (turn : Turn) → is_within turns meaning ≡ true → turn_in meaning ≡ Some turn → may_stand turns turn ≡ true
+within-stands turns Nothing turn w e = absurd (cc)
+within-stands turns (Means other) turn w e = let same : other ≡ turn = cc in ap (may_stand turns) (sym same) ∙ w
+within-stands turns Outside turn w e = absurd (cc)
+
+lines-fine : (turns : List Turn) (lines : List (List ℕ)) → AreFine turns → AreFine (reverse_aux (turns_in (take (answered_lines turns lines) lines)) turns)
+lines-fine turns [] all = all
+lines-fine turns (line ∷ lines) all = by (is_answered turns line) refl (λ now n f. lines-fine now lines f)
+  where
+    next : List Turn
+    next = and_meant (turn_in (meaning_of line)) turns
+
+    Later : Type 0
+    Later = (now : List Turn) → (n : ℕ) → AreFine now → AreFine (reverse_aux (turns_in (take (answered_lines now lines) lines)) now)
+
+    counted : (b : Bool) → is_answered turns line ≡ b → answered_lines turns (line ∷ lines) ≡ cond b (answered_lines next lines + 1) 0
+    counted b e = ap (λ v. cond v (answered_lines next lines + 1) 0) e
+
+    onto : (o : Option Turn) (rest : List Turn) → reverse_aux (cons_option o rest) turns ≡ reverse_aux rest (and_meant o turns)
+    onto None rest = refl
+    onto (Some turn) rest = refl
+
+    by : (b : Bool) → is_answered turns line ≡ b → Later → AreFine (reverse_aux (turns_in (take (answered_lines turns (line ∷ lines)) (line ∷ lines))) turns)
+    by true e later =
+        let one : answered_lines turns (line ∷ lines) ≡ suc (answered_lines next lines) = let c = counted true e in omega (arith, c) in
+        let within : is_within turns (meaning_of line) ≡ true = (and_parts _ _ e).1 in
+        subst AreFine
+        (sym (ap (λ n. reverse_aux (turns_in (take n (line ∷ lines))) turns) one ∙ onto (turn_in (meaning_of line)) (turns_in (take (answered_lines next lines) lines))))
+        (later next 0 (and-fine turns (turn_in (meaning_of line)) (line-fine line) (λ turn t. within-stands turns (meaning_of line) turn within t) all))
+    by false e later = subst AreFine (sym (ap (λ n. reverse_aux (turns_in (take n (line ∷ lines))) turns) (counted false e))) all
+
+first-low : (turns : List Turn) → AllByRecursion (λ turn. number_of turn ≤ 4294967295) turns → first_of turns ≤ 4294967295
+first-low [] all = omega arith
+first-low (turn ∷ []) all = all.0
+first-low (turn ∷ next ∷ older) all = first-low (next ∷ older) all.1
+
+pub turns-may_be : script_turns_may_be
+turns-may_be bytes =
+    let all = lines-fine [] (script_lines bytes) (tt, tt) in
+    record { stand = all.0; number = first-low _ all.1 }

@@ -1,0 +1,254 @@
+-- The report of a script: what its turns write, by the commands that the server accepted and by the replica's turns (this
+-- project's profile).
+use Rattle.std.specs.Prelude.{◌+◌, ◌-◌, ℕ, Bool, true, false, cond, nat_eq, nat_lt, nat_le, ◌&&◌, List, [], ◌∷◌, ◌++◌, length, take, Option, Some, None, codes}
+use Rattle.std.specs.List.{list_any}
+use Rattle.std.specs.Fmt.{decimal}
+use Rattle.cds_object.specs.Fragment.{full_text}
+use Rattle.cds_object.specs.declared.record.Record.{Record}
+use Rattle.cds_catalog.specs.Library.{map_of}
+use Rattle.cds_catalog.specs.History.{History, end_of}
+use Rattle.cds_catalog.specs.Catalog.{catalog_at}
+use Rattle.cds_catalog.specs.Scans.{ScanAnswer, Accepted, BadRecord, TooMany, NoNumbers, scan_answer}
+use Rattle.cds_model.specs.Report.{folder_record, scan_text, read_text, Ending, written_first, outside_ending, limit_ending}
+use Rattle.cds_model.specs.Script.{lines_of, ended_lines, script_limit, line_limit}
+use Rattle.cds_notes.specs.Commands.{Command, Scans, Grants, Ends, Ticks, Note, scans_of, granted, alive_names, has_room, notes_of, sent_by}
+use Rattle.cds_notes.specs.Inbox.{ReplicaTurn, Begins, Requests, Accepts, Refuses, Delivers, Arrival, IsUnknown, IsRepeat, IsTooMany, IsEarly, IsHeld, IsNext, accepted, arrival}
+use Rattle.cds_notes.specs.Follow.{known_by, next_ask, says, and_turn}
+use Rattle.cds_notes.specs.Given.{moment_after, asked_at}
+use Rattle.cds_notes.specs.declared.says.Says.{Says}
+use Rattle.cds_notes.specs.declared.says.Says.TheVariants.{Gap, BehindLoad, BehindRead, BehindVersion, Stands}
+use Rattle.cds_script.specs.Script.{meaning_of}
+use Rattle.cds_script.specs.declared.turn.Meaning.{Meaning}
+use Rattle.cds_script.specs.declared.turn.Meaning.TheVariants.{Nothing, Means, Outside}
+use Rattle.cds_script.specs.declared.turn.Turn.{Turn}
+use Rattle.cds_script.specs.declared.turn.Turn.TheVariants.{Folder, Track, Scan, Load, Read, Ask, First, At, Subscribe, Accept, Unsubscribe, Deliver, ReadFault}
+
+-- the records since the last scan, after turns of which the newest is the first
+abbrev pub records_since : List Turn → List Record
+records_since [] = []
+records_since (Folder path ∷ older) = records_since older ++ folder_record path ∷ []
+records_since (Track path content ∷ older) = records_since older ++ (record { path = path; content = content }) ∷ []
+records_since (Scan ∷ older) = []
+records_since (Load ∷ older) = records_since older
+records_since (Read ∷ older) = records_since older
+records_since (Ask ∷ older) = records_since older
+records_since (First number ∷ older) = records_since older
+records_since (At moment ∷ older) = records_since older
+records_since (Subscribe ∷ older) = records_since older
+records_since (Accept ∷ older) = records_since older
+records_since (Unsubscribe ∷ older) = records_since older
+records_since (Deliver note ∷ older) = records_since older
+records_since (ReadFault ∷ older) = records_since older
+
+-- the server's first number: the oldest turn may say it, else it is 0
+abbrev pub number_of : Turn → ℕ
+number_of (First number) = number
+number_of (Folder path) = 0
+number_of (Track path content) = 0
+number_of Scan = 0
+number_of Load = 0
+number_of Read = 0
+number_of Ask = 0
+number_of (At moment) = 0
+number_of Subscribe = 0
+number_of Accept = 0
+number_of Unsubscribe = 0
+number_of (Deliver note) = 0
+number_of ReadFault = 0
+
+abbrev pub first_of : List Turn → ℕ
+first_of [] = 0
+first_of (turn ∷ []) = number_of turn
+first_of (turn ∷ next ∷ older) = first_of (next ∷ older)
+
+-- the current moment, in milliseconds
+abbrev pub clock_of : List Turn → ℕ
+clock_of [] = 0
+clock_of (At moment ∷ older) = moment
+clock_of (Folder path ∷ older) = clock_of older
+clock_of (Track path content ∷ older) = clock_of older
+clock_of (Scan ∷ older) = clock_of older
+clock_of (Load ∷ older) = clock_of older
+clock_of (Read ∷ older) = clock_of older
+clock_of (Ask ∷ older) = clock_of older
+clock_of (First number ∷ older) = clock_of older
+clock_of (Subscribe ∷ older) = clock_of older
+clock_of (Accept ∷ older) = clock_of older
+clock_of (Unsubscribe ∷ older) = clock_of older
+clock_of (Deliver note ∷ older) = clock_of older
+clock_of (ReadFault ∷ older) = clock_of older
+
+-- what turns led to: the commands that the server accepted, the replica's turns, and the reply to a subscribe request that
+-- is held back, which is a name or a refusal
+pub record Played : Type 0 where
+  pub commands : List Command
+  pub replica : List ReplicaTurn
+  pub reply : Option (Option ℕ)
+
+-- the commands after a scan, which a refusal leaves as they were
+abbrev pub scanned : ScanAnswer → List Record → List Command → List Command
+scanned Accepted records commands = Scans (map_of records) ∷ commands
+scanned (BadRecord line) records commands = commands
+scanned (TooMany objects) records commands = commands
+scanned (NoNumbers needed) records commands = commands
+
+-- after the reply that was held back reached the replica
+abbrev pub after_reply : Option (Option ℕ) → List ReplicaTurn → List ReplicaTurn
+after_reply None turns = turns
+after_reply (Some None) turns = Refuses ∷ turns
+after_reply (Some (Some name)) turns = and_turn (Accepts name) turns
+
+-- after a note, if there is one, reached the replica
+abbrev pub after_note : Option Note → List ReplicaTurn → List ReplicaTurn
+after_note None turns = turns
+after_note (Some note) turns = and_turn (Delivers note) turns
+
+-- the note of a number among all that were sent, counted from 1
+abbrev pub sent_note : ℕ → List Note → Option Note
+sent_note number [] = None
+sent_note number (note ∷ notes) = cond (nat_eq number 1) (Some note) (cond (nat_eq number 0) None (sent_note (number - 1) notes))
+
+-- whether the subscription of a name lives at a moment, after commands from a first number on
+abbrev pub lives : ℕ → ℕ → ℕ → List Command → Bool
+lives name first now commands = list_any (nat_eq name) (alive_names now commands (notes_of first commands))
+
+-- the commands after the subscription of a name was given up, if there is one and it lives
+abbrev pub given_up : Option ℕ → ℕ → ℕ → List Command → List Command
+given_up None first now commands = commands
+given_up (Some name) first now commands = cond (lives name first now commands) (Ends name ∷ commands) commands
+
+-- what a turn leads to, after the older ones
+abbrev pub play : ℕ → ℕ → List Record → Played → Turn → Played
+play first now records p (Folder path) = p
+play first now records p (Track path content) = p
+play first now records p Scan = record p { commands = scanned (scan_answer (scans_of first p.commands) records) records p.commands }
+play first now records p Load = record p { replica = Begins ∷ p.replica }
+play first now records p Read = record p { replica = asked_at (moment_after first p.commands) p.replica (next_ask (known_by p.replica)) }
+play first now records p Ask = p
+play first now records p (First number) = p
+play first now records p (At moment) = record p { commands = Ticks moment ∷ p.commands }
+play first now records p Subscribe =
+    cond (has_room now p.commands (notes_of first p.commands))
+    (record { commands = Grants now ∷ p.commands; replica = Requests ∷ p.replica; reply = Some (Some (granted p.commands + 1)) })
+    (record { commands = p.commands; replica = Requests ∷ p.replica; reply = Some None })
+play first now records p Accept = record { commands = p.commands; replica = after_reply p.reply p.replica; reply = None }
+play first now records p Unsubscribe = record p { commands = given_up (accepted p.replica) first now p.commands }
+play first now records p (Deliver note) = record p { replica = after_note (sent_note note (notes_of first p.commands)) p.replica }
+play first now records p ReadFault = p
+
+abbrev pub played : List Turn → Played
+played [] = record { commands = []; replica = []; reply = None }
+played (turn ∷ older) = play (first_of older) (clock_of older) (records_since older) (played older) turn
+
+-- the history of the accepted scans
+abbrev pub history_of : List Turn → History
+history_of turns = scans_of (first_of turns) (played turns).commands
+
+-- what notes that were sent write, the first of which has this number
+abbrev pub notes_text : ℕ → List Note → List ℕ
+notes_text number [] = []
+notes_text number (note ∷ notes) =
+    codes "note " ++ decimal number ++ codes " seq " ++ decimal note.seq ++ codes " at " ++ decimal note.number ++ codes "\n"
+    ++ notes_text (number + 1) notes
+
+-- what the notes that a command sends write, after the older ones
+abbrev pub sent_text : ℕ → List Command → Command → List ℕ
+sent_text first older command = notes_text (length (notes_of first older) + 1) (sent_by first older (notes_of first older) command)
+
+-- what the reply that was held back writes
+abbrev pub accept_text : Option (Option ℕ) → List ℕ
+accept_text None = codes "accept none\n"
+accept_text (Some None) = codes "accept 503\n"
+accept_text (Some (Some name)) = codes "accept 200\n"
+
+-- what giving up the subscription of a name writes
+abbrev pub unsubscribe_text : Option ℕ → ℕ → ℕ → List Command → List ℕ
+unsubscribe_text None first now commands = codes "unsubscribe none\n"
+unsubscribe_text (Some name) first now commands = cond (lives name first now commands) (codes "unsubscribe 200\n") (codes "unsubscribe 412\n")
+
+-- what a delivered note writes
+abbrev pub arrival_text : Arrival → List ℕ
+arrival_text IsUnknown = codes "unknown"
+arrival_text IsRepeat = codes "repeat"
+arrival_text (IsTooMany held) = codes "full " ++ decimal held
+arrival_text IsEarly = codes "early"
+arrival_text (IsHeld seq) = codes "held " ++ decimal seq
+arrival_text IsNext = codes "took"
+
+abbrev pub deliver_text : ℕ → Option Note → List ReplicaTurn → List ℕ
+deliver_text number None turns = []
+deliver_text number (Some note) turns = codes "deliver " ++ decimal number ++ codes " " ++ arrival_text (arrival note turns) ++ codes "\n"
+
+-- what an answer writes: after `stands` and a number, each row of the catalog that the folder records up to this number
+-- give
+abbrev pub answer_text : History → Says → List ℕ
+answer_text history (Gap seq) = codes "gap " ++ decimal seq ++ codes "\n"
+answer_text history BehindLoad = codes "behind load\n"
+answer_text history (BehindRead id) = codes "behind read " ++ decimal id ++ codes "\n"
+answer_text history (BehindVersion number) = codes "behind version " ++ decimal number ++ codes "\n"
+answer_text history (Stands number) =
+    codes "stands " ++ decimal number ++ codes "\n" ++ full_text (catalog_at history.first history.maps number)
+
+-- what a turn writes, after the older ones
+abbrev pub written : ℕ → ℕ → List Record → Played → Turn → List ℕ
+written first now records p (Folder path) = []
+written first now records p (Track path content) = []
+written first now records p Scan =
+    scan_text (end_of (scans_of first (scanned (scan_answer (scans_of first p.commands) records) records p.commands)))
+    (scan_answer (scans_of first p.commands) records)
+written first now records p Load = []
+written first now records p Read = read_text (moment_after first p.commands) (next_ask (known_by p.replica))
+written first now records p Ask = answer_text (scans_of first p.commands) (says p.replica)
+written first now records p (First number) = []
+written first now records p (At moment) = sent_text first p.commands (Ticks moment)
+written first now records p Subscribe = cond (has_room now p.commands (notes_of first p.commands)) (sent_text first p.commands (Grants now)) []
+written first now records p Accept = accept_text p.reply
+written first now records p Unsubscribe = unsubscribe_text (accepted p.replica) first now p.commands
+written first now records p (Deliver note) = deliver_text note (sent_note note (notes_of first p.commands)) p.replica
+written first now records p ReadFault = codes "readfault\n"
+
+abbrev pub written_by : List Turn → Turn → List ℕ
+written_by older turn = written (first_of older) (clock_of older) (records_since older) (played older) turn
+
+-- whether a turn may stand after the older ones, or its line is outside the grammar: the first number comes before all else,
+-- moments never fall, and a note that is delivered was sent
+abbrev pub may_stand : List Turn → Turn → Bool
+may_stand older (First number) = nat_eq (length older) 0
+may_stand older (At moment) = nat_le (clock_of older) moment
+may_stand older (Deliver note) = nat_lt 0 note && nat_le note (length (notes_of (first_of older) (played older).commands))
+may_stand older (Folder path) = true
+may_stand older (Track path content) = true
+may_stand older Scan = true
+may_stand older Load = true
+may_stand older Read = true
+may_stand older Ask = true
+may_stand older Subscribe = true
+may_stand older Accept = true
+may_stand older Unsubscribe = true
+may_stand older ReadFault = true
+
+-- how a script goes on at a line, by what it means: after these turns, at the line of this number, with what comes after
+-- further turns
+abbrev pub ending_at : Meaning → List Turn → ℕ → (List Turn → Ending) → Ending
+ending_at Nothing turns number go_on = go_on turns
+ending_at (Means turn) turns number go_on =
+    cond (may_stand turns turn) (written_first (written_by turns turn) (go_on (turn ∷ turns))) (outside_ending number)
+ending_at Outside turns number go_on = outside_ending number
+
+-- how a script ends after turns, where the first of the lines that are left has this number; the last part says whether
+-- the script ends with these lines, or passes its limit
+abbrev pub ending_from : List Turn → ℕ → List (List ℕ) → Bool → Ending
+ending_from turns number [] whole = cond whole (record { status = 0; text = [] }) limit_ending
+ending_from turns number (line ∷ lines) whole =
+    cond (nat_lt line_limit (length line)) limit_ending
+    (ending_at (meaning_of line) turns number (λ now. ending_from now (number + 1) lines whole))
+
+-- how a script goes on after turns, at the line of this number, where so many bytes more may be taken: the lines before
+-- a broken one are answered, and of a script that is too long those that ended before the limit was passed
+abbrev pub ending_of : List Turn → ℕ → ℕ → List ℕ → Ending
+ending_of turns number room bytes =
+    cond (nat_le (length bytes) room) (ending_from turns number (lines_of bytes) true)
+    (ending_from turns number (ended_lines (take room bytes)) false)
+
+unfoldable pub script_ending : List ℕ → Ending
+script_ending bytes = ending_of [] 1 script_limit bytes

@@ -1,0 +1,100 @@
+-- What each line of a script means (this project's profile). Its lines and the words of a line are those of scripts without
+-- notes.
+use Rattle.std.specs.Prelude.{◌^◌, ℕ, cond, nat_eq, List, [], ◌∷◌, Option, Some, None, Result, Ok, Err, codes}
+use Rattle.std.specs.List.{list_all}
+use Rattle.cds_base.specs.Number.{plain_below}
+use Rattle.cds_flac.specs.declared.info.FlacInfo.{FlacInfo}
+use Rattle.cds_object.specs.Path.{path_read, name_of}
+use Rattle.cds_object.specs.Content.{same_text}
+use Rattle.cds_object.specs.ContentOf.{track_of}
+use Rattle.cds_model.specs.Script.{words_of, is_word, number_from_to, info_from}
+use Rattle.cds_script.specs.declared.turn.Turn.{Turn}
+use Rattle.cds_script.specs.declared.turn.Turn.TheVariants.{Folder, Track, Scan, Load, Read, Ask, First, At, Subscribe, Accept, Unsubscribe, Deliver, ReadFault}
+use Rattle.cds_script.specs.declared.turn.Meaning.{Meaning}
+use Rattle.cds_script.specs.declared.turn.Meaning.TheVariants.{Nothing, Means, Outside}
+
+-- the turn of a folder at a place, if the word is one
+abbrev pub folder_turn : Result (List (List ℕ)) ℕ → Option Turn
+folder_turn (Err at) = None
+folder_turn (Ok path) = Some (Folder path)
+
+-- the turn of a track, if its words are a place, the file's size in bytes and what the file says
+abbrev pub track_turn : Result (List (List ℕ)) ℕ → Option ℕ → Option FlacInfo → Option Turn
+track_turn (Ok path) (Some size) (Some info) = Some (Track path (track_of info (name_of path) size))
+track_turn path size info = None
+
+-- the turn of a line of one word
+abbrev pub plain_turn : List ℕ → Option Turn
+plain_turn word =
+    cond (same_text word (codes "scan")) (Some Scan)
+    (cond (same_text word (codes "load")) (Some Load)
+    (cond (same_text word (codes "read")) (Some Read)
+    (cond (same_text word (codes "ask")) (Some Ask)
+    (cond (same_text word (codes "subscribe")) (Some Subscribe)
+    (cond (same_text word (codes "accept")) (Some Accept)
+    (cond (same_text word (codes "unsubscribe")) (Some Unsubscribe)
+    (cond (same_text word (codes "readfault")) (Some ReadFault) None)))))))
+
+-- a moment is below this one, in milliseconds: no subscription runs out before it
+abbrev pub moment_limit : ℕ
+moment_limit = 1800000
+
+-- the turns of lines that name a number, if they do
+abbrev pub first_turn : Option ℕ → Option Turn
+first_turn None = None
+first_turn (Some number) = Some (First number)
+
+abbrev pub at_turn : Option ℕ → Option Turn
+at_turn None = None
+at_turn (Some moment) = Some (At moment)
+
+abbrev pub deliver_turn : Option ℕ → Option Turn
+deliver_turn None = None
+deliver_turn (Some note) = Some (Deliver note)
+
+-- the turn of a line of a word and a number
+abbrev pub number_turn : List ℕ → List ℕ → Option Turn
+number_turn word number =
+    cond (same_text word (codes "first")) (first_turn (plain_below (2 ^ 32) number))
+    (cond (same_text word (codes "at")) (at_turn (plain_below moment_limit number))
+    (cond (same_text word (codes "deliver")) (deliver_turn (plain_below (2 ^ 32) number)) None))
+
+-- the turn of a line that begins with `folder`, by its other words
+abbrev pub folder_line : List (List ℕ) → Option Turn
+folder_line (path ∷ []) = folder_turn (path_read path)
+folder_line words = None
+
+-- the turn of a line that begins with `track`, by its other words
+abbrev pub track_line : List (List ℕ) → Option Turn
+track_line (path ∷ size ∷ rate ∷ channels ∷ bits ∷ samples ∷ []) =
+    track_turn (path_read path) (plain_below (2 ^ 64) size)
+    (info_from (plain_below (2 ^ 20) rate) (number_from_to 1 8 channels) (number_from_to 1 32 bits) (plain_below (2 ^ 36) samples))
+track_line words = None
+
+-- the turn of a line that is one word alone, or a word and a number
+abbrev pub plain_line : List ℕ → List (List ℕ) → Option Turn
+plain_line word [] = plain_turn word
+plain_line word (number ∷ []) = number_turn word number
+plain_line word (number ∷ next ∷ words) = None
+
+-- the turn of a line, by its words
+abbrev pub turn_of : List (List ℕ) → Option Turn
+turn_of [] = None
+turn_of (word ∷ words) =
+    cond (same_text word (codes "folder")) (folder_line words)
+    (cond (same_text word (codes "track")) (track_line words) (plain_line word words))
+
+-- what a turn that may be none means
+abbrev pub meaning_of_turn : Option Turn → Meaning
+meaning_of_turn None = Outside
+meaning_of_turn (Some turn) = Means turn
+
+-- what the parts of a line mean: a turn, where each is a word and together they are a turn's; else the line is outside the
+-- grammar
+abbrev pub meaning_of_words : List (List ℕ) → Meaning
+meaning_of_words words = cond (list_all is_word words) (meaning_of_turn (turn_of words)) Outside
+
+-- what a line means: nothing, where it is empty or begins with `#`; else what its parts mean
+abbrev pub meaning_of : List ℕ → Meaning
+meaning_of [] = Nothing
+meaning_of (b ∷ rest) = cond (nat_eq b 35) Nothing (meaning_of_words (words_of (b ∷ rest)))

@@ -1,0 +1,75 @@
+-- The replica of a script is one of an honest server, whose commands are those that the script's turns gave it; and what follows
+-- for the script's turns: nothing is refused, what stands is a scan end, and the answer is complete.
+use Rattle.std.specs.Prelude.{◌≡◌, ◌≤◌, ℕ, true, List, ◌∷◌, ◌++◌, length, Some, None, codes}
+use Rattle.std.specs.List.{AllByRecursion}
+use Rattle.std.specs.Fmt.{decimal}
+use Rattle.cds_object.specs.Fragment.{full_text}
+use Rattle.cds_catalog.specs.History.{end_of}
+use Rattle.cds_catalog.specs.Catalog.{catalog}
+use Rattle.cds_model.specs.Server.{reply_to}
+use Rattle.cds_model.specs.Stood.{IsScanEnd}
+use Rattle.cds_model.specs.declared.exchange.Ask.{Ask as Asked}
+use Rattle.cds_notes.specs.Commands.{Note, notes_of, released_to, releases_of}
+use Rattle.cds_notes.specs.Inbox.{Accepts, Delivers, accepted, received, has_seq, taken_by}
+use Rattle.cds_notes.specs.Follow.{Known, Knows, known_by, next_ask, with_reply, with_notes, says, copied}
+use Rattle.cds_notes.specs.Given.{Entry, moment_after, given_by, latest_length, AreAccepted, IsGiven}
+use Rattle.cds_notes.specs.HonestLaws.{load_was_begun}
+use Rattle.cds_notes.specs.declared.says.Says.TheVariants.{Stands}
+use Rattle.cds_script.specs.declared.turn.Turn.{Turn}
+use Rattle.cds_script.specs.declared.turn.Turn.TheVariants.{Ask}
+use Rattle.cds_script.specs.Report.{first_of, clock_of, sent_note, lives, played, history_of, written_by}
+use Rattle.cds_script.specs.Played.{MayBe}
+
+-- the commands that turns gave the server are accepted ones, and the replica's turns are what an honest server gives, each at a
+-- length of the list of these commands
+pub record AreGiven (turns : List Turn) : Type 0 where
+  pub accepted : AreAccepted (first_of turns) (played turns).commands
+  pub entries : List Entry
+  pub given : IsGiven (first_of turns) (played turns).commands entries
+  pub are : (played turns).replica ≡ given_by (first_of turns) (played turns).commands entries
+  pub within : latest_length entries ≤ length (played turns).commands
+
+abbrev pub scripts_are_given : Type 0
+scripts_are_given = (turns : List Turn) → MayBe turns → AreGiven turns
+
+-- what may come after turns is taken: the reply to the next read, the notes that came early for the name whose reply is held
+-- back, and each note that was sent, with those that follow it. None cannot be read, jumps over a change, or tells what cannot be
+pub record AreTaken (turns : List Turn) : Type 0 where
+  pub reads : (ask : Asked) → next_ask (known_by (played turns).replica) ≡ Some ask →
+      (now : Known) × (with_reply (known_by (played turns).replica) (known_by (played turns).replica).held
+      (reply_to (moment_after (first_of turns) (played turns).commands) ask) ≡ Knows now)
+  pub names : (name : ℕ) → (played turns).reply ≡ Some (Some name) →
+      (now : Known) × (with_notes (taken_by (Accepts name) (played turns).replica) (known_by (played turns).replica) ≡ Knows now)
+  pub notes : (number : ℕ) (note : Note) → sent_note number (notes_of (first_of turns) (played turns).commands) ≡ Some note →
+      (now : Known) × (with_notes (taken_by (Delivers note) (played turns).replica) (known_by (played turns).replica) ≡ Knows now)
+
+abbrev pub nothing_is_refused : Type 0
+nothing_is_refused = (turns : List Turn) → MayBe turns → AreTaken turns
+
+-- each ask among turns whose answer is a number writes `stands`, the number and the rows of the copy; the number is a scan
+-- end of the scans that were accepted by then, and the rows are the catalog after the scans up to it
+abbrev pub StandsAtScanEnds : List Turn → Type 0
+StandsAtScanEnds turns = (newer older : List Turn) (number : ℕ) → turns ≡ newer ++ Ask ∷ older →
+    says (played older).replica ≡ Stands number →
+    IsScanEnd (history_of older) number (copied (known_by (played older).replica))
+    × (written_by older Ask ≡ codes "stands " ++ decimal number ++ codes "\n" ++ full_text (copied (known_by (played older).replica)))
+
+abbrev pub all_turns_stand_at_scan_ends : Type 0
+all_turns_stand_at_scan_ends = (turns : List Turn) → MayBe turns → StandsAtScanEnds turns
+
+-- a load was begun, the subscription that was accepted last lives, each note that was sent to it was received, no change waits
+-- for its release, and nothing is to be read
+pub record IsComplete (turns : List Turn) (name : ℕ) : Type 0 where
+  pub begun : load_was_begun (played turns).replica ≡ true
+  pub named : accepted (played turns).replica ≡ Some name
+  pub alive : lives name (first_of turns) (clock_of turns) (played turns).commands ≡ true
+  pub all : AllByRecursion (λ (note : Note). note.name ≡ name → has_seq (received (played turns).replica) note.seq ≡ true)
+      (notes_of (first_of turns) (played turns).commands)
+  pub released : released_to (first_of turns) (releases_of (first_of turns) (played turns).commands) ≡ end_of (history_of turns)
+  pub nothing : next_ask (known_by (played turns).replica) ≡ None
+
+-- then the replica stands at the server's number, and an ask writes this and the catalog after all scans
+abbrev pub answers_are_complete : Type 0
+answers_are_complete = (turns : List Turn) (name : ℕ) → MayBe turns → IsComplete turns name →
+    (says (played turns).replica ≡ Stands (end_of (history_of turns)))
+    × (written_by turns Ask ≡ codes "stands " ++ decimal (end_of (history_of turns)) ++ codes "\n" ++ full_text (catalog (history_of turns)))
