@@ -103,7 +103,7 @@ module _ (first : ℕ) (p : Played) (kept : Kept first p) where
   now-serves : IsServed Stood m
   now-serves =
       subst (λ (cs : List Command). IsServed Stood (moment_after first cs)) (oldest-all p.commands)
-      (server-serves (served first p.commands) n (commands-serve first p.commands kept.accepted))
+      (server-serves (served first p.commands) n (commands-serve first p.commands kept.accepted.libraries))
 
   held-given : IsHeldGiven Stood (known_by p.replica).held
   held-given =

@@ -83,7 +83,7 @@ module _ (first : ℕ) (command : Command) (commands : List Command) where
       )
   given-more (Denied k ∷ older) given low =
       let under = given.0 in let rest = given-more older given.2 (omega (arith, under, low)) in
-      ((given.0, ap is_out rest.1 ∙ given.1, rest.0), ap (λ turns. Refuses ∷ turns) rest.1)
+      ((given.0, tt, rest.0), ap (λ turns. Refuses ∷ turns) rest.1)
   given-more (Gets k note ∷ older) given low =
       let under = given.0 in let rest = given-more older given.2 (omega (arith, under, low)) in
       ((given.0, subst (λ (cs : List Command). Contains (notes_of first cs) note) (sym (oldest-more k command commands low)) given.1, rest.0), ap (and_turn (Delivers note)) rest.1)
@@ -282,7 +282,7 @@ accept-kept first commands replica None kept = record {
 accept-kept first commands replica (Some None) kept = record {
   accepted = kept.accepted;
   entries = Denied (length commands) ∷ kept.entries;
-  given = (kept.within, ap is_out (sym kept.are) ∙ kept.waits, kept.given);
+  given = (kept.within, tt, kept.given);
   are = ap (λ turns. Refuses ∷ turns) kept.are;
   within = omega arith;
   waits = tt;

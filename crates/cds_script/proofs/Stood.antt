@@ -149,7 +149,7 @@ stands-complete : (first now name : ℕ) (p : Played) → Kept first p → load_
     says p.replica ≡ Stands (end_of (scans_of first p.commands))
 stands-complete first now name p kept begun named alive all released nothing =
     ap says are
-    ∙ answers-complete first p.commands (Asks (length p.commands)) kept.entries name now kept.accepted (kept.within, tt, kept.given) (omega arith)
+    ∙ answers-complete first p.commands (Asks (length p.commands)) kept.entries name now kept.accepted (kept.within, tt, kept.given)
     (ap load_was_begun (sym are) ∙ begun) (ap accepted (sym are) ∙ named) (any-contained name (alive_names now p.commands (notes_of first p.commands)) alive)
     (subst (λ (turns : List ReplicaTurn). AllByRecursion (λ (note : Note). note.name ≡ name → has_seq (received turns) note.seq ≡ true) (notes_of first p.commands)) are all)
     released (ap (λ turns. next_ask (known_by turns)) (sym are) ∙ nothing)
