@@ -1,3 +1,5 @@
+pub mod Ids
+pub mod ContainerNumbers
 pub mod Numbers
 pub mod Within
 pub mod Spans

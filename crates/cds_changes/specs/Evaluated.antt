@@ -55,3 +55,12 @@ abbrev pub span_of_two_scans : Type 0
 span_of_two_scans = let h : History = record { first = 0; maps = three_tracks ∷ two_tracks ∷ ((codes "x" ∷ [], a_track 1) ∷ []) ∷ [] } in
     (events_between h 1 3 ≡ ObjAdd 2 2 false 0 Track ∷ ObjAdd 3 3 false 0 Track ∷ [])
     × (containers_between h 1 3 ≡ (0, 3) ∷ [])
+
+-- a folder that comes and goes with its track within one span is told by its events, but it is none of the containers of the
+-- span: the root alone is
+abbrev pub what_comes_and_goes : Type 0
+what_comes_and_goes = let h : History = record { first = 10; maps = [] ∷ one_folder ∷ [] } in
+    (events_between h 10 14
+    ≡ ObjAdd 1 11 true 0 Container ∷ ObjAdd 2 12 true 1 Track ∷ StDone 1 12 ∷ ObjDel 2 13 true ∷ ObjDel 1 14 true ∷ StDone 1 14 ∷ [])
+    × (containers_between h 10 14 ≡ (0, 14) ∷ [])
+    × (containers_between h 10 12 ≡ (0, 11) ∷ (1, 12) ∷ [])

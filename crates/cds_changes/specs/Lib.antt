@@ -1,3 +1,4 @@
+pub mod ContainerLaws
 pub mod Containers
 pub mod Events
 pub mod Evaluated

@@ -26,3 +26,8 @@ pub fn nested_subtrees()
 pub fn span_of_two_scans()
     ensures { evaluated.span_of_two_scans }
 {}
+
+/// A folder that comes and goes within a span is none of its containers.
+pub fn what_comes_and_goes()
+    ensures { evaluated.what_comes_and_goes }
+{}

@@ -98,7 +98,7 @@ row-once f named p a (suc n) name = by (p a) (row-once f named p (a + 1) n name)
     by true r = here (nat_eq (f a).name name) refl r
     by false r = r
 
-sent-once : (first : ℕ) (older : List Command) (command : Command) (name : ℕ) → next_seq_of name (sent_by first older (notes_of first older) command) ≤ 1
+pub sent-once : (first : ℕ) (older : List Command) (command : Command) (name : ℕ) → next_seq_of name (sent_by first older (notes_of first older) command) ≤ 1
 sent-once first older (Scans library) name = omega arith
 sent-once first older (Ends other) name = omega arith
 sent-once first older (Grants moment) name = by (nat_eq (granted older + 1) name)

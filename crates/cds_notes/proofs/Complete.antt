@@ -1,6 +1,6 @@
 -- The answer is complete: where every note was received, all is released and nothing is to be read, the replica stands at the
 -- server's number.
-use Rattle.std.proofs.Common.{◌≡◌, ◌⊎◌, inl, inr, ◌-◌, ◌<◌, ◌≤◌, ℕ, Bool, true, false, cond, not, ◌&&◌, ◌||◌, nat_eq, nat_lt, List, [], ◌∷◌, ◌++◌, length, drop, Option, Some, None, is_some, refl, sym, ap, ◌∙◌, subst, arith, true≢false, le-ltb, ltb-true}
+use Rattle.std.proofs.Common.{◌≡◌, ◌⊎◌, inl, inr, ◌+◌, ◌-◌, ◌<◌, ◌≤◌, ℕ, Bool, true, false, cond, not, ◌&&◌, ◌||◌, nat_eq, nat_lt, List, [], ◌∷◌, ◌++◌, length, drop, Option, Some, None, is_some, refl, sym, ap, ◌∙◌, subst, arith, true≢false, le-ltb, ltb-true}
 use Rattle.std.specs.Option.{option_map}
 use Rattle.std.specs.List.{AllByRecursion, range_with_len}
 use Rattle.std.proofs.lemmas.Bool.{cases_lt}
@@ -26,7 +26,7 @@ use Rattle.cds_notes.proofs.Chain.{note-among, every-seq}
 use Rattle.cds_notes.proofs.CopyOf.{IsCopy}
 use Rattle.cds_notes.proofs.Stages.{Stage, past-low}
 use Rattle.cds_notes.proofs.Heard.{knows-is, counted-stays, notes-leave}
-use Rattle.cds_notes.proofs.Honest.{IsServed, entries-served}
+use Rattle.cds_notes.proofs.Honest.{IsServed, served-later, entries-served}
 
 -- ---- a load that was begun is not idle
 
@@ -312,13 +312,15 @@ past-runs moment None e = e
 past-runs moment (Some until) e = refl
 
 pub answers-complete : honest_answers_are_complete
-answers-complete first commands newest older name now given-accepted given whole begun named lives all released nothing =
+answers-complete first commands newest older name now given-accepted given begun named lives all released nothing =
     let turns : List ReplicaTurn = given_by first commands (newest ∷ older) in
     let f = filter-among (λ (n : ℕ). is_alive n now commands && nat_lt (next_seq_of n (notes_of first commands)) seq_limit) (range_with_len 1 (granted commands)) name
     (among-contained (alive_names now commands (notes_of first commands)) name lives) in
     let row = row-among 1 (granted commands) name f.0 in
     let high = row.1 in
     let both = both-hold (is_alive name now commands) (nat_lt (next_seq_of name (notes_of first commands)) seq_limit) f.1 in
-    complete first commands given-accepted (length_at newest) turns name (entries-served first commands given-accepted (newest ∷ older) given) whole named
+    complete first commands given-accepted (length_at newest + length commands) turns name
+    (served-later first commands given-accepted (length_at newest) (length_at newest + length commands) turns (omega arith)
+    (entries-served first commands given-accepted (newest ∷ older) given)) (omega arith) named
     row.0 (omega (arith, high)) (past-runs now (runs_until name commands) both.0)
     (ltb-true (next_seq_of name (notes_of first commands)) seq_limit both.1) all released (begun-busy turns begun) nothing

@@ -66,12 +66,12 @@ same-row o one other e f = let s : Some one ≡ Some other = sym e ∙ f in cc
 
 module _ (first : ℕ) (commands : List Command) (accepted : AreAccepted first commands) where
   rises : (j : ℕ) → Rises id_of (served first commands j).rows
-  rises j = ascend-rises (served first commands j).rows ((serves first commands accepted).trees j).ascending
+  rises j = ascend-rises (served first commands j).rows ((serves first commands accepted.libraries).trees j).ascending
 
   -- no row's objectUpdateID is above the number
   row-within : (j id : ℕ) (row : ObjectRow) → row_of id (served first commands j).rows ≡ Some row → row.object_update ≤ (served first commands j).number
   row-within j id row e =
-      let p = pair first commands accepted j j (omega arith) in
+      let p = pair first commands accepted.libraries j j (omega arith) in
       let all = rows_are_within-proof (record { first = first; maps = p.older }) (older_are_libraries p.newer p.older p.libraries) in
       let within = all-at (IsWithin (standing_of (record { first = first; maps = p.older }))) id (catalog (record { first = first; maps = p.older })) row all.0
       (subst (λ (rows : List ObjectRow). row_of id rows ≡ Some row) (ap catalog p.early) e) in
@@ -103,12 +103,12 @@ module _ (first : ℕ) (commands : List Command) (accepted : AreAccepted first c
       by (inl l) =
           let most = row-within from.0 id shown from.2.1 in
           let number = update in
-          let then = settled first commands accepted from.0 at id row (omega (arith, l)) e (omega (arith, low, most, number)) in
+          let then = settled first commands accepted.libraries from.0 at id row (omega (arith, l)) e (omega (arith, low, most, number)) in
           let same = same-row (row_of id (served first commands from.0).rows) then.0 shown then.1 from.2.1 in
           is ∙ both shown row (ap (λ (r : ObjectRow). r.content) (sym same) ∙ then.2) (ap (λ (r : ObjectRow). r.object_update) (sym same) ∙ then.3)
       by (inr l) =
           let number = update in
-          let then = settled first commands accepted at from.0 id shown l from.2.1 (omega (arith, high, number)) in
+          let then = settled first commands accepted.libraries at from.0 id shown l from.2.1 (omega (arith, high, number)) in
           let same = same-row (row_of id (served first commands at).rows) then.0 row then.1 e in
           is ∙ both shown row (sym then.2 ∙ ap (λ (r : ObjectRow). r.content) same) (sym then.3 ∙ ap (λ (r : ObjectRow). r.object_update) same)
 
@@ -153,7 +153,7 @@ module _ (first : ℕ) (commands : List Command) (accepted : AreAccepted first c
     comes = comes-weaker (ComesFrom first commands j) (ComesFrom first commands k) (λ id v c. (c.0, (let w = c.1 in omega (arith, w, l)), c.2)) (rows_after rows happenings) copy.comes;
     bounded = copy.bounded;
     fresh = copy.fresh;
-    read = let low = copy.read in let rise = risen first commands accepted j k l in omega (arith, low, rise);
+    read = let low = copy.read in let rise = risen first commands accepted.libraries j k l in omega (arith, low, rise);
   }
 
   -- ---- a copy goes on with what is told
@@ -169,7 +169,7 @@ module _ (first : ℕ) (commands : List Command) (accepted : AreAccepted first c
     stays : j < copy.at → Goes events
     unfolding Goes
     stays m =
-        let rise = risen first commands accepted j copy.at (omega (arith, m)) in
+        let rise = risen first commands accepted.libraries j copy.at (omega (arith, m)) in
         let here = copy.here in
         let low = ahead in
         let same : (served first commands j).number ≡ position = omega (arith, rise, here, low) in
@@ -202,7 +202,7 @@ module _ (first : ℕ) (commands : List Command) (accepted : AreAccepted first c
         told = told_between first commands (served first commands copy.at).number (served first commands j).number
 
         led : LeadsTo (rows_after rows happenings) told (served first commands j).rows
-        led = served-leads first commands accepted copy.at j m (rows_after rows happenings) copy.like
+        led = served-leads first commands accepted.libraries accepted.numbers copy.at j m (rows_after rows happenings) copy.like
 
         after : rows_after rows (befalling told ++ happenings) ≡ changed_by (rows_after rows happenings) told
         after = rows-befalling rows told happenings
@@ -213,7 +213,7 @@ module _ (first : ℕ) (commands : List Command) (accepted : AreAccepted first c
           where
             is : (row.object_update ≤ (served first commands copy.at).number → AllByRecursion (λ (h : Happening). deletes id h ≡ false) (befalling told))
                 × ((served first commands copy.at).number < row.object_update → list_any (nat_eq row.object_update) (filter_map (marks id) (since_deletion id (befalling told))) ≡ true)
-            is = told-of first commands accepted copy.at j id row m e
+            is = told-of first commands accepted.libraries copy.at j id row m e
 
             on : (before : KnownRow) → known.says ≡ before.says → (u : ℕ) → u ≡ row.object_update → AllByRecursion (λ (h : Happening). deletes id h ≡ false) (befalling told)
                 → ((w : Version) × (before.says ≡ Some w) × (u ≤ w.object_update)) ⊎ (is_marked id u happenings ≡ true) → IsFresh id row known (befalling told ++ happenings)
@@ -223,7 +223,7 @@ module _ (first : ℕ) (commands : List Command) (accepted : AreAccepted first c
             by : ((served first commands copy.at).number < row.object_update) ⊎ (row.object_update ≤ (served first commands copy.at).number) → IsFresh id row known (befalling told ++ happenings)
             by (inl high) = inr (marked-more id row.object_update (befalling told) happenings (is.1 high))
             by (inr low) =
-                let then = settled first commands accepted copy.at j id row m e low in
+                let then = settled first commands accepted.libraries copy.at j id row m e low in
                 let before = like-known (rows_after rows happenings) (served first commands copy.at).rows id then.0 copy.like then.1 in
                 let kept = keeps-changes id told (rows_after rows happenings) led.0 (none-deleted id told (is.0 low)) before.0 before.1 in
                 let same = same-known (known_of id (rows_after rows (befalling told ++ happenings))) known kept.0 f (ap (known_of id) after ∙ kept.1) in

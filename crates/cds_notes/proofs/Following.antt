@@ -329,7 +329,7 @@ module _ (first : ℕ) (commands : List Command) (accepted : AreAccepted first c
       → IsGiven (StoodAt (served first commands) k) held → load_ask held ≡ Some ask
       → Follows first commands k (loaded known (taken held (reply_to (served first commands k) ask)))
   load-follows k held known ask f loading given asks =
-      let t = reply-given (StoodAt (served first commands) k) (served first commands k) (server-serves (served first commands) k (serves first commands accepted)) held ask asks given in
+      let t = reply-given (StoodAt (served first commands) k) (served first commands k) (server-serves (served first commands) k (serves first commands accepted.libraries)) held ask asks given in
       let low = loading.before-position in
       let most = past-low first commands accepted k (position known) f.past in
       let bounds = taken-bounds loading.from (served first commands k).number held t.0 (reply_to (served first commands k) ask) (omega (arith, low, most))
@@ -375,7 +375,7 @@ module _ (first : ℕ) (commands : List Command) (accepted : AreAccepted first c
       by (Some row) e =
           let there = unread-known first commands accepted rows known.happenings copy.possible id (least-is-unread first commands accepted known.happenings id unread) in
           let was = known-like (rows_after rows known.happenings) (served first commands copy.at).rows id there.0 copy.like there.1 in
-          let one = one-id first commands accepted copy.at k id row was.0 copy.within e was.1 in
+          let one = one-id first commands accepted.libraries copy.at k id row was.0 copy.within e was.1 in
           let kind : is_folder row.content ≡ there.0.folder = sym one.1 ∙ sym was.2.folder in
           let is : is_of id row (known_of id (rows_after rows known.happenings)) ≡ true =
           ap (is_of id row) there.1

@@ -193,7 +193,7 @@ module _ (first : ℕ) (commands : List Command) (accepted : AreAccepted first c
     pub following : IsFollowing first commands k (known_by turns)
     pub hearing : IsHearing first commands k turns (known_by turns).heard
 
-  served-later : (j k : ℕ) (turns : List ReplicaTurn) → j ≤ k → IsServed j turns → IsServed k turns
+  pub served-later : (j k : ℕ) (turns : List ReplicaTurn) → j ≤ k → IsServed j turns → IsServed k turns
   served-later j k turns l s = record {
     following = following-later first commands accepted j k (known_by turns) l s.following;
     hearing = hearing-later j k turns (known_by turns).heard l s.hearing;

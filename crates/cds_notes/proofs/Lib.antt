@@ -22,3 +22,10 @@ pub mod Honest
 pub mod Position
 pub mod Ended
 pub mod Complete
+pub mod Delivered
+pub mod LoadTurns
+pub mod Seen
+pub mod TakenOnce
+pub mod FewHeld
+pub mod Releases
+pub mod Seqs

@@ -163,8 +163,9 @@ none-above (note ∷ notes) next q e h = by (nat_lt next note.seq) (nat_eq note.
 pub least-missing : (turns : List ReplicaTurn) (seq : ℕ)
     → (missing turns ≡ Some seq → (has_seq (received turns) seq ≡ false) × ((less : ℕ) → less < seq → has_seq (received turns) less ≡ true)
     × ((more : ℕ) × (seq < more) × (has_seq (received turns) more ≡ true)))
-    × (has_seq (received turns) seq ≡ true → missing turns ≡ None → seq < next_seq turns)
-least-missing turns seq = (found, none)
+    × (has_seq (received turns) seq ≡ false → ((less : ℕ) → less < seq → has_seq (received turns) less ≡ true)
+    → (more : ℕ) → seq < more → has_seq (received turns) more ≡ true → missing turns ≡ Some seq)
+least-missing turns seq = (found, least)
   where
     found : missing turns ≡ Some seq → (has_seq (received turns) seq ≡ false) × ((less : ℕ) → less < seq → has_seq (received turns) less ≡ true)
         × ((more : ℕ) × (seq < more) × (has_seq (received turns) more ≡ true))
@@ -183,20 +184,22 @@ least-missing turns seq = (found, none)
             some-is e = ap (λ (o : Option ℕ). unwrap_or o 0) e
         by false any e = none≢some None seq refl e
 
-    none : has_seq (received turns) seq ≡ true → missing turns ≡ None → seq < next_seq turns
-    none h e = by (list_any (λ (note : Note). nat_lt (next_seq turns) note.seq) (received turns)) refl e
+    least : has_seq (received turns) seq ≡ false → ((less : ℕ) → less < seq → has_seq (received turns) less ≡ true)
+        → (more : ℕ) → seq < more → has_seq (received turns) more ≡ true → missing turns ≡ Some seq
+    least none all more above some = any (list_any (λ (note : Note). nat_lt (next_seq turns) note.seq) (received turns)) refl
       where
-        by : (b : Bool) → list_any (λ (note : Note). nat_lt (next_seq turns) note.seq) (received turns) ≡ b → cond b (Some (next_seq turns)) None ≡ None → seq < next_seq turns
-        by true any e = none≢some (Some (next_seq turns)) (next_seq turns) e refl
-        by false any e =
-            let most = none-above (received turns) (next_seq turns) seq any h in
-            differs (cases_lt seq (next_seq turns)) most
+        same : next_seq turns ≡ seq
+        same = by (cases_lt (next_seq turns) seq) (cases_lt seq (next_seq turns))
           where
-            differs : (seq < next_seq turns) ⊎ (next_seq turns ≤ seq) → seq ≤ next_seq turns → seq < next_seq turns
-            differs (inl less) most = less
-            differs (inr least) most =
-                let same : seq ≡ next_seq turns = omega (arith, least, most) in
-                clash (sym h ∙ ap (has_seq (received turns)) same ∙ (longest-run turns).1)
-              where
-                clash : true ≡ false → seq < next_seq turns
-                clash e = absurd (true≢false e)
+            by : (next_seq turns < seq) ⊎ (seq ≤ next_seq turns) → (seq < next_seq turns) ⊎ (next_seq turns ≤ seq) → next_seq turns ≡ seq
+            by (inl l) m = absurd (true≢false (sym (all (next_seq turns) l) ∙ (longest-run turns).1))
+            by (inr l) (inl m) = absurd (true≢false (sym ((longest-run turns).0 seq m) ∙ none))
+            by (inr l) (inr m) = omega (arith, l, m)
+
+        any : (b : Bool) → list_any (λ (note : Note). nat_lt (next_seq turns) note.seq) (received turns) ≡ b → cond b (Some (next_seq turns)) None ≡ Some seq
+        any true e = ap Some same
+        any false e =
+            let most = none-above (received turns) (next_seq turns) more e some in
+            let is = same in
+            let no : ⊥ = omega (arith, above, most, is) in
+            absurd no

@@ -18,7 +18,7 @@ use Rattle.cds_notes.proofs.Served.{scans-first, Grows, dropped-grows}
 abbrev pub Stood : ℕ → List Command → ℕ → Type 0
 Stood first commands number = (n : ℕ) × (number ≡ end_of (scans_of first (drop n commands)))
 
-stood-later : (first : ℕ) (command : Command) (older : List Command) (number : ℕ) → Stood first older number → Stood first (command ∷ older) number
+pub stood-later : (first : ℕ) (command : Command) (older : List Command) (number : ℕ) → Stood first older number → Stood first (command ∷ older) number
 stood-later first command older number s = (suc s.0, s.1)
 
 pub grows-rise : (first : ℕ) (more fewer : List Command) → Grows first more fewer → end_of (scans_of first fewer) ≤ end_of (scans_of first more)
@@ -34,7 +34,7 @@ stood-below first commands number s =
     let is = s.1 in
     omega (arith, rise, is)
 
-within-stood : (first most : ℕ) (commands : List Command) → Stood first commands (scan_end_within first most (scans_of first commands).maps)
+pub within-stood : (first most : ℕ) (commands : List Command) → Stood first commands (scan_end_within first most (scans_of first commands).maps)
 within-stood first most [] = (0, omega arith)
 within-stood first most (Scans library ∷ older) = by (nat_le (end_of (record { first = first; maps = library ∷ (scans_of first older).maps })) most) (within-stood first most older)
   where
@@ -47,7 +47,7 @@ within-stood first most (Ends name ∷ older) = stood-later first (Ends name) ol
 within-stood first most (Ticks moment ∷ older) = stood-later first (Ticks moment) older _ (within-stood first most older)
 
 -- the greatest scan end within a number is not below one that is within it
-within-greatest : (first most : ℕ) (commands : List Command) (n : ℕ) → end_of (scans_of first (drop n commands)) ≤ most
+pub within-greatest : (first most : ℕ) (commands : List Command) (n : ℕ) → end_of (scans_of first (drop n commands)) ≤ most
     → end_of (scans_of first (drop n commands)) ≤ scan_end_within first most (scans_of first commands).maps
 within-greatest first most [] zero l = omega arith
 within-greatest first most [] (suc n) l = omega arith
@@ -81,7 +81,7 @@ within-greatest first most (Ticks moment ∷ older) (suc n) l = within-greatest 
 
 -- ---- releases
 
-release-is : (first moment : ℕ) (history : History) (releases : List Release) (release : Release) → history.first ≡ first → release_at moment history releases ≡ Some release
+pub release-is : (first moment : ℕ) (history : History) (releases : List Release) (release : Release) → history.first ≡ first → release_at moment history releases ≡ Some release
     → (release.from ≡ released_to first releases) × (release.to ≡ scan_end_within first (released_to first releases + release_size) history.maps)
 release-is first moment history releases release same e = by (nat_lt (released_to history.first releases) (end_of history) && may_release moment releases) e
   where
@@ -264,7 +264,7 @@ fresh first older (Ticks moment) sound some = by (release_at moment (scans_of fi
 
 -- ---- all notes
 
-granted-more : (command : Command) (older : List Command) → granted older ≤ granted (command ∷ older)
+pub granted-more : (command : Command) (older : List Command) → granted older ≤ granted (command ∷ older)
 granted-more (Scans library) older = omega arith
 granted-more (Grants moment) older = omega arith
 granted-more (Ends name) older = omega arith

@@ -25,7 +25,7 @@ use Rattle.cds_changes.proofs.Spans.{spans-stay}
 use Rattle.cds_changes.proofs.Numbers.{scan-numbers}
 use Rattle.cds_notes.specs.Commands.{Command, Scans, Grants, Ends, Ticks, scans_of}
 use Rattle.cds_notes.specs.Copy.{Happening, Changes, deletes, marks, since_deletion, KnownRow}
-use Rattle.cds_notes.specs.Given.{oldest, AreAccepted}
+use Rattle.cds_notes.specs.Given.{oldest}
 use Rattle.cds_notes.specs.StepLaws.{AreLike}
 use Rattle.cds_notes.specs.ServerLaws.{served, told_between, befalling, commands_are_servers, versions_have_one_content, versions_are_settled, versions_are_told, equal_numbers_have_no_change_between}
 use Rattle.cds_notes.proofs.Like.{unplaced}
@@ -89,10 +89,9 @@ pub record Pair (first : ℕ) (commands : List Command) (j k : ℕ) : Type 0 whe
   pub early : scans_of first (oldest j commands) ≡ record { first = first; maps = older }
   pub late : scans_of first (oldest k commands) ≡ record { first = first; maps = newer ++ older }
   pub libraries : AreLibraries (newer ++ older)
-  pub room : end_of (record { first = first; maps = newer ++ older }) ≤ 4294967295
   pub tells : told_between first commands (served first commands j).number (served first commands k).number ≡ told first newer older
 
-module _ (first : ℕ) (commands : List Command) (accepted : AreAccepted first commands) where
+module _ (first : ℕ) (commands : List Command) (are-libraries : AreLibraries (scans_of first commands).maps) where
   pub pair : (j k : ℕ) → j ≤ k → Pair first commands j k
   pair j k l =
       let grows = oldest-grows first commands j k l in
@@ -104,16 +103,12 @@ module _ (first : ℕ) (commands : List Command) (accepted : AreAccepted first c
       scans-first first (oldest k commands) ∙ ap (λ (l : List FolderMap). record { first = first; maps = l }) grows.1 in
       let history : scans_of first commands ≡ record { first = first; maps = whole.0 ++ (grows.0 ++ older) } =
       scans-first first commands ∙ ap (λ (l : List FolderMap). record { first = first; maps = l }) all in
-      let rise = ends_rise first whole.0 (grows.0 ++ older) in
-      let most : end_of (scans_of first commands) ≡ end_of (record { first = first; maps = whole.0 ++ (grows.0 ++ older) }) = ap end_of history in
-      let bound = accepted.numbers in
       record {
         newer = grows.0;
         older = older;
         early = early;
         late = late;
-        libraries = older_are_libraries whole.0 (grows.0 ++ older) (subst AreLibraries all accepted.libraries);
-        room = omega (arith, rise, most, bound);
+        libraries = older_are_libraries whole.0 (grows.0 ++ older) (subst AreLibraries all are-libraries);
         tells = (λ i. filter is_change (events_between (history i) (end_of (early i)) (end_of (late i))))
             ∙ ap (filter is_change) (spans-stay first whole.0 (grows.0 ++ older) (end_of (record { first = first; maps = older }))
             (end_of (record { first = first; maps = grows.0 ++ older })) (omega arith));
@@ -162,14 +157,25 @@ module _ (first : ℕ) (commands : List Command) (accepted : AreAccepted first c
           by (inl l) = sym (same-rows j k (omega (arith, l)) e)
           by (inr l) = same-rows k j l (sym e)
 
+  -- no number passes the last
+  room-by : end_of (scans_of first commands) ≤ 4294967295 → (j k : ℕ) (p : Pair first commands j k) → end_of (record { first = first; maps = p.newer ++ p.older }) ≤ 4294967295
+  room-by room j k p =
+      let whole = dropped-grows first (length commands - k) commands in
+      let rise = ends_rise first whole.0 (scans_of first (oldest k commands)).maps in
+      let most : end_of (scans_of first commands) ≡ end_of (record { first = first; maps = whole.0 ++ (scans_of first (oldest k commands)).maps }) =
+      ap end_of (scans-first first commands ∙ ap (λ (l : List FolderMap). record { first = first; maps = l }) whole.1) in
+      let some : end_of (scans_of first (oldest k commands)) ≡ end_of (record { first = first; maps = (scans_of first (oldest k commands)).maps }) = ap end_of (scans-first first (oldest k commands)) in
+      let late = ap end_of p.late in
+      omega (arith, room, rise, most, some, late)
+
   -- what is known at one length goes on to another with what was told between
-  pub served-leads : (j k : ℕ) → j ≤ k → (known : List KnownRow) → AreLike known (served first commands j).rows
+  pub served-leads : end_of (scans_of first commands) ≤ 4294967295 → (j k : ℕ) → j ≤ k → (known : List KnownRow) → AreLike known (served first commands j).rows
       → LeadsTo known (told_between first commands (served first commands j).number (served first commands k).number) (served first commands k).rows
-  served-leads j k l known like =
+  served-leads room j k l known like =
       let p = pair j k l in
       subst (λ (rows : List ObjectRow). LeadsTo known (told_between first commands (served first commands j).number (served first commands k).number) rows) (sym (ap catalog p.late))
       (subst (λ (events : List Event). LeadsTo known events (catalog (record { first = first; maps = p.newer ++ p.older }))) (sym p.tells)
-      (spans-lead first p.newer p.older known p.libraries p.room (subst (AreLike known) (ap catalog p.early) like)))
+      (spans-lead first p.newer p.older known p.libraries (room-by room j k p) (subst (AreLike known) (ap catalog p.early) like)))
 
   pub settled : (j k id : ℕ) (row : ObjectRow) → j ≤ k → row_of id (served first commands k).rows ≡ Some row → row.object_update ≤ (served first commands j).number
       → (before : ObjectRow) × (row_of id (served first commands j).rows ≡ Some before) × (before.content ≡ row.content) × (before.object_update ≡ row.object_update)
@@ -216,35 +222,37 @@ module _ (first : ℕ) (commands : List Command) (accepted : AreAccepted first c
             (is.1 (omega (arith, high, early, many, long)))),
       )
 
-  pub no-change-between : (j k : ℕ) → j ≤ k → (served first commands j).number ≡ (served first commands k).number
-      → changes_of (scans_of first (oldest k commands)).maps ≡ changes_of (scans_of first (oldest j commands)).maps
-  no-change-between j k l e =
-      let p = pair j k l in
-      ap (λ (h : History). changes_of h.maps) p.late
-      ∙ equal_ends_equal_changes first p.newer p.older (sym (ap end_of p.late) ∙ sym e ∙ ap end_of p.early)
-      ∙ sym (ap (λ (h : History). changes_of h.maps) p.early)
+no-change-between : (first : ℕ) (commands : List Command) (j k : ℕ) → j ≤ k → (served first commands j).number ≡ (served first commands k).number
+    → changes_of (scans_of first (oldest k commands)).maps ≡ changes_of (scans_of first (oldest j commands)).maps
+no-change-between first commands j k l e =
+    let grows = oldest-grows first commands j k l in
+    let older : List FolderMap = (scans_of first (oldest j commands)).maps in
+    let early : scans_of first (oldest j commands) ≡ record { first = first; maps = older } = scans-first first (oldest j commands) in
+    let late : scans_of first (oldest k commands) ≡ record { first = first; maps = grows.0 ++ older } =
+    scans-first first (oldest k commands) ∙ ap (λ (l : List FolderMap). record { first = first; maps = l }) grows.1 in
+    ap changes_of grows.1 ∙ equal_ends_equal_changes first grows.0 older (sym (ap end_of late) ∙ sym e ∙ ap end_of early)
 
 pub commands-serve : commands_are_servers
-commands-serve first commands accepted = serves first commands accepted
+commands-serve first commands libraries = serves first commands libraries
 
 pub one-content : versions_have_one_content
-one-content first commands j k id row other accepted f g = by (cases_lt j k)
+one-content first commands j k id row other libraries f g = by (cases_lt j k)
   where
     by : (j < k) ⊎ (k ≤ j) → (row.parent ≡ other.parent) × (is_folder row.content ≡ is_folder other.content) × (row.object_update ≡ other.object_update → row.content ≡ other.content)
-    by (inl l) = one-id first commands accepted j k id other row (omega (arith, l)) g f
+    by (inl l) = one-id first commands libraries j k id other row (omega (arith, l)) g f
     by (inr l) =
-        let same = one-id first commands accepted k j id row other l f g in
+        let same = one-id first commands libraries k j id row other l f g in
         (sym same.0, sym same.1, (λ e. sym (same.2 (sym e))))
 
 pub versions-settled : versions_are_settled
-versions-settled first commands j k id row accepted l f low = settled first commands accepted j k id row l f low
+versions-settled first commands j k id row libraries l f low = settled first commands libraries j k id row l f low
 
 pub versions-told : versions_are_told
-versions-told first commands j k id row accepted l f = told-of first commands accepted j k id row l f
+versions-told first commands j k id row libraries l f = told-of first commands libraries j k id row l f
 
 pub no-change : equal_numbers_have_no_change_between
-no-change first commands j k accepted e = by (cases_lt j k)
+no-change first commands j k e = by (cases_lt j k)
   where
     by : (j < k) ⊎ (k ≤ j) → changes_of (scans_of first (oldest j commands)).maps ≡ changes_of (scans_of first (oldest k commands)).maps
-    by (inl l) = sym (no-change-between first commands accepted j k (omega (arith, l)) e)
-    by (inr l) = no-change-between first commands accepted k j l (sym e)
+    by (inl l) = sym (no-change-between first commands j k (omega (arith, l)) e)
+    by (inr l) = no-change-between first commands k j l (sym e)

@@ -200,7 +200,7 @@ module _ (first : ℕ) (commands : List Command) (accepted : AreAccepted first c
 
   pub past-low : (k n : ℕ) → Past first commands k n → n ≤ (served first commands k).number
   past-low k n (inl e) = omega (arith, e)
-  past-low k n (inr p) = let rise = risen first commands accepted p.0 k p.1 in let is = p.2 in omega (arith, rise, is)
+  past-low k n (inr p) = let rise = risen first commands accepted.libraries p.0 k p.1 in let is = p.2 in omega (arith, rise, is)
 
   past-later : (j k n : ℕ) → j ≤ k → Past first commands j n → Past first commands k n
   past-later j k n l (inl e) = inl e
@@ -211,7 +211,7 @@ module _ (first : ℕ) (commands : List Command) (accepted : AreAccepted first c
     from = loading.from;
     after-base = loading.after-base;
     before-position = loading.before-position;
-    bounds = bounds-later loading.from (served first commands j).number (served first commands k).number (risen first commands accepted j k l) held loading.bounds;
+    bounds = bounds-later loading.from (served first commands j).number (served first commands k).number (risen first commands accepted.libraries j k l) held loading.bounds;
     kept = loading.kept;
   }
 

@@ -37,7 +37,7 @@ drop-all zero (command ∷ older) l = let no : ⊥ = omega (arith, l) in absurd 
 drop-all (suc m) (command ∷ older) l = drop-all m older (omega (arith, l))
 
 -- a number that stood within some of the commands is one that the server had at a length up to theirs
-stood-served : (first : ℕ) (commands : List Command) (k number : ℕ) → Stood first (oldest k commands) number → (j : ℕ) × (j ≤ k) × (number ≡ (served first commands j).number)
+pub stood-served : (first : ℕ) (commands : List Command) (k number : ℕ) → Stood first (oldest k commands) number → (j : ℕ) × (j ≤ k) × (number ≡ (served first commands j).number)
 stood-served first commands k number (n, is) = by (cases_lt (length commands) (length commands - k + n))
   where
     here : drop n (oldest k commands) ≡ drop (length commands - k + n) commands

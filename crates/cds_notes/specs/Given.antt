@@ -72,8 +72,9 @@ length_before_call (Granted k name ∷ older) = length_before_call older
 length_before_call (Denied k ∷ older) = length_before_call older
 length_before_call (Gets k note ∷ older) = length_before_call older
 
--- what holds of an entry after the older ones: a name that is accepted was granted within the commands of its length, and
--- not within those of any entry before its request; a note was sent within them
+-- what holds of an entry after the older ones: a name is accepted where a request is out, and it was granted within the
+-- commands of its length, and not within those of the entry before this request; a note was sent within them. A refusal may
+-- come at any time
 abbrev pub IsHonest : ℕ → List Command → List Entry → Entry → Type 0
 IsHonest first commands older (Starts k) = Unit {0}
 IsHonest first commands older (Asks k) = Unit {0}
@@ -81,7 +82,7 @@ IsHonest first commands older (Calls k) = Unit {0}
 IsHonest first commands older (Granted k name) =
     (is_out (given_by first commands older) ≡ true) × (granted (oldest (length_before_call older) commands) < name)
     × (name ≤ granted (oldest k commands))
-IsHonest first commands older (Denied k) = is_out (given_by first commands older) ≡ true
+IsHonest first commands older (Denied k) = Unit {0}
 IsHonest first commands older (Gets k note) = Contains (notes_of first (oldest k commands)) note
 
 -- commands that a server accepted: each scan's folder map is one, with at most 65,535 places, and no number passes the last

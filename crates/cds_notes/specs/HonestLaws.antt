@@ -1,13 +1,13 @@
 -- Laws of a replica that an honest server gives its replies and notes, in every order, with losses and repeats: nothing that
 -- comes is refused, and where it stands its copy is the server's catalog at a scan end.
-use Rattle.std.specs.Prelude.{◌≡◌, ◌≤◌, ◌||◌, ℕ, Bool, true, false, List, [], ◌∷◌, length, Some, None, Contains}
+use Rattle.std.specs.Prelude.{◌≡◌, ◌≤◌, ◌||◌, ℕ, Bool, true, false, List, [], ◌∷◌, ◌++◌, Some, None, Contains}
 use Rattle.std.specs.List.{AllByRecursion}
 use Rattle.cds_catalog.specs.History.{end_of}
 use Rattle.cds_catalog.specs.Catalog.{catalog}
 use Rattle.cds_model.specs.Server.{reply_to}
 use Rattle.cds_model.specs.declared.exchange.Ask.{Ask}
 use Rattle.cds_notes.specs.Commands.{Command, Note, scans_of, released_to, releases_of, alive_names, notes_of}
-use Rattle.cds_notes.specs.Inbox.{ReplicaTurn, Begins, Shows, Requests, Accepts, Refuses, Delivers, accepted, received, has_seq, taken_by}
+use Rattle.cds_notes.specs.Inbox.{ReplicaTurn, Begins, Shows, Requests, Accepts, Refuses, Delivers, accepted, received, has_seq, taken_by, IsTooMany, arrival}
 use Rattle.cds_notes.specs.Follow.{Known, Knows, position, is_drop, known_by, next_ask, with_reply, with_notes, says, copied}
 use Rattle.cds_notes.specs.Given.{oldest, moment_after, Entry, Starts, Asks, Calls, Granted, Denied, Gets, length_at, given_by, AreAccepted, IsGiven}
 use Rattle.cds_notes.specs.declared.says.Says.TheVariants.{Stands}
@@ -37,6 +37,15 @@ honest_copies_stood = (first : ℕ) (commands : List Command) (newest : Entry) (
     (j : ℕ) × (j ≤ length_at newest) × (end_of (scans_of first (oldest j commands)) ≡ number)
     × (copied (known_by (given_by first commands (newest ∷ older))) ≡ catalog (scans_of first (oldest j commands)))
 
+-- a note that was delivered is received, where its name is the accepted one and there was room to hold it: no request, refusal
+-- or other name that came later lost it
+abbrev pub delivered_notes_are_received : Type 0
+delivered_notes_are_received = (first : ℕ) (commands : List Command) (newer : List Entry) (k : ℕ) (note : Note) (older : List Entry) →
+    AreAccepted first commands → IsGiven first commands (newer ++ Gets k note ∷ older) →
+    accepted (given_by first commands (newer ++ Gets k note ∷ older)) ≡ Some note.name →
+    ((held : ℕ) → arrival note (given_by first commands older) ≡ IsTooMany held → ⊥) →
+    has_seq (received (given_by first commands (newer ++ Gets k note ∷ older))) note.seq ≡ true
+
 -- whether a turn begins a load; and whether one of some turns did, or took a first note that drops the copy
 abbrev pub begins_load : ReplicaTurn → Bool
 begins_load Begins = true
@@ -50,13 +59,12 @@ abbrev pub load_was_begun : List ReplicaTurn → Bool
 load_was_begun [] = false
 load_was_begun (turn ∷ older) = begins_load turn || is_drop (position (known_by older)) (taken_by turn older) || load_was_begun older
 
--- the answer is complete: where a load was begun, the newest entry knew all commands, the subscription that was accepted last
--- lives, each note that was sent to it was received, no change waits for its release, and nothing is to be read, the replica
--- stands at the server's number
+-- the answer is complete: where a load was begun, the subscription that was accepted last lives, each note that was sent to it
+-- was received, no change waits for its release, and nothing is to be read, the replica stands at the server's number, whatever
+-- the server did without a change since the newest entry
 abbrev pub honest_answers_are_complete : Type 0
 honest_answers_are_complete = (first : ℕ) (commands : List Command) (newest : Entry) (older : List Entry) (name now : ℕ) → AreAccepted first commands →
-    IsGiven first commands (newest ∷ older) → length commands ≤ length_at newest →
-    load_was_begun (given_by first commands (newest ∷ older)) ≡ true →
+    IsGiven first commands (newest ∷ older) → load_was_begun (given_by first commands (newest ∷ older)) ≡ true →
     accepted (given_by first commands (newest ∷ older)) ≡ Some name →
     Contains (alive_names now commands (notes_of first commands)) name →
     AllByRecursion (λ (note : Note). note.name ≡ name → has_seq (received (given_by first commands (newest ∷ older))) note.seq ≡ true) (notes_of first commands) →

@@ -1,6 +1,8 @@
 -- Laws of which notes were taken and which are missing, over every list of turns.
-use Rattle.std.specs.Prelude.{◌≡◌, ◌<◌, ℕ, true, false, List, Some, None}
-use Rattle.cds_notes.specs.Inbox.{ReplicaTurn, received, has_seq, next_seq, missing}
+use Rattle.std.specs.Prelude.{◌≡◌, ◌<◌, ℕ, true, false, List, [], ◌∷◌, ◌++◌, map, Some}
+use Rattle.std.specs.List.{range_with_len}
+use Rattle.cds_notes.specs.Commands.{Note}
+use Rattle.cds_notes.specs.Inbox.{ReplicaTurn, Begins, Shows, Requests, Accepts, Refuses, Delivers, received, has_seq, next_seq, missing, notes_from_to, taken_by}
 
 -- the notes that were taken are the longest run of SEQs from 0 on that were received: each before the next one was, and
 -- the next one was not
@@ -8,9 +10,27 @@ abbrev pub the_longest_run_is_taken : Type 0
 the_longest_run_is_taken = (turns : List ReplicaTurn) →
     ((seq : ℕ) → seq < next_seq turns → has_seq (received turns) seq ≡ true) × (has_seq (received turns) (next_seq turns) ≡ false)
 
+-- the notes that were taken since the name was accepted last, in the order in which they were
+abbrev pub taken_since : List ReplicaTurn → List Note
+taken_since [] = []
+taken_since (Begins ∷ older) = taken_since older
+taken_since (Shows shown ∷ older) = taken_since older
+taken_since (Requests ∷ older) = taken_since older
+taken_since (Accepts name ∷ older) = taken_by (Accepts name) older
+taken_since (Refuses ∷ older) = taken_since older
+taken_since (Delivers note ∷ older) = taken_since older ++ taken_by (Delivers note) older
+
+-- each note of the longest run was taken once, in the order of SEQs, and as it was received first: position and copy go by
+-- these notes alone
+abbrev pub each_note_is_taken_once : Type 0
+each_note_is_taken_once = (turns : List ReplicaTurn) →
+    (map (λ (note : Note). note.seq) (taken_since turns) ≡ range_with_len 0 (next_seq turns))
+    × (taken_since turns ≡ notes_from_to 0 (next_seq turns) (received turns))
+
 -- a SEQ is missing exactly where it is the least that was not received, and a greater one was
 abbrev pub the_least_is_missing : Type 0
 the_least_is_missing = (turns : List ReplicaTurn) (seq : ℕ) →
     (missing turns ≡ Some seq → (has_seq (received turns) seq ≡ false) × ((less : ℕ) → less < seq → has_seq (received turns) less ≡ true)
     × ((more : ℕ) × (seq < more) × (has_seq (received turns) more ≡ true)))
-    × (has_seq (received turns) seq ≡ true → missing turns ≡ None → seq < next_seq turns)
+    × (has_seq (received turns) seq ≡ false → ((less : ℕ) → less < seq → has_seq (received turns) less ≡ true) →
+    (more : ℕ) → seq < more → has_seq (received turns) more ≡ true → missing turns ≡ Some seq)

@@ -1,6 +1,6 @@
 -- Laws of what a replica knows from its notes, over every list of turns: its position, the changes that it counted, and that
 -- notes leave a running load as it is.
-use Rattle.std.specs.Prelude.{◌≡◌, ◌&&◌, ℕ, Bool, true, false, cond, not, max, List, [], ◌∷◌, ◌++◌}
+use Rattle.std.specs.Prelude.{◌≡◌, ◌≤◌, ◌&&◌, ℕ, Bool, true, false, cond, not, max, List, [], ◌∷◌, ◌++◌, length}
 use Rattle.cds_object.specs.Object.{ObjectRow}
 use Rattle.cds_event.specs.declared.Event.{Event}
 use Rattle.cds_model.specs.Replica.{Held, Idle, Begun, HasToken, HasNumber, HasRoot, Lists, HasPage, HasCopy}
@@ -8,8 +8,8 @@ use Rattle.cds_model.specs.declared.exchange.Shown.{Shown}
 use Rattle.cds_model.specs.declared.exchange.Shown.TheVariants.{Text, Number, Page, Fault}
 use Rattle.cds_notes.specs.Commands.{Note}
 use Rattle.cds_notes.specs.Copy.{Happening, Changes, Reads}
-use Rattle.cds_notes.specs.Inbox.{ReplicaTurn, Begins, Shows, Requests, Accepts, Refuses, Delivers, taken_by}
-use Rattle.cds_notes.specs.Follow.{Known, Knows, position, changes_above, new_changes, greatest_of, is_drop, with_notes, known_by, is_no}
+use Rattle.cds_notes.specs.Inbox.{ReplicaTurn, Begins, Shows, Requests, Accepts, Refuses, Delivers, held_notes, held_limit, taken_by}
+use Rattle.cds_notes.specs.Follow.{Known, Knows, position, changes_above, new_changes, greatest_of, is_drop, with_notes, known_by, is_no, is_refused}
 
 -- all notes that were taken, the oldest first; a turn that is refused takes none
 abbrev pub taken_notes : List ReplicaTurn → List Note
@@ -87,3 +87,12 @@ counted_changes_are_fresh = (turns : List ReplicaTurn) (number : ℕ) (rows : Li
 abbrev pub notes_leave_the_load : Type 0
 notes_leave_the_load = (notes : List Note) (known now : Known) → with_notes notes known ≡ Knows now → is_drop (position known) notes ≡ false →
     (now.held ≡ known.held) × (now.base ≡ known.base)
+
+-- turns none of which is refused, as those of a replica are
+abbrev pub NoneRefused : List ReplicaTurn → Type 0
+NoneRefused [] = Unit {0}
+NoneRefused (turn ∷ older) = (is_refused turn older ≡ false) × NoneRefused older
+
+-- at most 64 notes are held, early ones included
+abbrev pub at_most_64_are_held : Type 0
+at_most_64_are_held = (turns : List ReplicaTurn) → NoneRefused turns → length (held_notes turns) ≤ held_limit

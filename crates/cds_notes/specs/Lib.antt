@@ -10,3 +10,6 @@ pub mod ServerLaws
 pub mod NoteLaws
 pub mod HonestLaws
 pub mod KnownLaws
+pub mod LoadTurns
+pub mod Seen
+pub mod ReleaseLaws

@@ -5,12 +5,13 @@ use Rattle.cds_object.specs.Object.{ObjectRow, is_folder}
 use Rattle.cds_object.specs.Tree.{row_of}
 use Rattle.cds_event.specs.declared.Event.{Event}
 use Rattle.cds_catalog.specs.History.{changes_of}
+use Rattle.cds_catalog.specs.Laws.{AreLibraries}
 use Rattle.cds_model.specs.Server.{Moment}
 use Rattle.cds_model.specs.Loads.{IsServer}
 use Rattle.cds_changes.specs.Events.{events_between, is_change}
 use Rattle.cds_notes.specs.Commands.{Command, scans_of}
 use Rattle.cds_notes.specs.Copy.{Happening, Changes, deletes, marks, since_deletion}
-use Rattle.cds_notes.specs.Given.{oldest, moment_after, AreAccepted}
+use Rattle.cds_notes.specs.Given.{oldest, moment_after}
 
 -- what a server has after so many of its commands, the oldest ones
 abbrev pub served : ℕ → List Command → ℕ → Moment
@@ -20,21 +21,21 @@ served first commands k = moment_after first (oldest k commands)
 abbrev pub told_between : ℕ → List Command → ℕ → ℕ → List Event
 told_between first commands from to = filter is_change (events_between (scans_of first commands) from to)
 
--- commands that were accepted make an honest server: its rows are trees, its numbers never fall, and equal numbers have
+-- commands whose scans have folder maps make an honest server: its rows are trees, its numbers never fall, and equal numbers have
 -- equal rows
 abbrev pub commands_are_servers : Type 0
-commands_are_servers = (first : ℕ) (commands : List Command) → AreAccepted first commands → IsServer (served first commands)
+commands_are_servers = (first : ℕ) (commands : List Command) → AreLibraries (scans_of first commands).maps → IsServer (served first commands)
 
 -- an id and an objectUpdateID determine what the object says, and an id alone its parent and whether it holds others
 abbrev pub versions_have_one_content : Type 0
-versions_have_one_content = (first : ℕ) (commands : List Command) (j k id : ℕ) (row other : ObjectRow) → AreAccepted first commands →
+versions_have_one_content = (first : ℕ) (commands : List Command) (j k id : ℕ) (row other : ObjectRow) → AreLibraries (scans_of first commands).maps →
     row_of id (served first commands j).rows ≡ Some row → row_of id (served first commands k).rows ≡ Some other →
     (row.parent ≡ other.parent) × (is_folder row.content ≡ is_folder other.content)
     × (row.object_update ≡ other.object_update → row.content ≡ other.content)
 
 -- an objectUpdateID that is not above an earlier number is that of the object's row then, which said the same
 abbrev pub versions_are_settled : Type 0
-versions_are_settled = (first : ℕ) (commands : List Command) (j k id : ℕ) (row : ObjectRow) → AreAccepted first commands → j ≤ k →
+versions_are_settled = (first : ℕ) (commands : List Command) (j k id : ℕ) (row : ObjectRow) → AreLibraries (scans_of first commands).maps → j ≤ k →
     row_of id (served first commands k).rows ≡ Some row → row.object_update ≤ (served first commands j).number →
     (before : ObjectRow) × (row_of id (served first commands j).rows ≡ Some before) × (before.content ≡ row.content)
     × (before.object_update ≡ row.object_update)
@@ -46,7 +47,7 @@ befalling events = reverse (map Changes events)
 -- of what stands now the changes since an earlier number tell: nothing deleted it, where its objectUpdateID is not above that
 -- number; and else it was added or modified at its objectUpdateID, and not deleted since
 abbrev pub versions_are_told : Type 0
-versions_are_told = (first : ℕ) (commands : List Command) (j k id : ℕ) (row : ObjectRow) → AreAccepted first commands → j ≤ k →
+versions_are_told = (first : ℕ) (commands : List Command) (j k id : ℕ) (row : ObjectRow) → AreLibraries (scans_of first commands).maps → j ≤ k →
     row_of id (served first commands k).rows ≡ Some row →
     (row.object_update ≤ (served first commands j).number →
     AllByRecursion (λ happening. deletes id happening ≡ false)
@@ -55,8 +56,8 @@ versions_are_told = (first : ℕ) (commands : List Command) (j k id : ℕ) (row 
     list_any (nat_eq row.object_update) (filter_map (marks id) (since_deletion id
     (befalling (told_between first commands (served first commands j).number (served first commands k).number)))) ≡ true)
 
--- between two equal numbers no change lies
+-- between two equal numbers no change lies, whatever the scans were
 abbrev pub equal_numbers_have_no_change_between : Type 0
-equal_numbers_have_no_change_between = (first : ℕ) (commands : List Command) (j k : ℕ) → AreAccepted first commands →
+equal_numbers_have_no_change_between = (first : ℕ) (commands : List Command) (j k : ℕ) →
     (served first commands j).number ≡ (served first commands k).number →
     changes_of (scans_of first (oldest j commands)).maps ≡ changes_of (scans_of first (oldest k commands)).maps

@@ -3,7 +3,10 @@
 ghost use Rattle.cds_notes.specs.HonestLaws as honest;
 ghost use Rattle.cds_notes.specs.InboxLaws as inbox;
 ghost use Rattle.cds_notes.specs.KnownLaws as known;
+ghost use Rattle.cds_notes.specs.LoadTurns as loads;
 ghost use Rattle.cds_notes.specs.NoteLaws as notes;
+ghost use Rattle.cds_notes.specs.ReleaseLaws as releases;
+ghost use Rattle.cds_notes.specs.Seen as seen;
 ghost use Rattle.cds_notes.specs.ServerLaws as server;
 ghost use Rattle.cds_notes.specs.StepLaws as steps;
 
@@ -23,7 +26,7 @@ pub fn spans_lead_to_the_rows()
     ensures { steps.spans_lead_to_the_rows }
 {}
 
-/// Commands that were accepted make an honest server: its rows are trees, its numbers never fall, and equal numbers have
+/// Commands whose scans have folder maps make an honest server: its rows are trees, its numbers never fall, and equal numbers have
 /// equal rows.
 pub fn commands_are_servers()
     ensures { server.commands_are_servers }
@@ -67,6 +70,11 @@ pub fn honest_copies_stood()
     ensures { honest.honest_copies_stood }
 {}
 
+/// A note that was delivered is received, where its name is the accepted one and there was room to hold it.
+pub fn delivered_notes_are_received()
+    ensures { honest.delivered_notes_are_received }
+{}
+
 /// The position is the greatest of the number that the last ended load read and the numbers of all notes that were taken.
 pub fn position_is_the_greatest()
     ensures { known.position_is_the_greatest }
@@ -92,4 +100,35 @@ pub fn base_is_the_last_end()
 /// change is released, and nothing is to be read, the replica stands at the server's number.
 pub fn honest_answers_are_complete()
     ensures { honest.honest_answers_are_complete }
+{}
+
+/// What a replica holds of its load is what the turns of its loads hold, with notes between them or not.
+pub fn loads_are_of_turns()
+    ensures { loads.loads_are_of_turns }
+{}
+
+/// Each row of a copy has the content and the objectUpdateID that one reply showed for its id, whatever server replied.
+pub fn copied_rows_were_shown()
+    ensures { seen.copied_rows_were_shown }
+{}
+
+/// Each note of the longest run was taken once, in the order of SEQs, and as it was received first.
+pub fn each_note_is_taken_once()
+    ensures { inbox.each_note_is_taken_once }
+{}
+
+/// At most 64 notes are held, early ones included, where no turn was refused.
+pub fn at_most_64_are_held()
+    ensures { known.at_most_64_are_held }
+{}
+
+/// Each release begins where the one before it ended, comes after its pause, has at least one change and no more than its size
+/// allows, and ends at a scan end.
+pub fn releases_go_on()
+    ensures { releases.releases_go_on }
+{}
+
+/// The notes of a subscription have the SEQs 0, 1, 2 and so on.
+pub fn seqs_count_from_zero()
+    ensures { releases.seqs_count_from_zero }
 {}

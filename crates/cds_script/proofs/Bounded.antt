@@ -1,31 +1,30 @@
 -- The bound on the reads of a load, over any turns of a script.
-use Rattle.std.proofs.Common.{◌≡◌, ◌≢◌, ℕ, zero, suc, ◌+◌, ◌<◌, ◌≤◌, List, [], ◌∷◌, ◌++◌, length, Bool, true, false, cond, not, ◌&&◌, ◌||◌, nat_eq, nat_lt, refl, ap, sym, subst, ◌∙◌, arith, true≢false, ◌⊎◌, inl, inr, Option, Some, None}
+use Rattle.std.proofs.Common.{◌≡◌, ◌≢◌, ℕ, zero, suc, ◌+◌, ◌<◌, ◌≤◌, List, [], ◌∷◌, length, Bool, true, false, cond, not, ◌&&◌, ◌||◌, nat_eq, nat_lt, refl, ap, sym, subst, ◌∙◌, arith, true≢false, ◌⊎◌, inl, inr, Option, Some, None}
 use Rattle.std.specs.Prelude.{codes}
 use Rattle.std.proofs.lemmas.Bool.{eqb-true, eqb-false}
 use Rattle.cds_object.specs.Object.{ObjectRow}
 use Rattle.cds_object.specs.Tree.{IsTree}
 use Rattle.cds_object.specs.declared.record.Record.{Record}
 use Rattle.cds_catalog.specs.Library.{map_of}
-use Rattle.cds_catalog.specs.History.{History, end_of, with_scan}
+use Rattle.cds_catalog.specs.History.{end_of, with_scan}
 use Rattle.cds_catalog.specs.Catalog.{catalog}
 use Rattle.cds_catalog.specs.Laws.{AreLibraries}
-use Rattle.cds_catalog.specs.Scans.{scan_answer}
 use Rattle.cds_catalog.proofs.Accepted.{accepted_map}
 use Rattle.cds_catalog.proofs.Numbers.{ends_rise, equal_ends_equal_catalogs}
 use Rattle.cds_model.specs.declared.exchange.Ask.{Ask as Asked}
 use Rattle.cds_model.specs.Server.{Moment, reply_to}
-use Rattle.cds_model.specs.Replica.{Held, Idle, Begun, HasToken, HasNumber, HasRoot, Lists, HasPage, HasCopy, held_after, taken, next_ask as load_ask}
+use Rattle.cds_model.specs.Replica.{Held, Idle, Begun, HasToken, HasNumber, HasRoot, Lists, HasPage, HasCopy, held_after, next_ask as load_ask}
 use Rattle.cds_model.specs.Report.{script_token}
 use Rattle.cds_model.specs.Loads.{load_reads, held_with, read_once, answered}
 use Rattle.cds_model.proofs.Honest.{IsServed, IsGiven as IsHeldGiven}
 use Rattle.cds_model.proofs.Servers.{StoodAt, server-serves}
 use Rattle.cds_model.proofs.Ends.{Left, read-left, none-left}
 use Rattle.cds_model.proofs.Bounds.{Stale, Owes, read-stale, scan-stale}
-use Rattle.cds_notes.specs.Commands.{Command, Scans, Grants, Ends, Note, scans_of, granted, has_room, notes_of}
+use Rattle.cds_notes.specs.Commands.{Command, Grants, Ends, Note, scans_of, granted, has_room, notes_of}
 use Rattle.cds_notes.specs.Copy.{least_unread, read_up_to}
 use Rattle.cds_notes.specs.Inbox.{ReplicaTurn, Begins, Shows, Requests, Accepts, Refuses, Delivers, accepted, missing, taken_by, arrival}
-use Rattle.cds_notes.specs.Follow.{Known, Outcome, Knows, position, is_drop, with_notes, with_reply, known_after, known_by, is_no, is_turned_away, is_refused, and_turn, ask_of, next_ask, copy_says, says_without_gap, says_of, says}
-use Rattle.cds_notes.specs.Given.{oldest, moment_after, asked_at, given_by, latest_length, AreAccepted}
+use Rattle.cds_notes.specs.Follow.{Known, Knows, position, is_drop, with_notes, with_reply, known_after, known_by, is_no, is_turned_away, is_refused, and_turn, ask_of, next_ask, copy_says, says_without_gap, says_of, says}
+use Rattle.cds_notes.specs.Given.{moment_after, asked_at, given_by, latest_length}
 use Rattle.cds_notes.specs.HonestLaws.{begins_load, load_was_begun}
 use Rattle.cds_notes.specs.KnownLaws.{has_copy}
 use Rattle.cds_notes.specs.ServerLaws.{served}
@@ -36,8 +35,7 @@ use Rattle.cds_notes.proofs.Stages.{following-later}
 use Rattle.cds_notes.proofs.Honest.{entries-served}
 use Rattle.cds_script.specs.declared.turn.Turn.{Turn}
 use Rattle.cds_script.specs.declared.turn.Turn.TheVariants.{Folder, Track, Scan, Load, Read, Ask, First, At, Subscribe, Accept, Unsubscribe, Deliver, ReadFault}
-use Rattle.cds_script.specs.Report.{number_of, first_of, clock_of, records_since, Played, scanned, after_reply, after_note, sent_note, given_up, lives, play, played, history_of, answer_text}
-use Rattle.cds_script.specs.Played.{MayBe}
+use Rattle.cds_script.specs.Report.{number_of, first_of, clock_of, records_since, Played, after_reply, after_note, sent_note, given_up, lives, play, played, history_of, answer_text}
 use Rattle.cds_script.specs.LoadBounds.{drops, reply_drops, note_drops, answered_after, answered_since, loads_are_bounded, all_turns_bound_loads}
 use Rattle.cds_script.proofs.Given.{Kept, ScannedCases, scanned-cases, oldest-all, turns-kept}
 use Rattle.cds_script.proofs.Held.{reply-becomes, reply-stays, notes-become}
@@ -105,7 +103,7 @@ module _ (first : ℕ) (p : Played) (kept : Kept first p) where
   now-serves : IsServed Stood m
   now-serves =
       subst (λ (cs : List Command). IsServed Stood (moment_after first cs)) (oldest-all p.commands)
-      (server-serves (served first p.commands) n (commands-serve first p.commands kept.accepted))
+      (server-serves (served first p.commands) n (commands-serve first p.commands kept.accepted.libraries))
 
   held-given : IsHeldGiven Stood (known_by p.replica).held
   held-given =

@@ -1,11 +1,10 @@
 -- The replica of a script is one of an honest server.
-use Rattle.std.proofs.Common.{◌≡◌, ◌⊎◌, inl, inr, ℕ, zero, suc, ◌+◌, ◌-◌, ◌<◌, ◌≤◌, List, [], ◌∷◌, ◌++◌, length, drop, Bool, true, false, cond, nat_eq, nat_lt, refl, ap, sym, subst, ◌∙◌, arith, length-append, ltb-false, Option, Some, None}
-use Rattle.std.specs.List.{Contains, slice_index_or}
-use Rattle.std.proofs.lemmas.Bool.{eqb-true}
+use Rattle.std.proofs.Common.{◌≡◌, ◌⊎◌, inl, inr, ℕ, zero, suc, ◌+◌, ◌-◌, ◌<◌, ◌≤◌, List, [], ◌∷◌, length, drop, Bool, true, false, cond, nat_eq, nat_lt, refl, ap, sym, subst, ◌∙◌, arith, length-append, ltb-false, Option, Some, None}
+use Rattle.std.specs.List.{Contains}
 use Rattle.cds_object.specs.declared.record.Record.{Record}
 use Rattle.cds_catalog.specs.Library.{found, map_of}
 use Rattle.cds_catalog.specs.History.{History, latest, changes_of, end_of}
-use Rattle.cds_catalog.specs.Scans.{ScanAnswer, Accepted, TooMany, NoNumbers, bad_record, needed_by, answer_by, scan_answer}
+use Rattle.cds_catalog.specs.Scans.{Accepted, TooMany, NoNumbers, bad_record, needed_by, answer_by, scan_answer}
 use Rattle.cds_catalog.proofs.Accepted.{accepted_map}
 use Rattle.cds_model.specs.Server.{Moment, reply_to}
 use Rattle.cds_model.specs.declared.exchange.Ask.{Ask as Asked}
@@ -16,8 +15,7 @@ use Rattle.cds_notes.specs.Given.{oldest, moment_after, Entry, Starts, Asks, Cal
 use Rattle.cds_script.specs.declared.turn.Turn.{Turn}
 use Rattle.cds_script.specs.declared.turn.Turn.TheVariants.{Folder, Track, Scan, Load, Read, Ask, First, At, Subscribe, Accept, Unsubscribe, Deliver, ReadFault}
 use Rattle.cds_script.specs.Report.{number_of, first_of, clock_of, records_since, Played, scanned, after_reply, after_note, sent_note, lives, given_up, play, played}
-use Rattle.cds_script.specs.Played.{MayBe}
-use Rattle.cds_script.specs.ScriptGiven.{AreGiven, scripts_are_given}
+use Rattle.cds_script.specs.ScriptGiven.{scripts_are_given}
 
 -- ---- the oldest commands
 
@@ -71,19 +69,21 @@ module _ (first : ℕ) (command : Command) (commands : List Command) where
       let under = given.0 in let rest = given-more older given.2 (omega (arith, under, low)) in
       let call = call-low first commands older given.2 in
       let before : oldest (length_before_call older) (command ∷ commands) ≡ oldest (length_before_call older) commands =
-      oldest-more (length_before_call older) command commands (omega (arith, call, under, low)) in
-      ((
-        given.0,
+      oldest-more (length_before_call older) command commands (omega (arith, call, under, low)) in (
         (
-          ap is_out rest.1 ∙ given.1.0,
-          subst (λ (cs : List Command). granted cs < name) (sym before) given.1.1,
-          subst (λ (cs : List Command). name ≤ granted cs) (sym (oldest-more k command commands low)) given.1.2,
+          given.0,
+          (
+            ap is_out rest.1 ∙ given.1.0,
+            subst (λ (cs : List Command). granted cs < name) (sym before) given.1.1,
+            subst (λ (cs : List Command). name ≤ granted cs) (sym (oldest-more k command commands low)) given.1.2,
+          ),
+          rest.0,
         ),
-        rest.0,
-      ), ap (and_turn (Accepts name)) rest.1)
+        ap (and_turn (Accepts name)) rest.1,
+      )
   given-more (Denied k ∷ older) given low =
       let under = given.0 in let rest = given-more older given.2 (omega (arith, under, low)) in
-      ((given.0, ap is_out rest.1 ∙ given.1, rest.0), ap (λ turns. Refuses ∷ turns) rest.1)
+      ((given.0, tt, rest.0), ap (λ turns. Refuses ∷ turns) rest.1)
   given-more (Gets k note ∷ older) given low =
       let under = given.0 in let rest = given-more older given.2 (omega (arith, under, low)) in
       ((given.0, subst (λ (cs : List Command). Contains (notes_of first cs) note) (sym (oldest-more k command commands low)) given.1, rest.0), ap (and_turn (Delivers note)) rest.1)
@@ -222,7 +222,12 @@ read-kept first p kept = record {
 note-kept : (first : ℕ) (p : Played) (o : Option Note) → ((note : Note) → o ≡ Some note → Contains (notes_of first p.commands) note) → Kept first p →
     Kept first (record p { replica = after_note o p.replica })
 note-kept first p None sent kept = record {
-  accepted = kept.accepted; entries = kept.entries; given = kept.given; are = kept.are; within = kept.within; waits = kept.waits;
+  accepted = kept.accepted;
+  entries = kept.entries;
+  given = kept.given;
+  are = kept.are;
+  within = kept.within;
+  waits = kept.waits;
 }
 note-kept first p (Some note) sent kept = record {
   accepted = kept.accepted;
@@ -267,12 +272,17 @@ granted-kept first now p kept =
 accept-kept : (first : ℕ) (commands : List Command) (replica : List ReplicaTurn) (reply : Option (Option ℕ)) →
     Kept first (record { commands = commands; replica = replica; reply = reply }) → Kept first (record { commands = commands; replica = after_reply reply replica; reply = None })
 accept-kept first commands replica None kept = record {
-  accepted = kept.accepted; entries = kept.entries; given = kept.given; are = kept.are; within = kept.within; waits = tt;
+  accepted = kept.accepted;
+  entries = kept.entries;
+  given = kept.given;
+  are = kept.are;
+  within = kept.within;
+  waits = tt;
 }
 accept-kept first commands replica (Some None) kept = record {
   accepted = kept.accepted;
   entries = Denied (length commands) ∷ kept.entries;
-  given = (kept.within, ap is_out (sym kept.are) ∙ kept.waits, kept.given);
+  given = (kept.within, tt, kept.given);
   are = ap (λ turns. Refuses ∷ turns) kept.are;
   within = omega arith;
   waits = tt;
@@ -338,7 +348,12 @@ step first now records p kept Subscribe = by (has_room now p.commands (notes_of 
     by true = granted-kept first now p kept
     by false = refused-kept first p kept
 step first now records p kept Accept = accept-kept first p.commands p.replica p.reply (record {
-  accepted = kept.accepted; entries = kept.entries; given = kept.given; are = kept.are; within = kept.within; waits = kept.waits;
+  accepted = kept.accepted;
+  entries = kept.entries;
+  given = kept.given;
+  are = kept.are;
+  within = kept.within;
+  waits = kept.waits;
 })
 step first now records p kept Unsubscribe = given_up-kept first now p (accepted p.replica) kept
 step first now records p kept (Deliver note) =

@@ -1,12 +1,12 @@
 -- What replies and notes leave of what a replica holds: the load's stage, or its copy.
-use Rattle.std.proofs.Common.{◌≡◌, ℕ, Bool, true, false, cond, not, ◌&&◌, ◌||◌, List, [], ◌∷◌, Option, Some, None, refl, sym, ap, ◌∙◌, subst}
+use Rattle.std.proofs.Common.{◌≡◌, ℕ, Bool, true, false, cond, not, ◌&&◌, ◌||◌, List, [], ◌∷◌, Option, Some, None, refl, sym, ap, ◌∙◌}
 use Rattle.cds_object.specs.Object.{ObjectRow}
 use Rattle.cds_model.specs.declared.exchange.Shown.{Shown}
 use Rattle.cds_model.specs.declared.exchange.Shown.TheVariants.{Text, Number, Page, Fault}
 use Rattle.cds_model.specs.Replica.{Held, Idle, Begun, HasToken, HasNumber, HasRoot, Lists, HasPage, HasCopy, Taken, Holds, Unreadable, Torn, taken, held_after, held_by, ReplicaTurn as LoadTurn, Begins as LoadBegins, Shows as LoadShows}
 use Rattle.cds_notes.specs.Commands.{Note}
 use Rattle.cds_notes.specs.Copy.{Reads, rows_after, known_of, least_unread}
-use Rattle.cds_notes.specs.Inbox.{ReplicaTurn, Begins, Shows, Requests, Accepts, Refuses, Delivers, taken_by}
+use Rattle.cds_notes.specs.Inbox.{Begins, Shows, Requests, Accepts, Refuses, Delivers, taken_by}
 use Rattle.cds_notes.specs.Follow.{Known, position, changes_above, Outcome, Knows, CannotBeRead, Jumps, Tears, load_begun, is_drop, dropped, with_notes, loaded, is_of, row_read, copy_read, with_reply, known_after, known_by, is_no}
 use Rattle.cds_notes.specs.KnownLaws.{has_copy}
 use Rattle.cds_notes.proofs.Heard.{knows-is, counted-stays, notes-leave}

@@ -1,4 +1,5 @@
 pub mod Bounded
+pub mod Delivered
 pub mod Given
 pub mod Held
 pub mod MayBe

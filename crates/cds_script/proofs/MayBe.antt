@@ -1,5 +1,5 @@
 -- The turns of a script may be: each may stand after the older ones, and its first number is one of the server's.
-use Rattle.std.proofs.Common.{◌≡◌, ℕ, suc, ◌+◌, ◌<◌, ◌≤◌, ◌^◌, List, [], ◌∷◌, length, take, reverse, Bool, true, false, cond, not, ◌&&◌, refl, ap, sym, subst, ◌∙◌, arith, true≢false, Option, Some, None, Result, Ok, Err}
+use Rattle.std.proofs.Common.{◌≡◌, ℕ, suc, ◌+◌, ◌<◌, ◌≤◌, ◌^◌, List, [], ◌∷◌, take, Bool, true, false, cond, ◌&&◌, refl, ap, sym, subst, ◌∙◌, arith, Option, Some, None, Result, Ok, Err}
 use Rattle.std.specs.Prelude.{nat_lt, codes}
 use Rattle.std.specs.List.{AllByRecursion, list_all, cons_option}
 use Rattle.std.proofs.lemmas.Bool.{and_parts, ltb-true}
@@ -9,14 +9,14 @@ use Rattle.cds_flac.specs.declared.info.FlacInfo.{FlacInfo}
 use Rattle.cds_object.specs.Path.{path_read}
 use Rattle.cds_object.specs.Content.{same_text}
 use Rattle.cds_model.specs.Script.{words_of, is_word, number_from_to, info_from}
-use Rattle.cds_model.specs.Played.{is_long, script_lines}
+use Rattle.cds_model.specs.Played.{script_lines}
 use Rattle.cds_script.specs.declared.turn.Meaning.{Meaning}
 use Rattle.cds_script.specs.declared.turn.Meaning.TheVariants.{Nothing, Means, Outside}
 use Rattle.cds_script.specs.declared.turn.Turn.{Turn}
 use Rattle.cds_script.specs.declared.turn.Turn.TheVariants.{Folder, Track, Scan, Load, Read, Ask, First, At, Subscribe, Accept, Unsubscribe, Deliver, ReadFault}
 use Rattle.cds_script.specs.Script.{folder_turn, track_turn, plain_turn, moment_limit, first_turn, at_turn, deliver_turn, number_turn, folder_line, track_line, plain_line, turn_of, meaning_of_turn, meaning_of_words, meaning_of, IsInRange, MeansInRange, lines_mean_in_range}
 use Rattle.cds_script.specs.Report.{number_of, first_of, may_stand}
-use Rattle.cds_script.specs.Played.{turn_in, is_within, is_answered, and_meant, answered_lines, AllStand, MayBe, script_turns_may_be}
+use Rattle.cds_script.specs.Played.{turn_in, is_within, is_answered, and_meant, answered_lines, AllStand, script_turns_may_be}
 use Rattle.cds_script.proofs.Played.{turns_in}
 
 -- ---- a first number that a line names is below its limit

@@ -1,15 +1,10 @@
 -- The report of a script is that of its turns and its last line, and its turns may be a script's.
-use Rattle.std.proofs.Common.{◌≡◌, ℕ, suc, ◌+◌, ◌<◌, ◌≤◌, ◌^◌, List, [], ◌∷◌, length, take, drop, reverse, Bool, true, false, cond, not, ◌&&◌, refl, ap, sym, subst, ◌∙◌, arith, append_assoc, true≢false, Option, Some, None, Result, Ok, Err}
-use Rattle.std.specs.Prelude.{nat_le, nat_eq, codes}
-use Rattle.std.specs.List.{filter_map, cons_option, list_all}
-use Rattle.std.proofs.lemmas.Bool.{and_parts}
+use Rattle.std.proofs.Common.{◌≡◌, ℕ, suc, ◌+◌, List, [], ◌∷◌, length, take, drop, reverse, Bool, true, false, cond, not, ◌&&◌, refl, ap, sym, ◌∙◌, arith, append_assoc, Option, Some, None}
+use Rattle.std.specs.Prelude.{nat_le}
+use Rattle.std.specs.List.{filter_map, cons_option}
 use mathlib.Core.List.{reverse_aux}
-use Rattle.cds_base.specs.Number.{plain_below}
-use Rattle.cds_flac.specs.declared.info.FlacInfo.{FlacInfo}
-use Rattle.cds_object.specs.Path.{path_read}
-use Rattle.cds_object.specs.Content.{same_text}
 use Rattle.cds_model.specs.Report.{Ending, written_first, outside_ending, limit_ending}
-use Rattle.cds_model.specs.Script.{lines_of, ended_lines, script_limit, words_of, is_word}
+use Rattle.cds_model.specs.Script.{lines_of, ended_lines, script_limit}
 use Rattle.cds_model.specs.Played.{is_long}
 use Rattle.cds_script.specs.declared.turn.Meaning.{Meaning}
 use Rattle.cds_script.specs.declared.turn.Meaning.TheVariants.{Nothing, Means, Outside}

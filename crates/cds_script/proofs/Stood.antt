@@ -1,12 +1,11 @@
 -- In a script nothing is refused, what stands is a scan end, and the answer is complete.
-use Rattle.std.proofs.Common.{◌≡◌, ℕ, zero, suc, ◌-◌, ◌<◌, ◌≤◌, List, [], ◌∷◌, ◌++◌, length, drop, Bool, true, false, nat_eq, ◌||◌, refl, ap, sym, subst, ◌∙◌, arith, true≢false, Option, Some, None}
+use Rattle.std.proofs.Common.{◌≡◌, ℕ, suc, ◌-◌, ◌≤◌, List, [], ◌∷◌, ◌++◌, length, Bool, true, false, nat_eq, ◌||◌, refl, ap, sym, subst, ◌∙◌, arith, true≢false, Some, None}
 use Rattle.std.specs.Prelude.{codes}
 use Rattle.std.specs.Fmt.{decimal}
-use Rattle.std.specs.List.{Contains, slice_index_or, list_any, AllByRecursion}
+use Rattle.std.specs.List.{Contains, list_any, AllByRecursion}
 use Rattle.std.proofs.lemmas.Bool.{eqb-true}
 use Rattle.cds_object.specs.Object.{ObjectRow}
 use Rattle.cds_object.specs.Fragment.{full_text}
-use Rattle.cds_catalog.specs.Library.{FolderMap}
 use Rattle.cds_catalog.specs.History.{History, end_of}
 use Rattle.cds_catalog.specs.Catalog.{catalog, catalog_at}
 use Rattle.cds_catalog.specs.Laws.{AreLibraries}
@@ -17,7 +16,7 @@ use Rattle.cds_model.specs.declared.exchange.Ask.{Ask as Asked}
 use Rattle.cds_notes.specs.Commands.{Command, Note, scans_of, granted, notes_of, alive_names, released_to, releases_of}
 use Rattle.cds_notes.specs.Inbox.{ReplicaTurn, Accepts, Delivers, is_out, accepted, received, has_seq, taken_by}
 use Rattle.cds_notes.specs.Follow.{Known, Knows, known_by, next_ask, with_reply, with_notes, says, copied}
-use Rattle.cds_notes.specs.Given.{oldest, moment_after, Entry, Asks, Granted, Gets, asked_at, given_by, latest_length, AreAccepted, IsGiven}
+use Rattle.cds_notes.specs.Given.{oldest, moment_after, Asks, Granted, Gets, asked_at, given_by, latest_length}
 use Rattle.cds_notes.specs.HonestLaws.{load_was_begun}
 use Rattle.cds_notes.specs.declared.says.Says.TheVariants.{Stands}
 use Rattle.cds_notes.proofs.Served.{scans-first, dropped-grows}
@@ -25,9 +24,9 @@ use Rattle.cds_notes.proofs.Honest.{stood, entries-served, entry-taken}
 use Rattle.cds_notes.proofs.Complete.{answers-complete}
 use Rattle.cds_script.specs.declared.turn.Turn.{Turn}
 use Rattle.cds_script.specs.declared.turn.Turn.TheVariants.{Ask}
-use Rattle.cds_script.specs.Report.{first_of, clock_of, sent_note, lives, Played, played, history_of, written_by, answer_text}
+use Rattle.cds_script.specs.Report.{first_of, clock_of, sent_note, lives, Played, played, history_of, answer_text}
 use Rattle.cds_script.specs.Played.{AllStand, MayBe}
-use Rattle.cds_script.specs.ScriptGiven.{AreTaken, nothing_is_refused, all_turns_stand_at_scan_ends, IsComplete, answers_are_complete}
+use Rattle.cds_script.specs.ScriptGiven.{nothing_is_refused, all_turns_stand_at_scan_ends, answers_are_complete}
 use Rattle.cds_script.proofs.Given.{Waits, Kept, oldest-all, sent-contained, turns-kept}
 
 -- ---- older turns may be
@@ -125,8 +124,7 @@ scan-end first p kept number stands =
 pub turns-stand : all_turns_stand_at_scan_ends
 turns-stand turns may newer older number parts stands =
     let kept = turns-kept older (may-before_ask newer older turns parts may).number in
-    let end = scan-end (first_of older) (played older) kept number stands in
-    (
+    let end = scan-end (first_of older) (played older) kept number stands in (
       end,
       ap (answer_text (history_of older)) stands
           ∙ ap (λ rows. codes "stands " ++ decimal number ++ codes "\n" ++ full_text rows)
@@ -151,7 +149,7 @@ stands-complete : (first now name : ℕ) (p : Played) → Kept first p → load_
     says p.replica ≡ Stands (end_of (scans_of first p.commands))
 stands-complete first now name p kept begun named alive all released nothing =
     ap says are
-    ∙ answers-complete first p.commands (Asks (length p.commands)) kept.entries name now kept.accepted (kept.within, tt, kept.given) (omega arith)
+    ∙ answers-complete first p.commands (Asks (length p.commands)) kept.entries name now kept.accepted (kept.within, tt, kept.given)
     (ap load_was_begun (sym are) ∙ begun) (ap accepted (sym are) ∙ named) (any-contained name (alive_names now p.commands (notes_of first p.commands)) alive)
     (subst (λ (turns : List ReplicaTurn). AllByRecursion (λ (note : Note). note.name ≡ name → has_seq (received turns) note.seq ≡ true) (notes_of first p.commands)) are all)
     released (ap (λ turns. next_ask (known_by turns)) (sym are) ∙ nothing)
@@ -164,8 +162,7 @@ stands-complete first now name p kept begun named alive all released nothing =
 pub answers-are_complete : answers_are_complete
 answers-are_complete turns name may complete =
     let kept = turns-kept turns may.number in
-    let stands = stands-complete (first_of turns) (clock_of turns) name (played turns) kept complete.begun complete.named complete.alive complete.all complete.released complete.nothing in
-    (
+    let stands = stands-complete (first_of turns) (clock_of turns) name (played turns) kept complete.begun complete.named complete.alive complete.all complete.released complete.nothing in (
       stands,
       ap (answer_text (history_of turns)) stands
           ∙ ap (λ rows. codes "stands " ++ decimal (end_of (history_of turns)) ++ codes "\n" ++ full_text rows)

@@ -1,3 +1,4 @@
+pub mod Complete
 pub mod Evaluated
 pub mod LoadBounds
 pub mod LoadTurns

@@ -1,7 +1,17 @@
 -- Scripts with notes whose reports are evaluated from the definitions, from bytes to status and text.
-use Rattle.std.specs.Prelude.{◌+◌, ℕ, zero, suc, List, [], ◌++◌, codes}
+use Rattle.std.specs.Prelude.{◌≡◌, ◌+◌, ℕ, zero, suc, false, List, [], ◌∷◌, ◌++◌, map, Some, codes}
 use Rattle.std.specs.Fmt.{decimal}
 use Rattle.cds_model.specs.Evaluated.{root_line, small_item}
+use Rattle.cds_event.specs.declared.Class.TheVariants.{Track as IsTrack}
+use Rattle.cds_event.specs.declared.Event.TheVariants.{ObjAdd}
+use Rattle.cds_notes.specs.Commands.{Command, Grants, Note, scans_of, releases_of, released_containers, notes_of}
+use Rattle.cds_notes.specs.Inbox.{ReplicaTurn, Delivers, IsRepeat, IsTooMany, IsHeld, IsNext, arrival}
+use Rattle.cds_notes.specs.Follow.{says, and_turn}
+use Rattle.cds_notes.specs.Given.{given_by}
+use Rattle.cds_notes.specs.Evaluated.{prepared as loaded}
+use Rattle.cds_notes.specs.declared.says.Says.TheVariants.{Gap}
+use Rattle.cds_script.specs.Report.{sent_note, played}
+use Rattle.cds_script.specs.Played.{script_turns}
 use Rattle.cds_script.specs.Evaluated.{Leaves, times}
 
 -- a track of ten bytes, a second one and a third
@@ -58,12 +68,25 @@ read_ahead_of_notes = Leaves
     ++ root_line (codes "1") (codes "2") (codes "0")
     ++ item_of (codes "1") (codes "a") (codes "2") (codes "11"))
 
--- releases are 200 milliseconds apart, and one release tells both scans before it
+-- three scans between ticks: releases are 200 milliseconds apart, and one release tells both scans before it
+abbrev pub three_scans : List ℕ
+three_scans =
+    codes "subscribe\naccept\n" ++ one_track ++ codes "scan\nat 1000\n" ++ two_tracks ++ codes "scan\nat 1100\n"
+    ++ three_tracks ++ codes "scan\nat 1199\nat 1200\n"
+
 abbrev pub releases_are_apart : Type 0
-releases_are_apart = Leaves
-    (codes "subscribe\naccept\n" ++ one_track ++ codes "scan\nat 1000\n" ++ two_tracks ++ codes "scan\nat 1100\n"
-    ++ three_tracks ++ codes "scan\nat 1199\nat 1200\n") 0
+releases_are_apart = Leaves three_scans 0
     (codes "note 1 seq 0 at 0\naccept 200\nscan 1\nnote 2 seq 1 at 1\nscan 2\nscan 3\nnote 3 seq 2 at 3\n")
+
+-- what that release tells: two additions, and that the root changed
+abbrev pub accepted_commands : List Command
+accepted_commands = (played (script_turns three_scans)).commands
+
+abbrev pub releases_tell : Type 0
+releases_tell =
+    (sent_note 3 (notes_of 0 accepted_commands)
+    ≡ Some (record { name = 1; seq = 2; number = 3; events = ObjAdd 2 2 false 0 IsTrack ∷ ObjAdd 3 3 false 0 IsTrack ∷ [] }))
+    × (map (released_containers (scans_of 0 accepted_commands)) (releases_of 0 accepted_commands) ≡ ((0, 3) ∷ []) ∷ ((0, 1) ∷ []) ∷ [])
 
 -- a first note above the position drops the copy and begins a load
 abbrev pub first_note_above : Type 0
@@ -124,3 +147,24 @@ first_note_while_loading = Leaves
     (codes "load\nread\nread\n" ++ one_track ++ codes "scan\nsubscribe\naccept\ndeliver 1\n" ++ times 5 (codes "read\n") ++ codes "ask\nread\nask\nread\n") 0
     (codes "read ok\nread ok\nscan 1\nnote 1 seq 0 at 1\naccept 200\ndeliver 1 took\n" ++ times 5 (codes "read ok\n") ++ codes "behind load\nread ok\nstands 1\n"
     ++ root_line (codes "1") (codes "1") (codes "0") ++ ten_bytes (codes "1") (codes "a") (codes "1") ++ codes "read none\n")
+
+-- the note of a SEQ, each of which tells one more track; and a replica with a copy of an empty library that took the first note,
+-- to which so many notes came from SEQ 2 on
+abbrev pub note_at : ℕ → Note
+note_at seq = record { name = 1; seq = seq; number = seq; events = ObjAdd seq seq false 0 IsTrack ∷ [] }
+
+abbrev pub came : ℕ → List ReplicaTurn
+came zero = given_by 0 (Grants 0 ∷ []) loaded
+came (suc n) = and_turn (Delivers (note_at (n + 2))) (came n)
+
+-- with 64 notes held a further one is refused and counts as lost; a repeat is a repeat, and the next one is taken with those that
+-- follow it; then the one that was lost is missing
+abbrev pub sixty_four_are_held : Type 0
+sixty_four_are_held =
+    (arrival (note_at 65) (came 63) ≡ IsHeld 1)
+    × (arrival (note_at 66) (came 64) ≡ IsTooMany 64)
+    × (and_turn (Delivers (note_at 66)) (came 64) ≡ came 64)
+    × (arrival (note_at 65) (came 64) ≡ IsRepeat)
+    × (arrival (note_at 1) (came 64) ≡ IsNext)
+    × (arrival (note_at 67) (and_turn (Delivers (note_at 1)) (came 64)) ≡ IsHeld 66)
+    × (says (and_turn (Delivers (note_at 67)) (and_turn (Delivers (note_at 1)) (came 64))) ≡ Gap 66)

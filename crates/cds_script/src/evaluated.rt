@@ -93,6 +93,11 @@ pub fn releases_are_apart()
     ensures { noted.releases_are_apart }
 {}
 
+/// What a release tells of two scans.
+pub fn releases_tell()
+    ensures { noted.releases_tell }
+{}
+
 /// A first note above the position drops the copy and begins a load.
 pub fn first_note_above()
     ensures { noted.first_note_above }
@@ -141,4 +146,9 @@ pub fn gap_before_load()
 /// A first note above the position lets a running load begin anew.
 pub fn first_note_while_loading()
     ensures { noted.first_note_while_loading }
+{}
+
+/// At most 64 notes are held.
+pub fn sixty_four_are_held()
+    ensures { noted.sixty_four_are_held }
 {}

@@ -1,5 +1,6 @@
 //! Laws of scripts with notes: each function's contract is one of them.
 
+ghost use Rattle.cds_script.specs.Complete as complete;
 ghost use Rattle.cds_script.specs.LoadBounds as bounds;
 ghost use Rattle.cds_script.specs.LoadTurns as loads;
 ghost use Rattle.cds_script.specs.Played as played;
@@ -58,4 +59,21 @@ pub fn loads_are_bounded()
 /// In the report of a script each line `behind load` obeys the bound on loads.
 pub fn all_turns_bound_loads()
     ensures { bounds.all_turns_bound_loads }
+{}
+
+/// What was sent to the subscription that was accepted last and was delivered, not answered `full`, is received.
+pub fn delivered_notes_are_received()
+    ensures { complete.delivered_notes_are_received }
+{}
+
+/// After a read that wrote `read none` nothing is to be read until a load is begun, a reply accepted or a note delivered.
+pub fn nothing_is_to_be_read()
+    ensures { complete.nothing_is_to_be_read }
+{}
+
+/// The answer is complete in the words of a script: where a load was begun, the accepted subscription lives, each of its notes
+/// was delivered and none of them answered `full`, every change is released, and a read wrote `read none` since, an ask writes
+/// the server's number and the catalog after all scans.
+pub fn all_answers_are_complete()
+    ensures { complete.all_answers_are_complete }
 {}

@@ -1,0 +1,20 @@
+-- Laws of releases and of the SEQs of notes, over the commands alone.
+use Rattle.std.specs.Prelude.{◌≡◌, ◌<◌, ◌≤◌, ◌+◌, ℕ, true, List, ◌∷◌, ◌++◌, map}
+use Rattle.std.specs.List.{range_with_len}
+use Rattle.cds_catalog.specs.History.{end_of}
+use Rattle.cds_notes.specs.Commands.{Command, Release, Note, scans_of, release_size, released_to, may_release, releases_of, next_seq_of, notes_of}
+use Rattle.cds_notes.specs.Given.{oldest, AreAccepted}
+use Rattle.cds_notes.specs.NoteLaws.{sent_to}
+
+-- each release begins where the one before it ended, comes after its pause, has at least one change and no more than its size
+-- allows, and ends at a scan end: so each takes at least one scan with changes, however many changes that had
+abbrev pub releases_go_on : Type 0
+releases_go_on = (first : ℕ) (commands : List Command) (release : Release) (newer older : List Release) → AreAccepted first commands →
+    releases_of first commands ≡ newer ++ release ∷ older →
+    (release.from ≡ released_to first older) × (release.from < release.to) × (release.to ≤ release.from + release_size)
+    × (may_release release.moment older ≡ true) × ((j : ℕ) × (end_of (scans_of first (oldest j commands)) ≡ release.to))
+
+-- the notes of a name have the SEQs 0, 1, 2 and so on, in the order in which they were sent
+abbrev pub seqs_count_from_zero : Type 0
+seqs_count_from_zero = (first : ℕ) (commands : List Command) (name : ℕ) →
+    map (λ (note : Note). note.seq) (sent_to name (notes_of first commands)) ≡ range_with_len 0 (next_seq_of name (notes_of first commands))

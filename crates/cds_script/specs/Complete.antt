@@ -1,0 +1,76 @@
+-- The answer is complete, in the words of a script: a load was begun, the subscription that was accepted last lives, every note
+-- that was sent to it was delivered, no change waits for its release, and a read found nothing to be read.
+use Rattle.std.specs.Prelude.{◌≡◌, ℕ, Bool, true, false, List, ◌∷◌, ◌++◌, Some, None, codes}
+use Rattle.std.specs.List.{AllByRecursion, list_all}
+use Rattle.std.specs.Fmt.{decimal}
+use Rattle.cds_object.specs.Fragment.{full_text}
+use Rattle.cds_catalog.specs.History.{end_of}
+use Rattle.cds_catalog.specs.Catalog.{catalog}
+use Rattle.cds_notes.specs.Commands.{Note, notes_of, released_to, releases_of}
+use Rattle.cds_notes.specs.Inbox.{Arrival, IsUnknown, IsRepeat, IsTooMany, IsEarly, IsHeld, IsNext, accepted, received, has_seq, arrival}
+use Rattle.cds_notes.specs.Follow.{known_by, next_ask}
+use Rattle.cds_notes.specs.HonestLaws.{load_was_begun}
+use Rattle.cds_script.specs.declared.turn.Turn.{Turn}
+use Rattle.cds_script.specs.declared.turn.Turn.TheVariants.{Folder, Track, Scan, Load, Read, Ask, First, At, Subscribe, Accept, Unsubscribe, Deliver, ReadFault}
+use Rattle.cds_script.specs.Report.{first_of, clock_of, sent_note, lives, played, history_of, written_by}
+use Rattle.cds_script.specs.Played.{MayBe}
+
+-- whether a delivery is answered `full`
+abbrev pub is_full : Arrival → Bool
+is_full IsUnknown = false
+is_full IsRepeat = false
+is_full (IsTooMany held) = true
+is_full IsEarly = false
+is_full (IsHeld seq) = false
+is_full IsNext = false
+
+-- each note that was sent to a name was delivered, at least once so that the answer was not `full`
+abbrev pub WereDelivered : List Turn → ℕ → Type 0
+WereDelivered turns name = (number : ℕ) (note : Note) →
+    sent_note number (notes_of (first_of turns) (played turns).commands) ≡ Some note → note.name ≡ name →
+    (newer : List Turn) × (older : List Turn) × (turns ≡ newer ++ Deliver number ∷ older) × (is_full (arrival note (played older).replica) ≡ false)
+
+-- what was sent to the name that was accepted last and was delivered is received
+abbrev pub delivered_notes_are_received : Type 0
+delivered_notes_are_received = (turns : List Turn) (name : ℕ) → MayBe turns → accepted (played turns).replica ≡ Some name → WereDelivered turns name →
+    AllByRecursion (λ (note : Note). note.name ≡ name → has_seq (received (played turns).replica) note.seq ≡ true)
+    (notes_of (first_of turns) (played turns).commands)
+
+-- whether a turn leaves what is to be read, where nothing is: it begins no load, and takes no note
+abbrev pub is_quiet : Turn → Bool
+is_quiet (Folder path) = true
+is_quiet (Track path content) = true
+is_quiet Scan = true
+is_quiet Load = false
+is_quiet Read = true
+is_quiet Ask = true
+is_quiet (First number) = true
+is_quiet (At moment) = true
+is_quiet Subscribe = true
+is_quiet Accept = false
+is_quiet Unsubscribe = true
+is_quiet (Deliver note) = false
+is_quiet ReadFault = true
+
+-- after a read that wrote `read none` nothing is to be read until a load is begun, a reply accepted or a note delivered
+abbrev pub nothing_is_to_be_read : Type 0
+nothing_is_to_be_read = (newer older : List Turn) → written_by older Read ≡ codes "read none\n" → list_all is_quiet newer ≡ true →
+    next_ask (known_by (played (newer ++ Read ∷ older)).replica) ≡ None
+
+-- the premises, of the turns before an ask
+pub record IsDelivered (turns : List Turn) (name : ℕ) : Type 0 where
+  pub begun : load_was_begun (played turns).replica ≡ true
+  pub named : accepted (played turns).replica ≡ Some name
+  pub alive : lives name (first_of turns) (clock_of turns) (played turns).commands ≡ true
+  pub delivered : WereDelivered turns name
+  pub released : released_to (first_of turns) (releases_of (first_of turns) (played turns).commands) ≡ end_of (history_of turns)
+  pub newer : List Turn
+  pub older : List Turn
+  pub parts : turns ≡ newer ++ Read ∷ older
+  pub nothing : written_by older Read ≡ codes "read none\n"
+  pub quiet : list_all is_quiet newer ≡ true
+
+-- then the ask writes the server's number and the catalog after all scans
+abbrev pub all_answers_are_complete : Type 0
+all_answers_are_complete = (turns newer older : List Turn) (name : ℕ) → MayBe turns → turns ≡ newer ++ Ask ∷ older → IsDelivered older name →
+    written_by older Ask ≡ codes "stands " ++ decimal (end_of (history_of older)) ++ codes "\n" ++ full_text (catalog (history_of older))
