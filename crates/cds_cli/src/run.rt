@@ -2,9 +2,11 @@
 
 ghost use Rattle.std.specs.Prelude.{◌≡◌, ◌≢◌, ◌⊎◌, ◌≤◌, ◌<◌, ◌+◌, ◌++◌, ℕ, [], Some, None, List, OnErr, OnOk};
 ghost use Rattle.cds_base.specs.Outside.{raised, Rose, WhereTold};
-ghost use Rattle.cds_model.specs.Report.{script_ending};
-ghost use Rattle.cds_model.specs.Played.{script_turns, script_stop, report_of, IsReportOf, BoundsLoads};
-ghost use Rattle.cds_model.specs.Stood.{StandsAtScanEnds};
+ghost use Rattle.cds_script.specs.Complete.{AnswersAreComplete};
+ghost use Rattle.cds_script.specs.LoadBounds.{BoundsLoads};
+ghost use Rattle.cds_script.specs.Played.{script_turns, script_stop, report_of, IsReportOf};
+ghost use Rattle.cds_script.specs.Report.{script_ending};
+ghost use Rattle.cds_script.specs.ScriptGiven.{StandsAtScanEnds};
 ghost use Rattle.cds_cli.specs.Command.{command_of, help_text, version_text, usage_text};
 ghost use Rattle.cds_cli.specs.Run.{Ends, Writes, EndsText, WritesText};
 ghost use Rattle.cds_cli.specs.declared.command.Command.TheVariants.{Replay, Help, Version};
@@ -65,6 +67,7 @@ fn play<S: Source, K: Sink>(alloc: Global, source: &mut S, sink: &mut K) -> u8
     ensures turns { WhereTold (S.left source.old) (λ bytes. IsReportOf (script_turns bytes) (script_stop bytes) (script_ending bytes)) }
     ensures load_bound { WhereTold (S.left source.old) (λ bytes. BoundsLoads (script_turns bytes)) }
     ensures stands { WhereTold (S.left source.old) (λ bytes. StandsAtScanEnds (script_turns bytes)) }
+    ensures complete { WhereTold (S.left source.old) (λ bytes. AnswersAreComplete (script_turns bytes)) }
 {
     match replay(alloc, source, sink) {
         Ok(()) => 0,
@@ -96,13 +99,18 @@ pub fn run<S: Source, K: Sink>(alloc: Global, words: &Words, source: &mut S, sin
 
     // What was written is what the script's turns write, one after the other, and then its last line. Each ask of these
     // turns that writes `behind load` comes before any load was begun, or after fewer reads than a load of the catalog takes,
-    // and two more, since the load began and the catalog last changed.
+    // and two more, since the load began, a first note dropped the copy, or the catalog last changed.
     ensures turns { command_of words.now ≡ Some Replay → WhereTold (S.left source.old) (λ bytes. WhereTold (K.holds sink.old) (λ before. Writes result (report_of (script_turns bytes) ++ (script_stop bytes).text) before (K.holds sink.new))) }
     ensures load_bound { command_of words.now ≡ Some Replay → WhereTold (S.left source.old) (λ bytes. BoundsLoads (script_turns bytes)) }
 
     // Each ask of these turns that writes `stands` and a number writes a scan end of the scans that were accepted by then, and
     // after it the rows of the catalog after the scans up to this one.
     ensures stands { command_of words.now ≡ Some Replay → WhereTold (S.left source.old) (λ bytes. StandsAtScanEnds (script_turns bytes)) }
+
+    // The answer is complete: an ask of these turns writes the server's number and the catalog after all scans where a load
+    // was begun, the subscription that was accepted last lives, each note that was sent to it was delivered and none of them
+    // answered `full`, no change waits for its release, and a read wrote `read none` since the last note.
+    ensures complete { command_of words.now ≡ Some Replay → WhereTold (S.left source.old) (λ bytes. AnswersAreComplete (script_turns bytes)) }
 
     // Faults of the outside come only where their count rose.
     ensures read_fault { result ≡ 2 → Rose (S.faults source.old) (S.faults source.new) }

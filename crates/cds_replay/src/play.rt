@@ -3,9 +3,12 @@
 ghost use Rattle.std.specs.Prelude.{◌≡◌, ℕ, ◌+◌, ◌-◌, ◌<◌, ◌≤◌, ◌++◌, ◌⊎◌, [], ◌∷◌, List, true, Option, Some, length, take, drop, IfOk, IfErr, OnOk, OnErr};
 ghost use Rattle.cds_base.specs.Outside.{raised, Rose, WhereTold};
 ghost use Rattle.cds_model.specs.Script.{is_unbroken, line_limit, script_limit};
-ghost use Rattle.cds_model.specs.Report.{Ending, outside_ending, script_ending};
-ghost use Rattle.cds_model.specs.Played.{script_turns, script_stop, IsReportOf, BoundsLoads};
-ghost use Rattle.cds_model.specs.Stood.{StandsAtScanEnds};
+ghost use Rattle.cds_model.specs.Report.{Ending, outside_ending};
+ghost use Rattle.cds_script.specs.Complete.{AnswersAreComplete};
+ghost use Rattle.cds_script.specs.LoadBounds.{BoundsLoads};
+ghost use Rattle.cds_script.specs.Played.{script_turns, script_stop, IsReportOf};
+ghost use Rattle.cds_script.specs.Report.{script_ending};
+ghost use Rattle.cds_script.specs.ScriptGiven.{StandsAtScanEnds};
 ghost use Rattle.cds_replay.specs.Script.{left_in, Sound, GoesOn};
 ghost use Rattle.cds_replay.specs.Replay.{OnLine, OnLimit, OnReadFault, OnWriteFault, Holds, EndsIn, Played, Stopped, answer_of};
 
@@ -53,8 +56,8 @@ impl From<Mem> for ReplayError {
 /// looked at. However the replay ends, it takes at most one byte more of the source than a script may have (`taken`).
 ///
 /// The report is what the script's turns write, one after the other, and then its last line (`turns`); each line `behind
-/// load` in it obeys the bound on loads (`load_bound`), and each line `stands` tells a scan end, with the catalog of the scans
-/// up to it (`stands`).
+/// load` in it obeys the bound on loads (`load_bound`), each line `stands` tells a scan end, with the catalog of the scans
+/// up to it (`stands`), and where all notes were delivered and all was read the answer is the server's (`complete`).
 pub fn replay<S: Source, K: Sink>(
     alloc: Global,
     source: &mut S,
@@ -78,10 +81,13 @@ pub fn replay<S: Source, K: Sink>(
     ensures turns { WhereTold (S.left source.old) (λ script. IsReportOf (script_turns script) (script_stop script) (script_ending script)) }
     ensures load_bound { WhereTold (S.left source.old) (λ script. BoundsLoads (script_turns script)) }
     ensures stands { WhereTold (S.left source.old) (λ script. StandsAtScanEnds (script_turns script)) }
+    ensures complete { WhereTold (S.left source.old) (λ script. AnswersAreComplete (script_turns script)) }
 {
-    cds_model::reports_are_of_turns();
-    cds_model::all_turns_bound_loads();
-    cds_model::all_turns_stand_at_scan_ends();
+    cds_script::script_turns_may_be();
+    cds_script::reports_are_of_turns();
+    cds_script::all_turns_bound_loads();
+    cds_script::all_turns_stand_at_scan_ends();
+    cds_script::all_answers_are_complete();
     let mut script = Script::new(alloc)?;
     let mut buffer = empty_piece(alloc)?;
     play_on(alloc, &mut script, buffer.as_mut_slice(), source, sink)

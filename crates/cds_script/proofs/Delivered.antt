@@ -557,7 +557,7 @@ nothing-read (turn ∷ newer) older wrote quiet =
 -- ---- the answer is complete
 
 pub answers-complete : all_answers_are_complete
-answers-complete turns newer older name may parts is =
+answers-complete turns may newer older name parts is =
     let before = may-before_ask newer older turns parts may in
     (answers-are_complete older name before (record {
       begun = is.begun;

@@ -71,6 +71,9 @@ pub record IsDelivered (turns : List Turn) (name : ℕ) : Type 0 where
   pub quiet : list_all is_quiet newer ≡ true
 
 -- then the ask writes the server's number and the catalog after all scans
-abbrev pub all_answers_are_complete : Type 0
-all_answers_are_complete = (turns newer older : List Turn) (name : ℕ) → MayBe turns → turns ≡ newer ++ Ask ∷ older → IsDelivered older name →
+abbrev pub AnswersAreComplete : List Turn → Type 0
+AnswersAreComplete turns = (newer older : List Turn) (name : ℕ) → turns ≡ newer ++ Ask ∷ older → IsDelivered older name →
     written_by older Ask ≡ codes "stands " ++ decimal (end_of (history_of older)) ++ codes "\n" ++ full_text (catalog (history_of older))
+
+abbrev pub all_answers_are_complete : Type 0
+all_answers_are_complete = (turns : List Turn) → MayBe turns → AnswersAreComplete turns

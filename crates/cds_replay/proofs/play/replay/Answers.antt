@@ -2,8 +2,8 @@
 use Rattle.std.proofs.Common.{◌+◌, ◌-◌, ◌≤◌, IfErr, subst}
 use Rattle.std.proofs.lemmas.Result.{on_ok_weaker}
 use Rattle.cds_base.specs.Outside.{raised}
-use Rattle.cds_model.specs.Played.{script_turns}
-use Rattle.cds_model.specs.Report.{script_ending}
+use Rattle.cds_script.specs.Played.{script_turns}
+use Rattle.cds_script.specs.Report.{script_ending}
 use Rattle.cds_model.specs.Script.{line_limit, script_limit}
 use Rattle.cds_replay.specs.Replay.{OnLimit}
 use Rattle.cds_replay.proofs.Playing.{ok-told, line-told, limit-told}
@@ -59,19 +59,28 @@ returns-clause-limit_moved g c =
     c.in_ok-script.ensures.left c.play_on.ensures.limit
 
 pub returns-clause-load_bound : goal.returns-clause-load_bound
-returns-clause-load_bound g c = λ bytes told. c.all_turns_bound_loads.ensures (script_turns bytes)
+returns-clause-load_bound g c = λ bytes told. c.all_turns_bound_loads.ensures (script_turns bytes) (c.script_turns_may_be.ensures bytes)
 
 pub returns-in_err-script-clause-load_bound : goal.returns-in_err-script-clause-load_bound
-returns-in_err-script-clause-load_bound g c = λ bytes told. c.all_turns_bound_loads.ensures (script_turns bytes)
+returns-in_err-script-clause-load_bound g c = λ bytes told. c.all_turns_bound_loads.ensures (script_turns bytes) (c.script_turns_may_be.ensures bytes)
 
 pub returns-in_err-buffer-clause-load_bound : goal.returns-in_err-buffer-clause-load_bound
-returns-in_err-buffer-clause-load_bound g c = λ bytes told. c.all_turns_bound_loads.ensures (script_turns bytes)
+returns-in_err-buffer-clause-load_bound g c = λ bytes told. c.all_turns_bound_loads.ensures (script_turns bytes) (c.script_turns_may_be.ensures bytes)
 
 pub returns-clause-stands : goal.returns-clause-stands
-returns-clause-stands g c = λ bytes told. c.all_turns_stand_at_scan_ends.ensures (script_turns bytes)
+returns-clause-stands g c = λ bytes told. c.all_turns_stand_at_scan_ends.ensures (script_turns bytes) (c.script_turns_may_be.ensures bytes)
 
 pub returns-in_err-script-clause-stands : goal.returns-in_err-script-clause-stands
-returns-in_err-script-clause-stands g c = λ bytes told. c.all_turns_stand_at_scan_ends.ensures (script_turns bytes)
+returns-in_err-script-clause-stands g c = λ bytes told. c.all_turns_stand_at_scan_ends.ensures (script_turns bytes) (c.script_turns_may_be.ensures bytes)
 
 pub returns-in_err-buffer-clause-stands : goal.returns-in_err-buffer-clause-stands
-returns-in_err-buffer-clause-stands g c = λ bytes told. c.all_turns_stand_at_scan_ends.ensures (script_turns bytes)
+returns-in_err-buffer-clause-stands g c = λ bytes told. c.all_turns_stand_at_scan_ends.ensures (script_turns bytes) (c.script_turns_may_be.ensures bytes)
+
+pub returns-clause-complete : goal.returns-clause-complete
+returns-clause-complete g c = λ bytes told. c.all_answers_are_complete.ensures (script_turns bytes) (c.script_turns_may_be.ensures bytes)
+
+pub returns-in_err-script-clause-complete : goal.returns-in_err-script-clause-complete
+returns-in_err-script-clause-complete g c = λ bytes told. c.all_answers_are_complete.ensures (script_turns bytes) (c.script_turns_may_be.ensures bytes)
+
+pub returns-in_err-buffer-clause-complete : goal.returns-in_err-buffer-clause-complete
+returns-in_err-buffer-clause-complete g c = λ bytes told. c.all_answers_are_complete.ensures (script_turns bytes) (c.script_turns_may_be.ensures bytes)
