@@ -1,10 +1,11 @@
 -- How a script goes on after its bytes so far, and how it ends.
 use Rattle.std.specs.Prelude.{◌≡◌, ℕ, ◌+◌, ◌-◌, ◌≤◌, true, List, ◌++◌, length, Option, Some, None, codes}
 use Rattle.std.specs.Fmt.{decimal}
-use Rattle.cds_model.specs.declared.turn.Meaning.{Meaning}
-use Rattle.cds_model.specs.declared.turn.Turn.{Turn}
+use Rattle.cds_script.specs.declared.turn.Meaning.{Meaning}
+use Rattle.cds_script.specs.declared.turn.Turn.{Turn}
 use Rattle.cds_model.specs.Script.{is_unbroken, line_limit, script_limit}
-use Rattle.cds_model.specs.Report.{Ending, ending_at, ending_of, written_first}
+use Rattle.cds_model.specs.Report.{Ending, written_first}
+use Rattle.cds_script.specs.Report.{ending_at, ending_of}
 use Rattle.cds_replay.specs.Session.{Playing, IsAfter}
 use Rattle.cds_replay.specs.declared.script.Script.{Script}
 use Rattle.cds_replay.specs.declared.script.Stop.{Stop}

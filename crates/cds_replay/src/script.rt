@@ -1,16 +1,18 @@
 //! A script that comes part by part: each line is answered as soon as it has ended.
 
 ghost use Rattle.std.specs.Prelude.{◌≡◌, ℕ, ◌+◌, ◌<◌, ◌≤◌, ◌++◌, ◌^◌, [], ◌∷◌, List, true, length, IfOk, OnOk, MatchOption, string_bytes};
-ghost use Rattle.cds_model.specs.declared.turn.Turn.{Turn};
-ghost use Rattle.cds_model.specs.Script.{is_unbroken, line_limit, meaning_of, script_limit};
-ghost use Rattle.cds_model.specs.Report.{Ending, script_ending};
+ghost use Rattle.cds_script.specs.declared.turn.Turn.{Turn};
+ghost use Rattle.cds_model.specs.Script.{is_unbroken, line_limit, script_limit};
+ghost use Rattle.cds_script.specs.Script.{meaning_of};
+ghost use Rattle.cds_model.specs.Report.{Ending};
+ghost use Rattle.cds_script.specs.Report.{script_ending};
 ghost use Rattle.cds_replay.specs.Session.{IsAfter};
 ghost use Rattle.cds_replay.specs.Script.{stop_text, left_in, Sound, GoesOn, Fed, Finished, WhileGoing, AtLimit, LineRead};
 
 use crate::put::{put, put_number};
 use crate::session::Session;
 use cds_base::Mem;
-use cds_model::{Meaning, read_line};
+use cds_script::{Meaning, read_line};
 use memchr::memchr;
 use std::alloc::Global;
 use std::mem::replace;
@@ -44,7 +46,7 @@ pub struct Script {
 
 impl Script {
     /// A script of which nothing has come.
-    #[tactic(auto, unfolding(cds_model::specs::Report::script_ending))]
+    #[tactic(auto, unfolding(cds_script::specs::Report::script_ending))]
     pub fn new(alloc: Global) -> Result<Script, Mem>
         ensures sound { IfOk result Sound }
         ensures left { IfOk result (λ script. left_in script ≡ script_limit) }

@@ -2,7 +2,7 @@
 use Rattle.std.proofs.Common.{◌≡◌, ◌==◌, length, vec_len, ap, ◌∙◌, sym, subst, string_bytes}
 use Rattle.std.proofs.lemmas.Bool.{true≢false}
 use Rattle.std.proofs.lemmas.Result.{IfOk-weaker}
-use Rattle.cds_model.specs.Script.{meaning_of}
+use Rattle.cds_script.specs.Script.{meaning_of}
 use Rattle.cds_replay.specs.Script.{LineRead}
 use Rattle.cds_replay.proofs.Scripts.{last-ends}
 use Rattle.cds_replay.proofs.script.Script.finish.Goals as goal
