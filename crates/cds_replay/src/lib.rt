@@ -3,6 +3,7 @@
 
 mod book;
 mod fragment;
+mod laws;
 mod note;
 mod play;
 mod put;
