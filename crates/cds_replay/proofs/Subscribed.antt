@@ -1,12 +1,12 @@
 -- What one command does to the subscriptions that a server keeps.
 use Rattle.std.proofs.Common.{◌≡◌, ◌⊎◌, inl, inr, ◌+◌, ◌<◌, ◌≤◌, ℕ, zero, suc, Bool, true, false, cond, not, ◌&&◌, nat_eq, nat_lt, nat_le, List, [], ◌∷◌, ◌++◌, map, filter, length, Option, Some, None, is_some, refl, sym, ap, ◌∙◌, subst, arith, true≢false, eq-eqb, eqb-true, ne_eqb, ltb-true, ltb-false, lt-ltb}
-use Rattle.std.specs.List.{list_any, filter_map, cons_option, range_with_len}
+use Rattle.std.specs.List.{AllByRecursion, filter_map, cons_option, range_with_len}
 use Rattle.std.proofs.lemmas.Bool.{cases_lt, eqb-false}
 use Rattle.std.proofs.lemmas.List.{append-nil}
 use Rattle.std.proofs.lemmas.List.Elements.{filter_map-append}
 use Rattle.cds_catalog.specs.Library.{FolderMap}
 use Rattle.cds_catalog.specs.History.{History, end_of}
-use Rattle.cds_changes.specs.Events.{events_between}
+use Rattle.cds_catalog.proofs.StepsFind.{each-filter, none≢some}
 use Rattle.cds_changes.proofs.Numbers.{range-more}
 use Rattle.cds_notes.specs.Commands.{Command, Scans, Grants, Ends, Ticks, scans_of, Release, release_at, releases_of, granted, granted_time, unless_past, runs_until, is_alive, Note, next_seq_of, seq_limit, alive_names, subscription_limit, has_room, released_note, released_notes, first_note, sent_by, notes_of}
 use Rattle.cds_notes.proofs.Among.{Among, among-all, row-among, seq-append, seq-none}
@@ -324,3 +324,38 @@ pub as-many : (first now : ℕ) (commands : List Command) → has_room now comma
 as-many first now commands =
     ap (λ (n : ℕ). nat_lt n subscription_limit)
     (ap length (names-alive first now commands) ∙ length-names (alive now (subscribed_by first commands).living))
+
+-- ---- the SEQ of each counts its notes
+
+each-given : {X Y : Type 0} (P : Y → Type 0) (f : X → Option Y) (xs : List X) → ((x : X) (y : Y) → f x ≡ Some y → P y) → AllByRecursion P (filter_map f xs)
+each-given P f [] h = tt
+each-given {X} {Y} P f (x ∷ xs) h = by (f x) refl (each-given P f xs h)
+  where
+    by : (o : Option Y) → f x ≡ o → AllByRecursion P (filter_map f xs) → AllByRecursion P (cons_option o (filter_map f xs))
+    by None e r = r
+    by (Some y) e r = (h x y e, r)
+
+abbrev pub Counts : ℕ → List Command → Subscription → Type 0
+Counts first commands s = next_seq_of s.name (notes_of first commands) ≡ s.next_seq
+
+counts : (first : ℕ) (commands : List Command) (name : ℕ) (s : Subscription) → subscription_of first commands name ≡ Some s → Counts first commands s
+counts first commands name s e = by (runs_until name commands) e
+  where
+    seq : ℕ
+    seq = next_seq_of name (notes_of first commands)
+
+    on : (b : Bool) (end : ℕ) → cond b (Some (record { name = name; end = end; next_seq = seq })) None ≡ Some s → Counts first commands s
+    on true end k =
+        let P : Subscription → Type 0 = Counts first commands in
+        let same : record { name = name; end = end; next_seq = seq } ≡ s = cc in
+        subst P same refl
+    on false end k = none≢some None s refl k
+
+    by : (o : Option ℕ) → running name seq o ≡ Some s → Counts first commands s
+    by None k = none≢some None s refl k
+    by (Some end) k = on (nat_lt seq seq_limit) end k
+
+pub numbers-kept : (first now : ℕ) (commands : List Command) → AllByRecursion (Counts first commands) (alive now (subscribed_by first commands).living)
+numbers-kept first now commands =
+    each-filter (Counts first commands) (λ (s : Subscription). nat_lt now s.end) (subscribed_by first commands).living
+    (each-given (Counts first commands) (subscription_of first commands) (range_with_len 1 (granted commands)) (counts first commands))
