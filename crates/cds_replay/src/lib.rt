@@ -13,7 +13,9 @@ mod report;
 mod script;
 mod sent;
 mod served;
+mod server;
 mod session;
+mod telling;
 
 pub use play::{ReplayError, replay};
 
