@@ -22,4 +22,6 @@ pub use play::{ReplayError, replay};
 #[cfg(test)]
 mod play_tests;
 #[cfg(test)]
+mod server_tests;
+#[cfg(test)]
 mod tests;

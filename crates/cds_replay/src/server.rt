@@ -58,6 +58,13 @@ impl Server {
         &self.store
     }
 
+    /// How many subscriptions were granted.
+    pub fn granted(&self) -> u32
+        ensures { result ≡ self.now.subscribed.granted }
+    {
+        self.book.granted()
+    }
+
     /// How many notes were sent.
     pub fn sent_len(&self) -> usize
         ensures { result ≡ length self.now.sent }
