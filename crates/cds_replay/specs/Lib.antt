@@ -4,4 +4,5 @@ pub mod Script
 pub mod Sending
 pub mod Served
 pub mod Serving
+pub mod ServingLaws
 pub mod Session

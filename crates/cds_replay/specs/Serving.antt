@@ -1,14 +1,19 @@
 -- What the private server of a script keeps of the commands that it accepted: a function of its first number and of these
 -- commands, the newest of which stands first. What a subscription, a release and a note are, the commands alone say (UPnP
 -- Device Architecture 2.0 on eventing, UPnP ContentDirectory:4 on the moderation of events).
-use Rattle.std.specs.Prelude.{◌≡◌, ◌+◌, ◌-◌, ◌&&◌, ℕ, Bool, true, cond, not, nat_eq, nat_lt, nat_le, List, [], ◌∷◌, ◌++◌, map, filter, Option, Some, None, slice_get}
+use Rattle.std.specs.Prelude.{◌≡◌, ◌+◌, ◌-◌, ◌&&◌, ℕ, Bool, true, false, cond, not, nat_eq, nat_lt, nat_le, List, [], ◌∷◌, ◌++◌, map, filter, Option, Some, None, Result, Ok, Err, slice_get}
 use Rattle.std.specs.List.{list_any, filter_map, range_with_len}
 use Rattle.cds_event.specs.declared.Event.{Event}
-use Rattle.cds_catalog.specs.Library.{FolderMap}
+use Rattle.cds_object.specs.declared.record.Record.{Record}
+use Rattle.cds_catalog.specs.Library.{FolderMap, map_of}
 use Rattle.cds_catalog.specs.History.{History, end_of}
+use Rattle.cds_catalog.specs.Scans.{Accepted, scan_answer}
 use Rattle.cds_catalog.specs.Steps.{Standing}
+use Rattle.cds_store.specs.Applied.{IsRefusal}
 use Rattle.cds_store.specs.Stands.{StandsFor}
-use Rattle.cds_notes.specs.Commands.{Command, scans_of, Release, release_size, release_pause, released_to, releases_of, granted, granted_time, runs_until, Note, next_seq_of, seq_limit, notes_of}
+use Rattle.cds_store.specs.declared.error.ApplyError.{ApplyError}
+use Rattle.cds_store.specs.declared.span.Span.{Span}
+use Rattle.cds_notes.specs.Commands.{Command, Scans, Grants, Ends, scans_of, Release, release_size, release_pause, released_to, releases_of, granted, granted_time, runs_until, Note, next_seq_of, seq_limit, alive_names, has_room, notes_of}
 use Rattle.cds_replay.specs.declared.book.Subscription.{Subscription}
 
 -- ---- subscriptions
@@ -159,6 +164,32 @@ pub record Serves (serving : Serving) (first : ℕ) (commands : List Command) : 
   pub subscribed : serving.subscribed ≡ subscribed_by first commands
   pub released : serving.released ≡ released_by first commands
   pub sent : serving.sent ≡ notes_of first commands
+
+-- whether a subscription lives at a moment
+abbrev pub is_living : ℕ → ℕ → ℕ → List Command → Bool
+is_living first name now commands = list_any (λ other. nat_eq other name) (alive_names now commands (notes_of first commands))
+
+-- what a server is after a scan of records, from one that stood for commands: it stands for them and the scan, and the span
+-- is that of the scan's changes; or the scan is refused, and nothing changes
+abbrev pub Scanned : ℕ → List Command → List Record → Result Span ApplyError → Serving → Serving → Type 0
+Scanned first commands records (Ok span) before now =
+    (scan_answer (scans_of first commands) records ≡ Accepted)
+    × Serves now first (Scans (map_of records) ∷ commands)
+    × (span ≡ record { from = end_of (scans_of first commands); to = end_of (scans_of first (Scans (map_of records) ∷ commands)) })
+Scanned first commands records (Err refusal) before now = IsRefusal (scans_of first commands) records refusal × (now ≡ before)
+
+-- after a subscribe request: it is granted where there is room, and gets the next number as its name; else nothing changes
+abbrev pub Granted : ℕ → ℕ → List Command → Option ℕ → Serving → Serving → Type 0
+Granted first moment commands None before now = (has_room moment commands (notes_of first commands) ≡ false) × (now ≡ before)
+Granted first moment commands (Some name) before now =
+    (has_room moment commands (notes_of first commands) ≡ true)
+    × (name ≡ granted commands + 1)
+    × Serves now first (Grants moment ∷ commands)
+
+-- after a subscription was given up: it ends where it lives; else nothing changes
+abbrev pub Ended : ℕ → ℕ → ℕ → List Command → Bool → Serving → Serving → Type 0
+Ended first name moment commands true before now = (is_living first name moment commands ≡ true) × Serves now first (Ends name ∷ commands)
+Ended first name moment commands false before now = (is_living first name moment commands ≡ false) × (now ≡ before)
 
 -- what every server keeps: it stands for some commands
 pub record IsServing (serving : Serving) : Type 0 where

@@ -3,6 +3,7 @@
 
 mod book;
 mod fragment;
+mod laws;
 mod note;
 mod play;
 mod put;
@@ -12,11 +13,15 @@ mod report;
 mod script;
 mod sent;
 mod served;
+mod server;
 mod session;
+mod telling;
 
 pub use play::{ReplayError, replay};
 
 #[cfg(test)]
 mod play_tests;
+#[cfg(test)]
+mod server_tests;
 #[cfg(test)]
 mod tests;
