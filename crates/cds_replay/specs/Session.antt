@@ -1,5 +1,5 @@
 -- What a session of a script has, and for which turns it stands.
-use Rattle.std.specs.Prelude.{◌≡◌, ◌+◌, ◌<◌, ◌^◌, ℕ, Bool, nat_eq, List, [], ◌∷◌, ◌++◌, length, Option}
+use Rattle.std.specs.Prelude.{◌≡◌, ◌+◌, ◌<◌, ◌≤◌, ◌^◌, ℕ, Bool, false, nat_eq, List, [], ◌∷◌, ◌++◌, length, Option}
 use Rattle.cds_object.specs.declared.record.Record.{Record}
 use Rattle.cds_store.specs.Rows.{rows_of}
 use Rattle.cds_store.specs.Stands.{Stored}
@@ -7,7 +7,7 @@ use Rattle.cds_model.specs.Server.{Moment}
 use Rattle.cds_model.specs.Report.{script_token}
 use Rattle.cds_replica.specs.Kept.{Kept, StandsFor}
 use Rattle.cds_script.specs.declared.turn.Turn.{Turn}
-use Rattle.cds_script.specs.declared.turn.Turn.TheVariants.{At}
+use Rattle.cds_script.specs.Script.{moment_limit}
 use Rattle.cds_script.specs.Report.{Played, played, first_of, clock_of, records_since}
 use Rattle.cds_script.specs.Played.{MayBe}
 use Rattle.cds_replay.specs.Serving.{Serving, Serves}
@@ -41,3 +41,20 @@ moment_in store = record { token = script_token; number = store.standing.number;
 pub record IsPlayed (playing : Playing) : Type 0 where
   pub turns : List Turn
   pub after : IsAfter playing turns
+
+-- a session with one more record
+abbrev pub with_record : Playing → Record → Playing
+with_record playing found = record playing { records = playing.records ++ found ∷ []; fresh = false }
+
+-- what a session may have before one more turn: the numbers of its records and of its subscriptions can rise, and its moment is
+-- one of a script
+pub record IsBounded (playing : Playing) : Type 0 where
+  pub records : length playing.records + 1 < 2 ^ 32
+  pub granted : playing.server.subscribed.granted + 1 < 2 ^ 32
+  pub moment : playing.clock < moment_limit
+
+-- and after it: each rose by one at most
+pub record Grows (old new : Playing) : Type 0 where
+  pub records : length new.records ≤ length old.records + 1
+  pub granted : new.server.subscribed.granted ≤ old.server.subscribed.granted + 1
+  pub moment : old.clock < moment_limit → new.clock < moment_limit

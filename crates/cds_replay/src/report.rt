@@ -8,7 +8,8 @@ ghost use Rattle.cds_replay.specs.Lines.{scan_line, read_line, stands_text, numb
 
 use crate::fragment::put_fragment;
 use crate::put::{put, put_number};
-use crate::sent::{Sent, SentHead};
+use crate::sent::SentHead;
+use crate::server::Server;
 use cds_base::Mem;
 use cds_object::Row;
 use cds_replica::{NotifyError, Read, Taken};
@@ -94,12 +95,12 @@ fn put_row(out: &mut String, row: &Row) -> Result<(), Mem>
     Ok(())
 }
 
-/// Puts a line for each note that was sent, from a place on that is counted from 0.
-pub fn put_notes(out: &mut String, sent: &Sent, from: usize) -> Result<(), Mem>
-    ensures { OnOk result (string_bytes out.new ≡ string_bytes out.old ++ notes_text (from + 1) (drop from sent.now)) }
+/// Puts a line for each note that a server sent, from a place on that is counted from 0.
+pub fn put_notes(out: &mut String, server: &Server, from: usize) -> Result<(), Mem>
+    ensures { OnOk result (string_bytes out.new ≡ string_bytes out.old ++ notes_text (from + 1) (drop from server.now.sent)) }
 {
-    for at in from..sent.len() {
-        if let Some(head) = sent.head(at) {
+    for at in from..server.sent_len() {
+        if let Some(head) = server.sent(at) {
             put_note(out, at as u64 + 1, head)?;
         }
     }

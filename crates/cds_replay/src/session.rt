@@ -1,14 +1,16 @@
 //! A script's server and replica, which take its turns one by one.
 
-ghost use Rattle.std.specs.Prelude.{◌≡◌, ◌+◌, ◌<◌, ◌≤◌, ◌++◌, ◌^◌, [], ◌∷◌, List, true, length, IfOk, OnOk, string_bytes};
+ghost use Rattle.std.specs.Prelude.{◌≡◌, ◌+◌, ◌<◌, ◌≤◌, ◌++◌, ◌^◌, ◌&&◌, [], ◌∷◌, List, true, nat_lt, nat_le, length, codes, IfOk, OnOk, string_bytes};
 ghost use Rattle.cds_script.specs.declared.turn.Turn.{Turn as TurnValue};
 ghost use Rattle.cds_script.specs.declared.turn.Turn.TheVariants.{Scan, Load, Read, Ask, Subscribe, Accept, Unsubscribe, ReadFault, First, At, Deliver};
+ghost use Rattle.cds_script.specs.Script.{IsInRange, moment_limit};
 ghost use Rattle.cds_script.specs.Report.{may_stand, written_by};
-ghost use Rattle.cds_replay.specs.Session.{IsAfter, IsPlayed, IsBounded, TurnFits};
+ghost use Rattle.cds_model.specs.Report.{folder_record};
+ghost use Rattle.cds_replay.specs.Session.{IsAfter, IsPlayed, IsBounded, Grows, with_record};
 
 use crate::put::put;
 use crate::reply::reply;
-use crate::report::{put_accepted, put_copy, put_ended, put_known, put_notes, put_read, put_scan, put_taken, was_answered};
+use crate::report::{put_delivered, put_known, put_notes, put_read, put_scan, was_answered};
 use crate::server::Server;
 use cds_base::{Mem, Sequence, Text};
 use cds_object::{Content, Path, Record, Records};
@@ -64,20 +66,28 @@ impl Session {
         match turn {
             Turn::First { .. } => self.fresh,
             Turn::At { moment } => self.clock <= *moment,
-            Turn::Deliver { note } => self.server.has_sent(*note),
+            Turn::Deliver { note } => self.has_sent(*note),
             _ => true,
         }
+    }
+
+    /// Whether a note of this number was sent.
+    fn has_sent(&self, number: u32) -> bool
+        ensures { result ≡ (nat_lt 0 number && nat_le number (length self.now.server.sent)) }
+    {
+        0 < number && number as usize <= self.server.sent_len()
     }
 
     /// Takes a turn that may stand, and puts what it writes at the end.
     pub fn answer(&mut self, alloc: Global, turn: Turn, out: &mut String) -> Result<(), Mem>
         requires played { IsPlayed self.old }
         requires stands { (turns : List TurnValue) → IsAfter self.old turns → may_stand turns turn ≡ true }
-        requires fits { TurnFits turn }
+        requires fits { IsInRange turn }
         requires bounded { IsBounded self.old }
         ensures after { (turns : List TurnValue) → IsAfter self.old turns → OnOk result (IsAfter self.new (turn ∷ turns)) }
         ensures written { (turns : List TurnValue) → IsAfter self.old turns → OnOk result (string_bytes out.new ≡ string_bytes out.old ++ written_by turns turn) }
-        ensures few { OnOk result (length self.new.records ≤ length self.old.records + 1) }
+        ensures grows { OnOk result (Grows self.old self.new) }
+        ensures played { OnOk result (IsPlayed self.new) }
     {
         match turn {
             Turn::Folder { path } => self.add_folder(alloc, path),
@@ -119,8 +129,7 @@ impl Session {
         requires { length self.old.records < 2 ^ 32 }
         ensures after { (turns : List TurnValue) → IsAfter self.old turns → OnOk result (IsAfter self.new (Scan ∷ turns)) }
         ensures written { (turns : List TurnValue) → IsAfter self.old turns → OnOk result (string_bytes out.new ≡ string_bytes out.old ++ written_by turns Scan) }
-        ensures dropped { OnOk result (self.new.records ≡ []) }
-        ensures granted { OnOk result (self.new.server.subscribed.granted ≡ self.old.server.subscribed.granted) }
+        ensures grows { OnOk result (Grows self.old self.new) }
     {
         let answer = self.server.scan(alloc, &self.records);
         if !was_answered(&answer) {
@@ -134,6 +143,7 @@ impl Session {
     /// Begins a load.
     fn load(&mut self) -> Result<(), Mem>
         ensures after { (turns : List TurnValue) → IsAfter self.old turns → OnOk result (IsAfter self.new (Load ∷ turns)) }
+        ensures grows { OnOk result (Grows self.old self.new) }
     {
         self.replica.begin_load()?;
         self.fresh = false;
@@ -145,6 +155,7 @@ impl Session {
         requires { IsPlayed self.old }
         ensures after { (turns : List TurnValue) → IsAfter self.old turns → OnOk result (IsAfter self.new (Read ∷ turns)) }
         ensures written { (turns : List TurnValue) → IsAfter self.old turns → OnOk result (string_bytes out.new ≡ string_bytes out.old ++ written_by turns Read) }
+        ensures grows { OnOk result (Grows self.old self.new) }
     {
         self.fresh = false;
         match self.replica.next_ask() {
@@ -166,6 +177,7 @@ impl Session {
     fn ask(&mut self, out: &mut String) -> Result<(), Mem>
         ensures after { (turns : List TurnValue) → IsAfter self.old turns → OnOk result (IsAfter self.new (Ask ∷ turns)) }
         ensures written { (turns : List TurnValue) → IsAfter self.old turns → OnOk result (string_bytes out.new ≡ string_bytes out.old ++ written_by turns Ask) }
+        ensures grows { OnOk result (Grows self.old self.new) }
     {
         self.fresh = false;
         put_known(out, self.replica.says(), &self.replica)
@@ -175,6 +187,7 @@ impl Session {
     fn begin_at(&mut self, alloc: Global, number: u32) -> Result<(), Mem>
         requires { self.old.fresh ≡ true }
         ensures after { (turns : List TurnValue) → IsAfter self.old turns → OnOk result (IsAfter self.new (First number ∷ turns)) }
+        ensures grows { OnOk result (Grows self.old self.new) }
     {
         self.server = Server::new(alloc, number)?;
         self.fresh = false;
@@ -183,15 +196,17 @@ impl Session {
 
     /// The moment is another from now on, and the server releases what is due.
     fn tick(&mut self, alloc: Global, moment: u64, out: &mut String) -> Result<(), Mem>
-        requires { self.old.clock ≤ moment }
+        requires rises { self.old.clock ≤ moment }
+        requires within { moment < moment_limit }
         ensures after { (turns : List TurnValue) → IsAfter self.old turns → OnOk result (IsAfter self.new (At moment ∷ turns)) }
         ensures written { (turns : List TurnValue) → IsAfter self.old turns → OnOk result (string_bytes out.new ≡ string_bytes out.old ++ written_by turns (At moment)) }
+        ensures grows { OnOk result (Grows self.old self.new) }
     {
-        let sent = self.server.sent().len();
+        let sent = self.server.sent_len();
         self.server.tick(alloc, moment)?;
         self.clock = moment;
         self.fresh = false;
-        put_notes(out, self.server.sent(), sent)
+        put_notes(out, &self.server, sent)
     }
 
     /// A subscribe request of the replica goes out; the server answers it, and the reply is held back.
@@ -200,12 +215,13 @@ impl Session {
         requires moment { self.old.clock + 1800000 < 2 ^ 64 }
         ensures after { (turns : List TurnValue) → IsAfter self.old turns → OnOk result (IsAfter self.new (Subscribe ∷ turns)) }
         ensures written { (turns : List TurnValue) → IsAfter self.old turns → OnOk result (string_bytes out.new ≡ string_bytes out.old ++ written_by turns Subscribe) }
+        ensures grows { OnOk result (Grows self.old self.new) }
     {
-        let sent = self.server.sent().len();
+        let sent = self.server.sent_len();
         self.replica.subscribing()?;
-        self.reply = Some(self.server.subscribe(alloc, self.clock)?);
+        self.reply = Some(self.server.subscribe(self.clock)?);
         self.fresh = false;
-        put_notes(out, self.server.sent(), sent)
+        put_notes(out, &self.server, sent)
     }
 
     /// The reply that was held back reaches the replica, which takes it.
@@ -213,6 +229,7 @@ impl Session {
         requires { IsPlayed self.old }
         ensures after { (turns : List TurnValue) → IsAfter self.old turns → OnOk result (IsAfter self.new (Accept ∷ turns)) }
         ensures written { (turns : List TurnValue) → IsAfter self.old turns → OnOk result (string_bytes out.new ≡ string_bytes out.old ++ written_by turns Accept) }
+        ensures grows { OnOk result (Grows self.old self.new) }
     {
         self.fresh = false;
         match self.reply.take() {
@@ -235,6 +252,7 @@ impl Session {
     fn unsubscribe(&mut self, out: &mut String) -> Result<(), Mem>
         ensures after { (turns : List TurnValue) → IsAfter self.old turns → OnOk result (IsAfter self.new (Unsubscribe ∷ turns)) }
         ensures written { (turns : List TurnValue) → IsAfter self.old turns → OnOk result (string_bytes out.new ≡ string_bytes out.old ++ written_by turns Unsubscribe) }
+        ensures grows { OnOk result (Grows self.old self.new) }
     {
         self.fresh = false;
         match self.replica.accepted() {
@@ -254,17 +272,17 @@ impl Session {
         requires { IsPlayed self.old }
         ensures after { (turns : List TurnValue) → IsAfter self.old turns → may_stand turns (Deliver number) ≡ true → OnOk result (IsAfter self.new (Deliver number ∷ turns)) }
         ensures written { (turns : List TurnValue) → IsAfter self.old turns → OnOk result (string_bytes out.new ≡ string_bytes out.old ++ written_by turns (Deliver number)) }
+        ensures grows { OnOk result (Grows self.old self.new) }
     {
         self.fresh = false;
         match self.server.note(alloc, number)? {
             None => Ok(()),
-            Some(note) => {
-                put(out, "deliver ")?;
-                put_number(out, u64::from(number))?;
-                put(out, " ")?;
-                let taken = self.replica.notify(alloc, note);
-                put_arrival(out, arrival)
-            }
+            Some(note) => match self.replica.notify(alloc, note) {
+                Err(NotifyError::Mem) => Err(Mem),
+                Err(NotifyError::Jump { .. }) => unreachable!(),
+                Err(NotifyError::Torn { .. }) => unreachable!(),
+                answer => put_delivered(out, u64::from(number), answer),
+            },
         }
     }
 
@@ -272,6 +290,7 @@ impl Session {
     fn lose_read(&mut self, out: &mut String) -> Result<(), Mem>
         ensures after { (turns : List TurnValue) → IsAfter self.old turns → OnOk result (IsAfter self.new (ReadFault ∷ turns)) }
         ensures written { OnOk result (string_bytes out.new ≡ string_bytes out.old ++ codes "readfault\n") }
+        ensures grows { OnOk result (Grows self.old self.new) }
     {
         self.fresh = false;
         put(out, "readfault\n")

@@ -1,0 +1,39 @@
+-- The lines of notes that were sent, from a place on.
+use Rattle.std.proofs.Common.{◌≡◌, ℕ, zero, suc, ◌+◌, ◌≤◌, List, [], ◌∷◌, ◌++◌, length, drop, Option, Some, None, refl, ap, sym, ◌∙◌, arith, append_assoc}
+use Rattle.std.specs.Prelude.{codes, slice_get, option_map}
+use Rattle.std.specs.Fmt.{decimal}
+use Rattle.cds_notes.specs.Commands.{Note}
+use Rattle.cds_script.specs.Report.{notes_text}
+use Rattle.cds_replay.specs.Lines.{note_line}
+use Rattle.cds_replay.specs.Sending.{head_of}
+use Rattle.cds_replay.specs.declared.sent.SentHead.{SentHead}
+
+-- the line of a note stands before those of the notes behind it
+line-first : (k : ℕ) (note : Note) (notes : List Note) → notes_text k (note ∷ notes) ≡ note_line k (head_of note) ++ notes_text (k + 1) notes
+line-first k note notes =
+    sym (
+      ap (λ v. codes "note " ++ v) (
+        append_assoc (decimal k) (codes " seq " ++ decimal note.seq ++ codes " at " ++ decimal note.number ++ codes "\n") (notes_text (k + 1) notes)
+        ∙ ap (λ v. decimal k ++ codes " seq " ++ v) (
+          append_assoc (decimal note.seq) (codes " at " ++ decimal note.number ++ codes "\n") (notes_text (k + 1) notes)
+          ∙ ap (λ v. decimal note.seq ++ codes " at " ++ v) (append_assoc (decimal note.number) (codes "\n") (notes_text (k + 1) notes))
+        )
+      )
+    )
+
+pub next-line : (n k : ℕ) (notes : List Note) (head : SentHead) → option_map head_of (slice_get notes n) ≡ Some head →
+    notes_text k (drop n notes) ≡ note_line k head ++ notes_text (k + 1) (drop (suc n) notes)
+next-line n k [] head e = absurd (cc)
+next-line zero k (note ∷ notes) head e = let is : head_of note ≡ head = cc in line-first k note notes ∙ ap (λ h. note_line k h ++ notes_text (k + 1) notes) is
+next-line (suc n) k (note ∷ notes) head e = next-line n k notes head e
+
+-- past the last note there is none
+pub no-line : (n k : ℕ) (notes : List Note) → option_map head_of (slice_get notes n) ≡ None → (notes_text k (drop n notes) ≡ []) × (notes_text k (drop (suc n) notes) ≡ [])
+no-line n k [] e = (refl, refl)
+no-line zero k (note ∷ notes) e = absurd (cc)
+no-line (suc n) k (note ∷ notes) e = no-line n k notes e
+
+pub past-lines : (n k : ℕ) (notes : List Note) → length notes ≤ n → notes_text k (drop n notes) ≡ []
+past-lines n k [] past = refl
+past-lines zero k (note ∷ notes) past = absurd (omega (arith, past))
+past-lines (suc n) k (note ∷ notes) past = past-lines n k notes (omega (arith, past))
