@@ -6,6 +6,8 @@ mod run;
 mod streams;
 #[cfg(test)]
 mod tests;
+#[cfg(test)]
+mod notes_tests;
 
 use cds_base::{Mem, Text, Words};
 use run::run;

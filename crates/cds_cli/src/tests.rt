@@ -6,7 +6,7 @@ use std::alloc::{AllocError, Global};
 use std::test::Fail;
 
 /// The root's row with these children, this containerUpdateID and this many deleted children.
-fn root(alloc: Global, children: &str, update: &str, deleted: &str) -> Result<String, AllocError> {
+pub fn root(alloc: Global, children: &str, update: &str, deleted: &str) -> Result<String, AllocError> {
     format!(in alloc;
         "<container id=\"0\" parentID=\"-1\" restricted=\"1\" searchable=\"1\" childCount=\"{children}\"><dc:title>root</dc:title><upnp:class>object.container</upnp:class><upnp:objectUpdateID>0</upnp:objectUpdateID><upnp:containerUpdateID>{update}</upnp:containerUpdateID><upnp:totalDeletedChildCount>{deleted}</upnp:totalDeletedChildCount></container>\n"
     )
@@ -22,7 +22,7 @@ fn words_of(alloc: Global, words: &[&str]) -> Result<Words, Fail> {
 }
 
 /// What a run answers and leaves written, where these reads and these writes fail, counted from 1.
-fn play(
+pub fn play(
     alloc: Global,
     words: &[&str],
     script: &[u8],
@@ -42,10 +42,10 @@ fn play(
 }
 
 /// A script, and the status and the report that it is to give.
-type Case<'a> = (&'a str, u8, &'a str);
+pub type Case<'a> = (&'a str, u8, &'a str);
 
 /// The first script that gives another status or another report.
-fn first_wrong<'a>(alloc: Global, cases: &[Case<'a>]) -> Result<Option<&'a str>, Fail> {
+pub fn first_wrong<'a>(alloc: Global, cases: &[Case<'a>]) -> Result<Option<&'a str>, Fail> {
     for (script, status, report) in cases {
         let (answered, written) = play(alloc, &["replay"], script.as_bytes(), &[], &[])?;
         if answered != *status || written.as_slice() != report.as_bytes() {
@@ -183,7 +183,7 @@ fn item(alloc: Global, id: &str, parent: &str, title: &str) -> Result<String, Al
 }
 
 /// Puts a line a number of times.
-fn repeat(out: &mut String, line: &str, times: usize) -> Result<(), AllocError> {
+pub fn repeat(out: &mut String, line: &str, times: usize) -> Result<(), AllocError> {
     for _ in 0..times {
         out.push_str(line)?;
     }
