@@ -2,3 +2,4 @@ pub mod Containers
 pub mod Events
 pub mod Evaluated
 pub mod Laws
+pub mod Noted
