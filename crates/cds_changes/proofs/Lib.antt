@@ -2,3 +2,5 @@ pub mod Numbers
 pub mod Within
 pub mod Spans
 pub mod Told
+pub mod NotedEvents
+pub mod NotedContainers

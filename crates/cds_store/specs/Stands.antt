@@ -5,7 +5,8 @@ use Rattle.cds_catalog.specs.History.{History, latest, end_of, with_scan}
 use Rattle.cds_catalog.specs.Laws.{IsLibrary, AreLibraries}
 use Rattle.cds_catalog.specs.Steps.{Standing, standing_of}
 use Rattle.cds_catalog.specs.declared.change.Change.{Change}
-use Rattle.cds_changes.specs.Noted.{Noted, noted_after}
+use Rattle.cds_changes.specs.Noted.{noted_after}
+use Rattle.cds_changes.specs.declared.noted.Noted.{Noted}
 
 -- a store: what stands, the number up to which changes are forgotten, and the events of the changes above it, each with
 -- the parent that its change names

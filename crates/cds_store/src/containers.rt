@@ -1,0 +1,89 @@
+//! The containers that the changes of a span touch (UPnP ContentDirectory:4 on ContainerUpdateIDs).
+
+ghost use Rattle.std.specs.Prelude.{◌≡◌, ◌||◌, ℕ, cond, not, filter, Some, IfOk};
+ghost use Rattle.std.specs.Ordering.{nat_cmp};
+ghost use Rattle.std.specs.BTreeMap.{get};
+ghost use Rattle.std.specs.BTreeSet.{contains};
+ghost use Rattle.std.specs.BTreeMap.{IsOrdered};
+ghost use Rattle.cds_changes.specs.Events.{update_of};
+ghost use Rattle.cds_store.specs.Kept.{touches, deletes, last_touch_in, was_deleted_in, told_containers};
+
+use crate::Span;
+use crate::kept::{KeptEvent, lies_in, update_of};
+use cds_base::Mem;
+use cds_event::{Class, Event};
+use std::alloc::Global;
+use std::collections::{BTreeMap, BTreeSet};
+
+/// The last number of a change that adds each container or names it as parent.
+type Touched = BTreeMap<u32, u32>;
+
+/// Takes the containers that the change of an event adds and names.
+fn touch(touched: &mut Touched, item: &KeptEvent) -> Result<(), Mem>
+    ensures { IfOk result (λ _. (id : ℕ) → get nat_cmp touched.new id ≡ cond (touches id item.now) (Some (update_of item.now.0)) (get nat_cmp touched.old id)) }
+{
+    let number = update_of(item.event);
+    if let Some(parent) = item.parent {
+        touched.insert(parent, number)?;
+    }
+    if let Event::ObjAdd { id, class, .. } = item.event
+        && class == Class::Container
+    {
+        touched.insert(id, number)?;
+    }
+    Ok(())
+}
+
+/// Takes the object that the change of an event deletes.
+fn strike(deleted: &mut BTreeSet<u32>, item: &KeptEvent) -> Result<(), Mem>
+    ensures { IfOk result (λ _. (id : ℕ) → contains nat_cmp deleted.new id ≡ (deletes id item.now || contains nat_cmp deleted.old id)) }
+{
+    if let Event::ObjDel { id, .. } = item.event {
+        deleted.insert(id)?;
+    }
+    Ok(())
+}
+
+/// The last number of each container that the changes of a span touch.
+fn touched_within(alloc: Global, kept: &[KeptEvent], span: Span) -> Result<Touched, Mem>
+    ensures { IfOk result (λ touched. (id : ℕ) → get nat_cmp touched id ≡ last_touch_in span.from span.to id kept.now) }
+{
+    let mut touched = BTreeMap::new(alloc);
+    for item in kept {
+        if lies_in(item.event, span) {
+            touch(&mut touched, item)?;
+        }
+    }
+    Ok(touched)
+}
+
+/// The objects that the changes of a span delete.
+fn deleted_within(alloc: Global, kept: &[KeptEvent], span: Span) -> Result<BTreeSet<u32>, Mem>
+    ensures { IfOk result (λ deleted. (id : ℕ) → contains nat_cmp deleted id ≡ was_deleted_in span.from span.to id kept.now) }
+{
+    let mut deleted = BTreeSet::new(alloc);
+    for item in kept {
+        if lies_in(item.event, span) {
+            strike(&mut deleted, item)?;
+        }
+    }
+    Ok(deleted)
+}
+
+/// The containers that a span touches and does not delete, with the last such numbers, in ascending order of ids.
+pub(crate) fn containers_within(
+    alloc: Global,
+    kept: &[KeptEvent],
+    span: Span,
+) -> Result<Vec<(u32, u32)>, Mem>
+{
+    let touched = touched_within(alloc, kept, span)?;
+    let deleted = deleted_within(alloc, kept, span)?;
+    let mut containers = Vec::new(alloc);
+    for (id, number) in touched.iter() {
+        if !deleted.contains(id) {
+            containers.push((*id, *number))?;
+        }
+    }
+    Ok(containers)
+}
