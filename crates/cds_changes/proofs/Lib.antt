@@ -4,3 +4,5 @@ pub mod Spans
 pub mod Told
 pub mod NotedEvents
 pub mod NotedContainers
+pub mod Places
+pub mod Subtrees

@@ -3,3 +3,4 @@ pub mod Events
 pub mod Evaluated
 pub mod Laws
 pub mod Noted
+pub mod Subtrees

@@ -1,5 +1,6 @@
 pub mod Applied
 pub mod Lent
+pub mod Planned
 pub mod Records
 pub mod Rows
 pub mod Stands

@@ -1,16 +1,16 @@
 //! The containers that the changes of a span touch (UPnP ContentDirectory:4 on ContainerUpdateIDs).
 
-ghost use Rattle.std.specs.Prelude.{◌≡◌, ◌||◌, ℕ, cond, not, filter, Some, IfOk};
+ghost use Rattle.std.specs.Prelude.{◌≡◌, ◌||◌, ℕ, cond, not, filter, IfOk};
 ghost use Rattle.std.specs.Ordering.{nat_cmp};
 ghost use Rattle.std.specs.BTreeMap.{get};
 ghost use Rattle.std.specs.BTreeSet.{contains};
-ghost use Rattle.std.specs.BTreeMap.{IsOrdered};
 ghost use Rattle.cds_changes.specs.Events.{update_of};
-ghost use Rattle.cds_store.specs.Kept.{touches, deletes, last_touch_in, was_deleted_in, told_containers};
+ghost use Rattle.cds_changes.specs.Noted.{touches, deletes, last_touch_in, was_deleted_in};
 
 use crate::Span;
-use crate::kept::{KeptEvent, lies_in, update_of};
+use crate::kept::{lies_in, update_of};
 use cds_base::Mem;
+use cds_changes::Noted;
 use cds_event::{Class, Event};
 use std::alloc::Global;
 use std::collections::{BTreeMap, BTreeSet};
@@ -19,8 +19,8 @@ use std::collections::{BTreeMap, BTreeSet};
 type Touched = BTreeMap<u32, u32>;
 
 /// Takes the containers that the change of an event adds and names.
-fn touch(touched: &mut Touched, item: &KeptEvent) -> Result<(), Mem>
-    ensures { IfOk result (λ _. (id : ℕ) → get nat_cmp touched.new id ≡ cond (touches id item.now) (Some (update_of item.now.0)) (get nat_cmp touched.old id)) }
+fn touch(touched: &mut Touched, item: &Noted) -> Result<(), Mem>
+    ensures { IfOk result (λ _. (id : ℕ) → get nat_cmp touched.new id ≡ cond (touches id item.now) (Some (update_of item.now.event)) (get nat_cmp touched.old id)) }
 {
     let number = update_of(item.event);
     if let Some(parent) = item.parent {
@@ -35,8 +35,8 @@ fn touch(touched: &mut Touched, item: &KeptEvent) -> Result<(), Mem>
 }
 
 /// Takes the object that the change of an event deletes.
-fn strike(deleted: &mut BTreeSet<u32>, item: &KeptEvent) -> Result<(), Mem>
-    ensures { IfOk result (λ _. (id : ℕ) → contains nat_cmp deleted.new id ≡ (deletes id item.now || contains nat_cmp deleted.old id)) }
+fn strike(deleted: &mut BTreeSet<u32>, item: &Noted) -> Result<(), Mem>
+    ensures { IfOk result (λ _. (id : ℕ) → contains nat_cmp deleted.new id ≡ (deletes id item.now.event || contains nat_cmp deleted.old id)) }
 {
     if let Event::ObjDel { id, .. } = item.event {
         deleted.insert(id)?;
@@ -45,7 +45,7 @@ fn strike(deleted: &mut BTreeSet<u32>, item: &KeptEvent) -> Result<(), Mem>
 }
 
 /// The last number of each container that the changes of a span touch.
-fn touched_within(alloc: Global, kept: &[KeptEvent], span: Span) -> Result<Touched, Mem>
+fn touched_within(alloc: Global, kept: &[Noted], span: Span) -> Result<Touched, Mem>
     ensures { IfOk result (λ touched. (id : ℕ) → get nat_cmp touched id ≡ last_touch_in span.from span.to id kept.now) }
 {
     let mut touched = BTreeMap::new(alloc);
@@ -58,7 +58,7 @@ fn touched_within(alloc: Global, kept: &[KeptEvent], span: Span) -> Result<Touch
 }
 
 /// The objects that the changes of a span delete.
-fn deleted_within(alloc: Global, kept: &[KeptEvent], span: Span) -> Result<BTreeSet<u32>, Mem>
+fn deleted_within(alloc: Global, kept: &[Noted], span: Span) -> Result<BTreeSet<u32>, Mem>
     ensures { IfOk result (λ deleted. (id : ℕ) → contains nat_cmp deleted id ≡ was_deleted_in span.from span.to id kept.now) }
 {
     let mut deleted = BTreeSet::new(alloc);
@@ -73,7 +73,7 @@ fn deleted_within(alloc: Global, kept: &[KeptEvent], span: Span) -> Result<BTree
 /// The containers that a span touches and does not delete, with the last such numbers, in ascending order of ids.
 pub(crate) fn containers_within(
     alloc: Global,
-    kept: &[KeptEvent],
+    kept: &[Noted],
     span: Span,
 ) -> Result<Vec<(u32, u32)>, Mem>
 {

@@ -1,29 +1,14 @@
 //! The events of changes that are not forgotten, and those of a span among them.
 
-ghost use Rattle.std.specs.Prelude.{◌≡◌, ◌&&◌, filter, map, nat_lt, nat_le, IfOk};
+ghost use Rattle.std.specs.Prelude.{◌≡◌, ◌++◌, filter, IfOk, OnOk, OnErr};
 ghost use Rattle.cds_changes.specs.Events.{update_of};
-ghost use Rattle.cds_store.specs.Kept.{lies_in, told_in};
+ghost use Rattle.cds_changes.specs.Noted.{lies_in, told_in, is_after};
 
 use crate::Span;
 use cds_base::Mem;
+use cds_changes::Noted;
 use cds_event::Event;
 use std::alloc::Global;
-use std::marker::Model;
-
-/// An event with the id of the parent that its change names; that a subtree update is done names none.
-#[derive(Drop, Debug)]
-pub(crate) struct KeptEvent {
-    pub(crate) event: Event,
-    pub(crate) parent: Option<u32>,
-}
-
-impl Model for KeptEvent {
-    ghost use Rattle.cds_changes.specs.Noted.{Noted};
-
-    ghost Value = { Noted };
-
-    ghost view = { λ k. (k.event, k.parent) };
-}
 
 /// The number of the change that an event tells, or of the last one of the subtree update that is done.
 pub(crate) fn update_of(event: Event) -> u32
@@ -48,7 +33,7 @@ pub(crate) fn lies_in(event: Event, span: Span) -> bool
 /// The events of a span.
 pub(crate) fn events_within(
     alloc: Global,
-    kept: &[KeptEvent],
+    kept: &[Noted],
     span: Span,
 ) -> Result<Vec<Event>, Mem>
     ensures { IfOk result (λ events. events.items ≡ told_in span.from span.to kept.now) }
@@ -62,9 +47,18 @@ pub(crate) fn events_within(
     Ok(events)
 }
 
+/// Keeps more events. Want of memory leaves all as it was.
+pub(crate) fn keep(kept: &mut Vec<Noted>, more: &[Noted]) -> Result<(), Mem>
+    ensures ok { OnOk result (kept.new.items ≡ kept.old.items ++ more.now) }
+    ensures err { OnErr result (kept.new.items ≡ kept.old.items) }
+{
+    kept.extend_from_slice(more)?;
+    Ok(())
+}
+
 /// Drops the events up to a number.
-pub(crate) fn retain_after(kept: &mut Vec<KeptEvent>, to: u32)
-    ensures { kept.new.items ≡ filter (λ noted. nat_lt to (update_of noted.0)) kept.old.items }
+pub(crate) fn retain_after(kept: &mut Vec<Noted>, to: u32)
+    ensures { kept.new.items ≡ filter (is_after to) kept.old.items }
 {
     kept.retain(|item| to < update_of(item.event));
 }

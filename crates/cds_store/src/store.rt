@@ -9,12 +9,17 @@ ghost use Rattle.cds_store.specs.Stands.{StandsFor, IsStore, no_scans};
 ghost use Rattle.cds_store.specs.Applied.{Applied, IsPlan, IsRefusal};
 
 use crate::catalog::Catalog;
+use crate::containers::containers_within;
+use crate::kept::{events_within, keep, retain_after};
 use crate::library::{changes_between, library_of, library_shown};
 use crate::placed::Placed;
 use crate::records::bad_record;
+use crate::subtrees::planned_all;
 use crate::{ApplyError, Span};
 use cds_base::Mem;
 use cds_catalog::Change;
+use cds_changes::Noted;
+use cds_event::Events;
 use cds_object::{Record, Records, Row};
 use std::alloc::Global;
 use std::marker::Model;
@@ -131,8 +136,10 @@ impl Store {
         if changes.is_empty() {
             return Ok(Span { from, to: from });
         }
+        let plan = planned_all(alloc, changes)?;
         let mut next = self.catalog.copy(alloc)?;
-        next.make_all(alloc, changes)?;
+        let told = next.make_all(alloc, plan)?;
+        keep(&mut self.kept, told.as_slice())?;
         let to = next.number();
         self.catalog = next;
         Ok(Span { from, to })
@@ -220,7 +227,8 @@ impl Store {
         ensures kept { OnErr result (out.new ≡ out.old) }
     {
         let events = events_within(alloc, self.kept.as_slice(), span)?;
-        out.extend(events.as_slice())
+        out.extend(events.as_slice())?;
+        Ok(())
     }
 
     /// Adds the containers of a span to `out` (UPnP ContentDirectory:4 on ContainerUpdateIDs), in ascending order of

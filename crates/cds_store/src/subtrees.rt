@@ -1,6 +1,9 @@
 //! Which changes of a scan belong to subtree updates, and with which of them each is done (this project's profile of UPnP
 //! ContentDirectory:4 on LastChange).
 
+ghost use Rattle.std.specs.Prelude.{◌≡◌};
+ghost use Rattle.cds_catalog.specs.History.{place_of};
+
 use cds_base::Mem;
 use cds_catalog::Change;
 use cds_object::Path;
@@ -35,7 +38,10 @@ enum Kind {
     Deletion,
 }
 
-fn place_of(change: &Change) -> &Path {
+/// The place that a change names.
+pub(crate) fn place_of(change: &Change) -> &Path
+    ensures { result.now ≡ place_of change.now }
+{
     match change {
         Change::Deletion { path } => path,
         Change::Addition { path, .. } => path,
