@@ -6,3 +6,4 @@ pub mod NotedEvents
 pub mod NotedContainers
 pub mod Places
 pub mod Subtrees
+pub mod Done
