@@ -7,3 +7,4 @@ pub mod NotedContainers
 pub mod Places
 pub mod Subtrees
 pub mod Done
+pub mod Orderly
