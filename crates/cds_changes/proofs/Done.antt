@@ -171,7 +171,7 @@ last-within kind is later earlier head c k l apart over = by (some_of kind test 
         (λ x. true≢false (sym f.member ∙ ap (λ q. some_of kind (same_path q) later) (same_path_is _ _ x) ∙ apart))
 
 -- a change is within the subtree of no head that is of another kind, or not above it
-last-outside : (scan : List Change) (head c : Change) → is_within head c ≡ false → is_last_within scan head c ≡ false
+pub last-outside : (scan : List Change) (head c : Change) → is_within head c ≡ false → is_last_within scan head c ≡ false
 last-outside scan head c out = by (filter (is_within head) scan) refl
   where
     by : (xs : List Change) → filter (is_within head) scan ≡ xs → is_last_within scan head c ≡ false

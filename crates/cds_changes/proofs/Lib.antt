@@ -8,3 +8,4 @@ pub mod Places
 pub mod Subtrees
 pub mod Done
 pub mod Orderly
+pub mod Marks
