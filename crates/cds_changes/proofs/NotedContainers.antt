@@ -1,5 +1,6 @@
 -- What is noted of a history tells which containers a span touched.
-use Rattle.std.proofs.Common.{◌≡◌, ◌+◌, ◌≤◌, ◌<◌, ℕ, Bool, true, false, cond, ◌&&◌, ◌||◌, not, nat_eq, nat_lt, nat_le, List, [], ◌∷◌, ◌++◌, map, length, Option, Some, None, refl, sym, ap, ◌∙◌, arith, append_assoc, lt-ltb, le-ltb, le-leb, leb-true, leb-false}
+use Rattle.std.proofs.Common.{◌≡◌, ◌+◌, ◌≤◌, ◌<◌, ℕ, Bool, true, false, cond, ◌&&◌, ◌||◌, not, nat_eq, nat_lt, nat_le, List, [], ◌∷◌, ◌++◌, map, length, Option, Some, None, refl, sym, ap, ◌∙◌, arith, append_assoc, lt-ltb, le-ltb, le-leb, leb-true, leb-false, ne_eqb}
+use Rattle.std.specs.List.{count_by}
 use Rattle.std.proofs.lemmas.Bool.{lt-leb}
 use Rattle.cds_object.specs.Object.{is_folder}
 use Rattle.cds_object.specs.declared.content.Content.{Content}
@@ -8,7 +9,7 @@ use Rattle.cds_object.specs.Path.{parent_of}
 use Rattle.cds_event.specs.declared.Event.{Event}
 use Rattle.cds_event.specs.declared.Event.TheVariants.{ObjAdd, ObjMod, ObjDel, StDone}
 use Rattle.cds_catalog.specs.Library.{FolderMap, found}
-use Rattle.cds_catalog.specs.History.{History, latest, changes_of, place_of}
+use Rattle.cds_catalog.specs.History.{History, latest, changes_of, place_of, is_addition}
 use Rattle.cds_catalog.specs.Catalog.{id_of}
 use Rattle.cds_catalog.specs.declared.change.Change.{Change}
 use Rattle.cds_catalog.specs.declared.change.Change.TheVariants.{Deletion, Addition, Modification}
@@ -16,6 +17,8 @@ use Rattle.cds_changes.specs.declared.noted.Noted.{Noted}
 use Rattle.cds_changes.specs.Events.{event_of, done_events, heads_done, is_in_subtree, update_of}
 use Rattle.cds_changes.specs.Containers.{adds_container, is_in_container, deletes_id, last_touch, was_deleted, changes_to}
 use Rattle.cds_changes.specs.Noted.{noted_change, noted_done, change_noted, scan_noted, all_noted, lies_in, touches, deletes, last_touch_after, last_touch_in, was_deleted_after, was_deleted_in}
+use Rattle.cds_catalog.proofs.StepsFind.{count_by-cons}
+use Rattle.cds_catalog.proofs.StepsIds.{id_drawn}
 use Rattle.cds_changes.proofs.Numbers.{numbered}
 
 -- ---- lists one behind the other
@@ -252,3 +255,39 @@ pub tell-containers : (history : History) (from to id : ℕ) →
     (last_touch_in from to id (all_noted history.first history.maps) ≡ last_touch history.first from id (changes_to history.first to (changes_of history.maps)))
     × (was_deleted_in from to id (all_noted history.first history.maps) ≡ was_deleted history.first from id (changes_to history.first to (changes_of history.maps)))
 tell-containers history from to id = (all-touched history.first from to id history.maps, all-deleted history.first from to id history.maps)
+
+-- ---- ids that were not drawn
+
+no-eq : (a b : ℕ) → a < b → nat_eq a b ≡ false
+no-eq a b l = ne_eqb a b (λ e. omega (arith, l, e))
+
+not-added : (id : ℕ) (older : List Change) (change : Change) → count_by is_addition (change ∷ older) < id → adds_container id older change ≡ false
+not-added id older (Deletion path) l = refl
+not-added id older (Addition path content) l =
+    let drawn = id_drawn (Addition path content ∷ older) path in
+    ap (λ (b : Bool). is_folder content && b) (no-eq (id_of (Addition path content ∷ older) path) id (omega (arith, drawn, l)))
+    ∙ and-false (is_folder content)
+not-added id older (Modification path content) l = refl
+
+-- no container is touched whose id was not drawn
+pub touch-drawn : (first from id : ℕ) (changes : List Change) → count_by is_addition changes < id → last_touch first from id changes ≡ None
+touch-drawn first from id [] l = refl
+touch-drawn first from id (change ∷ older) l =
+    by (nat_le (first + length (change ∷ older)) from) (touch-drawn first from id older (omega (arith, fewer, l)))
+  where
+    fewer : count_by is_addition older ≤ count_by is_addition (change ∷ older)
+    fewer = let one = count_by-cons is_addition change older in omega (arith, one)
+
+    drawn : id_of older (parent_of (place_of change)) < id
+    drawn = let d = id_drawn older (parent_of (place_of change)) in omega (arith, d, fewer, l)
+
+    rest : last_touch first from id older ≡ None → cond (adds_container id older change) (Some (first + length (change ∷ older)))
+        (cond (is_in_container id older change) (Some (first + length (change ∷ older))) (last_touch first from id older)) ≡ None
+    rest r = (λ i. cond (not-added id older change l i) (Some (first + length (change ∷ older)))
+        (cond (no-eq (id_of older (parent_of (place_of change))) id drawn i) (Some (first + length (change ∷ older))) (last_touch first from id older)))
+        ∙ r
+
+    by : (b : Bool) → last_touch first from id older ≡ None → cond b None (cond (adds_container id older change) (Some (first + length (change ∷ older)))
+        (cond (is_in_container id older change) (Some (first + length (change ∷ older))) (last_touch first from id older))) ≡ None
+    by true r = refl
+    by false r = rest r

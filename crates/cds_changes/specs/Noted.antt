@@ -1,6 +1,8 @@
 -- The events of a history, each with the parent that its change names: what a server has to keep of a span, so that it
 -- can tell the containers of the span as well as its events.
 use Rattle.std.specs.Prelude.{◌+◌, ◌&&◌, ◌||◌, ℕ, Bool, true, false, cond, nat_eq, nat_lt, nat_le, List, [], ◌∷◌, ◌++◌, map, filter, length, Option, Some, None}
+use Rattle.std.specs.List.{filter_map, range_with_len}
+use Rattle.std.specs.Option.{option_map}
 use Rattle.cds_object.specs.Path.{parent_of}
 use Rattle.cds_event.specs.declared.Class.{Class}
 use Rattle.cds_event.specs.declared.Class.TheVariants.{Container, Track}
@@ -100,3 +102,10 @@ was_deleted_after from to id before (noted ∷ newer) =
 
 abbrev pub was_deleted_in : ℕ → ℕ → ℕ → List Noted → Bool
 was_deleted_in from to id noted = was_deleted_after from to id false noted
+
+-- the containers that a span touches and does not delete, each with the last such number, in ascending order of ids, for
+-- ids below a number
+abbrev pub told_containers : ℕ → ℕ → ℕ → List Noted → List (ℕ × ℕ)
+told_containers from to count noted =
+    filter_map (λ id. cond (was_deleted_in from to id noted) None (option_map (λ number. (id, number)) (last_touch_in from to id noted)))
+    (range_with_len 0 count)

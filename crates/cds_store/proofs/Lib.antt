@@ -6,3 +6,6 @@ pub mod Planned
 pub mod Applying
 pub mod Bad
 pub mod Lending
+pub mod Keeping
+pub mod Touched
+pub mod Kin

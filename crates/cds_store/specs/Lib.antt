@@ -1,4 +1,5 @@
 pub mod Applied
+pub mod Kin
 pub mod Lent
 pub mod Planned
 pub mod Records
