@@ -4,7 +4,7 @@ use Rattle.std.specs.List.{list_any}
 use Rattle.std.specs.BTreeMap.{is_at}
 use Rattle.std.specs.BTreeSet.{BTreeSet, contains}
 use Rattle.std.proofs.lemmas.Bool.{false_from_ne_true}
-use Rattle.std.proofs.lemmas.List.{take_more, append-nil, map-append}
+use Rattle.std.proofs.lemmas.List.{take_more, map-append, reverse-append}
 use Rattle.std.proofs.lemmas.List.Folds.{list_any-append}
 use Rattle.cds_object.specs.Path.{path_cmp, same_path, parent_of}
 use Rattle.cds_object.specs.declared.path.Path.{Path}
@@ -230,3 +230,38 @@ marked-more scan (x ∷ plan) p earlier all one = (
       (sym (ap (λ (l : List Change). l ++ earlier) (map-append (λ (q : Planned). q.change) plan (p ∷ [])) ∙ append_assoc (changes_in plan) (p.change ∷ []) earlier))
       all.1,
 )
+
+-- a change of a scan is one of its kind there
+pub is-member : (kind : Change → Bool) (scan later earlier : List Change) (c : Change) (path : Place) → scan ≡ later ++ c ∷ earlier → kind c ≡ true →
+    path ≡ place_of c → some_of kind (same_path path) scan ≡ true
+is-member kind scan later earlier c path parted of at =
+    ap (some_of kind (same_path path)) parted ∙ some-append kind (same_path path) later (c ∷ earlier)
+    ∙ ap (λ (b : Bool). some_of kind (same_path path) later || (b || some_of kind (same_path path) earlier)) here
+    ∙ or-true (some_of kind (same_path path) later)
+  where
+    here : kind c && same_path path (place_of c) ≡ true
+    here = (λ i. of i && same_path (at i) (place_of c)) ∙ same_path_itself (place_of c)
+
+    or-true : (b : Bool) → b || true ≡ true
+    or-true true = refl
+    or-true false = refl
+
+pub said-modified : (scan earlier : List Change) (c : Change) (path : Place) (content : Content) → c ≡ Modification path content → IsMarked scan c earlier false None
+said-modified scan earlier c path content is =
+    subst (λ (x : Change). IsMarked scan x earlier false None) (sym is) (modified-marked scan earlier path content)
+
+-- the newest of the changes that are left
+pub popped : (left rest : List Change) (c : Change) → left ≡ rest ++ c ∷ [] → reverse left ≡ c ∷ reverse rest
+popped left rest c is = ap reverse is ∙ reverse-append rest (c ∷ [])
+
+pub more-planned : (plan new : List Planned) (p : Planned) (c : Change) → new ≡ plan ++ p ∷ [] → p.change ≡ c → changes_in new ≡ changes_in plan ++ c ∷ []
+more-planned plan new p c is same =
+    ap changes_in is ∙ map-append (λ (q : Planned). q.change) plan (p ∷ []) ∙ ap (λ (x : Change). changes_in plan ++ x ∷ []) same
+
+pub more-marked : (scan : List Change) (plan new : List Planned) (p : Planned) (c : Change) (left rest : List Change) → new ≡ plan ++ p ∷ [] → p.change ≡ c →
+    left ≡ rest ++ c ∷ [] → AreMarked scan plan (reverse left) → IsMarked scan c (reverse rest) p.st p.done → AreMarked scan new (reverse rest)
+more-marked scan plan new p c left rest is same parts all one =
+    subst (λ (l : List Planned). AreMarked scan l (reverse rest)) (sym is)
+    (marked-more scan plan p (reverse rest)
+    (subst (AreMarked scan plan) (popped left rest c parts ∙ ap (λ (x : Change). x ∷ reverse rest) (sym same)) all)
+    (subst (λ (x : Change). IsMarked scan x (reverse rest) p.st p.done) (sym same) one))
