@@ -9,3 +9,5 @@ pub mod Lending
 pub mod Keeping
 pub mod Touched
 pub mod Kin
+pub mod Telling
+pub mod Noting

@@ -1,11 +1,19 @@
 -- The entries of a map by ids, and what they tell of each id.
-use Rattle.std.proofs.Common.{◌≡◌, ◌+◌, ◌≤◌, ◌<◌, ℕ, zero, suc, Bool, true, false, cond, not, nat_lt, nat_eq, nat_cmp, List, [], ◌∷◌, map, filter, Option, Some, None, Ordering, Less, Equal, Greater, refl, sym, ap, ◌∙◌, true≢false, arith, is_eq}
-use Rattle.std.specs.List.{AllByRecursion, filter_map, cons_option, range_with_len}
+use Rattle.std.proofs.Common.{◌≡◌, ◌+◌, ◌≤◌, ◌<◌, ℕ, zero, suc, Bool, true, false, cond, not, nat_lt, nat_eq, nat_cmp, List, [], ◌∷◌, ◌++◌, map, filter, is_some, Option, Some, None, Ordering, Less, Equal, Greater, refl, sym, ap, ◌∙◌, true≢false, arith, is_eq}
+use Rattle.std.specs.List.{AllByRecursion, filter_map, cons_option, range_with_len, count_by}
 use Rattle.std.specs.List.Sorted.{IsStrictlySortedBy}
 use Rattle.std.specs.Option.{option_map}
 use Rattle.std.specs.Map.{lookup}
 use Rattle.std.specs.BTreeMap.{is_at}
 use Rattle.std.proofs.lemmas.Bool.Decides.{nat_tests}
+use Rattle.cds_catalog.specs.History.{History, changes_of, is_addition}
+use Rattle.cds_catalog.specs.declared.change.Change.{Change}
+use Rattle.cds_changes.specs.declared.noted.Noted.{Noted}
+use Rattle.cds_changes.specs.Containers.{last_touch, was_deleted, changes_to, containers_between}
+use Rattle.cds_changes.specs.Noted.{all_noted, last_touch_in, was_deleted_in, told_containers}
+use Rattle.cds_changes.proofs.NotedContainers.{tell-containers, touch-drawn}
+use Rattle.cds_store.specs.Stands.{Stored, StandsFor}
+use Rattle.cds_store.proofs.Keeping.{touch-after, deleted-after}
 
 abbrev pub Pairs : Type 0
 Pairs = List (ℕ × ℕ)
@@ -65,7 +73,7 @@ each-more : (P Q : ℕ × ℕ → Type 0) → ((e : ℕ × ℕ) → P e → Q e)
 each-more P Q f [] all = tt
 each-more P Q f (e ∷ es) all = (f e all.0, each-more P Q f es all.1)
 
-nothing-told : (deleted : Bool) (id : ℕ) → cond deleted None (option_map (λ (number : ℕ). (id, number)) None) ≡ None
+nothing-told : (deleted : Bool) (id : ℕ) → cond {A = Option (ℕ × ℕ)} deleted None (option_map {A = ℕ} {B = ℕ × ℕ} (λ (number : ℕ). (id, number)) None) ≡ None
 nothing-told true id = refl
 nothing-told false id = refl
 
@@ -128,9 +136,58 @@ looked-up-some (e ∷ es) rising = (
     both (f ∷ fs) a b = ((λ i. cond (at-after f.0 e.0 a.0 i) (Some e.1) (looked_up es f.0)) ∙ b.0, both fs a.1 b.1)
 
 -- where nothing is told from a number on, all entries are below it
-pub entries-below : (es : Pairs) (n : ℕ) → Rising es → ((id : ℕ) → n ≤ id → looked_up es id ≡ None) → AllByRecursion (λ (e : ℕ × ℕ). e.0 < n) es
+entries-below : (es : Pairs) (n : ℕ) → Rising es → ((id : ℕ) → n ≤ id → looked_up es id ≡ None) → AllByRecursion (λ (e : ℕ × ℕ). e.0 < n) es
 entries-below es n rising none =
-    each-more (λ e. looked_up es e.0 ≡ Some e.1) (λ e. e.0 < n) (λ e found. by (nat_lt e.0 n) refl e found) es (looked-up-some es rising)
+    each-more (λ e. looked_up es e.0 ≡ Some e.1) (λ e. e.0 < n) (λ e found. by e (nat_lt e.0 n) refl found) es (looked-up-some es rising)
   where
-    by : (b : Bool) → (e : ℕ × ℕ) → looked_up es e.0 ≡ Some e.1 → e.0 < n
-    by b e found = ?
+    by : (e : ℕ × ℕ) (b : Bool) → nat_lt e.0 n ≡ b → looked_up es e.0 ≡ Some e.1 → e.0 < n
+    by e true x found = grind (arith, nat_tests)
+    by e false x found = absurd (true≢false (sym (ap is_some (sym (none e.0 (grind (arith, nat_tests))) ∙ found))))
+
+all-from : (es : Pairs) → From 0 es
+all-from [] = tt
+all-from (e ∷ es) = (omega arith, all-from es)
+
+below-more : (es : Pairs) (n : ℕ) → AllByRecursion (λ (e : ℕ × ℕ). e.0 < n) es → AllByRecursion (λ (e : ℕ × ℕ). e.0 < 0 + n) es
+below-more es n = each-more (λ e. e.0 < n) (λ e. e.0 < 0 + n) (λ e l. omega (arith, l)) es
+
+-- what is left of the entries is what is told of a span
+pub containers-told : (es : Pairs) (deleted : ℕ → Bool) (from to count : ℕ) (noted : List Noted) (found : Pairs)
+    → IsStrictlySortedBy nat_cmp (map (λ (e : ℕ × ℕ). e.0) es)
+    → ((id : ℕ) → looked_up es id ≡ last_touch_in from to id noted) → ((id : ℕ) → deleted id ≡ was_deleted_in from to id noted)
+    → ((id : ℕ) → count ≤ id → last_touch_in from to id noted ≡ None)
+    → found ≡ filter (λ (e : ℕ × ℕ). not (deleted e.0)) es → found ≡ told_containers from to count noted
+containers-told es deleted from to count noted found sorted touches goes none is =
+    let rising = rising-keys es sorted in
+    is ∙ entries-told deleted es 0 count rising (all-from es)
+    (below-more es count (entries-below es count rising (λ id l. touches id ∙ none id l)))
+    ∙ range-agree (told_by_id deleted (looked_up es)) (told_by_id (λ id. was_deleted_in from to id noted) (λ id. last_touch_in from to id noted)) 0 count
+    (λ id l i. cond (goes id i) None (option_map (λ (number : ℕ). (id, number)) (touches id i)))
+
+-- what the kept events tell are the containers of the span
+pub containers-of-kept : (store : Stored) (history : History) (from to : ℕ) (out new containers : Pairs) → StandsFor store history → store.forgotten ≤ from
+    → new ≡ out ++ containers
+    → ((count : ℕ) → ((id : ℕ) → count ≤ id → last_touch_in from to id store.kept ≡ None) → containers ≡ told_containers from to count store.kept)
+    → new ≡ out ++ containers_between history from to
+containers-of-kept store history from to out new containers stands low is told =
+    is ∙ ap (λ (l : Pairs). out ++ l) (told count none
+    ∙ range-agree (told_by_id (λ id. was_deleted_in from to id store.kept) (λ id. last_touch_in from to id store.kept))
+    (told_by_id (λ id. was_deleted history.first from id changes) (λ id. last_touch history.first from id changes)) 0 count
+    (λ id l i. cond (deleted id i) None (option_map (λ (number : ℕ). (id, number)) (touched id i))))
+  where
+    changes : List Change
+    changes = changes_to history.first to (changes_of history.maps)
+
+    count : ℕ
+    count = count_by is_addition changes + 1
+
+    touched : (id : ℕ) → last_touch_in from to id store.kept ≡ last_touch history.first from id changes
+    touched id = ap (last_touch_in from to id) stands.3 ∙ touch-after store.forgotten from to id low None (all_noted history.first history.maps)
+        ∙ (tell-containers history from to id).0
+
+    deleted : (id : ℕ) → was_deleted_in from to id store.kept ≡ was_deleted history.first from id changes
+    deleted id = ap (was_deleted_in from to id) stands.3 ∙ deleted-after store.forgotten from to id low false (all_noted history.first history.maps)
+        ∙ (tell-containers history from to id).1
+
+    none : (id : ℕ) → count ≤ id → last_touch_in from to id store.kept ≡ None
+    none id l = touched id ∙ touch-drawn history.first from id changes (omega (arith, l))

@@ -1,11 +1,11 @@
 //! The containers that the changes of a span touch (UPnP ContentDirectory:4 on ContainerUpdateIDs).
 
-ghost use Rattle.std.specs.Prelude.{◌≡◌, ◌||◌, ℕ, cond, not, filter, IfOk};
+ghost use Rattle.std.specs.Prelude.{◌≡◌, ◌≤◌, ◌||◌, ℕ, cond, not, filter, IfOk};
 ghost use Rattle.std.specs.Ordering.{nat_cmp};
-ghost use Rattle.std.specs.BTreeMap.{get};
+ghost use Rattle.std.specs.BTreeMap.{get, IsOrdered};
 ghost use Rattle.std.specs.BTreeSet.{contains};
 ghost use Rattle.cds_changes.specs.Events.{update_of};
-ghost use Rattle.cds_changes.specs.Noted.{touches, deletes, last_touch_in, was_deleted_in};
+ghost use Rattle.cds_changes.specs.Noted.{touches, deletes, last_touch_in, was_deleted_in, told_containers};
 
 use crate::Span;
 use crate::kept::{lies_in, update_of};
@@ -70,15 +70,15 @@ fn deleted_within(alloc: Global, kept: &[Noted], span: Span) -> Result<BTreeSet<
     Ok(deleted)
 }
 
-/// The containers that a span touches and does not delete, with the last such numbers, in ascending order of ids.
-pub(crate) fn containers_within(
+/// The entries of the containers that were not deleted, in ascending order of ids.
+fn not_deleted(
     alloc: Global,
-    kept: &[Noted],
-    span: Span,
+    touched: &Touched,
+    deleted: &BTreeSet<u32>,
 ) -> Result<Vec<(u32, u32)>, Mem>
+    ensures entries { IfOk result (λ containers. containers.items ≡ filter (λ entry. not (contains nat_cmp deleted.now entry.0)) touched.now.entries) }
+    ensures ordered { IfOk result (λ _. IsOrdered nat_cmp touched.now) }
 {
-    let touched = touched_within(alloc, kept, span)?;
-    let deleted = deleted_within(alloc, kept, span)?;
     let mut containers = Vec::new(alloc);
     for (id, number) in touched.iter() {
         if !deleted.contains(id) {
@@ -86,4 +86,17 @@ pub(crate) fn containers_within(
         }
     }
     Ok(containers)
+}
+
+/// The containers that a span touches and does not delete, with the last such numbers, in ascending order of ids.
+pub(crate) fn containers_within(
+    alloc: Global,
+    kept: &[Noted],
+    span: Span,
+) -> Result<Vec<(u32, u32)>, Mem>
+    ensures { IfOk result (λ containers. (count : ℕ) → ((id : ℕ) → count ≤ id → last_touch_in span.from span.to id kept.now ≡ None) → containers.items ≡ told_containers span.from span.to count kept.now) }
+{
+    let touched = touched_within(alloc, kept, span)?;
+    let deleted = deleted_within(alloc, kept, span)?;
+    not_deleted(alloc, &touched, &deleted)
 }
