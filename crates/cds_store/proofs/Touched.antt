@@ -73,7 +73,7 @@ each-more : (P Q : ℕ × ℕ → Type 0) → ((e : ℕ × ℕ) → P e → Q e)
 each-more P Q f [] all = tt
 each-more P Q f (e ∷ es) all = (f e all.0, each-more P Q f es all.1)
 
-nothing-told : (deleted : Bool) (id : ℕ) → cond {A = Option (ℕ × ℕ)} deleted None (option_map {A = ℕ} {B = ℕ × ℕ} (λ (number : ℕ). (id, number)) None) ≡ None
+nothing-told : (deleted : Bool) (id : ℕ) → (let named : ℕ → ℕ × ℕ = λ number. (id, number) in cond deleted None (option_map named None)) ≡ None
 nothing-told true id = refl
 nothing-told false id = refl
 

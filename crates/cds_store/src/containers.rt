@@ -98,5 +98,6 @@ pub(crate) fn containers_within(
 {
     let touched = touched_within(alloc, kept, span)?;
     let deleted = deleted_within(alloc, kept, span)?;
-    not_deleted(alloc, &touched, &deleted)
+    let containers = not_deleted(alloc, &touched, &deleted)?;
+    Ok(containers)
 }
