@@ -1,5 +1,6 @@
 -- A session that stands for turns stands for them and one more: what each turn makes of the server and of the replica.
 use Rattle.std.proofs.Common.{◌≡◌, ℕ, ◌+◌, ◌≤◌, List, [], ◌∷◌, ◌++◌, length, drop, Bool, true, false, cond, nat_lt, nat_le, nat_eq, not, ◌&&◌, Option, Some, None, Result, Ok, Err, refl, ap, sym, subst, ◌∙◌, arith}
+use Rattle.std.proofs.lemmas.Bool.{le-leb}
 use Rattle.cds_object.specs.declared.record.Record.{Record}
 use Rattle.cds_catalog.specs.Library.{map_of}
 use Rattle.cds_catalog.specs.History.{History, end_of}
@@ -13,17 +14,17 @@ use Rattle.cds_store.specs.declared.error.ApplyError.TheVariants.{BadRecords, Fu
 use Rattle.cds_model.specs.Server.{reply_to}
 use Rattle.cds_model.specs.declared.exchange.Ask.{Ask as Asked}
 use Rattle.cds_model.specs.declared.exchange.Shown.{Shown}
-use Rattle.cds_notes.specs.Commands.{Command, Scans, scans_of}
-use Rattle.cds_notes.specs.Inbox.{ReplicaTurn, Begins, Shows, Requests, Accepts, Refuses, Delivers, is_out}
+use Rattle.cds_notes.specs.Commands.{Command, Scans, Grants, Ends, Ticks, Note, scans_of, granted, has_room, notes_of}
+use Rattle.cds_notes.specs.Inbox.{ReplicaTurn, Begins, Shows, Requests, Accepts, Refuses, Delivers, accepted}
 use Rattle.cds_notes.specs.Follow.{Known, Outcome, Knows, known_by, next_ask, and_turn}
 use Rattle.cds_notes.specs.Given.{moment_after, asked_at}
 use Rattle.cds_replica.specs.Called.{GoesOn, TakesTurn}
 use Rattle.cds_replica.specs.Kept.{Kept, StandsFor}
 use Rattle.cds_script.specs.declared.turn.Turn.{Turn}
 use Rattle.cds_script.specs.declared.turn.Turn.TheVariants.{Folder, Track, Scan, Load, Read, Ask, First, At, Subscribe, Accept, Unsubscribe, Deliver, ReadFault}
-use Rattle.cds_script.specs.Report.{first_of, clock_of, records_since, may_stand, scanned, played}
+use Rattle.cds_script.specs.Report.{first_of, clock_of, records_since, may_stand, scanned, after_reply, after_note, sent_note, given_up, Played, played}
 use Rattle.cds_replay.specs.Lines.{was_answered}
-use Rattle.cds_replay.specs.Serving.{Serving, Scanned, Serves}
+use Rattle.cds_replay.specs.Serving.{Serving, Scanned, Granted, Ended, Serves}
 use Rattle.cds_replay.specs.Session.{Playing, IsAfter, moment_in}
 use Rattle.cds_replay.proofs.Turned.{first-more, turned}
 
@@ -89,3 +90,126 @@ scan-after was server answer turns after scans told =
     (subst (λ r. Serves server (first_of turns) (scanned (scan_answer (scans_of (first_of turns) (played turns).commands) r) r (played turns).commands)) after.records
     (scan-serves (first_of turns) (played turns).commands was.records answer was.server server after.server (scans (first_of turns) (played turns).commands after.server) told))
     after.replica refl after.clock after.reply refl
+
+-- the first number: nothing came before it
+pub begin-after : (was : Playing) (server : Serving) (number : ℕ) (turns : List Turn) → IsAfter was turns → was.fresh ≡ true → number ≤ 4294967295 →
+    Serves server number [] → IsAfter (record was { server = server; fresh = false }) (First number ∷ turns)
+begin-after was server number [] after fresh low serves = record {
+  may = record { stand = (refl, tt); number = low };
+  server = serves;
+  replica = after.replica;
+  records = after.records;
+  clock = after.clock;
+  reply = after.reply;
+  fresh = refl;
+}
+begin-after was server number (turn ∷ older) after fresh low serves = let other : was.fresh ≡ false = after.fresh in absurd (cc)
+
+-- a tick at a moment that is not before the current one
+pub tick-after : (was : Playing) (server : Serving) (moment : ℕ) (turns : List Turn) → IsAfter was turns → was.clock ≤ moment →
+    ((first : ℕ) (commands : List Command) → Serves was.server first commands → Serves server first (Ticks moment ∷ commands)) →
+    IsAfter (record was { server = server; clock = moment; fresh = false }) (At moment ∷ turns)
+tick-after was server moment turns after low ticks =
+    turned was (record was { server = server; clock = moment; fresh = false }) (At moment) turns after refl
+    (ap (λ n. nat_le n moment) (sym after.clock) ∙ le-leb was.clock moment low)
+    (ticks (first_of turns) (played turns).commands after.server) after.replica after.records refl after.reply refl
+
+-- a subscribe request, with its answer
+pub subscribe-after : (was : Playing) (server : Serving) (replica : Kept) (name : Option ℕ) (turns : List Turn) → IsAfter was turns → GoesOn was.replica Requests replica →
+    ((first : ℕ) (commands : List Command) → Serves was.server first commands → Granted first was.clock commands name was.server server) →
+    IsAfter (record was { server = server; replica = replica; reply = Some name; fresh = false }) (Subscribe ∷ turns)
+subscribe-after was server replica name turns after goes grants =
+    by name (subst (λ now. Granted (first_of turns) now (played turns).commands name was.server server) after.clock (grants (first_of turns) (played turns).commands after.server))
+  where
+    first = first_of turns
+    now = clock_of turns
+    p = played turns
+
+    yes : Played
+    yes = record { commands = Grants now ∷ p.commands; replica = Requests ∷ p.replica; reply = Some (Some (granted p.commands + 1)) }
+
+    no : Played
+    no = record { commands = p.commands; replica = Requests ∷ p.replica; reply = Some None }
+
+    room : Bool
+    room = has_room now p.commands (notes_of first p.commands)
+
+    by : (n : Option ℕ) → Granted first now p.commands n was.server server →
+        IsAfter (record was { server = server; replica = replica; reply = Some n; fresh = false }) (Subscribe ∷ turns)
+    by None g =
+        turned was (record was { server = server; replica = replica; reply = Some None; fresh = false }) Subscribe turns after refl refl
+        (subst (λ b. Serves server first (cond b yes no).commands) (sym g.0) (subst (λ s. Serves s first p.commands) (sym g.1) after.server))
+        (subst (λ b. StandsFor replica (cond b yes no).replica) (sym g.0) (goes p.replica after.replica))
+        after.records after.clock
+        (ap (λ b. (cond b yes no).reply) (sym g.0)) refl
+    by (Some n) g =
+        turned was (record was { server = server; replica = replica; reply = Some (Some n); fresh = false }) Subscribe turns after refl refl
+        (subst (λ b. Serves server first (cond b yes no).commands) (sym g.0) g.1.1)
+        (subst (λ b. StandsFor replica (cond b yes no).replica) (sym g.0) (goes p.replica after.replica))
+        after.records after.clock
+        (ap (λ m. Some (Some m)) g.1.0 ∙ ap (λ b. (cond b yes no).reply) (sym g.0)) refl
+
+-- the reply that was held back reaches the replica: there is none, or a refusal, or a name
+pub none-after : (was : Playing) (turns : List Turn) → IsAfter was turns → was.reply ≡ None →
+    IsAfter (record was { reply = None; fresh = false }) (Accept ∷ turns)
+none-after was turns after none =
+    turned was (record was { reply = None; fresh = false }) Accept turns after refl refl after.server
+    (subst (λ r. StandsFor was.replica (after_reply r (played turns).replica)) (sym none ∙ after.reply) after.replica)
+    after.records after.clock refl refl
+
+pub refused-after : (was : Playing) (replica : Kept) (turns : List Turn) → IsAfter was turns → was.reply ≡ Some None → GoesOn was.replica Refuses replica →
+    IsAfter (record was { replica = replica; reply = None; fresh = false }) (Accept ∷ turns)
+refused-after was replica turns after no goes =
+    turned was (record was { replica = replica; reply = None; fresh = false }) Accept turns after refl refl after.server
+    (subst (λ r. StandsFor replica (after_reply r (played turns).replica)) (sym no ∙ after.reply) (goes (played turns).replica after.replica))
+    after.records after.clock refl refl
+
+pub accept-after : (was : Playing) (replica : Kept) (name : ℕ) (turns : List Turn) → IsAfter was turns → was.reply ≡ Some (Some name) →
+    TakesTurn was.replica (Accepts name) replica →
+    IsAfter (record was { replica = replica; reply = None; fresh = false }) (Accept ∷ turns)
+accept-after was replica name turns after yes takes =
+    turned was (record was { replica = replica; reply = None; fresh = false }) Accept turns after refl refl after.server
+    (subst (λ r. StandsFor replica (after_reply r (played turns).replica)) (sym yes ∙ after.reply) (takes (played turns).replica after.replica))
+    after.records after.clock refl refl
+
+-- the subscription that was accepted last is given up, if there is one
+pub no-name-after : (was : Playing) (turns : List Turn) → IsAfter was turns → accepted (played turns).replica ≡ None →
+    IsAfter (record was { fresh = false }) (Unsubscribe ∷ turns)
+no-name-after was turns after none =
+    turned was (record was { fresh = false }) Unsubscribe turns after refl refl
+    (subst (λ o. Serves was.server (first_of turns) (given_up o (first_of turns) (clock_of turns) (played turns).commands)) (sym none) after.server)
+    after.replica after.records after.clock after.reply refl
+
+pub end-after : (was : Playing) (server : Serving) (name : ℕ) (lived : Bool) (turns : List Turn) → IsAfter was turns → accepted (played turns).replica ≡ Some name →
+    ((first : ℕ) (commands : List Command) → Serves was.server first commands → Ended first name was.clock commands lived was.server server) →
+    IsAfter (record was { server = server; fresh = false }) (Unsubscribe ∷ turns)
+end-after was server name lived turns after is ends =
+    turned was (record was { server = server; fresh = false }) Unsubscribe turns after refl refl
+    (subst (λ o. Serves server (first_of turns) (given_up o (first_of turns) (clock_of turns) (played turns).commands)) (sym is)
+    (by lived (subst (λ now. Ended (first_of turns) name now (played turns).commands lived was.server server) after.clock
+    (ends (first_of turns) (played turns).commands after.server))))
+    after.replica after.records after.clock after.reply refl
+  where
+    by : (b : Bool) → Ended (first_of turns) name (clock_of turns) (played turns).commands b was.server server →
+        Serves server (first_of turns) (given_up (Some name) (first_of turns) (clock_of turns) (played turns).commands)
+    by true e = subst (λ b. Serves server (first_of turns) (cond b (Ends name ∷ (played turns).commands) (played turns).commands)) (sym e.0) e.1
+    by false e =
+        subst (λ b. Serves server (first_of turns) (cond b (Ends name ∷ (played turns).commands) (played turns).commands)) (sym e.0)
+        (subst (λ s. Serves s (first_of turns) (played turns).commands) (sym e.1) after.server)
+
+-- a note that was sent reaches the replica
+pub deliver-after : (was : Playing) (replica : Kept) (number : ℕ) (note : Note) (turns : List Turn) → IsAfter was turns → may_stand turns (Deliver number) ≡ true →
+    sent_note number (notes_of (first_of turns) (played turns).commands) ≡ Some note → TakesTurn was.replica (Delivers note) replica →
+    IsAfter (record was { replica = replica; fresh = false }) (Deliver number ∷ turns)
+deliver-after was replica number note turns after may is takes =
+    turned was (record was { replica = replica; fresh = false }) (Deliver number) turns after refl may after.server
+    (subst (λ o. StandsFor replica (after_note o (played turns).replica)) (sym is) (takes (played turns).replica after.replica))
+    after.records after.clock after.reply refl
+
+pub no-note-after : (was : Playing) (number : ℕ) (turns : List Turn) → IsAfter was turns → may_stand turns (Deliver number) ≡ true →
+    sent_note number (notes_of (first_of turns) (played turns).commands) ≡ None →
+    IsAfter (record was { fresh = false }) (Deliver number ∷ turns)
+no-note-after was number turns after may is =
+    turned was (record was { fresh = false }) (Deliver number) turns after refl may after.server
+    (subst (λ o. StandsFor was.replica (after_note o (played turns).replica)) (sym is) after.replica)
+    after.records after.clock after.reply refl
