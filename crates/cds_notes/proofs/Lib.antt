@@ -29,3 +29,4 @@ pub mod TakenOnce
 pub mod FewHeld
 pub mod Releases
 pub mod Seqs
+pub mod Premises

@@ -6,8 +6,10 @@ mod laws;
 mod says;
 
 pub use evaluated::{
-    early_notes_are_dropped, notes_out_of_order, notes_taken_at_once, read_ahead_of_notes,
-    read_of_what_is_gone, repeated_notes,
+    at_most_64_subscriptions, changes_are_not_counted_again, early_notes_are_dropped,
+    first_notes_drop, names_begin_anew, notes_out_of_order, notes_taken_at_once, premises_hold,
+    read_ahead_of_notes, read_of_what_is_gone, releases_are_apart, repeated_notes,
+    subscriptions_run_out,
 };
 pub use laws::{
     at_most_64_are_held, base_is_the_last_end, commands_are_servers, copied_rows_were_shown,
