@@ -59,7 +59,8 @@ pub fn notes_hold_every_change()
     ensures { notes.notes_hold_every_change }
 {}
 
-/// No reply and no note of an honest server is refused, in whatever order they come, with losses and repeats.
+/// Of an honest server no reply is unreadable or torn, and no note jumps or is torn, in whatever order they come, with losses
+/// and repeats. A note of an unknown name, or one that there is no room to hold, is turned away.
 pub fn honest_calls_are_taken()
     ensures { honest.honest_calls_are_taken }
 {}
@@ -86,7 +87,8 @@ pub fn counted_changes_are_fresh()
     ensures { known.counted_changes_are_fresh }
 {}
 
-/// Notes that are taken leave a running load, and a copy's rows, as they are, but for a first note that drops them.
+/// Notes that are taken leave a running load, and the rows that a copy's load read, as they are, but for a first note that
+/// drops them.
 pub fn notes_leave_the_load()
     ensures { known.notes_leave_the_load }
 {}
