@@ -30,3 +30,7 @@ pub mod FewHeld
 pub mod Releases
 pub mod Seqs
 pub mod Premises
+pub mod Tracked
+pub mod PossibleTurns
+pub mod LoadCounts
+pub mod TrackEach

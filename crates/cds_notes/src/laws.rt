@@ -9,6 +9,7 @@ ghost use Rattle.cds_notes.specs.ReleaseLaws as releases;
 ghost use Rattle.cds_notes.specs.Seen as seen;
 ghost use Rattle.cds_notes.specs.ServerLaws as server;
 ghost use Rattle.cds_notes.specs.StepLaws as steps;
+ghost use Rattle.cds_notes.specs.TrackerLaws as trackers;
 
 /// The notes that were taken are the longest run of SEQs from 0 on that were received.
 pub fn the_longest_run_is_taken()
@@ -133,4 +134,15 @@ pub fn releases_go_on()
 /// The notes of a subscription have the SEQs 0, 1, 2 and so on.
 pub fn seqs_count_from_zero()
     ensures { releases.seqs_count_from_zero }
+{}
+
+/// The turns of loads show rows where all turns do, so the laws of attempts hold of them.
+pub fn loads_show_rows()
+    ensures { loads.loads_show_rows }
+{}
+
+/// Each container of a copy counts each change under it once, from what it began with, whatever server replied with rows and
+/// whoever sent notes.
+pub fn trackers_count_each_change_once()
+    ensures { trackers.trackers_count_each_change_once }
 {}
