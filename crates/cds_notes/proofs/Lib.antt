@@ -34,3 +34,4 @@ pub mod Tracked
 pub mod PossibleTurns
 pub mod LoadCounts
 pub mod TrackEach
+pub mod Came

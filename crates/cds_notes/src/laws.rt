@@ -146,3 +146,9 @@ pub fn loads_show_rows()
 pub fn trackers_count_each_change_once()
     ensures { trackers.trackers_count_each_change_once }
 {}
+
+/// The notes that are received are exactly those that were delivered since their name was accepted, or came early for the
+/// request that was answered with it.
+pub fn received_notes_came()
+    ensures { inbox.received_notes_came }
+{}
