@@ -41,7 +41,7 @@ keeps-counted id f parent (next ∷ rows) row e = by (option_eq nat_eq (Some nex
         let rest = r k in
         (rest.0, (λ i. cond (x i) (Some next) (known_of id (counted f parent rows))) ∙ rest.1, rest.2)
 
-put-other : (id : ℕ) (new : KnownRow) (rows : List KnownRow) → nat_eq new.id id ≡ false → known_of id (put_known new rows) ≡ known_of id rows
+pub put-other : (id : ℕ) (new : KnownRow) (rows : List KnownRow) → nat_eq new.id id ≡ false → known_of id (put_known new rows) ≡ known_of id rows
 put-other id new [] x = λ i. cond (x i) (Some new) None
 put-other id new (next ∷ rows) x = by (nat_lt new.id next.id) (put-other id new rows x)
   where
@@ -63,7 +63,7 @@ put-it id new (next ∷ rows) x = by (nat_lt new.id next.id) (put-it id new rows
     by true r = (new, (λ i. cond (x i) (Some new) (known_of id (next ∷ rows))))
     by false r = on (nat_eq next.id id) refl r
 
-keeps-others : (id other : ℕ) (rows : List KnownRow) → nat_eq other id ≡ false → known_of id (filter (λ (row : KnownRow). not (nat_eq row.id other)) rows) ≡ known_of id rows
+pub keeps-others : (id other : ℕ) (rows : List KnownRow) → nat_eq other id ≡ false → known_of id (filter (λ (row : KnownRow). not (nat_eq row.id other)) rows) ≡ known_of id rows
 keeps-others id other [] x = refl
 keeps-others id other (next ∷ rows) x = by (nat_eq next.id other) refl (keeps-others id other rows x)
   where
@@ -74,7 +74,7 @@ keeps-others id other (next ∷ rows) x = by (nat_eq next.id other) refl (keeps-
         r ∙ (λ i. cond (sym (ap (λ (n : ℕ). nat_eq n id) (eqb-true next.id other e) ∙ x) i) (Some next) (known_of id rows))
     by false e r = ap (λ (o : Option KnownRow). cond (nat_eq next.id id) (Some next) o) r
 
-known-knows : (id : ℕ) (rows : List KnownRow) (row : KnownRow) → known_of id rows ≡ Some row → knows id rows ≡ true
+pub known-knows : (id : ℕ) (rows : List KnownRow) (row : KnownRow) → known_of id rows ≡ Some row → knows id rows ≡ true
 known-knows id [] row e = none≢some None row refl e
 known-knows id (next ∷ rows) row e = by (nat_eq next.id id) e (known-knows id rows row)
   where
@@ -91,11 +91,11 @@ knows-known id (next ∷ rows) e = by (nat_eq next.id id) e (knows-known id rows
     by true k r = (next, refl)
     by false k r = r k
 
-neither : (a b : Bool) → a || b ≡ false → (a ≡ false) × (b ≡ false)
+pub neither : (a b : Bool) → a || b ≡ false → (a ≡ false) × (b ≡ false)
 neither true b e = absurd (true≢false e)
 neither false b e = (refl, e)
 
-not-false : (a : Bool) → not a ≡ false → a ≡ true
+pub not-false : (a : Bool) → not a ≡ false → a ≡ true
 not-false true e = refl
 not-false false e = absurd (true≢false e)
 

@@ -29,3 +29,9 @@ pub mod TakenOnce
 pub mod FewHeld
 pub mod Releases
 pub mod Seqs
+pub mod Premises
+pub mod Tracked
+pub mod PossibleTurns
+pub mod LoadCounts
+pub mod TrackEach
+pub mod Came

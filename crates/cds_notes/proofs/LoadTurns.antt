@@ -7,9 +7,10 @@ use Rattle.cds_model.specs.Replica.{Held, Idle, Begun, HasToken, HasNumber, HasR
 use Rattle.cds_notes.specs.Commands.{Note}
 use Rattle.cds_notes.specs.Copy.{Reads, rows_after, known_of, least_unread}
 use Rattle.cds_notes.specs.Inbox.{Begins, Shows, Requests, Accepts, Refuses, Delivers, taken_by}
-use Rattle.cds_notes.specs.Follow.{Known, position, changes_above, Outcome, Knows, CannotBeRead, Jumps, Tears, with_changes, load_begun, new_changes, is_drop, heard_of, with_notes, load_ended, loaded, is_of, row_read, copy_read, with_reply, known_after, known_by, is_no}
+use Rattle.cds_notes.specs.Follow.{Known, position, changes_above, Outcome, Knows, CannotBeRead, Jumps, Tears, with_changes, load_begun, new_changes, is_drop, heard_of, with_notes, load_ended, loaded, is_of, row_read, copy_read, with_reply, known_after, known_by, is_no, is_refused}
 use Rattle.cds_notes.specs.KnownLaws.{has_copy}
-use Rattle.cds_notes.specs.LoadTurns.{load_turns, loads_are_of_turns}
+use Rattle.cds_model.specs.Attempts.{ShowsRows as LoadShowsRows}
+use Rattle.cds_notes.specs.LoadTurns.{load_turns, loads_are_of_turns, loads_show_rows}
 use Rattle.cds_notes.proofs.Heard.{counted-stays, notes-leave}
 
 module _ (known : Known) (turns : List LoadTurn) (is : known.held ≡ held_by turns) where
@@ -97,3 +98,22 @@ loads-are-of-turns (Requests ∷ older) = loads-are-of-turns older
 loads-are-of-turns (Accepts name ∷ older) = notes-held (known_by older) (load_turns older) (loads-are-of-turns older) (taken_by (Accepts name) older)
 loads-are-of-turns (Refuses ∷ older) = loads-are-of-turns older
 loads-are-of-turns (Delivers note ∷ older) = notes-held (known_by older) (load_turns older) (loads-are-of-turns older) (taken_by (Delivers note) older)
+
+-- ---- rows that were shown
+
+begun-rows : (b : Bool) (turns : List LoadTurn) → LoadShowsRows turns → LoadShowsRows (cond b (LoadBegins ∷ turns) turns)
+begun-rows true turns shows = shows
+begun-rows false turns shows = shows
+
+pub loads-show-rows : loads_show_rows
+loads-show-rows [] shows = tt
+loads-show-rows (Begins ∷ older) shows = loads-show-rows older shows
+loads-show-rows (Shows shown ∷ older) shows = by (has_copy (known_by older).held || is_refused (Shows shown) older) (loads-show-rows older shows.1)
+  where
+    by : (b : Bool) → LoadShowsRows (load_turns older) → LoadShowsRows (cond b (load_turns older) (LoadShows shown ∷ load_turns older))
+    by true rest = rest
+    by false rest = (shows.0, rest)
+loads-show-rows (Requests ∷ older) shows = loads-show-rows older shows
+loads-show-rows (Accepts name ∷ older) shows = begun-rows (is_drop (position (known_by older)) (taken_by (Accepts name) older)) (load_turns older) (loads-show-rows older shows)
+loads-show-rows (Refuses ∷ older) shows = loads-show-rows older shows
+loads-show-rows (Delivers note ∷ older) shows = begun-rows (is_drop (position (known_by older)) (taken_by (Delivers note) older)) (load_turns older) (loads-show-rows older shows)

@@ -92,8 +92,8 @@ granted (Ticks moment ∷ older) = granted older
 abbrev pub granted_time : ℕ
 granted_time = 1800000
 
--- the moment at which a subscription runs out, where it was granted and has not ended: it was not given up, and no tick
--- came at or past that moment
+-- the moment at which a subscription runs out, where it was granted, was not given up, and no tick came at or past that
+-- moment. The note with the last SEQ ends it too, which is not looked at here
 abbrev pub unless_past : ℕ → Option ℕ → Option ℕ
 unless_past moment None = None
 unless_past moment (Some end) = cond (nat_lt moment end) (Some end) None
@@ -105,7 +105,7 @@ runs_until name (Grants moment ∷ older) = cond (nat_eq name (granted older + 1
 runs_until name (Ends other ∷ older) = cond (nat_eq name other) None (runs_until name older)
 runs_until name (Ticks moment ∷ older) = unless_past moment (runs_until name older)
 
--- whether a subscription lives at a moment
+-- whether a subscription still has time at a moment: it lives where it has SEQs left besides, as `alive_names` says
 abbrev pub is_alive : ℕ → ℕ → List Command → Bool
 is_alive name now commands = is_some (unless_past now (runs_until name commands))
 

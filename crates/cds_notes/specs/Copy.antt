@@ -149,8 +149,8 @@ rows_after rows [] = map known_row rows
 rows_after rows (Changes event ∷ older) = changed (rows_after rows older) event
 rows_after rows (Reads id v ∷ older) = read_anew (rows_after rows older) id v
 
--- whether a happening is the deletion of an id; whether it adds or modifies it at a number above another; and whether it
--- shows a version of it that is not below a number
+-- whether a happening is the deletion of an id; the number at which it adds or modifies it; and whether it shows a version of
+-- it that is not below a number
 abbrev pub deletes : ℕ → Happening → Bool
 deletes id (Changes (ObjDel other number st)) = nat_eq other id
 deletes id (Changes (ObjAdd other number st parent class)) = false
@@ -158,7 +158,6 @@ deletes id (Changes (ObjMod other number st)) = false
 deletes id (Changes (StDone other number)) = false
 deletes id (Reads other v) = false
 
--- the number at which a happening makes an id unread until it is read
 abbrev pub marks : ℕ → Happening → Option ℕ
 marks id (Changes (ObjAdd other number st parent class)) = cond (nat_eq other id) (Some number) None
 marks id (Changes (ObjMod other number st)) = cond (nat_eq other id) (Some number) None

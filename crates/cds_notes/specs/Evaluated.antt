@@ -1,13 +1,15 @@
--- Replicas of an honest server, evaluated from the definitions.
-use Rattle.std.specs.Prelude.{◌≡◌, List, [], ◌∷◌, map, length, None, Some, codes, true, false}
+-- Replicas and servers evaluated from the definitions: replicas of an honest server, but for notes that no honest server
+-- sends where a row says so.
+use Rattle.std.specs.Prelude.{◌≡◌, ℕ, zero, suc, List, [], ◌∷◌, map, None, Some, codes, true, false}
 use Rattle.cds_catalog.specs.Library.{FolderMap}
 use Rattle.cds_catalog.specs.Evaluated.{Outline, outline, a_track}
 use Rattle.cds_event.specs.declared.Class.TheVariants.{Track}
+use Rattle.cds_model.specs.declared.exchange.Ask.TheVariants.{Token, Metadata}
 use Rattle.cds_event.specs.declared.Event.TheVariants.{ObjAdd, ObjMod, ObjDel}
-use Rattle.cds_notes.specs.Commands.{Command, Scans, Grants, Ticks, Note, notes_of}
-use Rattle.cds_notes.specs.Inbox.{ReplicaTurn, Requests, Accepts, Delivers, held_notes}
-use Rattle.cds_notes.specs.Follow.{known_by, copied, says, and_turn, is_refused}
-use Rattle.cds_notes.specs.Given.{Entry, Starts, Asks, Calls, Granted, Gets, given_by}
+use Rattle.cds_notes.specs.Commands.{Command, Scans, Grants, Ends, Ticks, Note, releases_of, alive_names, has_room, notes_of}
+use Rattle.cds_notes.specs.Inbox.{ReplicaTurn, Requests, Accepts, Delivers, received, held_notes, taken_by}
+use Rattle.cds_notes.specs.Follow.{Jumps, Tears, position, with_notes, known_by, next_ask, copied, says, and_turn, is_refused}
+use Rattle.cds_notes.specs.Given.{Entry, Starts, Asks, Calls, Granted, Gets, given_by, AreAccepted, IsGiven}
 use Rattle.cds_notes.specs.declared.says.Says.{Says}
 use Rattle.cds_notes.specs.declared.says.Says.TheVariants.{Gap, BehindLoad, BehindRead, BehindVersion, Stands}
 
@@ -85,25 +87,133 @@ read_ahead_of_notes =
     × Known (given_by 0 track_changes (Gets 5 modified ∷ Asks 4 ∷ Gets 4 added ∷ prepared)) (Stands 2)
     ((0, None, 0, 2 ∷ 1 ∷ 0 ∷ []) ∷ (1, Some 0, 2, []) ∷ [])
 
--- notes that are taken at once are judged as one: only the first change above the position has to be the next one, and that
--- goes before what cannot be
+-- notes that no honest server sends, taken at once, are judged as one: only the first change above the position has to be the
+-- next one, and that goes before what cannot be
 abbrev pub leaps : Note
 leaps = record { name = 1; seq = 2; number = 5; events = ObjAdd 2 5 false 0 Track ∷ [] }
 
 abbrev pub strays : Note
 strays = record { name = 1; seq = 1; number = 1; events = ObjMod 7 1 false ∷ [] }
 
+abbrev pub jumps : Note
+jumps = record { name = 1; seq = 1; number = 5; events = ObjMod 7 5 false ∷ [] }
+
+abbrev pub leapt : List ReplicaTurn
+leapt = and_turn (Delivers leaps) (given_by 0 tracks_come prepared)
+
 abbrev pub notes_taken_at_once : Type 0
 notes_taken_at_once =
-    (says (and_turn (Delivers added) (and_turn (Delivers leaps) (given_by 0 tracks_come prepared))) ≡ BehindRead 1)
+    (says leapt ≡ Gap 1) × (position (known_by (and_turn (Delivers added) leapt)) ≡ 5)
+    × (with_notes (taken_by (Delivers strays) leapt) (known_by leapt) ≡ Tears 7)
+    × (with_notes (taken_by (Delivers jumps) leapt) (known_by leapt) ≡ Jumps 1 5)
+    × (says (and_turn (Delivers added) (and_turn (Delivers leaps) (given_by 0 tracks_come prepared))) ≡ BehindRead 1)
     × (is_refused (Delivers strays) (and_turn (Delivers leaps) (given_by 0 tracks_come prepared)) ≡ true)
     × (says (and_turn (Delivers strays) (and_turn (Delivers leaps) (given_by 0 tracks_come prepared))) ≡ Gap 1)
     × (is_refused (Delivers (record { name = 1; seq = 1; number = 5; events = ObjAdd 2 5 false 0 Track ∷ [] })) (given_by 0 tracks_come prepared) ≡ true)
 
--- early notes of several names; the second request drops those of the first
+-- early notes of several names: those of the accepted one are received, and the second request drops those of the first
+abbrev pub of_other : Note
+of_other = record { name = 2; seq = 0; number = 0; events = [] }
+
 abbrev pub early_notes_are_dropped : Type 0
 early_notes_are_dropped =
-    (length (held_notes (Delivers added ∷ Delivers first ∷ Requests ∷ [])) ≡ 2)
+    (held_notes (Delivers of_other ∷ Delivers added ∷ Delivers of_other ∷ Delivers first ∷ Requests ∷ []) ≡ added ∷ of_other ∷ first ∷ [])
+    × (received (Accepts 2 ∷ Delivers of_other ∷ Delivers added ∷ Delivers first ∷ Requests ∷ []) ≡ of_other ∷ [])
+    × (received (Accepts 1 ∷ Delivers of_other ∷ Delivers added ∷ Delivers first ∷ Requests ∷ []) ≡ added ∷ first ∷ [])
     × (held_notes (Requests ∷ Delivers added ∷ Delivers first ∷ Requests ∷ []) ≡ [])
     × (says (Accepts 1 ∷ Delivers added ∷ Requests ∷ []) ≡ Gap 0)
     × (says (Delivers first ∷ Accepts 1 ∷ Delivers added ∷ Requests ∷ []) ≡ BehindLoad)
+
+-- a name that is accepted again begins anew
+abbrev pub names_begin_anew : Type 0
+names_begin_anew =
+    (received (Delivers first ∷ Accepts 1 ∷ Requests ∷ []) ≡ first ∷ [])
+    × (received (Accepts 1 ∷ Requests ∷ Delivers first ∷ Accepts 1 ∷ Requests ∷ []) ≡ [])
+
+-- a first note above the position drops the copy and begins a load; while a load runs it begins this anew, and one that is
+-- not above the position leaves it
+abbrev pub subscribed_anew : List Command
+subscribed_anew = Grants 200 ∷ Ends 1 ∷ Ticks 200 ∷ Scans one ∷ Grants 0 ∷ []
+
+abbrev pub first_anew : Note
+first_anew = record { name = 2; seq = 0; number = 1; events = [] }
+
+abbrev pub accepted_anew : List Entry
+accepted_anew = Granted 5 2 ∷ Calls 4 ∷ prepared
+
+abbrev pub granted_late : List Command
+granted_late = Grants 0 ∷ Scans one ∷ []
+
+abbrev pub loading : List Entry
+loading = Granted 2 1 ∷ Calls 1 ∷ Asks 0 ∷ Asks 0 ∷ Starts 0 ∷ []
+
+abbrev pub first_late : Note
+first_late = record { name = 1; seq = 0; number = 1; events = [] }
+
+abbrev pub first_notes_drop : Type 0
+first_notes_drop =
+    (notes_of 0 subscribed_anew ≡ first ∷ added ∷ first_anew ∷ [])
+    × Known (given_by 0 subscribed_anew accepted_anew) (Stands 0) ((0, None, 0, 0 ∷ 0 ∷ 0 ∷ []) ∷ [])
+    × Known (given_by 0 subscribed_anew (Gets 5 first_anew ∷ accepted_anew)) BehindLoad []
+    × Known (given_by 0 subscribed_anew (Asks 5 ∷ Asks 5 ∷ Asks 5 ∷ Asks 5 ∷ Asks 5 ∷ Asks 5 ∷ Gets 5 first_anew ∷ accepted_anew)) (Stands 1)
+    ((0, None, 0, 1 ∷ 1 ∷ 0 ∷ []) ∷ (1, Some 0, 1, []) ∷ [])
+    × (notes_of 0 granted_late ≡ first_late ∷ [])
+    × (next_ask (known_by (given_by 0 granted_late loading)) ≡ Some (Metadata 0))
+    × (next_ask (known_by (given_by 0 granted_late (Gets 2 first_late ∷ loading))) ≡ Some Token)
+    × (next_ask (known_by (and_turn (Delivers first) (given_by 0 granted_late loading))) ≡ Some (Metadata 0))
+
+-- a note that comes before its subscription is accepted is taken with it; changes that the load has counted already are not
+-- counted again
+abbrev pub came_and_went : List Command
+came_and_went = Ticks 200 ∷ Grants 0 ∷ Scans [] ∷ Scans one ∷ []
+
+abbrev pub first_early : Note
+first_early = record { name = 1; seq = 0; number = 2; events = [] }
+
+abbrev pub overlaps : Note
+overlaps = record { name = 1; seq = 1; number = 2; events = ObjAdd 1 1 false 0 Track ∷ ObjDel 1 2 false ∷ [] }
+
+abbrev pub changes_are_not_counted_again : Type 0
+changes_are_not_counted_again =
+    (notes_of 0 came_and_went ≡ first_early ∷ overlaps ∷ [])
+    × Known (given_by 0 came_and_went (Gets 4 overlaps ∷ Granted 3 1 ∷ Gets 3 first_early ∷ Calls 2 ∷ Asks 2 ∷ Asks 2 ∷ Asks 2 ∷ Asks 2 ∷ Asks 2 ∷ Asks 2 ∷ Starts 2 ∷ []))
+    (Stands 2) ((0, None, 0, 2 ∷ 0 ∷ 1 ∷ []) ∷ [])
+
+-- releases are 200 milliseconds apart, and one release tells both scans before it
+abbrev pub three : FolderMap
+three = (codes "a" ∷ [], a_track 10) ∷ (codes "b" ∷ [], a_track 10) ∷ (codes "c" ∷ [], a_track 10) ∷ []
+
+abbrev pub until_1199 : List Command
+until_1199 = Ticks 1199 ∷ Scans three ∷ Ticks 1100 ∷ Scans two ∷ Ticks 1000 ∷ Scans one ∷ Grants 0 ∷ []
+
+abbrev pub added_two : Note
+added_two = record { name = 1; seq = 2; number = 3; events = ObjAdd 2 2 false 0 Track ∷ ObjAdd 3 3 false 0 Track ∷ [] }
+
+abbrev pub releases_are_apart : Type 0
+releases_are_apart =
+    (notes_of 0 until_1199 ≡ first ∷ added ∷ [])
+    × (notes_of 0 (Ticks 1200 ∷ until_1199) ≡ first ∷ added ∷ added_two ∷ [])
+    × (releases_of 0 (Ticks 1200 ∷ until_1199) ≡ record { moment = 1200; from = 1; to = 3 } ∷ record { moment = 1000; from = 0; to = 1 } ∷ [])
+
+-- a subscription lives for 1,800 seconds: a tick before their end still sends it a note, and one at their end does not
+abbrev pub subscriptions_run_out : Type 0
+subscriptions_run_out =
+    (alive_names 1799999 (Grants 0 ∷ []) (first ∷ []) ≡ 1 ∷ []) × (alive_names 1800000 (Grants 0 ∷ []) (first ∷ []) ≡ [])
+    × (notes_of 0 (Ticks 1799999 ∷ Scans one ∷ Grants 0 ∷ []) ≡ first ∷ added ∷ [])
+    × (notes_of 0 (Ticks 1800000 ∷ Scans one ∷ Grants 0 ∷ []) ≡ first ∷ [])
+    × (notes_of 0 (Ticks 200 ∷ Ends 1 ∷ Scans one ∷ Grants 0 ∷ []) ≡ first ∷ [])
+
+-- one more subscription has room where fewer than 64 live: one that has ended or run out leaves its room
+abbrev pub grants : ℕ → List Command
+grants zero = []
+grants (suc n) = Grants 0 ∷ grants n
+
+abbrev pub at_most_64_subscriptions : Type 0
+at_most_64_subscriptions =
+    (has_room 0 (grants 63) (notes_of 0 (grants 63)) ≡ true) × (has_room 0 (grants 64) (notes_of 0 (grants 64)) ≡ false)
+    × (has_room 0 (Ends 7 ∷ grants 64) (notes_of 0 (Ends 7 ∷ grants 64)) ≡ true)
+    × (has_room 1800000 (grants 64) (notes_of 0 (grants 64)) ≡ true)
+
+-- the premises of the laws on honest servers hold of the notes out of order
+abbrev pub premises_hold : Type 0
+premises_hold = AreAccepted 0 tracks_come × IsGiven 0 tracks_come (Asks 5 ∷ Asks 5 ∷ Gets 5 added ∷ Gets 5 added_other ∷ prepared)

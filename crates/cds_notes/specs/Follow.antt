@@ -27,7 +27,7 @@ pub record Known : Type 0 where
   pub kept : List Event
   pub happenings : List Happening
 
--- the position: every change up to it was counted
+-- the position: the greatest of the number that the last ended load read and the numbers of all notes that were taken
 abbrev pub position : Known → ℕ
 position known = max known.base known.heard
 

@@ -1,5 +1,6 @@
--- Laws of a replica that an honest server gives its replies and notes, in every order, with losses and repeats: nothing that
--- comes is refused, and where it stands its copy is the server's catalog at a scan end.
+-- Laws of a replica that an honest server gives its replies and notes, in every order, with losses and repeats: no reply and
+-- no note is unreadable, jumps or is torn (a note of an unknown name, or one that there is no room for, is turned away), and
+-- where it stands its copy is the server's catalog at a scan end.
 use Rattle.std.specs.Prelude.{◌≡◌, ◌≤◌, ◌||◌, ℕ, Bool, true, false, List, [], ◌∷◌, ◌++◌, Some, None, Contains}
 use Rattle.std.specs.List.{AllByRecursion}
 use Rattle.cds_catalog.specs.History.{end_of}
@@ -24,7 +25,7 @@ IsTaken first commands (Granted k name) turns = (now : Known) × (with_notes (ta
 IsTaken first commands (Denied k) turns = Unit {0}
 IsTaken first commands (Gets k note) turns = (now : Known) × (with_notes (taken_by (Delivers note) turns) (known_by turns) ≡ Knows now)
 
--- no reply and no note of an honest server is refused: none cannot be read, jumps over a change, or tells what cannot be
+-- of an honest server no reply is unreadable, and no reply and no note jumps over a change or tells what cannot be
 abbrev pub honest_calls_are_taken : Type 0
 honest_calls_are_taken = (first : ℕ) (commands : List Command) (entry : Entry) (older : List Entry) → AreAccepted first commands →
     IsGiven first commands (entry ∷ older) → IsTaken first commands entry (given_by first commands older)

@@ -1,8 +1,40 @@
 -- Laws of which notes were taken and which are missing, over every list of turns.
-use Rattle.std.specs.Prelude.{◌≡◌, ◌<◌, ℕ, true, false, List, [], ◌∷◌, ◌++◌, map, Some}
-use Rattle.std.specs.List.{range_with_len}
+use Rattle.std.specs.Prelude.{◌≡◌, ◌↔◌, ◌⊎◌, ◌<◌, ℕ, Bool, true, false, List, [], ◌∷◌, ◌++◌, map, Some, Contains}
+use Rattle.std.specs.List.{AllByRecursion, range_with_len}
 use Rattle.cds_notes.specs.Commands.{Note}
-use Rattle.cds_notes.specs.Inbox.{ReplicaTurn, Begins, Shows, Requests, Accepts, Refuses, Delivers, received, has_seq, next_seq, missing, notes_from_to, taken_by}
+use Rattle.cds_notes.specs.Inbox.{ReplicaTurn, Begins, Shows, Requests, Accepts, Refuses, Delivers, is_accepted, is_early, received, has_seq, next_seq, missing, notes_from_to, taken_by}
+
+-- whether a turn accepts a name; and whether it is a subscribe request, or the reply to one
+abbrev pub accepts_name : ReplicaTurn → Bool
+accepts_name Begins = false
+accepts_name (Shows shown) = false
+accepts_name Requests = false
+accepts_name (Accepts name) = true
+accepts_name Refuses = false
+accepts_name (Delivers note) = false
+
+abbrev pub is_call : ReplicaTurn → Bool
+is_call Begins = false
+is_call (Shows shown) = false
+is_call Requests = true
+is_call (Accepts name) = true
+is_call Refuses = true
+is_call (Delivers note) = false
+
+-- a note was delivered since its name was accepted, and no name was since; or it came early for the request that was answered
+-- with its name, and no name was accepted since
+abbrev pub CameFor : Note → List ReplicaTurn → List ReplicaTurn → Type 0
+CameFor note newer older =
+    ((is_accepted note.name older ≡ true) × AllByRecursion (λ turn. accepts_name turn ≡ false) newer)
+    ⊎ ((since : List ReplicaTurn) × (between : List ReplicaTurn) × (newer ≡ since ++ Accepts note.name ∷ between)
+    × AllByRecursion (λ turn. accepts_name turn ≡ false) since × AllByRecursion (λ turn. is_call turn ≡ false) between
+    × (is_early note older ≡ true))
+
+-- the notes that are received are exactly those that were delivered so
+abbrev pub received_notes_came : Type 0
+received_notes_came = (turns : List ReplicaTurn) (note : Note) →
+    (Contains (received turns) note)
+    ↔ ((newer : List ReplicaTurn) × (older : List ReplicaTurn) × (turns ≡ newer ++ Delivers note ∷ older) × CameFor note newer older)
 
 -- the notes that were taken are the longest run of SEQs from 0 on that were received: each before the next one was, and
 -- the next one was not

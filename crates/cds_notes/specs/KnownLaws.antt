@@ -83,7 +83,7 @@ abbrev pub counted_changes_are_fresh : Type 0
 counted_changes_are_fresh = (turns : List ReplicaTurn) (number : ℕ) (rows : List ObjectRow) → (known_by turns).held ≡ HasCopy number rows →
     counted_changes (known_by turns).happenings ≡ changes_above (known_by turns).base (told_since turns)
 
--- notes that are taken leave a load, or a copy's rows, as they are, but for a first note that drops them
+-- notes that are taken leave a load, and the rows that a copy's load read, as they are, but for a first note that drops them
 abbrev pub notes_leave_the_load : Type 0
 notes_leave_the_load = (notes : List Note) (known now : Known) → with_notes notes known ≡ Knows now → is_drop (position known) notes ≡ false →
     (now.held ≡ known.held) × (now.base ≡ known.base)

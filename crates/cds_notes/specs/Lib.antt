@@ -13,3 +13,4 @@ pub mod KnownLaws
 pub mod LoadTurns
 pub mod Seen
 pub mod ReleaseLaws
+pub mod TrackerLaws

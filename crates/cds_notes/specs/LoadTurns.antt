@@ -1,5 +1,9 @@
 -- The load among the turns of a replica that takes notes: what its load holds is what the turns of this load hold.
 use Rattle.std.specs.Prelude.{◌≡◌, ◌||◌, cond, List, [], ◌∷◌}
+use Rattle.std.specs.List.{AllByRecursion}
+use Rattle.cds_object.specs.Object.{IsRow}
+use Rattle.cds_model.specs.Seen.{rows_shown}
+use Rattle.cds_model.specs.Attempts.{ShowsRows as LoadShowsRows}
 use Rattle.cds_model.specs.Replica.{ReplicaTurn as LoadTurn, Begins as LoadBegins, Shows as LoadShows, held_by}
 use Rattle.cds_notes.specs.Inbox.{ReplicaTurn, Begins, Shows, Requests, Accepts, Refuses, Delivers, taken_by}
 use Rattle.cds_notes.specs.Follow.{position, is_drop, known_by, is_refused}
@@ -23,3 +27,17 @@ load_turns (Delivers note ∷ older) =
 -- list of such turns holds of its load
 abbrev pub loads_are_of_turns : Type 0
 loads_are_of_turns = (turns : List ReplicaTurn) → (known_by turns).held ≡ held_by (load_turns turns)
+
+-- the rows that were shown are rows: only the root has no parent, and exactly the folders track their children
+abbrev pub ShowsRows : List ReplicaTurn → Type 0
+ShowsRows [] = Unit {0}
+ShowsRows (Begins ∷ older) = ShowsRows older
+ShowsRows (Shows shown ∷ older) = AllByRecursion IsRow (rows_shown shown) × ShowsRows older
+ShowsRows (Requests ∷ older) = ShowsRows older
+ShowsRows (Accepts name ∷ older) = ShowsRows older
+ShowsRows (Refuses ∷ older) = ShowsRows older
+ShowsRows (Delivers note ∷ older) = ShowsRows older
+
+-- the turns of loads show rows where all turns do: so the laws of attempts hold of them
+abbrev pub loads_show_rows : Type 0
+loads_show_rows = (turns : List ReplicaTurn) → ShowsRows turns → LoadShowsRows (load_turns turns)

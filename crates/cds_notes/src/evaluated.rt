@@ -1,4 +1,4 @@
-//! Replicas of an honest server, evaluated from the definitions: each clause is one of them.
+//! Replicas and servers evaluated from the definitions: each clause is one of them.
 
 ghost use Rattle.cds_notes.specs.Evaluated as evaluated;
 
@@ -30,4 +30,39 @@ pub fn notes_taken_at_once()
 /// A second subscribe request drops the early notes of the first.
 pub fn early_notes_are_dropped()
     ensures { evaluated.early_notes_are_dropped }
+{}
+
+/// A name that is accepted again begins anew.
+pub fn names_begin_anew()
+    ensures { evaluated.names_begin_anew }
+{}
+
+/// A first note above the position drops the copy, or begins a running load anew.
+pub fn first_notes_drop()
+    ensures { evaluated.first_notes_drop }
+{}
+
+/// A note that comes before its subscription is accepted is taken with it, and what the load has counted is not counted again.
+pub fn changes_are_not_counted_again()
+    ensures { evaluated.changes_are_not_counted_again }
+{}
+
+/// Releases are 200 milliseconds apart, and one tells all scans before it.
+pub fn releases_are_apart()
+    ensures { evaluated.releases_are_apart }
+{}
+
+/// A subscription lives for 1,800 seconds.
+pub fn subscriptions_run_out()
+    ensures { evaluated.subscriptions_run_out }
+{}
+
+/// One more subscription has room where fewer than 64 live.
+pub fn at_most_64_subscriptions()
+    ensures { evaluated.at_most_64_subscriptions }
+{}
+
+/// The premises of the laws on honest servers hold of a replica that is given notes out of order.
+pub fn premises_hold()
+    ensures { evaluated.premises_hold }
 {}

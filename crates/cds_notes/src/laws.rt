@@ -9,6 +9,7 @@ ghost use Rattle.cds_notes.specs.ReleaseLaws as releases;
 ghost use Rattle.cds_notes.specs.Seen as seen;
 ghost use Rattle.cds_notes.specs.ServerLaws as server;
 ghost use Rattle.cds_notes.specs.StepLaws as steps;
+ghost use Rattle.cds_notes.specs.TrackerLaws as trackers;
 
 /// The notes that were taken are the longest run of SEQs from 0 on that were received.
 pub fn the_longest_run_is_taken()
@@ -59,7 +60,8 @@ pub fn notes_hold_every_change()
     ensures { notes.notes_hold_every_change }
 {}
 
-/// No reply and no note of an honest server is refused, in whatever order they come, with losses and repeats.
+/// Of an honest server no reply is unreadable or torn, and no note jumps or is torn, in whatever order they come, with losses
+/// and repeats. A note of an unknown name, or one that there is no room to hold, is turned away.
 pub fn honest_calls_are_taken()
     ensures { honest.honest_calls_are_taken }
 {}
@@ -86,7 +88,8 @@ pub fn counted_changes_are_fresh()
     ensures { known.counted_changes_are_fresh }
 {}
 
-/// Notes that are taken leave a running load, and a copy's rows, as they are, but for a first note that drops them.
+/// Notes that are taken leave a running load, and the rows that a copy's load read, as they are, but for a first note that
+/// drops them.
 pub fn notes_leave_the_load()
     ensures { known.notes_leave_the_load }
 {}
@@ -131,4 +134,21 @@ pub fn releases_go_on()
 /// The notes of a subscription have the SEQs 0, 1, 2 and so on.
 pub fn seqs_count_from_zero()
     ensures { releases.seqs_count_from_zero }
+{}
+
+/// The turns of loads show rows where all turns do, so the laws of attempts hold of them.
+pub fn loads_show_rows()
+    ensures { loads.loads_show_rows }
+{}
+
+/// Each container of a copy counts each change under it once, from what it began with, whatever server replied with rows and
+/// whoever sent notes.
+pub fn trackers_count_each_change_once()
+    ensures { trackers.trackers_count_each_change_once }
+{}
+
+/// The notes that are received are exactly those that were delivered since their name was accepted, or came early for the
+/// request that was answered with it.
+pub fn received_notes_came()
+    ensures { inbox.received_notes_came }
 {}
