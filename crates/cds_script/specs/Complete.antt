@@ -13,7 +13,8 @@ use Rattle.cds_notes.specs.HonestLaws.{load_was_begun}
 use Rattle.cds_script.specs.declared.turn.Turn.{Turn}
 use Rattle.cds_script.specs.declared.turn.Turn.TheVariants.{Folder, Track, Scan, Load, Read, Ask, First, At, Subscribe, Accept, Unsubscribe, Deliver, ReadFault}
 use Rattle.cds_script.specs.Report.{first_of, clock_of, sent_note, lives, played, history_of, written_by}
-use Rattle.cds_script.specs.Played.{MayBe}
+use Rattle.cds_script.specs.Played.{script_turns, MayBe}
+use Rattle.cds_script.specs.Evaluated.{times}
 
 -- whether a delivery is answered `full`
 abbrev pub is_full : Arrival → Bool
@@ -77,3 +78,10 @@ AnswersAreComplete turns = (newer older : List Turn) (name : ℕ) → turns ≡ 
 
 abbrev pub all_answers_are_complete : Type 0
 all_answers_are_complete = (turns : List Turn) → MayBe turns → AnswersAreComplete turns
+-- these premises are met: by the turns of a script that follows one note and reads until nothing is to be read
+abbrev pub followed_script : List ℕ
+followed_script =
+    codes "load\n" ++ times 6 (codes "read\n") ++ codes "subscribe\naccept\ndeliver 1\ntrack a.flac 10 0 2 16 0\nscan\nat 200\ndeliver 2\nread\nread\n"
+
+abbrev pub scripts_can_be_complete : Type 0
+scripts_can_be_complete = IsDelivered (script_turns followed_script) 1

@@ -77,3 +77,8 @@ pub fn nothing_is_to_be_read()
 pub fn all_answers_are_complete()
     ensures { complete.all_answers_are_complete }
 {}
+
+/// The premises of the complete answer are met by a script.
+pub fn scripts_can_be_complete()
+    ensures { complete.scripts_can_be_complete }
+{}

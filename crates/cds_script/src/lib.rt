@@ -22,6 +22,9 @@ pub use laws::{
     answers_are_complete, delivered_notes_are_received, lines_mean_in_range, loads_are_bounded,
     loads_are_held, nothing_is_refused, nothing_is_to_be_read, reports_are_of_turns,
     script_turns_may_be, scripts_are_given,
+    answers_are_complete, delivered_notes_are_received, loads_are_bounded, loads_are_held,
+    nothing_is_refused, nothing_is_to_be_read, reports_are_of_turns, script_turns_may_be,
+    scripts_are_given, scripts_can_be_complete,
 };
 pub use line::read_line;
 pub use turn::{Meaning, Turn};

@@ -1,0 +1,62 @@
+use Rattle.std.proofs.Common.{◌≡◌, ◌⊎◌, inl, inr, ℕ, ◌-◌, List, [], ◌∷◌, ◌++◌, take, drop, Bool, true, false, cond, nat_eq, refl, sym, ap, ◌∙◌, subst, arith, Some, None}
+use Rattle.std.proofs.lemmas.Bool.{eqb-true}
+use Rattle.cds_notes.specs.Commands.{Note, first_note, notes_of}
+use Rattle.cds_notes.specs.Evaluated.{added}
+use Rattle.cds_notes.specs.Inbox.{arrival}
+use Rattle.cds_script.specs.declared.turn.Turn.{Turn}
+use Rattle.cds_script.specs.declared.turn.Turn.TheVariants.{Deliver}
+use Rattle.cds_script.specs.Report.{sent_note, played}
+use Rattle.cds_script.specs.Played.{script_turns}
+use Rattle.cds_script.specs.Complete.{is_full, followed_script}
+use Rattle.cds_script.proofs.laws.scripts_can_be_complete.Goals as goal
+
+-- of two notes the numbers are 1 and 2
+two-sent : (a b : Note) (number : ℕ) (note : Note) → sent_note number (a ∷ b ∷ []) ≡ Some note → (number ≡ 1) ⊎ (number ≡ 2)
+two-sent a b number note e = by (nat_eq number 1) refl (nat_eq number 0) (nat_eq (number - 1) 1) refl (nat_eq (number - 1) 0) e
+  where
+    by : (p : Bool) → nat_eq number 1 ≡ p → (q r : Bool) → nat_eq (number - 1) 1 ≡ r → (s : Bool) →
+        cond p (Some a) (cond q None (cond r (Some b) (cond s None None))) ≡ Some note → (number ≡ 1) ⊎ (number ≡ 2)
+    by true f q r g s k = inl (eqb-true number 1 f)
+    by false f true r g s k = absurd (cc)
+    by false f false true g s k = let less = eqb-true (number - 1) 1 g in inr (omega (arith, less))
+    by false f false false g true k = absurd (cc)
+    by false f false false g false k = absurd (cc)
+
+abbrev turns : List Turn
+turns = script_turns followed_script
+
+abbrev Told : ℕ → Note → Type 0
+Told number note = (newer : List Turn) × (older : List Turn) × (turns ≡ newer ++ Deliver number ∷ older) × (is_full (arrival note (played older).replica) ≡ false)
+
+some-is : (a b : Note) → Some a ≡ Some b → a ≡ b
+some-is a b e = cc
+
+told : (number : ℕ) (note : Note) → sent_note number (notes_of 0 (played turns).commands) ≡ Some note → (number ≡ 1) ⊎ (number ≡ 2) → Told number note
+told number note e (inl one) = subst (λ (n : ℕ). Told n note) (sym one) (
+  take 6 turns,
+  drop 7 turns,
+  refl,
+  subst (λ (n : Note). is_full (arrival n (played (drop 7 turns)).replica) ≡ false)
+      (some-is (first_note 1 0) note (ap (λ (n : ℕ). sent_note n (notes_of 0 (played turns).commands)) (sym one) ∙ e)) refl,
+)
+told number note e (inr two) = subst (λ (n : ℕ). Told n note) (sym two) (
+  take 2 turns,
+  drop 3 turns,
+  refl,
+  subst (λ (n : Note). is_full (arrival n (played (drop 3 turns)).replica) ≡ false)
+      (some-is added note (ap (λ (n : ℕ). sent_note n (notes_of 0 (played turns).commands)) (sym two) ∙ e)) refl,
+)
+
+pub returns : goal.returns
+returns c = record {
+  begun = refl;
+  named = refl;
+  alive = refl;
+  delivered = λ number note e is. told number note e (two-sent _ _ number note e);
+  released = refl;
+  newer = [];
+  older = drop 1 turns;
+  parts = refl;
+  nothing = refl;
+  quiet = refl;
+}
