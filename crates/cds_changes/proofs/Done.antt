@@ -1,18 +1,18 @@
 -- With which change of a scan a subtree update is done.
-use Rattle.std.proofs.Common.{◌≡◌, ◌&&◌, ◌||◌, ℕ, Bool, true, false, not, cond, List, [], ◌∷◌, ◌++◌, map, filter, Less, refl, sym, ap, ◌∙◌, subst, true≢false}
+use Rattle.std.proofs.Common.{◌≡◌, ◌&&◌, ◌||◌, Bool, true, false, not, cond, List, [], ◌∷◌, ◌++◌, map, filter, Less, refl, sym, ap, ◌∙◌, true≢false}
 use Rattle.std.specs.List.{AllByRecursion, list_any}
 use Rattle.std.proofs.lemmas.Bool.{false_from_ne_true}
 use Rattle.std.proofs.lemmas.List.Folds.{list_any-append}
 use Rattle.std.proofs.lemmas.List.Elements.{filter-append}
-use Rattle.cds_object.specs.Path.{path_cmp, same_path, parent_of}
+use Rattle.cds_object.specs.Path.{path_cmp, same_path}
 use Rattle.cds_catalog.specs.History.{place_of, is_addition, is_deletion}
 use Rattle.cds_catalog.specs.declared.change.Change.{Change}
 use Rattle.cds_catalog.specs.declared.change.Change.TheVariants.{Deletion, Addition, Modification}
 use Rattle.cds_catalog.proofs.Paths.{same_path_is, same_path_itself, same_path_swap, same_path_Less, same_path_Greater}
 use Rattle.cds_catalog.proofs.StepsPaths.{Place}
-use Rattle.cds_changes.specs.Events.{is_below, is_alike, heads, is_within, is_last_within, heads_done}
-use Rattle.cds_changes.specs.Subtrees.{some_of, is_over, IsTop, IsClosed, InOrder, Follows}
-use Rattle.cds_changes.proofs.Places.{both-parts, both-true}
+use Rattle.cds_changes.specs.Events.{is_alike, heads, is_within, is_last_within, heads_done}
+use Rattle.cds_changes.specs.Subtrees.{some_of, is_over, IsTop, IsClosed, InOrder}
+use Rattle.cds_changes.proofs.Places.{both-true}
 use Rattle.cds_changes.proofs.Subtrees.{IsKind, gathers_at, heads_at, heads-is, head-top, top-heads, one-top}
 
 or-right : (a b : Bool) → b ≡ true → a || b ≡ true

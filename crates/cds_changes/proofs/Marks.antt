@@ -1,10 +1,10 @@
 -- What is said of a change of a scan, by its outermost place and the newer changes below that.
-use Rattle.std.proofs.Common.{◌≡◌, ◌&&◌, ◌||◌, ℕ, Bool, true, false, not, cond, List, [], ◌∷◌, ◌++◌, map, filter, reverse, Option, Some, None, MatchOption, Less, refl, sym, ap, ◌∙◌, subst, true≢false}
+use Rattle.std.proofs.Common.{◌≡◌, ◌&&◌, ◌||◌, Bool, true, false, not, cond, List, [], ◌∷◌, ◌++◌, map, filter, reverse, Option, Some, None, MatchOption, Less, refl, sym, ap, ◌∙◌, true≢false}
 use Rattle.std.specs.List.{AllByRecursion, list_any}
 use mathlib.Core.List.{reverse-cons}
 use Rattle.std.proofs.lemmas.Bool.{false_from_ne_true}
 use Rattle.std.proofs.lemmas.List.Folds.{list_any-append}
-use Rattle.cds_object.specs.Path.{path_cmp, same_path, parent_of}
+use Rattle.cds_object.specs.Path.{path_cmp, same_path}
 use Rattle.cds_object.specs.declared.content.Content.{Content}
 use Rattle.cds_catalog.specs.History.{place_of, is_addition, is_deletion}
 use Rattle.cds_catalog.specs.Replay.{stands}
@@ -12,11 +12,11 @@ use Rattle.cds_catalog.specs.declared.change.Change.{Change}
 use Rattle.cds_catalog.specs.declared.change.Change.TheVariants.{Deletion, Addition, Modification}
 use Rattle.std.specs.Option.{option_to_list}
 use Rattle.cds_catalog.proofs.Paths.{same_path_is, same_path_itself, same_path_Less, paths_total}
-use Rattle.cds_catalog.proofs.StepsPaths.{Place, swapped}
-use Rattle.cds_changes.specs.Events.{is_below, is_alike, is_within, is_last_within, heads, is_in_subtree, heads_done}
-use Rattle.cds_changes.specs.Subtrees.{some_of, is_over, IsTop, IsClosed, InOrder, Follows, IsOrderly, StoodAt, IsMarked}
+use Rattle.cds_catalog.proofs.StepsPaths.{Place}
+use Rattle.cds_changes.specs.Events.{is_below, is_alike, is_within, is_last_within, heads}
+use Rattle.cds_changes.specs.Subtrees.{some_of, is_over, IsTop, InOrder, IsOrderly, StoodAt, IsMarked}
 use Rattle.cds_changes.proofs.Places.{over-itself, over-from-below, below-from-over, below-before, not-below-itself}
-use Rattle.cds_changes.proofs.Subtrees.{IsKind, gathers_at, some-given, some-member, none-some, in-subtree}
+use Rattle.cds_changes.proofs.Subtrees.{IsKind, gathers_at, some-given, none-some, in-subtree}
 use Rattle.cds_changes.proofs.Done.{deletions-apart, additions-apart, heads-done, last-outside}
 
 pub additions-alike : IsKind is_addition
@@ -132,10 +132,12 @@ pub come-stood : (later earlier : List Change) (path : Place) (content : Content
     → IsTop is_addition (later ++ Addition path content ∷ earlier) t → some_of is_addition (is_over t) later ≡ false
     → gathers_at is_addition (later ++ Addition path content ∷ earlier) t ≡ true
     → (same_path t path ≡ false) × (some_of is_addition (same_path t) earlier ≡ true)
-come-stood later earlier path content t order top last gathers =
-    (other, behind {P = some_of is_addition (same_path t) earlier ≡ true} is_addition later earlier (Addition path content) t top.member
-    (λ m. none-some is_addition (is_over t) later t last m (over-itself t))
-    (λ s. absurd (true≢false (sym s ∙ other))) (λ m. m))
+come-stood later earlier path content t order top last gathers = (
+  other,
+  behind {P = some_of is_addition (same_path t) earlier ≡ true} is_addition later earlier (Addition path content) t top.member
+      (λ m. none-some is_addition (is_over t) later t last m (over-itself t))
+      (λ s. absurd (true≢false (sym s ∙ other))) (λ m. m),
+)
   where
     other : same_path t path ≡ false
     other = false_from_ne_true (same_path t path) (λ s.

@@ -1,5 +1,5 @@
 -- What is noted of a history are its events, and lies between the same numbers.
-use Rattle.std.proofs.Common.{◌≡◌, ◌+◌, ◌≤◌, ◌<◌, ℕ, List, [], ◌∷◌, ◌++◌, map, length, refl, sym, ap, ◌∙◌}
+use Rattle.std.proofs.Common.{◌≡◌, ◌+◌, ℕ, List, [], ◌∷◌, ◌++◌, map, length, refl, ap, ◌∙◌}
 use Rattle.std.proofs.lemmas.List.{map-append}
 use Rattle.cds_event.specs.declared.Event.{Event}
 use Rattle.cds_catalog.specs.Library.{FolderMap, found}

@@ -1,6 +1,6 @@
 -- The changes that a scan found are in order, and closed for its additions and for its deletions.
-use Rattle.std.proofs.Common.{◌≡◌, ◌&&◌, ◌||◌, ◌+◌, ◌≤◌, ℕ, zero, suc, Bool, true, false, not, cond, List, [], ◌∷◌, ◌++◌, length, reverse, Option, Some, None, Less, refl, sym, ap, ◌∙◌, subst, true≢false, append_assoc, arith}
-use Rattle.std.specs.List.{AllByRecursion, list_any, filter_map, cons_option}
+use Rattle.std.proofs.Common.{◌≡◌, ◌&&◌, ◌||◌, ◌≤◌, ℕ, zero, suc, Bool, true, false, not, cond, List, [], ◌∷◌, ◌++◌, length, reverse, Option, Some, None, Less, refl, sym, ap, ◌∙◌, subst, true≢false, append_assoc, arith}
+use Rattle.std.specs.List.{AllByRecursion, filter_map, cons_option}
 use mathlib.Core.List.{reverse-cons}
 use Rattle.std.proofs.lemmas.Bool.{false_from_ne_true}
 use Rattle.std.proofs.lemmas.List.Folds.{list_any-append}
@@ -14,7 +14,7 @@ use Rattle.cds_catalog.specs.Laws.{Ascends, IsLibrary}
 use Rattle.cds_catalog.specs.History.{place_of, is_addition, is_deletion}
 use Rattle.cds_catalog.specs.declared.change.Change.{Change}
 use Rattle.cds_catalog.specs.declared.change.Change.TheVariants.{Deletion, Addition, Modification}
-use Rattle.cds_catalog.proofs.Paths.{same_path_is, same_path_itself}
+use Rattle.cds_catalog.proofs.Paths.{same_path_is}
 use Rattle.cds_catalog.proofs.StepsPaths.{Place, length-parent}
 use Rattle.cds_catalog.proofs.Maps.{Entry, IsBefore, folder_there, content_at_here, content_at_past, absent_before, absent_root, ascends_head, ascends_tail, parent_is_folder}
 use Rattle.cds_catalog.proofs.Found.{departs, arrives}

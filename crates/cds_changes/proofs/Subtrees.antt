@@ -1,17 +1,15 @@
 -- The subtree updates of a scan, by the outermost places of its changes.
-use Rattle.std.proofs.Common.{◌≡◌, ◌⊎◌, inl, inr, ◌&&◌, ◌||◌, ◌+◌, ◌<◌, ◌≤◌, ℕ, zero, suc, Bool, true, false, not, cond, List, [], ◌∷◌, ◌++◌, map, filter, length, Option, Some, None, Less, refl, sym, ap, ◌∙◌, subst, true≢false, arith}
-use Rattle.std.specs.List.{AllByRecursion, list_any}
+use Rattle.std.proofs.Common.{◌≡◌, ◌⊎◌, inl, inr, ◌&&◌, ◌||◌, ◌≤◌, ℕ, zero, suc, Bool, true, false, not, List, [], ◌∷◌, length, refl, sym, ap, ◌∙◌, true≢false, arith}
+use Rattle.std.specs.List.{list_any}
 use Rattle.std.proofs.lemmas.Bool.{false_from_ne_true}
-use Rattle.std.proofs.lemmas.List.Folds.{list_any-append}
-use Rattle.std.proofs.lemmas.List.Elements.{filter-append}
-use Rattle.cds_object.specs.Path.{path_cmp, same_path, parent_of}
-use Rattle.cds_catalog.specs.History.{place_of, is_addition, is_deletion}
+use Rattle.cds_object.specs.Path.{same_path, parent_of}
+use Rattle.cds_catalog.specs.History.{place_of}
 use Rattle.cds_catalog.specs.declared.change.Change.{Change}
-use Rattle.cds_catalog.proofs.Paths.{same_path_is, same_path_itself, same_path_swap}
-use Rattle.cds_catalog.proofs.StepsPaths.{Place, swapped, length-parent}
-use Rattle.cds_changes.specs.Events.{is_below, is_alike, gathers, heads, is_within, is_in_subtree, is_last_within, heads_done}
+use Rattle.cds_catalog.proofs.Paths.{same_path_is, same_path_itself}
+use Rattle.cds_catalog.proofs.StepsPaths.{Place, length-parent}
+use Rattle.cds_changes.specs.Events.{is_below, is_alike, gathers, heads, is_within, is_in_subtree}
 use Rattle.cds_changes.specs.Subtrees.{some_of, is_over, IsTop, IsClosed}
-use Rattle.cds_changes.proofs.Places.{both-parts, both-true, over-itself, over-from-below, below-from-over, below-over, not-below-itself, comparable, below-parent, over-parent}
+use Rattle.cds_changes.proofs.Places.{both-parts, both-true, below-from-over, comparable, below-parent, over-parent}
 
 -- ---- some change that passes a test
 

@@ -1,5 +1,5 @@
 -- The events that a store keeps: those of a history above the number up to which they are forgotten.
-use Rattle.std.proofs.Common.{◌≡◌, ◌+◌, ◌≤◌, ◌<◌, ℕ, Bool, true, false, cond, max, ◌&&◌, ◌||◌, nat_lt, nat_le, List, [], ◌∷◌, ◌++◌, map, filter, length, Option, Some, None, refl, sym, ap, ◌∙◌, subst, true≢false, arith, lt-ltb, le-ltb}
+use Rattle.std.proofs.Common.{◌≡◌, ◌+◌, ◌≤◌, ◌<◌, ℕ, Bool, true, false, cond, max, ◌&&◌, ◌||◌, nat_lt, nat_le, List, [], ◌∷◌, ◌++◌, filter, length, Option, Some, refl, sym, ap, ◌∙◌, subst, true≢false, arith, lt-ltb}
 use Rattle.std.specs.List.{AllByRecursion}
 use Rattle.std.proofs.lemmas.Bool.Decides.{nat_tests}
 use Rattle.std.proofs.lemmas.List.{append-nil}
@@ -10,7 +10,7 @@ use Rattle.cds_catalog.specs.History.{History, latest, changes_of, end_of, with_
 use Rattle.cds_catalog.specs.declared.change.Change.{Change}
 use Rattle.cds_catalog.proofs.StepsFind.{each-weaker}
 use Rattle.cds_changes.specs.declared.noted.Noted.{Noted}
-use Rattle.cds_changes.specs.Events.{update_of, scan_events, all_events, events_between}
+use Rattle.cds_changes.specs.Events.{update_of, scan_events, events_between}
 use Rattle.cds_changes.specs.Noted.{scan_noted, all_noted, is_after, noted_after, lies_in, told_in, touches, deletes, last_touch_after, was_deleted_after}
 use Rattle.cds_changes.proofs.NotedEvents.{events_of, scan-noted, all-noted}
 use Rattle.cds_changes.proofs.Within.{Lies, scan-lies}
@@ -138,9 +138,12 @@ pub forgets : (store : Stored) (history : History) (to more : ℕ) (kept : List 
     → StandsFor (record { standing = store.standing; forgotten = more; kept = kept }) history
 forgets store history to more kept stands most is left =
     let number = ap (λ (s : Standing). s.number) stands.1 in
-    let low = stands.2 in
-    (stands.0, stands.1, omega (arith, number, low, most, is),
-    left ∙ kept-less history store.forgotten more store.kept (omega (arith, is)) stands.3)
+    let low = stands.2 in (
+      stands.0,
+      stands.1,
+      omega (arith, number, low, most, is),
+      left ∙ kept-less history store.forgotten more store.kept (omega (arith, is)) stands.3,
+    )
 
 pub changes-told : (store : Stored) (history : History) (from to : ℕ) (out new events : List Event) → StandsFor store history → store.forgotten ≤ from
     → new ≡ out ++ events → events ≡ told_in from to store.kept → new ≡ out ++ events_between history from to

@@ -1,5 +1,5 @@
 -- The changes of one kind in a scan, as they are looked at from the newest on.
-use Rattle.std.proofs.Common.{◌≡◌, ◌&&◌, ◌||◌, ◌+◌, ◌<◌, ℕ, Bool, true, false, not, cond, List, [], ◌∷◌, ◌++◌, length, take, drop, get_or, map, reverse, Option, Some, None, refl, sym, ap, ◌∙◌, subst, true≢false, append_assoc, arith}
+use Rattle.std.proofs.Common.{◌≡◌, ◌&&◌, ◌||◌, ◌+◌, ◌<◌, ℕ, Bool, true, false, not, cond, List, [], ◌∷◌, ◌++◌, length, take, get_or, reverse, None, refl, sym, ap, ◌∙◌, subst, true≢false, append_assoc, arith}
 use Rattle.std.specs.List.{list_any}
 use Rattle.std.specs.BTreeMap.{is_at}
 use Rattle.std.specs.BTreeSet.{BTreeSet, contains}
@@ -9,10 +9,10 @@ use Rattle.std.proofs.lemmas.List.Folds.{list_any-append}
 use Rattle.cds_object.specs.Path.{path_cmp, same_path, parent_of}
 use Rattle.cds_object.specs.declared.path.Path.{Path}
 use Rattle.cds_object.specs.declared.content.Content.{Content}
-use Rattle.cds_catalog.specs.History.{place_of, is_addition, is_deletion}
+use Rattle.cds_catalog.specs.History.{place_of}
 use Rattle.cds_catalog.specs.declared.change.Change.{Change}
 use Rattle.cds_catalog.specs.declared.change.Change.TheVariants.{Deletion, Addition, Modification}
-use Rattle.cds_catalog.proofs.Paths.{same_path_is, same_path_itself, same_path_swap}
+use Rattle.cds_catalog.proofs.Paths.{same_path_is, same_path_itself}
 use Rattle.cds_catalog.proofs.StepsPaths.{Place, length-parent}
 use Rattle.cds_changes.specs.Events.{is_below}
 use Rattle.cds_changes.specs.Subtrees.{some_of, is_over, IsTop, IsClosed, IsOrderly, IsMarked}

@@ -1,8 +1,7 @@
 -- A plan that is made change by change, the oldest first.
-use Rattle.std.proofs.Common.{◌≡◌, List, [], ◌∷◌, ◌++◌, map, reverse, sym, ◌∙◌, ap, subst}
+use Rattle.std.proofs.Common.{◌≡◌, List, [], ◌∷◌, ◌++◌, reverse, sym, ◌∙◌, ap, subst}
 use Rattle.std.proofs.lemmas.List.{map-append, reverse-append}
 use Rattle.cds_catalog.specs.Steps.{Standing, step, stepped}
-use Rattle.cds_catalog.specs.declared.change.Change.{Change}
 use Rattle.cds_changes.specs.declared.noted.Noted.{Noted}
 use Rattle.cds_store.specs.Rows.{CanMake}
 use Rattle.cds_store.specs.Stands.{IsScan}

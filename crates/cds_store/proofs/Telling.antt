@@ -1,6 +1,5 @@
 -- The events of a scan by the rows that stand before each change are those by the history.
-use Rattle.std.proofs.Common.{◌≡◌, ◌+◌, ℕ, suc, Bool, true, false, cond, List, [], ◌∷◌, ◌++◌, map, length, Option, Some, None, MatchOption, refl, sym, ap, ◌∙◌, subst, true≢false, arith, append_assoc}
-use Rattle.std.specs.List.{count_by}
+use Rattle.std.proofs.Common.{◌≡◌, ◌+◌, ℕ, Bool, true, false, cond, List, [], ◌∷◌, ◌++◌, map, length, Option, Some, None, MatchOption, refl, sym, ap, ◌∙◌, subst, arith, append_assoc}
 use Rattle.std.specs.Option.{option_to_list}
 use Rattle.std.proofs.lemmas.List.{append-nil}
 use Rattle.cds_object.specs.Path.{same_path, parent_of}
@@ -8,25 +7,25 @@ use Rattle.cds_object.specs.declared.content.Content.{Content}
 use Rattle.cds_event.specs.declared.Event.{Event}
 use Rattle.cds_event.specs.declared.Event.TheVariants.{ObjAdd, ObjMod, ObjDel, StDone}
 use Rattle.cds_catalog.specs.Library.{FolderMap, found}
-use Rattle.cds_catalog.specs.History.{History, latest, changes_of, place_of, is_addition}
+use Rattle.cds_catalog.specs.History.{History, latest, changes_of, place_of}
 use Rattle.cds_catalog.specs.Catalog.{id_of, root_entry}
 use Rattle.cds_catalog.specs.Laws.{IsLibrary, AreLibraries}
-use Rattle.cds_catalog.specs.Replay.{stands, live, IsLegal, MayFollow}
+use Rattle.cds_catalog.specs.Replay.{stands, live, IsLegal}
 use Rattle.cds_catalog.specs.Steps.{Standing, standing_of, stepped, id_at}
 use Rattle.cds_catalog.specs.declared.change.Change.{Change}
 use Rattle.cds_catalog.specs.declared.change.Change.TheVariants.{Deletion, Addition, Modification}
 use Rattle.cds_catalog.proofs.Paths.{same_path_is, same_path_itself}
 use Rattle.cds_catalog.proofs.StepsPaths.{Place}
-use Rattle.cds_catalog.proofs.StepsFind.{Entry, find_in, none≢some}
+use Rattle.cds_catalog.proofs.StepsFind.{find_in, none≢some}
 use Rattle.cds_catalog.proofs.StepsLive.{shown, shown_holder, find_live, stands_named, held, holds_is}
 use Rattle.cds_catalog.proofs.StepsIds.{id_new, id_kept}
 use Rattle.cds_catalog.proofs.StepsRows.{row_over, rows_over, standing_over}
 use Rattle.cds_catalog.proofs.StepsScan.{legal_within_scan, standing_within_scan}
 use Rattle.cds_changes.specs.declared.noted.Noted.{Noted}
-use Rattle.cds_changes.specs.Events.{event_of, class_of, done_events, heads_done, is_in_subtree}
-use Rattle.cds_changes.specs.Noted.{noted_change, noted_done, change_noted, scan_noted}
+use Rattle.cds_changes.specs.Events.{event_of, class_of, done_events, heads_done}
+use Rattle.cds_changes.specs.Noted.{noted_done, change_noted, scan_noted}
 use Rattle.cds_changes.specs.Subtrees.{InOrder, StoodAt, IsMarked}
-use Rattle.cds_changes.proofs.Marks.{order-behind, added-stands}
+use Rattle.cds_changes.proofs.Marks.{added-stands}
 use Rattle.cds_changes.proofs.Orderly.{found-orderly}
 use Rattle.cds_catalog.proofs.Maps.{latest_is_library}
 use Rattle.cds_store.specs.Planned.{changes_in, event_by, done_by, told_by, told_all}
@@ -79,7 +78,7 @@ event-is first (Deletion path) older st l =
     λ i. ObjDel (id-standing first older l.0 path l.1.0 l.1.1 i) (next first older (Deletion path) i) st
 event-is first (Addition path content) older st l =
     λ i. ObjAdd (plus-one _ _ (id_new path content older path (same_path_itself path)) i) (next first older (Addition path content) i) st
-        (id-parent first (Addition path content) older l i) (class_of content)
+    (id-parent first (Addition path content) older l i) (class_of content)
 event-is first (Modification path content) older st l =
     λ i. ObjMod (id-standing first older l.0 path l.1.0 l.1.1 i) (next first older (Modification path content) i) st
 

@@ -1,5 +1,5 @@
 -- The entries of a map by ids, and what they tell of each id.
-use Rattle.std.proofs.Common.{◌≡◌, ◌+◌, ◌≤◌, ◌<◌, ℕ, zero, suc, Bool, true, false, cond, not, nat_lt, nat_eq, nat_cmp, List, [], ◌∷◌, ◌++◌, map, filter, is_some, Option, Some, None, Ordering, Less, Equal, Greater, refl, sym, ap, ◌∙◌, true≢false, arith, is_eq}
+use Rattle.std.proofs.Common.{◌≡◌, ◌+◌, ◌≤◌, ◌<◌, ℕ, zero, suc, Bool, true, false, cond, not, nat_lt, nat_cmp, List, [], ◌∷◌, ◌++◌, map, filter, is_some, Option, Some, None, Less, refl, sym, ap, ◌∙◌, true≢false, arith}
 use Rattle.std.specs.List.{AllByRecursion, filter_map, cons_option, range_with_len, count_by}
 use Rattle.std.specs.List.Sorted.{IsStrictlySortedBy}
 use Rattle.std.specs.Option.{option_map}

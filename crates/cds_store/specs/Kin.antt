@@ -1,12 +1,12 @@
 -- What is known of the changes of one kind in a scan, the additions or the deletions, while the scan's changes are looked
 -- at from the newest on.
-use Rattle.std.specs.Prelude.{◌≡◌, ◌++◌, ℕ, Bool, true, false, List, [], ◌∷◌, Option, MatchOption, Some, None}
+use Rattle.std.specs.Prelude.{◌≡◌, ◌++◌, ℕ, Bool, true, false, List, [], ◌∷◌, Option, Some, None}
 use Rattle.std.specs.BTreeSet.{contains}
 use Rattle.cds_object.specs.Path.{path_cmp, same_path, parent_of}
-use Rattle.cds_catalog.specs.History.{place_of, is_addition, is_deletion}
+use Rattle.cds_catalog.specs.History.{is_addition, is_deletion}
 use Rattle.cds_catalog.specs.declared.change.Change.{Change}
 use Rattle.cds_changes.specs.Events.{is_below}
-use Rattle.cds_changes.specs.Subtrees.{some_of, is_over, IsTop, IsClosed, IsOrderly, IsMarked}
+use Rattle.cds_changes.specs.Subtrees.{some_of, is_over, IsTop, IsMarked}
 use Rattle.cds_store.specs.Planned.{changes_in}
 use Rattle.cds_store.specs.declared.subtrees.Kind.{Kind}
 use Rattle.cds_store.specs.declared.subtrees.Kind.TheVariants.{Added, Deleted}

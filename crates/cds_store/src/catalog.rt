@@ -301,11 +301,7 @@ impl Catalog {
 
     /// Makes the changes of a scan, the oldest of which comes first, and answers their events. Where memory runs out,
     /// some are made.
-    pub(crate) fn make_all(
-        &mut self,
-        alloc: Global,
-        plan: Vec<Planned>,
-    ) -> Result<Vec<Noted>, Mem>
+    pub(crate) fn make_all(&mut self, alloc: Global, plan: Vec<Planned>) -> Result<Vec<Noted>, Mem>
         requires { IsScan self.old (changes_in (reverse plan.items)) }
         ensures made { IfOk result (λ _. self.new ≡ stepped self.old (changes_in (reverse plan.items))) }
         ensures told { IfOk result (λ told. told.items ≡ told_all self.old (reverse plan.items)) }

@@ -31,11 +31,7 @@ pub(crate) fn lies_in(event: Event, span: Span) -> bool
 }
 
 /// The events of a span.
-pub(crate) fn events_within(
-    alloc: Global,
-    kept: &[Noted],
-    span: Span,
-) -> Result<Vec<Event>, Mem>
+pub(crate) fn events_within(alloc: Global, kept: &[Noted], span: Span) -> Result<Vec<Event>, Mem>
     ensures { IfOk result (λ events. events.items ≡ told_in span.from span.to kept.now) }
 {
     let mut events = Vec::new(alloc);

@@ -19,4 +19,6 @@ pub use span::Span;
 pub use store::Store;
 
 #[cfg(test)]
+mod span_tests;
+#[cfg(test)]
 mod tests;

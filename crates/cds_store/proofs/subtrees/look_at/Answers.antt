@@ -1,9 +1,8 @@
-use Rattle.std.proofs.Common.{◌≡◌, ◌∙◌, ◌++◌, ◌∷◌, [], true, false, Bool, Option, Some, None, sym, ap, subst, refl, ℕ, List}
+use Rattle.std.proofs.Common.{◌++◌, ◌∷◌, [], Bool, Option, sym, ap, subst, ℕ, List}
 use Rattle.cds_catalog.specs.History.{place_of, is_addition, is_deletion}
-use Rattle.cds_changes.specs.Subtrees.{IsOrderly, IsMarked}
-use Rattle.cds_changes.proofs.Marks.{modified-marked}
+use Rattle.cds_changes.specs.Subtrees.{IsMarked}
 use Rattle.cds_store.specs.declared.subtrees.Kind.TheVariants.{Added, Deleted}
-use Rattle.cds_store.specs.Kin.{is_kind, Knows}
+use Rattle.cds_store.specs.Kin.{Knows}
 use Rattle.cds_store.proofs.Kin.{other-more, said-modified}
 use Rattle.cds_store.proofs.subtrees.look_at.Goals as goal
 use Rattle.cds_store.proofs.subtrees.look_at.Goals.{in-Deletion+in_ok-look-in-Deletion, in-Addition+in_ok-look-in-Addition, in-Modification}

@@ -1,4 +1,4 @@
-use Rattle.std.proofs.Common.{◌≡◌, ◌∙◌, true, ap, sym, subst, ℕ, List}
+use Rattle.std.proofs.Common.{◌≡◌, ◌∙◌, true, ap, sym}
 use Rattle.std.specs.BTreeSet.{contains}
 use Rattle.cds_object.specs.Path.{path_cmp, parent_of}
 use Rattle.cds_changes.specs.Subtrees.{is_over}

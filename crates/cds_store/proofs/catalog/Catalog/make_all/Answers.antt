@@ -1,4 +1,4 @@
-use Rattle.std.proofs.Common.{◌≡◌, ◌∙◌, ◌++◌, ◌∷◌, [], ap, sym, append_assoc, List}
+use Rattle.std.proofs.Common.{◌∙◌, ◌++◌, ◌∷◌, [], ap, sym, append_assoc, List}
 use Rattle.std.specs.Vec.Iter.{into_iter_items}
 use Rattle.cds_store.specs.declared.subtrees.Planned.{Planned}
 use Rattle.cds_store.proofs.Noting.{can-make-planned, made-more, told-more}

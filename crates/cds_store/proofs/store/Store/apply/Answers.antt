@@ -5,7 +5,6 @@ use Rattle.cds_catalog.specs.Steps.{Standing}
 use Rattle.cds_catalog.specs.declared.change.Change.{Change}
 use Rattle.cds_changes.specs.declared.noted.Noted.{Noted}
 use Rattle.cds_store.specs.Stands.{Stored, StandsFor, IsStore, IsScan}
-use Rattle.cds_store.specs.Planned.{changes_in}
 use Rattle.cds_store.proofs.Applying.{accepted_is_scan, accepted_orderly, scanned, unchanged, stored_is_store}
 use Rattle.cds_store.proofs.store.Store.apply.Goals as goal
 

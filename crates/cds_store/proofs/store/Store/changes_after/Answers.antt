@@ -1,4 +1,4 @@
-use Rattle.std.proofs.Common.{◌≡◌, ◌∙◌, ap}
+use Rattle.std.proofs.Common.{◌∙◌, ap}
 use Rattle.cds_changes.specs.Noted.{told_in}
 use Rattle.cds_store.specs.Stands.{Stored}
 use Rattle.cds_store.proofs.Keeping.{changes-told}

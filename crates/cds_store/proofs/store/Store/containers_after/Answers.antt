@@ -1,4 +1,4 @@
-use Rattle.std.proofs.Common.{◌≡◌, ◌∙◌, ◌≤◌, ap, subst, sym, ℕ, List, None}
+use Rattle.std.proofs.Common.{◌≡◌, ◌∙◌, ◌≤◌, ap, subst, ℕ, List, None}
 use Rattle.cds_changes.specs.declared.noted.Noted.{Noted}
 use Rattle.cds_changes.specs.Noted.{last_touch_in, told_containers}
 use Rattle.cds_store.specs.Stands.{Stored}

@@ -1,5 +1,4 @@
-use Rattle.std.proofs.Common.{◌≡◌, ◌≤◌, max, filter, sym, ap, subst}
-use Rattle.cds_catalog.specs.History.{History}
+use Rattle.std.proofs.Common.{◌≤◌, sym, subst}
 use Rattle.cds_store.specs.Stands.{Stored, StandsFor}
 use Rattle.cds_store.proofs.Keeping.{forgets}
 use Rattle.cds_store.proofs.store.Store.forget.Goals as goal

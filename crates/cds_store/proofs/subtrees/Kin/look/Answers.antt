@@ -1,14 +1,11 @@
-use Rattle.std.proofs.Common.{◌≡◌, ◌∙◌, true, false, Bool, Some, None, Option, sym, ap, subst, refl, not, cond, ℕ, List}
+use Rattle.std.proofs.Common.{◌≡◌, ◌∙◌, true, Bool, ap, subst, refl, not, cond, ℕ, List}
 use Rattle.std.specs.BTreeMap.{is_at}
 use Rattle.std.specs.BTreeSet.{contains}
-use Rattle.cds_object.specs.Path.{path_cmp, same_path}
-use Rattle.cds_catalog.specs.History.{place_of}
-use Rattle.cds_catalog.specs.declared.change.Change.{Change}
-use Rattle.cds_changes.specs.Subtrees.{some_of, IsOrderly, IsMarked}
+use Rattle.cds_object.specs.Path.{path_cmp}
+use Rattle.cds_changes.specs.Subtrees.{IsMarked}
 use Rattle.cds_changes.proofs.Marks.{done_at}
-use Rattle.cds_store.specs.declared.subtrees.Kind.{Kind}
 use Rattle.cds_store.specs.declared.subtrees.Kin.{Kin}
-use Rattle.cds_store.specs.Kin.{is_kind, Knows, IsHeadOf}
+use Rattle.cds_store.specs.Kin.{is_kind, IsHeadOf}
 use Rattle.cds_store.proofs.Kin.{said-none, said-some, closed-kind, is-member}
 use Rattle.cds_store.proofs.subtrees.Kin.look.Goals as goal
 

@@ -1,4 +1,4 @@
-use Rattle.std.proofs.Common.{ap, ℕ, List}
+use Rattle.std.proofs.Common.{ap}
 use Rattle.std.specs.List.{list_any}
 use Rattle.std.specs.BTreeMap.{is_at}
 use Rattle.cds_object.specs.Path.{path_cmp}
