@@ -1,5 +1,13 @@
 pub mod Honest
 pub mod Inboxed
+pub mod KeptCounts
+pub mod KeptEnding
+pub mod KeptIds
+pub mod KeptLoops
+pub mod KeptOutlines
+pub mod KeptSteps
+pub mod KeptTurns
+pub mod KeptUnread
 pub mod Pages
 pub mod Placing
 pub mod Runs

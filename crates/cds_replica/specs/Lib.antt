@@ -1,7 +1,11 @@
 pub mod Answer
 pub mod Arrivals
+pub mod Copied
+pub mod CopySteps
+pub mod Ended
 pub mod Holding
 pub mod Honest
 pub mod Inboxed
 pub mod Known
+pub mod Outlines
 pub mod Telling

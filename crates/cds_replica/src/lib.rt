@@ -2,7 +2,13 @@
 //! profile, over UPnP ContentDirectory:4 on Browse and SystemUpdateID).
 #![tactic(auto)]
 
+mod changes;
 mod checking;
+mod copy;
+mod copy_row;
+mod copy_rows;
+mod count_error;
+mod ending;
 mod error;
 mod growing;
 mod inbox;
@@ -10,12 +16,16 @@ mod listing;
 mod note;
 mod notify_error;
 mod order;
+mod outline;
 mod replica;
 mod stage;
 mod taking;
 mod telling;
 
 pub use cds_model::{Ask, Read, Says, Shown};
+pub use copy::CatalogCopy;
+pub use copy_row::CopyRow;
+pub use count_error::CountError;
 pub use error::AnswerError;
 pub use note::{Note, Sid, Taken};
 pub use notify_error::NotifyError;

@@ -1,0 +1,173 @@
+//! The rows of a copy in outline, and whether changes can be: what is told is judged as a whole before any of it is
+//! counted.
+
+ghost use Rattle.std.specs.Prelude.{◌≡◌, nat_eq, not, filter, IfOk};
+ghost use Rattle.std.specs.Option.{option_eq};
+ghost use Rattle.cds_model.specs.Replica.{put_by};
+ghost use Rattle.cds_notes.specs.Copy.{is_container, object_of};
+ghost use Rattle.cds_replica.specs.Outlines.{outline_of, outlines_of, outline_id, has_object, has_container, has_child, outline_cannot, outlines_changed, outlines_cannot};
+
+use crate::copy_row::CopyRow;
+use crate::order::{Identified, put};
+use cds_base::Mem;
+use cds_event::{Class, Event};
+use std::alloc::Global;
+
+/// What of a row decides whether a change can be.
+#[derive(Clone, Copy, Debug, Drop)]
+pub struct Outline {
+    pub id: u32,
+    pub parent: Option<u32>,
+    pub folder: bool,
+}
+
+impl Identified for Outline {
+    ghost use Rattle.cds_replica.specs.Outlines.{outline_id};
+
+    ghost id_of = { outline_id };
+
+    fn id(&self) -> u32 {
+        self.id
+    }
+}
+
+/// Whether an object stands.
+fn has_object(outlines: &[Outline], id: u32) -> bool
+    ensures { result ≡ has_object id outlines.now }
+{
+    outlines.iter().any(|outline| outline.id == id)
+}
+
+/// Whether a container of this id stands.
+fn has_container(outlines: &[Outline], id: u32) -> bool
+    ensures { result ≡ has_container id outlines.now }
+{
+    outlines.iter().any(|outline| outline.id == id && outline.folder)
+}
+
+/// Whether the parent of an object is this one.
+fn is_child(outline: &Outline, id: u32) -> bool
+    ensures { result ≡ option_eq nat_eq outline.now.parent (Some id) }
+{
+    match outline.parent {
+        Some(parent) => parent == id,
+        None => false,
+    }
+}
+
+/// Whether an object has a child.
+fn has_child(outlines: &[Outline], id: u32) -> bool
+    ensures { result ≡ has_child id outlines.now }
+{
+    outlines.iter().any(|outline| is_child(outline, id))
+}
+
+/// Whether a change cannot be: an addition is of an id that does not stand, under a container that does; a modification or
+/// deletion is of what stands, and never the root's; a deletion is of what has no child.
+fn cannot_be(outlines: &[Outline], event: &Event) -> bool
+    ensures { result ≡ outline_cannot outlines.now event.now }
+{
+    match *event {
+        Event::ObjAdd { id, parent, .. } => {
+            id == 0 || (has_object(outlines, id) || !has_container(outlines, parent))
+        }
+        Event::ObjMod { id, .. } => id == 0 || !has_object(outlines, id),
+        Event::ObjDel { id, .. } => {
+            id == 0 || !has_object(outlines, id) || has_child(outlines, id)
+        }
+        Event::StDone { .. } => false,
+    }
+}
+
+/// The object that an event names.
+fn object_of(event: &Event) -> u32
+    ensures { result ≡ object_of event.now }
+{
+    match *event {
+        Event::ObjAdd { id, .. }
+        | Event::ObjMod { id, .. }
+        | Event::ObjDel { id, .. }
+        | Event::StDone { id, .. } => id,
+    }
+}
+
+/// Whether a class is that of containers.
+fn is_container(class: Class) -> bool
+    ensures { result ≡ is_container class }
+{
+    matches!(class, Class::Container)
+}
+
+/// Puts the outline of an object in its place.
+pub fn put_outline(outlines: &mut Vec<Outline>, outline: Outline) -> Result<(), Mem>
+    ensures { IfOk result (λ _. outlines.new.items ≡ put_by outline_id outline outlines.old.items) }
+{
+    outlines.reserve(1)?;
+    put(outlines, outline);
+    Ok(())
+}
+
+/// Takes the outline of an object out.
+fn remove(outlines: &mut Vec<Outline>, id: u32)
+    ensures { outlines.new.items ≡ filter (λ outline. not (nat_eq outline.id id)) outlines.old.items }
+{
+    outlines.retain(|outline| !(outline.id == id));
+}
+
+/// Makes a change in outline.
+fn change(outlines: &mut Vec<Outline>, event: &Event) -> Result<(), Mem>
+    ensures { IfOk result (λ _. outlines.new.items ≡ outlines_changed outlines.old.items event.now) }
+{
+    match *event {
+        Event::ObjAdd {
+            id, parent, class, ..
+        } => put_outline(
+            outlines,
+            Outline {
+                id,
+                parent: Some(parent),
+                folder: is_container(class),
+            },
+        ),
+        Event::ObjDel { id, .. } => {
+            remove(outlines, id);
+            Ok(())
+        }
+        Event::ObjMod { .. } | Event::StDone { .. } => Ok(()),
+    }
+}
+
+/// The object of the first change that cannot be, one after the other.
+pub fn first_cannot(mut outlines: Vec<Outline>, events: &[Event]) -> Result<Option<u32>, Mem>
+    ensures { IfOk result (λ first. first ≡ outlines_cannot outlines.items events.now) }
+{
+    for event in events {
+        if cannot_be(outlines.as_slice(), event) {
+            return Ok(Some(object_of(event)));
+        }
+        change(&mut outlines, event)?;
+    }
+    Ok(None)
+}
+
+/// The outline of a row of a copy.
+fn outline_of(row: &CopyRow) -> Outline
+    ensures { result ≡ outline_of row.now.row }
+{
+    Outline {
+        id: row.id(),
+        parent: row.parent(),
+        folder: row.is_folder(),
+    }
+}
+
+/// The rows of a copy in outline.
+pub fn outlines_of(alloc: Global, rows: &[CopyRow]) -> Result<Vec<Outline>, Mem>
+    ensures { IfOk result (λ outlines. outlines.items ≡ outlines_of rows.now) }
+{
+    let mut outlines = Vec::with_capacity(alloc, rows.len())?;
+    for row in rows {
+        outlines.push(outline_of(row))?;
+    }
+    Ok(outlines)
+}
