@@ -173,7 +173,7 @@ judged-sound number listing (Some page) is = by (fits listing page) refl
     by true e = page-sound number listing page is e
     by false e = tt
 
-taken-sound : (held : Held) (happenings : List Happening) (shown : Shown) → SoundHeld held happenings → SoundTaken (taken held shown)
+pub taken-sound : (held : Held) (happenings : List Happening) (shown : Shown) → SoundHeld held happenings → SoundTaken (taken held shown)
 taken-sound Idle h shown is = tt
 taken-sound Begun h (Text token) is = tt
 taken-sound Begun h (Number n) is = tt

@@ -1,11 +1,14 @@
 pub mod Answer
 pub mod Arrivals
+pub mod Called
 pub mod Copied
 pub mod CopySteps
 pub mod Ended
 pub mod Holding
 pub mod Honest
 pub mod Inboxed
+pub mod Keeping
+pub mod Kept
 pub mod Known
 pub mod Outlines
 pub mod Telling
