@@ -17,7 +17,9 @@ use Rattle.cds_notes.specs.Follow.{Known, Outcome, Knows, CannotBeRead, Jumps, T
 use Rattle.cds_notes.specs.ServerLaws.{befalling}
 use Rattle.cds_replica.specs.Copied.{AreDistinct, IsSound, AreAbove}
 use Rattle.cds_replica.proofs.KeptIds.{swapped-eq, not-false, knows-put, distinct-put}
-use Rattle.cds_replica.proofs.KeptCounts.{count-sound, read-sound}
+use Rattle.cds_replica.specs.CopySteps.{count_of}
+use Rattle.cds_replica.specs.Ended.{end_count}
+use Rattle.cds_replica.proofs.KeptCounts.{count-kept, count-sound, read-sound}
 
 -- ---- the rows of a load
 
@@ -220,7 +222,7 @@ SoundOutcome CannotBeRead = Unit {0}
 SoundOutcome (Jumps expected first) = Unit {0}
 SoundOutcome (Tears id) = Unit {0}
 
-above-filter : (number : ℕ) (events : List Event) → AreAbove number (changes_above number events)
+pub above-filter : (number : ℕ) (events : List Event) → AreAbove number (changes_above number events)
 above-filter number [] = tt
 above-filter number (event ∷ events) = by (is_change event) (nat_lt number (update_of event)) refl refl (above-filter number events)
   where
@@ -362,3 +364,16 @@ turns-sound (Delivers note ∷ older) =
 -- where a copy stands after turns, what befell it is sound
 pub copies-sound : (turns : List ReplicaTurn) (number : ℕ) (rows : List ObjectRow) → (known_by turns).held ≡ HasCopy number rows → IsSound rows (known_by turns).happenings
 copies-sound turns number rows e = subst (λ (h : Held). SoundHeld h (known_by turns).happenings) e (turns-sound turns)
+
+-- ---- where a load ends
+
+-- the rows that a load ended with are the root's among others, all of different ids
+pub ended-sound : (turns : List ReplicaTurn) (shown : Shown) (number : ℕ) (rows : List ObjectRow) → taken (known_by turns).held shown ≡ Holds (HasCopy number rows) → IsSound rows []
+ended-sound turns shown number rows e =
+    subst SoundTaken e (taken-sound (known_by turns).held (known_by turns).happenings shown (turns-sound turns))
+
+-- what becomes of the changes that were kept meanwhile
+pub ended-kept : (known : Known) (number : ℕ) (rows : List ObjectRow) → IsSound rows [] → count_of rows (load_ended known number rows) ≡ end_count rows number known.kept
+ended-kept known number rows sound =
+    count-kept rows (record { held = HasCopy number rows; base = number; heard = known.heard; kept = []; happenings = [] }) number
+    (changes_above number known.kept) sound (above-filter number known.kept)
