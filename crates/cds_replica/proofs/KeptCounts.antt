@@ -47,7 +47,7 @@ changes-kept at rows (event ∷ events) older sound above none =
         let more = befalling-more event events older in (
           subst (IsSound rows) (sym more) rest.0,
           ap (λ (l : List Happening). map (kept_row l) (rows_after rows l)) more ∙ rest.1
-          ∙ ap (λ (l : List KeptRow). rows_changed_by l events) (change-kept rows event older whole),
+              ∙ ap (λ (l : List KeptRow). rows_changed_by l events) (change-kept rows event older whole),
         )
 
 -- ---- what cannot be

@@ -35,8 +35,8 @@ pub read-here : (id : ℕ) (v : Version) (rows : List KeptRow) (i : ℕ) (row : 
 read-here id v rows i row within is e =
     set-parts rows i (read_of_row v row) within
     ∙ ap (λ (rest : List KeptRow). take i rows ++ rest) (
-      (λ j. cond (sym e j) (read_of_row v row ∷ drop (i + 1) rows) (row ∷ rows_read id v (drop (i + 1) rows)))
-      ∙ ap (rows_read id v) (ap (λ (x : KeptRow). x ∷ drop (i + 1) rows) is ∙ sym (drop_more rows i row within)))
+    (λ j. cond (sym e j) (read_of_row v row ∷ drop (i + 1) rows) (row ∷ rows_read id v (drop (i + 1) rows)))
+    ∙ ap (rows_read id v) (ap (λ (x : KeptRow). x ∷ drop (i + 1) rows) is ∙ sym (drop_more rows i row within)))
 
 -- ---- what is decided before changes are counted
 

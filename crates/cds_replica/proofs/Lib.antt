@@ -1,5 +1,6 @@
-pub mod Honest
+pub mod Arriving
 pub mod Inboxed
+pub mod Keeping
 pub mod KeptCounts
 pub mod KeptEnding
 pub mod KeptIds
@@ -8,8 +9,10 @@ pub mod KeptOutlines
 pub mod KeptSteps
 pub mod KeptTurns
 pub mod KeptUnread
+pub mod Listings
 pub mod Pages
 pub mod Placing
 pub mod Runs
 pub mod Tellings
+pub mod Turning
 pub mod Waiting

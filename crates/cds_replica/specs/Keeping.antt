@@ -146,13 +146,13 @@ abbrev pub phase_ask : KeptPhase → Option Ask
 phase_ask (Loads held) = load_ask held
 phase_ask (Copies number copy) = option_map (λ id. Metadata id) (least_wanted copy)
 
-abbrev pub copy_tells : KeptKnown → KeptCopy → Option ℕ → Says
-copy_tells kept copy (Some id) = BehindRead id
-copy_tells kept copy None = cond (nat_lt (kept_position kept) copy.read_up_to) (BehindVersion copy.read_up_to) (Stands (kept_position kept))
+abbrev pub copy_tells : ℕ → KeptCopy → Option ℕ → Says
+copy_tells at copy (Some id) = BehindRead id
+copy_tells at copy None = cond (nat_lt at copy.read_up_to) (BehindVersion copy.read_up_to) (Stands at)
 
 abbrev pub phase_tells : KeptKnown → KeptPhase → Says
 phase_tells kept (Loads held) = BehindLoad
-phase_tells kept (Copies number copy) = copy_tells kept copy (least_wanted copy)
+phase_tells kept (Copies number copy) = copy_tells (kept_position kept) copy (least_wanted copy)
 
 abbrev pub tells_or_gap : Option ℕ → Says → Says
 tells_or_gap (Some seq) otherwise = Gap seq

@@ -5,10 +5,10 @@ pub mod Copied
 pub mod CopySteps
 pub mod Ended
 pub mod Holding
-pub mod Honest
 pub mod Inboxed
 pub mod Keeping
 pub mod Kept
 pub mod Known
 pub mod Outlines
+pub mod Phases
 pub mod Telling

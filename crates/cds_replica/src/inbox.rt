@@ -6,6 +6,7 @@ ghost use Rattle.std.specs.List.{list_any};
 ghost use Rattle.cds_notes.specs.Inbox.{has_seq, is_same_note, held_limit, missing_of, IsEarly, IsHeld, IsNext};
 ghost use Rattle.cds_notes.specs.Follow.{is_drop};
 ghost use Rattle.cds_replica.specs.Arrivals.{arrival_of};
+ghost use Rattle.cds_replica.specs.Copied.{AreAbove};
 ghost use Rattle.cds_replica.specs.Inboxed.{IsInbox, inbox_of, accepts, repeats, follows, held_count, arrival_in, run_after, with_request, with_refusal, with_name, with_early, with_waiting, with_next, followers, taken_early};
 ghost use Rattle.cds_replica.specs.Telling.{nothing_told, tells, drops_first};
 
@@ -198,7 +199,8 @@ impl Inbox {
         heard: u32,
     ) -> Result<Telling, AllocError>
         requires { IsTrue (follows note.now self.now) }
-        ensures { IfOk result (λ told. told ≡ tells (note.now ∷ followers self.now) (nothing_told position heard)) }
+        ensures told { IfOk result (λ told. told ≡ tells (note.now ∷ followers self.now) (nothing_told position heard)) }
+        ensures above { IfOk result (λ told. AreAbove position told.changes) }
     {
         let to = self.run_after(note);
         let mut told = Telling::new(alloc, position, heard);
@@ -239,7 +241,8 @@ impl Inbox {
         position: u32,
         heard: u32,
     ) -> Result<Telling, AllocError>
-        ensures { IfOk result (λ told. told ≡ tells (taken_early sid.0 self.now) (nothing_told position heard)) }
+        ensures told { IfOk result (λ told. told ≡ tells (taken_early sid.0 self.now) (nothing_told position heard)) }
+        ensures above { IfOk result (λ told. AreAbove position told.changes) }
     {
         let to = run_end(self.early(), sid, 0);
         let mut told = Telling::new(alloc, position, heard);

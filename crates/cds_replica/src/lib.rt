@@ -12,17 +12,20 @@ mod ending;
 mod error;
 mod growing;
 mod inbox;
+mod knowledge;
 mod listing;
 mod note;
 mod notify_error;
 mod order;
 mod outline;
+mod phase;
 mod replica;
 mod stage;
 mod taking;
 mod telling;
 
-pub use cds_model::{Ask, Read, Says, Shown};
+pub use cds_model::{Ask, Read, Shown};
+pub use cds_notes::Says;
 pub use copy::CatalogCopy;
 pub use copy_row::CopyRow;
 pub use count_error::CountError;
@@ -30,6 +33,3 @@ pub use error::AnswerError;
 pub use note::{Note, Sid, Taken};
 pub use notify_error::NotifyError;
 pub use replica::Replica;
-
-#[cfg(test)]
-mod tests;

@@ -1,6 +1,6 @@
 //! Notes of a subscription, and what becomes of them.
 
-ghost use Rattle.std.specs.Prelude.{◌≡◌, ◌+◌, ◌^◌, ◌≤◌, ◌&&◌, nat_eq};
+ghost use Rattle.std.specs.Prelude.{◌≡◌, ◌+◌, ◌^◌, ◌≤◌, ◌&&◌, nat_eq, nat_lt};
 ghost use Rattle.cds_notes.specs.Inbox.{is_same_note};
 
 use cds_event::Events;
@@ -41,6 +41,13 @@ impl Note {
         ensures within { result ≤ 2 ^ 32 }
     {
         u64::from(self.seq) + 1
+    }
+
+    /// Whether it is a first note above a position, which drops the copy.
+    pub fn drops(&self, position: u32) -> bool
+        ensures { result ≡ (nat_eq self.now.seq 0 && nat_lt position self.now.number) }
+    {
+        self.seq == 0 && position < self.number
     }
 
     /// Whether it is one of this name.

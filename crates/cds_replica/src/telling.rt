@@ -54,6 +54,13 @@ impl Telling {
         self.changes.as_slice()
     }
 
+    /// The changes that were new, by value.
+    pub fn into_changes(self) -> Vec<Event>
+        ensures { result.items ≡ self.changes }
+    {
+        self.changes
+    }
+
     /// Adds what one more note tells.
     pub fn add(&mut self, note: &Note) -> Result<(), AllocError>
         ensures { OnOk result (self.new ≡ tells_note note.now self.old) }
