@@ -14,7 +14,6 @@ use Rattle.cds_replica.specs.Copied.{KeptRow, KeptCopy, known_rows}
 use Rattle.cds_replica.specs.CopySteps.{read_of_row, rows_read, rows_changed_by, AddsNoRoot, cannot_come, first_cannot, Counts, Leaps, Tears, judged_count, count_from, leap_from}
 use Rattle.cds_replica.specs.Outlines.{outlines_of, outlines_cannot}
 use Rattle.cds_replica.specs.declared.outline.Outline.{Outline}
-use Rattle.cds_replica.specs.declared.count_error.CountError.{CountError}
 use Rattle.cds_replica.specs.declared.count_error.CountError.TheVariants.{Jump}
 use Rattle.cds_replica.proofs.KeptOutlines.{outlined-cannot}
 
@@ -35,8 +34,8 @@ pub read-here : (id : ℕ) (v : Version) (rows : List KeptRow) (i : ℕ) (row : 
 read-here id v rows i row within is e =
     set-parts rows i (read_of_row v row) within
     ∙ ap (λ (rest : List KeptRow). take i rows ++ rest) (
-      (λ j. cond (sym e j) (read_of_row v row ∷ drop (i + 1) rows) (row ∷ rows_read id v (drop (i + 1) rows)))
-      ∙ ap (rows_read id v) (ap (λ (x : KeptRow). x ∷ drop (i + 1) rows) is ∙ sym (drop_more rows i row within)))
+    (λ j. cond (sym e j) (read_of_row v row ∷ drop (i + 1) rows) (row ∷ rows_read id v (drop (i + 1) rows)))
+    ∙ ap (rows_read id v) (ap (λ (x : KeptRow). x ∷ drop (i + 1) rows) is ∙ sym (drop_more rows i row within)))
 
 -- ---- what is decided before changes are counted
 

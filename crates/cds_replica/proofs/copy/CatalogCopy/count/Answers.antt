@@ -1,6 +1,6 @@
-use Rattle.std.proofs.Common.{◌≡◌, List, Option, None, Some, ap, sym, refl, ◌∙◌}
+use Rattle.std.proofs.Common.{List, None, Some, ap, sym, refl, ◌∙◌}
 use Rattle.cds_replica.specs.Copied.{KeptRow, KeptCopy, known_rows}
-use Rattle.cds_replica.specs.CopySteps.{first_cannot, rows_changed_by, count_from, Counts, leap_from}
+use Rattle.cds_replica.specs.CopySteps.{rows_changed_by, count_from, Counts}
 use Rattle.cds_replica.specs.Outlines.{outlines_of}
 use Rattle.cds_replica.proofs.KeptLoops.{decided, count-torn, count-counts, no-root}
 use Rattle.cds_replica.proofs.copy.CatalogCopy.count.Goals as goal
@@ -9,9 +9,9 @@ pub returns-in-Some-2 : goal.returns-in-Some-2
 returns-in-Some-2 c =
     let copy : KeptCopy = record { rows = c.self.inside.rows.items; read_up_to = c.self.inside.read_up_to } in
     let first = decided copy c.args.events.now c.in_ok-outlines.outlines.items c.in_ok-id.field-0 (Some c.in-Some-2.id)
-        (c.in_ok-outlines.ensures ∙ ap outlines_of c.as_slice.ensures.value) c.in_ok-id.ensures c.in-Some-2.is in (
+    (c.in_ok-outlines.ensures ∙ ap outlines_of c.as_slice.ensures.value) c.in_ok-id.ensures c.in-Some-2.is in (
       ap (λ (s : KeptCopy). count_from s c.args.at c.args.events.now) (sym c.self.view_is)
-      ∙ count-torn copy c.args.at c.args.events.now c.in-Some-2.id (sym c.leap.ensures ∙ c.in-None.is) first,
+          ∙ count-torn copy c.args.at c.args.events.now c.in-Some-2.id (sym c.leap.ensures ∙ c.in-None.is) first,
       refl,
     )
 
@@ -26,7 +26,7 @@ pub returns : goal.returns
 returns c =
     let copy : KeptCopy = record { rows = c.self.inside.rows.items; read_up_to = c.self.inside.read_up_to } in
     let first = decided copy c.args.events.now c.in_ok-outlines.outlines.items c.in_ok-id.field-0 None
-        (c.in_ok-outlines.ensures ∙ ap outlines_of c.as_slice.ensures.value) c.in_ok-id.ensures c.in-None-2.is in
+    (c.in_ok-outlines.ensures ∙ ap outlines_of c.as_slice.ensures.value) c.in_ok-id.ensures c.in-None-2.is in
     ap (λ (s : KeptCopy). count_from s c.args.at c.args.events.now) (sym c.self.view_is)
     ∙ count-counts copy c.args.at c.args.events.now (sym c.leap.ensures ∙ c.in-None.is) first
     ∙ ap (λ (rows : List KeptRow). Counts (record { rows = rows; read_up_to = c.self.inside.read_up_to }))
