@@ -9,3 +9,4 @@ pub mod KeptOutlines
 pub mod KeptLoops
 pub mod KeptTurns
 pub mod KeptEnding
+pub mod KeptLoads

@@ -6,3 +6,4 @@ pub mod Copied
 pub mod CopySteps
 pub mod Outlines
 pub mod Ended
+pub mod LoadTurns

@@ -12,6 +12,7 @@ mod ending;
 mod error;
 mod growing;
 mod listing;
+mod load_laws;
 mod order;
 mod outline;
 mod replica;
@@ -23,6 +24,7 @@ pub use copy::CatalogCopy;
 pub use copy_row::CopyRow;
 pub use count_error::CountError;
 pub use error::AnswerError;
+pub use load_laws::{copied_rows_were_shown, held_is_of_loads};
 pub use replica::Replica;
 
 #[cfg(test)]
