@@ -113,15 +113,24 @@ fn answer_text(alloc: Global, answer: Result<(), CountError>) -> Result<String, 
 }
 
 /// Two changes after number 4, and what they are answered and lead to.
+#[derive(Drop)]
 struct Case {
     changes: [Event; 2],
     expected: &'static str,
 }
 
+/// What two changes are answered, and the copy then.
+fn outcome(alloc: Global, changes: &[Event]) -> Result<String, Fail> {
+    let mut copy = copy_at_4(alloc)?;
+    let answer = copy.count(alloc, 4, changes);
+    let mut text = answer_text(alloc, answer)?;
+    text.push_str(text_of(alloc, &copy)?.as_str())?;
+    Ok(text)
+}
+
 #[test]
 fn changes_are_counted(rt: HostRuntime) -> Result<(), Fail> {
     let alloc = rt.alloc();
-    let unchanged = "0@4[4 1 0] 1@4[4 1 0] 2@4 ";
     let cases = [
         Case {
             changes: [added(3, 5, 1, Class::Track), modified(2, 6)],
@@ -132,7 +141,10 @@ fn changes_are_counted(rt: HostRuntime) -> Result<(), Fail> {
             expected: "counted: 0@4[6 0 1] ",
         },
         Case {
-            changes: [added(3, 5, 0, Class::Container), added(4, 6, 3, Class::Track)],
+            changes: [
+                added(3, 5, 0, Class::Container),
+                added(4, 6, 3, Class::Track),
+            ],
             expected: "counted: 0@4[5 2 0] 1@4[4 1 0] 2@4 ? ? unread 3",
         },
         Case {
@@ -161,13 +173,37 @@ fn changes_are_counted(rt: HostRuntime) -> Result<(), Fail> {
         },
     ];
     for case in &cases {
-        let mut copy = copy_at_4(alloc)?;
-        let answer = copy.count(alloc, 4, &case.changes);
-        let mut text = answer_text(alloc, answer)?;
-        text.push_str(text_of(alloc, &copy)?.as_str())?;
+        let text = outcome(alloc, &case.changes)?;
         assert!(rt; text.as_str() == case.expected, "{}", text.as_str());
     }
-    let copy = copy_at_4(alloc)?;
-    assert!(rt; text_of(alloc, &copy)?.as_str() == unchanged, "unchanged");
+    Ok(())
+}
+
+/// Reads of an object that was modified at 5: an older version leaves it unread, a newer one is kept against older ones.
+#[test]
+fn reads_are_taken(rt: HostRuntime) -> Result<(), Fail> {
+    let alloc = rt.alloc();
+    let mut copy = copy_at_4(alloc)?;
+    let changes = [modified(2, 5)];
+    let _counted = copy.count(alloc, 4, &changes);
+    assert!(rt; copy.unread() == Some(2), "unread");
+    assert!(rt; copy.read(2, track(alloc, 2, 1, 4)?), "older");
+    assert!(rt; copy.unread() == Some(2), "still unread");
+    assert!(rt;
+        !copy.read(2, folder(alloc, 2, Some(ObjectId(1)))?),
+        "another kind"
+    );
+    assert!(rt; !copy.read(2, track(alloc, 1, 1, 5)?), "another object");
+    assert!(rt; copy.read(2, track(alloc, 2, 1, 7)?), "newer");
+    assert!(rt; copy.unread() == None, "read");
+    assert!(rt; copy.read(2, track(alloc, 2, 1, 6)?), "older than kept");
+    assert!(rt; copy.read_up_to() == 7, "read up to");
+    let changes = [modified(2, 6), modified(2, 7)];
+    let _counted = copy.count(alloc, 5, &changes);
+    assert!(rt; copy.unread() == None, "read before it was told");
+    assert!(rt;
+        text_of(alloc, &copy)?.as_str() == "0@4[4 1 0] 1@4[7 1 0] 2@7 ",
+        "rows"
+    );
     Ok(())
 }

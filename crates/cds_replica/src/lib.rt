@@ -28,4 +28,6 @@ pub use load_laws::{copied_rows_were_shown, held_is_of_loads};
 pub use replica::Replica;
 
 #[cfg(test)]
+mod copy_tests;
+#[cfg(test)]
 mod tests;
