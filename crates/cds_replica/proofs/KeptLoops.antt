@@ -14,7 +14,6 @@ use Rattle.cds_replica.specs.Copied.{KeptRow, KeptCopy, known_rows}
 use Rattle.cds_replica.specs.CopySteps.{read_of_row, rows_read, rows_changed_by, AddsNoRoot, cannot_come, first_cannot, Counts, Leaps, Tears, judged_count, count_from, leap_from}
 use Rattle.cds_replica.specs.Outlines.{outlines_of, outlines_cannot}
 use Rattle.cds_replica.specs.declared.outline.Outline.{Outline}
-use Rattle.cds_replica.specs.declared.count_error.CountError.{CountError}
 use Rattle.cds_replica.specs.declared.count_error.CountError.TheVariants.{Jump}
 use Rattle.cds_replica.proofs.KeptOutlines.{outlined-cannot}
 

@@ -14,6 +14,7 @@ mod growing;
 mod inbox;
 mod knowledge;
 mod listing;
+mod load_laws;
 mod note;
 mod notify_error;
 mod order;
@@ -30,6 +31,10 @@ pub use copy::CatalogCopy;
 pub use copy_row::CopyRow;
 pub use count_error::CountError;
 pub use error::AnswerError;
+pub use load_laws::{copied_rows_were_shown, held_is_of_loads};
 pub use note::{Note, Sid, Taken};
 pub use notify_error::NotifyError;
 pub use replica::Replica;
+
+#[cfg(test)]
+mod copy_tests;

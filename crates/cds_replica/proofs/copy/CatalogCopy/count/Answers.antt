@@ -1,6 +1,6 @@
-use Rattle.std.proofs.Common.{◌≡◌, List, Option, None, Some, ap, sym, refl, ◌∙◌}
+use Rattle.std.proofs.Common.{List, None, Some, ap, sym, refl, ◌∙◌}
 use Rattle.cds_replica.specs.Copied.{KeptRow, KeptCopy, known_rows}
-use Rattle.cds_replica.specs.CopySteps.{first_cannot, rows_changed_by, count_from, Counts, leap_from}
+use Rattle.cds_replica.specs.CopySteps.{rows_changed_by, count_from, Counts}
 use Rattle.cds_replica.specs.Outlines.{outlines_of}
 use Rattle.cds_replica.proofs.KeptLoops.{decided, count-torn, count-counts, no-root}
 use Rattle.cds_replica.proofs.copy.CatalogCopy.count.Goals as goal
