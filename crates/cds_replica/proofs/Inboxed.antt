@@ -159,6 +159,12 @@ module _ (note : Note) (older : List ReplicaTurn) (e : is_accepted note.name old
   abbrev R : List Note
   R = received older
 
+  abbrev W : List Note
+  W = waiting_notes older
+
+  abbrev E : ℕ
+  E = run_after (inbox_of older)
+
   abbrev now : ℕ → List Note → KeptInbox
   now next waiting = record { accepted = accepted older; out = is_out older; next = next; waiting = waiting; early = different (early_notes older) }
 
@@ -227,17 +233,11 @@ module _ (note : Note) (older : List ReplicaTurn) (e : is_accepted note.name old
     here same away = (
       inbox ∙ (λ i. now (ends i) (behind (ends i) (differ i))) ∙ (λ i. now E (left i)),
       taken ∙ ap (λ (n : ℕ). notes_from_to (next_seq older) n (note ∷ R)) ends
-      ∙ notes-more (next_seq older) E (note ∷ R) (omega (arith, above))
-      ∙ (λ i. cons_option (note-new (next_seq older) note R (longest-run older).1 same i)
-      (notes-same (next_seq older + 1) E (note ∷ R) W (λ q low high. of-waiting q low) i)),
+          ∙ notes-more (next_seq older) E (note ∷ R) (omega (arith, above))
+          ∙ (λ i. cons_option (note-new (next_seq older) note R (longest-run older).1 same i)
+          (notes-same (next_seq older + 1) E (note ∷ R) W (λ q low high. of-waiting q low) i)),
     )
       where
-        abbrev W : List Note
-        W = waiting_notes older
-
-        abbrev E : ℕ
-        E = run_after (inbox_of older)
-
         above : next_seq older + 1 ≤ E
         above = run-from (next_seq older + 1) W
 

@@ -1,19 +1,18 @@
 -- What becomes of changes and reads is told by what a copy keeps.
-use Rattle.std.proofs.Common.{◌≡◌, ◌+◌, ◌<◌, ℕ, max, Bool, true, false, cond, not, ◌&&◌, ◌||◌, nat_eq, List, [], ◌∷◌, ◌++◌, map, Option, Some, None, refl, sym, ap, ◌∙◌, subst, true≢false, eqb-true, append_assoc, arith}
-use Rattle.std.specs.List.{AllByRecursion}
+use Rattle.std.proofs.Common.{◌≡◌, ◌+◌, ◌<◌, ℕ, max, Bool, true, false, cond, not, ◌||◌, nat_eq, List, [], ◌∷◌, ◌++◌, map, Option, Some, None, refl, sym, ap, ◌∙◌, subst, true≢false, eqb-true, append_assoc, arith}
 use Rattle.std.proofs.lemmas.List.{reverse-append}
-use Rattle.cds_object.specs.Object.{ObjectRow, is_folder}
+use Rattle.cds_object.specs.Object.{ObjectRow}
 use Rattle.cds_event.specs.declared.Event.{Event}
 use Rattle.cds_event.specs.declared.Event.TheVariants.{ObjAdd, ObjMod, ObjDel, StDone}
-use Rattle.cds_changes.specs.Events.{update_of, is_change}
+use Rattle.cds_changes.specs.Events.{update_of}
 use Rattle.cds_catalog.proofs.StepsFind.{none≢some}
 use Rattle.cds_notes.specs.Copy.{KnownRow, known_of, knows, knows_container, cannot_be, changed, object_of, Happening, Changes, Reads, rows_after, read_up_to}
-use Rattle.cds_notes.specs.Follow.{Known, Outcome, Knows, CannotBeRead, Jumps, Tears as Refuses, first_torn, judged, counted_from, is_of, row_read}
+use Rattle.cds_notes.specs.Follow.{Known, Knows, Jumps, first_torn, judged, counted_from, is_of}
 use Rattle.cds_notes.specs.ServerLaws.{befalling}
 use Rattle.cds_notes.proofs.Copies.{read-up-to}
-use Rattle.cds_replica.specs.Copied.{KeptRow, KeptCopy, IsSound, AreAbove, kept_row, copy_of, known_rows}
-use Rattle.cds_replica.specs.CopySteps.{rows_changed_by, cannot_come, first_cannot, Count, Counts, Leaps, Tears, judged_count, count_from, count_of, version_of, copy_read, can_be_of}
-use Rattle.cds_replica.proofs.KeptIds.{root-stays, root-stands, distinct-after, neither}
+use Rattle.cds_replica.specs.Copied.{KeptRow, IsSound, AreAbove, kept_row, copy_of, known_rows}
+use Rattle.cds_replica.specs.CopySteps.{rows_changed_by, cannot_come, first_cannot, Counts, Leaps, judged_count, count_from, count_of, version_of, copy_read, can_be_of}
+use Rattle.cds_replica.proofs.KeptIds.{root-stays, root-stands, distinct-after}
 use Rattle.cds_replica.proofs.KeptSteps.{rows-of, change-kept, read-kept}
 
 -- ---- several changes
@@ -47,7 +46,7 @@ changes-kept at rows (event ∷ events) older sound above none =
         let more = befalling-more event events older in (
           subst (IsSound rows) (sym more) rest.0,
           ap (λ (l : List Happening). map (kept_row l) (rows_after rows l)) more ∙ rest.1
-          ∙ ap (λ (l : List KeptRow). rows_changed_by l events) (change-kept rows event older whole),
+              ∙ ap (λ (l : List KeptRow). rows_changed_by l events) (change-kept rows event older whole),
         )
 
 -- ---- what cannot be

@@ -1,5 +1,5 @@
 -- The end of a load.
-use Rattle.std.proofs.Common.{◌≡◌, ◌+◌, ◌<◌, ◌≤◌, ℕ, zero, suc, Bool, true, false, cond, not, ◌&&◌, ◌||◌, nat_eq, nat_lt, List, [], ◌∷◌, ◌++◌, map, length, Option, Some, None, refl, sym, ap, ◌∙◌, subst, true≢false, arith}
+use Rattle.std.proofs.Common.{◌≡◌, ◌+◌, ◌<◌, ℕ, Bool, true, false, cond, not, ◌&&◌, ◌||◌, nat_eq, nat_lt, List, [], ◌∷◌, ◌++◌, map, length, Option, Some, None, refl, sym, ap, ◌∙◌, subst, arith}
 use Rattle.std.specs.Prelude.{nat_le, is_some}
 use Rattle.std.specs.List.{AllByRecursion, list_any, filter_map, cons_option}
 use Rattle.std.specs.Option.{option_map}
@@ -9,10 +9,10 @@ use Rattle.std.proofs.lemmas.List.Elements.{filter_map-append}
 use Rattle.cds_object.specs.Object.{ObjectRow}
 use Rattle.cds_object.specs.declared.row.Trackers.{Trackers}
 use Rattle.cds_event.specs.declared.Event.{Event}
-use Rattle.cds_model.specs.Replica.{Held, Lists, HasCopy, Waiting, Listing as Progress, put_by, puts_by, put_rows, put_containers, waiting_of, others_waiting, listed, listed_children, after_page}
+use Rattle.cds_model.specs.Replica.{Lists, HasCopy, Waiting, Listing as Progress, put_by, puts_by, put_rows, put_containers, waiting_of, others_waiting, listed}
 use Rattle.cds_changes.specs.Events.{update_of}
 use Rattle.cds_notes.specs.Follow.{changes_above}
-use Rattle.cds_replica.specs.Copied.{KeptRow, KeptCopy, kept_row, copy_of, known_rows}
+use Rattle.cds_replica.specs.Copied.{KeptRow, KeptCopy, copy_of, known_rows}
 use Rattle.cds_replica.specs.CopySteps.{loaded_row, rows_changed_by, AddsNoRoot, first_cannot, Count, Counts, Leaps, Tears, judged_count, count_from, leap_from}
 use Rattle.cds_replica.specs.Outlines.{shown_outline, outlines_of, outline_id, outlines_cannot}
 use Rattle.cds_replica.specs.Ended.{end_count, whole_rows, tracks, is_end, IsRefusal}

@@ -1,8 +1,6 @@
 -- Which ids stand in the rows of a copy after a change or a read.
-use Rattle.std.proofs.Common.{◌≡◌, ◌<◌, ℕ, Bool, true, false, cond, not, ◌&&◌, ◌||◌, nat_eq, nat_lt, List, [], ◌∷◌, map, filter, Option, Some, None, refl, sym, ap, ◌∙◌, subst, true≢false, eq-eqb, eqb-true, ne_eqb}
-use Rattle.std.specs.List.{list_any}
+use Rattle.std.proofs.Common.{◌≡◌, ℕ, Bool, true, false, cond, not, ◌&&◌, ◌||◌, nat_eq, nat_lt, List, [], ◌∷◌, filter, Option, Some, refl, sym, ap, ◌∙◌, true≢false, eq-eqb, eqb-true}
 use Rattle.std.specs.Option.{option_map, option_eq}
-use Rattle.std.proofs.lemmas.Bool.{eqb-false}
 use Rattle.cds_object.specs.Object.{ObjectRow}
 use Rattle.cds_object.specs.declared.row.Trackers.{Trackers}
 use Rattle.cds_event.specs.declared.Event.{Event}

@@ -12,8 +12,10 @@ use Rattle.cds_catalog.proofs.StepsFind.{none≢some}
 use Rattle.cds_notes.specs.Copy.{Version, KnownRow, object_of, changed, cannot_be}
 use Rattle.cds_replica.specs.Copied.{KeptRow, KeptCopy, known_rows}
 use Rattle.cds_replica.specs.CopySteps.{read_of_row, rows_read, rows_changed_by, AddsNoRoot, cannot_come, first_cannot, Counts, Leaps, Tears, judged_count, count_from, leap_from}
-use Rattle.cds_replica.specs.declared.count_error.CountError.{CountError}
+use Rattle.cds_replica.specs.Outlines.{outlines_of, outlines_cannot}
+use Rattle.cds_replica.specs.declared.outline.Outline.{Outline}
 use Rattle.cds_replica.specs.declared.count_error.CountError.TheVariants.{Jump}
+use Rattle.cds_replica.proofs.KeptOutlines.{outlined-cannot}
 
 -- a loop that changes each item of a list in its place
 pub one_more_changed : {X : Type 0} (f : X → X) (xs ys : List X) (i : ℕ) (x : X) → i < length xs →
@@ -32,8 +34,8 @@ pub read-here : (id : ℕ) (v : Version) (rows : List KeptRow) (i : ℕ) (row : 
 read-here id v rows i row within is e =
     set-parts rows i (read_of_row v row) within
     ∙ ap (λ (rest : List KeptRow). take i rows ++ rest) (
-      (λ j. cond (sym e j) (read_of_row v row ∷ drop (i + 1) rows) (row ∷ rows_read id v (drop (i + 1) rows)))
-      ∙ ap (rows_read id v) (ap (λ (x : KeptRow). x ∷ drop (i + 1) rows) is ∙ sym (drop_more rows i row within)))
+    (λ j. cond (sym e j) (read_of_row v row ∷ drop (i + 1) rows) (row ∷ rows_read id v (drop (i + 1) rows)))
+    ∙ ap (rows_read id v) (ap (λ (x : KeptRow). x ∷ drop (i + 1) rows) is ∙ sym (drop_more rows i row within)))
 
 -- ---- what is decided before changes are counted
 
@@ -55,6 +57,12 @@ module _ (copy : KeptCopy) (at : ℕ) where
   count-counts [] e f = refl
   count-counts (event ∷ events) e f =
       (λ i. cond (leaps-not event events e i) (judged_count copy (event ∷ events) (f i)) (Leaps (at + 1) (update_of event)))
+
+-- what was decided in outline
+pub decided : (copy : KeptCopy) (events : List Event) (outlines : List Outline) (found o : Option ℕ) → outlines ≡ outlines_of copy.rows
+    → found ≡ outlines_cannot outlines events → found ≡ o → first_cannot (known_rows copy) events ≡ o
+decided copy events outlines found o same is e =
+    sym (outlined-cannot copy.rows events) ∙ ap (λ (l : List Outline). outlines_cannot l events) (sym same) ∙ sym is ∙ e
 
 -- what can be adds no root
 positive : (n : ℕ) → nat_eq n 0 ≡ false → 0 < n

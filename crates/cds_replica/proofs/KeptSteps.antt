@@ -1,6 +1,6 @@
 -- What a copy keeps after a change, and after a read.
-use Rattle.std.proofs.Common.{◌≡◌, ◌<◌, ℕ, max, Bool, true, false, cond, not, ◌&&◌, ◌||◌, nat_eq, nat_lt, List, [], ◌∷◌, map, filter, Option, Some, None, refl, sym, ap, ◌∙◌, subst, true≢false, eq-eqb, eqb-true, arith}
-use Rattle.std.specs.List.{list_any, filter_map, cons_option}
+use Rattle.std.proofs.Common.{◌≡◌, ℕ, max, Bool, true, false, cond, not, ◌&&◌, nat_eq, nat_lt, List, [], ◌∷◌, map, filter, Option, Some, None, refl, sym, ap, ◌∙◌, true≢false, eq-eqb, eqb-true, arith}
+use Rattle.std.specs.List.{filter_map, cons_option}
 use Rattle.std.specs.Option.{option_map, option_eq}
 use Rattle.cds_object.specs.Object.{ObjectRow}
 use Rattle.cds_object.specs.declared.row.Trackers.{Trackers}
@@ -8,10 +8,10 @@ use Rattle.cds_event.specs.declared.Class.{Class}
 use Rattle.cds_event.specs.declared.Event.{Event}
 use Rattle.cds_event.specs.declared.Event.TheVariants.{ObjAdd, ObjMod, ObjDel, StDone}
 use Rattle.cds_model.specs.Replica.{put_by}
-use Rattle.cds_notes.specs.Copy.{Version, KnownRow, knows, knows_container, knows_child, counted, parent_in, added_row, put_known, cannot_be, changed, counts_addition, counts_modification, counts_deletion, newer, read_anew, Happening, Changes, Reads, rows_after, marks, since_deletion, deletes}
+use Rattle.cds_notes.specs.Copy.{Version, KnownRow, knows, knows_container, counted, parent_in, added_row, put_known, changed, counts_addition, counts_modification, counts_deletion, newer, read_anew, Happening, Changes, Reads, rows_after, marks, since_deletion}
 use Rattle.cds_replica.specs.Copied.{KeptRow, AreDistinct, IsSound, kept_id, greatest, shows, wanted_at, shown_at, kept_row}
-use Rattle.cds_replica.specs.CopySteps.{counted_row, counted_rows, wanted_row, wanted_rows, parent_among, new_row, rows_without, rows_changed, read_of_row, rows_read}
-use Rattle.cds_replica.proofs.KeptIds.{swapped-eq, neither, not-false, knows-counted, knows-added, knows-deleted, knows-without, knows-read, distinct-after}
+use Rattle.cds_replica.specs.CopySteps.{counted_rows, wanted_rows, new_row, rows_without, rows_changed, read_of_row, rows_read}
+use Rattle.cds_replica.proofs.KeptIds.{swapped-eq, neither, not-false, knows-counted, knows-added, knows-deleted, knows-read}
 
 abbrev pub Unmarked : ℕ → List Happening → Type 0
 Unmarked id happenings = (wanted_at id happenings ≡ 0) × (shown_at id happenings ≡ 0)

@@ -1,23 +1,25 @@
 -- Whatever a server tells and shows, what befell a copy is sound: its load ended with the root's row among others, all of
 -- different ids; each change that was counted could be when it came; and each read was of an object that stood.
-use Rattle.std.proofs.Common.{◌≡◌, ◌+◌, ◌-◌, ◌<◌, ◌≤◌, ℕ, max, min, Bool, true, false, cond, not, ◌&&◌, ◌||◌, nat_eq, nat_lt, List, [], ◌∷◌, ◌++◌, map, filter, length, Option, Some, None, refl, sym, ap, ◌∙◌, subst, true≢false, eqb-true, arith, ltb-true}
+use Rattle.std.proofs.Common.{◌≡◌, ◌+◌, ◌-◌, ◌≤◌, ℕ, max, min, Bool, true, false, cond, not, ◌&&◌, ◌||◌, nat_eq, nat_lt, List, [], ◌∷◌, ◌++◌, map, length, Option, Some, None, refl, sym, ap, ◌∙◌, subst, true≢false, arith, ltb-true}
 use Rattle.std.specs.List.{list_all, list_any}
 use Rattle.cds_object.specs.Object.{ObjectRow, is_folder}
 use Rattle.cds_object.specs.Tree.{is_child_of}
 use Rattle.cds_event.specs.declared.Event.{Event}
 use Rattle.cds_changes.specs.Events.{update_of, is_change}
-use Rattle.cds_model.specs.Replica.{Held, Idle, Begun, HasToken, HasNumber, HasRoot, Lists, HasPage, HasCopy, Listing, Waiting, listing_of, listed_id, listed_children, all_new, known_ids, fits, put_by, puts_by, put_rows, put_containers, others_waiting, listed, after_page, Taken, Holds, Unreadable, Torn, taken, page_taken, root_taken}
+use Rattle.cds_model.specs.Replica.{Held, Idle, Begun, HasToken, HasNumber, HasRoot, Lists, HasPage, HasCopy, Listing, Waiting, listing_of, listed_id, listed_children, all_new, known_ids, fits, put_by, put_rows, put_containers, others_waiting, listed, after_page, Taken, Holds, Unreadable, Torn, taken, page_taken, root_taken}
 use Rattle.cds_model.specs.Server.{page_size}
 use Rattle.cds_model.specs.declared.exchange.Shown.{Shown}
 use Rattle.cds_model.specs.declared.exchange.Shown.TheVariants.{Text, Number, Page, Fault}
 use Rattle.cds_notes.specs.Commands.{Note}
 use Rattle.cds_notes.specs.Copy.{KnownRow, known_row, known_of, knows, put_known, Happening, Reads, rows_after, least_unread}
 use Rattle.cds_notes.specs.Inbox.{ReplicaTurn, Begins, Shows, Requests, Accepts, Refuses, Delivers, taken_by}
-use Rattle.cds_notes.specs.Follow.{Known, Outcome, Knows, CannotBeRead, Jumps, Tears, position, changes_above, new_changes, first_torn, counted_from, judged, with_changes, dropped, load_begun, is_drop, heard_of, with_notes, greatest_of, load_ended, loaded, is_of, row_read, object_read, copy_read, with_reply, known_after, known_by}
+use Rattle.cds_notes.specs.Follow.{Known, Outcome, Knows, CannotBeRead, Jumps, Tears, position, changes_above, new_changes, first_torn, counted_from, judged, with_changes, dropped, load_begun, is_drop, heard_of, with_notes, load_ended, loaded, is_of, row_read, copy_read, with_reply, known_after, known_by}
 use Rattle.cds_notes.specs.ServerLaws.{befalling}
 use Rattle.cds_replica.specs.Copied.{AreDistinct, IsSound, AreAbove}
-use Rattle.cds_replica.proofs.KeptIds.{swapped-eq, not-false, knows-put, distinct-put}
-use Rattle.cds_replica.proofs.KeptCounts.{count-sound, read-sound}
+use Rattle.cds_replica.proofs.KeptIds.{swapped-eq, knows-put, distinct-put}
+use Rattle.cds_replica.specs.CopySteps.{count_of}
+use Rattle.cds_replica.specs.Ended.{end_count}
+use Rattle.cds_replica.proofs.KeptCounts.{count-kept, count-sound, read-sound}
 
 -- ---- the rows of a load
 
@@ -173,7 +175,7 @@ judged-sound number listing (Some page) is = by (fits listing page) refl
     by true e = page-sound number listing page is e
     by false e = tt
 
-taken-sound : (held : Held) (happenings : List Happening) (shown : Shown) → SoundHeld held happenings → SoundTaken (taken held shown)
+pub taken-sound : (held : Held) (happenings : List Happening) (shown : Shown) → SoundHeld held happenings → SoundTaken (taken held shown)
 taken-sound Idle h shown is = tt
 taken-sound Begun h (Text token) is = tt
 taken-sound Begun h (Number n) is = tt
@@ -220,7 +222,7 @@ SoundOutcome CannotBeRead = Unit {0}
 SoundOutcome (Jumps expected first) = Unit {0}
 SoundOutcome (Tears id) = Unit {0}
 
-above-filter : (number : ℕ) (events : List Event) → AreAbove number (changes_above number events)
+pub above-filter : (number : ℕ) (events : List Event) → AreAbove number (changes_above number events)
 above-filter number [] = tt
 above-filter number (event ∷ events) = by (is_change event) (nat_lt number (update_of event)) refl refl (above-filter number events)
   where
@@ -246,7 +248,7 @@ new-above at (note ∷ notes) =
     (above-lower at (max at note.number) (new_changes (max at note.number) notes) (omega arith) (new-above (max at note.number) notes))
 
 -- changes leave what is held as it is
-counted-held : (rows : List ObjectRow) (known : Known) (at : ℕ) (events : List Event) (now : Known) → counted_from rows known at events ≡ Knows now → now.held ≡ known.held
+pub counted-held : (rows : List ObjectRow) (known : Known) (at : ℕ) (events : List Event) (now : Known) → counted_from rows known at events ≡ Knows now → now.held ≡ known.held
 counted-held rows known at [] now e = let same : known ≡ now = cc in ap (λ (k : Known). k.held) (sym same)
 counted-held rows known at (event ∷ events) now e = by (nat_eq (update_of event) (at + 1)) (first_torn (rows_after rows known.happenings) (event ∷ events)) e
   where
@@ -362,3 +364,16 @@ turns-sound (Delivers note ∷ older) =
 -- where a copy stands after turns, what befell it is sound
 pub copies-sound : (turns : List ReplicaTurn) (number : ℕ) (rows : List ObjectRow) → (known_by turns).held ≡ HasCopy number rows → IsSound rows (known_by turns).happenings
 copies-sound turns number rows e = subst (λ (h : Held). SoundHeld h (known_by turns).happenings) e (turns-sound turns)
+
+-- ---- where a load ends
+
+-- the rows that a load ended with are the root's among others, all of different ids
+pub ended-sound : (turns : List ReplicaTurn) (shown : Shown) (number : ℕ) (rows : List ObjectRow) → taken (known_by turns).held shown ≡ Holds (HasCopy number rows) → IsSound rows []
+ended-sound turns shown number rows e =
+    subst SoundTaken e (taken-sound (known_by turns).held (known_by turns).happenings shown (turns-sound turns))
+
+-- what becomes of the changes that were kept meanwhile
+pub ended-kept : (known : Known) (number : ℕ) (rows : List ObjectRow) → IsSound rows [] → count_of rows (load_ended known number rows) ≡ end_count rows number known.kept
+ended-kept known number rows sound =
+    count-kept rows (record { held = HasCopy number rows; base = number; heard = known.heard; kept = []; happenings = [] }) number
+    (changes_above number known.kept) sound (above-filter number known.kept)

@@ -1,13 +1,12 @@
 -- Which object of a copy is unread, by the numbers that the copy keeps.
-use Rattle.std.proofs.Common.{◌≡◌, ◌⊎◌, inl, inr, ◌<◌, ◌≤◌, ℕ, max, min, Bool, true, false, cond, not, ◌&&◌, ◌||◌, nat_eq, nat_lt, nat_le, List, [], ◌∷◌, map, filter, Option, Some, None, refl, sym, ap, ◌∙◌, subst, true≢false, eq-eqb, eqb-true, arith}
+use Rattle.std.proofs.Common.{◌≡◌, ◌⊎◌, inl, inr, ◌<◌, ◌≤◌, ℕ, max, min, Bool, true, false, cond, not, ◌&&◌, ◌||◌, nat_eq, nat_lt, nat_le, List, [], ◌∷◌, map, filter, Option, Some, None, refl, sym, ap, ◌∙◌, true≢false, eq-eqb, eqb-true, arith}
 use Rattle.std.specs.List.{AllByRecursion, list_any, filter_map, cons_option}
 use Rattle.std.proofs.lemmas.Bool.{cases_lt, leb-true, leb-false, le-leb, lt-leb, ltb-true, lt-ltb, le-ltb}
 use Rattle.cds_object.specs.Object.{ObjectRow}
-use Rattle.cds_event.specs.declared.Event.{Event}
 use Rattle.cds_event.specs.declared.Event.TheVariants.{ObjAdd, ObjMod, ObjDel, StDone}
 use Rattle.cds_catalog.proofs.StepsFind.{none≢some}
 use Rattle.cds_notes.specs.Copy.{KnownRow, knows, Happening, Changes, Reads, rows_after, marks, shows_from, since_deletion, is_unread, named, least, least_unread}
-use Rattle.cds_replica.specs.Copied.{KeptRow, IsSound, kept_id, greatest, shows, wanted_at, shown_at, kept_row, copy_of, is_wanted, lesser_of, least_wanted}
+use Rattle.cds_replica.specs.Copied.{IsSound, kept_id, greatest, shows, wanted_at, shown_at, kept_row, copy_of, is_wanted, lesser_of, least_wanted}
 use Rattle.cds_replica.proofs.KeptIds.{swapped-eq, neither}
 use Rattle.cds_replica.proofs.KeptSteps.{unmarked}
 

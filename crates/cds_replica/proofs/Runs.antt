@@ -56,8 +56,8 @@ pub not-all_from : (from : ℕ) (notes : List Note) → ((q : ℕ) → from ≤ 
 unfolding shifted
 not-all_from from notes all =
     not-all (shifted from notes) (λ q l.
-      let as_many = shifted-length from notes in
-      shifted-has from q notes (all (from + q) (omega arith) (omega (arith, l, as_many))))
+    let as_many = shifted-length from notes in
+    shifted-has from q notes (all (from + q) (omega arith) (omega (arith, l, as_many))))
 
 ends : (more from : ℕ) (notes : List Note) → (has_seq notes (least_outside more from notes) ≡ false) ⊎ (least_outside more from notes ≡ from + more)
 ends zero from notes = inr (omega arith)

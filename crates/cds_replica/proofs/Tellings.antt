@@ -1,11 +1,10 @@
 -- Runs of SEQs among notes of a name, and what they tell.
-use Rattle.std.proofs.Common.{◌≡◌, ◌⊎◌, inl, inr, ◌+◌, ◌-◌, ◌<◌, ◌≤◌, ℕ, zero, suc, max, Bool, true, false, cond, ◌&&◌, nat_eq, List, [], ◌∷◌, ◌++◌, length, Option, Some, None, refl, sym, ap, ◌∙◌, subst, arith, true≢false, append_assoc}
-use Rattle.std.specs.Prelude.{reverse, is_some}
-use Rattle.std.specs.Option.{option_or}
-use Rattle.std.specs.List.{find, filter_map, cons_option, range_with_len}
+use Rattle.std.proofs.Common.{◌≡◌, ◌⊎◌, inl, inr, ◌+◌, ◌-◌, ◌<◌, ◌≤◌, ℕ, zero, suc, max, Bool, true, false, cond, ◌&&◌, nat_eq, List, [], ◌∷◌, ◌++◌, length, drop, get_or, Option, Some, None, refl, sym, ap, ◌∙◌, subst, arith, true≢false, append_assoc}
+use Rattle.std.specs.Prelude.{is_some, option_copied, IfSome}
+use Rattle.std.specs.Borrow.{Bor}
+use Rattle.std.specs.List.{filter_map, cons_option, range_with_len}
 use Rattle.std.proofs.lemmas.Bool.{cases_lt}
-use Rattle.std.proofs.lemmas.List.{reverse-append, append-nil}
-use Rattle.std.proofs.lemmas.List.Folds.{find-append}
+use Rattle.std.proofs.lemmas.List.{append-nil, drop_more, drop_all}
 use Rattle.cds_event.specs.declared.Event.{Event}
 use Rattle.cds_notes.specs.Commands.{Note}
 use Rattle.cds_notes.specs.Inbox.{has_seq, note_of, notes_from_to}
@@ -14,35 +13,64 @@ use Rattle.cds_notes.proofs.Taken.{has-note}
 use Rattle.cds_notes.proofs.Chain.{note-among, note-later}
 use Rattle.cds_replica.specs.Inboxed.{run_end, of_name}
 use Rattle.cds_replica.specs.Telling.{KeptTelling, tells, tells_note}
-use Rattle.cds_replica.proofs.Runs.{among-has, note-here, not-all_from, run-is}
+use Rattle.cds_replica.proofs.Runs.{among-has, note-here, not-all_from, run-is, notes-none}
 
 -- ---- the note of a name and a SEQ
 
 abbrev is_note : ℕ → ℕ → Note → Bool
 is_note name seq note = nat_eq note.name name && nat_eq note.seq seq
 
-or-none : (o : Option Note) → option_or o None ≡ o
-or-none None = refl
-or-none (Some note) = refl
-
-pub note-found : (name seq : ℕ) (notes : List Note) → note_of seq (of_name name notes) ≡ find (is_note name seq) (reverse notes)
-note-found name seq [] = refl
-note-found name seq (note ∷ older) =
-    by (nat_eq note.name name) (note-found name seq older)
-    ∙ sym (ap (find (is_note name seq)) (reverse-append (note ∷ []) older) ∙ find-append (is_note name seq) (reverse older) (note ∷ []))
-  where
-    on : (o : Option Note) → note_of seq (of_name name older) ≡ o
-        → note_of seq (note ∷ of_name name older) ≡ option_or o (cond (nat_eq note.seq seq) (Some note) None)
-    on None e = note-here seq note (of_name name older) e
-    on (Some first) e = note-later seq note first (of_name name older) e
-
-    by : (b : Bool) → note_of seq (of_name name older) ≡ find (is_note name seq) (reverse older)
-        → note_of seq (cond b (note ∷ of_name name older) (of_name name older)) ≡ option_or (find (is_note name seq) (reverse older)) (cond (b && nat_eq note.seq seq) (Some note) None)
-    by true rest = on (find (is_note name seq) (reverse older)) rest
-    by false rest = rest ∙ sym (or-none (find (is_note name seq) (reverse older)))
-
 pub note-seq : (seq : ℕ) (notes : List Note) (note : Note) → note_of seq notes ≡ Some note → note.seq ≡ seq
 note-seq seq notes note e = (note-among seq notes note e).1
+
+-- the one that is found later, or else this one
+abbrev pub later_or : Option Note → Option Note → Option Note
+later_or None found = found
+later_or (Some note) found = Some note
+
+-- one note further
+pub note-step : (name seq : ℕ) (note : Note) (rest : List Note) (found : Option Note)
+    → later_or (note_of seq (of_name name (note ∷ rest))) found ≡ later_or (note_of seq (of_name name rest)) (cond (is_note name seq note) (Some note) found)
+note-step name seq note rest found = by (nat_eq note.name name)
+  where
+    or : (b : Bool) → later_or (cond b (Some note) None) found ≡ cond b (Some note) found
+    or true = refl
+    or false = refl
+
+    on : (o : Option Note) → note_of seq (of_name name rest) ≡ o
+        → later_or (note_of seq (note ∷ of_name name rest)) found ≡ later_or o (cond (nat_eq note.seq seq) (Some note) found)
+    on None e = ap (λ (o : Option Note). later_or o found) (note-here seq note (of_name name rest) e) ∙ or (nat_eq note.seq seq)
+    on (Some first) e = ap (λ (o : Option Note). later_or o found) (note-later seq note first (of_name name rest) e)
+
+    by : (b : Bool) → later_or (note_of seq (cond b (note ∷ of_name name rest) (of_name name rest))) found
+        ≡ later_or (note_of seq (of_name name rest)) (cond (b && nat_eq note.seq seq) (Some note) found)
+    by true = on (note_of seq (of_name name rest)) refl
+    by false = refl
+
+-- a round of the search for it
+pub note-round : (name seq i : ℕ) (notes : List Note) (note : Note) (whole found now : Option Note) (b : Bool) → i < length notes → note ≡ get_or notes i note
+    → whole ≡ later_or (note_of seq (of_name name (drop i notes))) found → b ≡ is_note name seq note → now ≡ cond b (Some note) found
+    → whole ≡ later_or (note_of seq (of_name name (drop (i + 1) notes))) now
+note-round name seq i notes note whole found now b within is before test then =
+    before
+    ∙ ap (λ (l : List Note). later_or (note_of seq (of_name name l)) found) (drop_more notes i note within ∙ ap (λ (n : Note). n ∷ drop (i + 1) notes) (sym is))
+    ∙ note-step name seq note (drop (i + 1) notes) found
+    ∙ ap (later_or (note_of seq (of_name name (drop (i + 1) notes)))) ((λ j. cond (sym test j) (Some note) found) ∙ sym then)
+
+pub note-rest : (name seq i : ℕ) (notes : List Note) (whole found : Option Note) → length notes ≤ i → whole ≡ later_or (note_of seq (of_name name (drop i notes))) found → whole ≡ found
+note-rest name seq i notes whole found past before =
+    before ∙ ap (λ (l : List Note). later_or (note_of seq (of_name name l)) found) (drop_all i notes past)
+
+pub copied-seq : (o : Option (Bor Note)) (seq : ℕ) (notes : List Note) → option_copied o ≡ note_of seq notes → IfSome o (λ note. note.now.seq ≡ seq)
+copied-seq None seq notes e = tt
+copied-seq (Some note) seq notes e = note-seq seq notes note.now (sym e)
+
+pub note-whole : (name seq : ℕ) (notes : List Note) → note_of seq (of_name name notes) ≡ later_or (note_of seq (of_name name notes)) None
+note-whole name seq notes = by (note_of seq (of_name name notes))
+  where
+    by : (o : Option Note) → o ≡ later_or o None
+    by None = refl
+    by (Some note) = refl
 
 pub note-has : (seq : ℕ) (notes : List Note) (o : Option Note) → note_of seq notes ≡ o → is_some o ≡ has_seq notes seq
 note-has seq notes None e = by (has_seq notes seq) refl
@@ -77,7 +105,7 @@ found-all notes from to long all = by (has_seq notes to) refl
     by true have = none (not-all_from from notes (λ q low l. found-more notes from to all have q low (omega (arith, l, long))))
       where
         none : ⊥ → to ≡ run_end from notes
-        none no = absurd no
+        none e = absurd e
 
 of_name-length : (name : ℕ) (notes : List Note) → length (of_name name notes) ≤ length notes
 of_name-length name [] = omega arith
@@ -128,15 +156,15 @@ range-more a (suc n) =
     let same : a + 1 + n ≡ a + suc n = omega arith in
     ap (λ (l : List ℕ). a ∷ l) (range-more (a + 1) n ∙ ap (λ (x : ℕ). range_with_len (a + 1) n ++ x ∷ []) same)
 
-map-append : (notes : List Note) (as bs : List ℕ) → filter_map (λ (seq : ℕ). note_of seq notes) (as ++ bs)
-    ≡ filter_map (λ (seq : ℕ). note_of seq notes) as ++ filter_map (λ (seq : ℕ). note_of seq notes) bs
-map-append notes [] bs = refl
-map-append notes (a ∷ as) bs = by (note_of a notes) (map-append notes as bs)
+map-append : (notes : List Note) (ns ms : List ℕ) → filter_map (λ (seq : ℕ). note_of seq notes) (ns ++ ms)
+    ≡ filter_map (λ (seq : ℕ). note_of seq notes) ns ++ filter_map (λ (seq : ℕ). note_of seq notes) ms
+map-append notes [] ms = refl
+map-append notes (n ∷ ns) ms = by (note_of n notes) (map-append notes ns ms)
   where
-    by : (o : Option Note) → filter_map (λ (seq : ℕ). note_of seq notes) (as ++ bs)
-        ≡ filter_map (λ (seq : ℕ). note_of seq notes) as ++ filter_map (λ (seq : ℕ). note_of seq notes) bs
-        → cons_option o (filter_map (λ (seq : ℕ). note_of seq notes) (as ++ bs))
-        ≡ cons_option o (filter_map (λ (seq : ℕ). note_of seq notes) as) ++ filter_map (λ (seq : ℕ). note_of seq notes) bs
+    by : (o : Option Note) → filter_map (λ (seq : ℕ). note_of seq notes) (ns ++ ms)
+        ≡ filter_map (λ (seq : ℕ). note_of seq notes) ns ++ filter_map (λ (seq : ℕ). note_of seq notes) ms
+        → cons_option o (filter_map (λ (seq : ℕ). note_of seq notes) (ns ++ ms))
+        ≡ cons_option o (filter_map (λ (seq : ℕ). note_of seq notes) ns) ++ filter_map (λ (seq : ℕ). note_of seq notes) ms
     by None rest = rest
     by (Some note) rest = ap (λ (l : List Note). note ∷ l) rest
 
@@ -162,3 +190,23 @@ tells-run_some from to notes note told now l is e =
     ap (tells_note note) is ∙ sym (tells-one note (tells (notes_from_to from to notes) told))
     ∙ sym (ap (λ (ns : List Note). tells ns told) (notes-last from to notes l ∙ ap (λ (o : Option Note). notes_from_to from to notes ++ cons_option o []) e)
     ∙ tells-append (notes_from_to from to notes) (note ∷ []) told)
+
+-- a note that was found is that of its SEQ
+pub found-has : (o : Option (Bor Note)) (seq : ℕ) (notes : List Note) → option_copied o ≡ note_of seq notes → is_some o ≡ has_seq notes seq
+found-has None seq notes e = note-has seq notes None (sym e)
+found-has (Some note) seq notes e = note-has seq notes (Some note.now) (sym e)
+
+pub found-none : (notes : List Note) (from : ℕ) → AllFound notes from from
+found-none notes from q low l = let no : ⊥ = omega (arith, low, l) in absurd no
+
+pub tells-run_start : (from : ℕ) (notes : List Note) (told : KeptTelling) → told ≡ tells (notes_from_to from from notes) told
+tells-run_start from notes told = tells-none told ∙ ap (λ (ns : List Note). tells ns told) (sym (notes-none from from notes (omega arith)))
+
+-- all of them, or none where there is none
+pub tells-run_all : (from to seq : ℕ) (notes : List Note) (told now : KeptTelling) → to ≤ seq → (seq ≡ from) ⊎ (seq ≤ to)
+    → now ≡ tells (notes_from_to from seq notes) told → now ≡ tells (notes_from_to from to notes) told
+tells-run_all from to seq notes told now past (inl start) is =
+    is ∙ ap (λ (ns : List Note). tells ns told) (notes-none from seq notes (omega (arith, start)) ∙ sym (notes-none from to notes (omega (arith, start, past))))
+tells-run_all from to seq notes told now past (inr within) is =
+    let same : seq ≡ to = omega (arith, past, within) in
+    is ∙ ap (λ (n : ℕ). tells (notes_from_to from n notes) told) same

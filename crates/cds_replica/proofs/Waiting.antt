@@ -129,3 +129,30 @@ inbox-next note kept inbox e within =
       waiting = subst (λ (o : Option ℕ). AllByRecursion (IsWaiting o (run_after kept)) (behind (run_after kept) kept.waiting)) (sym accepted)
           (behind-waiting note.name (run_after kept) kept.waiting (waiting-of note.name kept.next kept.accepted kept.waiting accepted inbox.waiting));
     }
+
+-- notes of a name behind a SEQ, by one test
+pub behind-name : (name next : ℕ) (notes : List Note) → behind next (of_name name notes) ≡ filter (λ (note : Note). nat_eq note.name name && nat_lt next note.seq) notes
+behind-name name next [] = refl
+behind-name name next (note ∷ notes) = by (nat_eq note.name name) (behind-name name next notes)
+  where
+    by : (b : Bool) → behind next (of_name name notes) ≡ filter (λ (n : Note). nat_eq n.name name && nat_lt next n.seq) notes
+        → behind next (cond b (note ∷ of_name name notes) (of_name name notes))
+        ≡ cond (b && nat_lt next note.seq) (note ∷ filter (λ (n : Note). nat_eq n.name name && nat_lt next n.seq) notes) (filter (λ (n : Note). nat_eq n.name name && nat_lt next n.seq) notes)
+    by true rest = (λ i. cond (nat_lt next note.seq) (note ∷ rest i) (rest i))
+    by false rest = rest
+
+-- ---- what is kept after a step, by its parts
+
+pub named-next : (name next : ℕ) (kept : KeptInbox) (early : List Note) → next ≡ run_end 0 (of_name name early) → early ≡ kept.early → next ≡ run_end 0 (of_name name kept.early)
+named-next name next kept early is same = is ∙ ap (λ (l : List Note). run_end 0 (of_name name l)) same
+
+pub named-waiting : (name next : ℕ) (kept : KeptInbox) (early waiting : List Note) → early ≡ kept.early → next ≡ run_end 0 (of_name name kept.early)
+    → waiting ≡ filter (λ (note : Note). nat_eq note.name name && nat_lt next note.seq) early → waiting ≡ (with_name name kept).waiting
+named-waiting name next kept early waiting same ends is =
+    is ∙ sym (behind-name name next early) ∙ (λ i. behind (ends i) (of_name name (same i)))
+
+pub next-waiting : (note : Note) (name next : ℕ) (kept : KeptInbox) (before waiting : List Note) → IsInbox kept → follows note kept ≡ true → name ≡ note.name
+    → before ≡ kept.waiting → next ≡ run_after kept → waiting ≡ filter (λ (n : Note). nat_eq n.name name && nat_lt next n.seq) before → waiting ≡ (with_next kept).waiting
+next-waiting note name next kept before waiting inbox e of same ends is =
+    is ∙ sym (behind-name name next before) ∙ (λ i. behind (ends i) (of_name (of i) (same i)))
+    ∙ ap (behind (run_after kept)) (waiting-name note.name kept inbox (follows-parts note kept e).0)

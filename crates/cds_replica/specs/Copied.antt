@@ -1,6 +1,6 @@
 -- What a copy keeps of all that befell it (this project's profile): its rows, each with two numbers, and the greatest version
 -- that was read.
-use Rattle.std.specs.Prelude.{◌≡◌, ◌<◌, ◌&&◌, ℕ, Bool, true, false, cond, not, nat_eq, nat_lt, max, min, List, [], ◌∷◌, map, filter, Option, Some, None}
+use Rattle.std.specs.Prelude.{◌≡◌, ◌<◌, ℕ, Bool, true, false, cond, nat_eq, nat_lt, max, min, List, [], ◌∷◌, map, filter, Option, Some, None}
 use Rattle.std.specs.List.{AllByRecursion, filter_map}
 use Rattle.cds_object.specs.Object.{ObjectRow, is_folder}
 use Rattle.cds_event.specs.declared.Event.{Event}

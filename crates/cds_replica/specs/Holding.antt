@@ -1,11 +1,11 @@
 -- What a replica's state stands for.
-use Rattle.std.specs.Prelude.{◌≡◌, List, ◌++◌}
+use Rattle.std.specs.Prelude.{◌≡◌, ◌&&◌, nat_eq, Bool, List, ◌++◌, length}
 use Rattle.std.specs.Global.{Vec}
 use Rattle.cds_object.specs.Object.{ObjectRow}
-use Rattle.cds_model.specs.Replica.{Held, Listing as Progress, Idle as HoldsNothing, Begun as HoldsBegun, HasToken as HoldsToken, HasNumber as HoldsNumber, HasRoot as HoldsRoot, Lists as HoldsListing, HasPage as HoldsPage, HasCopy as HoldsCopy}
+use Rattle.cds_model.specs.Replica.{Held, Listing as Progress, Idle as HoldsNothing, Begun as HoldsBegun, HasToken as HoldsToken, HasNumber as HoldsNumber, HasRoot as HoldsRoot, Lists as HoldsListing, HasPage as HoldsPage}
 use Rattle.cds_replica.specs.declared.listing.Listing.{Listing}
 use Rattle.cds_replica.specs.declared.stage.Stage.{Stage}
-use Rattle.cds_replica.specs.declared.stage.Stage.TheVariants.{Idle, Begun, HasToken, HasNumber, HasRoot, Lists, HasPage, HasCopy}
+use Rattle.cds_replica.specs.declared.stage.Stage.TheVariants.{Idle, Begun, HasToken, HasNumber, HasRoot, Lists, HasPage}
 
 -- the listing that a replica's lists stand for
 abbrev pub listing_in : Listing → Progress
@@ -19,7 +19,7 @@ with_part listing page = record { rows = listing.rows; waiting = listing.waiting
 abbrev pub GivesBack : Listing → Vec ObjectRow → Listing × Vec ObjectRow → Type 0
 GivesBack listing page back = (listing_in back.0 ≡ listing_in listing) × (back.1.items ≡ page.items)
 
--- what is held in each stage
+-- what is held in each stage of a load
 abbrev pub held_in : Stage → Held
 held_in Idle = HoldsNothing
 held_in Begun = HoldsBegun
@@ -28,4 +28,3 @@ held_in (HasNumber number) = HoldsNumber number
 held_in (HasRoot number root) = HoldsRoot number root
 held_in (Lists number listing) = HoldsListing number (listing_in listing)
 held_in (HasPage number listing page) = HoldsPage number (listing_in listing) page
-held_in (HasCopy number rows) = HoldsCopy number rows.items

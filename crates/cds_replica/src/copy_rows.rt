@@ -13,12 +13,7 @@ use cds_object::Content;
 use std::alloc::Global;
 
 /// Counts a change of a child in the trackers of its parent.
-fn count_children(
-    rows: &mut Vec<CopyRow>,
-    parent: Option<u32>,
-    change: ChildChange,
-    number: u32,
-)
+fn count_children(rows: &mut Vec<CopyRow>, parent: Option<u32>, change: ChildChange, number: u32)
     ensures items { rows.new.items ≡ counted_rows (counts change number) parent rows.old.items }
     ensures len { vec_len rows.new ≡ vec_len rows.old }
     ensures capacity { vec_capacity rows.new ≡ vec_capacity rows.old }
@@ -61,14 +56,7 @@ fn remove(rows: &mut Vec<CopyRow>, id: u32)
 }
 
 /// Makes an addition, for which there is room.
-fn add(
-    rows: &mut Vec<CopyRow>,
-    alloc: Global,
-    id: u32,
-    number: u32,
-    parent: u32,
-    class: Class,
-)
+fn add(rows: &mut Vec<CopyRow>, alloc: Global, id: u32, number: u32, parent: u32, class: Class)
     requires above { 0 < id }
     requires room { vec_len rows.old < vec_capacity rows.old }
     ensures items { (st : Bool) → rows.new.items ≡ rows_changed rows.old.items (Event.ObjAdd id number st parent class) }

@@ -6,7 +6,10 @@ pub enum AnswerError {
     /// The reply is of another kind than the ask, or not one row where an object's row was asked.
     #[error("the reply does not answer what was asked")]
     Unreadable,
-    /// What was shown of this object cannot be: of the root's row this is said at once, of a page where the number after
+    /// The first change above the number of a load, of those that notes told meanwhile, is not the one after it.
+    #[error("change {first} came where {expected} was to come")]
+    Jump { expected: u32, first: u32 },
+    /// What was shown or told of this object cannot be: of the root's row this is said at once, of a page where the number after
     /// it stayed.
     #[error("what was shown of object {id} cannot be")]
     Torn { id: u32 },

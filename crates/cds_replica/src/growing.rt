@@ -1,12 +1,13 @@
-//! How a listing begins, grows and ends.
+//! How a listing begins and grows.
 
-ghost use Rattle.std.specs.Prelude.{◌≡◌, ◌+◌, ◌^◌, ◌<◌, ◌≤◌, ◌∷◌, ◌++◌, [], length, drop, OnOk, IfOk, IfErr, vec_len, vec_capacity};
-ghost use Rattle.cds_model.specs.Replica.{put_rows, put_containers, listing_of, listed, after_page};
-ghost use Rattle.cds_replica.specs.Holding.{held_in, listing_in, GivesBack, with_part};
+ghost use Rattle.std.specs.Prelude.{◌≡◌, ℕ, ◌+◌, ◌^◌, ◌<◌, ◌≤◌, ◌∷◌, ◌++◌, [], false, nat_eq, length, drop, OnOk, IfOk, IfErr, vec_len, vec_capacity};
+ghost use Rattle.cds_model.specs.Replica.{Lists, put_rows, put_containers, listing_of, listed, listed_children, after_page};
+ghost use Rattle.cds_replica.specs.Ended.{is_end};
+ghost use Rattle.cds_replica.specs.Holding.{listing_in, GivesBack, with_part};
+ghost use Rattle.cds_replica.specs.Phases.{ends_load};
 
 use crate::listing::{Container, Listing};
 use crate::order::put;
-use crate::stage::Stage;
 use cds_object::Row;
 use std::alloc::{AllocError, Global};
 
@@ -30,23 +31,32 @@ impl Listing {
         })
     }
 
-    /// What a page that fits leads to, the copy where no container waits any more. Without memory both come back.
-    pub fn with_page(
-        self,
-        alloc: Global,
-        number: u32,
-        page: Vec<Row>,
-    ) -> Result<Stage, (Listing, Vec<Row>)>
-        requires { length self.part.items + length page.items < 2 ^ 32 }
-        ensures ok { IfOk result (λ stage. held_in stage ≡ after_page number (listing_in self) page.items) }
+    /// What a page that fits leads to, where it does not end the load. Without memory both come back.
+    pub fn with_page(self, alloc: Global, page: Vec<Row>) -> Result<Listing, (Listing, Vec<Row>)>
+        requires short { length self.part.items + length page.items < 2 ^ 32 }
+        requires goes_on { ends_load (listing_in self) page.items ≡ false }
+        ensures ok { IfOk result (λ listing. (number : ℕ) → after_page number (listing_in self) page.items ≡ Lists number (listing_in listing)) }
         ensures err { IfErr result (λ back. GivesBack self page back) }
     {
-        if self.part.len() + page.len() == self.children() as usize {
-            self.with_last_page(alloc, number, page)
+        if self.is_last(page.as_slice()) {
+            self.with_last_page(alloc, page)
         } else {
-            let listing = self.with_more(page)?;
-            Ok(Stage::Lists { number, listing })
+            self.with_more(page)
         }
+    }
+
+    /// Whether a page is its container's last.
+    fn is_last(&self, page: &[Row]) -> bool
+        ensures { result ≡ nat_eq (length (self.now.part.items ++ page.now)) (listed_children (listing_in self.now)) }
+    {
+        self.part.len() + page.len() == self.children() as usize
+    }
+
+    /// Whether a page ends the load.
+    pub fn ends_load(&self, page: &[Row]) -> bool
+        ensures { result ≡ ends_load (listing_in self.now) page.now }
+    {
+        self.is_last(page) && self.ends_with(page)
     }
 
     /// The listing with a page that is not the container's last.
@@ -72,15 +82,15 @@ impl Listing {
         }
     }
 
-    /// What the last page of a container leads to.
+    /// The listing after the last page of a container, where another one waits.
     fn with_last_page(
         self,
         alloc: Global,
-        number: u32,
         mut page: Vec<Row>,
-    ) -> Result<Stage, (Listing, Vec<Row>)>
-        requires { length self.part.items + length page.items < 2 ^ 32 }
-        ensures ok { IfOk result (λ stage. held_in stage ≡ listed number (put_rows (self.part.items ++ page.items) self.rows.items) (put_containers (self.part.items ++ page.items) (drop 1 self.waiting.items))) }
+    ) -> Result<Listing, (Listing, Vec<Row>)>
+        requires short { length self.part.items + length page.items < 2 ^ 32 }
+        requires goes_on { is_end (listing_in self) page.items ≡ false }
+        ensures ok { IfOk result (λ listing. (number : ℕ) → listed number (put_rows (self.part.items ++ page.items) self.rows.items) (put_containers (self.part.items ++ page.items) (drop 1 self.waiting.items)) ≡ Lists number (listing_in listing)) }
         ensures err { IfErr result (λ back. GivesBack self page back) }
     {
         let Listing {
@@ -99,7 +109,12 @@ impl Listing {
         }
         drop_first(&mut waiting);
         put_objects(&mut rows, &mut waiting, part);
-        Ok(after_listing(alloc, number, rows, waiting))
+        let part = Vec::new(alloc);
+        Ok(Listing {
+            rows,
+            waiting,
+            part,
+        })
     }
 }
 
@@ -153,20 +168,4 @@ fn drop_first(waiting: &mut Vec<Container>)
     if !waiting.is_empty() {
         let _listed = waiting.remove(0);
     }
-}
-
-/// The stage after a whole listing: the copy where no container waits.
-fn after_listing(alloc: Global, number: u32, rows: Vec<Row>, waiting: Vec<Container>) -> Stage
-    ensures { held_in result ≡ listed number rows.items waiting.items }
-{
-    if waiting.is_empty() {
-        return Stage::HasCopy { number, rows };
-    }
-    let part = Vec::new(alloc);
-    let listing = Listing {
-        rows,
-        waiting,
-        part,
-    };
-    Stage::Lists { number, listing }
 }

@@ -1,13 +1,14 @@
 //! Which notes are taken and which are held, with no copy in it (this project's profile, over UPnP Device Architecture 2.0
 //! on event keys).
 
-ghost use Rattle.std.specs.Prelude.{◌≡◌, ◌^◌, ◌<◌, ◌&&◌, ◌||◌, [], ◌∷◌, cond, not, nat_lt, nat_le, IsTrue, IfOk, OnOk, OnErr};
+ghost use Rattle.std.specs.Prelude.{◌≡◌, ◌^◌, ◌<◌, ◌≤◌, ◌&&◌, ◌||◌, [], ◌∷◌, cond, filter, not, nat_eq, nat_lt, nat_le, IsTrue, IfOk, OnOk, OnErr, option_copied};
 ghost use Rattle.std.specs.List.{list_any};
 ghost use Rattle.cds_notes.specs.Inbox.{has_seq, is_same_note, held_limit, missing_of, IsEarly, IsHeld, IsNext};
 ghost use Rattle.cds_notes.specs.Follow.{is_drop};
 ghost use Rattle.cds_replica.specs.Arrivals.{arrival_of};
-ghost use Rattle.cds_replica.specs.Inboxed.{inbox_of, accepts, repeats, follows, held_count, arrival_in, of_name, behind, with_request, with_refusal, with_name, with_early, with_waiting, with_next, followers, taken_early};
-ghost use Rattle.cds_replica.specs.Telling.{nothing_told, tells};
+ghost use Rattle.cds_replica.specs.Copied.{AreAbove};
+ghost use Rattle.cds_replica.specs.Inboxed.{IsInbox, inbox_of, accepts, repeats, follows, held_count, arrival_in, run_after, with_request, with_refusal, with_name, with_early, with_waiting, with_next, followers, taken_early};
+ghost use Rattle.cds_replica.specs.Telling.{nothing_told, tells, drops_first};
 
 use crate::note::{Note, Sid};
 use crate::telling::{Telling, note_of, run_end};
@@ -198,14 +199,38 @@ impl Inbox {
         heard: u32,
     ) -> Result<Telling, AllocError>
         requires { IsTrue (follows note.now self.now) }
-        ensures { IfOk result (λ told. told ≡ tells (note.now ∷ followers self.now) (nothing_told position heard)) }
+        ensures told { IfOk result (λ told. told ≡ tells (note.now ∷ followers self.now) (nothing_told position heard)) }
+        ensures above { IfOk result (λ told. AreAbove position told.changes) }
     {
-        let from = u64::from(note.seq) + 1;
-        let to = run_end(&self.waiting, note.sid, from);
+        let to = self.run_after(note);
         let mut told = Telling::new(alloc, position, heard);
         told.add(note)?;
-        told.add_run(&self.waiting, note.sid, from, to)?;
+        told.add_run(self.waiting(), note.name(), note.next_seq(), to)?;
         Ok(told)
+    }
+
+    /// The notes that wait.
+    fn waiting(&self) -> &[Note]
+        ensures waiting { result.now ≡ self.now.waiting }
+        ensures facts { IsInbox self.now }
+    {
+        self.waiting.as_slice()
+    }
+
+    /// The early notes.
+    fn early(&self) -> &[Note]
+        ensures { result.now ≡ self.now.early }
+    {
+        self.early.as_slice()
+    }
+
+    /// The SEQ after the next note and those that follow it.
+    fn run_after(&self, note: &Note) -> u64
+        requires { IsTrue (follows note.now self.now) }
+        ensures after { result ≡ run_after self.now }
+        ensures within { result ≤ 2 ^ 32 }
+    {
+        run_end(self.waiting(), note.name(), note.next_seq())
     }
 
     /// What the early notes of a name tell that are taken where it is accepted.
@@ -216,11 +241,12 @@ impl Inbox {
         position: u32,
         heard: u32,
     ) -> Result<Telling, AllocError>
-        ensures { IfOk result (λ told. told ≡ tells (taken_early sid.0 self.now) (nothing_told position heard)) }
+        ensures told { IfOk result (λ told. told ≡ tells (taken_early sid.0 self.now) (nothing_told position heard)) }
+        ensures above { IfOk result (λ told. AreAbove position told.changes) }
     {
-        let to = run_end(&self.early, sid, 0);
+        let to = run_end(self.early(), sid, 0);
         let mut told = Telling::new(alloc, position, heard);
-        told.add_run(&self.early, sid, 0, to)?;
+        told.add_run(self.early(), sid, 0, to)?;
         Ok(told)
     }
 
@@ -228,10 +254,7 @@ impl Inbox {
     pub fn drops_early(&self, sid: Sid, position: u32) -> bool
         ensures { result ≡ is_drop position (taken_early sid.0 self.now) }
     {
-        match note_of(&self.early, sid, 0) {
-            Some(note) => position < note.number,
-            None => false,
-        }
+        drops(note_of(self.early(), sid, 0), position)
     }
 
     /// A subscribe request goes out.
@@ -254,10 +277,11 @@ impl Inbox {
     pub fn accept(&mut self, sid: Sid)
         ensures { self.new ≡ with_name sid.0 self.old }
     {
-        self.next = run_end(&self.early, sid, 0);
+        let next = run_end(self.early(), sid, 0);
         self.accepted = Some(sid);
         self.out = false;
-        keep_behind(&mut self.early, sid, self.next);
+        self.next = next;
+        keep_behind(&mut self.early, sid, next);
         self.waiting.clear();
         mem::swap(&mut self.waiting, &mut self.early);
     }
@@ -289,16 +313,35 @@ impl Inbox {
         requires { IsTrue (follows note.now self.old) }
         ensures { self.new ≡ with_next self.old }
     {
-        self.next = run_end(&self.waiting, note.sid, u64::from(note.seq) + 1);
-        keep_behind(&mut self.waiting, note.sid, self.next);
+        let next = self.run_after(note);
+        self.next = next;
+        keep_behind(&mut self.waiting, note.name(), next);
     }
+}
+
+/// Whether a first note drops the copy at a position.
+fn drops(note: Option<&Note>, position: u32) -> bool
+    ensures { result ≡ drops_first position (option_copied note.entry) }
+{
+    match note {
+        Some(note) => position < note.number,
+        None => false,
+    }
+}
+
+/// Whether a note is one of this name behind a SEQ.
+fn is_behind(note: &Note, name: u128, next: u64) -> bool
+    ensures { result ≡ (nat_eq note.now.name name && nat_lt next note.now.seq) }
+{
+    note.sid.0 == name && next < u64::from(note.seq)
 }
 
 /// Keeps the notes of a name behind a SEQ.
 fn keep_behind(notes: &mut Vec<Note>, sid: Sid, next: u64)
-    ensures { notes.new.items ≡ behind next (of_name sid.0 notes.old.items) }
+    ensures { notes.new.items ≡ filter (λ note. nat_eq note.name sid.0 && nat_lt next note.seq) notes.old.items }
 {
-    notes.retain(|note| note.is_of(sid) && note.is_behind(next));
+    let name = sid.0;
+    notes.retain(|note| is_behind(note, name, next));
 }
 
 /// Whether one of these notes has this SEQ.

@@ -12,24 +12,29 @@ mod ending;
 mod error;
 mod growing;
 mod inbox;
+mod knowledge;
 mod listing;
+mod load_laws;
 mod note;
 mod notify_error;
 mod order;
 mod outline;
+mod phase;
 mod replica;
 mod stage;
 mod taking;
 mod telling;
 
-pub use cds_model::{Ask, Read, Says, Shown};
+pub use cds_model::{Ask, Read, Shown};
+pub use cds_notes::Says;
 pub use copy::CatalogCopy;
 pub use copy_row::CopyRow;
 pub use count_error::CountError;
 pub use error::AnswerError;
+pub use load_laws::{copied_rows_were_shown, held_is_of_loads};
 pub use note::{Note, Sid, Taken};
 pub use notify_error::NotifyError;
 pub use replica::Replica;
 
 #[cfg(test)]
-mod tests;
+mod copy_tests;

@@ -1,6 +1,6 @@
 //! Notes of a subscription, and what becomes of them.
 
-ghost use Rattle.std.specs.Prelude.{◌≡◌, nat_eq, nat_lt};
+ghost use Rattle.std.specs.Prelude.{◌≡◌, ◌+◌, ◌^◌, ◌≤◌, ◌&&◌, nat_eq, nat_lt};
 ghost use Rattle.cds_notes.specs.Inbox.{is_same_note};
 
 use cds_event::Events;
@@ -28,6 +28,28 @@ impl Model for Note {
 }
 
 impl Note {
+    /// Its name.
+    pub fn name(&self) -> Sid
+        ensures { result.0 ≡ self.now.name }
+    {
+        self.sid
+    }
+
+    /// The SEQ after its own.
+    pub fn next_seq(&self) -> u64
+        ensures next { result ≡ self.now.seq + 1 }
+        ensures within { result ≤ 2 ^ 32 }
+    {
+        u64::from(self.seq) + 1
+    }
+
+    /// Whether it is a first note above a position, which drops the copy.
+    pub fn drops(&self, position: u32) -> bool
+        ensures { result ≡ (nat_eq self.now.seq 0 && nat_lt position self.now.number) }
+    {
+        self.seq == 0 && position < self.number
+    }
+
     /// Whether it is one of this name.
     pub fn is_of(&self, sid: Sid) -> bool
         ensures { result ≡ nat_eq self.now.name sid.0 }
@@ -42,11 +64,11 @@ impl Note {
         u64::from(self.seq) == seq
     }
 
-    /// Whether its SEQ is above another.
-    pub fn is_behind(&self, next: u64) -> bool
-        ensures { result ≡ nat_lt next self.now.seq }
+    /// Whether it is one of this name with this SEQ.
+    pub fn is_at(&self, sid: Sid, seq: u64) -> bool
+        ensures { result ≡ (nat_eq self.now.name sid.0 && nat_eq self.now.seq seq) }
     {
-        next < u64::from(self.seq)
+        self.is_of(sid) && self.has_seq(seq)
     }
 
     /// Whether it has the name and the SEQ of another.

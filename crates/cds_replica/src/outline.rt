@@ -42,7 +42,9 @@ fn has_object(outlines: &[Outline], id: u32) -> bool
 fn has_container(outlines: &[Outline], id: u32) -> bool
     ensures { result ≡ has_container id outlines.now }
 {
-    outlines.iter().any(|outline| outline.id == id && outline.folder)
+    outlines
+        .iter()
+        .any(|outline| outline.id == id && outline.folder)
 }
 
 /// Whether the parent of an object is this one.
@@ -120,7 +122,10 @@ fn change(outlines: &mut Vec<Outline>, event: &Event) -> Result<(), Mem>
 {
     match *event {
         Event::ObjAdd {
-            id, parent, class, ..
+            id,
+            parent,
+            class,
+            ..
         } => put_outline(
             outlines,
             Outline {

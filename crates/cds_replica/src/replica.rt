@@ -1,118 +1,219 @@
-ghost use Rattle.std.specs.Prelude.{◌≡◌, [], List, ◌∷◌, IsOk, IfOk, IfSome, IsSome, option_copied, slice_get};
-ghost use Rattle.std.specs.List.{AllByRecursion};
-ghost use Rattle.std.specs.Option.{option_and_then};
-ghost use Rattle.cds_model.specs.Replica.{next_ask, taken, says, copied, held_by, Begun, ReplicaTurn, Begins, Shows};
-ghost use Rattle.cds_model.specs.Attempts.{attempt_of, ask_in, says_by, copied_by, verdict_by, ShowsRows};
-ghost use Rattle.cds_model.specs.Seen.{WasShown};
-ghost use Rattle.cds_replica.specs.Answer.{IsOutcome, IsVerdict, UnlessMem, GoesOn, read_of};
-ghost use Rattle.cds_replica.specs.Honest.{BeginsGiven, TakesGiven, TakesOfScans, SaysGiven, SaysScanEnd};
+ghost use Rattle.std.specs.Prelude.{◌≡◌, [], List, ◌∷◌, IsOk, IfOk, IsSome, IsTrue, OnErr, option_copied, slice_get};
+ghost use Rattle.cds_notes.specs.Inbox.{ReplicaTurn, Begins, Shows, Requests, Accepts, Refuses, Delivers, arrival, taken_by};
+ghost use Rattle.cds_notes.specs.Follow.{known_by, next_ask, says, copied, with_notes, with_reply};
+ghost use Rattle.cds_replica.specs.Answer.{read_of};
+ghost use Rattle.cds_replica.specs.Called.{GoesOn, TakesTurn, IsNotice, IsAcceptance, IsAnswer, UnlessFull, UnlessMem, IsTaking, IsDelivered, of_notes, refusal_of};
+ghost use Rattle.cds_replica.specs.Inboxed.{arrival_in, follows, followers, taken_early, with_name, with_next};
+ghost use Rattle.cds_replica.specs.Keeping.{phase_ask, kept_says};
+ghost use Rattle.cds_replica.specs.Kept.{StandsFor};
 
-use crate::AnswerError;
-use crate::stage::Stage;
+use crate::inbox::{Arrival, Inbox};
+use crate::knowledge::Knowledge;
+use crate::note::{Note, Sid, Taken};
+use crate::{AnswerError, CountError, NotifyError};
 use cds_base::Mem;
-use cds_model::{Ask, Read, Says, Shown};
+use cds_model::{Ask, Read, Shown};
+use cds_notes::Says;
 use cds_object::Row;
 use std::alloc::Global;
 use std::marker::Model;
-use std::mem;
 
-/// A copy of a server's catalog, or the load that is to give one. It stands for the replies that it took, though it
-/// keeps none of them.
+/// A copy of a server's catalog that goes on with the notes of a subscription, or the load that is to give one. It stands for
+/// the turns that it took, the newest first, though it keeps none of them: a load that was begun, a reply, a subscribe
+/// request, its answer, a note. A turn that is refused is none.
 #[derive(Drop, Debug)]
 pub struct Replica {
-    stage: Stage,
+    known: Knowledge,
+    inbox: Inbox,
 }
 
 impl Model for Replica {
-    ghost use Rattle.cds_model.specs.Replica.{Held};
+    ghost use Rattle.cds_replica.specs.Kept.{Kept};
 
-    ghost Value = { Held };
+    ghost Value = { Kept };
 
-    ghost use Rattle.cds_replica.specs.Holding.{held_in};
-
-    ghost view = { λ r. held_in r.stage };
+    ghost view = { λ r. record { known = r.known; inbox = r.inbox } };
 }
 
 impl Replica {
-    /// A replica without a copy, which takes no memory.
-    pub fn new() -> Replica
-        ensures { result ≡ held_by [] }
+    /// A replica without a copy and without a subscription, which takes no memory.
+    pub fn new(alloc: Global) -> Replica
+        ensures { StandsFor result [] }
     {
-        Replica { stage: Stage::Idle }
+        Replica {
+            known: Knowledge::new(alloc),
+            inbox: Inbox::new(alloc),
+        }
     }
 
     /// Drops the copy and begins a load.
     pub fn begin_load(&mut self) -> Result<(), Mem>
         ensures ok { IsOk result }
-        ensures after { self.new ≡ Begun }
-        ensures begins { (turns : List ReplicaTurn) → self.old ≡ held_by turns → self.new ≡ held_by (Begins ∷ turns) }
-        ensures given { BeginsGiven self.old self.new }
+        ensures stands { GoesOn self.old Begins self.new }
     {
-        self.stage = Stage::Begun;
+        self.known.begin_load();
         Ok(())
     }
 
-    /// The load's next read, `None` where no load runs: the one that the attempt under way asks for, whatever server
-    /// replied.
+    /// A subscribe request goes out. The early notes of the request before it are dropped.
+    pub fn subscribing(&mut self) -> Result<(), Mem>
+        ensures ok { IsOk result }
+        ensures stands { GoesOn self.old Requests self.new }
+    {
+        self.inbox.request();
+        Ok(())
+    }
+
+    /// The request was refused. Its early notes are dropped, and the subscription from before stays.
+    pub fn not_subscribed(&mut self)
+        ensures stands { GoesOn self.old Refuses self.new }
+    {
+        self.inbox.refuse();
+    }
+
+    /// Whether a subscribe request is out.
+    pub fn is_subscribing(&self) -> bool
+        ensures { result ≡ self.now.inbox.out }
+    {
+        self.inbox.is_out()
+    }
+
+    /// The request was answered with a name, condition: it is out. The notes that are held for the name from before are
+    /// dropped; of the early notes those of the new name are taken or held, and the others dropped. `Jump` and `Torn` come
+    /// as in `notify`, and then nothing changes.
+    pub fn subscribed(&mut self, alloc: Global, sid: Sid) -> Result<(), NotifyError>
+        requires { IsTrue self.old.inbox.out }
+        ensures unchanged { OnErr result (self.new ≡ self.old) }
+        ensures stands { UnlessFull result (TakesTurn self.old (Accepts sid.0) self.new) }
+        ensures answer { (turns : List ReplicaTurn) → StandsFor self.old turns → IsAcceptance (with_notes (taken_by (Accepts sid.0) turns) (known_by turns)) result }
+    {
+        self.take_early(alloc, sid)
+    }
+
+    /// Takes the early notes of a name.
+    fn take_early(&mut self, alloc: Global, sid: Sid) -> Result<(), NotifyError>
+        ensures { IsTaking (of_notes (taken_early sid.0 self.old.inbox) self.old.known) self.old (with_name sid.0 self.old.inbox) self.new result }
+    {
+        let position = self.known.position();
+        let drops = self.inbox.drops_early(sid, position);
+        let told = self
+            .inbox
+            .told_early(alloc, sid, position, self.known.heard())?;
+        match self.known.hear(alloc, drops, told) {
+            Ok(()) => {}
+            Err(refusal) => return Err(refusal_of(refusal)),
+        }
+        self.inbox.accept(sid);
+        Ok(())
+    }
+
+    /// Takes or holds a note, or refuses it, and then it counts as not delivered. What becomes of it is decided in this
+    /// order. `Unknown`: its name is not the accepted one, and no subscribe request is out. `Repeat`: it came before. `Full`:
+    /// it cannot be taken now, and 64 notes are held. `Early`: its name is not the accepted one. `Held`: a SEQ before it is
+    /// missing. Else it and the held notes that follow it without a hole are to be taken. `Jump`: the first change above the
+    /// position is not the one after it. `Torn`: a change names an object or a parent that it cannot. Else they are taken: a
+    /// first note above the position drops the copy and begins a load; each change above the position is counted once, or
+    /// kept for the load's end. All is decided, and all memory taken, before anything changes.
+    pub fn notify(&mut self, alloc: Global, note: Note) -> Result<Taken, NotifyError>
+        ensures unchanged { OnErr result (self.new ≡ self.old) }
+        ensures stands { UnlessFull result (TakesTurn self.old (Delivers note) self.new) }
+        ensures answer { (turns : List ReplicaTurn) → StandsFor self.old turns → IsNotice (arrival note turns) (with_notes (taken_by (Delivers note) turns) (known_by turns)) result }
+    {
+        self.deliver(alloc, note)
+    }
+
+    /// Takes or holds a note, or refuses it.
+    fn deliver(&mut self, alloc: Global, note: Note) -> Result<Taken, NotifyError>
+        ensures { IsDelivered (arrival_in note self.old.inbox) note self.old self.new result }
+    {
+        match self.inbox.arrival(&note) {
+            Arrival::Unknown => Err(NotifyError::Unknown),
+            Arrival::Repeat => Ok(Taken::Repeat),
+            Arrival::Full { held } => Err(NotifyError::Full { held }),
+            Arrival::Early => {
+                self.inbox.hold_early(note)?;
+                Ok(Taken::Early)
+            }
+            Arrival::Held { missing } => {
+                self.inbox.hold(note)?;
+                Ok(Taken::Held { missing })
+            }
+            Arrival::Next => {
+                self.take_note(alloc, &note)?;
+                Ok(Taken::Took)
+            }
+        }
+    }
+
+    /// Takes the next note and those that follow it.
+    fn take_note(&mut self, alloc: Global, note: &Note) -> Result<(), NotifyError>
+        requires { IsTrue (follows note.now self.old.inbox) }
+        ensures { IsTaking (of_notes (note.now ∷ followers self.old.inbox) self.old.known) self.old (with_next self.old.inbox) self.new result }
+    {
+        let position = self.known.position();
+        let told = self
+            .inbox
+            .told_by(alloc, note, position, self.known.heard())?;
+        match self.known.hear(alloc, note.drops(position), told) {
+            Ok(()) => {}
+            Err(refusal) => return Err(refusal_of(refusal)),
+        }
+        self.inbox.take(note);
+        Ok(())
+    }
+
+    /// The next read: that of the load, or else the own row of the unread object of the least id; `None` exactly where no
+    /// load runs and nothing is unread.
     pub fn next_ask(&self) -> Option<Ask>
-        ensures next { result ≡ next_ask self.now }
-        ensures attempt { (turns : List ReplicaTurn) → ShowsRows turns → self.now ≡ held_by turns → result ≡ option_and_then ask_in (attempt_of turns) }
+        ensures kept { result ≡ phase_ask self.now.known.phase }
+        ensures next { (turns : List ReplicaTurn) → StandsFor self.now turns → result ≡ next_ask (known_by turns) }
     {
-        cds_model::asks_are_of_attempts();
-        self.stage.next_ask()
+        self.known.next_ask()
     }
 
-    /// Takes the reply to the next ask, condition: there is one. A refusal leaves the replica as it was. `Unreadable`
-    /// comes where the reply is of another kind than the ask, or is not one row where an object's row was asked; `Torn`
-    /// where the row of the root is another's or no container's, or where the number stayed and the page before it was
-    /// refused or does not go on with the container's children: exactly by the attempt under way, whatever server
-    /// replied. The reply of an honest server is never refused, and a server with a history of scans is one.
+    /// Takes the reply to the next ask, condition: there is one. A refusal leaves the replica as it was. `Unreadable` comes
+    /// where the reply is of another kind than the ask, or is not one row where an object's row was asked. `Torn` comes where
+    /// the row of the root is another's or no container's; where the number stayed and the page before it was refused or does
+    /// not go on with the container's children; and where an object's own row is another's, or of another kind. `Jump` and
+    /// `Torn` come besides at the end of a load as in `notify`, of the changes that notes told meanwhile.
     pub fn take(&mut self, alloc: Global, shown: Shown) -> Result<Read, AnswerError>
-        requires { IsSome (next_ask self.old) }
-        ensures outcome { IsOutcome (taken self.old shown) self.old self.new result }
+        requires { IsSome (phase_ask self.old.known.phase) }
+        ensures unchanged { OnErr result (self.new ≡ self.old) }
+        ensures stands { UnlessMem result (TakesTurn self.old (Shows shown) self.new) }
+        ensures answer { (turns : List ReplicaTurn) → StandsFor self.old turns → IsAnswer (with_reply (known_by turns) (known_by turns).held shown) result }
         ensures read { IfOk result (λ read. read ≡ read_of shown) }
-        ensures goes_on { UnlessMem result (GoesOn self.old shown self.new) }
-        ensures given { TakesGiven self.old shown self.new result }
-        ensures of_scans { TakesOfScans self.old shown self.new result }
-        ensures attempt { (turns : List ReplicaTurn) → ShowsRows (Shows shown ∷ turns) → self.old ≡ held_by turns → IsVerdict (verdict_by (attempt_of turns) shown) result }
     {
-        cds_model::refusals_are_of_attempts();
-        let stage = mem::replace(&mut self.stage, Stage::Idle);
-        let (stage, answer) = stage.take(alloc, shown);
-        self.stage = stage;
-        answer
+        self.known.take(alloc, shown)
     }
 
-    /// What is known of the server's catalog: a copy stands exactly where the attempt is complete, whatever server
-    /// replied. Where all replies were an honest server's, it has the rows that stood at its number; where they were those
-    /// of a server with a history of scans, its number is a scan end, and its rows are the catalog at it.
+    /// What is known of the server's catalog, in this order: a SEQ is missing; no copy stands; an object is unread; an object
+    /// was read as it was after a change that no note has told yet; or the copy stands at the position.
     pub fn says(&self) -> Says
-        ensures known { result ≡ says self.now }
-        ensures given { SaysGiven self.now result }
-        ensures scan_end { SaysScanEnd self.now result }
-        ensures attempt { (turns : List ReplicaTurn) → ShowsRows turns → self.now ≡ held_by turns → result ≡ says_by (attempt_of turns) }
+        ensures kept { result ≡ kept_says self.now }
+        ensures says { (turns : List ReplicaTurn) → StandsFor self.now turns → result ≡ says turns }
     {
-        cds_model::answers_are_of_attempts();
-        self.stage.says()
+        match self.inbox.missing() {
+            Some(missing) => Says::Gap { missing },
+            None => self.known.says(),
+        }
     }
 
-    /// The row of the copy at a place counted from 0, in ascending order of ids; `None` past the end and where no copy
-    /// stands. A reply showed its id, content and objectUpdateID, whatever server replied.
+    /// The row at a place among those of the copy of which it is known what they say, counted from 0, in ascending order of
+    /// ids; `None` past the end and where no copy stands. It takes a walk over the rows.
     pub fn rows(&self, at: usize) -> Option<&Row>
-        ensures row { option_copied result ≡ slice_get (copied self.now) at }
-        ensures shown { (turns : List ReplicaTurn) → self.now ≡ held_by turns → IfSome result (λ row. WasShown row.now turns) }
+        ensures row { (turns : List ReplicaTurn) → StandsFor self.now turns → option_copied result ≡ slice_get (copied (known_by turns)) at }
     {
-        self.stage.copied().get(at)
+        self.known.row(at)
     }
+}
 
-    /// The rows of the copy, in ascending order of ids; none where no copy stands. They are the rows that the complete
-    /// attempt showed, and a reply showed the id, the content and the objectUpdateID of each, whatever server replied.
-    pub fn copy(&self) -> &[Row]
-        ensures rows { result.now ≡ copied self.now }
-        ensures attempt { (turns : List ReplicaTurn) → ShowsRows turns → self.now ≡ held_by turns → result.now ≡ copied_by (attempt_of turns) }
-        ensures shown { (turns : List ReplicaTurn) → self.now ≡ held_by turns → AllByRecursion (λ row. WasShown row turns) result.now }
-    {
-        cds_model::copies_are_of_attempts();
-        self.stage.copied()
+/// The answer to a note whose changes cannot be counted.
+fn refusal_of(refusal: CountError) -> NotifyError
+    ensures { result ≡ refusal_of refusal }
+{
+    match refusal {
+        CountError::Jump { expected, first } => NotifyError::Jump { expected, first },
+        CountError::Torn { id } => NotifyError::Torn { id },
+        CountError::Mem => NotifyError::Mem,
     }
 }

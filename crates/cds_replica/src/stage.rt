@@ -1,11 +1,11 @@
-//! The stages of a load, and what each reply leads to.
+//! The stages of a load.
 
 ghost use Rattle.std.specs.Prelude.{◌≡◌};
-ghost use Rattle.cds_model.specs.Replica.{next_ask, says, copied};
+ghost use Rattle.cds_model.specs.Replica.{next_ask};
 ghost use Rattle.cds_replica.specs.Holding.{held_in};
 
 use crate::listing::Listing;
-use cds_model::{Ask, Says};
+use cds_model::Ask;
 use cds_object::{Row, Rows};
 
 /// How far a load has come.
@@ -32,19 +32,15 @@ pub enum Stage {
         listing: Listing,
         page: Option<Rows>,
     },
-    /// The copy stands.
-    HasCopy {
-        number: u32,
-        rows: Vec<Row>,
-    },
 }
 
 impl Stage {
+    /// The next read.
     pub fn next_ask(&self) -> Option<Ask>
         ensures { result ≡ next_ask (held_in self.now) }
     {
         match self {
-            Stage::Idle | Stage::HasCopy { .. } => None,
+            Stage::Idle => None,
             Stage::Begun => Some(Ask::Token),
             Stage::HasNumber(_) => Some(Ask::Metadata { id: 0 }),
             Stage::Lists { listing, .. } => Some(Ask::Children {
@@ -52,24 +48,6 @@ impl Stage {
                 start: listing.start(),
             }),
             Stage::HasToken | Stage::HasRoot { .. } | Stage::HasPage { .. } => Some(Ask::Number),
-        }
-    }
-
-    pub fn says(&self) -> Says
-        ensures { result ≡ says (held_in self.now) }
-    {
-        match self {
-            Stage::HasCopy { number, .. } => Says::Stands { at: *number },
-            _ => Says::BehindLoad,
-        }
-    }
-
-    pub fn copied(&self) -> &[Row]
-        ensures { result.now ≡ copied (held_in self.now) }
-    {
-        match self {
-            Stage::HasCopy { rows, .. } => rows.as_slice(),
-            _ => &[],
         }
     }
 }

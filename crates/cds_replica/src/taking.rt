@@ -1,47 +1,60 @@
 //! What each reply leads to, stage by stage. Each step takes the stage's parts and hands them back where it refuses.
 
-ghost use Rattle.std.specs.Prelude.{◌≡◌, ◌+◌, ◌<◌, ◌^◌, ◌&&◌, nat_eq, length, IfOk, IfErr};
+ghost use Rattle.std.specs.Prelude.{◌≡◌, ◌+◌, ◌<◌, ◌^◌, ◌&&◌, List, true, false, nat_eq, length, IfOk};
 ghost use Rattle.cds_object.specs.Object.{is_folder};
-ghost use Rattle.cds_model.specs.Replica.{Begun as HoldsBegun, HasToken as HoldsToken, HasNumber as HoldsNumber, HasRoot as HoldsRoot, Lists as HoldsListing, HasPage as HoldsPage, Holds, taken, page_taken, after_page};
-ghost use Rattle.cds_replica.specs.Holding.{held_in, listing_in};
+ghost use Rattle.cds_event.specs.declared.Event.{Event};
+ghost use Rattle.cds_model.specs.Replica.{Held, Taken, Begun as HoldsBegun, HasToken as HoldsToken, HasNumber as HoldsNumber, HasRoot as HoldsRoot, Lists as HoldsListing, HasPage as HoldsPage, Holds, taken, page_taken, after_page};
 ghost use Rattle.cds_replica.specs.Answer.{IsOutcome, read_of, only};
+ghost use Rattle.cds_replica.specs.Holding.{held_in, listing_in};
+ghost use Rattle.cds_replica.specs.Keeping.{IsStep, load_takes, leads_to};
+ghost use Rattle.cds_replica.specs.Kept.{Loads};
+ghost use Rattle.cds_replica.specs.Phases.{phase_in, ends_load, answer_of};
 
-use crate::AnswerError;
 use crate::listing::Listing;
+use crate::phase::Phase;
 use crate::stage::Stage;
+use crate::{AnswerError, CountError};
+use cds_event::Event;
 use cds_model::{Read, Shown};
 use cds_object::{Row, Rows};
 use std::alloc::Global;
 
 /// The stage that follows, and the answer.
-pub type Step = (Stage, Result<Read, AnswerError>);
+type Step = (Stage, Result<Read, AnswerError>);
+
+/// The phase that follows, and the answer.
+pub type PhaseStep = (Phase, Result<Read, AnswerError>);
 
 impl Stage {
-    /// What a reply leads to.
-    pub fn take(self, alloc: Global, shown: Shown) -> Step
-        ensures outcome { IsOutcome (taken (held_in self) shown) (held_in self) (held_in result.0) result.1 }
+    /// What a reply leads to, with the changes that were kept for the load's end.
+    pub fn take(self, alloc: Global, changes: &[Event], shown: Shown) -> PhaseStep
+        ensures outcome { IsStep (load_takes changes.now (taken (held_in self) shown)) (Loads (held_in self)) (phase_in result.0) result.1 }
         ensures read { IfOk result.1 (λ read. read ≡ read_of shown) }
     {
         match self {
-            Stage::Idle => (Stage::Idle, Err(AnswerError::Unreadable)),
-            Stage::Begun => take_token(shown),
-            Stage::HasToken => take_number(shown),
-            Stage::HasNumber(number) => take_root(number, shown),
-            Stage::HasRoot { number, root } => take_number_after_root(alloc, number, root, shown),
-            Stage::Lists { number, listing } => take_page(number, listing, shown),
+            Stage::Idle => goes_on((Stage::Idle, Err(AnswerError::Unreadable))),
+            Stage::Begun => goes_on(take_token(shown)),
+            Stage::HasToken => goes_on(take_number(shown)),
+            Stage::HasNumber(number) => goes_on(take_root(number, shown)),
+            Stage::HasRoot { number, root } => {
+                goes_on(take_number_after_root(alloc, number, root, shown))
+            }
+            Stage::Lists { number, listing } => goes_on(take_page(number, listing, shown)),
             Stage::HasPage {
                 number,
                 listing,
                 page,
-            } => take_number_after_page(alloc, number, listing, page, shown),
-            Stage::HasCopy { number, rows } => {
-                (
-                    Stage::HasCopy { number, rows },
-                    Err(AnswerError::Unreadable),
-                )
-            }
+            } => take_number_after_page(alloc, number, listing, page, changes, shown),
         }
     }
+}
+
+/// A load goes on.
+fn goes_on(step: Step) -> PhaseStep
+    ensures step { (becomes : Taken) (old : Held) (changes : List Event) → IsOutcome becomes old (held_in step.0) step.1 → IsStep (load_takes changes becomes) (Loads old) (phase_in result.0) result.1 }
+    ensures read { (shown : Read) → IfOk step.1 (λ read. read ≡ shown) → IfOk result.1 (λ read. read ≡ shown) }
+{
+    (Phase::Load(step.0), step.1)
 }
 
 fn take_token(shown: Shown) -> Step
@@ -84,7 +97,7 @@ fn take_root(number: u32, shown: Shown) -> Step
 }
 
 /// The row, where there is only one.
-fn only_row(rows: Rows) -> Option<Row>
+pub fn only_row(rows: Rows) -> Option<Row>
     ensures { result ≡ only rows }
 {
     let mut rows = rows.into_vec();
@@ -156,42 +169,54 @@ fn take_number_after_page(
     number: u32,
     listing: Listing,
     page: Option<Rows>,
+    changes: &[Event],
     shown: Shown,
-) -> Step
-    ensures outcome { IsOutcome (taken (HoldsPage number (listing_in listing) page) shown) (HoldsPage number (listing_in listing) page) (held_in result.0) result.1 }
+) -> PhaseStep
+    ensures outcome { IsStep (load_takes changes.now (taken (HoldsPage number (listing_in listing) page) shown)) (Loads (HoldsPage number (listing_in listing) page)) (phase_in result.0) result.1 }
     ensures read { IfOk result.1 (λ read. read ≡ read_of shown) }
 {
     let Shown::Number(again) = shown else {
         return (
-            Stage::HasPage {
-                number,
-                listing,
-                page,
-            },
+            with_page(number, listing, page),
             Err(AnswerError::Unreadable),
         );
     };
     if again != number {
-        return (Stage::Begun, Ok(Read::Ok));
+        return (Phase::Load(Stage::Begun), Ok(Read::Ok));
     }
-    judge_page(alloc, number, listing, page)
+    judge_page(alloc, number, listing, page, changes)
+}
+
+/// The load as it stands with a page.
+fn with_page(number: u32, listing: Listing, page: Option<Rows>) -> Phase
+    ensures { phase_in result ≡ Loads (HoldsPage number (listing_in listing) page) }
+{
+    Phase::Load(Stage::HasPage {
+        number,
+        listing,
+        page,
+    })
 }
 
 /// Judges a page whose number stayed.
-fn judge_page(alloc: Global, number: u32, listing: Listing, page: Option<Rows>) -> Step
-    ensures outcome { IsOutcome (page_taken number (listing_in listing) page) (HoldsPage number (listing_in listing) page) (held_in result.0) result.1 }
+fn judge_page(
+    alloc: Global,
+    number: u32,
+    listing: Listing,
+    page: Option<Rows>,
+    changes: &[Event],
+) -> PhaseStep
+    ensures outcome { IsStep (load_takes changes.now (page_taken number (listing_in listing) page)) (Loads (HoldsPage number (listing_in listing) page)) (phase_in result.0) result.1 }
     ensures read { IfOk result.1 (λ read. read ≡ Read.Ok) }
 {
     match page {
-        Some(rows) if listing.fits(rows.as_slice()) => add_page(alloc, number, listing, rows),
+        Some(rows) if listing.fits(rows.as_slice()) => {
+            add_page(alloc, number, listing, rows, changes)
+        }
         page => {
             let id = listing.id();
             (
-                Stage::HasPage {
-                    number,
-                    listing,
-                    page,
-                },
+                with_page(number, listing, page),
                 Err(AnswerError::Torn { id }),
             )
         }
@@ -199,23 +224,68 @@ fn judge_page(alloc: Global, number: u32, listing: Listing, page: Option<Rows>) 
 }
 
 /// Adds a page that fits.
-fn add_page(alloc: Global, number: u32, listing: Listing, page: Rows) -> Step
+fn add_page(
+    alloc: Global,
+    number: u32,
+    listing: Listing,
+    page: Rows,
+    changes: &[Event],
+) -> PhaseStep
     requires { length listing.part.items + length page < 2 ^ 32 }
-    ensures outcome { IsOutcome (Holds (after_page number (listing_in listing) page)) (HoldsPage number (listing_in listing) (Some page)) (held_in result.0) result.1 }
+    ensures outcome { IsStep (leads_to changes.now (after_page number (listing_in listing) page)) (Loads (HoldsPage number (listing_in listing) (Some page))) (phase_in result.0) result.1 }
     ensures read { IfOk result.1 (λ read. read ≡ Read.Ok) }
 {
-    match listing.with_page(alloc, number, page.into_vec()) {
-        Ok(stage) => (stage, Ok(Read::Ok)),
-        Err((listing, page)) => {
-            let page = Some(Rows::from(page));
-            (
-                Stage::HasPage {
-                    number,
-                    listing,
-                    page,
-                },
-                Err(AnswerError::Mem),
-            )
-        }
+    if listing.ends_load(page.as_slice()) {
+        end_load(alloc, number, listing, page, changes)
+    } else {
+        go_on(alloc, number, listing, page, changes)
+    }
+}
+
+/// Goes on with a page after which another is to come.
+fn go_on(alloc: Global, number: u32, listing: Listing, page: Rows, changes: &[Event]) -> PhaseStep
+    requires short { length listing.part.items + length page < 2 ^ 32 }
+    requires goes_on { ends_load (listing_in listing) page ≡ false }
+    ensures outcome { IsStep (leads_to changes.now (after_page number (listing_in listing) page)) (Loads (HoldsPage number (listing_in listing) (Some page))) (phase_in result.0) result.1 }
+    ensures read { IfOk result.1 (λ read. read ≡ Read.Ok) }
+{
+    match listing.with_page(alloc, page.into_vec()) {
+        Ok(listing) => (Phase::Load(Stage::Lists { number, listing }), Ok(Read::Ok)),
+        Err((listing, page)) => (
+            with_page(number, listing, Some(Rows::from(page))),
+            Err(AnswerError::Mem),
+        ),
+    }
+}
+
+/// Ends a load with its last page.
+fn end_load(
+    alloc: Global,
+    number: u32,
+    listing: Listing,
+    page: Rows,
+    changes: &[Event],
+) -> PhaseStep
+    requires ends { ends_load (listing_in listing) page ≡ true }
+    ensures outcome { IsStep (leads_to changes.now (after_page number (listing_in listing) page)) (Loads (HoldsPage number (listing_in listing) (Some page))) (phase_in result.0) result.1 }
+    ensures read { IfOk result.1 (λ read. read ≡ Read.Ok) }
+{
+    match listing.into_copy(alloc, number, page.into_vec(), changes) {
+        Ok(copy) => (Phase::Copy { number, copy }, Ok(Read::Ok)),
+        Err((listing, page, refusal)) => (
+            with_page(number, listing, Some(Rows::from(page))),
+            Err(answer_of(refusal)),
+        ),
+    }
+}
+
+/// The answer to a reply with which the changes that were kept cannot be counted.
+fn answer_of(refusal: CountError) -> AnswerError
+    ensures { result ≡ answer_of refusal }
+{
+    match refusal {
+        CountError::Jump { expected, first } => AnswerError::Jump { expected, first },
+        CountError::Torn { id } => AnswerError::Torn { id },
+        CountError::Mem => AnswerError::Mem,
     }
 }

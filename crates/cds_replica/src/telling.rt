@@ -54,6 +54,13 @@ impl Telling {
         self.changes.as_slice()
     }
 
+    /// The changes that were new, by value.
+    pub fn into_changes(self) -> Vec<Event>
+        ensures { result.items ≡ self.changes }
+    {
+        self.changes
+    }
+
     /// Adds what one more note tells.
     pub fn add(&mut self, note: &Note) -> Result<(), AllocError>
         ensures { OnOk result (self.new ≡ tells_note note.now self.old) }
@@ -84,11 +91,7 @@ impl Telling {
 }
 
 /// Adds the changes above a position.
-fn push_changes(
-    changes: &mut Vec<Event>,
-    position: u32,
-    events: &[Event],
-) -> Result<(), AllocError>
+fn push_changes(changes: &mut Vec<Event>, position: u32, events: &[Event]) -> Result<(), AllocError>
     ensures { OnOk result (changes.new.items ≡ changes.old.items ++ changes_above position events.now) }
 {
     for event in events {
@@ -117,10 +120,13 @@ pub fn note_of(notes: &[Note], sid: Sid, seq: u64) -> Option<&Note>
     ensures seq { IfSome result (λ note. note.now.seq ≡ seq) }
     ensures found { is_some result ≡ has_seq (of_name sid.0 notes.now) seq }
 {
-    notes
-        .iter()
-        .rev()
-        .find(|note| note.is_of(sid) && note.has_seq(seq))
+    let mut found = None;
+    for note in notes {
+        if note.is_at(sid, seq) {
+            found = Some(note);
+        }
+    }
+    found
 }
 
 /// The SEQ after those that the notes of a name have from one on without a hole.
@@ -133,7 +139,7 @@ pub fn run_end(notes: &[Note], sid: Sid, from: u64) -> u64
     for _held in 0..notes.len() {
         match note_of(notes, sid, seq) {
             None => return seq,
-            Some(note) => seq = u64::from(note.seq) + 1,
+            Some(note) => seq = note.next_seq(),
         }
     }
     seq

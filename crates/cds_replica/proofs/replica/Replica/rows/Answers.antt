@@ -1,9 +1,14 @@
-use Rattle.std.proofs.Common.{◌≡◌}
-use Rattle.cds_model.specs.Replica.{copied}
-use Rattle.cds_replica.proofs.Honest.{row-shown}
+use Rattle.std.proofs.Common.{ap, ◌∙◌}
+use Rattle.std.specs.Prelude.{List, slice_get}
+use Rattle.cds_object.specs.Object.{ObjectRow}
+use Rattle.cds_replica.specs.Keeping.{phase_rows}
+use Rattle.cds_replica.specs.Kept.{Kept}
+use Rattle.cds_replica.proofs.Keeping.{rows-kept}
 use Rattle.cds_replica.proofs.replica.Replica.rows.Goals as goal
 
-pub returns-clause-shown : goal.returns-clause-shown
-returns-clause-shown c turns is =
-    let rows : c.copied.result.now ≡ copied c.args.self.now = cc in
-    row-shown c.args.self.now c.copied.result.now c.args.at c.get.result turns rows c.get.ensures.lookup.3 is
+pub returns : goal.returns
+returns c = record {
+  row =
+      λ turns stood.
+      c.row.ensures ∙ ap (λ (rows : List ObjectRow). slice_get rows c.args.at) (ap (λ (kept : Kept). phase_rows kept.known.phase) (c.self.view_is ∙ stood) ∙ rows-kept turns);
+}

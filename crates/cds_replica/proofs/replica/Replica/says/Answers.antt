@@ -1,12 +1,15 @@
-use Rattle.std.proofs.Common.{◌≡◌}
-use Rattle.cds_model.specs.Replica.{says}
-use Rattle.cds_replica.proofs.Honest.{says-given, says-scan_end}
+use Rattle.std.proofs.Common.{◌≡◌, rules, ap, ◌∙◌}
+use Rattle.cds_notes.specs.declared.says.Says.TheVariants.{Gap}
+use Rattle.cds_replica.specs.Keeping.{kept_says}
+use Rattle.cds_replica.proofs.Keeping.{says-kept}
 use Rattle.cds_replica.proofs.replica.Replica.says.Goals as goal
 
-pub returns-clause-given : goal.returns-clause-given
-returns-clause-given c =
-    let known : c.says.result ≡ says c.args.self.now = cc in says-given c.args.self.now c.says.result known
+pub returns-in-Some-clause-says : goal.returns-in-Some-clause-says
+returns-in-Some-clause-says c turns stood =
+    let kept : Gap c.in-Some.missing ≡ kept_says c.args.self.now = search rules in
+    kept ∙ ap kept_says stood ∙ says-kept turns
 
-pub returns-clause-scan_end : goal.returns-clause-scan_end
-returns-clause-scan_end c =
-    let known : c.says.result ≡ says c.args.self.now = cc in says-scan_end c.args.self.now c.says.result known
+pub returns-in-None-clause-says : goal.returns-in-None-clause-says
+returns-in-None-clause-says c turns stood =
+    let kept : c.says.result ≡ kept_says c.args.self.now = search rules in
+    kept ∙ ap kept_says stood ∙ says-kept turns

@@ -1,16 +1,19 @@
-use Rattle.std.proofs.Common.{◌≡◌}
-use Rattle.cds_replica.specs.Holding.{held_in}
-use Rattle.cds_replica.proofs.Honest.{takes-given, takes-of_scans}
+use Rattle.std.proofs.Common.{ap, subst}
+use Rattle.cds_notes.specs.Inbox.{Shows}
+use Rattle.cds_replica.specs.Keeping.{IsStep, answers}
+use Rattle.cds_replica.specs.Kept.{KeptKnown, Kept}
+use Rattle.cds_replica.proofs.Turning.{answered-stands, unless-mem}
 use Rattle.cds_replica.proofs.replica.Replica.take.Goals as goal
 
-pub returns-clause-given : goal.returns-clause-given
-returns-clause-given c =
-    let same : held_in c.replace-stage.result ≡ c.args.self.now = cc in
-    takes-given (held_in c.replace-stage.result) c.args.self.now (held_in c.take-stage.result.0) c.args.shown c.take-stage.result.1 same
-    c.take-stage.ensures.outcome
+pub returns-clause-stands : goal.returns-clause-stands
+returns-clause-stands c =
+    let new : Kept = record { known = c.take.new.self; inbox = c.self.inside.inbox } in
+    let step = subst (λ (known : KeptKnown). IsStep (answers known known.phase c.args.shown) known c.take.new.self c.take.result) (ap (λ (kept : Kept). kept.known) c.self.view_is) c.take.ensures.outcome in
+    unless-mem c.take.result c.args.self.now new (Shows c.args.shown)
+    (λ turns stood. (answered-stands c.args.shown turns c.args.self.now new c.take.result stood (ap (λ (kept : Kept). kept.inbox) c.self.view_is) step).0)
 
-pub returns-clause-of_scans : goal.returns-clause-of_scans
-returns-clause-of_scans c =
-    let same : held_in c.replace-stage.result ≡ c.args.self.now = cc in
-    takes-of_scans (held_in c.replace-stage.result) c.args.self.now (held_in c.take-stage.result.0) c.args.shown c.take-stage.result.1 same
-    c.take-stage.ensures.outcome
+pub returns-clause-answer : goal.returns-clause-answer
+returns-clause-answer c turns stood =
+    let new : Kept = record { known = c.take.new.self; inbox = c.self.inside.inbox } in
+    let step = subst (λ (known : KeptKnown). IsStep (answers known known.phase c.args.shown) known c.take.new.self c.take.result) (ap (λ (kept : Kept). kept.known) c.self.view_is) c.take.ensures.outcome in
+    (answered-stands c.args.shown turns c.args.self.now new c.take.result stood (ap (λ (kept : Kept). kept.inbox) c.self.view_is) step).1

@@ -1,0 +1,219 @@
+-- What is kept beside the notes, turn by turn.
+use Rattle.std.proofs.Common.{◌≡◌, ◌+◌, ℕ, max, Bool, true, false, cond, nat_eq, nat_lt, List, [], ◌∷◌, ◌++◌, map, Option, Some, None, refl, sym, ap, ◌∙◌, subst, true≢false}
+use Rattle.std.specs.Prelude.{reverse}
+use Rattle.std.specs.Option.{option_map}
+use Rattle.std.specs.List.{filter_map}
+use Rattle.cds_object.specs.Object.{ObjectRow}
+use Rattle.cds_event.specs.declared.Event.{Event}
+use Rattle.cds_changes.specs.Events.{update_of}
+use Rattle.cds_model.specs.Replica.{Held, Idle, Begun, HasToken, HasNumber, HasRoot, Lists, HasPage, HasCopy, Taken, Holds, Unreadable as NotReadable, Torn as CannotBe, taken, next_ask as load_ask}
+use Rattle.cds_model.specs.declared.exchange.Ask.{Ask}
+use Rattle.cds_model.specs.declared.exchange.Ask.TheVariants.{Metadata}
+use Rattle.cds_model.specs.declared.exchange.Shown.{Shown}
+use Rattle.cds_model.specs.declared.exchange.Shown.TheVariants.{Text, Number, Page, Fault}
+use Rattle.cds_notes.specs.Commands.{Note}
+use Rattle.cds_notes.specs.Copy.{KnownRow, Happening, Changes, Reads, rows_after, shown_row, known_of, least_unread, read_up_to}
+use Rattle.cds_notes.specs.Inbox.{ReplicaTurn, missing, missing_of}
+use Rattle.cds_notes.specs.Follow.{Known, position, changes_above, Outcome, Knows, CannotBeRead, Jumps, Tears, first_torn, judged, counted_from, with_changes, load_begun, new_changes, greatest_of, is_drop, dropped, heard_of, with_notes, load_ended, loaded, is_of, row_read, object_read, copy_read, with_reply, known_by, next_ask, ask_of, copy_says, says_without_gap, says_of, says, rows_held, copied}
+use Rattle.cds_replica.specs.Copied.{KeptCopy, copy_of, known_rows, IsSound, AreAbove, least_wanted}
+use Rattle.cds_replica.specs.CopySteps.{Count, Counts, Leaps, Tears as CannotCount, count_from, count_of, copy_read as copy_with, version_of, can_be_of}
+use Rattle.cds_replica.specs.Ended.{end_count}
+use Rattle.cds_replica.specs.Inboxed.{inbox_of}
+use Rattle.cds_replica.specs.Kept.{KeptPhase, Loads, Copies, phase_of, KeptKnown, kept_known, kept_position, kept_of}
+use Rattle.cds_replica.specs.Keeping.{Becomes, Leads, Unreadable, Leap, Tear, with_what, kept_outcome, of_count, hears_changes, hears, with_telling, leads_to, load_takes, with_phase, row_of_read, object_of_read, copy_takes, answers, phase_ask, copy_tells, phase_tells, tells_or_gap, kept_says, phase_rows}
+use Rattle.cds_replica.specs.Telling.{KeptTelling, tells, nothing_told}
+use Rattle.cds_replica.proofs.Inboxed.{missing-kept}
+use Rattle.cds_replica.proofs.KeptCounts.{count-kept, known-copied, can-same, read-copied}
+use Rattle.cds_replica.proofs.KeptTurns.{SoundHeld, SoundKnown, SoundTaken, taken-sound, above-filter, new-above, turns-sound}
+use Rattle.cds_replica.proofs.KeptUnread.{least-kept}
+
+-- ---- changes are counted
+
+with-with : {X Y Z : Type 0} (f : X → Y) (g : Y → Z) (b : Becomes X) → with_what g (with_what f b) ≡ with_what (λ x. g (f x)) b
+with-with f g (Leads x) = refl
+with-with f g Unreadable = refl
+with-with f g (Leap expected first) = refl
+with-with f g (Tear id) = refl
+
+-- what is known with a copy that counted changes
+abbrev with-copy : Known → ℕ → KeptCopy → KeptKnown
+with-copy known number copy = record (kept_known known) { phase = Copies number copy }
+
+counted-known : (rows : List ObjectRow) (number at : ℕ) (known : Known) (events : List Event) → known.held ≡ HasCopy number rows
+    → kept_outcome (counted_from rows known at events) ≡ with_what (with-copy known number) (of_count (count_of rows (counted_from rows known at events)))
+counted-known rows number at known [] e = λ i. Leads (record (kept_known known) { phase = phase_of (e i) known.happenings })
+counted-known rows number at known (event ∷ events) e =
+    by (nat_eq (update_of event) (at + 1)) (first_torn (rows_after rows known.happenings) (event ∷ events))
+  where
+    by : (b : Bool) (o : Option ℕ) → kept_outcome (cond b (judged known (event ∷ events) o) (Jumps (at + 1) (update_of event)))
+        ≡ with_what (with-copy known number) (of_count (count_of rows (cond b (judged known (event ∷ events) o) (Jumps (at + 1) (update_of event)))))
+    by true (Some id) = refl
+    by true None = λ i. Leads (record (kept_known known) { phase = phase_of (e i) (reverse (map Changes (event ∷ events)) ++ known.happenings) })
+    by false o = refl
+
+count-known : (rows : List ObjectRow) (number at : ℕ) (known : Known) (events : List Event) → known.held ≡ HasCopy number rows → IsSound rows known.happenings → AreAbove at events
+    → kept_outcome (counted_from rows known at events) ≡ with_what (with-copy known number) (of_count (count_from (copy_of rows known.happenings) at events))
+count-known rows number at known events e sound above =
+    counted-known rows number at known events e ∙ ap (λ (c : Count). with_what (with-copy known number) (of_count c)) (count-kept rows known at events sound above)
+
+-- ---- notes are taken
+
+with-heard : List Note → KeptKnown → KeptKnown
+with-heard notes kept = record kept { heard = greatest_of kept.heard notes }
+
+heard-of : (notes : List Note) (outcome : Outcome) → kept_outcome (heard_of notes outcome) ≡ with_what (with-heard notes) (kept_outcome outcome)
+unfolding with-heard
+heard-of notes (Knows now) = refl
+heard-of notes CannotBeRead = refl
+heard-of notes (Jumps expected first) = refl
+heard-of notes (Tears id) = refl
+
+-- what notes tell of which the first does not drop the copy
+stays-kept : (held : Held) (known : Known) (notes : List Note) → known.held ≡ held → SoundHeld held known.happenings
+    → kept_outcome (heard_of notes (with_changes held known (position known) (new_changes (position known) notes)))
+    ≡ with_what (λ (now : KeptPhase × List Event). record { phase = now.0; base = known.base; heard = greatest_of known.heard notes; changes = now.1 })
+    (hears_changes (phase_of held known.happenings) (position known) known.kept (new_changes (position known) notes))
+unfolding with-heard
+stays-kept Idle known notes e sound = λ i. Leads (record { phase = phase_of (e i) known.happenings; base = known.base; heard = greatest_of known.heard notes; changes = known.kept })
+stays-kept Begun known notes e sound = λ i. Leads (record { phase = phase_of (e i) known.happenings; base = known.base; heard = greatest_of known.heard notes; changes = known.kept ++ new_changes (position known) notes })
+stays-kept HasToken known notes e sound = λ i. Leads (record { phase = phase_of (e i) known.happenings; base = known.base; heard = greatest_of known.heard notes; changes = known.kept ++ new_changes (position known) notes })
+stays-kept (HasNumber number) known notes e sound = λ i. Leads (record { phase = phase_of (e i) known.happenings; base = known.base; heard = greatest_of known.heard notes; changes = known.kept ++ new_changes (position known) notes })
+stays-kept (HasRoot number root) known notes e sound = λ i. Leads (record { phase = phase_of (e i) known.happenings; base = known.base; heard = greatest_of known.heard notes; changes = known.kept ++ new_changes (position known) notes })
+stays-kept (Lists number listing) known notes e sound = λ i. Leads (record { phase = phase_of (e i) known.happenings; base = known.base; heard = greatest_of known.heard notes; changes = known.kept ++ new_changes (position known) notes })
+stays-kept (HasPage number listing page) known notes e sound = λ i. Leads (record { phase = phase_of (e i) known.happenings; base = known.base; heard = greatest_of known.heard notes; changes = known.kept ++ new_changes (position known) notes })
+stays-kept (HasCopy number rows) known notes e sound =
+    heard-of notes (counted_from rows known (position known) (new_changes (position known) notes))
+    ∙ ap (with_what (with-heard notes)) (count-known rows number (position known) known (new_changes (position known) notes) e sound (new-above (position known) notes))
+    ∙ by (of_count (count_from (copy_of rows known.happenings) (position known) (new_changes (position known) notes)))
+  where
+    by : (b : Becomes KeptCopy) → with_what (with-heard notes) (with_what (with-copy known number) b)
+        ≡ with_what (λ (now : KeptPhase × List Event). record { phase = now.0; base = known.base; heard = greatest_of known.heard notes; changes = now.1 })
+        (with_what (λ (now : KeptCopy). (Copies number now, known.kept)) b)
+    by (Leads copy) = refl
+    by Unreadable = refl
+    by (Leap expected first) = refl
+    by (Tear id) = refl
+
+-- what becomes of notes that are taken, in what is kept
+pub notes-kept : (notes : List Note) (known : Known) → SoundKnown known
+    → kept_outcome (with_notes notes known)
+    ≡ with_telling (is_drop (position known) notes) (tells notes (nothing_told (position known) known.heard)) (kept_known known)
+notes-kept notes known sound = by (is_drop (position known) notes)
+  where
+    by : (b : Bool) → kept_outcome (heard_of notes (with_changes (cond b (load_begun known) known).held (cond b (load_begun known) known) (position known) (new_changes (position known) notes)))
+        ≡ with_telling b (tells notes (nothing_told (position known) known.heard)) (kept_known known)
+    by true = refl
+    by false = stays-kept known.held known notes refl sound
+
+-- ---- replies are taken
+
+-- the same where nothing else is known than the load and its end
+loaded-kept : (held : Held) (known : Known) (becomes : Taken) → known.held ≡ held → SoundTaken becomes
+    → kept_outcome (loaded known becomes) ≡ with_what (with_phase (kept_known known)) (load_takes known.kept becomes)
+loaded-kept held known NotReadable e sound = refl
+loaded-kept held known (CannotBe id) e sound = refl
+loaded-kept held known (Holds Idle) e sound = refl
+loaded-kept held known (Holds Begun) e sound = refl
+loaded-kept held known (Holds HasToken) e sound = refl
+loaded-kept held known (Holds (HasNumber number)) e sound = refl
+loaded-kept held known (Holds (HasRoot number root)) e sound = refl
+loaded-kept held known (Holds (Lists number listing)) e sound = refl
+loaded-kept held known (Holds (HasPage number listing page)) e sound = refl
+loaded-kept held known (Holds (HasCopy number rows)) e sound =
+    count-known rows number number ended (changes_above number known.kept) refl sound (above-filter number known.kept)
+    ∙ sym (with-with (Copies number) (with_phase (kept_known known)) (of_count (end_count rows number known.kept)))
+  where
+    ended : Known
+    ended = record { held = HasCopy number rows; base = number; heard = known.heard; kept = []; happenings = [] }
+
+row-kept : (rows : List ObjectRow) (number id : ℕ) (known : Known) (shown : List ObjectRow) → known.held ≡ HasCopy number rows → IsSound rows known.happenings
+    → kept_outcome (row_read known rows id shown) ≡ with_what (with-copy known number) (row_of_read (copy_of rows known.happenings) id shown)
+row-kept rows number id known [] e sound = refl
+row-kept rows number id known (row ∷ next ∷ others) e sound = refl
+row-kept rows number id known (row ∷ []) e sound =
+    by (is_of id row (known_of id (rows_after rows known.happenings)))
+    ∙ ap (λ (b : Bool). with_what (with-copy known number) (cond b (Leads (copy_with (copy_of rows known.happenings) id (version_of row))) (Tear id)))
+    (sym (can-same rows known.happenings id row))
+  where
+    by : (b : Bool) → kept_outcome (cond b (Knows (record known { happenings = Reads id (version_of row) ∷ known.happenings })) (Tears id))
+        ≡ with_what (with-copy known number) (cond b (Leads (copy_with (copy_of rows known.happenings) id (version_of row))) (Tear id))
+    by true =
+        (λ i. Leads (record (kept_known known) { phase = phase_of (e i) (Reads id (version_of row) ∷ known.happenings) }))
+        ∙ ap (λ (copy : KeptCopy). Leads (with-copy known number copy)) (sym (read-copied rows known.happenings id row sound))
+    by false = refl
+
+-- what becomes of a reply to the next ask, in what is kept
+pub reply-kept : (held : Held) (known : Known) (shown : Shown) → known.held ≡ held → SoundHeld held known.happenings
+    → kept_outcome (with_reply known held shown) ≡ answers (kept_known known) (phase_of held known.happenings) shown
+reply-kept Idle known shown e sound = refl
+reply-kept Begun known shown e sound = loaded-kept Begun known (taken Begun shown) e (taken-sound Begun known.happenings shown sound)
+reply-kept HasToken known shown e sound = loaded-kept HasToken known (taken HasToken shown) e (taken-sound HasToken known.happenings shown sound)
+reply-kept (HasNumber number) known shown e sound = loaded-kept (HasNumber number) known (taken (HasNumber number) shown) e (taken-sound (HasNumber number) known.happenings shown sound)
+reply-kept (HasRoot number root) known shown e sound = loaded-kept (HasRoot number root) known (taken (HasRoot number root) shown) e (taken-sound (HasRoot number root) known.happenings shown sound)
+reply-kept (Lists number listing) known shown e sound = loaded-kept (Lists number listing) known (taken (Lists number listing) shown) e (taken-sound (Lists number listing) known.happenings shown sound)
+reply-kept (HasPage number listing page) known shown e sound =
+    loaded-kept (HasPage number listing page) known (taken (HasPage number listing page) shown) e (taken-sound (HasPage number listing page) known.happenings shown sound)
+reply-kept (HasCopy number rows) known shown e sound =
+    by (least_unread known.happenings) shown
+    ∙ ap (λ (o : Option ℕ). with_what (with-copy known number) (copy_takes (copy_of rows known.happenings) o shown)) (least-kept rows known.happenings sound)
+  where
+    object : (id : ℕ) (shown : Shown) → kept_outcome (object_read known rows id shown) ≡ with_what (with-copy known number) (object_of_read (copy_of rows known.happenings) id shown)
+    object id (Text token) = refl
+    object id (Number n) = refl
+    object id (Page shown total update) = row-kept rows number id known shown e sound
+    object id (Fault code) = λ i. Leads (record (kept_known known) { phase = phase_of (e i) known.happenings })
+
+    by : (o : Option ℕ) (shown : Shown) → kept_outcome (copy_read known rows o shown) ≡ with_what (with-copy known number) (copy_takes (copy_of rows known.happenings) o shown)
+    by None shown = refl
+    by (Some id) shown = object id shown
+
+-- ---- what is asked and said
+
+asks : (held : Held) (known : Known) → SoundHeld held known.happenings → phase_ask (phase_of held known.happenings) ≡ ask_of known held
+asks Idle known sound = refl
+asks Begun known sound = refl
+asks HasToken known sound = refl
+asks (HasNumber number) known sound = refl
+asks (HasRoot number root) known sound = refl
+asks (Lists number listing) known sound = refl
+asks (HasPage number listing page) known sound = refl
+asks (HasCopy number rows) known sound = ap (option_map (λ (id : ℕ). Metadata id)) (sym (least-kept rows known.happenings sound))
+
+pub ask-kept : (turns : List ReplicaTurn) → phase_ask (kept_of turns).known.phase ≡ next_ask (known_by turns)
+ask-kept turns = asks (known_by turns).held (known_by turns) (turns-sound turns)
+
+tells-kept : (held : Held) (known : Known) → SoundHeld held known.happenings → phase_tells (kept_known known) (phase_of held known.happenings) ≡ says_without_gap known held
+tells-kept Idle known sound = refl
+tells-kept Begun known sound = refl
+tells-kept HasToken known sound = refl
+tells-kept (HasNumber number) known sound = refl
+tells-kept (HasRoot number root) known sound = refl
+tells-kept (Lists number listing) known sound = refl
+tells-kept (HasPage number listing page) known sound = refl
+tells-kept (HasCopy number rows) known sound =
+    ap (copy_tells (position known) (copy_of rows known.happenings)) (sym (least-kept rows known.happenings sound)) ∙ by (least_unread known.happenings)
+  where
+    by : (o : Option ℕ) → copy_tells (position known) (copy_of rows known.happenings) o ≡ copy_says known o
+    by None = refl
+    by (Some id) = refl
+
+pub says-kept : (turns : List ReplicaTurn) → kept_says (kept_of turns) ≡ says turns
+says-kept turns =
+    (λ i. tells_or_gap (sym (missing-kept turns) i) (tells-kept (known_by turns).held (known_by turns) (turns-sound turns) i)) ∙ by (missing turns)
+  where
+    by : (o : Option ℕ) → tells_or_gap o (says_without_gap (known_by turns) (known_by turns).held) ≡ says_of o (known_by turns)
+    by None = refl
+    by (Some seq) = refl
+
+rows-held : (held : Held) (happenings : List Happening) → phase_rows (phase_of held happenings) ≡ rows_held held happenings
+rows-held Idle happenings = refl
+rows-held Begun happenings = refl
+rows-held HasToken happenings = refl
+rows-held (HasNumber number) happenings = refl
+rows-held (HasRoot number root) happenings = refl
+rows-held (Lists number listing) happenings = refl
+rows-held (HasPage number listing page) happenings = refl
+rows-held (HasCopy number rows) happenings = ap (filter_map shown_row) (known-copied rows happenings)
+
+pub rows-kept : (turns : List ReplicaTurn) → phase_rows (kept_of turns).known.phase ≡ copied (known_by turns)
+rows-kept turns = rows-held (known_by turns).held (known_by turns).happenings

@@ -1,0 +1,260 @@
+-- What is kept after a turn.
+use Rattle.std.proofs.Common.{◌≡◌, ℕ, Bool, true, false, cond, ◌||◌, List, [], ◌∷◌, Result, Ok, Err, refl, sym, ap, ◌∙◌, subst}
+use Rattle.std.proofs.lemmas.List.{append-nil}
+use Rattle.cds_event.specs.declared.Event.{Event}
+use Rattle.cds_model.specs.Replica.{Held, Idle, Begun, HasToken, HasNumber, HasRoot, Lists, HasPage, HasCopy}
+use Rattle.cds_model.specs.declared.exchange.Read.{Read}
+use Rattle.cds_model.specs.declared.exchange.Shown.{Shown}
+use Rattle.cds_notes.specs.Commands.{Note}
+use Rattle.cds_notes.specs.Inbox.{ReplicaTurn, Shows, Accepts, Delivers, Arrival, IsUnknown, IsRepeat, IsTooMany, IsEarly, IsHeld, IsNext, arrival, taken_by}
+use Rattle.cds_notes.specs.Follow.{Known, position, Outcome, Knows, CannotBeRead, Jumps, Tears, is_drop, with_notes, with_reply, known_after, known_by, is_no, is_turned_away, is_refused, and_turn}
+use Rattle.cds_replica.specs.Called.{TakesTurn, IsTaken, IsNotice, IsAcceptance, IsAnswer, UnlessFull, UnlessMem, of_notes, IsTaking, IsDelivered}
+use Rattle.cds_replica.specs.Inboxed.{KeptInbox, inbox_of, arrival_in, with_name, taken_early, with_note, taken_in, followers, with_next}
+use Rattle.cds_replica.specs.Keeping.{Becomes, Leads, Unreadable, Leap, Tear, with_what, kept_outcome, kept_changes, hears_changes, with_telling, answers, IsStep}
+use Rattle.cds_replica.specs.Kept.{KeptPhase, Loads, Copies, KeptKnown, kept_known, kept_position, Kept, kept_of, StandsFor}
+use Rattle.cds_replica.specs.Telling.{tells, nothing_told}
+use Rattle.cds_replica.specs.declared.error.AnswerError.{AnswerError}
+use Rattle.cds_replica.specs.declared.error.AnswerError.TheVariants.{Unreadable as AnswerUnreadable, Jump as AnswerJump, Torn as AnswerTorn, Mem as AnswerMem}
+use Rattle.cds_replica.specs.declared.note.Taken.{Taken}
+use Rattle.cds_replica.specs.declared.note.Taken.TheVariants.{Took, Repeat, Early, Held as Waits}
+use Rattle.cds_replica.specs.declared.notify_error.NotifyError.{NotifyError}
+use Rattle.cds_replica.specs.declared.notify_error.NotifyError.TheVariants.{Unknown, Full, Jump, Torn, Mem}
+use Rattle.cds_replica.proofs.Inboxed.{arrival-kept, accepted-kept, accepted-taken, delivered-kept}
+use Rattle.cds_replica.proofs.KeptTurns.{turns-sound}
+use Rattle.cds_replica.proofs.Keeping.{notes-kept, reply-kept}
+
+-- ---- outcomes in what is kept are those in what is known
+
+leads-known : (o : Outcome) (kept : KeptKnown) → kept_outcome o ≡ Leads kept → (now : Known) × (o ≡ Knows now) × (kept_known now ≡ kept)
+leads-known (Knows now) kept e = (now, refl, same)
+  where
+    same : kept_known now ≡ kept
+    same = cc
+leads-known CannotBeRead kept e = let no : ⊥ = cc in absurd no
+leads-known (Jumps expected first) kept e = let no : ⊥ = cc in absurd no
+leads-known (Tears id) kept e = let no : ⊥ = cc in absurd no
+
+leap-jumps : (o : Outcome) (expected first : ℕ) → kept_outcome o ≡ Leap expected first → o ≡ Jumps expected first
+leap-jumps (Knows now) expected first e = let no : ⊥ = cc in absurd no
+leap-jumps CannotBeRead expected first e = let no : ⊥ = cc in absurd no
+leap-jumps (Jumps a b) expected first e = cc
+leap-jumps (Tears id) expected first e = let no : ⊥ = cc in absurd no
+
+tear-tears : (o : Outcome) (id : ℕ) → kept_outcome o ≡ Tear id → o ≡ Tears id
+tear-tears (Knows now) id e = let no : ⊥ = cc in absurd no
+tear-tears CannotBeRead id e = let no : ⊥ = cc in absurd no
+tear-tears (Jumps a b) id e = let no : ⊥ = cc in absurd no
+tear-tears (Tears other) id e = cc
+
+unread-cannot : (o : Outcome) → kept_outcome o ≡ Unreadable → o ≡ CannotBeRead
+unread-cannot (Knows now) e = let no : ⊥ = cc in absurd no
+unread-cannot CannotBeRead e = refl
+unread-cannot (Jumps a b) e = let no : ⊥ = cc in absurd no
+unread-cannot (Tears id) e = let no : ⊥ = cc in absurd no
+
+-- ---- turns that are taken, and turns that are refused
+
+goes-on : (turn : ReplicaTurn) (turns : List ReplicaTurn) (new : Kept) → is_refused turn turns ≡ false → new ≡ kept_of (turn ∷ turns) → StandsFor new (and_turn turn turns)
+goes-on turn turns new e is = is ∙ ap kept_of (λ i. cond (sym e i) turns (turn ∷ turns))
+
+stays : (turn : ReplicaTurn) (turns : List ReplicaTurn) (old new : Kept) → is_refused turn turns ≡ true → old ≡ kept_of turns → new ≡ old → StandsFor new (and_turn turn turns)
+stays turn turns old new e stood same = same ∙ stood ∙ ap kept_of (λ i. cond (sym e i) turns (turn ∷ turns))
+
+-- what is kept after a turn whose outcome is known
+kept-then : (known now : Known) (inbox : KeptInbox) (o : Outcome) (new : Kept) → o ≡ Knows now → kept_known now ≡ new.known → new.inbox ≡ inbox
+    → new ≡ record { known = kept_known (known_after known o); inbox = inbox }
+kept-then known now inbox o new e same box = λ i. record { known = (sym same ∙ ap (λ (o : Outcome). kept_known (known_after known o)) (sym e)) i; inbox = box i }
+
+-- ---- a name is accepted
+
+of-early : (name : ℕ) (turns : List ReplicaTurn) (old : Kept) → old ≡ kept_of turns
+    → of_notes (taken_early name old.inbox) old.known ≡ kept_outcome (with_notes (taken_by (Accepts name) turns) (known_by turns))
+of-early name turns old stood =
+    (λ i. of_notes (taken_early name (stood i).inbox) (stood i).known)
+    ∙ ap (λ (notes : List Note). of_notes notes (kept_known (known_by turns))) (sym (accepted-taken name turns))
+    ∙ sym (notes-kept (taken_by (Accepts name) turns) (known_by turns) (turns-sound turns))
+
+pub accepted-stands : (name : ℕ) (turns : List ReplicaTurn) (old new : Kept) (result : Result (Unit {0}) NotifyError) → StandsFor old turns
+    → IsTaking (of_notes (taken_early name old.inbox) old.known) old (with_name name old.inbox) new result
+    → UnlessFull result (StandsFor new (and_turn (Accepts name) turns)) × IsAcceptance (with_notes (taken_by (Accepts name) turns) (known_by turns)) result
+accepted-stands name turns old new (Ok done) stood is =
+    let lead = leads-known (with_notes (taken_by (Accepts name) turns) (known_by turns)) new.known (sym (of-early name turns old stood) ∙ is.0) in
+    let box : new.inbox ≡ inbox_of (Accepts name ∷ turns) = is.1 ∙ ap (λ (kept : Kept). with_name name kept.inbox) stood ∙ sym (accepted-kept name turns) in (
+      goes-on (Accepts name) turns new (ap is_no lead.1)
+          (kept-then (known_by turns) lead.0 (inbox_of (Accepts name ∷ turns)) (with_notes (taken_by (Accepts name) turns) (known_by turns)) new lead.1 lead.2 box),
+      (lead.0, lead.1),
+    )
+accepted-stands name turns old new (Err Unknown) stood is = absurd is
+accepted-stands name turns old new (Err (Full held)) stood is = absurd is
+accepted-stands name turns old new (Err (Jump expected first)) stood is =
+    let jump = leap-jumps (with_notes (taken_by (Accepts name) turns) (known_by turns)) expected first (sym (of-early name turns old stood) ∙ is.0) in
+    (stays (Accepts name) turns old new (ap is_no jump) stood is.1, jump)
+accepted-stands name turns old new (Err (Torn id)) stood is =
+    let torn = tear-tears (with_notes (taken_by (Accepts name) turns) (known_by turns)) id (sym (of-early name turns old stood) ∙ is.0) in
+    (stays (Accepts name) turns old new (ap is_no torn) stood is.1, torn)
+accepted-stands name turns old new (Err Mem) stood is = (tt, tt)
+
+pub taking-unchanged : (becomes : Becomes KeptKnown) (old new : Kept) (inbox : KeptInbox) (error : NotifyError) → IsTaking becomes old inbox new (Err error) → new ≡ old
+taking-unchanged becomes old new inbox Unknown is = absurd is
+taking-unchanged becomes old new inbox (Full held) is = absurd is
+taking-unchanged becomes old new inbox (Jump expected first) is = is.1
+taking-unchanged becomes old new inbox (Torn id) is = is.1
+taking-unchanged becomes old new inbox Mem is = is
+
+-- ---- a note is delivered
+
+-- no notes change nothing
+no-notes : (kept : KeptKnown) → with_telling false (tells [] (nothing_told (kept_position kept) kept.heard)) kept ≡ Leads kept
+no-notes kept = by kept.phase refl
+  where
+    load : (held : Held) → kept_changes held kept.changes [] ≡ kept.changes
+    load Idle = refl
+    load Begun = append-nil kept.changes
+    load HasToken = append-nil kept.changes
+    load (HasNumber number) = append-nil kept.changes
+    load (HasRoot number root) = append-nil kept.changes
+    load (Lists number listing) = append-nil kept.changes
+    load (HasPage number listing page) = append-nil kept.changes
+    load (HasCopy number rows) = refl
+
+    now : (phase : KeptPhase) → hears_changes phase (kept_position kept) kept.changes [] ≡ Leads (phase, kept.changes)
+    now (Loads held) = λ i. Leads (Loads held, load held i)
+    now (Copies number copy) = refl
+
+    by : (phase : KeptPhase) → kept.phase ≡ phase → with_telling false (tells [] (nothing_told (kept_position kept) kept.heard)) kept ≡ Leads kept
+    by phase e =
+        ap (with_what (λ (n : KeptPhase × List Event). record { phase = n.0; base = kept.base; heard = kept.heard; changes = n.1 }))
+        ((λ i. hears_changes (e i) (kept_position kept) kept.changes []) ∙ now phase)
+        ∙ (λ i. Leads (record { phase = sym e i; base = kept.base; heard = kept.heard; changes = kept.changes }))
+
+module _ (note : Note) (turns : List ReplicaTurn) (old new : Kept) (stood : StandsFor old turns) where
+  abbrev out : Outcome
+  out = with_notes (taken_by (Delivers note) turns) (known_by turns)
+
+  arrives : arrival_in note old.inbox ≡ arrival note turns
+  arrives = ap (λ (kept : Kept). arrival_in note kept.inbox) stood ∙ sym (arrival-kept note turns)
+
+  -- the notes that are taken, and what is kept then, by the arrival
+  at : (arr : Arrival) → arrival note turns ≡ arr → is_turned_away arr ≡ false
+      → (inbox_of (Delivers note ∷ turns) ≡ with_note arr note old.inbox) × (out ≡ with_notes (taken_in arr note old.inbox) (known_by turns))
+  at arr e kept =
+      let law = delivered-kept note turns (ap is_turned_away e ∙ kept) in (
+        law.0 ∙ (λ i. with_note (e i) note (sym stood i).inbox),
+        ap (λ (notes : List Note). with_notes notes (known_by turns)) (law.1 ∙ (λ i. taken_in (e i) note (sym stood i).inbox)),
+      )
+
+  refused-by : (arr : Arrival) → arrival note turns ≡ arr → is_turned_away arr ≡ false → is_refused (Delivers note) turns ≡ is_no out
+  refused-by arr e kept = λ i. (ap is_turned_away e ∙ kept) i || is_no out
+
+  -- a note that is turned away
+  away : (arr : Arrival) → arrival_in note old.inbox ≡ arr → is_turned_away arr ≡ true → new ≡ old → StandsFor new (and_turn (Delivers note) turns)
+  away arr e turned same =
+      stays (Delivers note) turns old new (λ i. (ap is_turned_away (sym arrives ∙ e) ∙ turned) i || is_no out) stood same
+
+  -- a note that lets none be taken
+  none : (arr : Arrival) → arrival_in note old.inbox ≡ arr → is_turned_away arr ≡ false → taken_in arr note old.inbox ≡ []
+      → new.known ≡ old.known → new.inbox ≡ with_note arr note old.inbox → StandsFor new (and_turn (Delivers note) turns)
+  none arr e kept takes known box =
+      let here = at arr (sym arrives ∙ e) kept in
+      let nothing : kept_outcome out ≡ Leads (kept_known (known_by turns)) =
+      ap kept_outcome here.1 ∙ ap (λ (notes : List Note). kept_outcome (with_notes notes (known_by turns))) takes
+      ∙ notes-kept [] (known_by turns) (turns-sound turns) ∙ no-notes (kept_known (known_by turns)) in
+      let lead = leads-known out (kept_known (known_by turns)) nothing in
+      goes-on (Delivers note) turns new (refused-by arr (sym arrives ∙ e) kept ∙ ap is_no lead.1)
+      (kept-then (known_by turns) lead.0 (inbox_of (Delivers note ∷ turns)) out new lead.1 (lead.2 ∙ sym (known ∙ ap (λ (k : Kept). k.known) stood)) (box ∙ sym here.0))
+
+  -- the next note
+  of-next : arrival_in note old.inbox ≡ IsNext → of_notes (note ∷ followers old.inbox) old.known ≡ kept_outcome out
+  of-next e =
+      let here = at IsNext (sym arrives ∙ e) refl in
+      (λ i. of_notes (note ∷ followers old.inbox) (stood i).known)
+      ∙ sym (notes-kept (note ∷ followers old.inbox) (known_by turns) (turns-sound turns)) ∙ ap kept_outcome (sym here.1)
+
+  pub delivered-stands : (result : Result Taken NotifyError) → IsDelivered (arrival_in note old.inbox) note old new result
+      → UnlessFull result (StandsFor new (and_turn (Delivers note) turns)) × IsNotice (arrival note turns) out result
+  delivered-stands (Ok Took) is =
+      let here = at IsNext (sym arrives ∙ is.0) refl in
+      let lead = leads-known out new.known (sym (of-next is.0) ∙ is.1) in (
+        goes-on (Delivers note) turns new (refused-by IsNext (sym arrives ∙ is.0) refl ∙ ap is_no lead.1)
+            (kept-then (known_by turns) lead.0 (inbox_of (Delivers note ∷ turns)) out new lead.1 lead.2 (is.2 ∙ sym here.0)),
+        (sym arrives ∙ is.0, (lead.0, lead.1)),
+      )
+  delivered-stands (Ok Repeat) is =
+      (none IsRepeat is.0 refl refl (ap (λ (k : Kept). k.known) is.1) (ap (λ (k : Kept). k.inbox) is.1), sym arrives ∙ is.0)
+  delivered-stands (Ok Early) is =
+      (none IsEarly is.0 refl refl (ap (λ (k : Kept). k.known) is.1) (ap (λ (k : Kept). k.inbox) is.1), sym arrives ∙ is.0)
+  delivered-stands (Ok (Waits missing)) is =
+      (none (IsHeld missing) is.0 refl refl (ap (λ (k : Kept). k.known) is.1) (ap (λ (k : Kept). k.inbox) is.1), sym arrives ∙ is.0)
+  delivered-stands (Err Unknown) is = (away IsUnknown is.0 refl is.1, sym arrives ∙ is.0)
+  delivered-stands (Err (Full held)) is = (away (IsTooMany held) is.0 refl is.1, sym arrives ∙ is.0)
+  delivered-stands (Err (Jump expected first)) is =
+      let jump = leap-jumps out expected first (sym (of-next is.0) ∙ is.1) in
+      (stays (Delivers note) turns old new (refused-by IsNext (sym arrives ∙ is.0) refl ∙ ap is_no jump) stood is.2, (sym arrives ∙ is.0, jump))
+  delivered-stands (Err (Torn id)) is =
+      let torn = tear-tears out id (sym (of-next is.0) ∙ is.1) in
+      (stays (Delivers note) turns old new (refused-by IsNext (sym arrives ∙ is.0) refl ∙ ap is_no torn) stood is.2, (sym arrives ∙ is.0, torn))
+  delivered-stands (Err Mem) is = (tt, tt)
+
+pub delivered-unchanged : (arr : Arrival) (note : Note) (old new : Kept) (error : NotifyError) → IsDelivered arr note old new (Err error) → new ≡ old
+delivered-unchanged arr note old new Unknown is = is.1
+delivered-unchanged arr note old new (Full held) is = is.1
+delivered-unchanged arr note old new (Jump expected first) is = is.2
+delivered-unchanged arr note old new (Torn id) is = is.2
+delivered-unchanged arr note old new Mem is = is
+
+-- ---- a reply is taken
+
+pub answered-stands : (shown : Shown) (turns : List ReplicaTurn) (old new : Kept) (result : Result Read AnswerError) → StandsFor old turns → new.inbox ≡ old.inbox
+    → IsStep (answers old.known old.known.phase shown) old.known new.known result
+    → UnlessMem result (StandsFor new (and_turn (Shows shown) turns)) × IsAnswer (with_reply (known_by turns) (known_by turns).held shown) result
+answered-stands shown turns old new result stood box = by result
+  where
+    out : Outcome
+    out = with_reply (known_by turns) (known_by turns).held shown
+
+    becomes : answers old.known old.known.phase shown ≡ kept_outcome out
+    becomes = (λ i. answers (stood i).known (stood i).known.phase shown) ∙ sym (reply-kept (known_by turns).held (known_by turns) shown refl (turns-sound turns))
+
+    same : new.known ≡ old.known → new ≡ old
+    same e = λ i. record { known = e i; inbox = box i }
+
+    by : (result : Result Read AnswerError) → IsStep (answers old.known old.known.phase shown) old.known new.known result
+        → UnlessMem result (StandsFor new (and_turn (Shows shown) turns)) × IsAnswer out result
+    by (Ok read) is =
+        let lead = leads-known out new.known (sym becomes ∙ is) in (
+          goes-on (Shows shown) turns new (ap is_no lead.1)
+              (kept-then (known_by turns) lead.0 (inbox_of (Shows shown ∷ turns)) out new lead.1 lead.2 (box ∙ ap (λ (k : Kept). k.inbox) stood)),
+          (lead.0, lead.1),
+        )
+    by (Err AnswerUnreadable) is =
+        let unread = unread-cannot out (sym becomes ∙ is.0) in (stays (Shows shown) turns old new (ap is_no unread) stood (same is.1), unread)
+    by (Err (AnswerJump expected first)) is =
+        let jump = leap-jumps out expected first (sym becomes ∙ is.0) in (stays (Shows shown) turns old new (ap is_no jump) stood (same is.1), jump)
+    by (Err (AnswerTorn id)) is =
+        let torn = tear-tears out id (sym becomes ∙ is.0) in (stays (Shows shown) turns old new (ap is_no torn) stood (same is.1), torn)
+    by (Err AnswerMem) is = (tt, tt)
+
+pub step-unchanged : {X : Type 0} (becomes : Becomes X) (old new : X) (error : AnswerError) → IsStep becomes old new (Err error) → new ≡ old
+step-unchanged becomes old new AnswerUnreadable is = is.1
+step-unchanged becomes old new (AnswerJump expected first) is = is.1
+step-unchanged becomes old new (AnswerTorn id) is = is.1
+step-unchanged becomes old new AnswerMem is = is
+
+-- ---- a fact for every list of turns that holds unless memory ran out
+
+pub unless-full : {A : Type 0} (result : Result A NotifyError) (old new : Kept) (turn : ReplicaTurn)
+    → ((turns : List ReplicaTurn) → StandsFor old turns → UnlessFull result (StandsFor new (and_turn turn turns))) → UnlessFull result (TakesTurn old turn new)
+unless-full (Ok x) old new turn h = h
+unless-full (Err Unknown) old new turn h = h
+unless-full (Err (Full held)) old new turn h = h
+unless-full (Err (Jump expected first)) old new turn h = h
+unless-full (Err (Torn id)) old new turn h = h
+unless-full (Err Mem) old new turn h = tt
+
+pub unless-mem : (result : Result Read AnswerError) (old new : Kept) (turn : ReplicaTurn)
+    → ((turns : List ReplicaTurn) → StandsFor old turns → UnlessMem result (StandsFor new (and_turn turn turns))) → UnlessMem result (TakesTurn old turn new)
+unless-mem (Ok read) old new turn h = h
+unless-mem (Err AnswerUnreadable) old new turn h = h
+unless-mem (Err (AnswerJump expected first)) old new turn h = h
+unless-mem (Err (AnswerTorn id)) old new turn h = h
+unless-mem (Err AnswerMem) old new turn h = tt

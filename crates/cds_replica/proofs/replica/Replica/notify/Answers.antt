@@ -1,0 +1,12 @@
+use Rattle.cds_notes.specs.Inbox.{Delivers}
+use Rattle.cds_replica.proofs.Turning.{delivered-stands, unless-full}
+use Rattle.cds_replica.proofs.replica.Replica.notify.Goals as goal
+
+pub returns-clause-stands : goal.returns-clause-stands
+returns-clause-stands c =
+    unless-full c.deliver.result c.args.self.now c.deliver.new.self (Delivers c.args.note)
+    (λ turns stood. (delivered-stands c.args.note turns c.args.self.now c.deliver.new.self stood c.deliver.result c.deliver.ensures).0)
+
+pub returns-clause-answer : goal.returns-clause-answer
+returns-clause-answer c turns stood =
+    (delivered-stands c.args.note turns c.args.self.now c.deliver.new.self stood c.deliver.result c.deliver.ensures).1

@@ -1,0 +1,174 @@
+//! What a replica knows beside its notes.
+
+ghost use Rattle.std.specs.Prelude.{◌≡◌, IfOk, IsSome, option_copied, slice_get};
+ghost use Rattle.cds_notes.specs.Follow.{nothing_known};
+ghost use Rattle.cds_replica.specs.Answer.{read_of};
+ghost use Rattle.cds_replica.specs.Copied.{AreAbove, least_wanted};
+ghost use Rattle.cds_replica.specs.Keeping.{IsHeard, IsStep, kept_begun, hears, with_telling, answers, phase_ask, phase_rows, phase_tells, copy_tells, with_phase};
+ghost use Rattle.cds_replica.specs.Phases.{phase_in};
+ghost use Rattle.cds_replica.specs.Kept.{kept_known, kept_position};
+
+use crate::copy::CatalogCopy;
+use crate::phase::{Phase, read_object};
+use crate::stage::Stage;
+use crate::telling::Telling;
+use crate::{AnswerError, CountError};
+use cds_event::Event;
+use cds_model::{Ask, Read, Shown};
+use cds_notes::Says;
+use cds_object::Row;
+use std::alloc::Global;
+use std::marker::Model;
+use std::mem;
+
+/// The load or the copy; the number that the last ended load read; the greatest number of a note that was taken; and, while
+/// no copy stands, the changes of the notes that were taken since the load began.
+#[derive(Drop, Debug)]
+pub struct Knowledge {
+    phase: Phase,
+    base: u32,
+    heard: u32,
+    changes: Vec<Event>,
+}
+
+impl Model for Knowledge {
+    ghost use Rattle.cds_replica.specs.Kept.{KeptKnown};
+    ghost use Rattle.cds_replica.specs.Phases.{phase_in};
+
+    ghost Value = { KeptKnown };
+
+    ghost view = { λ k. record { phase = phase_in k.phase; base = k.base; heard = k.heard; changes = k.changes.items } };
+}
+
+impl Knowledge {
+    /// What is known before any turn, which takes no memory.
+    pub fn new(alloc: Global) -> Knowledge
+        ensures { result ≡ kept_known nothing_known }
+    {
+        Knowledge {
+            phase: Phase::Load(Stage::Idle),
+            base: 0,
+            heard: 0,
+            changes: Vec::new(alloc),
+        }
+    }
+
+    /// The greatest of the number that the last ended load read and the numbers of all notes that were taken.
+    pub fn position(&self) -> u32
+        ensures { result ≡ kept_position self.now }
+    {
+        self.base.max(self.heard)
+    }
+
+    /// The greatest number of a note that was taken.
+    pub fn heard(&self) -> u32
+        ensures { result ≡ self.now.heard }
+    {
+        self.heard
+    }
+
+    /// Drops the copy and begins a load.
+    pub fn begin_load(&mut self)
+        ensures { self.new ≡ kept_begun self.old }
+    {
+        self.phase = Phase::Load(Stage::Begun);
+        self.changes.clear();
+    }
+
+    /// Takes what notes tell. The first of them may drop the copy, and then a load begins.
+    pub fn hear(&mut self, alloc: Global, drops: bool, told: Telling) -> Result<(), CountError>
+        requires { AreAbove (kept_position self.old) told.changes }
+        ensures { IsHeard (with_telling drops told self.old) self.old self.new result }
+    {
+        if drops {
+            self.heard = told.heard();
+            self.phase = Phase::Load(Stage::Begun);
+            self.changes = told.into_changes();
+            return Ok(());
+        }
+        self.hear_changes(alloc, told)
+    }
+
+    /// Takes what notes tell, of which the first does not drop the copy.
+    fn hear_changes(&mut self, alloc: Global, told: Telling) -> Result<(), CountError>
+        requires { AreAbove (kept_position self.old) told.changes }
+        ensures { IsHeard (hears told self.old) self.old self.new result }
+    {
+        let at = self.position();
+        self.phase
+            .hear(alloc, at, &mut self.changes, told.changes())?;
+        self.heard = told.heard();
+        Ok(())
+    }
+
+    /// The next read.
+    pub fn next_ask(&self) -> Option<Ask>
+        ensures { result ≡ phase_ask self.now.phase }
+    {
+        self.phase.next_ask()
+    }
+
+    /// Takes the reply to the next ask.
+    pub fn take(&mut self, alloc: Global, shown: Shown) -> Result<Read, AnswerError>
+        ensures outcome { IsStep (answers self.old self.old.phase shown) self.old self.new result }
+        ensures read { IfOk result (λ read. read ≡ read_of shown) }
+    {
+        match mem::replace(&mut self.phase, Phase::Load(Stage::Idle)) {
+            Phase::Load(stage) => {
+                let (phase, answer) = stage.take(alloc, self.changes.as_slice(), shown);
+                self.goes_to(phase);
+                answer
+            }
+            Phase::Copy { number, mut copy } => {
+                let answer = read_object(&mut copy, shown);
+                self.phase = Phase::Copy { number, copy };
+                answer
+            }
+        }
+    }
+
+    /// Goes on with what a load led to. At its end nothing is kept any more for it.
+    fn goes_to(&mut self, phase: Phase)
+        ensures { self.new ≡ with_phase self.old (phase_in phase) }
+    {
+        if let Phase::Copy { number, .. } = &phase {
+            self.base = *number;
+            self.changes.clear();
+        }
+        self.phase = phase;
+    }
+
+    /// What is said where no SEQ is missing.
+    pub fn says(&self) -> Says
+        ensures { result ≡ phase_tells self.now self.now.phase }
+    {
+        match &self.phase {
+            Phase::Load(_) => Says::BehindLoad,
+            Phase::Copy { copy, .. } => copy_says(copy, self.position()),
+        }
+    }
+
+    /// The row of the copy at a place among those of which it is known what they say.
+    pub fn row(&self, at: usize) -> Option<&Row>
+        ensures { option_copied result ≡ slice_get (phase_rows self.now.phase) at }
+    {
+        self.phase.row(at)
+    }
+}
+
+/// What a copy says at a position.
+fn copy_says(copy: &CatalogCopy, position: u32) -> Says
+    ensures { result ≡ copy_tells position copy.now (least_wanted copy.now) }
+{
+    match copy.unread() {
+        Some(id) => Says::BehindRead { id },
+        None => {
+            let version = copy.read_up_to();
+            if position < version {
+                Says::BehindVersion { version }
+            } else {
+                Says::Stands { at: position }
+            }
+        }
+    }
+}

@@ -1,0 +1,101 @@
+//! The load or the copy of a replica.
+
+ghost use Rattle.std.specs.Prelude.{◌≡◌, IfOk, option_copied, slice_get};
+ghost use Rattle.cds_replica.specs.Answer.{read_of};
+ghost use Rattle.cds_replica.specs.Copied.{AreAbove, least_wanted};
+ghost use Rattle.cds_replica.specs.Keeping.{IsHeard, IsStep, hears_changes, copy_takes, row_of_read, phase_ask, phase_rows};
+ghost use Rattle.cds_replica.specs.Phases.{phase_in};
+
+use crate::copy::CatalogCopy;
+use crate::stage::Stage;
+use crate::taking::only_row;
+use crate::{AnswerError, CountError};
+use cds_event::Event;
+use cds_model::{Ask, Read, Shown};
+use cds_object::{Row, Rows};
+use std::alloc::Global;
+
+/// The stage of a load, or the copy that it ended with.
+#[derive(Drop, Debug)]
+pub enum Phase {
+    Load(Stage),
+    /// The copy of a load that read this number.
+    Copy { number: u32, copy: CatalogCopy },
+}
+
+impl Phase {
+    /// The next read.
+    pub fn next_ask(&self) -> Option<Ask>
+        ensures { result ≡ phase_ask (phase_in self.now) }
+    {
+        match self {
+            Phase::Load(stage) => stage.next_ask(),
+            Phase::Copy { copy, .. } => match copy.unread() {
+                Some(id) => Some(Ask::Metadata { id }),
+                None => None,
+            },
+        }
+    }
+
+    /// The row at a place among those of which it is known what they say.
+    pub fn row(&self, at: usize) -> Option<&Row>
+        ensures { option_copied result ≡ slice_get (phase_rows (phase_in self.now)) at }
+    {
+        match self {
+            Phase::Load(_) => None,
+            Phase::Copy { copy, .. } => copy.row(at),
+        }
+    }
+
+    /// Takes the changes that notes tell, each above the position: a load keeps them beside the others, and a copy counts
+    /// them.
+    pub fn hear(
+        &mut self,
+        alloc: Global,
+        at: u32,
+        changes: &mut Vec<Event>,
+        more: &[Event],
+    ) -> Result<(), CountError>
+        requires { AreAbove at more.now }
+        ensures { IsHeard (hears_changes (phase_in self.old) at changes.old.items more.now) (phase_in self.old, changes.old.items) (phase_in self.new, changes.new.items) result }
+    {
+        match self {
+            Phase::Load(Stage::Idle) => Ok(()),
+            Phase::Load(_) => {
+                changes.extend_from_slice(more)?;
+                Ok(())
+            }
+            Phase::Copy { copy, .. } => copy.count(alloc, at, more),
+        }
+    }
+}
+
+/// Takes the reply to the read of an unread object of a copy. A refusal leaves it as it was: the object stays unread.
+pub fn read_object(copy: &mut CatalogCopy, shown: Shown) -> Result<Read, AnswerError>
+    ensures outcome { IsStep (copy_takes copy.old (least_wanted copy.old) shown) copy.old copy.new result }
+    ensures read { IfOk result (λ read. read ≡ read_of shown) }
+{
+    let Some(id) = copy.unread() else {
+        return Err(AnswerError::Unreadable);
+    };
+    match shown {
+        Shown::Page { rows, .. } => read_row(copy, id, rows),
+        Shown::Fault { code } => Ok(Read::Fault { code }),
+        Shown::Text(_) | Shown::Number(_) => Err(AnswerError::Unreadable),
+    }
+}
+
+/// Takes an object's own row.
+fn read_row(copy: &mut CatalogCopy, id: u32, rows: Rows) -> Result<Read, AnswerError>
+    ensures outcome { IsStep (row_of_read copy.old id rows) copy.old copy.new result }
+    ensures read { IfOk result (λ read. read ≡ Read.Ok) }
+{
+    let Some(row) = only_row(rows) else {
+        return Err(AnswerError::Unreadable);
+    };
+    if copy.read(id, row) {
+        Ok(Read::Ok)
+    } else {
+        Err(AnswerError::Torn { id })
+    }
+}
