@@ -3,9 +3,6 @@ use Rattle.std.specs.Prelude.{◌≡◌, ◌+◌, ◌<◌, ◌≤◌, ◌^◌, �
 use Rattle.cds_object.specs.declared.record.Record.{Record}
 use Rattle.cds_store.specs.Rows.{rows_of}
 use Rattle.cds_store.specs.Stands.{Stored}
-use Rattle.cds_store.specs.Stands.{Stored, StandsFor}
-use Rattle.cds_model.specs.declared.turn.Turn.{Turn}
-use Rattle.cds_model.specs.Replica.{Held, held_by}
 use Rattle.cds_model.specs.Server.{Moment}
 use Rattle.cds_model.specs.Report.{script_token}
 use Rattle.cds_replica.specs.Kept.{Kept, StandsFor}
@@ -20,8 +17,6 @@ use Rattle.cds_replay.specs.Serving.{Serving, Serves}
 pub record Playing : Type 0 where
   pub server : Serving
   pub replica : Kept
-  pub store : Stored
-  pub replica : Held
   pub records : List Record
   pub clock : ℕ
   pub reply : Option (Option ℕ)

@@ -78,6 +78,7 @@ AnswersAreComplete turns = (newer older : List Turn) (name : ℕ) → turns ≡ 
 
 abbrev pub all_answers_are_complete : Type 0
 all_answers_are_complete = (turns : List Turn) → MayBe turns → AnswersAreComplete turns
+
 -- these premises are met: by the turns of a script that follows one note and reads until nothing is to be read
 abbrev pub followed_script : List ℕ
 followed_script =
