@@ -1,4 +1,5 @@
 pub mod Arriving
+pub mod Honest
 pub mod Inboxed
 pub mod Keeping
 pub mod KeptCounts

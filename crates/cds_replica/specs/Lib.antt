@@ -10,6 +10,7 @@ pub mod Copied
 pub mod CopySteps
 pub mod Ended
 pub mod Holding
+pub mod Honest
 pub mod Inboxed
 pub mod Keeping
 pub mod Kept

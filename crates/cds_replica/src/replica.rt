@@ -4,7 +4,8 @@ ghost use Rattle.cds_notes.specs.Follow.{known_by, next_ask, says, copied, with_
 ghost use Rattle.cds_replica.specs.Answer.{read_of};
 ghost use Rattle.cds_replica.specs.Called.{GoesOn, TakesTurn, IsNotice, IsAcceptance, IsAnswer, UnlessFull, UnlessMem, IsTaking, IsDelivered, of_notes, refusal_of};
 ghost use Rattle.cds_replica.specs.Inboxed.{arrival_in, follows, followers, taken_early, with_name, with_next};
-ghost use Rattle.cds_replica.specs.Keeping.{phase_ask, kept_says};
+ghost use Rattle.cds_replica.specs.Honest.{TakesGiven, HearsGiven, AcceptsGiven, SaysGiven, CompletesGiven};
+ghost use Rattle.cds_replica.specs.Keeping.{phase_ask, phase_rows, kept_says};
 ghost use Rattle.cds_replica.specs.Kept.{StandsFor};
 
 use crate::inbox::{Arrival, Inbox};
@@ -86,6 +87,7 @@ impl Replica {
         ensures unchanged { OnErr result (self.new ≡ self.old) }
         ensures stands { UnlessFull result (TakesTurn self.old (Accepts sid.0) self.new) }
         ensures answer { (turns : List ReplicaTurn) → StandsFor self.old turns → IsAcceptance (with_notes (taken_by (Accepts sid.0) turns) (known_by turns)) result }
+        ensures given { AcceptsGiven self.old sid.0 self.new result }
     {
         self.take_early(alloc, sid)
     }
@@ -118,6 +120,7 @@ impl Replica {
         ensures unchanged { OnErr result (self.new ≡ self.old) }
         ensures stands { UnlessFull result (TakesTurn self.old (Delivers note) self.new) }
         ensures answer { (turns : List ReplicaTurn) → StandsFor self.old turns → IsNotice (arrival note turns) (with_notes (taken_by (Delivers note) turns) (known_by turns)) result }
+        ensures given { HearsGiven self.old note self.new result }
     {
         self.deliver(alloc, note)
     }
@@ -182,6 +185,7 @@ impl Replica {
         ensures stands { UnlessMem result (TakesTurn self.old (Shows shown) self.new) }
         ensures answer { (turns : List ReplicaTurn) → StandsFor self.old turns → IsAnswer (with_reply (known_by turns) (known_by turns).held shown) result }
         ensures read { IfOk result (λ read. read ≡ read_of shown) }
+        ensures given { TakesGiven self.old shown self.new result }
     {
         self.known.take(alloc, shown)
     }
@@ -191,6 +195,8 @@ impl Replica {
     pub fn says(&self) -> Says
         ensures kept { result ≡ kept_says self.now }
         ensures says { (turns : List ReplicaTurn) → StandsFor self.now turns → result ≡ says turns }
+        ensures given { SaysGiven self.now result }
+        ensures complete { CompletesGiven self.now result }
     {
         match self.inbox.missing() {
             Some(missing) => Says::Gap { missing },
@@ -201,6 +207,7 @@ impl Replica {
     /// The row at a place among those of the copy of which it is known what they say, counted from 0, in ascending order of
     /// ids; `None` past the end and where no copy stands. It takes a walk over the rows.
     pub fn rows(&self, at: usize) -> Option<&Row>
+        ensures kept { option_copied result ≡ slice_get (phase_rows self.now.known.phase) at }
         ensures row { (turns : List ReplicaTurn) → StandsFor self.now turns → option_copied result ≡ slice_get (copied (known_by turns)) at }
     {
         self.known.row(at)

@@ -6,9 +6,6 @@ use Rattle.cds_replica.specs.Kept.{Kept}
 use Rattle.cds_replica.proofs.Keeping.{rows-kept}
 use Rattle.cds_replica.proofs.replica.Replica.rows.Goals as goal
 
-pub returns : goal.returns
-returns c = record {
-  row =
-      λ turns stood.
-      c.row.ensures ∙ ap (λ (rows : List ObjectRow). slice_get rows c.args.at) (ap (λ (kept : Kept). phase_rows kept.known.phase) (c.self.view_is ∙ stood) ∙ rows-kept turns);
-}
+pub returns-clause-row : goal.returns-clause-row
+returns-clause-row c turns stood =
+    c.row.ensures ∙ ap (λ (rows : List ObjectRow). slice_get rows c.args.at) (ap (λ (kept : Kept). phase_rows kept.known.phase) (c.self.view_is ∙ stood) ∙ rows-kept turns)
