@@ -113,6 +113,6 @@ says-given kept answer is first commands newest older number accepted given stoo
     }
 
 pub completes-given : (kept : Kept) (answer : Says) → answer ≡ kept_says kept → CompletesGiven kept answer
-completes-given kept answer is first commands newest older name now accepted given all stood begun named alive received released nothing =
+completes-given kept answer is first commands newest older name now accepted given stood begun named alive received released nothing =
     is ∙ ap kept_says stood ∙ says-kept (given_by first commands (newest ∷ older))
-    ∙ answers-complete first commands newest older name now accepted given all begun named alive received released nothing
+    ∙ answers-complete first commands newest older name now accepted given begun named alive received released nothing

@@ -18,11 +18,3 @@ pub mod Runs
 pub mod Tellings
 pub mod Turning
 pub mod Waiting
-pub mod KeptIds
-pub mod KeptSteps
-pub mod KeptUnread
-pub mod KeptCounts
-pub mod KeptOutlines
-pub mod KeptLoops
-pub mod KeptTurns
-pub mod KeptEnding

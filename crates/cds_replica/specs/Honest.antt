@@ -77,12 +77,11 @@ SaysGiven kept answer = (first : ℕ) (commands : List Command) (newest : Entry)
     IsGiven first commands (newest ∷ older) → StandsFor kept (given_by first commands (newest ∷ older)) → answer ≡ Stands number →
     StoodAfter first commands (length_at newest) number (phase_rows kept.known.phase)
 
--- the answer is complete: where a load was begun, the newest entry knew all commands, the subscription that was accepted last
--- lives, each note that was sent to it was received, no change waits for its release, and nothing is to be read, the replica
+-- the answer is complete: where a load was begun, the subscription that was accepted last lives, each note that was sent to it was received, no change waits for its release, and nothing is to be read, the replica
 -- stands at the server's number
 abbrev pub CompletesGiven : Kept → Says → Type 0
 CompletesGiven kept answer = (first : ℕ) (commands : List Command) (newest : Entry) (older : List Entry) (name now : ℕ) → AreAccepted first commands →
-    IsGiven first commands (newest ∷ older) → length commands ≤ length_at newest →
+    IsGiven first commands (newest ∷ older) →
     StandsFor kept (given_by first commands (newest ∷ older)) →
     load_was_begun (given_by first commands (newest ∷ older)) ≡ true →
     accepted (given_by first commands (newest ∷ older)) ≡ Some name →

@@ -9,13 +9,8 @@ pub mod Called
 pub mod Copied
 pub mod CopySteps
 pub mod Ended
-pub mod Holding
-pub mod Honest
-pub mod Inboxed
 pub mod Keeping
 pub mod Kept
-pub mod Known
 pub mod LoadTurns
 pub mod Outlines
 pub mod Phases
-pub mod Telling

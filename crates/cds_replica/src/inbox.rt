@@ -3,6 +3,7 @@
 
 ghost use Rattle.std.specs.Prelude.{◌≡◌, ◌^◌, ◌<◌, ◌≤◌, ◌&&◌, ◌||◌, [], ◌∷◌, cond, filter, not, nat_eq, nat_lt, nat_le, IsTrue, IfOk, OnOk, OnErr, option_copied};
 ghost use Rattle.std.specs.List.{list_any};
+ghost use Rattle.std.specs.Option.{option_map};
 ghost use Rattle.cds_notes.specs.Inbox.{has_seq, is_same_note, held_limit, missing_of, IsEarly, IsHeld, IsNext};
 ghost use Rattle.cds_notes.specs.Follow.{is_drop};
 ghost use Rattle.cds_replica.specs.Arrivals.{arrival_of};
@@ -70,6 +71,13 @@ impl Inbox {
             waiting: Vec::new(alloc),
             early: Vec::new(alloc),
         }
+    }
+
+    /// The name that was accepted last.
+    pub fn accepted(&self) -> Option<Sid>
+        ensures { option_map (λ sid. sid.0) result ≡ self.now.accepted }
+    {
+        self.accepted
     }
 
     /// Whether a subscribe request is out.

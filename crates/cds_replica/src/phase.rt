@@ -1,12 +1,15 @@
 //! The load or the copy of a replica.
 
-ghost use Rattle.std.specs.Prelude.{◌≡◌, IfOk, option_copied, slice_get};
+ghost use Rattle.std.specs.Prelude.{◌≡◌, map, IfOk, option_copied, slice_get};
+ghost use Rattle.std.specs.List.{filter_map};
+ghost use Rattle.cds_notes.specs.Copy.{shown_row};
 ghost use Rattle.cds_replica.specs.Answer.{read_of};
 ghost use Rattle.cds_replica.specs.Copied.{AreAbove, least_wanted};
 ghost use Rattle.cds_replica.specs.Keeping.{IsHeard, IsStep, hears_changes, copy_takes, row_of_read, phase_ask, phase_rows};
 ghost use Rattle.cds_replica.specs.Phases.{phase_in};
 
 use crate::copy::CatalogCopy;
+use crate::copy_row::CopyRow;
 use crate::stage::Stage;
 use crate::taking::only_row;
 use crate::{AnswerError, CountError};
@@ -44,6 +47,16 @@ impl Phase {
         match self {
             Phase::Load(_) => None,
             Phase::Copy { copy, .. } => copy.row(at),
+        }
+    }
+
+    /// The rows of the copy; a load has none.
+    pub fn rows(&self) -> &[CopyRow]
+        ensures { filter_map shown_row (map (λ kept. kept.row) result.now) ≡ phase_rows (phase_in self.now) }
+    {
+        match self {
+            Phase::Load(_) => &[],
+            Phase::Copy { copy, .. } => copy.rows(),
         }
     }
 

@@ -1,5 +1,8 @@
-ghost use Rattle.std.specs.Prelude.{◌≡◌, [], List, ◌∷◌, IsOk, IfOk, IsSome, IsTrue, OnErr, option_copied, slice_get};
-ghost use Rattle.cds_notes.specs.Inbox.{ReplicaTurn, Begins, Shows, Requests, Accepts, Refuses, Delivers, arrival, taken_by};
+ghost use Rattle.std.specs.Prelude.{◌≡◌, [], List, ◌∷◌, map, IsOk, IfOk, IsSome, IsTrue, OnErr, option_copied, slice_get};
+ghost use Rattle.std.specs.List.{filter_map};
+ghost use Rattle.std.specs.Option.{option_map};
+ghost use Rattle.cds_notes.specs.Copy.{shown_row};
+ghost use Rattle.cds_notes.specs.Inbox.{ReplicaTurn, Begins, Shows, Requests, Accepts, Refuses, Delivers, accepted, arrival, taken_by};
 ghost use Rattle.cds_notes.specs.Follow.{known_by, next_ask, says, copied, with_notes, with_reply};
 ghost use Rattle.cds_replica.specs.Answer.{read_of};
 ghost use Rattle.cds_replica.specs.Called.{GoesOn, TakesTurn, IsNotice, IsAcceptance, IsAnswer, UnlessFull, UnlessMem, IsTaking, IsDelivered, of_notes, refusal_of};
@@ -8,6 +11,7 @@ ghost use Rattle.cds_replica.specs.Honest.{TakesGiven, HearsGiven, AcceptsGiven,
 ghost use Rattle.cds_replica.specs.Keeping.{phase_ask, phase_rows, kept_says};
 ghost use Rattle.cds_replica.specs.Kept.{StandsFor};
 
+use crate::copy_row::CopyRow;
 use crate::inbox::{Arrival, Inbox};
 use crate::knowledge::Knowledge;
 use crate::note::{Note, Sid, Taken};
@@ -211,6 +215,22 @@ impl Replica {
         ensures row { (turns : List ReplicaTurn) → StandsFor self.now turns → option_copied result ≡ slice_get (copied (known_by turns)) at }
     {
         self.known.row(at)
+    }
+
+    /// The rows of the copy, in ascending order of ids; none where no copy stands. Of some it may not be known what they say.
+    pub fn copy(&self) -> &[CopyRow]
+        ensures kept { filter_map shown_row (map (λ kept. kept.row) result.now) ≡ phase_rows self.now.known.phase }
+        ensures rows { (turns : List ReplicaTurn) → StandsFor self.now turns → filter_map shown_row (map (λ kept. kept.row) result.now) ≡ copied (known_by turns) }
+    {
+        self.known.rows()
+    }
+
+    /// The name of the subscription that was accepted last.
+    pub fn accepted(&self) -> Option<Sid>
+        ensures kept { option_map (λ sid. sid.0) result ≡ self.now.inbox.accepted }
+        ensures name { (turns : List ReplicaTurn) → StandsFor self.now turns → option_map (λ sid. sid.0) result ≡ accepted turns }
+    {
+        self.inbox.accepted()
     }
 }
 
