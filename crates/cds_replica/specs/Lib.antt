@@ -1,5 +1,6 @@
 pub mod Answer
 pub mod Arrivals
+pub mod Attempted
 pub mod Called
 pub mod Copied
 pub mod CopySteps
