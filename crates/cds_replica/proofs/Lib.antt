@@ -1,4 +1,5 @@
 pub mod Arriving
+pub mod Attempted
 pub mod Honest
 pub mod Inboxed
 pub mod Keeping

@@ -5,6 +5,7 @@ pub mod Honest
 pub mod Inboxed
 pub mod Known
 pub mod Telling
+pub mod Attempted
 pub mod Called
 pub mod Copied
 pub mod CopySteps

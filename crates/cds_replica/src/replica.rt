@@ -3,13 +3,17 @@ ghost use Rattle.std.specs.List.{filter_map};
 ghost use Rattle.std.specs.Option.{option_map};
 ghost use Rattle.cds_notes.specs.Copy.{shown_row};
 ghost use Rattle.cds_notes.specs.Inbox.{ReplicaTurn, Begins, Shows, Requests, Accepts, Refuses, Delivers, accepted, arrival, taken_by};
+ghost use Rattle.std.specs.Prelude.{◌≡◌, [], List, ◌∷◌, IsOk, IfOk, IfSome, IsSome, IsTrue, OnErr, option_copied, slice_get};
+ghost use Rattle.cds_notes.specs.Inbox.{ReplicaTurn, Begins, Shows, Requests, Accepts, Refuses, Delivers, arrival, taken_by};
 ghost use Rattle.cds_notes.specs.Follow.{known_by, next_ask, says, copied, with_notes, with_reply};
 ghost use Rattle.cds_replica.specs.Answer.{read_of};
+ghost use Rattle.cds_replica.specs.Attempted.{AsksByAttempt, TakesByAttempt, SaysByAttempt};
 ghost use Rattle.cds_replica.specs.Called.{GoesOn, TakesTurn, IsNotice, IsAcceptance, IsAnswer, UnlessFull, UnlessMem, IsTaking, IsDelivered, of_notes, refusal_of};
 ghost use Rattle.cds_replica.specs.Inboxed.{arrival_in, follows, followers, taken_early, with_name, with_next};
 ghost use Rattle.cds_replica.specs.Honest.{TakesGiven, HearsGiven, AcceptsGiven, SaysGiven, CompletesGiven};
 ghost use Rattle.cds_replica.specs.Keeping.{phase_ask, phase_rows, kept_says};
 ghost use Rattle.cds_replica.specs.Kept.{StandsFor};
+ghost use Rattle.cds_replica.specs.LoadTurns.{WasShown};
 
 use crate::copy_row::CopyRow;
 use crate::inbox::{Arrival, Inbox};
@@ -174,6 +178,7 @@ impl Replica {
     pub fn next_ask(&self) -> Option<Ask>
         ensures kept { result ≡ phase_ask self.now.known.phase }
         ensures next { (turns : List ReplicaTurn) → StandsFor self.now turns → result ≡ next_ask (known_by turns) }
+        ensures attempt { AsksByAttempt self.now result }
     {
         self.known.next_ask()
     }
@@ -190,6 +195,7 @@ impl Replica {
         ensures answer { (turns : List ReplicaTurn) → StandsFor self.old turns → IsAnswer (with_reply (known_by turns) (known_by turns).held shown) result }
         ensures read { IfOk result (λ read. read ≡ read_of shown) }
         ensures given { TakesGiven self.old shown self.new result }
+        ensures attempt { TakesByAttempt self.old shown result }
     {
         self.known.take(alloc, shown)
     }
@@ -201,6 +207,7 @@ impl Replica {
         ensures says { (turns : List ReplicaTurn) → StandsFor self.now turns → result ≡ says turns }
         ensures given { SaysGiven self.now result }
         ensures complete { CompletesGiven self.now result }
+        ensures attempt { SaysByAttempt self.now result }
     {
         match self.inbox.missing() {
             Some(missing) => Says::Gap { missing },
@@ -213,6 +220,7 @@ impl Replica {
     pub fn rows(&self, at: usize) -> Option<&Row>
         ensures kept { option_copied result ≡ slice_get (phase_rows self.now.known.phase) at }
         ensures row { (turns : List ReplicaTurn) → StandsFor self.now turns → option_copied result ≡ slice_get (copied (known_by turns)) at }
+        ensures shown { (turns : List ReplicaTurn) → StandsFor self.now turns → IfSome result (λ row. WasShown row.now turns) }
     {
         self.known.row(at)
     }

@@ -4,6 +4,7 @@ use Rattle.cds_replica.specs.Keeping.{IsStep, answers}
 use Rattle.cds_replica.specs.Kept.{KeptKnown, Kept}
 use Rattle.cds_replica.proofs.Turning.{answered-stands, unless-mem}
 use Rattle.cds_replica.proofs.Honest.{takes-given}
+use Rattle.cds_replica.proofs.Attempted.{takes-by_attempt}
 use Rattle.cds_replica.proofs.replica.Replica.take.Goals as goal
 
 pub returns-clause-stands : goal.returns-clause-stands
@@ -25,3 +26,6 @@ returns-clause-given c =
     let step = subst (λ (known : KeptKnown). IsStep (answers known known.phase c.args.shown) known c.take.new.self c.take.result) (ap (λ (kept : Kept). kept.known) c.self.view_is) c.take.ensures.outcome in
     takes-given c.args.self.now new c.args.shown c.take.result
     (λ turns stood. answered-stands c.args.shown turns c.args.self.now new c.take.result stood (ap (λ (kept : Kept). kept.inbox) c.self.view_is) step)
+
+pub returns-clause-attempt : goal.returns-clause-attempt
+returns-clause-attempt c = takes-by_attempt c.args.self.now c.args.shown c.take.result (returns-clause-answer c)

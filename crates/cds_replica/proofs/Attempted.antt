@@ -1,0 +1,149 @@
+-- The load in a replica's turns, by its attempt.
+use Rattle.std.proofs.Common.{◌≡◌, ◌⊎◌, inl, inr, ◌+◌, ℕ, Bool, true, false, cond, nat_eq, nat_lt, List, [], ◌∷◌, Option, Some, None, Result, Ok, Err, refl, sym, ap, ◌∙◌, subst, true≢false, zero, suc, Bor}
+use Rattle.std.specs.Prelude.{IfSome, option_copied, slice_get}
+use Rattle.std.specs.List.{AllByRecursion}
+use Rattle.cds_object.specs.Object.{ObjectRow}
+use Rattle.cds_event.specs.declared.Event.{Event}
+use Rattle.cds_changes.specs.Events.{update_of}
+use Rattle.cds_model.specs.Attempts.{Verdict, Fine, CannotBeRead as NotRead, CannotBe as CannotCome, verdict_of, attempt_of, ask_in, verdict_by, says_by, ShowsRows}
+use Rattle.cds_model.specs.Replica.{Held, Idle, Begun, HasToken, HasNumber, HasRoot, Lists, HasPage, HasCopy, Taken, Holds, Unreadable as NotReadable, Torn as CannotBe, taken, held_by, next_ask as load_ask, says as load_says, Shows as LoadShows}
+use Rattle.cds_model.specs.declared.exchange.Ask.{Ask}
+use Rattle.cds_model.specs.declared.exchange.Read.{Read}
+use Rattle.cds_model.specs.declared.exchange.Shown.{Shown}
+use Rattle.cds_model.specs.declared.exchange.Says.TheVariants.{BehindLoad as LoadRuns, Stands as LoadStands}
+use Rattle.cds_notes.specs.Copy.{rows_after, least_unread, read_up_to}
+use Rattle.cds_notes.specs.Inbox.{ReplicaTurn, missing}
+use Rattle.cds_notes.specs.Follow.{Known, position, Outcome, Knows, CannotBeRead, Jumps, Tears, first_torn, judged, counted_from, load_ended, loaded, with_reply, known_by, next_ask, ask_of, copy_says, says_without_gap, says_of, says, copied, changes_above}
+use Rattle.cds_notes.specs.KnownLaws.{has_copy}
+use Rattle.cds_notes.specs.declared.says.Says.{Says}
+use Rattle.cds_notes.specs.declared.says.Says.TheVariants.{BehindLoad, BehindRead, BehindVersion, Stands}
+use Rattle.cds_replica.specs.Attempted.{AsksByAttempt, TakesByAttempt, SaysByAttempt, IsVerdict}
+use Rattle.cds_replica.specs.Called.{IsTaken, IsAnswer}
+use Rattle.cds_replica.specs.Kept.{Kept, StandsFor}
+use Rattle.cds_model.proofs.Traces.{asks-of_attempts, refusals-of_attempts, answers-of_attempts}
+use Rattle.cds_replica.specs.LoadTurns.{loads_of, WasShown}
+use Rattle.cds_replica.proofs.KeptLoads.{held-of-loads, copied-were-shown}
+use Rattle.cds_replica.specs.declared.error.AnswerError.{AnswerError}
+use Rattle.cds_replica.specs.declared.error.AnswerError.TheVariants.{Unreadable, Jump, Torn, Mem}
+
+-- ---- the next ask
+
+ask-load : (known : Known) (held : Held) → has_copy held ≡ false → ask_of known held ≡ load_ask held
+ask-load known Idle e = refl
+ask-load known Begun e = refl
+ask-load known HasToken e = refl
+ask-load known (HasNumber number) e = refl
+ask-load known (HasRoot number root) e = refl
+ask-load known (Lists number listing) e = refl
+ask-load known (HasPage number listing page) e = refl
+ask-load known (HasCopy number rows) e = absurd (true≢false e)
+
+pub asks-by_attempt : (kept : Kept) (result : Option Ask) → ((turns : List ReplicaTurn) → StandsFor kept turns → result ≡ next_ask (known_by turns)) → AsksByAttempt kept result
+asks-by_attempt kept result next turns stood rows load =
+    next turns stood ∙ ask-load (known_by turns) (known_by turns).held load ∙ ap load_ask (held-of-loads turns) ∙ asks-of_attempts (loads_of turns) rows
+
+-- ---- replies to the load
+
+counted-read : (rows : List ObjectRow) (known : Known) (at : ℕ) (events : List Event) → counted_from rows known at events ≡ CannotBeRead → ⊥
+counted-read rows known at [] e = cc
+counted-read rows known at (event ∷ events) e = by (nat_eq (update_of event) (at + 1)) (first_torn (rows_after rows known.happenings) (event ∷ events)) e
+  where
+    by : (b : Bool) (o : Option ℕ) → cond b (judged known (event ∷ events) o) (Jumps (at + 1) (update_of event)) ≡ CannotBeRead → ⊥
+    by true (Some id) f = cc
+    by true None f = cc
+    by false o f = cc
+
+loaded-read : (known : Known) (held : Held) → loaded known (Holds held) ≡ CannotBeRead → ⊥
+loaded-read known Idle e = cc
+loaded-read known Begun e = cc
+loaded-read known HasToken e = cc
+loaded-read known (HasNumber number) e = cc
+loaded-read known (HasRoot number root) e = cc
+loaded-read known (Lists number listing) e = cc
+loaded-read known (HasPage number listing page) e = cc
+loaded-read known (HasCopy number rows) e =
+    counted-read rows (record { held = HasCopy number rows; base = number; heard = known.heard; kept = []; happenings = [] }) number (changes_above number known.kept) e
+
+verdict-loaded : (known : Known) (becomes : Taken) (result : Result Read AnswerError) → IsAnswer (loaded known becomes) result → IsVerdict (verdict_of becomes) result
+verdict-loaded known NotReadable (Ok read) is = let no : CannotBeRead ≡ Knows is.0 = is.1 in cc
+verdict-loaded known NotReadable (Err Unreadable) is = refl
+verdict-loaded known NotReadable (Err (Jump expected first)) is = cc
+verdict-loaded known NotReadable (Err (Torn id)) is = cc
+verdict-loaded known NotReadable (Err Mem) is = tt
+verdict-loaded known (CannotBe other) (Ok read) is = let no : Tears other ≡ Knows is.0 = is.1 in cc
+verdict-loaded known (CannotBe other) (Err Unreadable) is = cc
+verdict-loaded known (CannotBe other) (Err (Jump expected first)) is = cc
+verdict-loaded known (CannotBe other) (Err (Torn id)) is = inl same
+  where
+    same : CannotCome other ≡ CannotCome id
+    same = ap (λ (n : ℕ). CannotCome n) (tears other id is)
+      where
+        tears : (a b : ℕ) → Tears a ≡ Tears b → a ≡ b
+        tears a b e = cc
+verdict-loaded known (CannotBe other) (Err Mem) is = tt
+verdict-loaded known (Holds held) (Ok read) is = refl
+verdict-loaded known (Holds held) (Err Unreadable) is = absurd (loaded-read known held is)
+verdict-loaded known (Holds held) (Err (Jump expected first)) is = refl
+verdict-loaded known (Holds held) (Err (Torn id)) is = inr refl
+verdict-loaded known (Holds held) (Err Mem) is = tt
+
+reply-loaded : (known : Known) (held : Held) (shown : Shown) → has_copy held ≡ false → with_reply known held shown ≡ loaded known (taken held shown)
+reply-loaded known Idle shown e = refl
+reply-loaded known Begun shown e = refl
+reply-loaded known HasToken shown e = refl
+reply-loaded known (HasNumber number) shown e = refl
+reply-loaded known (HasRoot number root) shown e = refl
+reply-loaded known (Lists number listing) shown e = refl
+reply-loaded known (HasPage number listing page) shown e = refl
+reply-loaded known (HasCopy number rows) shown e = absurd (true≢false e)
+
+pub takes-by_attempt : (kept : Kept) (shown : Shown) (result : Result Read AnswerError)
+    → ((turns : List ReplicaTurn) → StandsFor kept turns → IsAnswer (with_reply (known_by turns) (known_by turns).held shown) result) → TakesByAttempt kept shown result
+takes-by_attempt kept shown result answer turns stood rows load =
+    subst (λ (v : Verdict). IsVerdict v result) (ap (λ (h : Held). verdict_of (taken h shown)) (held-of-loads turns) ∙ refusals-of_attempts (loads_of turns) shown rows)
+    (verdict-loaded (known_by turns) (taken (known_by turns).held shown) result
+      (subst (λ (o : Outcome). IsAnswer o result) (reply-loaded (known_by turns) (known_by turns).held shown load) (answer turns stood)))
+
+-- ---- whether a copy stands
+
+copy-runs : (known : Known) (o : Option ℕ) → copy_says known o ≡ BehindLoad → ⊥
+copy-runs known (Some id) e = cc
+copy-runs known None e = by (nat_lt (position known) (read_up_to known.happenings)) e
+  where
+    by : (b : Bool) → cond b (BehindVersion (read_up_to known.happenings)) (Stands (position known)) ≡ BehindLoad → ⊥
+    by true f = cc
+    by false f = cc
+
+runs-same : (known : Known) (held : Held) → (says_without_gap known held ≡ BehindLoad → load_says held ≡ LoadRuns) × (load_says held ≡ LoadRuns → says_without_gap known held ≡ BehindLoad)
+runs-same known Idle = (λ e. refl, λ e. refl)
+runs-same known Begun = (λ e. refl, λ e. refl)
+runs-same known HasToken = (λ e. refl, λ e. refl)
+runs-same known (HasNumber number) = (λ e. refl, λ e. refl)
+runs-same known (HasRoot number root) = (λ e. refl, λ e. refl)
+runs-same known (Lists number listing) = (λ e. refl, λ e. refl)
+runs-same known (HasPage number listing page) = (λ e. refl, λ e. refl)
+runs-same known (HasCopy number rows) = (λ e. absurd (copy-runs known (least_unread known.happenings) e), λ e. absurd (stands number e))
+  where
+    stands : (n : ℕ) → LoadStands n ≡ LoadRuns → ⊥
+    stands n e = cc
+
+pub says-by_attempt : (kept : Kept) (result : Says) → ((turns : List ReplicaTurn) → StandsFor kept turns → result ≡ says turns) → SaysByAttempt kept result
+says-by_attempt kept result said turns stood rows none =
+    let whole : result ≡ says_without_gap (known_by turns) (known_by turns).held = said turns stood ∙ ap (λ (o : Option ℕ). says_of o (known_by turns)) none in
+    let load : load_says (known_by turns).held ≡ says_by (attempt_of (loads_of turns)) = ap load_says (held-of-loads turns) ∙ answers-of_attempts (loads_of turns) rows in
+    let same = runs-same (known_by turns) (known_by turns).held in
+    (λ e. sym load ∙ same.0 (sym whole ∙ e), λ e. whole ∙ same.1 (load ∙ e))
+
+-- ---- the rows were shown
+
+at-place : (P : ObjectRow → Type 0) (rows : List ObjectRow) (at : ℕ) (row : ObjectRow) → AllByRecursion P rows → slice_get rows at ≡ Some row → P row
+at-place P [] at row all e = absurd (cc)
+at-place P (next ∷ rows) zero row all e = let same : next ≡ row = cc in subst P same all.0
+at-place P (next ∷ rows) (suc at) row all e = at-place P rows at row all.1 e
+
+pub rows-shown : (kept : Kept) (at : ℕ) (result : Option (Bor ObjectRow)) (turns : List ReplicaTurn)
+    → ((turns : List ReplicaTurn) → StandsFor kept turns → option_copied result ≡ slice_get (copied (known_by turns)) at) → StandsFor kept turns
+    → IfSome result (λ row. WasShown row.now turns)
+rows-shown kept at None turns is stood = tt
+rows-shown kept at (Some row) turns is stood =
+    at-place (λ (r : ObjectRow). WasShown r turns) (copied (known_by turns)) at row.now (copied-were-shown turns) (sym (is turns stood))
