@@ -2,3 +2,10 @@ pub mod Numbers
 pub mod Within
 pub mod Spans
 pub mod Told
+pub mod NotedEvents
+pub mod NotedContainers
+pub mod Places
+pub mod Subtrees
+pub mod Done
+pub mod Orderly
+pub mod Marks

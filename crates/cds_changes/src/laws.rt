@@ -21,3 +21,13 @@ pub fn spans_join()
 pub fn spans_stay()
     ensures { laws.spans_stay }
 {}
+
+/// The noted events of a history are its events.
+pub fn noted_are_events()
+    ensures { laws.noted_are_events }
+{}
+
+/// The noted events of a history tell which containers a span touched, and what it deleted.
+pub fn noted_tell_containers()
+    ensures { laws.noted_tell_containers }
+{}

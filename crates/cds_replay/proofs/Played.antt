@@ -6,7 +6,8 @@ use Rattle.cds_catalog.specs.History.{History}
 use Rattle.cds_catalog.specs.Scans.{history_by, after_scan}
 use Rattle.cds_catalog.specs.Steps.{Standing}
 use Rattle.cds_store.specs.Applied.{Applied}
-use Rattle.cds_store.specs.Stands.{StandsFor}
+use Rattle.cds_store.specs.Rows.{rows_of}
+use Rattle.cds_store.specs.Stands.{Stored, StandsFor}
 use Rattle.cds_store.specs.declared.span.Span.{Span}
 use Rattle.cds_store.specs.declared.error.ApplyError.{ApplyError}
 use Rattle.cds_store.specs.declared.error.ApplyError.TheVariants.{BadRecords, Full, Spent, Mem as NoMemory}
@@ -17,7 +18,7 @@ use Rattle.cds_model.specs.declared.exchange.Read.{Read as Outcome}
 use Rattle.cds_model.specs.declared.exchange.Shown.{Shown}
 use Rattle.cds_model.specs.Server.{reply_to}
 use Rattle.cds_model.specs.Replica.{Held, Taken, Holds, Unreadable as CannotBeRead, Torn as CannotBe, held_after, held_by, next_ask, taken}
-use Rattle.cds_model.specs.Report.{history_of, replica_turns, moment_of, after_read}
+use Rattle.cds_model.specs.Report.{history_of, replica_turns, moment_of, after_read, script_token}
 use Rattle.cds_model.proofs.Turns.{read-taken}
 use Rattle.cds_replica.specs.Answer.{IsOutcome}
 use Rattle.cds_replica.specs.declared.error.AnswerError.{AnswerError}
@@ -33,7 +34,8 @@ ask-is playing turns ask after e = ap next_ask (sym after.replica) ∙ e
 -- the store's reply is that of the turns' server
 pub reply-is : (playing : Playing) (turns : List Turn) (ask : Asked) (shown : Shown) → IsAfter playing turns →
     shown ≡ reply_to (moment_in playing.store) ask → shown ≡ reply_to (moment_of turns) ask
-reply-is playing turns ask shown after is = is ∙ ap (λ (s : Standing). reply_to (moment_in s) ask) after.store.1
+reply-is playing turns ask shown after is =
+    is ∙ ap (λ (s : Standing). reply_to (record { token = script_token; number = s.number; rows = rows_of s.rows }) ask) after.store.1
 
 -- so it is taken
 pub reply-taken : (playing : Playing) (ask : Asked) (shown : Shown) → IsPlayed playing → next_ask playing.replica ≡ Some ask →
@@ -77,22 +79,22 @@ read-played playing held ask shown (Err Mem) played e is outcome =
     subst (λ (h : Held). IsPlayed (record { store = playing.store; replica = h; records = playing.records })) (sym outcome) played
 
 -- a store that stands for a history stands for it and the scan that was answered
-pub scan-stands : (history : History) (records : List Record) (answer : Result Span ApplyError) (old new : Standing) → StandsFor old history →
+pub scan-stands : (history : History) (records : List Record) (answer : Result Span ApplyError) (old new : Stored) → StandsFor old history →
     Applied history records answer old new → was_answered answer ≡ true → StandsFor new (after_scan history records)
 scan-stands history records (Ok span) old new stands applied told =
     subst (λ a. StandsFor new (history_by history records a)) (sym applied.0) applied.1
 scan-stands history records (Err (BadRecords line)) old new stands applied told =
-    subst (λ (s : Standing). StandsFor s (after_scan history records)) (sym applied.1)
+    subst (λ (s : Stored). StandsFor s (after_scan history records)) (sym applied.1)
     (subst (λ a. StandsFor old (history_by history records a)) (sym applied.0) stands)
 scan-stands history records (Err (Full objects)) old new stands applied told =
-    subst (λ (s : Standing). StandsFor s (after_scan history records)) (sym applied.1)
+    subst (λ (s : Stored). StandsFor s (after_scan history records)) (sym applied.1)
     (subst (λ a. StandsFor old (history_by history records a)) (sym applied.0) stands)
 scan-stands history records (Err (Spent needed)) old new stands applied told =
-    subst (λ (s : Standing). StandsFor s (after_scan history records)) (sym applied.1)
+    subst (λ (s : Stored). StandsFor s (after_scan history records)) (sym applied.1)
     (subst (λ a. StandsFor old (history_by history records a)) (sym applied.0) stands)
 scan-stands history records (Err NoMemory) old new stands applied told = absurd (cc)
 
-pub scan-played : (playing : Playing) (new : Standing) (answer : Result Span ApplyError) → IsPlayed playing →
+pub scan-played : (playing : Playing) (new : Stored) (answer : Result Span ApplyError) → IsPlayed playing →
     ((history : History) → StandsFor playing.store history → Applied history playing.records answer playing.store new) → was_answered answer ≡ true →
     IsPlayed (record { store = new; replica = playing.replica; records = [] })
 scan-played playing new answer played applied told =

@@ -6,7 +6,7 @@ use Rattle.cds_object.specs.Tree.{row_of, is_child_of, children_of, IsTree}
 use Rattle.cds_catalog.specs.Steps.{Standing}
 use Rattle.cds_catalog.proofs.StepsTree.{catalogs_are_trees-proof}
 use Rattle.cds_store.specs.Rows.{rows_of}
-use Rattle.cds_store.specs.Stands.{IsStore}
+use Rattle.cds_store.specs.Stands.{Stored, IsStore}
 use Rattle.cds_model.specs.Server.{Moment, page_size, update_of, children_reply}
 use Rattle.cds_model.specs.declared.exchange.Shown.TheVariants.{Page, Fault}
 use Rattle.cds_model.proofs.Merge.{filter-all}
@@ -14,7 +14,7 @@ use Rattle.cds_model.proofs.Pages.{take-all, drop-all}
 use Rattle.cds_model.proofs.Trees.{ascend-rises, each-found}
 
 -- the rows of a store are a tree
-pub store-tree : (store : Standing) → IsStore store → IsTree (rows_of store.rows)
+pub store-tree : (store : Stored) → IsStore store → IsTree (rows_of store.standing.rows)
 store-tree store is =
     let P : Standing → Type 0 = λ s. IsTree (rows_of s.rows) in subst P (sym is.stands.1) (catalogs_are_trees-proof is.history is.stands.0)
 

@@ -1,9 +1,8 @@
 -- What a session of a script has, and for which turns it stands.
 use Rattle.std.specs.Prelude.{◌≡◌, List, [], ◌∷◌, ◌++◌}
 use Rattle.cds_object.specs.declared.record.Record.{Record}
-use Rattle.cds_catalog.specs.Steps.{Standing}
 use Rattle.cds_store.specs.Rows.{rows_of}
-use Rattle.cds_store.specs.Stands.{StandsFor}
+use Rattle.cds_store.specs.Stands.{Stored, StandsFor}
 use Rattle.cds_model.specs.declared.turn.Turn.{Turn}
 use Rattle.cds_model.specs.Replica.{Held, held_by}
 use Rattle.cds_model.specs.Server.{Moment}
@@ -11,7 +10,7 @@ use Rattle.cds_model.specs.Report.{history_of, records_since, replica_turns, scr
 
 -- what a session has: a server's store, a replica, and the records since the last scan
 pub record Playing : Type 0 where
-  pub store : Standing
+  pub store : Stored
   pub replica : Held
   pub records : List Record
 
@@ -23,8 +22,8 @@ pub record IsAfter (playing : Playing) (turns : List Turn) : Type 0 where
   pub records : playing.records ≡ records_since turns
 
 -- what a script's server shows while a store has this
-abbrev pub moment_in : Standing → Moment
-moment_in store = record { token = script_token; number = store.number; rows = rows_of store.rows }
+abbrev pub moment_in : Stored → Moment
+moment_in store = record { token = script_token; number = store.standing.number; rows = rows_of store.standing.rows }
 
 -- a session with one more record
 abbrev pub with_record : Playing → Record → Playing

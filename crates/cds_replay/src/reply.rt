@@ -40,7 +40,7 @@ pub fn reply(alloc: Global, store: &Store, ask: Ask) -> Result<Shown, Mem>
 
 /// The row of an object.
 fn reply_metadata(alloc: Global, store: &Store, id: u32) -> Result<Shown, Mem>
-    ensures { IfOk result (λ shown. shown ≡ metadata_reply (moment_in store.now) (row_of id (rows_of store.now.rows))) }
+    ensures { IfOk result (λ shown. shown ≡ metadata_reply (moment_in store.now) (row_of id (rows_of store.now.standing.rows))) }
 {
     match store.get(id) {
         None => Ok(Shown::Fault {
@@ -61,7 +61,7 @@ fn reply_metadata(alloc: Global, store: &Store, id: u32) -> Result<Shown, Mem>
 
 /// The rows of a container's children from a place on.
 fn reply_children(alloc: Global, store: &Store, id: u32, start: u32) -> Result<Shown, Mem>
-    ensures { IfOk result (λ shown. shown ≡ children_reply (moment_in store.now) start (row_of id (rows_of store.now.rows))) }
+    ensures { IfOk result (λ shown. shown ≡ children_reply (moment_in store.now) start (row_of id (rows_of store.now.standing.rows))) }
 {
     match store.get(id) {
         None => Ok(Shown::Fault {
@@ -81,7 +81,7 @@ fn reply_children(alloc: Global, store: &Store, id: u32, start: u32) -> Result<S
 
 /// A page of a container's children from a place on.
 fn page_of(alloc: Global, store: &Store, container: &Row, start: u32) -> Result<Shown, Mem>
-    requires shown { row_of container.now.id (rows_of store.now.rows) ≡ Some container.now }
+    requires shown { row_of container.now.id (rows_of store.now.standing.rows) ≡ Some container.now }
     requires holds { is_folder container.now.content ≡ true }
     ensures { IfOk result (λ shown. shown ≡ children_reply (moment_in store.now) start (Some container.now)) }
 {
@@ -99,7 +99,7 @@ fn page_of(alloc: Global, store: &Store, container: &Row, start: u32) -> Result<
 
 /// The rows of these ids.
 fn rows_shown(alloc: Global, store: &Store, ids: &[u32]) -> Result<Rows, Mem>
-    ensures { IfOk result (λ rows. rows ≡ filter_map (λ id. row_of id (rows_of store.now.rows)) ids.now) }
+    ensures { IfOk result (λ rows. rows ≡ filter_map (λ id. row_of id (rows_of store.now.standing.rows)) ids.now) }
 {
     let mut rows = Rows::new(alloc);
     for id in ids {
@@ -110,7 +110,7 @@ fn rows_shown(alloc: Global, store: &Store, ids: &[u32]) -> Result<Rows, Mem>
 
 /// Adds the row of an id at the end, where there is one.
 fn show(alloc: Global, store: &Store, id: u32, rows: &mut Rows) -> Result<(), Mem>
-    ensures { OnOk result (rows.new ≡ rows.old ++ cons_option (row_of id (rows_of store.now.rows)) []) }
+    ensures { OnOk result (rows.new ≡ rows.old ++ cons_option (row_of id (rows_of store.now.standing.rows)) []) }
 {
     match store.get(id) {
         None => Ok(()),
@@ -144,7 +144,7 @@ fn container_update(row: &Row) -> u32
 
 /// The containerUpdateID of the container that holds an object.
 fn update_of_parent(store: &Store, row: &Row) -> u32
-    ensures { result ≡ container_update (row_of (unwrap_or row.now.parent 0) (rows_of store.now.rows)) }
+    ensures { result ≡ container_update (row_of (unwrap_or row.now.parent 0) (rows_of store.now.standing.rows)) }
 {
     match store.get(parent_id(row)) {
         None => 0,

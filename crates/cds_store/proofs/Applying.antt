@@ -1,5 +1,5 @@
 -- What follows for a store from an accepted scan.
-use Rattle.std.proofs.Common.{◌≡◌, ◌+◌, ◌<◌, ◌≤◌, ◌^◌, ℕ, Bool, true, false, nat_lt, List, length, Option, Some, None, refl, sym, ◌∙◌, ap, arith}
+use Rattle.std.proofs.Common.{◌≡◌, ◌+◌, ◌<◌, ◌≤◌, ◌^◌, ℕ, Bool, true, false, nat_lt, List, [], ◌++◌, length, Option, Some, None, refl, sym, ◌∙◌, ap, subst, arith}
 use Rattle.std.proofs.lemmas.Bool.Decides.{nat_tests}
 use Rattle.std.proofs.lemmas.List.{length-append, length-map}
 use Rattle.cds_object.specs.declared.record.Record.{Record}
@@ -12,7 +12,18 @@ use Rattle.cds_catalog.specs.declared.change.Change.{Change}
 use Rattle.cds_catalog.proofs.Accepted.{accepted_map}
 use Rattle.cds_catalog.proofs.StepsWithin.{length-catalog}
 use Rattle.cds_catalog.proofs.StepsCatalog.{steps_lead_to_the_catalog-proof}
-use Rattle.cds_store.specs.Stands.{StandsFor, IsStore, IsScan}
+use Rattle.cds_changes.specs.declared.noted.Noted.{Noted}
+use Rattle.cds_changes.specs.Noted.{noted_after}
+use Rattle.cds_catalog.specs.Laws.{AreLibraries}
+use Rattle.cds_catalog.proofs.Maps.{latest_is_library}
+use Rattle.cds_changes.specs.Subtrees.{IsOrderly}
+use Rattle.cds_changes.proofs.Orderly.{found-orderly}
+use Rattle.cds_store.specs.Planned.{changes_in, told_all}
+use Rattle.cds_store.specs.Kin.{AreMarked}
+use Rattle.cds_store.specs.declared.subtrees.Planned.{Planned}
+use Rattle.cds_store.proofs.Keeping.{kept-more, kept-same}
+use Rattle.cds_store.proofs.Telling.{told-scan}
+use Rattle.cds_store.specs.Stands.{Stored, IsCatalogOf, StandsFor, IsStore, IsScan}
 
 -- what an accepted scan has passed
 record Passed (history : History) (records : List Record) : Type 0 where
@@ -48,7 +59,7 @@ end_of_scan history records =
     omega arith
 
 -- the changes of an accepted scan can be made
-pub accepted_is_scan : (s : Standing) (history : History) (records : List Record) (changes : List Change) → StandsFor s history →
+pub accepted_is_scan : (s : Standing) (history : History) (records : List Record) (changes : List Change) → IsCatalogOf s history →
     scan_answer history records ≡ Accepted → changes ≡ found (latest history.maps) (map_of records) → IsScan s changes
 accepted_is_scan s history records changes stands accepted made =
     let p = passed history records accepted in
@@ -64,9 +75,9 @@ accepted_is_scan s history records changes stands accepted made =
     }
 
 -- once they are made the store stands for the history with the scan
-pub applied_stands : (s now : Standing) (history : History) (records : List Record) (changes : List Change) → StandsFor s history →
+pub applied_stands : (s now : Standing) (history : History) (records : List Record) (changes : List Change) → IsCatalogOf s history →
     scan_answer history records ≡ Accepted → changes ≡ found (latest history.maps) (map_of records) → now ≡ stepped s changes →
-    StandsFor now (with_scan history (map_of records))
+    IsCatalogOf now (with_scan history (map_of records))
 applied_stands s now history records changes stands accepted made is =
     let library = (accepted_map records (passed history records accepted).good).0 in (
       (library, stands.0),
@@ -75,7 +86,7 @@ applied_stands s now history records changes stands accepted made is =
     )
 
 few_rows : (now : Standing) (history : History) (records : List Record) → scan_answer history records ≡ Accepted →
-    StandsFor now (with_scan history (map_of records)) → length now.rows ≤ 65536
+    IsCatalogOf now (with_scan history (map_of records)) → length now.rows ≤ 65536
 few_rows now history records accepted stands =
     let p = passed history records accepted in
     let few = p.few in
@@ -85,12 +96,51 @@ few_rows now history records accepted stands =
     let same = ap (λ (t : Standing). length t.rows) stands.1 in
     omega (arith, few, new, counted, rows, same)
 
-pub applied_is_store : (s now : Standing) (history : History) (records : List Record) (changes : List Change) → StandsFor s history →
-    scan_answer history records ≡ Accepted → changes ≡ found (latest history.maps) (map_of records) → now ≡ stepped s changes → IsStore now
-applied_is_store s now history records changes stands accepted made is =
-    let after = applied_stands s now history records changes stands accepted made is in
-    record {
-      history = with_scan history (map_of records);
-      stands = after;
-      few = few_rows now history records accepted after;
-    }
+-- the store that keeps the events of the changes as well
+pub stored_after : (store : Stored) (now : Standing) (kept : List Noted) (history : History) (records : List Record) (changes : List Change) →
+    StandsFor store history → scan_answer history records ≡ Accepted → changes ≡ found (latest history.maps) (map_of records) →
+    now ≡ stepped store.standing changes →
+    kept ≡ noted_after (with_scan history (map_of records)) store.forgotten →
+    StandsFor (record { standing = now; forgotten = store.forgotten; kept = kept }) (with_scan history (map_of records))
+stored_after store now kept history records changes stands accepted made is keeps =
+    let after = applied_stands store.standing now history records changes (stands.0, stands.1) accepted made is in
+    let end = end_of_scan history records in
+    let low = stands.2 in
+    (after.0, after.1, omega (arith, end, low), keeps)
+
+pub stored_is_store : (store : Stored) (history : History) (records : List Record) → scan_answer history records ≡ Accepted →
+    StandsFor store (with_scan history (map_of records)) → IsStore store
+stored_is_store store history records accepted stands = record {
+  history = with_scan history (map_of records);
+  stands = stands;
+  few = few_rows store.standing history records accepted (stands.0, stands.1);
+}
+
+-- the changes of an accepted scan are in order, and closed
+pub accepted_orderly : (history : History) (records : List Record) (changes : List Change) → AreLibraries history.maps →
+    scan_answer history records ≡ Accepted → changes ≡ found (latest history.maps) (map_of records) → IsOrderly changes
+accepted_orderly history records changes all accepted made =
+    subst IsOrderly (sym made)
+    (found-orderly (latest history.maps) (map_of records) (latest_is_library history.maps all) (accepted_map records (passed history records accepted).good).0)
+
+-- the store after all changes of a scan are made, with their events
+pub scanned : (store : Stored) (history : History) (records : List Record) (changes : List Change) (plan : List Planned) (next now : Standing)
+    (told kept : List Noted) → StandsFor store history → scan_answer history records ≡ Accepted → changes ≡ found (latest history.maps) (map_of records) →
+    changes_in plan ≡ changes → AreMarked changes plan [] → next ≡ store.standing → now ≡ stepped next (changes_in plan) →
+    told ≡ told_all next plan → kept ≡ store.kept ++ told →
+    StandsFor (record { standing = now; forgotten = store.forgotten; kept = kept }) (with_scan history (map_of records))
+scanned store history records changes plan next now told kept stands accepted made planned marked copy steps tells keeps =
+    let library = (accepted_map records (passed history records accepted).good).0 in
+    stored_after store now kept history records changes stands accepted made
+    (steps ∙ (λ i. stepped (copy i) (planned i)))
+    (keeps ∙ kept-more history (map_of records) store.forgotten store.kept told stands.2 stands.3
+    (tells ∙ told-scan history (map_of records) next changes plan stands.0 library (copy ∙ stands.1) made planned marked))
+
+-- without changes everything stays
+pub unchanged : (store : Stored) (history : History) (records : List Record) (changes : List Change) → StandsFor store history →
+    scan_answer history records ≡ Accepted → changes ≡ found (latest history.maps) (map_of records) → changes ≡ [] →
+    StandsFor store (with_scan history (map_of records))
+unchanged store history records changes stands accepted made none =
+    stored_after store store.standing store.kept history records changes stands accepted made
+    (ap (stepped store.standing) (sym none))
+    (kept-same history (map_of records) store.forgotten store.kept stands.2 stands.3 (sym none ∙ made))

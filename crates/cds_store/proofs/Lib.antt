@@ -6,3 +6,8 @@ pub mod Planned
 pub mod Applying
 pub mod Bad
 pub mod Lending
+pub mod Keeping
+pub mod Touched
+pub mod Kin
+pub mod Telling
+pub mod Noting

@@ -112,7 +112,7 @@ can_make_next s changes scan later newer change parted =
     (sym (ap (λ (t : Standing). stepped t newer) scan.stands.1 ∙ standing))
     (over_can_make scan.history.first (newer ++ past) change legal (omega arith))
 
-pub reversed_parts : (all made left rest : List Change) (change : Change) → all ≡ made ++ left → left ≡ change ∷ rest →
+pub reversed_parts : {X : Type 0} (all made left rest : List X) (change : X) → all ≡ made ++ left → left ≡ change ∷ rest →
     reverse all ≡ reverse rest ++ change ∷ reverse made
 reversed_parts all made left rest change parted next =
     ap reverse (parted ∙ ap (λ l. made ++ l) next) ∙ reverse-append made (change ∷ rest)

@@ -13,7 +13,7 @@ use Rattle.cds_catalog.specs.declared.change.Change.{Change}
 use Rattle.cds_catalog.proofs.Accepted.{accepted_map}
 use Rattle.cds_catalog.proofs.StepsWithin.{length-catalog}
 use Rattle.cds_store.specs.Rows.{put_places}
-use Rattle.cds_store.specs.Stands.{StandsFor}
+use Rattle.cds_store.specs.Stands.{IsCatalogOf}
 use Rattle.cds_store.proofs.Shown.{rows_show_library}
 
 pub answer_to_good : (history : History) (records : List Record) → bad_record records ≡ None → length records ≤ 65535 →
@@ -40,17 +40,17 @@ few_found old new =
     omega (arith, a, b, c, d)
 
 -- the changes from what the rows show are those from the newest folder map
-pub changes_shown : (s : Standing) (history : History) (records : List Record) (changes : List Change) → StandsFor s history →
+pub changes_shown : (s : Standing) (history : History) (records : List Record) (changes : List Change) → IsCatalogOf s history →
     reverse changes ≡ found (put_places [] s.rows) (map_of records) → reverse changes ≡ found (latest history.maps) (map_of records)
 changes_shown s history records changes stands e =
     e ∙ ap (λ (t : Standing). found (put_places [] t.rows) (map_of records)) stands.1
     ∙ ap (λ m. found m (map_of records)) (rows_show_library history stands.0)
 
-pub changes_needed : (s : Standing) (history : History) (records : List Record) (changes : List Change) → StandsFor s history →
+pub changes_needed : (s : Standing) (history : History) (records : List Record) (changes : List Change) → IsCatalogOf s history →
     reverse changes ≡ found (put_places [] s.rows) (map_of records) → length changes ≡ needed_by history records
 changes_needed s history records changes stands e = sym (length-reverse changes) ∙ ap length (changes_shown s history records changes stands e)
 
-pub few_changes : (s : Standing) (history : History) (records : List Record) (changes : List Change) → StandsFor s history → length s.rows ≤ 65536 →
+pub few_changes : (s : Standing) (history : History) (records : List Record) (changes : List Change) → IsCatalogOf s history → length s.rows ≤ 65536 →
     bad_record records ≡ None → length records ≤ 65535 →
     reverse changes ≡ found (put_places [] s.rows) (map_of records) → length changes < 2 ^ 32
 few_changes s history records changes stands few good room e =
@@ -63,7 +63,7 @@ few_changes s history records changes stands few good room e =
     omega (arith, needed, bound, new, old, rows, same)
 
 -- the answer where no record is bad and there are few
-pub scan_accepted : (s : Standing) (history : History) (records : List Record) (changes : List Change) → StandsFor s history →
+pub scan_accepted : (s : Standing) (history : History) (records : List Record) (changes : List Change) → IsCatalogOf s history →
     bad_record records ≡ None → length records ≤ 65535 →
     reverse changes ≡ found (put_places [] s.rows) (map_of records) →
     nat_lt 4294967295 (s.number + length changes) ≡ false → scan_answer history records ≡ Accepted
@@ -73,7 +73,7 @@ scan_accepted s history records changes stands good few e spent =
     (ap (λ n. nat_lt 4294967295 (n + needed_by history records)) (sym (ap (λ (t : Standing). t.number) stands.1))
     ∙ ap (λ n. nat_lt 4294967295 (s.number + n)) (sym (changes_needed s history records changes stands e)) ∙ spent)
 
-pub scan_spent : (s : Standing) (history : History) (records : List Record) (changes : List Change) → StandsFor s history →
+pub scan_spent : (s : Standing) (history : History) (records : List Record) (changes : List Change) → IsCatalogOf s history →
     bad_record records ≡ None → length records ≤ 65535 →
     reverse changes ≡ found (put_places [] s.rows) (map_of records) →
     nat_lt 4294967295 (s.number + length changes) ≡ true → scan_answer history records ≡ NoNumbers (length changes)

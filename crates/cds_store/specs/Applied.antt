@@ -4,9 +4,8 @@ use Rattle.cds_object.specs.declared.record.Record.{Record}
 use Rattle.cds_catalog.specs.Library.{map_of, found}
 use Rattle.cds_catalog.specs.History.{History, latest, end_of, with_scan}
 use Rattle.cds_catalog.specs.Scans.{Accepted, BadRecord, TooMany, NoNumbers, scan_answer}
-use Rattle.cds_catalog.specs.Steps.{Standing}
 use Rattle.cds_catalog.specs.declared.change.Change.{Change}
-use Rattle.cds_store.specs.Stands.{StandsFor}
+use Rattle.cds_store.specs.Stands.{Stored, StandsFor}
 use Rattle.cds_store.specs.declared.error.ApplyError.{ApplyError}
 use Rattle.cds_store.specs.declared.error.ApplyError.TheVariants.{BadRecords, Full, Spent, Mem}
 use Rattle.cds_store.specs.declared.span.Span.{Span}
@@ -19,12 +18,13 @@ IsRefusal history records (Spent needed) = scan_answer history records ≡ NoNum
 IsRefusal history records Mem = Unit {0}
 
 -- what a store is after a scan of records, from one that stood for a history: it stands for the history with the scan's
--- folder map, and the span is that of the scan's changes; or it is refused and stays as it was
-abbrev pub Applied : History → List Record → Result Span ApplyError → Standing → Standing → Type 0
+-- folder map, the span is that of the scan's changes, and nothing more is forgotten; or it is refused and stays as it was
+abbrev pub Applied : History → List Record → Result Span ApplyError → Stored → Stored → Type 0
 Applied history records (Ok span) before now =
     (scan_answer history records ≡ Accepted)
     × StandsFor now (with_scan history (map_of records))
     × (span ≡ record { from = end_of history; to = end_of (with_scan history (map_of records)) })
+    × (now.forgotten ≡ before.forgotten)
 Applied history records (Err refusal) before now = IsRefusal history records refusal × (now ≡ before)
 
 -- whether a scan is accepted, and changes, the oldest first, are those that it makes

@@ -2,16 +2,22 @@
 
 ghost use Rattle.std.specs.Prelude.{◌≡◌, ◌+◌, ◌<◌, ◌^◌, [], ◌∷◌, ◌++◌, reverse, filter, not, IfOk};
 ghost use Rattle.std.specs.List.{AllByRecursion};
-ghost use Rattle.cds_object.specs.Path.{same_path};
+ghost use Rattle.cds_object.specs.Path.{same_path, parent_of};
+ghost use Rattle.cds_catalog.specs.History.{place_of};
+ghost use Rattle.cds_changes.specs.Events.{class_of};
+ghost use Rattle.cds_store.specs.Planned.{changes_in, event_by, told_by, told_all};
 ghost use Rattle.cds_object.specs.Object.{is_folder};
 ghost use Rattle.cds_catalog.specs.Steps.{step, stepped, touch, touched, modified, id_at, new_row, new_trackers};
 ghost use Rattle.cds_store.specs.Rows.{CanMake, KeepsKind};
 ghost use Rattle.cds_store.specs.Stands.{IsScan, beginning};
 
 use crate::placed::Placed;
+use crate::subtrees::{Planned, place_of};
 use crate::touch::{ChildEvent, touch_parent};
 use cds_base::{Mem, Text};
 use cds_catalog::Change;
+use cds_changes::Noted;
+use cds_event::{Class, Event};
 use cds_object::{Content, ObjectId, Path, Row, Trackers};
 use std::alloc::Global;
 use std::marker::Model;
@@ -100,6 +106,15 @@ fn new_trackers(number: u32, content: &Content) -> Option<Trackers>
             deleted: 0,
         }),
         Content::Track(_) => None,
+    }
+}
+
+fn class_of(content: &Content) -> Class
+    ensures { result ≡ class_of content.now }
+{
+    match content {
+        Content::Folder { .. } => Class::Container,
+        Content::Track(_) => Class::Track,
     }
 }
 
@@ -224,14 +239,78 @@ impl Catalog {
         }
     }
 
-    /// Makes the changes of a scan, the oldest of which comes first. Where memory runs out, some are made.
-    pub(crate) fn make_all(&mut self, alloc: Global, changes: Vec<Change>) -> Result<(), Mem>
-        requires { IsScan self.old (reverse changes.items) }
-        ensures { IfOk result (λ _. self.new ≡ stepped self.old (reverse changes.items)) }
+    /// The id of the parent that a change names.
+    fn parent_id(&self, alloc: Global, change: &Change) -> Result<u32, Mem>
+        ensures { IfOk result (λ id. id ≡ id_at (parent_of (place_of change.now)) self.now.rows) }
     {
-        for change in changes {
-            self.make(alloc, change)?;
+        let parent = place_of(change).parent(alloc)?;
+        Ok(id_at(self.rows.as_slice(), &parent).0)
+    }
+
+    /// The event of a change that is to be made under the parent of that id.
+    fn event(&self, change: &Change, st: bool, parent: u32) -> Event
+        requires number { self.now.number + 1 < 2 ^ 32 }
+        requires drawn { self.now.drawn + 1 < 2 ^ 32 }
+        requires parent { parent ≡ id_at (parent_of (place_of change.now)) self.now.rows }
+        ensures { result ≡ event_by self.now change.now st }
+    {
+        let update = self.number + 1;
+        match change {
+            Change::Deletion { path } => Event::ObjDel {
+                id: id_at(self.rows.as_slice(), path).0,
+                update,
+                st,
+            },
+            Change::Addition { content, .. } => Event::ObjAdd {
+                id: self.drawn + 1,
+                update,
+                st,
+                parent,
+                class: class_of(content),
+            },
+            Change::Modification { path, .. } => Event::ObjMod {
+                id: id_at(self.rows.as_slice(), path).0,
+                update,
+                st,
+            },
+        }
+    }
+
+    /// Notes the events of a change that is to be made.
+    fn note(&self, alloc: Global, planned: &Planned, told: &mut Vec<Noted>) -> Result<(), Mem>
+        requires { CanMake self.now planned.now.change }
+        ensures { IfOk result (λ _. told.new.items ≡ told.old.items ++ told_by self.now planned.now) }
+    {
+        let parent = self.parent_id(alloc, &planned.change)?;
+        let event = self.event(&planned.change, planned.st, parent);
+        told.push(Noted {
+            event,
+            parent: Some(parent),
+        })?;
+        if let Some(head) = &planned.done {
+            let id = id_at(self.rows.as_slice(), head).0;
+            let update = self.number + 1;
+            let event = Event::StDone { id, update };
+            told.push(Noted {
+                event,
+                parent: None,
+            })?;
         }
         Ok(())
+    }
+
+    /// Makes the changes of a scan, the oldest of which comes first, and answers their events. Where memory runs out,
+    /// some are made.
+    pub(crate) fn make_all(&mut self, alloc: Global, plan: Vec<Planned>) -> Result<Vec<Noted>, Mem>
+        requires { IsScan self.old (changes_in (reverse plan.items)) }
+        ensures made { IfOk result (λ _. self.new ≡ stepped self.old (changes_in (reverse plan.items))) }
+        ensures told { IfOk result (λ told. told.items ≡ told_all self.old (reverse plan.items)) }
+    {
+        let mut told = Vec::new(alloc);
+        for planned in plan {
+            self.note(alloc, &planned, &mut told)?;
+            self.make(alloc, planned.change)?;
+        }
+        Ok(told)
     }
 }

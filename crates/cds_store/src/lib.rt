@@ -1,19 +1,24 @@
 //! The store of a server: the catalog after all scans, kept as one list of rows that each change of a scan brings up
-//! to date.
+//! to date, and the events of the changes that are not forgotten.
 #![tactic(auto)]
 
 mod catalog;
+mod containers;
 mod error;
+mod kept;
 mod library;
 mod placed;
 mod records;
 mod span;
 mod store;
+mod subtrees;
 mod touch;
 
 pub use error::ApplyError;
 pub use span::Span;
 pub use store::Store;
 
+#[cfg(test)]
+mod span_tests;
 #[cfg(test)]
 mod tests;

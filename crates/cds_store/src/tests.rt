@@ -53,7 +53,7 @@ fn answer_text(alloc: Global, answer: Result<Span, ApplyError>) -> Result<String
 }
 
 /// What a scan is answered; one of too many records, which no test has, is not tried.
-fn scan_text(alloc: Global, store: &mut Store, scan: &str) -> Result<String, Fail> {
+pub(crate) fn scan_text(alloc: Global, store: &mut Store, scan: &str) -> Result<String, Fail> {
     let records = records_of(alloc, scan)?;
     if records.len() > 100 {
         return Ok(String::new(alloc));

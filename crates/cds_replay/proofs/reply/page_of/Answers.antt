@@ -9,7 +9,7 @@ use Rattle.cds_replay.proofs.reply.page_of.Goals as goal
 
 pub returns : goal.returns
 returns c =
-    let all = rows_of c.args.store.now.rows in
+    let all = rows_of c.args.store.now.standing.rows in
     let container = c.args.container.now in
     let same : c.container.inside.id.0 ≡ container.id = ap (λ (r : ObjectRow). r.id) c.container.view_is in
     let ids : c.as_slice.result.now ≡ map (λ (r : ObjectRow). r.id) (take 256 (drop c.args.start (children_of container.id all))) =

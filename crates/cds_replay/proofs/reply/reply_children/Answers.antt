@@ -7,6 +7,6 @@ use Rattle.cds_replay.proofs.reply.reply_children.Goals as goal
 
 pub page_of-requires-clause-shown : goal.page_of-requires-clause-shown
 page_of-requires-clause-shown c =
-    let all = rows_of c.args.store.now.rows in
+    let all = rows_of c.args.store.now.standing.rows in
     let found : row_of c.args.id all ≡ Some c.in-Some.row.now = sym c.get.ensures ∙ ap option_copied c.in-Some.is in
     ap (λ id. row_of id all) (found-id c.args.id all c.in-Some.row.now found) ∙ found

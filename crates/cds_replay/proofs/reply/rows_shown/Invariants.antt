@@ -6,4 +6,4 @@ use Rattle.cds_replay.proofs.reply.rows_shown.Given as goal
 
 -- the rows of the ids so far
 abbrev pub invariant-loop-id : goal.invariant-loop-id
-invariant-loop-id l = l.rows ≡ filter_map (λ id. row_of id (rows_of l.store.rows)) (take l.id-index l.ids)
+invariant-loop-id l = l.rows ≡ filter_map (λ id. row_of id (rows_of l.store.standing.rows)) (take l.id-index l.ids)

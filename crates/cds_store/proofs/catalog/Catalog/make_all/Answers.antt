@@ -1,13 +1,24 @@
-use Rattle.std.proofs.Common.{reverse, sym, subst}
+use Rattle.std.proofs.Common.{◌∙◌, ◌++◌, ◌∷◌, [], ap, sym, append_assoc, List}
 use Rattle.std.specs.Vec.Iter.{into_iter_items}
-use Rattle.cds_catalog.specs.Steps.{Standing}
-use Rattle.cds_store.specs.Rows.{CanMake}
-use Rattle.cds_store.proofs.Making.{can_make_next, reversed_parts}
+use Rattle.cds_store.specs.declared.subtrees.Planned.{Planned}
+use Rattle.cds_store.proofs.Noting.{can-make-planned, made-more, told-more}
 use Rattle.cds_store.proofs.catalog.Catalog.make_all.Goals as goal
+
+pub note-requires : goal.note-requires
+note-requires c =
+    can-make-planned c.args.self.now c.loop-planned.self c.args.plan.items c.requires c.loop-planned.yielded (into_iter_items c.loop-planned.planned-iterator)
+    (into_iter_items c.next.new.self) c.in-Some.planned c.loop-planned.invariant.parted c.in-Some.ensures.steps.0 c.loop-planned.invariant.made
 
 pub make-requires : goal.make-requires
 make-requires c =
-    subst (λ (s : Standing). CanMake s c.in-Some.change) (sym c.loop-change.invariant.made)
-    (can_make_next c.args.self.now (reverse c.args.changes.items) c.requires (reverse (into_iter_items c.next.new.self)) (reverse c.loop-change.yielded) c.in-Some.change
-    (reversed_parts c.args.changes.items c.loop-change.yielded (into_iter_items c.loop-change.change-iterator) (into_iter_items c.next.new.self) c.in-Some.change
-    c.loop-change.invariant.parted c.in-Some.ensures.steps.0))
+    can-make-planned c.args.self.now c.loop-planned.self c.args.plan.items c.requires c.loop-planned.yielded (into_iter_items c.loop-planned.planned-iterator)
+    (into_iter_items c.next.new.self) c.in-Some.planned c.loop-planned.invariant.parted c.in-Some.ensures.steps.0 c.loop-planned.invariant.made
+
+pub loop-planned-preserved : goal.loop-planned-preserved
+loop-planned-preserved c = record {
+  parted = c.loop-planned.invariant.parted ∙ ap (λ (l : List Planned). c.loop-planned.yielded ++ l) c.in-Some.ensures.steps.0
+      ∙ sym (append_assoc c.loop-planned.yielded (c.in-Some.planned ∷ []) (into_iter_items c.next.new.self));
+  made = made-more c.args.self.now c.loop-planned.self c.make.new.self c.loop-planned.yielded c.in-Some.planned c.loop-planned.invariant.made c.in_ok-make.ensures;
+  told = told-more c.args.self.now c.loop-planned.self c.loop-planned.yielded c.in-Some.planned c.loop-planned.told.items c.note.new.told.items
+      c.loop-planned.invariant.made c.loop-planned.invariant.told c.in_ok-note.ensures;
+}

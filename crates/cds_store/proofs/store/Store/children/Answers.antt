@@ -13,4 +13,4 @@ overflow_cast-result c =
 pub returns-clause-page : goal.returns-clause-page
 returns-clause-page c =
     page_of_ids c.args.out.now.items c.extend_from_slice.new.self.items c.page.result.now c.in_ok-ids.ids.items c.args.start c.args.count
-    (children_of c.args.id (rows_of c.args.self.now.rows)) c.in_ok-extend_from_slice.ensures.items (search rules) (search rules)
+    (children_of c.args.id (rows_of c.args.self.now.standing.rows)) c.in_ok-extend_from_slice.ensures.items (search rules) (search rules)

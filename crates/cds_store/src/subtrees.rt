@@ -1,0 +1,187 @@
+//! Which changes of a scan belong to subtree updates, and with which of them each is done (this project's profile of UPnP
+//! ContentDirectory:4 on LastChange).
+
+ghost use Rattle.std.specs.Prelude.{◌≡◌, ◌++◌, ℕ, true, false, List, [], ◌∷◌, reverse, IfOk};
+ghost use Rattle.std.specs.BTreeSet.{contains};
+ghost use Rattle.cds_object.specs.Path.{path_cmp, same_path, parent_of};
+ghost use Rattle.cds_catalog.specs.History.{place_of, is_addition, is_deletion};
+ghost use Rattle.cds_catalog.specs.declared.change.Change.{Change as ChangeOf};
+ghost use Rattle.cds_changes.specs.Subtrees.{some_of, IsClosed, IsOrderly, IsMarked};
+ghost use Rattle.cds_store.specs.Planned.{changes_in};
+ghost use Rattle.cds_store.specs.Kin.{is_kind, IsOutermost, Knows, IsHeadOf, AreMarked};
+
+use cds_base::Mem;
+use cds_catalog::Change;
+use cds_object::Path;
+use std::alloc::Global;
+use std::collections::BTreeSet;
+
+/// A change of a scan with what its events say of subtree updates.
+#[derive(Drop, Debug)]
+pub(crate) struct Planned {
+    pub(crate) change: Change,
+    /// Whether it belongs to a subtree update.
+    pub(crate) st: bool,
+    /// The place of the head whose subtree update is done with it.
+    pub(crate) done: Option<Path>,
+}
+
+/// Which changes: the additions of a scan, or its deletions.
+#[derive(Clone, Copy)]
+enum Kind {
+    Added,
+    Deleted,
+}
+
+/// The changes of one kind, by which their subtree updates are told apart.
+#[derive(Drop, Debug)]
+struct Kin {
+    /// Their places.
+    places: BTreeSet<Path>,
+    /// The places of the folders that hold one of them.
+    folders: BTreeSet<Path>,
+    /// The heads of the subtree updates to which the changes looked at so far belong.
+    seen: BTreeSet<Path>,
+}
+
+/// The place that a change names.
+pub(crate) fn place_of(change: &Change) -> &Path
+    ensures { result.now ≡ place_of change.now }
+{
+    match change {
+        Change::Deletion { path } => path,
+        Change::Addition { path, .. } => path,
+        Change::Modification { path, .. } => path,
+    }
+}
+
+/// Whether a change is of a kind.
+fn is_of(kind: Kind, change: &Change) -> bool
+    ensures { result ≡ is_kind kind change.now }
+{
+    match (kind, change) {
+        (Kind::Added, Change::Addition { .. }) => true,
+        (Kind::Deleted, Change::Deletion { .. }) => true,
+        _ => false,
+    }
+}
+
+/// The places of the changes of a kind.
+fn places_of(alloc: Global, kind: Kind, changes: &[Change]) -> Result<BTreeSet<Path>, Mem>
+    ensures { IfOk result (λ places. (path : List (List ℕ)) → contains path_cmp places path ≡ some_of (is_kind kind) (same_path path) changes.now) }
+{
+    let mut places = BTreeSet::new(alloc);
+    for change in changes {
+        if is_of(kind, change) {
+            let place = place_of(change).copy(alloc)?;
+            places.insert(place)?;
+        }
+    }
+    Ok(places)
+}
+
+/// The places of the folders that hold a change of a kind.
+fn folders_of(alloc: Global, kind: Kind, changes: &[Change]) -> Result<BTreeSet<Path>, Mem>
+    ensures { IfOk result (λ folders. (path : List (List ℕ)) → contains path_cmp folders path ≡ some_of (is_kind kind) (λ place. same_path path (parent_of place)) changes.now) }
+{
+    let mut folders = BTreeSet::new(alloc);
+    for change in changes {
+        if is_of(kind, change) {
+            let folder = place_of(change).parent(alloc)?;
+            folders.insert(folder)?;
+        }
+    }
+    Ok(folders)
+}
+
+/// The outermost of some places at or above a place, as far as each one's folder is among them too.
+fn outermost(alloc: Global, places: &BTreeSet<Path>, path: &Path) -> Result<Path, Mem>
+    requires { contains path_cmp places.now [] ≡ false }
+    ensures { IfOk result (λ top. IsOutermost (contains path_cmp places.now) path.now top) }
+{
+    let mut top = path.copy(alloc)?;
+    let mut parent = path.parent(alloc)?;
+    while places.contains(&parent) {
+        let above = parent.parent(alloc)?;
+        top = parent;
+        parent = above;
+    }
+    Ok(top)
+}
+
+impl Kin {
+    /// The changes of a kind, before any is looked at.
+    fn new(alloc: Global, kind: Kind, changes: &[Change]) -> Result<Kin, Mem>
+        ensures { IfOk result (λ kin. Knows (is_kind kind) (reverse changes.now) [] kin) }
+    {
+        let places = places_of(alloc, kind, changes)?;
+        let folders = folders_of(alloc, kind, changes)?;
+        let seen = BTreeSet::new(alloc);
+        Ok(Kin {
+            places,
+            folders,
+            seen,
+        })
+    }
+
+    /// The place of the head of the subtree update that the change at a place belongs to.
+    fn head(&self, alloc: Global, path: &Path) -> Result<Option<Path>, Mem>
+        requires { contains path_cmp self.now.places [] ≡ false }
+        ensures { IfOk result (λ head. (kind : Kind) (scan later : List ChangeOf) → Knows (is_kind kind) scan later self.now → IsClosed (is_kind kind) scan → some_of (is_kind kind) (same_path path.now) scan ≡ true → IsHeadOf (is_kind kind) scan path.now head) }
+    {
+        let top = outermost(alloc, &self.places, path)?;
+        if self.folders.contains(&top) {
+            return Ok(Some(top));
+        }
+        Ok(None)
+    }
+
+    /// Looks at the change at a place after all newer ones: whether it belongs to a subtree update, and the place of the
+    /// head of it where none of the newer ones does.
+    fn look(&mut self, alloc: Global, path: &Path) -> Result<(bool, Option<Path>), Mem>
+        requires { contains path_cmp self.old.places [] ≡ false }
+        ensures { IfOk result (λ found. (kind : Kind) (scan later earlier : List ChangeOf) (change : ChangeOf) → Knows (is_kind kind) scan later self.old → IsOrderly scan → scan ≡ later ++ change ∷ earlier → is_kind kind change ≡ true → path.now ≡ place_of change → Knows (is_kind kind) scan (later ++ change ∷ []) self.new × IsMarked scan change earlier found.0 found.1) }
+    {
+        let Some(head) = self.head(alloc, path)? else {
+            return Ok((false, None));
+        };
+        let seen = head.copy(alloc)?;
+        if self.seen.insert(seen)? {
+            return Ok((true, Some(head)));
+        }
+        Ok((true, None))
+    }
+}
+
+/// A change with what its events say of subtree updates, after all newer ones were looked at.
+fn look_at(alloc: Global, gone: &mut Kin, come: &mut Kin, change: Change) -> Result<Planned, Mem>
+    requires gone { contains path_cmp gone.old.places [] ≡ false }
+    requires come { contains path_cmp come.old.places [] ≡ false }
+    ensures change { IfOk result (λ planned. planned.change ≡ change) }
+    ensures said { IfOk result (λ planned. (scan later earlier : List ChangeOf) → Knows is_deletion scan later gone.old → Knows is_addition scan later come.old → IsOrderly scan → scan ≡ later ++ change ∷ earlier → Knows is_deletion scan (later ++ change ∷ []) gone.new × Knows is_addition scan (later ++ change ∷ []) come.new × IsMarked scan change earlier planned.st planned.done) }
+{
+    let (st, done) = match &change {
+        Change::Deletion { path } => gone.look(alloc, path)?,
+        Change::Addition { path, .. } => come.look(alloc, path)?,
+        Change::Modification { .. } => (false, None),
+    };
+    Ok(Planned { change, st, done })
+}
+
+/// The changes of a scan, the oldest first, with what their events say of subtree updates.
+pub(crate) fn planned_all(alloc: Global, changes: Vec<Change>) -> Result<Vec<Planned>, Mem>
+    requires { IsOrderly (reverse changes.items) }
+    ensures changes { IfOk result (λ plan. changes_in (reverse plan.items) ≡ reverse changes.items) }
+    ensures marked { IfOk result (λ plan. AreMarked (reverse changes.items) (reverse plan.items) []) }
+{
+    let mut gone = Kin::new(alloc, Kind::Deleted, changes.as_slice())?;
+    let mut come = Kin::new(alloc, Kind::Added, changes.as_slice())?;
+    let mut left = changes;
+    let mut plan = Vec::new(alloc);
+    while let Some(change) = left.pop() {
+        let planned = look_at(alloc, &mut gone, &mut come, change)?;
+        plan.push(planned)?;
+    }
+    plan.reverse();
+    Ok(plan)
+}
