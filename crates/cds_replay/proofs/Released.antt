@@ -10,7 +10,7 @@ use Rattle.cds_catalog.proofs.StepsFind.{each-append, each-weaker, none≢some}
 use Rattle.cds_changes.specs.Events.{events_between}
 use Rattle.cds_notes.specs.Commands.{Command, Scans, Grants, Ends, Ticks, scans_of, Release, release_size, release_pause, released_to, may_release, scan_end_within, release_at, and_release, releases_of}
 use Rattle.cds_notes.proofs.Served.{scans-first}
-use Rattle.cds_notes.proofs.Sent.{first-is, released-stood}
+use Rattle.cds_notes.proofs.Sent.{first-is, stood-below, released-stood}
 use Rattle.cds_replay.specs.Serving.{scan_ends, Released, last_moment, released_by, is_pause_over, last_within, next_release, with_end, with_release}
 
 -- ---- filters
@@ -189,6 +189,13 @@ module _ (first now : ℕ) (older : List Command) where
             above = omega (arith, low, same);
           }
       by false h k = none≢some None to refl k
+
+  -- it is a number that was reached
+  pub released-within : (to : ℕ) → Comes to → to ≤ end_of (scans_of first older)
+  released-within to c =
+      let low = stood-below first (Ticks now ∷ older) (released_to first (releases_of first (Ticks now ∷ older))) (released-stood first (Ticks now ∷ older)) in
+      let same : released_to first (releases_of first (Ticks now ∷ older)) ≡ to = ap (λ (o : Option Release). released_to first (and_release o releases)) c.is ∙ c.to_is in
+      omega (arith, low, same)
 
 -- ---- one command
 

@@ -1,5 +1,5 @@
 -- A server that stood for commands stands for them and the next one, by what its parts became.
-use Rattle.std.proofs.Common.{◌≡◌, ◌+◌, ◌<◌, ℕ, Bool, true, false, cond, ◌&&◌, ◌||◌, nat_eq, nat_lt, List, [], ◌∷◌, ◌++◌, map, filter, length, Option, Some, None, Result, Ok, refl, sym, ap, ◌∙◌, subst}
+use Rattle.std.proofs.Common.{◌≡◌, ◌+◌, ◌≤◌, ℕ, max, Bool, true, false, cond, ◌&&◌, ◌||◌, nat_eq, nat_lt, List, [], ◌∷◌, ◌++◌, map, filter, length, Option, Some, None, Result, Ok, refl, sym, ap, ◌∙◌, arith}
 use Rattle.std.specs.Bool.{MatchBool}
 use Rattle.std.specs.List.{list_any}
 use Rattle.cds_object.specs.declared.record.Record.{Record}
@@ -7,20 +7,26 @@ use Rattle.cds_event.specs.declared.Event.{Event}
 use Rattle.cds_catalog.specs.Library.{FolderMap}
 use Rattle.cds_catalog.specs.History.{History, end_of, with_scan}
 use Rattle.cds_catalog.specs.Steps.{Standing}
-use Rattle.cds_store.specs.Stands.{StandsFor, no_scans}
+use Rattle.cds_store.specs.Stands.{Stored, StandsFor, no_scans}
 use Rattle.cds_changes.specs.Events.{events_between}
 use Rattle.cds_notes.specs.Commands.{Command, Scans, Grants, Ends, Ticks, scans_of, granted, Note, alive_names, subscription_limit, has_room, first_note, notes_of}
 use Rattle.cds_replay.specs.declared.book.Subscription.{Subscription}
 use Rattle.cds_replay.specs.Serving.{Subscribed, subscribed_by, nothing_granted, alive, holds_alive, with_grant, without, expired, notified, Released, released_by, nothing_released, next_release, with_end, with_release, note_to, Serving, Serves, IsServing, is_living, Granted, Ended}
 use Rattle.cds_replay.proofs.Subscribed.{names-alive, as-many, subscribed-scan, subscribed-end, subscribed-grant}
-use Rattle.cds_replay.proofs.Released.{released-scan}
+use Rattle.cds_replay.proofs.Released.{Comes, is-released, released-within, released-scan}
 use Rattle.cds_replay.proofs.Ticking.{ticked-silent, ticked-release}
 use Rattle.std.proofs.lemmas.List.{append-nil}
 
-pub begun : (first : ℕ) (store : Standing) (subscribed : Subscribed) (released : Released) (sent : List Note) → StandsFor store (no_scans first) →
+pub begun : (first : ℕ) (store : Stored) (subscribed : Subscribed) (released : Released) (sent : List Note) → StandsFor store (no_scans first) →
     subscribed ≡ nothing_granted → released ≡ nothing_released first → sent ≡ [] →
     Serves (record { store = store; subscribed = subscribed; released = released; sent = sent }) first []
-begun first store subscribed released sent stands s r n = record { store = stands; subscribed = s; released = r; sent = n }
+begun first store subscribed released sent stands s r n = record {
+  store = stands;
+  forgotten = let low = stands.2 in let to = ap (λ (t : Released). t.to) r in omega (arith, low, to);
+  subscribed = s;
+  released = r;
+  sent = n;
+}
 
 any-alive : (name now : ℕ) (living : List Subscription) →
     list_any (λ other. nat_eq other name) (map (λ (s : Subscription). s.name) (alive now living)) ≡ list_any (λ (t : Subscription). nat_eq t.name name && nat_lt now t.end) living
@@ -40,27 +46,29 @@ any-alive name now (s ∷ living) = by (nat_lt now s.end) (nat_eq s.name name) (
     by false false r e = r
 
 module _ (was : Serving) (first : ℕ) (commands : List Command) (serves : Serves was first commands) where
-  number-is : was.store.number ≡ end_of (scans_of first commands)
+  number-is : was.store.standing.number ≡ end_of (scans_of first commands)
   number-is = ap (λ (s : Standing). s.number) serves.store.1
 
   pub granted-is : was.subscribed.granted ≡ granted commands
   granted-is = ap (λ (s : Subscribed). s.granted) serves.subscribed
 
-  pub scanned : (library : FolderMap) (store : Standing) (released : Released) → StandsFor store (with_scan (scans_of first commands) library) →
+  pub scanned : (library : FolderMap) (store : Stored) (released : Released) → StandsFor store (with_scan (scans_of first commands) library) → store.forgotten ≡ was.store.forgotten →
       released ≡ with_end (end_of (with_scan (scans_of first commands) library)) was.released →
       Serves (record { store = store; subscribed = was.subscribed; released = released; sent = was.sent }) first (Scans library ∷ commands)
-  scanned library store released stands r = record {
+  scanned library store released stands f r = record {
     store = stands;
+    forgotten = let low = serves.forgotten in let to = ap (λ (t : Released). t.to) r in omega (arith, low, to, f);
     subscribed = serves.subscribed ∙ sym (subscribed-scan first commands library);
     released = r ∙ ap (with_end (end_of (with_scan (scans_of first commands) library))) serves.released ∙ sym (released-scan first library commands);
     sent = serves.sent ∙ sym (append-nil (notes_of first commands));
   }
 
   pub subscribed-once : (now : ℕ) (subscribed : Subscribed) (sent : List Note) → subscribed ≡ with_grant now was.subscribed →
-      sent ≡ was.sent ++ first_note (was.subscribed.granted + 1) was.store.number ∷ [] →
+      sent ≡ was.sent ++ first_note (was.subscribed.granted + 1) was.store.standing.number ∷ [] →
       Serves (record { store = was.store; subscribed = subscribed; released = was.released; sent = sent }) first (Grants now ∷ commands)
   subscribed-once now subscribed sent s n = record {
     store = serves.store;
+    forgotten = serves.forgotten;
     subscribed = s ∙ ap (with_grant now) serves.subscribed ∙ sym (subscribed-grant first commands now);
     released = serves.released;
     sent = n ∙ (λ i. serves.sent i ++ first_note (granted-is i + 1) (number-is i) ∷ []);
@@ -79,6 +87,7 @@ module _ (was : Serving) (first : ℕ) (commands : List Command) (serves : Serve
       Serves (record { store = was.store; subscribed = subscribed; released = was.released; sent = was.sent }) first (Ends name ∷ commands)
   ended name subscribed s = record {
     store = serves.store;
+    forgotten = serves.forgotten;
     subscribed = s ∙ ap (without name) serves.subscribed ∙ sym (subscribed-end first commands name);
     released = serves.released;
     sent = serves.sent ∙ sym (append-nil (notes_of first commands));
@@ -98,30 +107,45 @@ module _ (was : Serving) (first : ℕ) (commands : List Command) (serves : Serve
   ended-serves name false subscribed s = record {
     first = first;
     commands = commands;
-    serves = record { store = serves.store; subscribed = s ∙ serves.subscribed; released = serves.released; sent = serves.sent };
+    serves = record { store = serves.store; forgotten = serves.forgotten; subscribed = s ∙ serves.subscribed; released = serves.released; sent = serves.sent };
   }
 
-  due : (now : ℕ) (o : Option ℕ) → next_release now was.store.number was.released ≡ o → next_release now (end_of (scans_of first commands)) (released_by first commands) ≡ o
+  due : (now : ℕ) (o : Option ℕ) → next_release now was.store.standing.number was.released ≡ o → next_release now (end_of (scans_of first commands)) (released_by first commands) ≡ o
   due now o e = sym (λ i. next_release now (number-is i) (serves.released i)) ∙ e
 
-  pub ticked : (now : ℕ) (subscribed : Subscribed) → next_release now was.store.number was.released ≡ None → subscribed ≡ expired now was.subscribed →
+  comes : (now to : ℕ) → next_release now was.store.standing.number was.released ≡ Some to → Comes first now commands to
+  comes now to e = is-released first now commands to (due now (Some to) e)
+
+  not-back : (now to : ℕ) → next_release now was.store.standing.number was.released ≡ Some to → was.released.to ≤ to
+  not-back now to e = let above = (comes now to e).above in let same = ap (λ (t : Released). t.to) serves.released in omega (arith, above, same)
+
+  pub reached : (now to : ℕ) → next_release now was.store.standing.number was.released ≡ Some to → to ≤ was.store.standing.number
+  reached now to e = let within = released-within first now commands to (comes now to e) in let same = number-is in omega (arith, within, same)
+
+  pub ticked : (now : ℕ) (subscribed : Subscribed) → next_release now was.store.standing.number was.released ≡ None → subscribed ≡ expired now was.subscribed →
       Serves (record { store = was.store; subscribed = subscribed; released = was.released; sent = was.sent }) first (Ticks now ∷ commands)
   ticked now subscribed e s =
       let law = ticked-silent first now commands (due now None e) in record {
         store = serves.store;
+        forgotten = serves.forgotten;
         subscribed = s ∙ ap (expired now) serves.subscribed ∙ sym law.0;
         released = serves.released ∙ sym law.1;
         sent = serves.sent ∙ sym law.2;
       }
 
-  pub released-to : (now to : ℕ) (store : Standing) (subscribed : Subscribed) (released : Released) (sent : List Note) (events : List Event) →
-      next_release now was.store.number was.released ≡ Some to → StandsFor store (scans_of first commands) →
+  pub released-to : (now to : ℕ) (store : Stored) (subscribed : Subscribed) (released : Released) (sent : List Note) (events : List Event) →
+      next_release now was.store.standing.number was.released ≡ Some to → StandsFor store (scans_of first commands) → store.forgotten ≡ max was.store.forgotten to →
       subscribed ≡ notified (expired now was.subscribed) → released ≡ with_release now to was.released →
       events ≡ events_between (scans_of first commands) was.released.to to → sent ≡ was.sent ++ map (note_to to events) (alive now was.subscribed.living) →
       Serves (record { store = store; subscribed = subscribed; released = released; sent = sent }) first (Ticks now ∷ commands)
-  released-to now to store subscribed released sent events e stands s r told n =
+  released-to now to store subscribed released sent events e stands f s r told n =
       let law = ticked-release first now to commands (due now (Some to) e) in record {
         store = stands;
+        forgotten =
+            let low = serves.forgotten in
+            let above = not-back now to e in
+            let end = ap (λ (t : Released). t.to) r in
+            omega (arith, low, above, end, f);
         subscribed = s ∙ ap (λ (t : Subscribed). notified (expired now t)) serves.subscribed ∙ sym law.0;
         released = r ∙ ap (with_release now to) serves.released ∙ sym law.1;
         sent = n

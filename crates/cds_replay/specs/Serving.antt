@@ -1,16 +1,15 @@
 -- What the private server of a script keeps of the commands that it accepted: a function of its first number and of these
 -- commands, the newest of which stands first. What a subscription, a release and a note are, the commands alone say (UPnP
 -- Device Architecture 2.0 on eventing, UPnP ContentDirectory:4 on the moderation of events).
-use Rattle.std.specs.Prelude.{◌≡◌, ◌+◌, ◌-◌, ◌&&◌, ℕ, Bool, true, false, cond, not, nat_eq, nat_lt, nat_le, List, [], ◌∷◌, ◌++◌, map, filter, Option, Some, None, Result, Ok, Err, slice_get}
+use Rattle.std.specs.Prelude.{◌≡◌, ◌+◌, ◌-◌, ◌≤◌, ◌&&◌, ℕ, Bool, true, false, cond, not, nat_eq, nat_lt, nat_le, List, [], ◌∷◌, ◌++◌, map, filter, Option, Some, None, Result, Ok, Err, slice_get}
 use Rattle.std.specs.List.{list_any, filter_map, range_with_len}
 use Rattle.cds_event.specs.declared.Event.{Event}
 use Rattle.cds_object.specs.declared.record.Record.{Record}
 use Rattle.cds_catalog.specs.Library.{FolderMap, map_of}
 use Rattle.cds_catalog.specs.History.{History, end_of}
 use Rattle.cds_catalog.specs.Scans.{Accepted, scan_answer}
-use Rattle.cds_catalog.specs.Steps.{Standing}
 use Rattle.cds_store.specs.Applied.{IsRefusal}
-use Rattle.cds_store.specs.Stands.{StandsFor}
+use Rattle.cds_store.specs.Stands.{Stored, StandsFor}
 use Rattle.cds_store.specs.declared.error.ApplyError.{ApplyError}
 use Rattle.cds_store.specs.declared.span.Span.{Span}
 use Rattle.cds_notes.specs.Commands.{Command, Scans, Grants, Ends, scans_of, Release, release_size, release_pause, released_to, releases_of, granted, granted_time, runs_until, Note, next_seq_of, seq_limit, alive_names, has_room, notes_of}
@@ -153,14 +152,15 @@ sent_note number sent = cond (nat_eq number 0) None (slice_get sent (number - 1)
 
 -- what a server keeps
 pub record Serving : Type 0 where
-  pub store : Standing
+  pub store : Stored
   pub subscribed : Subscribed
   pub released : Released
   pub sent : List Note
 
--- whether a server stands for commands after a first number
+-- whether a server stands for commands after a first number; its store keeps the changes that are not released yet
 pub record Serves (serving : Serving) (first : ℕ) (commands : List Command) : Type 0 where
   pub store : StandsFor serving.store (scans_of first commands)
+  pub forgotten : serving.store.forgotten ≤ serving.released.to
   pub subscribed : serving.subscribed ≡ subscribed_by first commands
   pub released : serving.released ≡ released_by first commands
   pub sent : serving.sent ≡ notes_of first commands

@@ -15,7 +15,6 @@ mod sent;
 mod served;
 mod server;
 mod session;
-mod telling;
 
 pub use play::{ReplayError, replay};
 

@@ -196,7 +196,12 @@ impl Sent {
         if notes.is_empty() {
             return Ok(0);
         }
-        put_release(&mut self.notes, &mut self.releases, notes.as_slice(), events)?;
+        put_release(
+            &mut self.notes,
+            &mut self.releases,
+            notes.as_slice(),
+            events,
+        )?;
         Ok(notes.len())
     }
 }

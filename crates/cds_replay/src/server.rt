@@ -9,7 +9,6 @@ use crate::book::Book;
 use crate::note::Note;
 use crate::releases::Releases;
 use crate::sent::{Sent, SentHead};
-use crate::telling;
 use cds_base::Mem;
 use cds_event::Events;
 use cds_object::Records;
@@ -145,7 +144,7 @@ impl Server {
 
     /// Releases the changes up to a number, which is the end of the release that is due.
     fn release(&mut self, alloc: Global, now: u64, to: u32) -> Result<usize, Mem>
-        requires { next_release now self.old.store.number self.old.released ≡ Some to }
+        requires { next_release now self.old.store.standing.number self.old.released ≡ Some to }
         ensures after { (first : ℕ) (commands : List Command) → Serves self.old first commands → OnOk result (Serves self.new first (Ticks now ∷ commands)) }
         ensures count { IfOk result (λ count. length self.new.sent ≡ length self.old.sent + count) }
         ensures granted { self.new.subscribed.granted ≡ self.old.subscribed.granted }
@@ -156,10 +155,10 @@ impl Server {
             from: self.releases.to(),
             to,
         };
-        telling::changes_after(&self.store, alloc, span, &mut events)?;
+        self.store.changes_after(alloc, span, &mut events)?;
         let count = self.sent.send(alloc, self.book.living(), now, to, events)?;
         self.releases.release(now, to);
-        telling::forget(&mut self.store, to);
+        self.store.forget(to);
         self.book.expire(now);
         self.book.raise();
         Ok(count)

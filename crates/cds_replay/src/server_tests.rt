@@ -85,7 +85,10 @@ fn notes_text(alloc: Global, server: &Server, from: usize) -> Result<String, Fai
 fn event_text(alloc: Global, event: Event) -> Result<String, Fail> {
     let text = match event {
         Event::ObjAdd {
-            id, update, parent, ..
+            id,
+            update,
+            parent,
+            ..
         } => format!(in alloc; " add {id}@{update}<{parent}")?,
         Event::ObjMod { id, update, .. } => format!(in alloc; " mod {id}@{update}")?,
         Event::ObjDel { id, update, .. } => format!(in alloc; " del {id}@{update}")?,
@@ -99,7 +102,7 @@ fn note_text(alloc: Global, server: &Server, number: u32) -> Result<String, Fail
     let Some(note) = server.note(alloc, number)? else {
         return Ok(format!(in alloc; "none")?);
     };
-    let name = note.sid.0 as u64;
+    let name = u64::try_from(note.sid.0).unwrap_or(0);
     let seq = note.seq;
     let at = note.number;
     let mut text = format!(in alloc; "{name} {seq} {at}:")?;

@@ -20,7 +20,7 @@ invariant_of-self-2 c =
     record {
       first = first;
       commands = Scans (map_of c.args.records.now) ∷ commands;
-      serves = scanned was first commands c.self.invariant.serves (map_of c.args.records.now) c.apply.new.self c.add.new.self.released applied.1 released;
+      serves = scanned was first commands c.self.invariant.serves (map_of c.args.records.now) c.apply.new.self c.add.new.self.released applied.1 applied.3 released;
     }
 
 pub returns-clause-after : goal.returns-clause-after
@@ -33,6 +33,6 @@ returns-clause-after c = λ first commands serves.
     c.add.ensures
     ∙ (λ j. with_end (applied.2 j).to (c.reserve.ensures.kept j)) in (
       applied.0,
-      scanned was first commands before (map_of c.args.records.now) c.apply.new.self c.add.new.self.released applied.1 released,
+      scanned was first commands before (map_of c.args.records.now) c.apply.new.self c.add.new.self.released applied.1 applied.3 released,
       applied.2,
     )

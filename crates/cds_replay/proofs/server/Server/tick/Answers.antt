@@ -8,7 +8,7 @@ pub invariant_of-self : goal.invariant_of-self
 invariant_of-self c =
     let i = c.self.inside in
     let was : Serving = record { store = i.store; subscribed = i.book.subscribed; released = i.releases.released; sent = i.sent } in
-    let none : next_release c.args.now was.store.number was.released ≡ None =
+    let none : next_release c.args.now was.store.standing.number was.released ≡ None =
     ap (λ (n : ℕ). next_release c.args.now n was.released) (sym c.system_update_id.ensures) ∙ sym c.next.ensures ∙ c.in-None.is in
     record {
       first = c.self.invariant.first;
@@ -20,6 +20,6 @@ pub returns-in-None-clause-after : goal.returns-in-None-clause-after
 returns-in-None-clause-after c = λ first commands serves.
     let i = c.self.inside in
     let was : Serving = record { store = i.store; subscribed = i.book.subscribed; released = i.releases.released; sent = i.sent } in
-    let none : next_release c.args.now was.store.number was.released ≡ None =
+    let none : next_release c.args.now was.store.standing.number was.released ≡ None =
     ap (λ (n : ℕ). next_release c.args.now n was.released) (sym c.system_update_id.ensures) ∙ sym c.next.ensures ∙ c.in-None.is in
     ticked was first commands (subst (λ (s : Serving). Serves s first commands) (sym c.self.view_is) serves) c.args.now c.expire.new.self.subscribed none c.expire.ensures
