@@ -4,7 +4,6 @@
 mod book;
 mod fragment;
 mod laws;
-mod note;
 mod play;
 mod put;
 mod releases;

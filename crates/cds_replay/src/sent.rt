@@ -6,9 +6,9 @@ ghost use Rattle.cds_replay.specs.Serving.{alive, note_to, sent_note};
 ghost use Rattle.cds_replay.specs.Sending.{events_at, head_of, kept_note, told_note};
 
 use crate::book::Subscription;
-use crate::note::{Note, Sid};
 use cds_base::Mem;
 use cds_event::{Event, Events};
+use cds_replica::{Note, Sid};
 use std::alloc::Global;
 use std::marker::Model;
 

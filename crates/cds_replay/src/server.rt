@@ -6,12 +6,12 @@ ghost use Rattle.cds_replay.specs.Sending.{head_of};
 ghost use Rattle.cds_replay.specs.Serving.{Ended, Granted, Scanned, Serves, next_release, sent_note};
 
 use crate::book::Book;
-use crate::note::Note;
 use crate::releases::Releases;
 use crate::sent::{Sent, SentHead};
 use cds_base::Mem;
 use cds_event::Events;
 use cds_object::Records;
+use cds_replica::Note;
 use cds_store::{ApplyError, Span, Store};
 use std::alloc::Global;
 use std::marker::Model;
