@@ -1,5 +1,8 @@
 -- The lines of a report, by what the store and the replica answered.
-use Rattle.std.specs.Prelude.{ℕ, Bool, true, false, List, [], ◌++◌, Result, Ok, Err, codes}
+use Rattle.std.specs.Prelude.{ℕ, Bool, true, false, List, [], ◌++◌, map, Result, Ok, Err, codes}
+use Rattle.std.specs.List.{filter_map}
+use Rattle.cds_notes.specs.Copy.{shown_row}
+use Rattle.cds_replica.specs.Copied.{KeptRow}
 use Rattle.std.specs.Fmt.{decimal}
 use Rattle.cds_object.specs.Object.{ObjectRow}
 use Rattle.cds_object.specs.Fragment.{full_text}
@@ -72,3 +75,7 @@ taken_text (Err NoMemory) = []
 -- the line of what became of the note of a number
 abbrev pub delivered_line : ℕ → Result Taken NotifyError → List ℕ
 delivered_line number answer = codes "deliver " ++ decimal number ++ codes " " ++ taken_text answer ++ codes "\n"
+
+-- the rows of a copy of which it is known what they say
+abbrev pub known_rows : List KeptRow → List ObjectRow
+known_rows rows = filter_map shown_row (map (λ (kept : KeptRow). kept.row) rows)

@@ -53,10 +53,10 @@ fn drop_past(living: &mut Vec<Subscription>, now: u64)
 }
 
 /// Drops that of a name.
-fn drop_named(living: &mut Vec<Subscription>, name: u32)
+fn drop_named(living: &mut Vec<Subscription>, name: u128)
     ensures { living.new.items ≡ filter (λ t. not (nat_eq t.name name)) living.old.items }
 {
-    living.retain(|s| s.name != name);
+    living.retain(|s| u128::from(s.name) != name);
 }
 
 /// Drops those whose next note is the one with the last SEQ.
@@ -84,10 +84,10 @@ fn count_alive(living: &[Subscription], now: u64) -> usize
 }
 
 /// Whether that of a name is there and has not run out at a moment.
-fn is_alive(living: &[Subscription], name: u32, now: u64) -> bool
+fn is_alive(living: &[Subscription], name: u128, now: u64) -> bool
     ensures { result ≡ list_any (λ t. nat_eq t.name name && nat_lt now t.end) living.now }
 {
-    living.iter().any(|s| s.name == name && now < s.end)
+    living.iter().any(|s| u128::from(s.name) == name && now < s.end)
 }
 
 impl Book {
@@ -150,7 +150,7 @@ impl Book {
     }
 
     /// Ends that of a name, and answers whether it was there and had not run out.
-    pub fn end(&mut self, name: u32, now: u64) -> bool
+    pub fn end(&mut self, name: u128, now: u64) -> bool
         ensures lived { result ≡ holds_alive name now self.old.subscribed }
         ensures ended { MatchBool result (self.new.subscribed ≡ without name self.old.subscribed) (self.new.subscribed ≡ self.old.subscribed) }
     {

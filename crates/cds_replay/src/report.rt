@@ -4,7 +4,7 @@ ghost use Rattle.std.specs.Prelude.{◌≡◌, ◌+◌, ◌++◌, ◌∷◌, [],
 ghost use Rattle.std.specs.Fmt.{decimal};
 ghost use Rattle.cds_object.specs.Fragment.{fragment, full_text};
 ghost use Rattle.cds_script.specs.Report.{notes_text};
-ghost use Rattle.cds_replay.specs.Lines.{scan_line, read_line, stands_text, numbered_line, note_line, delivered_line, taken_text, was_answered};
+ghost use Rattle.cds_replay.specs.Lines.{scan_line, read_line, stands_text, known_text, known_rows, numbered_line, note_line, delivered_line, taken_text, was_answered};
 
 use crate::fragment::put_fragment;
 use crate::put::{put, put_number};
@@ -12,7 +12,7 @@ use crate::sent::SentHead;
 use crate::server::Server;
 use cds_base::Mem;
 use cds_object::Row;
-use cds_replica::{NotifyError, Read, Taken};
+use cds_replica::{CopyRow, NotifyError, Read, Says, Taken};
 use cds_store::{ApplyError, Span};
 
 /// Puts a line of a word and a number.
@@ -67,23 +67,48 @@ pub fn put_read(out: &mut String, read: Read) -> Result<(), Mem>
     }
 }
 
+/// Puts what a replica knows, and the rows of its copy where it stands, each ended by LF.
+pub fn put_known(out: &mut String, known: Says, rows: &[CopyRow]) -> Result<(), Mem>
+    ensures { OnOk result (string_bytes out.new ≡ string_bytes out.old ++ known_text known (known_rows rows.now)) }
+{
+    match known {
+        Says::Gap { missing } => put_numbered_line(out, "gap ", u64::from(missing)),
+        Says::BehindLoad => put(out, "behind load\n"),
+        Says::BehindRead { id } => put_numbered_line(out, "behind read ", u64::from(id)),
+        Says::BehindVersion { version } => {
+            put_numbered_line(out, "behind version ", u64::from(version))
+        }
+        Says::Stands { at } => put_copy(out, at, rows),
+    }
+}
+
 /// Puts the number of a copy and its rows, each ended by LF.
-pub fn put_copy(out: &mut String, number: u32, rows: &[Row]) -> Result<(), Mem>
-    ensures { OnOk result (string_bytes out.new ≡ string_bytes out.old ++ stands_text number rows.now) }
+fn put_copy(out: &mut String, number: u32, rows: &[CopyRow]) -> Result<(), Mem>
+    ensures { OnOk result (string_bytes out.new ≡ string_bytes out.old ++ stands_text number (known_rows rows.now)) }
 {
     put_numbered_line(out, "stands ", u64::from(number))?;
     put_rows(out, rows)?;
     Ok(())
 }
 
-/// Puts rows in their order, each ended by LF.
-fn put_rows(out: &mut String, rows: &[Row]) -> Result<(), Mem>
-    ensures { OnOk result (string_bytes out.new ≡ string_bytes out.old ++ full_text rows.now) }
+/// Puts the rows of which it is known what they say, in their order, each ended by LF.
+fn put_rows(out: &mut String, rows: &[CopyRow]) -> Result<(), Mem>
+    ensures { OnOk result (string_bytes out.new ≡ string_bytes out.old ++ full_text (known_rows rows.now)) }
 {
-    for row in rows {
-        put_row(out, row)?;
+    for kept in rows {
+        put_known_row(out, kept)?;
     }
     Ok(())
+}
+
+/// Puts a row, ended by LF, where it is known what it says.
+fn put_known_row(out: &mut String, kept: &CopyRow) -> Result<(), Mem>
+    ensures { OnOk result (string_bytes out.new ≡ string_bytes out.old ++ full_text (known_rows (kept.now ∷ []))) }
+{
+    match kept.row() {
+        None => Ok(()),
+        Some(row) => put_row(out, row),
+    }
 }
 
 /// Puts a row, ended by LF.

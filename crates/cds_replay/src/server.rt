@@ -118,7 +118,7 @@ impl Server {
     }
 
     /// Ends the subscription of a name, and answers whether it lived at this moment.
-    pub fn end(&mut self, name: u32, now: u64) -> bool
+    pub fn end(&mut self, name: u128, now: u64) -> bool
         ensures after { (first : ℕ) (commands : List Command) → Serves self.old first commands → Ended first name now commands result self.old self.new }
         ensures granted { self.new.subscribed.granted ≡ self.old.subscribed.granted }
     {

@@ -14,7 +14,7 @@ use crate::report::{put_delivered, put_known, put_notes, put_read, put_scan, was
 use crate::server::Server;
 use cds_base::{Mem, Sequence, Text};
 use cds_object::{Content, Path, Record, Records};
-use cds_replica::{AnswerError, NotifyError, Replica, Says, Sid};
+use cds_replica::{AnswerError, NotifyError, Replica, Sid};
 use cds_script::Turn;
 use std::alloc::Global;
 use std::marker::Model;
@@ -50,7 +50,7 @@ impl Session {
         let server = Server::new(alloc, 0)?;
         Ok(Session {
             server,
-            replica: Replica::new(),
+            replica: Replica::new(alloc),
             records: Sequence::new(alloc),
             clock: 0,
             reply: None,
@@ -180,7 +180,7 @@ impl Session {
         ensures grows { OnOk result (Grows self.old self.new) }
     {
         self.fresh = false;
-        put_known(out, self.replica.says(), &self.replica)
+        put_known(out, self.replica.says(), self.replica.copy())
     }
 
     /// Begins again with a server whose first number is another. No turn came before.
