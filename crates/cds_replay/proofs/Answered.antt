@@ -1,5 +1,5 @@
 -- What a session's replica and server answer is what its turns write, and nothing is refused.
-use Rattle.std.proofs.Common.{◌≡◌, ℕ, zero, suc, ◌-◌, List, [], ◌∷◌, ◌++◌, Bool, true, false, cond, nat_eq, Option, Some, None, Result, Ok, Err, refl, ap, sym, subst, ◌∙◌}
+use Rattle.std.proofs.Common.{◌≡◌, ℕ, zero, suc, ◌-◌, ◌≤◌, arith, List, [], ◌∷◌, ◌++◌, Bool, true, false, cond, nat_eq, Option, Some, None, Result, Ok, Err, refl, ap, sym, subst, ◌∙◌}
 use Rattle.std.specs.Prelude.{codes, slice_get}
 use Rattle.std.specs.Fmt.{decimal}
 use Rattle.cds_object.specs.Object.{ObjectRow}
@@ -29,7 +29,8 @@ use Rattle.cds_replay.proofs.Turns.{moment-is}
 -- the note of a number, counted from 1
 pub same-note : (number : ℕ) (notes : List Note) → note_at number notes ≡ sent_note number notes
 same-note zero [] = refl
-same-note (suc n) [] = refl
+same-note (suc zero) [] = refl
+same-note (suc (suc n)) [] = refl
 same-note zero (note ∷ notes) = refl
 same-note (suc zero) (note ∷ notes) = refl
 same-note (suc (suc n)) (note ∷ notes) = same-note (suc n) notes

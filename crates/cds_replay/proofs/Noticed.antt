@@ -11,29 +11,35 @@ use Rattle.cds_replay.specs.declared.sent.SentHead.{SentHead}
 -- the line of a note stands before those of the notes behind it
 line-first : (k : ℕ) (note : Note) (notes : List Note) → notes_text k (note ∷ notes) ≡ note_line k (head_of note) ++ notes_text (k + 1) notes
 line-first k note notes =
-    sym (
-      ap (λ v. codes "note " ++ v) (
-        append_assoc (decimal k) (codes " seq " ++ decimal note.seq ++ codes " at " ++ decimal note.number ++ codes "\n") (notes_text (k + 1) notes)
-        ∙ ap (λ v. decimal k ++ codes " seq " ++ v) (
-          append_assoc (decimal note.seq) (codes " at " ++ decimal note.number ++ codes "\n") (notes_text (k + 1) notes)
-          ∙ ap (λ v. decimal note.seq ++ codes " at " ++ v) (append_assoc (decimal note.number) (codes "\n") (notes_text (k + 1) notes))
-        )
-      )
-    )
+    let at : (codes " at " ++ decimal note.number ++ codes "\n") ++ rest ≡ codes " at " ++ decimal note.number ++ codes "\n" ++ rest =
+    ap (λ v. codes " at " ++ v) (append_assoc (decimal note.number) (codes "\n") rest) in
+    let seq : (codes " seq " ++ decimal note.seq ++ codes " at " ++ decimal note.number ++ codes "\n") ++ rest
+        ≡ codes " seq " ++ decimal note.seq ++ codes " at " ++ decimal note.number ++ codes "\n" ++ rest =
+    ap (λ v. codes " seq " ++ v) (append_assoc (decimal note.seq) (codes " at " ++ decimal note.number ++ codes "\n") rest ∙ ap (λ v. decimal note.seq ++ v) at) in
+    let line : note_line k (head_of note) ++ rest ≡ notes_text k (note ∷ notes) =
+    ap (λ v. codes "note " ++ v)
+    (append_assoc (decimal k) (codes " seq " ++ decimal note.seq ++ codes " at " ++ decimal note.number ++ codes "\n") rest ∙ ap (λ v. decimal k ++ v) seq) in
+    sym line
+  where
+    rest : List ℕ
+    rest = notes_text (k + 1) notes
 
 pub next-line : (n k : ℕ) (notes : List Note) (head : SentHead) → option_map head_of (slice_get notes n) ≡ Some head →
     notes_text k (drop n notes) ≡ note_line k head ++ notes_text (k + 1) (drop (suc n) notes)
-next-line n k [] head e = absurd (cc)
+next-line zero k [] head e = absurd (cc)
+next-line (suc n) k [] head e = absurd (cc)
 next-line zero k (note ∷ notes) head e = let is : head_of note ≡ head = cc in line-first k note notes ∙ ap (λ h. note_line k h ++ notes_text (k + 1) notes) is
 next-line (suc n) k (note ∷ notes) head e = next-line n k notes head e
 
 -- past the last note there is none
 pub no-line : (n k : ℕ) (notes : List Note) → option_map head_of (slice_get notes n) ≡ None → (notes_text k (drop n notes) ≡ []) × (notes_text k (drop (suc n) notes) ≡ [])
-no-line n k [] e = (refl, refl)
+no-line zero k [] e = (refl, refl)
+no-line (suc n) k [] e = (refl, refl)
 no-line zero k (note ∷ notes) e = absurd (cc)
 no-line (suc n) k (note ∷ notes) e = no-line n k notes e
 
 pub past-lines : (n k : ℕ) (notes : List Note) → length notes ≤ n → notes_text k (drop n notes) ≡ []
-past-lines n k [] past = refl
+past-lines zero k [] past = refl
+past-lines (suc n) k [] past = refl
 past-lines zero k (note ∷ notes) past = absurd (omega (arith, past))
 past-lines (suc n) k (note ∷ notes) past = past-lines n k notes (omega (arith, past))

@@ -16,7 +16,7 @@ use Rattle.cds_model.proofs.Trees.{ascend-rises, each-found}
 -- the rows of a store are a tree
 pub store-tree : (store : Stored) → IsStore store → IsTree (rows_of store.standing.rows)
 store-tree store is =
-    let P : Standing → Type 0 = λ s. IsTree (rows_of s.rows) in subst P (sym is.stands.1.0) (catalogs_are_trees-proof is.history is.stands.0)
+    let P : Standing → Type 0 = λ s. IsTree (rows_of s.rows) in subst P (sym is.stands.1) (catalogs_are_trees-proof is.history is.stands.0)
 
 -- rows each of which is found by its id are what their ids lead to
 pub found-back : (all rows : List ObjectRow) → AllByRecursion (λ (r : ObjectRow). row_of r.id all ≡ Some r) rows →

@@ -1,5 +1,6 @@
 -- A session after one more turn.
-use Rattle.std.proofs.Common.{◌≡◌, ℕ, ◌≤◌, List, [], ◌∷◌, ◌++◌, Bool, true, false, Option, Some, None, refl, ap, sym, subst, ◌∙◌}
+use Rattle.std.proofs.Common.{◌≡◌, ℕ, ◌≤◌, List, [], ◌∷◌, ◌++◌, length, Bool, true, false, nat_eq, Option, Some, None, refl, ap, sym, subst, ◌∙◌, arith}
+use Rattle.std.proofs.lemmas.Bool.{eqb-true, false_from_ne_true}
 use Rattle.cds_replica.specs.Kept.{StandsFor}
 use Rattle.cds_script.specs.declared.turn.Turn.{Turn}
 use Rattle.cds_script.specs.Report.{number_of, first_of, clock_of, records_since, may_stand, played}
@@ -10,6 +11,10 @@ use Rattle.cds_replay.specs.Session.{Playing, IsAfter}
 pub first-more : (turn : Turn) (turns : List Turn) → number_of turn ≡ 0 → first_of (turn ∷ turns) ≡ first_of turns
 first-more turn [] none = none
 first-more turn (next ∷ older) none = refl
+
+-- a list with an item is not empty
+pub some-turns : (turn : Turn) (turns : List Turn) → nat_eq (length (turn ∷ turns)) 0 ≡ false
+some-turns turn turns = false_from_ne_true _ (λ e. let none = eqb-true (length (turn ∷ turns)) 0 e in omega (arith, none))
 
 -- after a turn that names no first number
 pub turned : (was new : Playing) (turn : Turn) (turns : List Turn) → IsAfter was turns → number_of turn ≡ 0 → may_stand turns turn ≡ true →
@@ -27,5 +32,5 @@ turned was new turn turns after none stands server replica records clock reply f
   records = records;
   clock = clock;
   reply = reply;
-  fresh = fresh;
+  fresh = fresh ∙ sym (some-turns turn turns);
 }

@@ -1,6 +1,7 @@
 -- A session that stands for turns stands for them and one more: what each turn makes of the server and of the replica.
-use Rattle.std.proofs.Common.{◌≡◌, ℕ, ◌+◌, ◌≤◌, List, [], ◌∷◌, ◌++◌, length, drop, Bool, true, false, cond, nat_lt, nat_le, nat_eq, not, ◌&&◌, Option, Some, None, Result, Ok, Err, refl, ap, sym, subst, ◌∙◌, arith}
-use Rattle.std.proofs.lemmas.Bool.{le-leb}
+use Rattle.std.proofs.Common.{◌≡◌, ℕ, ◌+◌, ◌≤◌, List, [], ◌∷◌, ◌++◌, length, drop, Bool, true, false, cond, nat_lt, nat_le, nat_eq, not, ◌&&◌, ◌||◌, true≢false, Option, Some, None, Result, Ok, Err, refl, ap, sym, subst, ◌∙◌, arith}
+use Rattle.std.specs.List.{list_any}
+use Rattle.std.proofs.lemmas.Bool.{le-leb, eqb-true}
 use Rattle.cds_object.specs.declared.record.Record.{Record}
 use Rattle.cds_catalog.specs.Library.{map_of}
 use Rattle.cds_catalog.specs.History.{History, end_of}
@@ -14,7 +15,7 @@ use Rattle.cds_store.specs.declared.error.ApplyError.TheVariants.{BadRecords, Fu
 use Rattle.cds_model.specs.Server.{reply_to}
 use Rattle.cds_model.specs.declared.exchange.Ask.{Ask as Asked}
 use Rattle.cds_model.specs.declared.exchange.Shown.{Shown}
-use Rattle.cds_notes.specs.Commands.{Command, Scans, Grants, Ends, Ticks, Note, scans_of, granted, has_room, notes_of}
+use Rattle.cds_notes.specs.Commands.{Command, Scans, Grants, Ends, Ticks, Note, scans_of, granted, alive_names, has_room, notes_of}
 use Rattle.cds_notes.specs.Inbox.{ReplicaTurn, Begins, Shows, Requests, Accepts, Refuses, Delivers, accepted}
 use Rattle.cds_notes.specs.Follow.{Known, Outcome, Knows, known_by, next_ask, and_turn}
 use Rattle.cds_notes.specs.Given.{moment_after, asked_at}
@@ -22,11 +23,28 @@ use Rattle.cds_replica.specs.Called.{GoesOn, TakesTurn}
 use Rattle.cds_replica.specs.Kept.{Kept, StandsFor}
 use Rattle.cds_script.specs.declared.turn.Turn.{Turn}
 use Rattle.cds_script.specs.declared.turn.Turn.TheVariants.{Folder, Track, Scan, Load, Read, Ask, First, At, Subscribe, Accept, Unsubscribe, Deliver, ReadFault}
-use Rattle.cds_script.specs.Report.{first_of, clock_of, records_since, may_stand, scanned, after_reply, after_note, sent_note, given_up, Played, played}
+use Rattle.cds_script.specs.Report.{first_of, clock_of, records_since, may_stand, scanned, after_reply, after_note, sent_note, lives, given_up, Played, played}
 use Rattle.cds_replay.specs.Lines.{was_answered}
-use Rattle.cds_replay.specs.Serving.{Serving, Scanned, Granted, Ended, Serves}
+use Rattle.cds_replay.specs.Serving.{Serving, Scanned, Granted, Ended, Serves, is_living}
 use Rattle.cds_replay.specs.Session.{Playing, IsAfter, moment_in}
-use Rattle.cds_replay.proofs.Turned.{first-more, turned}
+use Rattle.cds_replay.proofs.Turned.{some-turns, first-more, turned}
+
+-- whether a subscription lives, either way round
+eq-turned : (a b : ℕ) → nat_eq a b ≡ nat_eq b a
+eq-turned a b = by (nat_eq a b) (nat_eq b a) refl refl
+  where
+    by : (x y : Bool) → nat_eq a b ≡ x → nat_eq b a ≡ y → x ≡ y
+    by true true e f = refl
+    by false false e f = refl
+    by true false e f = let same = eqb-true a b e in absurd (true≢false (sym (subst (λ n. nat_eq a n ≡ true) (sym same) e) ∙ subst (λ n. nat_eq n a ≡ false) (sym same) f))
+    by false true e f = let same = eqb-true b a f in absurd (true≢false (sym (subst (λ n. nat_eq b n ≡ true) (sym same) f) ∙ subst (λ n. nat_eq n b ≡ false) (sym same) e))
+
+any-turned : (name : ℕ) (names : List ℕ) → list_any (nat_eq name) names ≡ list_any (λ other. nat_eq other name) names
+any-turned name [] = refl
+any-turned name (other ∷ names) = λ i. eq-turned name other i || any-turned name names i
+
+pub lives-living : (name now first : ℕ) (commands : List Command) → lives name first now commands ≡ is_living first name now commands
+lives-living name now first commands = any-turned name (alive_names now commands (notes_of first commands))
 
 -- a load
 pub load-after : (was : Playing) (replica : Kept) (turns : List Turn) → IsAfter was turns → GoesOn was.replica Begins replica →
@@ -47,7 +65,7 @@ lost-after was turns after =
 -- what the store shows is what the turns' server shows
 pub moment-is : (was : Playing) (turns : List Turn) → IsAfter was turns →
     moment_in was.server.store ≡ moment_after (first_of turns) (played turns).commands
-moment-is was turns after = ap (λ (s : Standing). moment_in (record { standing = s; forgotten = 0; kept = [] })) after.server.store.1.0
+moment-is was turns after = ap (λ (s : Standing). moment_in (record { standing = s; forgotten = 0; kept = [] })) after.server.store.1
 
 -- a read of what is asked next, and one where nothing is
 pub read-after : (was : Playing) (replica : Kept) (ask : Asked) (shown : Shown) (turns : List Turn) → IsAfter was turns →
@@ -72,7 +90,7 @@ scan-serves : (first : ℕ) (commands : List Command) (records : List Record) (a
     Scanned first commands records answer old new → was_answered answer ≡ true →
     Serves new first (scanned (scan_answer (scans_of first commands) records) records commands)
 scan-serves first commands records (Ok span) old new serves applied told =
-    subst (λ a. Serves new first (scanned a records commands)) (sym applied.0) applied.1.0
+    subst (λ a. Serves new first (scanned a records commands)) (sym applied.0) applied.1
 scan-serves first commands records (Err (BadRecords line)) old new serves applied told =
     subst (λ a. Serves new first (scanned a records commands)) (sym applied.0) (subst (λ s. Serves s first commands) (sym applied.1) serves)
 scan-serves first commands records (Err (Full objects)) old new serves applied told =
@@ -101,9 +119,10 @@ begin-after was server number [] after fresh low serves = record {
   records = after.records;
   clock = after.clock;
   reply = after.reply;
-  fresh = refl;
+  fresh = sym (some-turns (First number) []);
 }
-begin-after was server number (turn ∷ older) after fresh low serves = let other : was.fresh ≡ false = after.fresh in absurd (cc)
+begin-after was server number (turn ∷ older) after fresh low serves =
+    let other : was.fresh ≡ false = after.fresh ∙ some-turns turn older in absurd (cc)
 
 -- a tick at a moment that is not before the current one
 pub tick-after : (was : Playing) (server : Serving) (moment : ℕ) (turns : List Turn) → IsAfter was turns → was.clock ≤ moment →
@@ -121,15 +140,20 @@ pub subscribe-after : (was : Playing) (server : Serving) (replica : Kept) (name 
 subscribe-after was server replica name turns after goes grants =
     by name (subst (λ now. Granted (first_of turns) now (played turns).commands name was.server server) after.clock (grants (first_of turns) (played turns).commands after.server))
   where
+    first : ℕ
     first = first_of turns
+
+    now : ℕ
     now = clock_of turns
+
+    p : Played
     p = played turns
 
-    yes : Played
-    yes = record { commands = Grants now ∷ p.commands; replica = Requests ∷ p.replica; reply = Some (Some (granted p.commands + 1)) }
+    granting : Played
+    granting = record { commands = Grants now ∷ p.commands; replica = Requests ∷ p.replica; reply = Some (Some (granted p.commands + 1)) }
 
-    no : Played
-    no = record { commands = p.commands; replica = Requests ∷ p.replica; reply = Some None }
+    refusing : Played
+    refusing = record { commands = p.commands; replica = Requests ∷ p.replica; reply = Some None }
 
     room : Bool
     room = has_room now p.commands (notes_of first p.commands)
@@ -138,16 +162,16 @@ subscribe-after was server replica name turns after goes grants =
         IsAfter (record was { server = server; replica = replica; reply = Some n; fresh = false }) (Subscribe ∷ turns)
     by None g =
         turned was (record was { server = server; replica = replica; reply = Some None; fresh = false }) Subscribe turns after refl refl
-        (subst (λ b. Serves server first (cond b yes no).commands) (sym g.0) (subst (λ s. Serves s first p.commands) (sym g.1) after.server))
-        (subst (λ b. StandsFor replica (cond b yes no).replica) (sym g.0) (goes p.replica after.replica))
+        (subst (λ b. Serves server first (cond b granting refusing).commands) (sym g.0) (subst (λ s. Serves s first p.commands) (sym g.1) after.server))
+        (subst (λ b. StandsFor replica (cond b granting refusing).replica) (sym g.0) (goes p.replica after.replica))
         after.records after.clock
-        (ap (λ b. (cond b yes no).reply) (sym g.0)) refl
+        (ap (λ b. (cond b granting refusing).reply) (sym g.0)) refl
     by (Some n) g =
         turned was (record was { server = server; replica = replica; reply = Some (Some n); fresh = false }) Subscribe turns after refl refl
-        (subst (λ b. Serves server first (cond b yes no).commands) (sym g.0) g.1.1)
-        (subst (λ b. StandsFor replica (cond b yes no).replica) (sym g.0) (goes p.replica after.replica))
+        (subst (λ b. Serves server first (cond b granting refusing).commands) (sym g.0) g.2)
+        (subst (λ b. StandsFor replica (cond b granting refusing).replica) (sym g.0) (goes p.replica after.replica))
         after.records after.clock
-        (ap (λ m. Some (Some m)) g.1.0 ∙ ap (λ b. (cond b yes no).reply) (sym g.0)) refl
+        (ap (λ m. Some (Some m)) g.1 ∙ ap (λ b. (cond b granting refusing).reply) (sym g.0)) refl
 
 -- the reply that was held back reaches the replica: there is none, or a refusal, or a name
 pub none-after : (was : Playing) (turns : List Turn) → IsAfter was turns → was.reply ≡ None →
@@ -159,17 +183,17 @@ none-after was turns after none =
 
 pub refused-after : (was : Playing) (replica : Kept) (turns : List Turn) → IsAfter was turns → was.reply ≡ Some None → GoesOn was.replica Refuses replica →
     IsAfter (record was { replica = replica; reply = None; fresh = false }) (Accept ∷ turns)
-refused-after was replica turns after no goes =
+refused-after was replica turns after none goes =
     turned was (record was { replica = replica; reply = None; fresh = false }) Accept turns after refl refl after.server
-    (subst (λ r. StandsFor replica (after_reply r (played turns).replica)) (sym no ∙ after.reply) (goes (played turns).replica after.replica))
+    (subst (λ r. StandsFor replica (after_reply r (played turns).replica)) (sym none ∙ after.reply) (goes (played turns).replica after.replica))
     after.records after.clock refl refl
 
 pub accept-after : (was : Playing) (replica : Kept) (name : ℕ) (turns : List Turn) → IsAfter was turns → was.reply ≡ Some (Some name) →
     TakesTurn was.replica (Accepts name) replica →
     IsAfter (record was { replica = replica; reply = None; fresh = false }) (Accept ∷ turns)
-accept-after was replica name turns after yes takes =
+accept-after was replica name turns after named takes =
     turned was (record was { replica = replica; reply = None; fresh = false }) Accept turns after refl refl after.server
-    (subst (λ r. StandsFor replica (after_reply r (played turns).replica)) (sym yes ∙ after.reply) (takes (played turns).replica after.replica))
+    (subst (λ r. StandsFor replica (after_reply r (played turns).replica)) (sym named ∙ after.reply) (takes (played turns).replica after.replica))
     after.records after.clock refl refl
 
 -- the subscription that was accepted last is given up, if there is one
@@ -192,9 +216,11 @@ end-after was server name lived turns after is ends =
   where
     by : (b : Bool) → Ended (first_of turns) name (clock_of turns) (played turns).commands b was.server server →
         Serves server (first_of turns) (given_up (Some name) (first_of turns) (clock_of turns) (played turns).commands)
-    by true e = subst (λ b. Serves server (first_of turns) (cond b (Ends name ∷ (played turns).commands) (played turns).commands)) (sym e.0) e.1
+    by true e =
+        subst (λ b. Serves server (first_of turns) (cond b (Ends name ∷ (played turns).commands) (played turns).commands)) (sym (lives-living name (clock_of turns) (first_of turns) (played turns).commands ∙ e.0)) e.1
     by false e =
-        subst (λ b. Serves server (first_of turns) (cond b (Ends name ∷ (played turns).commands) (played turns).commands)) (sym e.0)
+        subst (λ b. Serves server (first_of turns) (cond b (Ends name ∷ (played turns).commands) (played turns).commands))
+        (sym (lives-living name (clock_of turns) (first_of turns) (played turns).commands ∙ e.0))
         (subst (λ s. Serves s (first_of turns) (played turns).commands) (sym e.1) after.server)
 
 -- a note that was sent reaches the replica
