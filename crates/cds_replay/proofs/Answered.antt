@@ -1,39 +1,63 @@
 -- What a session's replica and server answer is what its turns write, and nothing is refused.
 use Rattle.std.proofs.Common.{◌≡◌, ℕ, zero, suc, ◌-◌, ◌≤◌, arith, List, [], ◌∷◌, ◌++◌, Bool, true, false, cond, nat_eq, Option, Some, None, Result, Ok, Err, refl, ap, sym, subst, ◌∙◌}
-use Rattle.std.specs.Prelude.{codes, slice_get}
+use Rattle.std.specs.Prelude.{codes, slice_get, OnOk}
+use Rattle.std.proofs.lemmas.Bool.{eqb-true, false_from_ne_true}
 use Rattle.std.specs.Fmt.{decimal}
 use Rattle.cds_object.specs.Object.{ObjectRow}
 use Rattle.cds_object.specs.Fragment.{full_text}
 use Rattle.cds_model.specs.Server.{reply_to}
 use Rattle.cds_model.specs.declared.exchange.Ask.{Ask as Asked}
 use Rattle.cds_model.specs.declared.exchange.Shown.{Shown}
-use Rattle.cds_notes.specs.Commands.{Note}
-use Rattle.cds_notes.specs.Inbox.{Accepts, Delivers, taken_by}
+use Rattle.cds_notes.specs.Commands.{Note, Command, scans_of, notes_of}
+use Rattle.cds_notes.specs.Inbox.{Accepts, Delivers, taken_by, is_out, Arrival, IsUnknown, IsRepeat, IsTooMany, IsEarly, IsHeld, IsNext, arrival}
 use Rattle.cds_notes.specs.Follow.{Known, Outcome, Knows, CannotBeRead, Jumps, Tears, known_by, next_ask, with_reply, with_notes, says, copied}
 use Rattle.cds_notes.specs.Given.{moment_after}
 use Rattle.cds_notes.specs.declared.says.Says.{Says}
 use Rattle.cds_notes.specs.declared.says.Says.TheVariants.{Gap, BehindLoad, BehindRead, BehindVersion, Stands}
 use Rattle.cds_replica.specs.Called.{IsAnswer, IsAcceptance, IsNotice}
+use Rattle.cds_replica.specs.Called.{UnlessFull}
+use Rattle.cds_replica.specs.declared.note.Taken.{Taken}
+use Rattle.cds_replica.specs.declared.note.Taken.TheVariants.{Took, Repeat, Early, Held}
+use Rattle.cds_replica.specs.declared.notify_error.NotifyError.{NotifyError}
+use Rattle.cds_replica.specs.declared.notify_error.NotifyError.TheVariants.{Unknown, Full as TooMany, Jump, Torn, Mem as NoMemory}
 use Rattle.cds_replica.specs.declared.error.AnswerError.{AnswerError}
 use Rattle.cds_replica.specs.declared.error.AnswerError.TheVariants.{Unreadable, Jump as AnswerJump, Torn as AnswerTorn, Mem as AnswerMem}
 use Rattle.cds_script.specs.declared.turn.Turn.{Turn}
 use Rattle.cds_script.specs.declared.turn.Turn.TheVariants.{Ask}
-use Rattle.cds_script.specs.Report.{first_of, history_of, answer_text, written_by, played, sent_note}
+use Rattle.cds_script.specs.Report.{first_of, clock_of, history_of, answer_text, arrival_text, deliver_text, unsubscribe_text, written_by, lives, played, sent_note}
 use Rattle.cds_script.specs.Played.{MayBe}
+use Rattle.cds_script.proofs.Given.{Waits, turns-kept}
 use Rattle.cds_script.proofs.Stood.{turns-taken, turns-stand}
-use Rattle.cds_replay.specs.Lines.{known_text}
-use Rattle.cds_replay.specs.Serving.{sent_note as note_at}
+use Rattle.cds_replay.specs.Lines.{known_text, taken_text, delivered_line, ended_text, was_noticed}
+use Rattle.cds_replay.specs.Serving.{sent_note as note_at, Serving, Ended, Serves}
 use Rattle.cds_replay.specs.Session.{Playing, IsAfter, moment_in}
-use Rattle.cds_replay.proofs.Turns.{moment-is}
+use Rattle.cds_replay.proofs.Turns.{moment-is, lives-living}
 
 -- the note of a number, counted from 1
+not-zero : (n : ℕ) → nat_eq (suc n) 0 ≡ false
+not-zero n = false_from_ne_true _ (λ e. let is = eqb-true (suc n) 0 e in omega (arith, is))
+
+not-one : (n : ℕ) → nat_eq (suc (suc n)) 1 ≡ false
+not-one n = false_from_ne_true _ (λ e. let is = eqb-true (suc (suc n)) 1 e in omega (arith, is))
+
+less-one : (n : ℕ) → suc n - 1 ≡ n
+less-one n = omega arith
+
+get-is : (n : ℕ) (notes : List Note) → slice_get notes n ≡ sent_note (suc n) notes
+get-is zero [] = refl
+get-is (suc n) [] = refl
+get-is zero (note ∷ notes) = refl
+get-is (suc n) (note ∷ notes) =
+    get-is n notes
+    ∙ sym (ap (λ m. sent_note m notes) (less-one (suc n)))
+    ∙ sym (ap (λ b. cond b None (sent_note (suc (suc n) - 1) notes)) (not-zero (suc n)))
+    ∙ sym (ap (λ b. cond b (Some note) (cond (nat_eq (suc (suc n)) 0) None (sent_note (suc (suc n) - 1) notes))) (not-one n))
+
 pub same-note : (number : ℕ) (notes : List Note) → note_at number notes ≡ sent_note number notes
 same-note zero [] = refl
-same-note (suc zero) [] = refl
-same-note (suc (suc n)) [] = refl
 same-note zero (note ∷ notes) = refl
-same-note (suc zero) (note ∷ notes) = refl
-same-note (suc (suc n)) (note ∷ notes) = same-note (suc n) notes
+same-note (suc n) notes =
+    ap (λ b. cond b None (slice_get notes (suc n - 1))) (not-zero n) ∙ ap (slice_get notes) (less-one n) ∙ get-is n notes
 
 -- the reply to the next ask is taken
 pub reply-taken : (was : Playing) (ask : Asked) (shown : Shown) (turns : List Turn) → IsAfter was turns →
@@ -69,3 +93,72 @@ known-written turns may = by (says (played turns).replica) refl
         asked-number : (turns : List Turn) → MayBe turns → first_of (Ask ∷ turns) ≤ 4294967295
         asked-number [] may = omega arith
         asked-number (turn ∷ older) may = may.number
+
+pub known-answered : (turns : List Turn) → MayBe turns → known_text (says (played turns).replica) (copied (known_by (played turns).replica))
+    ≡ answer_text (scans_of (first_of turns) (played turns).commands) (says (played turns).replica)
+known-answered turns may = known-written turns may
+
+-- the names of early notes are taken
+pub no-name-refusal : (outcome : Outcome) (now : Known) (e : NotifyError) → outcome ≡ Knows now → IsAcceptance outcome (Err e) → e ≡ NoMemory
+no-name-refusal outcome now Unknown is answer = absurd answer
+no-name-refusal outcome now (TooMany held) is answer = absurd answer
+no-name-refusal outcome now (Jump expected first) is answer = let other : outcome ≡ Jumps expected first = answer in cc
+no-name-refusal outcome now (Torn id) is answer = let other : outcome ≡ Tears id = answer in cc
+no-name-refusal outcome now NoMemory is answer = refl
+
+-- a fact holds where a note was answered
+pub noticed : {P : Type 0} (answer : Result Taken NotifyError) → was_noticed answer ≡ true → UnlessFull answer P → P
+noticed (Ok taken) told fact = fact
+noticed (Err Unknown) told fact = fact
+noticed (Err (TooMany held)) told fact = fact
+noticed (Err (Jump expected first)) told fact = fact
+noticed (Err (Torn id)) told fact = fact
+noticed (Err NoMemory) told fact = absurd (cc)
+
+-- what a note was answered is what its delivery writes
+word-is : (arrives : Arrival) (outcome : Outcome) (now : Known) (answer : Result Taken NotifyError) → outcome ≡ Knows now → was_noticed answer ≡ true →
+    IsNotice arrives outcome answer → taken_text answer ≡ arrival_text arrives
+word-is arrives outcome now (Ok Took) is told notice = ap arrival_text (sym notice.0)
+word-is arrives outcome now (Ok Repeat) is told notice = ap arrival_text (sym notice)
+word-is arrives outcome now (Ok Early) is told notice = ap arrival_text (sym notice)
+word-is arrives outcome now (Ok (Held missing)) is told notice = ap arrival_text (sym notice)
+word-is arrives outcome now (Err Unknown) is told notice = ap arrival_text (sym notice)
+word-is arrives outcome now (Err (TooMany held)) is told notice = ap arrival_text (sym notice)
+word-is arrives outcome now (Err (Jump expected first)) is told notice = let other : outcome ≡ Jumps expected first = notice.1 in absurd (cc)
+word-is arrives outcome now (Err (Torn id)) is told notice = let other : outcome ≡ Tears id = notice.1 in absurd (cc)
+word-is arrives outcome now (Err NoMemory) is told notice = absurd (cc)
+
+pub notice-written : (turns : List Turn) (number : ℕ) (note : Note) (answer : Result Taken NotifyError) → MayBe turns →
+    sent_note number (notes_of (first_of turns) (played turns).commands) ≡ Some note → was_noticed answer ≡ true →
+    IsNotice (arrival note (played turns).replica) (with_notes (taken_by (Delivers note) (played turns).replica) (known_by (played turns).replica)) answer →
+    delivered_line number answer
+    ≡ deliver_text number (sent_note number (notes_of (first_of turns) (played turns).commands)) (played turns).replica
+notice-written turns number note answer may is told notice =
+    let taken = (turns-taken turns may).notes number note is in
+    ap (λ v. codes "deliver " ++ decimal number ++ codes " " ++ v ++ codes "\n")
+    (word-is (arrival note (played turns).replica) (with_notes (taken_by (Delivers note) (played turns).replica) (known_by (played turns).replica)) taken.0 answer taken.1 told notice)
+    ∙ sym (ap (λ o. deliver_text number o (played turns).replica) is)
+
+-- what became of a subscription is what giving it up writes
+pub ended-written : (name now first : ℕ) (commands : List Command) (lived : Bool) (was server : Serving) → Ended first name now commands lived was server →
+    ended_text lived ≡ unsubscribe_text (Some name) first now commands
+ended-written name now first commands true was server ended =
+    sym (ap (λ b. cond b (codes "unsubscribe 200\n") (codes "unsubscribe 412\n")) (lives-living name now first commands ∙ ended.0))
+ended-written name now first commands false was server ended =
+    sym (ap (λ b. cond b (codes "unsubscribe 200\n") (codes "unsubscribe 412\n")) (lives-living name now first commands ∙ ended.0))
+
+-- where a name is held back a request is out
+pub name-waits : (turns : List Turn) (name : ℕ) → MayBe turns → (played turns).reply ≡ Some (Some name) → is_out (played turns).replica ≡ true
+name-waits turns name may is =
+    let kept = turns-kept turns may.number in
+    (subst (λ r. Waits (played turns).commands kept.entries (played turns).replica r) is kept.waits).0
+
+-- a fact that holds whatever was answered
+pub always : {E P : Type 0} (answer : Result (Unit {0}) E) → P → OnOk answer P
+always (Ok done) fact = fact
+always (Err e) fact = tt
+
+-- what was written, told otherwise
+pub written-as : {E : Type 0} (answer : Result (Unit {0}) E) (new old a b : List ℕ) → a ≡ b → OnOk answer (new ≡ old ++ a) → OnOk answer (new ≡ old ++ b)
+written-as (Ok done) new old a b same written = written ∙ ap (λ v. old ++ v) same
+written-as (Err e) new old a b same written = tt

@@ -2,6 +2,7 @@
 use Rattle.std.proofs.Common.{◌≡◌, ℕ, ◌+◌, ◌≤◌, List, [], ◌∷◌, ◌++◌, length, drop, Bool, true, false, cond, nat_lt, nat_le, nat_eq, not, ◌&&◌, ◌||◌, true≢false, Option, Some, None, Result, Ok, Err, refl, ap, sym, subst, ◌∙◌, arith}
 use Rattle.std.specs.List.{list_any}
 use Rattle.std.proofs.lemmas.Bool.{le-leb, eqb-true}
+use Rattle.cds_object.specs.declared.content.Content.{Content}
 use Rattle.cds_object.specs.declared.record.Record.{Record}
 use Rattle.cds_catalog.specs.Library.{map_of}
 use Rattle.cds_catalog.specs.History.{History, end_of}
@@ -12,6 +13,7 @@ use Rattle.cds_store.specs.Stands.{Stored}
 use Rattle.cds_store.specs.declared.span.Span.{Span}
 use Rattle.cds_store.specs.declared.error.ApplyError.{ApplyError}
 use Rattle.cds_store.specs.declared.error.ApplyError.TheVariants.{BadRecords, Full, Spent, Mem as NoMemory}
+use Rattle.cds_model.specs.Report.{folder_record}
 use Rattle.cds_model.specs.Server.{reply_to}
 use Rattle.cds_model.specs.declared.exchange.Ask.{Ask as Asked}
 use Rattle.cds_model.specs.declared.exchange.Shown.{Shown}
@@ -26,7 +28,7 @@ use Rattle.cds_script.specs.declared.turn.Turn.TheVariants.{Folder, Track, Scan,
 use Rattle.cds_script.specs.Report.{first_of, clock_of, records_since, may_stand, scanned, after_reply, after_note, sent_note, lives, given_up, Played, played}
 use Rattle.cds_replay.specs.Lines.{was_answered}
 use Rattle.cds_replay.specs.Serving.{Serving, Scanned, Granted, Ended, Serves, is_living}
-use Rattle.cds_replay.specs.Session.{Playing, IsAfter, moment_in}
+use Rattle.cds_replay.specs.Session.{Playing, IsAfter, moment_in, with_record}
 use Rattle.cds_replay.proofs.Turned.{some-turns, first-more, turned}
 
 -- whether a subscription lives, either way round
@@ -239,3 +241,15 @@ no-note-after was number turns after may is =
     turned was (record was { fresh = false }) (Deliver number) turns after refl may after.server
     (subst (λ o. StandsFor was.replica (after_note o (played turns).replica)) (sym is) after.replica)
     after.records after.clock after.reply refl
+
+-- a record more
+pub folder-after : (was : Playing) (path : List (List ℕ)) (turns : List Turn) → IsAfter was turns → IsAfter (with_record was (folder_record path)) (Folder path ∷ turns)
+folder-after was path turns after =
+    turned was (with_record was (folder_record path)) (Folder path) turns after refl refl after.server after.replica
+    (ap (λ r. r ++ folder_record path ∷ []) after.records) after.clock after.reply refl
+
+pub track-after : (was : Playing) (path : List (List ℕ)) (content : Content) (turns : List Turn) → IsAfter was turns →
+    IsAfter (with_record was (record { path = path; content = content })) (Track path content ∷ turns)
+track-after was path content turns after =
+    turned was (with_record was (record { path = path; content = content })) (Track path content) turns after refl refl after.server after.replica
+    (ap (λ r. r ++ (record { path = path; content = content }) ∷ []) after.records) after.clock after.reply refl

@@ -79,3 +79,17 @@ delivered_line number answer = codes "deliver " ++ decimal number ++ codes " " +
 -- the rows of a copy of which it is known what they say
 abbrev pub known_rows : List KeptRow → List ObjectRow
 known_rows rows = filter_map shown_row (map (λ (kept : KeptRow). kept.row) rows)
+
+-- whether a note was answered: memory did not run out
+abbrev pub was_noticed : Result Taken NotifyError → Bool
+was_noticed (Ok taken) = true
+was_noticed (Err Unknown) = true
+was_noticed (Err (TooMany held)) = true
+was_noticed (Err (Jump expected first)) = true
+was_noticed (Err (Torn id)) = true
+was_noticed (Err NoMemory) = false
+
+-- the line of what became of a subscription that was given up
+abbrev pub ended_text : Bool → List ℕ
+ended_text true = codes "unsubscribe 200\n"
+ended_text false = codes "unsubscribe 412\n"

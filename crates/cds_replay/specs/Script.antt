@@ -1,12 +1,13 @@
 -- How a script goes on after its bytes so far, and how it ends.
-use Rattle.std.specs.Prelude.{◌≡◌, ℕ, ◌+◌, ◌-◌, ◌≤◌, true, List, ◌++◌, length, Option, Some, None, codes}
+use Rattle.std.specs.Prelude.{◌≡◌, ℕ, ◌+◌, ◌-◌, ◌<◌, ◌≤◌, true, List, ◌++◌, length, Option, Some, None, codes}
 use Rattle.std.specs.Fmt.{decimal}
 use Rattle.cds_script.specs.declared.turn.Meaning.{Meaning}
 use Rattle.cds_script.specs.declared.turn.Turn.{Turn}
 use Rattle.cds_model.specs.Script.{is_unbroken, line_limit, script_limit}
 use Rattle.cds_model.specs.Report.{Ending, written_first}
 use Rattle.cds_script.specs.Report.{ending_at, ending_of}
-use Rattle.cds_replay.specs.Session.{Playing, IsAfter}
+use Rattle.cds_script.specs.Script.{moment_limit}
+use Rattle.cds_replay.specs.Session.{Playing, IsAfter, IsPlayed}
 use Rattle.cds_replay.specs.declared.script.Script.{Script}
 use Rattle.cds_replay.specs.declared.script.Stop.{Stop}
 use Rattle.cds_replay.specs.declared.script.Stop.TheVariants.{Outside, Limit}
@@ -25,13 +26,16 @@ stop_text Limit = codes "error limit\n"
 abbrev pub left_in : Script → ℕ
 left_in script = script.room - length script.partial.items
 
--- what is true of a script that has not stopped: its last line has not ended and is within both limits, and each record
--- and each line took at least one byte
+-- what is true of a script that has not stopped: its last line has not ended and is within both limits; each record, each
+-- subscription and each line took at least one byte; its moment is one of a script, and its session stands for some turns
 pub record Sound (script : Script) : Type 0 where
   pub whole : is_unbroken script.partial.items ≡ true
   pub short : length script.partial.items ≤ line_limit
   pub within : length script.partial.items ≤ script.room
   pub records : length script.session.records + script.room ≤ script_limit
+  pub granted : script.session.server.subscribed.granted + script.room ≤ script_limit
+  pub moment : script.session.clock < moment_limit
+  pub played : IsPlayed script.session
   pub lines : script.line + script.room ≤ script_limit + 1
 
 -- whether a script goes on as a function of its other bytes says: its session stands for some turns, and its last line

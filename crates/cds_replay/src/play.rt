@@ -88,8 +88,8 @@ pub fn replay<S: Source, K: Sink>(
     cds_script::all_turns_bound_loads();
     cds_script::all_turns_stand_at_scan_ends();
     cds_script::all_answers_are_complete();
-    let mut script = Script::new(alloc)?;
     let mut buffer = empty_piece(alloc)?;
+    let mut script = Script::new(alloc)?;
     play_on(alloc, &mut script, buffer.as_mut_slice(), source, sink)
 }
 

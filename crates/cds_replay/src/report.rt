@@ -4,7 +4,7 @@ ghost use Rattle.std.specs.Prelude.{◌≡◌, ◌+◌, ◌++◌, ◌∷◌, [],
 ghost use Rattle.std.specs.Fmt.{decimal};
 ghost use Rattle.cds_object.specs.Fragment.{fragment, full_text};
 ghost use Rattle.cds_script.specs.Report.{notes_text};
-ghost use Rattle.cds_replay.specs.Lines.{scan_line, read_line, stands_text, known_text, known_rows, numbered_line, note_line, delivered_line, taken_text, was_answered};
+ghost use Rattle.cds_replay.specs.Lines.{scan_line, read_line, stands_text, known_text, known_rows, numbered_line, note_line, delivered_line, taken_text, ended_text, was_answered, was_noticed};
 
 use crate::fragment::put_fragment;
 use crate::put::{put, put_number};
@@ -183,4 +183,22 @@ fn put_numbered(out: &mut String, word: &str, number: u64) -> Result<(), Mem>
     put(out, word)?;
     put_number(out, number)?;
     Ok(())
+}
+
+/// Whether a note was answered: memory did not run out.
+pub fn was_noticed(answer: &Result<Taken, NotifyError>) -> bool
+    ensures { result ≡ was_noticed answer.now }
+{
+    !matches!(answer, Err(NotifyError::Mem))
+}
+
+/// Puts what became of a subscription that was given up.
+pub fn put_ended(out: &mut String, lived: bool) -> Result<(), Mem>
+    ensures { OnOk result (string_bytes out.new ≡ string_bytes out.old ++ ended_text lived) }
+{
+    if lived {
+        put(out, "unsubscribe 200\n")
+    } else {
+        put(out, "unsubscribe 412\n")
+    }
 }

@@ -1,18 +1,20 @@
 //! A script that comes part by part: each line is answered as soon as it has ended.
 
-ghost use Rattle.std.specs.Prelude.{◌≡◌, ℕ, ◌+◌, ◌<◌, ◌≤◌, ◌++◌, ◌^◌, [], ◌∷◌, List, true, length, IfOk, OnOk, MatchOption, string_bytes};
-ghost use Rattle.cds_script.specs.declared.turn.Turn.{Turn};
+ghost use Rattle.std.specs.Prelude.{◌≡◌, ℕ, ◌+◌, ◌<◌, ◌≤◌, ◌++◌, ◌^◌, [], ◌∷◌, List, Some, true, length, IfOk, OnOk, MatchOption, string_bytes};
+ghost use Rattle.cds_script.specs.declared.turn.Turn.{Turn as TurnValue};
+ghost use Rattle.cds_script.specs.declared.turn.Meaning.TheVariants.{Means};
+ghost use Rattle.cds_replay.specs.declared.script.Stop.TheVariants.{Outside};
 ghost use Rattle.cds_model.specs.Script.{is_unbroken, line_limit, script_limit};
-ghost use Rattle.cds_script.specs.Script.{meaning_of};
+ghost use Rattle.cds_script.specs.Script.{meaning_of, IsInRange};
 ghost use Rattle.cds_model.specs.Report.{Ending};
 ghost use Rattle.cds_script.specs.Report.{script_ending};
-ghost use Rattle.cds_replay.specs.Session.{IsAfter};
+ghost use Rattle.cds_replay.specs.Session.{IsAfter, IsPlayed, IsBounded, Grows};
 ghost use Rattle.cds_replay.specs.Script.{stop_text, left_in, Sound, GoesOn, Fed, Finished, WhileGoing, AtLimit, LineRead};
 
 use crate::put::{put, put_number};
 use crate::session::Session;
 use cds_base::Mem;
-use cds_script::{Meaning, read_line};
+use cds_script::{Meaning, Turn, read_line};
 use memchr::memchr;
 use std::alloc::Global;
 use std::mem::replace;
@@ -176,23 +178,52 @@ fn answer_line(
     number: u32,
     out: &mut String,
 ) -> Result<Option<Stop>, Mem>
-    requires { length session.old.records + 1 < 2 ^ 32 }
-    ensures meaning { (turns : List Turn) → IsAfter session.old turns → IfOk result (λ stop. LineRead stop turns (meaning_of line.now) number (string_bytes out.old) (string_bytes out.new) session.new) }
-    ensures few { OnOk result (length session.new.records ≤ length session.old.records + 1) }
+    requires played { IsPlayed session.old }
+    requires bounded { IsBounded session.old }
+    ensures meaning { (turns : List TurnValue) → IsAfter session.old turns → IfOk result (λ stop. LineRead stop turns (meaning_of line.now) number (string_bytes out.old) (string_bytes out.new) session.new) }
+    ensures grows { OnOk result (Grows session.old session.new) }
+    ensures played { IfOk result (λ stop. WhileGoing stop (IsPlayed session.new)) }
     ensures no_limit { IfOk result (λ stop. AtLimit stop ⊥) }
 {
+    cds_script::lines_mean_in_range();
     match read_line(alloc, line)? {
         Meaning::Nothing => Ok(None),
-        Meaning::Means(turn) => {
-            session.answer(alloc, turn, out)?;
-            Ok(None)
-        }
-        Meaning::Outside => {
-            let stop = Stop::Outside { line: number };
-            write_stop(out, stop)?;
-            Ok(Some(stop))
-        }
+        Meaning::Means(turn) => answer_turn(session, alloc, turn, number, out),
+        Meaning::Outside => write_outside(out, number),
     }
+}
+
+/// Takes a turn, where it may stand; its line is outside the grammar where it may not.
+fn answer_turn(
+    session: &mut Session,
+    alloc: Global,
+    turn: Turn,
+    number: u32,
+    out: &mut String,
+) -> Result<Option<Stop>, Mem>
+    requires played { IsPlayed session.old }
+    requires bounded { IsBounded session.old }
+    requires fits { IsInRange turn }
+    ensures meaning { (turns : List TurnValue) → IsAfter session.old turns → IfOk result (λ stop. LineRead stop turns (Means turn) number (string_bytes out.old) (string_bytes out.new) session.new) }
+    ensures grows { OnOk result (Grows session.old session.new) }
+    ensures played { IfOk result (λ stop. WhileGoing stop (IsPlayed session.new)) }
+    ensures no_limit { IfOk result (λ stop. AtLimit stop ⊥) }
+{
+    if !session.may_stand(&turn) {
+        return write_outside(out, number);
+    }
+    session.answer(alloc, turn, out)?;
+    Ok(None)
+}
+
+/// Writes that the line of a number is outside the grammar.
+fn write_outside(out: &mut String, number: u32) -> Result<Option<Stop>, Mem>
+    ensures stop { IfOk result (λ stop. stop ≡ Some (Outside number)) }
+    ensures written { OnOk result (string_bytes out.new ≡ string_bytes out.old ++ stop_text (Outside number)) }
+{
+    let stop = Stop::Outside { line: number };
+    write_stop(out, stop)?;
+    Ok(Some(stop))
 }
 
 /// Writes the last line of a script that stops.

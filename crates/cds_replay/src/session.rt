@@ -10,7 +10,9 @@ ghost use Rattle.cds_replay.specs.Session.{IsAfter, IsPlayed, IsBounded, Grows, 
 
 use crate::put::put;
 use crate::reply::reply;
-use crate::report::{put_delivered, put_known, put_notes, put_read, put_scan, was_answered};
+use crate::report::{
+    put_delivered, put_ended, put_known, put_notes, put_read, put_scan, was_answered, was_noticed,
+};
 use crate::server::Server;
 use cds_base::{Mem, Sequence, Text};
 use cds_object::{Content, Path, Record, Records};
@@ -242,7 +244,10 @@ impl Session {
                 match self.replica.subscribed(alloc, Sid(u128::from(name))) {
                     Ok(()) => put(out, "accept 200\n"),
                     Err(NotifyError::Mem) => Err(Mem),
-                    Err(_) => unreachable!(),
+                    Err(NotifyError::Unknown) => unreachable!(),
+                    Err(NotifyError::Full { .. }) => unreachable!(),
+                    Err(NotifyError::Jump { .. }) => unreachable!(),
+                    Err(NotifyError::Torn { .. }) => unreachable!(),
                 }
             }
         }
@@ -258,18 +263,14 @@ impl Session {
         match self.replica.accepted() {
             None => put(out, "unsubscribe none\n"),
             Some(sid) => {
-                if self.server.end(sid.0, self.clock) {
-                    put(out, "unsubscribe 200\n")
-                } else {
-                    put(out, "unsubscribe 412\n")
-                }
+                let lived = self.server.end(sid.0, self.clock);
+                put_ended(out, lived)
             }
         }
     }
 
     /// The note of a number reaches the replica, which does not refuse it but where its name is not known or there is no room.
     fn deliver(&mut self, alloc: Global, number: u32, out: &mut String) -> Result<(), Mem>
-        requires { IsPlayed self.old }
         ensures after { (turns : List TurnValue) → IsAfter self.old turns → may_stand turns (Deliver number) ≡ true → OnOk result (IsAfter self.new (Deliver number ∷ turns)) }
         ensures written { (turns : List TurnValue) → IsAfter self.old turns → OnOk result (string_bytes out.new ≡ string_bytes out.old ++ written_by turns (Deliver number)) }
         ensures grows { OnOk result (Grows self.old self.new) }
@@ -277,12 +278,13 @@ impl Session {
         self.fresh = false;
         match self.server.note(alloc, number)? {
             None => Ok(()),
-            Some(note) => match self.replica.notify(alloc, note) {
-                Err(NotifyError::Mem) => Err(Mem),
-                Err(NotifyError::Jump { .. }) => unreachable!(),
-                Err(NotifyError::Torn { .. }) => unreachable!(),
-                answer => put_delivered(out, u64::from(number), answer),
-            },
+            Some(note) => {
+                let answer = self.replica.notify(alloc, note);
+                if !was_noticed(&answer) {
+                    return Err(Mem);
+                }
+                put_delivered(out, u64::from(number), answer)
+            }
         }
     }
 
