@@ -102,7 +102,7 @@ pub takes-by_attempt : (kept : Kept) (shown : Shown) (result : Result Read Answe
 takes-by_attempt kept shown result answer turns stood rows load =
     subst (λ (v : Verdict). IsVerdict v result) (ap (λ (h : Held). verdict_of (taken h shown)) (held-of-loads turns) ∙ refusals-of_attempts (loads_of turns) shown rows)
     (verdict-loaded (known_by turns) (taken (known_by turns).held shown) result
-      (subst (λ (o : Outcome). IsAnswer o result) (reply-loaded (known_by turns) (known_by turns).held shown load) (answer turns stood)))
+    (subst (λ (o : Outcome). IsAnswer o result) (reply-loaded (known_by turns) (known_by turns).held shown load) (answer turns stood)))
 
 -- ---- whether a copy stands
 

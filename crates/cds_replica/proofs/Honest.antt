@@ -57,7 +57,7 @@ takes-given old new shown result answers first commands entries k accepted given
 
 pub hears-given : (old new : Kept) (note : Note) (result : Result Taken NotifyError)
     → ((turns : List ReplicaTurn) → StandsFor old turns →
-      UnlessFull result (StandsFor new (and_turn (Delivers note) turns)) × IsNotice (arrival note turns) (with_notes (taken_by (Delivers note) turns) (known_by turns)) result)
+    UnlessFull result (StandsFor new (and_turn (Delivers note) turns)) × IsNotice (arrival note turns) (with_notes (taken_by (Delivers note) turns) (known_by turns)) result)
     → HearsGiven old note new result
 hears-given old new note result all first commands entries k accepted given stood =
     by result (all turns stood).0 (all turns stood).1
@@ -79,7 +79,7 @@ hears-given old new note result all first commands entries k accepted given stoo
 
 pub accepts-given : (old new : Kept) (name : ℕ) (result : Result (Unit {0}) NotifyError)
     → ((turns : List ReplicaTurn) → StandsFor old turns →
-      UnlessFull result (StandsFor new (and_turn (Accepts name) turns)) × IsAcceptance (with_notes (taken_by (Accepts name) turns) (known_by turns)) result)
+    UnlessFull result (StandsFor new (and_turn (Accepts name) turns)) × IsAcceptance (with_notes (taken_by (Accepts name) turns) (known_by turns)) result)
     → AcceptsGiven old name new result
 accepts-given old new name result all first commands entries k accepted given stood =
     by result (all turns stood).0 (all turns stood).1
