@@ -6,24 +6,58 @@ use cds_object::Row;
 use std::alloc::{AllocError, Global};
 use std::test::Fail;
 
-/// What a server has: its number and its objects, the root first.
+/// What a server has: nothing; a track; two; the first one gone, or changed; or three.
 #[derive(Clone, Copy)]
-struct Moment<'a> {
-    number: u32,
-    objects: &'a [Object],
+enum Server {
+    Empty,
+    One,
+    Two,
+    Gone,
+    Changed,
+    Three,
+}
+
+fn number_of(server: Server) -> u32 {
+    match server {
+        Server::Empty => 0,
+        Server::One => 1,
+        Server::Two | Server::Gone | Server::Changed => 2,
+        Server::Three => 3,
+    }
+}
+
+fn objects_of(alloc: Global, server: Server) -> Result<Vec<Object>, AllocError> {
+    let (children, number, deleted) = match server {
+        Server::Empty => (0, 0, 0),
+        Server::One => (1, 1, 0),
+        Server::Two => (2, 2, 0),
+        Server::Gone => (0, 2, 1),
+        Server::Changed => (1, 2, 0),
+        Server::Three => (3, 3, 0),
+    };
+    let mut objects = Vec::new(alloc);
+    objects.push(root(children, number, deleted))?;
+    for id in 1..=children {
+        let object = match server {
+            Server::Changed => track_of(id, 0, 2, 11),
+            _ => track_of(id, 0, id, 10),
+        };
+        objects.push(object)?;
+    }
+    Ok(objects)
 }
 
 /// What is done with a replica, each but the first ones writing what it answers: a load begins; a subscribe request goes
 /// out; its reply comes with a name, or with a
 /// refusal; the next ask is answered, so often; a note is delivered; it says what it knows.
 #[derive(Clone, Copy)]
-enum Step<'a> {
+enum Step {
     Load,
     Subscribe,
     Accept(u128),
     Refuse,
-    Read(u32, Moment<'a>),
-    Deliver(u128, u32, u32, &'a [Event]),
+    Read(u32, Server),
+    Deliver(u128, u32, u32, Option<Event>),
     Ask,
 }
 
@@ -59,10 +93,12 @@ fn note_of(
     name: u128,
     seq: u32,
     number: u32,
-    changes: &[Event],
+    change: Option<Event>,
 ) -> Result<Note, Mem> {
     let mut events = Events::new(alloc);
-    events.extend(changes)?;
+    if let Some(change) = change {
+        events.push(change)?;
+    }
     Ok(Note {
         sid: Sid(name),
         seq,
@@ -141,14 +177,15 @@ fn read(
     alloc: Global,
     replica: &mut Replica,
     times: u32,
-    moment: Moment,
+    server: Server,
     out: &mut String,
 ) -> Result<(), Fail> {
+    let objects = objects_of(alloc, server)?;
     for _ in 0..times {
         match replica.next_ask() {
             None => out.push_str("none ")?,
             Some(ask) => {
-                let shown = reply_to(alloc, moment.objects, moment.number, ask)?;
+                let shown = reply_to(alloc, objects.as_slice(), number_of(server), ask)?;
                 match replica.take(alloc, shown)? {
                     Read::Ok => out.push_str("ok ")?,
                     Read::Fault { code } => out.push_str(&format!(in alloc; "{code} ")?)?,
@@ -174,9 +211,9 @@ fn take_step(
                 replica.subscribed(alloc, Sid(name))?;
             }
         }
-        Step::Read(times, moment) => read(alloc, replica, times, moment, out)?,
-        Step::Deliver(name, seq, number, changes) => {
-            match replica.notify(alloc, note_of(alloc, name, seq, number, changes)?) {
+        Step::Read(times, server) => read(alloc, replica, times, server, out)?,
+        Step::Deliver(name, seq, number, change) => {
+            match replica.notify(alloc, note_of(alloc, name, seq, number, change)?) {
                 Ok(taken) => write_taken(alloc, taken, out)?,
                 Err(refusal) => write_refusal(alloc, refusal, out)?,
             }
@@ -189,17 +226,12 @@ fn take_step(
 /// A load of the empty catalog and a subscription whose first note was taken.
 fn prepared(alloc: Global, out: &mut String) -> Result<Replica, Fail> {
     let mut replica = Replica::new(alloc);
-    let empty = [root(0, 0, 0)];
-    let moment = Moment {
-        number: 0,
-        objects: &empty,
-    };
     for next in [
         Step::Load,
-        Step::Read(6, moment),
+        Step::Read(6, Server::Empty),
         Step::Subscribe,
         Step::Accept(1),
-        Step::Deliver(1, 0, 0, &[]),
+        Step::Deliver(1, 0, 0, None),
     ] {
         take_step(alloc, &mut replica, next, out)?;
     }
@@ -221,50 +253,44 @@ fn answers(alloc: Global, steps: &[Step]) -> Result<String, Fail> {
 #[test]
 fn histories(rt: HostRuntime) -> Result<(), Fail> {
     let alloc = rt.alloc();
-    let both = [root(2, 2, 0), track_of(1, 0, 1, 10), track_of(2, 0, 2, 10)];
-    let one = [root(1, 1, 0), track_of(1, 0, 1, 10)];
-    let gone = [root(0, 2, 1)];
-    let empty = [root(0, 0, 0)];
-    let other = [root(1, 2, 0), track_of(1, 0, 2, 11)];
-    let (first, second) = ([added(1, 1)], [added(2, 2)]);
-    let (goes, changes) = ([deleted(1, 2)], [modified(1, 2)]);
-    let at = |number, objects| Moment { number, objects };
+    let (first, second) = (Some(added(1, 1)), Some(added(2, 2)));
+    let (goes, changes) = (Some(deleted(1, 2)), Some(modified(1, 2)));
     let out_of_order = [
-        Step::Deliver(1, 2, 2, &second),
+        Step::Deliver(1, 2, 2, second),
         Step::Ask,
-        Step::Deliver(1, 1, 1, &first),
+        Step::Deliver(1, 1, 1, first),
         Step::Ask,
-        Step::Read(2, at(2, &both)),
+        Step::Read(2, Server::Two),
         Step::Ask,
     ];
     let repeated = [
-        Step::Deliver(1, 1, 1, &first),
-        Step::Read(1, at(1, &one)),
-        Step::Deliver(1, 2, 2, &goes),
-        Step::Deliver(1, 2, 2, &goes),
-        Step::Deliver(1, 2, 2, &goes),
+        Step::Deliver(1, 1, 1, first),
+        Step::Read(1, Server::One),
+        Step::Deliver(1, 2, 2, goes),
+        Step::Deliver(1, 2, 2, goes),
+        Step::Deliver(1, 2, 2, goes),
         Step::Ask,
     ];
     let read_late = [
-        Step::Deliver(1, 1, 1, &first),
-        Step::Read(1, at(2, &gone)),
+        Step::Deliver(1, 1, 1, first),
+        Step::Read(1, Server::Gone),
         Step::Ask,
-        Step::Deliver(1, 2, 2, &goes),
+        Step::Deliver(1, 2, 2, goes),
         Step::Ask,
     ];
     let read_ahead = [
-        Step::Deliver(1, 1, 1, &first),
-        Step::Read(1, at(2, &other)),
+        Step::Deliver(1, 1, 1, first),
+        Step::Read(1, Server::Changed),
         Step::Ask,
-        Step::Deliver(1, 2, 2, &changes),
+        Step::Deliver(1, 2, 2, changes),
         Step::Ask,
     ];
     let load_begins_again = [
         Step::Load,
-        Step::Read(4, at(0, &empty)),
-        Step::Read(2, at(1, &one)),
+        Step::Read(4, Server::Empty),
+        Step::Read(2, Server::One),
         Step::Ask,
-        Step::Read(6, at(1, &one)),
+        Step::Read(6, Server::One),
         Step::Ask,
     ];
     for (steps, want) in [
@@ -299,44 +325,45 @@ fn histories(rt: HostRuntime) -> Result<(), Fail> {
 #[test]
 fn early_and_refused_notes(rt: HostRuntime) -> Result<(), Fail> {
     let alloc = rt.alloc();
-    let (first, leap, strays) = ([added(1, 1)], [added(1, 5)], [modified(7, 1)]);
+    let (first, leap) = (Some(added(1, 1)), Some(added(1, 5)));
+    let strays = Some(modified(7, 1));
     let early = [
         Step::Subscribe,
-        Step::Deliver(2, 1, 1, &first),
-        Step::Deliver(2, 1, 1, &first),
-        Step::Deliver(3, 1, 1, &first),
+        Step::Deliver(2, 1, 1, first),
+        Step::Deliver(2, 1, 1, first),
+        Step::Deliver(3, 1, 1, first),
         Step::Accept(2),
         Step::Ask,
-        Step::Deliver(2, 0, 0, &[]),
+        Step::Deliver(2, 0, 0, None),
         Step::Ask,
-        Step::Deliver(3, 2, 2, &[]),
+        Step::Deliver(3, 2, 2, None),
     ];
     let subscribed_again = [
         Step::Subscribe,
-        Step::Deliver(2, 1, 1, &first),
+        Step::Deliver(2, 1, 1, first),
         Step::Subscribe,
         Step::Accept(2),
         Step::Ask,
     ];
     let not_accepted = [
         Step::Subscribe,
-        Step::Deliver(2, 0, 0, &[]),
+        Step::Deliver(2, 0, 0, None),
         Step::Refuse,
-        Step::Deliver(2, 1, 1, &first),
-        Step::Deliver(1, 1, 1, &first),
+        Step::Deliver(2, 1, 1, first),
+        Step::Deliver(1, 1, 1, first),
         Step::Ask,
     ];
     let refused = [
-        Step::Deliver(1, 1, 5, &leap),
-        Step::Deliver(1, 1, 1, &strays),
+        Step::Deliver(1, 1, 5, leap),
+        Step::Deliver(1, 1, 1, strays),
         Step::Ask,
-        Step::Deliver(1, 1, 1, &first),
+        Step::Deliver(1, 1, 1, first),
         Step::Ask,
     ];
     let dropped = [
         Step::Subscribe,
         Step::Accept(2),
-        Step::Deliver(2, 0, 5, &[]),
+        Step::Deliver(2, 0, 5, None),
         Step::Ask,
     ];
     for (steps, want) in [
@@ -365,7 +392,7 @@ fn holds_64_notes(rt: HostRuntime) -> Result<(), Fail> {
     let mut out = String::new(alloc);
     let mut replica = prepared(alloc, &mut out)?;
     for seq in 2..66u32 {
-        let note = note_of(alloc, 1, seq, seq, &[added(seq, seq)])?;
+        let note = note_of(alloc, 1, seq, seq, Some(added(seq, seq)))?;
         let taken = replica.notify(alloc, note)?;
         assert!(rt; taken == Taken::Held { missing: 1 });
     }
@@ -374,7 +401,7 @@ fn holds_64_notes(rt: HostRuntime) -> Result<(), Fail> {
         (1, Ok(Taken::Took)),
         (67, Ok(Taken::Held { missing: 66 })),
     ] {
-        let note = note_of(alloc, 1, seq, seq, &[added(seq, seq)])?;
+        let note = note_of(alloc, 1, seq, seq, Some(added(seq, seq)))?;
         assert!(rt; replica.notify(alloc, note) == answer);
     }
     assert!(rt; replica.says() == Says::Gap { missing: 66 });
@@ -435,29 +462,22 @@ fn expected(seqs: &[u32], seq: u32) -> Taken {
 /// Whether a replica takes notes in this order as it is to be, and then says what it is to say. The note of SEQ n adds the
 /// object n at the number n, but for the first one, which tells no change.
 fn follows(alloc: Global, seqs: &[u32]) -> Result<bool, Fail> {
-    let objects = [
-        root(3, 3, 0),
-        track_of(1, 0, 1, 10),
-        track_of(2, 0, 2, 10),
-        track_of(3, 0, 3, 10),
-    ];
-    let moment = Moment {
-        number: 3,
-        objects: &objects,
-    };
     let mut out = String::new(alloc);
     let mut replica = prepared(alloc, &mut out)?;
     take_step(alloc, &mut replica, Step::Subscribe, &mut out)?;
     take_step(alloc, &mut replica, Step::Accept(2), &mut out)?;
     for (at, seq) in seqs.iter().enumerate() {
-        let change = [added(*seq, *seq)];
-        let changes = if *seq == 0 { &[][..] } else { &change[..] };
-        let note = note_of(alloc, 2, *seq, *seq, changes)?;
+        let change = if *seq == 0 {
+            None
+        } else {
+            Some(added(*seq, *seq))
+        };
+        let note = note_of(alloc, 2, *seq, *seq, change)?;
         if replica.notify(alloc, note)? != expected(&seqs[..at], *seq) {
             return Ok(false);
         }
     }
-    read(alloc, &mut replica, 4, moment, &mut out)?;
+    read(alloc, &mut replica, 4, Server::Three, &mut out)?;
     let says = match least_missing(seqs) {
         (missing, true) => Says::Gap { missing },
         (missing, false) => Says::Stands {
