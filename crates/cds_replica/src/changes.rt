@@ -3,6 +3,7 @@
 ghost use Rattle.std.specs.Prelude.{◌≡◌, ◌&&◌, nat_lt, IfOk};
 ghost use Rattle.cds_changes.specs.Events.{update_of, is_change};
 ghost use Rattle.cds_notes.specs.Follow.{changes_above};
+ghost use Rattle.cds_replica.specs.Copied.{AreAbove};
 
 use cds_base::Mem;
 use cds_event::Event;
@@ -36,7 +37,8 @@ fn is_above(number: u32, event: &Event) -> bool
 
 /// The changes above a number.
 pub fn changes_above(alloc: Global, number: u32, events: &[Event]) -> Result<Vec<Event>, Mem>
-    ensures { IfOk result (λ changes. changes.items ≡ changes_above number events.now) }
+    ensures changes { IfOk result (λ changes. changes.items ≡ changes_above number events.now) }
+    ensures above { IfOk result (λ changes. AreAbove number changes.items) }
 {
     let mut changes = Vec::new(alloc);
     for event in events {
