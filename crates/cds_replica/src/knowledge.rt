@@ -9,7 +9,7 @@ ghost use Rattle.cds_replica.specs.Phases.{phase_in};
 ghost use Rattle.cds_replica.specs.Kept.{kept_known, kept_position};
 
 use crate::copy::CatalogCopy;
-use crate::phase::{Phase, read_object};
+use crate::phase::Phase;
 use crate::stage::Stage;
 use crate::telling::Telling;
 use crate::{AnswerError, CountError};
@@ -81,8 +81,8 @@ impl Knowledge {
         ensures { IsHeard (with_telling drops told self.old) self.old self.new result }
     {
         if drops {
+            self.begin_load();
             self.heard = told.heard();
-            self.phase = Phase::Load(Stage::Begun);
             self.changes = told.into_changes();
             return Ok(());
         }
@@ -120,7 +120,7 @@ impl Knowledge {
                 answer
             }
             Phase::Copy { number, mut copy } => {
-                let answer = read_object(&mut copy, shown);
+                let answer = copy.take(shown);
                 self.phase = Phase::Copy { number, copy };
                 answer
             }
