@@ -1,6 +1,8 @@
 //! What a replica knows beside its notes.
 
-ghost use Rattle.std.specs.Prelude.{◌≡◌, IfOk, IsSome, option_copied, slice_get};
+ghost use Rattle.std.specs.Prelude.{◌≡◌, map, IfOk, option_copied, slice_get};
+ghost use Rattle.std.specs.List.{filter_map};
+ghost use Rattle.cds_notes.specs.Copy.{shown_row};
 ghost use Rattle.cds_notes.specs.Follow.{nothing_known};
 ghost use Rattle.cds_replica.specs.Answer.{read_of};
 ghost use Rattle.cds_replica.specs.Copied.{AreAbove, least_wanted};
@@ -9,6 +11,7 @@ ghost use Rattle.cds_replica.specs.Phases.{phase_in};
 ghost use Rattle.cds_replica.specs.Kept.{kept_known, kept_position};
 
 use crate::copy::CatalogCopy;
+use crate::copy_row::CopyRow;
 use crate::phase::Phase;
 use crate::stage::Stage;
 use crate::telling::Telling;
@@ -146,6 +149,13 @@ impl Knowledge {
             Phase::Load(_) => Says::BehindLoad,
             Phase::Copy { copy, .. } => copy_says(copy, self.position()),
         }
+    }
+
+    /// The rows of the copy, in ascending order of ids; none where no copy stands.
+    pub fn rows(&self) -> &[CopyRow]
+        ensures { filter_map shown_row (map (λ kept. kept.row) result.now) ≡ phase_rows self.now.phase }
+    {
+        self.phase.rows()
     }
 
     /// The row of the copy at a place among those of which it is known what they say.

@@ -1,4 +1,6 @@
-ghost use Rattle.std.specs.Prelude.{◌≡◌, [], List, ◌∷◌, IsOk, IfOk, IfSome, IsSome, IsTrue, OnErr, option_copied, slice_get};
+ghost use Rattle.std.specs.Prelude.{◌≡◌, [], List, ◌∷◌, map, IsOk, IfOk, IfSome, IsSome, IsTrue, OnErr, option_copied, slice_get};
+ghost use Rattle.std.specs.List.{filter_map};
+ghost use Rattle.cds_notes.specs.Copy.{shown_row};
 ghost use Rattle.cds_notes.specs.Inbox.{ReplicaTurn, Begins, Shows, Requests, Accepts, Refuses, Delivers, arrival, taken_by};
 ghost use Rattle.cds_notes.specs.Follow.{known_by, next_ask, says, copied, with_notes, with_reply};
 ghost use Rattle.cds_replica.specs.Answer.{read_of};
@@ -10,6 +12,7 @@ ghost use Rattle.cds_replica.specs.Keeping.{phase_ask, phase_rows, kept_says};
 ghost use Rattle.cds_replica.specs.Kept.{StandsFor};
 ghost use Rattle.cds_replica.specs.LoadTurns.{WasShown};
 
+use crate::copy_row::CopyRow;
 use crate::inbox::{Arrival, Inbox};
 use crate::knowledge::Knowledge;
 use crate::note::{Note, Sid, Taken};
@@ -217,6 +220,15 @@ impl Replica {
         ensures shown { (turns : List ReplicaTurn) → StandsFor self.now turns → IfSome result (λ row. WasShown row.now turns) }
     {
         self.known.row(at)
+    }
+
+    /// The rows of the copy, in ascending order of ids, with those of which it is not known yet what they say; none where no
+    /// copy stands. To go over them takes one walk.
+    pub fn copy(&self) -> &[CopyRow]
+        ensures kept { filter_map shown_row (map (λ kept. kept.row) result.now) ≡ phase_rows self.now.known.phase }
+        ensures rows { (turns : List ReplicaTurn) → StandsFor self.now turns → filter_map shown_row (map (λ kept. kept.row) result.now) ≡ copied (known_by turns) }
+    {
+        self.known.rows()
     }
 }
 
