@@ -5,15 +5,15 @@ use Rattle.cds_model.specs.Server.{reply_to}
 use Rattle.cds_model.specs.declared.exchange.Ask.{Ask}
 use Rattle.cds_model.specs.declared.exchange.Read.{Read}
 use Rattle.cds_model.specs.declared.exchange.Shown.{Shown}
-use Rattle.cds_notes.specs.Commands.{Command, Note}
+use Rattle.cds_notes.specs.Commands.{Note}
 use Rattle.cds_notes.specs.Inbox.{ReplicaTurn, Shows, Accepts, Delivers, arrival, taken_by}
-use Rattle.cds_notes.specs.Follow.{Known, Outcome, Knows, CannotBeRead, Jumps, Tears, known_by, next_ask, with_reply, with_notes, and_turn, says, copied}
-use Rattle.cds_notes.specs.Given.{oldest, moment_after, Entry, Asks, Granted, Gets, given_by, asked_at}
+use Rattle.cds_notes.specs.Follow.{Outcome, Knows, CannotBeRead, Jumps, Tears, known_by, next_ask, with_reply, with_notes, and_turn}
+use Rattle.cds_notes.specs.Given.{oldest, moment_after, Asks, Granted, Gets, given_by, asked_at}
 use Rattle.cds_notes.specs.declared.says.Says.{Says}
 use Rattle.cds_notes.proofs.Honest.{calls-taken, copies-stood}
 use Rattle.cds_notes.proofs.Complete.{answers-complete}
 use Rattle.cds_replica.specs.Called.{IsTaken, IsNotice, IsAcceptance, IsAnswer, UnlessFull, UnlessMem}
-use Rattle.cds_replica.specs.Honest.{IsReplyOf, IsReadThen, IsHeardThen, TakesGiven, HearsGiven, AcceptsGiven, SaysGiven, CompletesGiven}
+use Rattle.cds_replica.specs.Honest.{IsReadThen, IsHeardThen, TakesGiven, HearsGiven, AcceptsGiven, SaysGiven, CompletesGiven}
 use Rattle.cds_replica.specs.Keeping.{phase_rows, kept_says}
 use Rattle.cds_replica.specs.Kept.{Kept, StandsFor}
 use Rattle.cds_replica.specs.declared.error.AnswerError.{AnswerError}
