@@ -1,5 +1,5 @@
 -- What follows of a note from what becomes of it.
-use Rattle.std.proofs.Common.{◌≡◌, ◌<◌, ◌≤◌, ℕ, Bool, true, false, cond, not, ◌&&◌, ◌||◌, nat_eq, nat_lt, List, Option, refl, sym, ap, ◌∙◌, arith, true≢false, eq-eqb, ne_eqb, ltb-true, ltb-false}
+use Rattle.std.proofs.Common.{◌≡◌, ◌<◌, ℕ, Bool, true, false, cond, not, ◌&&◌, ◌||◌, nat_eq, nat_lt, refl, sym, ◌∙◌, arith, true≢false, eq-eqb, ne_eqb, ltb-true, ltb-false}
 use Rattle.std.specs.Prelude.{nat_le}
 use Rattle.std.specs.List.{list_any}
 use Rattle.std.proofs.lemmas.Bool.{leb-false}

@@ -1,24 +1,24 @@
 -- The load in a replica's turns, by its attempt.
-use Rattle.std.proofs.Common.{◌≡◌, ◌⊎◌, inl, inr, ◌+◌, ℕ, Bool, true, false, cond, nat_eq, nat_lt, List, [], ◌∷◌, Option, Some, None, Result, Ok, Err, refl, sym, ap, ◌∙◌, subst, true≢false, zero, suc, Bor}
+use Rattle.std.proofs.Common.{◌≡◌, inl, inr, ◌+◌, ℕ, Bool, true, false, cond, nat_eq, nat_lt, List, [], ◌∷◌, Option, Some, None, Result, Ok, Err, refl, sym, ap, ◌∙◌, subst, true≢false, zero, suc, Bor}
 use Rattle.std.specs.Prelude.{IfSome, option_copied, slice_get}
 use Rattle.std.specs.List.{AllByRecursion}
 use Rattle.cds_object.specs.Object.{ObjectRow}
 use Rattle.cds_event.specs.declared.Event.{Event}
 use Rattle.cds_changes.specs.Events.{update_of}
-use Rattle.cds_model.specs.Attempts.{Verdict, Fine, CannotBeRead as NotRead, CannotBe as CannotCome, verdict_of, attempt_of, ask_in, verdict_by, says_by, ShowsRows}
-use Rattle.cds_model.specs.Replica.{Held, Idle, Begun, HasToken, HasNumber, HasRoot, Lists, HasPage, HasCopy, Taken, Holds, Unreadable as NotReadable, Torn as CannotBe, taken, held_by, next_ask as load_ask, says as load_says, Shows as LoadShows}
+use Rattle.cds_model.specs.Attempts.{Verdict, CannotBe as CannotCome, verdict_of, attempt_of, says_by}
+use Rattle.cds_model.specs.Replica.{Held, Idle, Begun, HasToken, HasNumber, HasRoot, Lists, HasPage, HasCopy, Taken, Holds, Unreadable as NotReadable, Torn as CannotBe, taken, next_ask as load_ask, says as load_says}
 use Rattle.cds_model.specs.declared.exchange.Ask.{Ask}
 use Rattle.cds_model.specs.declared.exchange.Read.{Read}
 use Rattle.cds_model.specs.declared.exchange.Shown.{Shown}
 use Rattle.cds_model.specs.declared.exchange.Says.TheVariants.{BehindLoad as LoadRuns, Stands as LoadStands}
 use Rattle.cds_notes.specs.Copy.{rows_after, least_unread, read_up_to}
-use Rattle.cds_notes.specs.Inbox.{ReplicaTurn, missing}
-use Rattle.cds_notes.specs.Follow.{Known, position, Outcome, Knows, CannotBeRead, Jumps, Tears, first_torn, judged, counted_from, load_ended, loaded, with_reply, known_by, next_ask, ask_of, copy_says, says_without_gap, says_of, says, copied, changes_above}
+use Rattle.cds_notes.specs.Inbox.{ReplicaTurn}
+use Rattle.cds_notes.specs.Follow.{Known, position, Outcome, Knows, CannotBeRead, Jumps, Tears, first_torn, judged, counted_from, loaded, with_reply, known_by, next_ask, ask_of, copy_says, says_without_gap, says_of, says, copied, changes_above}
 use Rattle.cds_notes.specs.KnownLaws.{has_copy}
 use Rattle.cds_notes.specs.declared.says.Says.{Says}
-use Rattle.cds_notes.specs.declared.says.Says.TheVariants.{BehindLoad, BehindRead, BehindVersion, Stands}
+use Rattle.cds_notes.specs.declared.says.Says.TheVariants.{BehindLoad, BehindVersion, Stands}
 use Rattle.cds_replica.specs.Attempted.{AsksByAttempt, TakesByAttempt, SaysByAttempt, IsVerdict}
-use Rattle.cds_replica.specs.Called.{IsTaken, IsAnswer}
+use Rattle.cds_replica.specs.Called.{IsAnswer}
 use Rattle.cds_replica.specs.Kept.{Kept, StandsFor}
 use Rattle.cds_model.proofs.Traces.{asks-of_attempts, refusals-of_attempts, answers-of_attempts}
 use Rattle.cds_replica.specs.LoadTurns.{loads_of, WasShown}
@@ -102,7 +102,7 @@ pub takes-by_attempt : (kept : Kept) (shown : Shown) (result : Result Read Answe
 takes-by_attempt kept shown result answer turns stood rows load =
     subst (λ (v : Verdict). IsVerdict v result) (ap (λ (h : Held). verdict_of (taken h shown)) (held-of-loads turns) ∙ refusals-of_attempts (loads_of turns) shown rows)
     (verdict-loaded (known_by turns) (taken (known_by turns).held shown) result
-      (subst (λ (o : Outcome). IsAnswer o result) (reply-loaded (known_by turns) (known_by turns).held shown load) (answer turns stood)))
+    (subst (λ (o : Outcome). IsAnswer o result) (reply-loaded (known_by turns) (known_by turns).held shown load) (answer turns stood)))
 
 -- ---- whether a copy stands
 

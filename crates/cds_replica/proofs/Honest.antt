@@ -5,15 +5,15 @@ use Rattle.cds_model.specs.Server.{reply_to}
 use Rattle.cds_model.specs.declared.exchange.Ask.{Ask}
 use Rattle.cds_model.specs.declared.exchange.Read.{Read}
 use Rattle.cds_model.specs.declared.exchange.Shown.{Shown}
-use Rattle.cds_notes.specs.Commands.{Command, Note}
+use Rattle.cds_notes.specs.Commands.{Note}
 use Rattle.cds_notes.specs.Inbox.{ReplicaTurn, Shows, Accepts, Delivers, arrival, taken_by}
-use Rattle.cds_notes.specs.Follow.{Known, Outcome, Knows, CannotBeRead, Jumps, Tears, known_by, next_ask, with_reply, with_notes, and_turn, says, copied}
-use Rattle.cds_notes.specs.Given.{oldest, moment_after, Entry, Asks, Granted, Gets, given_by, asked_at}
+use Rattle.cds_notes.specs.Follow.{Outcome, Knows, CannotBeRead, Jumps, Tears, known_by, next_ask, with_reply, with_notes, and_turn}
+use Rattle.cds_notes.specs.Given.{oldest, moment_after, Asks, Granted, Gets, given_by, asked_at}
 use Rattle.cds_notes.specs.declared.says.Says.{Says}
 use Rattle.cds_notes.proofs.Honest.{calls-taken, copies-stood}
 use Rattle.cds_notes.proofs.Complete.{answers-complete}
 use Rattle.cds_replica.specs.Called.{IsTaken, IsNotice, IsAcceptance, IsAnswer, UnlessFull, UnlessMem}
-use Rattle.cds_replica.specs.Honest.{IsReplyOf, IsReadThen, IsHeardThen, TakesGiven, HearsGiven, AcceptsGiven, SaysGiven, CompletesGiven}
+use Rattle.cds_replica.specs.Honest.{IsReadThen, IsHeardThen, TakesGiven, HearsGiven, AcceptsGiven, SaysGiven, CompletesGiven}
 use Rattle.cds_replica.specs.Keeping.{phase_rows, kept_says}
 use Rattle.cds_replica.specs.Kept.{Kept, StandsFor}
 use Rattle.cds_replica.specs.declared.error.AnswerError.{AnswerError}
@@ -57,7 +57,7 @@ takes-given old new shown result answers first commands entries k accepted given
 
 pub hears-given : (old new : Kept) (note : Note) (result : Result Taken NotifyError)
     → ((turns : List ReplicaTurn) → StandsFor old turns →
-      UnlessFull result (StandsFor new (and_turn (Delivers note) turns)) × IsNotice (arrival note turns) (with_notes (taken_by (Delivers note) turns) (known_by turns)) result)
+    UnlessFull result (StandsFor new (and_turn (Delivers note) turns)) × IsNotice (arrival note turns) (with_notes (taken_by (Delivers note) turns) (known_by turns)) result)
     → HearsGiven old note new result
 hears-given old new note result all first commands entries k accepted given stood =
     by result (all turns stood).0 (all turns stood).1
@@ -79,7 +79,7 @@ hears-given old new note result all first commands entries k accepted given stoo
 
 pub accepts-given : (old new : Kept) (name : ℕ) (result : Result (Unit {0}) NotifyError)
     → ((turns : List ReplicaTurn) → StandsFor old turns →
-      UnlessFull result (StandsFor new (and_turn (Accepts name) turns)) × IsAcceptance (with_notes (taken_by (Accepts name) turns) (known_by turns)) result)
+    UnlessFull result (StandsFor new (and_turn (Accepts name) turns)) × IsAcceptance (with_notes (taken_by (Accepts name) turns) (known_by turns)) result)
     → AcceptsGiven old name new result
 accepts-given old new name result all first commands entries k accepted given stood =
     by result (all turns stood).0 (all turns stood).1

@@ -1,27 +1,25 @@
 -- What is kept beside the notes, turn by turn.
-use Rattle.std.proofs.Common.{◌≡◌, ◌+◌, ℕ, max, Bool, true, false, cond, nat_eq, nat_lt, List, [], ◌∷◌, ◌++◌, map, Option, Some, None, refl, sym, ap, ◌∙◌, subst, true≢false}
+use Rattle.std.proofs.Common.{◌≡◌, ◌+◌, ℕ, Bool, true, false, cond, nat_eq, List, [], ◌∷◌, ◌++◌, map, Option, Some, None, refl, sym, ap, ◌∙◌}
 use Rattle.std.specs.Prelude.{reverse}
 use Rattle.std.specs.Option.{option_map}
 use Rattle.std.specs.List.{filter_map}
 use Rattle.cds_object.specs.Object.{ObjectRow}
 use Rattle.cds_event.specs.declared.Event.{Event}
 use Rattle.cds_changes.specs.Events.{update_of}
-use Rattle.cds_model.specs.Replica.{Held, Idle, Begun, HasToken, HasNumber, HasRoot, Lists, HasPage, HasCopy, Taken, Holds, Unreadable as NotReadable, Torn as CannotBe, taken, next_ask as load_ask}
-use Rattle.cds_model.specs.declared.exchange.Ask.{Ask}
+use Rattle.cds_model.specs.Replica.{Held, Idle, Begun, HasToken, HasNumber, HasRoot, Lists, HasPage, HasCopy, Taken, Holds, Unreadable as NotReadable, Torn as CannotBe, taken}
 use Rattle.cds_model.specs.declared.exchange.Ask.TheVariants.{Metadata}
 use Rattle.cds_model.specs.declared.exchange.Shown.{Shown}
 use Rattle.cds_model.specs.declared.exchange.Shown.TheVariants.{Text, Number, Page, Fault}
 use Rattle.cds_notes.specs.Commands.{Note}
-use Rattle.cds_notes.specs.Copy.{KnownRow, Happening, Changes, Reads, rows_after, shown_row, known_of, least_unread, read_up_to}
-use Rattle.cds_notes.specs.Inbox.{ReplicaTurn, missing, missing_of}
-use Rattle.cds_notes.specs.Follow.{Known, position, changes_above, Outcome, Knows, CannotBeRead, Jumps, Tears, first_torn, judged, counted_from, with_changes, load_begun, new_changes, greatest_of, is_drop, dropped, heard_of, with_notes, load_ended, loaded, is_of, row_read, object_read, copy_read, with_reply, known_by, next_ask, ask_of, copy_says, says_without_gap, says_of, says, rows_held, copied}
-use Rattle.cds_replica.specs.Copied.{KeptCopy, copy_of, known_rows, IsSound, AreAbove, least_wanted}
-use Rattle.cds_replica.specs.CopySteps.{Count, Counts, Leaps, Tears as CannotCount, count_from, count_of, copy_read as copy_with, version_of, can_be_of}
+use Rattle.cds_notes.specs.Copy.{Happening, Changes, Reads, rows_after, shown_row, known_of, least_unread}
+use Rattle.cds_notes.specs.Inbox.{ReplicaTurn, missing}
+use Rattle.cds_notes.specs.Follow.{Known, position, changes_above, Outcome, Knows, CannotBeRead, Jumps, Tears, first_torn, judged, counted_from, with_changes, load_begun, new_changes, greatest_of, is_drop, heard_of, with_notes, loaded, is_of, row_read, object_read, copy_read, with_reply, known_by, next_ask, ask_of, copy_says, says_without_gap, says_of, says, rows_held, copied}
+use Rattle.cds_replica.specs.Copied.{KeptCopy, copy_of, IsSound, AreAbove}
+use Rattle.cds_replica.specs.CopySteps.{Count, count_from, count_of, copy_read as copy_with, version_of}
 use Rattle.cds_replica.specs.Ended.{end_count}
-use Rattle.cds_replica.specs.Inboxed.{inbox_of}
-use Rattle.cds_replica.specs.Kept.{KeptPhase, Loads, Copies, phase_of, KeptKnown, kept_known, kept_position, kept_of}
-use Rattle.cds_replica.specs.Keeping.{Becomes, Leads, Unreadable, Leap, Tear, with_what, kept_outcome, of_count, hears_changes, hears, with_telling, leads_to, load_takes, with_phase, row_of_read, object_of_read, copy_takes, answers, phase_ask, copy_tells, phase_tells, tells_or_gap, kept_says, phase_rows}
-use Rattle.cds_replica.specs.Telling.{KeptTelling, tells, nothing_told}
+use Rattle.cds_replica.specs.Kept.{KeptPhase, Copies, phase_of, KeptKnown, kept_known, kept_of}
+use Rattle.cds_replica.specs.Keeping.{Becomes, Leads, Unreadable, Leap, Tear, with_what, kept_outcome, of_count, hears_changes, with_telling, load_takes, with_phase, row_of_read, object_of_read, copy_takes, answers, phase_ask, copy_tells, phase_tells, tells_or_gap, kept_says, phase_rows}
+use Rattle.cds_replica.specs.Telling.{tells, nothing_told}
 use Rattle.cds_replica.proofs.Inboxed.{missing-kept}
 use Rattle.cds_replica.proofs.KeptCounts.{count-kept, known-copied, can-same, read-copied}
 use Rattle.cds_replica.proofs.KeptTurns.{SoundHeld, SoundKnown, SoundTaken, taken-sound, above-filter, new-above, turns-sound}

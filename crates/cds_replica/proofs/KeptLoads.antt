@@ -11,12 +11,11 @@ use Rattle.cds_model.specs.declared.exchange.Shown.{Shown}
 use Rattle.cds_model.specs.declared.exchange.Shown.TheVariants.{Text, Number, Page, Fault}
 use Rattle.cds_model.proofs.Seen.{copied-shown}
 use Rattle.cds_notes.specs.Commands.{Note}
-use Rattle.cds_notes.specs.Copy.{Version, KnownRow, known_row, shown_row, known_of, Happening, Changes, Reads, rows_after, least_unread}
+use Rattle.cds_notes.specs.Copy.{Version, KnownRow, known_row, shown_row, known_of, Happening, Reads, rows_after, least_unread}
 use Rattle.cds_notes.specs.Inbox.{ReplicaTurn, Begins, Shows, Requests, Accepts, Refuses, Delivers, taken_by}
-use Rattle.cds_notes.specs.Follow.{Known, Outcome, Knows, CannotBeRead, Jumps, Tears, position, changes_above, new_changes, first_torn, counted_from, judged, with_changes, dropped, load_begun, is_drop, heard_of, with_notes, load_ended, loaded, is_of, row_read, object_read, copy_read, with_reply, known_after, known_by, copied, rows_held, is_no}
+use Rattle.cds_notes.specs.Follow.{Known, Outcome, Knows, CannotBeRead, Jumps, Tears, position, changes_above, new_changes, first_torn, counted_from, judged, with_changes, dropped, load_begun, is_drop, heard_of, with_notes, load_ended, loaded, is_of, copy_read, with_reply, known_after, known_by, rows_held, is_no}
 use Rattle.cds_notes.specs.KnownLaws.{has_copy}
 use Rattle.cds_notes.specs.ServerLaws.{befalling}
-use Rattle.cds_notes.specs.StepLaws.{changed_by}
 use Rattle.cds_notes.proofs.Copies.{Comes, comes-changes, comes-read, comes-weaker}
 use Rattle.cds_notes.proofs.Happened.{rows-befalling}
 use Rattle.cds_replica.specs.LoadTurns.{and_drop, loads_of, held_is_of_loads, WasShown, copied_rows_were_shown}

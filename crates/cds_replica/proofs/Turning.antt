@@ -1,5 +1,5 @@
 -- What is kept after a turn.
-use Rattle.std.proofs.Common.{◌≡◌, ℕ, Bool, true, false, cond, ◌||◌, List, [], ◌∷◌, Result, Ok, Err, refl, sym, ap, ◌∙◌, subst}
+use Rattle.std.proofs.Common.{◌≡◌, ℕ, true, false, cond, ◌||◌, List, [], ◌∷◌, Result, Ok, Err, refl, sym, ap, ◌∙◌}
 use Rattle.std.proofs.lemmas.List.{append-nil}
 use Rattle.cds_event.specs.declared.Event.{Event}
 use Rattle.cds_model.specs.Replica.{Held, Idle, Begun, HasToken, HasNumber, HasRoot, Lists, HasPage, HasCopy}
@@ -7,9 +7,9 @@ use Rattle.cds_model.specs.declared.exchange.Read.{Read}
 use Rattle.cds_model.specs.declared.exchange.Shown.{Shown}
 use Rattle.cds_notes.specs.Commands.{Note}
 use Rattle.cds_notes.specs.Inbox.{ReplicaTurn, Shows, Accepts, Delivers, Arrival, IsUnknown, IsRepeat, IsTooMany, IsEarly, IsHeld, IsNext, arrival, taken_by}
-use Rattle.cds_notes.specs.Follow.{Known, position, Outcome, Knows, CannotBeRead, Jumps, Tears, is_drop, with_notes, with_reply, known_after, known_by, is_no, is_turned_away, is_refused, and_turn}
-use Rattle.cds_replica.specs.Called.{TakesTurn, IsTaken, IsNotice, IsAcceptance, IsAnswer, UnlessFull, UnlessMem, of_notes, IsTaking, IsDelivered}
-use Rattle.cds_replica.specs.Inboxed.{KeptInbox, inbox_of, arrival_in, with_name, taken_early, with_note, taken_in, followers, with_next}
+use Rattle.cds_notes.specs.Follow.{Known, Outcome, Knows, CannotBeRead, Jumps, Tears, with_notes, with_reply, known_after, known_by, is_no, is_turned_away, is_refused, and_turn}
+use Rattle.cds_replica.specs.Called.{TakesTurn, IsNotice, IsAcceptance, IsAnswer, UnlessFull, UnlessMem, of_notes, IsTaking, IsDelivered}
+use Rattle.cds_replica.specs.Inboxed.{KeptInbox, inbox_of, arrival_in, with_name, taken_early, with_note, taken_in, followers}
 use Rattle.cds_replica.specs.Keeping.{Becomes, Leads, Unreadable, Leap, Tear, with_what, kept_outcome, kept_changes, hears_changes, with_telling, answers, IsStep}
 use Rattle.cds_replica.specs.Kept.{KeptPhase, Loads, Copies, KeptKnown, kept_known, kept_position, Kept, kept_of, StandsFor}
 use Rattle.cds_replica.specs.Telling.{tells, nothing_told}

@@ -1,15 +1,13 @@
 -- The notes that wait in an inbox, and what those tell that follow the next one.
-use Rattle.std.proofs.Common.{◌≡◌, ◌⊎◌, inl, inr, ◌+◌, ◌-◌, ◌<◌, ◌≤◌, ℕ, zero, suc, Bool, true, false, cond, ◌&&◌, ◌||◌, nat_eq, nat_lt, List, [], ◌∷◌, length, Option, Some, None, refl, sym, ap, ◌∙◌, subst, arith, true≢false, eq-eqb, eqb-true, lt-ltb, ltb-true}
-use Rattle.std.specs.Prelude.{IsTrue}
+use Rattle.std.proofs.Common.{◌≡◌, ◌+◌, ◌<◌, ◌≤◌, ℕ, zero, suc, Bool, true, false, cond, ◌&&◌, ◌||◌, nat_eq, nat_lt, List, [], ◌∷◌, length, Option, Some, None, refl, sym, ap, ◌∙◌, subst, arith, true≢false, eq-eqb, eqb-true, lt-ltb, ltb-true}
 use Rattle.std.specs.Option.{option_eq}
 use Rattle.std.specs.List.{AllByRecursion, list_any, filter, cons_option}
 use Rattle.cds_notes.specs.Commands.{Note}
-use Rattle.cds_notes.specs.Inbox.{has_seq, note_of, notes_from_to, held_limit}
+use Rattle.cds_notes.specs.Inbox.{has_seq, note_of, notes_from_to}
 use Rattle.cds_notes.specs.Follow.{is_drop}
-use Rattle.cds_notes.proofs.Taken.{has-note}
-use Rattle.cds_replica.specs.Inboxed.{KeptInbox, IsInbox, IsWaiting, accepts, follows, held_count, run_end, behind, of_name, with_name, with_waiting, run_after, followers, with_next}
-use Rattle.cds_replica.specs.Telling.{KeptTelling, tells, tells_note, nothing_told, drops_first}
-use Rattle.cds_replica.proofs.Runs.{AreOf, run-outside, run-from, run-is, notes-more, notes-none, of_name-of}
+use Rattle.cds_replica.specs.Inboxed.{KeptInbox, IsInbox, IsWaiting, accepts, follows, run_end, behind, of_name, with_name, run_after, followers, with_next}
+use Rattle.cds_replica.specs.Telling.{KeptTelling, tells, tells_note, drops_first}
+use Rattle.cds_replica.proofs.Runs.{AreOf, run-outside, run-is, notes-more, notes-none, of_name-of}
 use Rattle.cds_replica.proofs.Tellings.{note-seq, note-has, tells-append, tells-one}
 
 -- ---- notes of the accepted name

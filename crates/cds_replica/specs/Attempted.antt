@@ -1,6 +1,6 @@
 -- What a replica's calls say of the load in its turns, whatever server told and replied: by the attempt that runs, of the
 -- replies that were taken since the load began or its number last changed; and that its rows were shown.
-use Rattle.std.specs.Prelude.{◌≡◌, ◌⊎◌, ℕ, true, false, List, ◌∷◌, Option, None, Result, Ok, Err}
+use Rattle.std.specs.Prelude.{◌≡◌, ◌⊎◌, false, List, ◌∷◌, Option, None, Result, Ok, Err}
 use Rattle.std.specs.Option.{option_and_then}
 use Rattle.cds_model.specs.Attempts.{Verdict, Fine, CannotBeRead, CannotBe, attempt_of, ask_in, verdict_by, says_by, ShowsRows}
 use Rattle.cds_model.specs.Replica.{Shows as LoadShows}

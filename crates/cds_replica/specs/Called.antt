@@ -1,5 +1,5 @@
 -- What a replica's calls say of every list of turns that it stood for, honest or not.
-use Rattle.std.specs.Prelude.{◌≡◌, ℕ, List, ◌∷◌, Result, Ok, Err}
+use Rattle.std.specs.Prelude.{◌≡◌, List, ◌∷◌, Result, Ok, Err}
 use Rattle.cds_model.specs.declared.exchange.Read.{Read}
 use Rattle.cds_notes.specs.Inbox.{ReplicaTurn, Arrival, IsUnknown, IsRepeat, IsTooMany, IsEarly, IsHeld, IsNext}
 use Rattle.cds_notes.specs.Commands.{Note}

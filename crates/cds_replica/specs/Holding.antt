@@ -1,5 +1,5 @@
 -- What a replica's state stands for.
-use Rattle.std.specs.Prelude.{◌≡◌, ◌&&◌, nat_eq, Bool, List, ◌++◌, length}
+use Rattle.std.specs.Prelude.{◌≡◌, List, ◌++◌}
 use Rattle.std.specs.Global.{Vec}
 use Rattle.cds_object.specs.Object.{ObjectRow}
 use Rattle.cds_model.specs.Replica.{Held, Listing as Progress, Idle as HoldsNothing, Begun as HoldsBegun, HasToken as HoldsToken, HasNumber as HoldsNumber, HasRoot as HoldsRoot, Lists as HoldsListing, HasPage as HoldsPage}

@@ -1,6 +1,6 @@
 -- What a replica's calls say where all that it is given is an honest server's, in every order of notes, with losses and
 -- repeats.
-use Rattle.std.specs.Prelude.{◌≡◌, ◌≤◌, ℕ, true, List, ◌∷◌, length, Option, Some, None, Result, Ok, Err, Contains}
+use Rattle.std.specs.Prelude.{◌≡◌, ◌≤◌, ℕ, true, List, ◌∷◌, length, Some, None, Result, Ok, Err, Contains}
 use Rattle.std.specs.Option.{option_map}
 use Rattle.std.specs.List.{AllByRecursion}
 use Rattle.cds_object.specs.Object.{ObjectRow}

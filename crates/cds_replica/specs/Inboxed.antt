@@ -1,6 +1,6 @@
 -- What a replica keeps of its notes: not the notes that it took, but how far they go; and the notes that it holds (this
 -- project's profile, over UPnP Device Architecture 2.0 on event keys).
-use Rattle.std.specs.Prelude.{◌≡◌, ◌<◌, ◌≤◌, ◌+◌, ◌&&◌, ◌||◌, ℕ, Bool, true, false, cond, not, nat_eq, nat_lt, nat_le, List, [], ◌∷◌, filter, length, Option, Some, None}
+use Rattle.std.specs.Prelude.{◌≡◌, ◌<◌, ◌≤◌, ◌+◌, ◌&&◌, ◌||◌, ℕ, Bool, true, false, cond, not, nat_eq, nat_lt, nat_le, List, [], ◌∷◌, filter, length, Option, Some}
 use Rattle.std.specs.List.{list_any, AllByRecursion}
 use Rattle.std.specs.Option.{option_eq}
 use Rattle.cds_notes.specs.Commands.{Note}

@@ -1,6 +1,6 @@
 -- What a replica keeps: what it knows beside its notes, and its inbox. It keeps no list of turns, of happenings or of notes
 -- that it took (this project's profile).
-use Rattle.std.specs.Prelude.{◌≡◌, ℕ, max, List, []}
+use Rattle.std.specs.Prelude.{◌≡◌, ℕ, max, List}
 use Rattle.cds_event.specs.declared.Event.{Event}
 use Rattle.cds_model.specs.Replica.{Held, Idle, Begun, HasToken, HasNumber, HasRoot, Lists, HasPage, HasCopy}
 use Rattle.cds_notes.specs.Inbox.{ReplicaTurn}

@@ -1,5 +1,5 @@
 -- The load in a replica's turns, and the rows that it was shown, whatever server told and replied.
-use Rattle.std.specs.Prelude.{◌≡◌, ◌||◌, ◌⊎◌, Bool, cond, List, [], ◌∷◌}
+use Rattle.std.specs.Prelude.{◌≡◌, ◌||◌, ◌⊎◌, cond, List, [], ◌∷◌}
 use Rattle.std.specs.List.{AllByRecursion}
 use Rattle.cds_object.specs.Object.{ObjectRow}
 use Rattle.cds_model.specs.Replica.{ReplicaTurn as LoadTurn, Begins as LoadBegins, Shows as LoadShows, held_by}

@@ -1,5 +1,5 @@
 -- What notes that are taken one after the other tell.
-use Rattle.std.specs.Prelude.{◌&&◌, ℕ, Bool, true, false, nat_eq, nat_lt, max, List, [], ◌∷◌, ◌++◌, Option, Some, None}
+use Rattle.std.specs.Prelude.{ℕ, Bool, false, nat_lt, max, List, [], ◌++◌, Option, Some, None}
 use Rattle.cds_event.specs.declared.Event.{Event}
 use Rattle.cds_notes.specs.Commands.{Note}
 use Rattle.cds_notes.specs.Follow.{changes_above, new_changes, greatest_of}

@@ -1,8 +1,9 @@
 //! Which events of notes are changes that a replica did not count yet.
 
-ghost use Rattle.std.specs.Prelude.{◌≡◌, ◌&&◌, nat_lt, IfOk};
+ghost use Rattle.std.specs.Prelude.{◌≡◌, ◌&&◌, ◌++◌, nat_lt, IfOk, OnOk};
 ghost use Rattle.cds_changes.specs.Events.{update_of, is_change};
 ghost use Rattle.cds_notes.specs.Follow.{changes_above};
+ghost use Rattle.cds_replica.specs.Copied.{AreAbove};
 
 use cds_base::Mem;
 use cds_event::Event;
@@ -34,15 +35,24 @@ fn is_above(number: u32, event: &Event) -> bool
     is_change(event) && number < update_of(event)
 }
 
-/// The changes above a number.
-pub fn changes_above(alloc: Global, number: u32, events: &[Event]) -> Result<Vec<Event>, Mem>
-    ensures { IfOk result (λ changes. changes.items ≡ changes_above number events.now) }
+/// Adds the changes above a number.
+pub fn add_changes_above(changes: &mut Vec<Event>, number: u32, events: &[Event]) -> Result<(), Mem>
+    ensures { OnOk result (changes.new.items ≡ changes.old.items ++ changes_above number events.now) }
 {
-    let mut changes = Vec::new(alloc);
     for event in events {
         if is_above(number, event) {
             changes.push(*event)?;
         }
     }
+    Ok(())
+}
+
+/// The changes above a number.
+pub fn changes_above(alloc: Global, number: u32, events: &[Event]) -> Result<Vec<Event>, Mem>
+    ensures changes { IfOk result (λ changes. changes.items ≡ changes_above number events.now) }
+    ensures above { IfOk result (λ changes. AreAbove number changes.items) }
+{
+    let mut changes = Vec::new(alloc);
+    add_changes_above(&mut changes, number, events)?;
     Ok(changes)
 }

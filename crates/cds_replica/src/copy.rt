@@ -1,19 +1,23 @@
 //! A copy of a catalog that goes on with the changes of notes and with reads.
 
-ghost use Rattle.std.specs.Prelude.{◌≡◌, option_copied, slice_get, cond};
+ghost use Rattle.std.specs.Prelude.{◌≡◌, IfOk, option_copied, slice_get, cond};
 ghost use Rattle.std.specs.List.{filter_map};
 ghost use Rattle.cds_notes.specs.Copy.{shown_row};
+ghost use Rattle.cds_replica.specs.Answer.{read_of};
+ghost use Rattle.cds_replica.specs.Keeping.{IsStep, copy_takes, row_of_read};
 ghost use Rattle.cds_replica.specs.Copied.{AreAbove, known_rows, lesser_of, least_wanted};
 ghost use Rattle.cds_replica.specs.CopySteps.{IsCount, count_from, leap_from, copy_read, version_of, can_be_of};
 
-use crate::CountError;
 use crate::changes::update_of;
 use crate::copy_row::CopyRow;
 use crate::copy_rows::{additions, change_all, read};
 use crate::order::Identified;
 use crate::outline::{first_cannot, outlines_of};
+use crate::taking::only_row;
+use crate::{AnswerError, CountError};
 use cds_event::Event;
-use cds_object::Row;
+use cds_model::{Read, Shown};
+use cds_object::{Row, Rows};
 use std::alloc::Global;
 use std::marker::Model;
 
@@ -136,6 +140,37 @@ impl CatalogCopy {
         self.rows.reserve(additions(events))?;
         change_all(&mut self.rows, alloc, events);
         Ok(())
+    }
+
+    /// Takes the reply to the read of the object that is to be read next. A refusal leaves the copy as it was: the object
+    /// is to be read still.
+    pub fn take(&mut self, shown: Shown) -> Result<Read, AnswerError>
+        ensures outcome { IsStep (copy_takes self.old (least_wanted self.old) shown) self.old self.new result }
+        ensures read { IfOk result (λ read. read ≡ read_of shown) }
+    {
+        let Some(id) = self.unread() else {
+            return Err(AnswerError::Unreadable);
+        };
+        match shown {
+            Shown::Page { rows, .. } => self.take_row(id, rows),
+            Shown::Fault { code } => Ok(Read::Fault { code }),
+            Shown::Text(_) | Shown::Number(_) => Err(AnswerError::Unreadable),
+        }
+    }
+
+    /// Takes an object's own row, which is to be shown alone.
+    fn take_row(&mut self, id: u32, rows: Rows) -> Result<Read, AnswerError>
+        ensures outcome { IsStep (row_of_read self.old id rows) self.old self.new result }
+        ensures read { IfOk result (λ read. read ≡ Read.Ok) }
+    {
+        let Some(row) = only_row(rows) else {
+            return Err(AnswerError::Unreadable);
+        };
+        if self.read(id, row) {
+            Ok(Read::Ok)
+        } else {
+            Err(AnswerError::Torn { id })
+        }
     }
 
     /// Takes an object's own row, where it can be its: it has its id, and the kind that the id has in the copy. Answers

@@ -1,3 +1,6 @@
+ghost use Rattle.std.specs.Prelude.{◌≡◌, ◌==◌, is_none};
+
+use crate::changes::changes_above;
 use crate::copy_row::CopyRow;
 use crate::{CatalogCopy, CountError};
 use cds_base::{Mem, Text};
@@ -5,6 +8,16 @@ use cds_event::{Class, Event};
 use cds_object::{Content, ObjectId, Row, TrackContent, Trackers};
 use std::alloc::Global;
 use std::test::Fail;
+
+fn parent_of(id: u32, parent: u32) -> Option<ObjectId>
+    ensures { is_none result ≡ (id == 0) }
+{
+    if id == 0 {
+        None
+    } else {
+        Some(ObjectId(parent))
+    }
+}
 
 fn track(alloc: Global, id: u32, parent: u32, update: u32) -> Result<Row, Mem> {
     let content = Content::Track(TrackContent {
@@ -21,18 +34,18 @@ fn track(alloc: Global, id: u32, parent: u32, update: u32) -> Result<Row, Mem> {
     });
     Ok(Row {
         id: ObjectId(id),
-        parent: Some(ObjectId(parent)),
+        parent: parent_of(id, parent),
         content,
         object_update: update,
         trackers: None,
     })
 }
 
-fn folder(alloc: Global, id: u32, parent: Option<ObjectId>) -> Result<Row, Mem> {
+fn folder(alloc: Global, id: u32, parent: u32) -> Result<Row, Mem> {
     let title = Text::read(alloc, "title")?;
     Ok(Row {
         id: ObjectId(id),
-        parent,
+        parent: parent_of(id, parent),
         content: Content::Folder { title },
         object_update: 4,
         trackers: Some(Trackers {
@@ -46,8 +59,8 @@ fn folder(alloc: Global, id: u32, parent: Option<ObjectId>) -> Result<Row, Mem> 
 /// The root, a folder in it, and a track in the folder, as they stand at number 4.
 fn copy_at_4(alloc: Global) -> Result<CatalogCopy, Mem> {
     let mut rows = Vec::new(alloc);
-    rows.push(CopyRow::of(folder(alloc, 0, None)?))?;
-    rows.push(CopyRow::of(folder(alloc, 1, Some(ObjectId(0)))?))?;
+    rows.push(CopyRow::of(folder(alloc, 0, 0)?))?;
+    rows.push(CopyRow::of(folder(alloc, 1, 0)?))?;
     rows.push(CopyRow::of(track(alloc, 2, 1, 4)?))?;
     Ok(CatalogCopy::new(rows))
 }
@@ -122,7 +135,8 @@ struct Case {
 /// What two changes are answered, and the copy then.
 fn outcome(alloc: Global, changes: &[Event]) -> Result<String, Fail> {
     let mut copy = copy_at_4(alloc)?;
-    let answer = copy.count(alloc, 4, changes);
+    let changes = changes_above(alloc, 4, changes)?;
+    let answer = copy.count(alloc, 4, changes.as_slice());
     let mut text = answer_text(alloc, answer)?;
     text.push_str(text_of(alloc, &copy)?.as_str())?;
     Ok(text)
@@ -179,27 +193,29 @@ fn changes_are_counted(rt: HostRuntime) -> Result<(), Fail> {
     Ok(())
 }
 
+/// Counts changes above a number, which can be.
+fn count(alloc: Global, copy: &mut CatalogCopy, at: u32, changes: &[Event]) -> Result<(), Fail> {
+    let changes = changes_above(alloc, at, changes)?;
+    copy.count(alloc, at, changes.as_slice())?;
+    Ok(())
+}
+
 /// Reads of an object that was modified at 5: an older version leaves it unread, a newer one is kept against older ones.
 #[test]
 fn reads_are_taken(rt: HostRuntime) -> Result<(), Fail> {
     let alloc = rt.alloc();
     let mut copy = copy_at_4(alloc)?;
-    let changes = [modified(2, 5)];
-    let _counted = copy.count(alloc, 4, &changes);
+    count(alloc, &mut copy, 4, &[modified(2, 5)])?;
     assert!(rt; copy.unread() == Some(2), "unread");
     assert!(rt; copy.read(2, track(alloc, 2, 1, 4)?), "older");
     assert!(rt; copy.unread() == Some(2), "still unread");
-    assert!(rt;
-        !copy.read(2, folder(alloc, 2, Some(ObjectId(1)))?),
-        "another kind"
-    );
+    assert!(rt; !copy.read(2, folder(alloc, 2, 1)?), "another kind");
     assert!(rt; !copy.read(2, track(alloc, 1, 1, 5)?), "another object");
     assert!(rt; copy.read(2, track(alloc, 2, 1, 7)?), "newer");
     assert!(rt; copy.unread() == None, "read");
     assert!(rt; copy.read(2, track(alloc, 2, 1, 6)?), "older than kept");
     assert!(rt; copy.read_up_to() == 7, "read up to");
-    let changes = [modified(2, 6), modified(2, 7)];
-    let _counted = copy.count(alloc, 5, &changes);
+    count(alloc, &mut copy, 5, &[modified(2, 6), modified(2, 7)])?;
     assert!(rt; copy.unread() == None, "read before it was told");
     assert!(rt;
         text_of(alloc, &copy)?.as_str() == "0@4[4 1 0] 1@4[7 1 0] 2@7 ",

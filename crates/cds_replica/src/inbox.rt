@@ -13,6 +13,7 @@ ghost use Rattle.cds_replica.specs.Telling.{nothing_told, tells, drops_first};
 
 use crate::note::{Note, Sid};
 use crate::telling::{Telling, note_of, run_end};
+use cds_base::Mem;
 use std::alloc::{AllocError, Global};
 use std::marker::Model;
 use std::mem;
@@ -205,7 +206,7 @@ impl Inbox {
         note: &Note,
         position: u32,
         heard: u32,
-    ) -> Result<Telling, AllocError>
+    ) -> Result<Telling, Mem>
         requires { IsTrue (follows note.now self.now) }
         ensures told { IfOk result (λ told. told ≡ tells (note.now ∷ followers self.now) (nothing_told position heard)) }
         ensures above { IfOk result (λ told. AreAbove position told.changes) }
@@ -248,7 +249,7 @@ impl Inbox {
         sid: Sid,
         position: u32,
         heard: u32,
-    ) -> Result<Telling, AllocError>
+    ) -> Result<Telling, Mem>
         ensures told { IfOk result (λ told. told ≡ tells (taken_early sid.0 self.now) (nothing_told position heard)) }
         ensures above { IfOk result (λ told. AreAbove position told.changes) }
     {
@@ -269,16 +270,22 @@ impl Inbox {
     pub fn request(&mut self)
         ensures { self.new ≡ with_request self.old }
     {
-        self.early.clear();
-        self.out = true;
+        self.drop_early(true);
     }
 
     /// The request was refused.
     pub fn refuse(&mut self)
         ensures { self.new ≡ with_refusal self.old }
     {
+        self.drop_early(false);
+    }
+
+    /// Drops the early notes, where a request goes out or was refused.
+    fn drop_early(&mut self, out: bool)
+        ensures { self.new ≡ record self.old { out = out; early = [] } }
+    {
         self.early.clear();
-        self.out = false;
+        self.out = out;
     }
 
     /// A name was accepted: its early notes are taken, or wait.

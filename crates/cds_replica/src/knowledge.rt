@@ -1,6 +1,6 @@
 //! What a replica knows beside its notes.
 
-ghost use Rattle.std.specs.Prelude.{◌≡◌, map, IfOk, IsSome, option_copied, slice_get};
+ghost use Rattle.std.specs.Prelude.{◌≡◌, map, IfOk, option_copied, slice_get};
 ghost use Rattle.std.specs.List.{filter_map};
 ghost use Rattle.cds_notes.specs.Copy.{shown_row};
 ghost use Rattle.cds_notes.specs.Follow.{nothing_known};
@@ -12,7 +12,7 @@ ghost use Rattle.cds_replica.specs.Kept.{kept_known, kept_position};
 
 use crate::copy::CatalogCopy;
 use crate::copy_row::CopyRow;
-use crate::phase::{Phase, read_object};
+use crate::phase::Phase;
 use crate::stage::Stage;
 use crate::telling::Telling;
 use crate::{AnswerError, CountError};
@@ -84,8 +84,8 @@ impl Knowledge {
         ensures { IsHeard (with_telling drops told self.old) self.old self.new result }
     {
         if drops {
+            self.begin_load();
             self.heard = told.heard();
-            self.phase = Phase::Load(Stage::Begun);
             self.changes = told.into_changes();
             return Ok(());
         }
@@ -123,7 +123,7 @@ impl Knowledge {
                 answer
             }
             Phase::Copy { number, mut copy } => {
-                let answer = read_object(&mut copy, shown);
+                let answer = copy.take(shown);
                 self.phase = Phase::Copy { number, copy };
                 answer
             }
@@ -151,18 +151,18 @@ impl Knowledge {
         }
     }
 
+    /// The rows of the copy, in ascending order of ids; none where no copy stands.
+    pub fn rows(&self) -> &[CopyRow]
+        ensures { filter_map shown_row (map (λ kept. kept.row) result.now) ≡ phase_rows self.now.phase }
+    {
+        self.phase.rows()
+    }
+
     /// The row of the copy at a place among those of which it is known what they say.
     pub fn row(&self, at: usize) -> Option<&Row>
         ensures { option_copied result ≡ slice_get (phase_rows self.now.phase) at }
     {
         self.phase.row(at)
-    }
-
-    /// The rows of the copy; none where no copy stands.
-    pub fn rows(&self) -> &[CopyRow]
-        ensures { filter_map shown_row (map (λ kept. kept.row) result.now) ≡ phase_rows self.now.phase }
-    {
-        self.phase.rows()
     }
 }
 

@@ -38,3 +38,9 @@ pub use replica::Replica;
 
 #[cfg(test)]
 mod copy_tests;
+#[cfg(test)]
+mod note_tests;
+#[cfg(test)]
+mod served;
+#[cfg(test)]
+mod tests;

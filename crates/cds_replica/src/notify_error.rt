@@ -1,5 +1,6 @@
 ghost use Rattle.std.specs.Prelude.{◌≡◌};
 
+use cds_base::Mem;
 use std::alloc::AllocError;
 use std::convert::From;
 use thiserror::Error;
@@ -30,6 +31,17 @@ impl From<AllocError> for NotifyError {
     ghost from_gives = { λ _ r. r ≡ NotifyError.Mem };
 
     fn from(_: AllocError) -> Self {
+        NotifyError::Mem
+    }
+}
+
+impl From<Mem> for NotifyError {
+    ghost use Rattle.std.specs.Prelude.{◌≡◌};
+    ghost use Rattle.cds_replica.specs.declared.notify_error.NotifyError.{NotifyError};
+
+    ghost from_gives = { λ _ r. r ≡ NotifyError.Mem };
+
+    fn from(_: Mem) -> Self {
         NotifyError::Mem
     }
 }

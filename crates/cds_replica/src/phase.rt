@@ -1,21 +1,19 @@
 //! The load or the copy of a replica.
 
-ghost use Rattle.std.specs.Prelude.{◌≡◌, map, IfOk, option_copied, slice_get};
+ghost use Rattle.std.specs.Prelude.{◌≡◌, map, option_copied, slice_get};
 ghost use Rattle.std.specs.List.{filter_map};
 ghost use Rattle.cds_notes.specs.Copy.{shown_row};
-ghost use Rattle.cds_replica.specs.Answer.{read_of};
-ghost use Rattle.cds_replica.specs.Copied.{AreAbove, least_wanted};
-ghost use Rattle.cds_replica.specs.Keeping.{IsHeard, IsStep, hears_changes, copy_takes, row_of_read, phase_ask, phase_rows};
+ghost use Rattle.cds_replica.specs.Copied.{AreAbove};
+ghost use Rattle.cds_replica.specs.Keeping.{IsHeard, hears_changes, phase_ask, phase_rows};
 ghost use Rattle.cds_replica.specs.Phases.{phase_in};
 
+use crate::CountError;
 use crate::copy::CatalogCopy;
 use crate::copy_row::CopyRow;
 use crate::stage::Stage;
-use crate::taking::only_row;
-use crate::{AnswerError, CountError};
 use cds_event::Event;
-use cds_model::{Ask, Read, Shown};
-use cds_object::{Row, Rows};
+use cds_model::Ask;
+use cds_object::Row;
 use std::alloc::Global;
 
 /// The stage of a load, or the copy that it ended with.
@@ -50,7 +48,7 @@ impl Phase {
         }
     }
 
-    /// The rows of the copy; a load has none.
+    /// The rows of the copy, in ascending order of ids; none where no copy stands.
     pub fn rows(&self) -> &[CopyRow]
         ensures { filter_map shown_row (map (λ kept. kept.row) result.now) ≡ phase_rows (phase_in self.now) }
     {
@@ -80,35 +78,5 @@ impl Phase {
             }
             Phase::Copy { copy, .. } => copy.count(alloc, at, more),
         }
-    }
-}
-
-/// Takes the reply to the read of an unread object of a copy. A refusal leaves it as it was: the object stays unread.
-pub fn read_object(copy: &mut CatalogCopy, shown: Shown) -> Result<Read, AnswerError>
-    ensures outcome { IsStep (copy_takes copy.old (least_wanted copy.old) shown) copy.old copy.new result }
-    ensures read { IfOk result (λ read. read ≡ read_of shown) }
-{
-    let Some(id) = copy.unread() else {
-        return Err(AnswerError::Unreadable);
-    };
-    match shown {
-        Shown::Page { rows, .. } => read_row(copy, id, rows),
-        Shown::Fault { code } => Ok(Read::Fault { code }),
-        Shown::Text(_) | Shown::Number(_) => Err(AnswerError::Unreadable),
-    }
-}
-
-/// Takes an object's own row.
-fn read_row(copy: &mut CatalogCopy, id: u32, rows: Rows) -> Result<Read, AnswerError>
-    ensures outcome { IsStep (row_of_read copy.old id rows) copy.old copy.new result }
-    ensures read { IfOk result (λ read. read ≡ Read.Ok) }
-{
-    let Some(row) = only_row(rows) else {
-        return Err(AnswerError::Unreadable);
-    };
-    if copy.read(id, row) {
-        Ok(Read::Ok)
-    } else {
-        Err(AnswerError::Torn { id })
     }
 }

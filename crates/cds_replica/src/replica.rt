@@ -223,7 +223,8 @@ impl Replica {
         self.known.row(at)
     }
 
-    /// The rows of the copy, in ascending order of ids; none where no copy stands. Of some it may not be known what they say.
+    /// The rows of the copy, in ascending order of ids, with those of which it is not known yet what they say; none where no
+    /// copy stands. To go over them takes one walk.
     pub fn copy(&self) -> &[CopyRow]
         ensures kept { filter_map shown_row (map (λ kept. kept.row) result.now) ≡ phase_rows self.now.known.phase }
         ensures rows { (turns : List ReplicaTurn) → StandsFor self.now turns → filter_map shown_row (map (λ kept. kept.row) result.now) ≡ copied (known_by turns) }

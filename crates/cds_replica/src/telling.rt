@@ -1,15 +1,15 @@
 //! What notes that are taken one after the other tell, and the runs of SEQs in which they are taken.
 
-ghost use Rattle.std.specs.Prelude.{◌≡◌, ◌+◌, ◌^◌, ◌≤◌, ◌<◌, ◌&&◌, ◌++◌, nat_eq, nat_lt, OnOk, IfSome, is_some, option_copied};
+ghost use Rattle.std.specs.Prelude.{◌≡◌, ◌+◌, ◌^◌, ◌≤◌, ◌<◌, OnOk, IfSome, is_some, option_copied};
 ghost use Rattle.cds_notes.specs.Inbox.{has_seq, note_of, notes_from_to};
-ghost use Rattle.cds_notes.specs.Follow.{changes_above};
-ghost use Rattle.cds_changes.specs.Events.{update_of, is_change};
 ghost use Rattle.cds_replica.specs.Inboxed.{run_end, of_name};
 ghost use Rattle.cds_replica.specs.Telling.{nothing_told, tells, tells_note};
 
+use crate::changes::add_changes_above;
 use crate::note::{Note, Sid};
+use cds_base::Mem;
 use cds_event::Event;
-use std::alloc::{AllocError, Global};
+use std::alloc::Global;
 use std::marker::Model;
 
 /// The position and the greatest number of a note after some notes, and the changes that were new in them.
@@ -62,23 +62,17 @@ impl Telling {
     }
 
     /// Adds what one more note tells.
-    pub fn add(&mut self, note: &Note) -> Result<(), AllocError>
+    pub fn add(&mut self, note: &Note) -> Result<(), Mem>
         ensures { OnOk result (self.new ≡ tells_note note.now self.old) }
     {
-        push_changes(&mut self.changes, self.position, note.events.as_slice())?;
+        add_changes_above(&mut self.changes, self.position, note.events.as_slice())?;
         self.position = self.position.max(note.number);
         self.heard = self.heard.max(note.number);
         Ok(())
     }
 
     /// Adds what the notes of a name tell whose SEQs go from one up to another.
-    pub fn add_run(
-        &mut self,
-        notes: &[Note],
-        sid: Sid,
-        from: u64,
-        to: u64,
-    ) -> Result<(), AllocError>
+    pub fn add_run(&mut self, notes: &[Note], sid: Sid, from: u64, to: u64) -> Result<(), Mem>
         ensures { OnOk result (self.new ≡ tells (notes_from_to from to (of_name sid.0 notes.now)) self.old) }
     {
         for seq in from..to {
@@ -87,30 +81,6 @@ impl Telling {
             }
         }
         Ok(())
-    }
-}
-
-/// Adds the changes above a position.
-fn push_changes(changes: &mut Vec<Event>, position: u32, events: &[Event]) -> Result<(), AllocError>
-    ensures { OnOk result (changes.new.items ≡ changes.old.items ++ changes_above position events.now) }
-{
-    for event in events {
-        if is_above(event, position) {
-            changes.push(*event)?;
-        }
-    }
-    Ok(())
-}
-
-/// Whether an event is a change above a position.
-fn is_above(event: &Event, position: u32) -> bool
-    ensures { result ≡ (is_change event.now && nat_lt position (update_of event.now)) }
-{
-    match event {
-        Event::ObjAdd { update, .. }
-        | Event::ObjMod { update, .. }
-        | Event::ObjDel { update, .. } => position < *update,
-        Event::StDone { .. } => false,
     }
 }
 

@@ -1,4 +1,4 @@
-use Rattle.std.proofs.Common.{◌≡◌, Some, cond, ◌∙◌, sym, ap}
+use Rattle.std.proofs.Common.{Some, cond, ◌∙◌, sym, ap}
 use Rattle.std.specs.Prelude.{option_copied}
 use Rattle.cds_notes.specs.Inbox.{note_of}
 use Rattle.cds_replica.specs.Inboxed.{of_name}

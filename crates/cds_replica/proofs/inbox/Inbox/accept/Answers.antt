@@ -1,5 +1,5 @@
-use Rattle.std.proofs.Common.{◌≡◌, ◌≤◌, ℕ, false, [], Some, ◌∙◌, sym, ap, subst}
-use Rattle.cds_replica.specs.Inboxed.{KeptInbox, IsInbox, run_end, of_name, with_name}
+use Rattle.std.proofs.Common.{◌≤◌, ℕ, false, Some, ◌∙◌, sym, ap, subst}
+use Rattle.cds_replica.specs.Inboxed.{KeptInbox, IsInbox, run_end, of_name}
 use Rattle.cds_replica.proofs.Waiting.{named-next, named-waiting, inbox-named}
 use Rattle.cds_replica.proofs.inbox.Inbox.accept.Goals as goal
 

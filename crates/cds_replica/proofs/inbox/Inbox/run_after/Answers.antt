@@ -1,4 +1,4 @@
-use Rattle.std.proofs.Common.{◌+◌, ◌∙◌}
+use Rattle.std.proofs.Common.{◌∙◌}
 use Rattle.cds_replica.specs.Inboxed.{run_end, of_name}
 use Rattle.cds_replica.proofs.Waiting.{run-after}
 use Rattle.cds_replica.proofs.inbox.Inbox.run_after.Goals as goal

@@ -1,5 +1,5 @@
-use Rattle.std.proofs.Common.{◌≡◌, ◌≤◌, ℕ, ◌∙◌, sym, ap, subst}
-use Rattle.cds_replica.specs.Inboxed.{KeptInbox, IsInbox, run_after, with_next}
+use Rattle.std.proofs.Common.{◌≤◌, ℕ, sym, ap, subst}
+use Rattle.cds_replica.specs.Inboxed.{KeptInbox, IsInbox, run_after}
 use Rattle.cds_replica.proofs.Waiting.{next-waiting, inbox-next}
 use Rattle.cds_replica.proofs.inbox.Inbox.take.Goals as goal
 

@@ -1,4 +1,4 @@
-use Rattle.std.proofs.Common.{◌+◌, ◌∷◌, ◌∙◌, sym, ap, subst}
+use Rattle.std.proofs.Common.{◌∷◌, ◌∙◌, sym, ap, subst}
 use Rattle.cds_notes.specs.Inbox.{notes_from_to}
 use Rattle.cds_replica.specs.Inboxed.{of_name, run_after}
 use Rattle.cds_replica.specs.Telling.{KeptTelling, nothing_told, tells, tells_note}

@@ -5,5 +5,4 @@ use Rattle.cds_replica.proofs.Keeping.{rows-kept}
 use Rattle.cds_replica.proofs.replica.Replica.copy.Goals as goal
 
 pub returns-clause-rows : goal.returns-clause-rows
-returns-clause-rows c =
-    λ turns stood. c.rows.ensures ∙ ap (λ (kept : Kept). phase_rows kept.known.phase) (c.self.view_is ∙ stood) ∙ rows-kept turns
+returns-clause-rows c turns stood = c.rows.ensures ∙ ap (λ (kept : Kept). phase_rows kept.known.phase) (c.self.view_is ∙ stood) ∙ rows-kept turns

@@ -1,8 +1,6 @@
-use Rattle.std.proofs.Common.{◌≡◌, ◌⊎◌, inl, inr, ◌+◌, ◌≤◌, ℕ, Some, None, ◌∙◌, sym, ap, refl, arith}
+use Rattle.std.proofs.Common.{inl, inr, ◌∙◌, sym, ap, refl, arith}
 use Rattle.std.specs.Prelude.{option_copied}
-use Rattle.cds_notes.specs.Inbox.{note_of, notes_from_to}
 use Rattle.cds_replica.specs.Inboxed.{of_name}
-use Rattle.cds_replica.specs.Telling.{tells}
 use Rattle.cds_replica.proofs.Tellings.{tells-run_none, tells-run_some, tells-run_all, tells-run_start}
 use Rattle.cds_replica.proofs.telling.Telling.add_run.Goals as goal
 use Rattle.cds_replica.proofs.telling.Telling.add_run.Goals.{in-Some+in_ok-add, in_default}

@@ -1,7 +1,7 @@
 use Rattle.std.proofs.Common.{◌≡◌, ◌++◌, take}
 use Rattle.cds_notes.specs.Follow.{changes_above}
-use Rattle.cds_replica.proofs.telling.push_changes.Given as goal
+use Rattle.cds_replica.proofs.changes.add_changes_above.Given as goal
 
 -- those of the events so far stand behind the others
 abbrev pub invariant-loop-event : goal.invariant-loop-event
-invariant-loop-event l = l.changes.items ≡ l.fn.changes.items ++ changes_above l.position (take l.event-index l.events)
+invariant-loop-event l = l.changes.items ≡ l.fn.changes.items ++ changes_above l.number (take l.event-index l.events)

@@ -1,6 +1,0 @@
-use Rattle.std.proofs.Common.{◌≡◌, take}
-use Rattle.cds_notes.specs.Follow.{changes_above}
-use Rattle.cds_replica.proofs.changes.changes_above.Given as goal
-
-abbrev pub invariant-loop-event : goal.invariant-loop-event
-invariant-loop-event l = l.changes.items ≡ changes_above l.number (take l.event-index l.events)
