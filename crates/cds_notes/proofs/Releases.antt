@@ -8,7 +8,7 @@ use Rattle.cds_catalog.specs.History.{History, latest, changes_of, end_of}
 use Rattle.cds_catalog.proofs.StepsFind.{none≢some}
 use Rattle.cds_notes.specs.Commands.{Command, Scans, Grants, Ends, Ticks, scans_of, Release, release_size, released_to, may_release, scan_end_within, release_at, and_release, releases_of}
 use Rattle.cds_notes.specs.ReleaseLaws.{releases_go_on}
-use Rattle.cds_notes.proofs.Sent.{Stood, stood-later, within-stood, within-greatest, release-is, first-is, released-stood}
+use Rattle.cds_notes.proofs.Sent.{Stood, within-stood, within-greatest, release-is, first-is, released-stood}
 use Rattle.cds_notes.proofs.Taken.{stood-served}
 
 -- ---- how many changes a scan has
