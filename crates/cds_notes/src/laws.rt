@@ -152,3 +152,8 @@ pub fn trackers_count_each_change_once()
 pub fn received_notes_came()
     ensures { inbox.received_notes_came }
 {}
+
+/// What was read of a copy's objects is exactly what replies to the reads of unread objects showed since its load ended.
+pub fn reads_are_replies()
+    ensures { seen.reads_are_replies }
+{}
