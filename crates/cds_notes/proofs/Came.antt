@@ -6,7 +6,7 @@ use Rattle.cds_notes.specs.Inbox.{ReplicaTurn, Begins, Shows, Requests, Accepts,
 use Rattle.cds_notes.specs.InboxLaws.{accepts_name, is_call, CameFor, received_notes_came}
 use Rattle.cds_notes.proofs.Among.{Among, among-contained, among-filter, filter-among}
 
-contained-among : {X : Type 0} (xs : List X) (x : X) → Among x xs → Contains xs x
+pub contained-among : {X : Type 0} (xs : List X) (x : X) → Among x xs → Contains xs x
 contained-among [] x a = absurd a
 contained-among {X} (y ∷ ys) x a = by a (λ b. contained-among ys x b)
   where

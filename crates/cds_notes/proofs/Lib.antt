@@ -35,3 +35,4 @@ pub mod PossibleTurns
 pub mod LoadCounts
 pub mod TrackEach
 pub mod Came
+pub mod Replied

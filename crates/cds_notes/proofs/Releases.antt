@@ -8,7 +8,7 @@ use Rattle.cds_catalog.specs.History.{History, latest, changes_of, end_of}
 use Rattle.cds_catalog.proofs.StepsFind.{none≢some}
 use Rattle.cds_notes.specs.Commands.{Command, Scans, Grants, Ends, Ticks, scans_of, Release, release_size, released_to, may_release, scan_end_within, release_at, and_release, releases_of}
 use Rattle.cds_notes.specs.ReleaseLaws.{releases_go_on}
-use Rattle.cds_notes.proofs.Sent.{Stood, stood-later, within-stood, within-greatest, release-is, first-is, released-stood}
+use Rattle.cds_notes.proofs.Sent.{Stood, within-stood, within-greatest, release-is, first-is, released-stood}
 use Rattle.cds_notes.proofs.Taken.{stood-served}
 
 -- ---- how many changes a scan has
@@ -88,7 +88,7 @@ both-hold true b e = (refl, e)
 both-hold false b e = absurd (true≢false (sym e))
 
 release-test : (moment : ℕ) (history : History) (releases : List Release) (release : Release) → release_at moment history releases ≡ Some release
-    → (nat_lt (released_to history.first releases) (end_of history) ≡ true) × (may_release release.moment releases ≡ true)
+    → (nat_lt (released_to history.first releases) (end_of history) ≡ true) × (may_release release.moment releases ≡ true) × (moment ≡ release.moment)
 release-test moment history releases release e = by (nat_lt (released_to history.first releases) (end_of history) && may_release moment releases) refl e
   where
     made : Release
@@ -99,23 +99,22 @@ release-test moment history releases release e = by (nat_lt (released_to history
     }
 
     by : (b : Bool) → nat_lt (released_to history.first releases) (end_of history) && may_release moment releases ≡ b → cond b (Some made) None ≡ Some release
-        → (nat_lt (released_to history.first releases) (end_of history) ≡ true) × (may_release release.moment releases ≡ true)
+        → (nat_lt (released_to history.first releases) (end_of history) ≡ true) × (may_release release.moment releases ≡ true) × (moment ≡ release.moment)
     by true t k =
         let both = both-hold (nat_lt (released_to history.first releases) (end_of history)) (may_release moment releases) t in
         let is : made ≡ release = cc in
-        (both.0, ap (λ (r : Release). may_release r.moment releases) (sym is) ∙ both.1)
+        (both.0, ap (λ (r : Release). may_release r.moment releases) (sym is) ∙ both.1, ap (λ (r : Release). r.moment) is)
     by false t k = none≢some None release refl k
 
-abbrev Goes : ℕ → List Command → Release → List Release → Type 0
-Goes first commands release older =
-    (release.from ≡ released_to first older) × (release.from < release.to) × (release.to ≤ release.from + release_size)
-    × (may_release release.moment older ≡ true) × Stood first commands release.to
-
-goes-later : (first : ℕ) (command : Command) (older : List Command) (release : Release) (before : List Release) → Goes first older release before → Goes first (command ∷ older) release before
-goes-later first command older release before g = (g.0, g.1, g.2, g.3, stood-later first command older release.to g.4)
+-- what holds of the release of a tick after the commands before it
+abbrev GoesAt : ℕ → List Command → Release → Type 0
+GoesAt first before release =
+    (release.from ≡ released_to first (releases_of first before)) × (may_release release.moment (releases_of first before) ≡ true)
+    × (release.from < release.to) × (release.to ≤ release.from + release_size) × Stood first before release.to
+    × ((n : ℕ) → end first (drop n before) ≤ release.from + release_size → end first (drop n before) ≤ release.to)
 
 goes-new : (first moment : ℕ) (older : List Command) (release : Release) → Few (scans_of first older).maps → release_at moment (scans_of first older) (releases_of first older) ≡ Some release
-    → Goes first older release (releases_of first older)
+    → GoesAt first older release
 goes-new first moment older release few e =
     let releases : List Release = releases_of first older in
     let same = first-is first older in
@@ -134,13 +133,23 @@ goes-new first moment older release few e =
     let from = is.0 in
     let to = is.1 in (
       from,
+      test.1,
       omega (arith, above, at, reach, from, to),
       omega (arith, size, from, to),
-      test.1,
       subst (Stood first older) (sym to) (within-stood first (released_to first releases + release_size) older),
+      (λ n l.
+          let within = within-greatest first (released_to first releases + release_size) older n (omega (arith, l, from)) in
+          omega (arith, within, to)),
     )
 
 -- ---- all releases
+
+abbrev Goes : ℕ → List Command → Release → List Release → Type 0
+Goes first commands release older =
+    (later : List Command) × (before : List Command) × (commands ≡ later ++ Ticks release.moment ∷ before) × (releases_of first before ≡ older) × GoesAt first before release
+
+goes-later : (first : ℕ) (command : Command) (commands : List Command) (release : Release) (older : List Release) → Goes first commands release older → Goes first (command ∷ commands) release older
+goes-later first command commands release older g = (command ∷ g.0, g.1, ap (λ (l : List Command). command ∷ l) g.2, g.3, g.4)
 
 none-is : (newer : List Release) (release : Release) (older : List Release) → [] ≡ newer ++ release ∷ older → ⊥
 none-is [] release older e = absurd (cc)
@@ -153,21 +162,33 @@ all-go first (Scans library ∷ before) few release newer older e = goes-later f
 all-go first (Grants moment ∷ before) few release newer older e = goes-later first (Grants moment) before release older (all-go first before few release newer older e)
 all-go first (Ends name ∷ before) few release newer older e = goes-later first (Ends name) before release older (all-go first before few release newer older e)
 all-go first (Ticks moment ∷ before) few release newer older e =
-    goes-later first (Ticks moment) before release older
-    (by (release_at moment (scans_of first before) (releases_of first before)) refl newer e (λ some k. all-go first before few release some older k))
+    by (release_at moment (scans_of first before) (releases_of first before)) refl newer e (λ some k. goes-later first (Ticks moment) before release older (all-go first before few release some older k))
   where
     by : (o : Option Release) → release_at moment (scans_of first before) (releases_of first before) ≡ o → (some : List Release) → and_release o (releases_of first before) ≡ some ++ release ∷ older
-        → ((others : List Release) → releases_of first before ≡ others ++ release ∷ older → Goes first before release older) → Goes first before release older
+        → ((others : List Release) → releases_of first before ≡ others ++ release ∷ older → Goes first (Ticks moment ∷ before) release older) → Goes first (Ticks moment ∷ before) release older
     by None k some is r = r some is
     by (Some new) k [] is r =
         let same : new ≡ release = cc in
         let rest : releases_of first before ≡ older = cc in
-        subst (Goes first before release) rest (goes-new first moment before release few (k ∙ ap Some same))
+        let made = k ∙ ap Some same in
+        let tick = (release-test moment (scans_of first before) (releases_of first before) release made).2 in
+        ([], before, ap (λ (m : ℕ). Ticks m ∷ before) tick, rest, goes-new first moment before release few made)
     by (Some new) k (next ∷ some) is r = let rest : releases_of first before ≡ some ++ release ∷ older = cc in r some rest
 
 pub releases-go : releases_go_on
 releases-go first commands release newer older accepted is =
     let g = all-go first commands accepted.few release newer older is in
-    let all : length commands - length commands ≡ 0 = omega arith in
-    let stood = stood-served first commands (length commands) release.to (subst (λ (n : ℕ). Stood first (drop n commands) release.to) (sym all) g.4) in
-    (g.0, g.1, g.2, g.3, (stood.0, sym stood.2))
+    let before : List Command = g.1 in
+    let all : length before - length before ≡ 0 = omega arith in
+    let stood = stood-served first before (length before) release.to (subst (λ (n : ℕ). Stood first (drop n before) release.to) (sym all) g.4.4) in (
+      g.0,
+      before,
+      g.2,
+      g.3,
+      g.4.0 ∙ ap (released_to first) g.3,
+      ap (may_release release.moment) (sym g.3) ∙ g.4.1,
+      g.4.2,
+      g.4.3,
+      (stood.0, sym stood.2),
+      (λ j l. g.4.5 (length before - j) l),
+    )

@@ -125,8 +125,8 @@ pub fn at_most_64_are_held()
     ensures { known.at_most_64_are_held }
 {}
 
-/// Each release begins where the one before it ended, comes after its pause, has at least one change and no more than its size
-/// allows, and ends at a scan end.
+/// Each release is that of a tick: it begins where the one before it ended, comes after its pause, and ends at the greatest scan
+/// end then that its size allows, with at least one change.
 pub fn releases_go_on()
     ensures { releases.releases_go_on }
 {}
@@ -151,4 +151,9 @@ pub fn trackers_count_each_change_once()
 /// request that was answered with it.
 pub fn received_notes_came()
     ensures { inbox.received_notes_came }
+{}
+
+/// What was read of a copy's objects is exactly what replies to the reads of unread objects showed since its load ended.
+pub fn reads_are_replies()
+    ensures { seen.reads_are_replies }
 {}

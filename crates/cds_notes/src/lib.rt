@@ -16,9 +16,9 @@ pub use laws::{
     counted_changes_are_fresh, delivered_notes_are_received, each_note_is_taken_once,
     equal_numbers_have_no_change_between, honest_answers_are_complete, honest_calls_are_taken,
     honest_copies_stood, loads_are_of_turns, loads_show_rows, notes_hold_every_change,
-    notes_leave_the_load, position_is_the_greatest, received_notes_came, releases_go_on,
-    seqs_count_from_zero, spans_lead_to_the_rows, the_least_is_missing, the_longest_run_is_taken,
-    trackers_count_each_change_once, versions_are_settled, versions_are_told,
-    versions_have_one_content,
+    notes_leave_the_load, position_is_the_greatest, reads_are_replies, received_notes_came,
+    releases_go_on, seqs_count_from_zero, spans_lead_to_the_rows, the_least_is_missing,
+    the_longest_run_is_taken, trackers_count_each_change_once, versions_are_settled,
+    versions_are_told, versions_have_one_content,
 };
 pub use says::Says;
