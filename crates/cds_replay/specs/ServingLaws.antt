@@ -3,8 +3,8 @@ use Rattle.std.specs.Prelude.{◌≡◌, ℕ, nat_lt, List, ◌∷◌, ◌++◌,
 use Rattle.cds_catalog.specs.Library.{FolderMap}
 use Rattle.cds_catalog.specs.History.{end_of}
 use Rattle.cds_changes.specs.Events.{events_between}
-use Rattle.cds_notes.specs.Commands.{Command, Scans, Grants, Ends, Ticks, scans_of, granted, alive_names, subscription_limit, has_room, first_note, notes_of}
-use Rattle.cds_replay.specs.Serving.{Subscribed, subscribed_by, alive, with_grant, without, expired, notified, Released, released_by, next_release, with_end, with_release, note_to}
+use Rattle.cds_notes.specs.Commands.{Command, Scans, Grants, Ends, Ticks, scans_of, alive_names, subscription_limit, has_room, notes_of}
+use Rattle.cds_replay.specs.Serving.{subscribed_by, alive, with_grant, without, expired, notified, released_by, next_release, with_end, with_release, note_to}
 
 -- a scan has one more end
 abbrev pub scans_have_ends : Type 0
