@@ -1,17 +1,15 @@
 -- What one command does to the releases that a server keeps, and which release comes next.
-use Rattle.std.proofs.Common.{◌≡◌, ◌⊎◌, inl, inr, ◌+◌, ◌<◌, ◌≤◌, ℕ, zero, suc, Bool, true, false, cond, ◌&&◌, nat_lt, nat_le, List, [], ◌∷◌, ◌++◌, map, filter, drop, Option, Some, None, refl, sym, ap, ◌∙◌, subst, arith, true≢false, ltb-true, ltb-false, lt-ltb, le-ltb, le-leb, leb-true}
+use Rattle.std.proofs.Common.{◌≡◌, ◌⊎◌, inl, inr, ◌+◌, ◌<◌, ◌≤◌, ℕ, zero, suc, Bool, true, false, cond, ◌&&◌, nat_lt, nat_le, List, [], ◌∷◌, ◌++◌, filter, drop, Option, Some, None, refl, sym, ap, ◌∙◌, subst, arith, true≢false, ltb-true, ltb-false, lt-ltb, le-ltb, le-leb}
 use Rattle.std.specs.List.{AllByRecursion}
-use Rattle.std.proofs.lemmas.Bool.{cases_lt}
 use Rattle.std.proofs.lemmas.List.Elements.{filter-append}
 use Rattle.cds_catalog.specs.Library.{FolderMap}
-use Rattle.cds_catalog.specs.History.{History, end_of}
+use Rattle.cds_catalog.specs.History.{end_of}
 use Rattle.cds_catalog.proofs.Numbers.{ends_rise}
 use Rattle.cds_catalog.proofs.StepsFind.{each-append, each-weaker, none≢some}
-use Rattle.cds_changes.specs.Events.{events_between}
-use Rattle.cds_notes.specs.Commands.{Command, Scans, Grants, Ends, Ticks, scans_of, Release, release_size, release_pause, released_to, may_release, scan_end_within, release_at, and_release, releases_of}
+use Rattle.cds_notes.specs.Commands.{Command, Scans, Grants, Ends, Ticks, scans_of, Release, release_size, released_to, may_release, scan_end_within, release_at, and_release, releases_of}
 use Rattle.cds_notes.proofs.Served.{scans-first}
 use Rattle.cds_notes.proofs.Sent.{first-is, stood-below, released-stood}
-use Rattle.cds_replay.specs.Serving.{scan_ends, Released, last_moment, released_by, is_pause_over, last_within, next_release, with_end, with_release}
+use Rattle.cds_replay.specs.Serving.{scan_ends, last_moment, released_by, is_pause_over, last_within, next_release, with_end, with_release}
 
 -- ---- filters
 

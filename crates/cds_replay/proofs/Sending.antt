@@ -1,10 +1,8 @@
 -- Notes that were sent are those that they were, whatever releases are added, and a new release's notes tell its events.
-use Rattle.std.proofs.Common.{◌≡◌, ◌+◌, ◌<◌, ℕ, zero, suc, List, [], ◌∷◌, ◌++◌, map, length, Option, Some, None, refl, sym, ap, ◌∙◌, subst, arith, length-append}
+use Rattle.std.proofs.Common.{◌≡◌, ◌+◌, ◌<◌, ℕ, zero, suc, List, [], ◌∷◌, ◌++◌, map, length, Option, Some, None, refl, ap, ◌∙◌, arith, length-append}
 use Rattle.std.specs.Prelude.{MatchOption, unwrap_or, slice_get}
-use Rattle.std.specs.List.{AllByRecursion}
 use Rattle.cds_event.specs.declared.Event.{Event}
 use Rattle.cds_catalog.proofs.StepsFind.{each-append, each-all, each-map, each-weaker}
-use Rattle.cds_notes.specs.Commands.{Note}
 use Rattle.cds_replay.specs.declared.book.Subscription.{Subscription}
 use Rattle.cds_replay.specs.declared.sent.SentNote.{SentNote}
 use Rattle.cds_replay.specs.Serving.{note_to}

@@ -1,17 +1,16 @@
 -- A server that stood for commands stands for them and the next one, by what its parts became.
-use Rattle.std.proofs.Common.{◌≡◌, ◌+◌, ◌≤◌, ℕ, max, Bool, true, false, cond, ◌&&◌, ◌||◌, nat_eq, nat_lt, List, [], ◌∷◌, ◌++◌, map, filter, length, Option, Some, None, Result, Ok, refl, sym, ap, ◌∙◌, arith}
+use Rattle.std.proofs.Common.{◌≡◌, ◌+◌, ◌≤◌, ℕ, max, Bool, true, false, cond, ◌&&◌, ◌||◌, nat_eq, nat_lt, List, [], ◌∷◌, ◌++◌, map, length, Option, Some, None, refl, sym, ap, ◌∙◌, arith}
 use Rattle.std.specs.Bool.{MatchBool}
 use Rattle.std.specs.List.{list_any}
-use Rattle.cds_object.specs.declared.record.Record.{Record}
 use Rattle.cds_event.specs.declared.Event.{Event}
 use Rattle.cds_catalog.specs.Library.{FolderMap}
-use Rattle.cds_catalog.specs.History.{History, end_of, with_scan}
+use Rattle.cds_catalog.specs.History.{end_of, with_scan}
 use Rattle.cds_catalog.specs.Steps.{Standing}
 use Rattle.cds_store.specs.Stands.{Stored, StandsFor, no_scans}
 use Rattle.cds_changes.specs.Events.{events_between}
-use Rattle.cds_notes.specs.Commands.{Command, Scans, Grants, Ends, Ticks, scans_of, granted, Note, alive_names, subscription_limit, has_room, first_note, notes_of}
+use Rattle.cds_notes.specs.Commands.{Command, Scans, Grants, Ends, Ticks, scans_of, granted, Note, subscription_limit, has_room, first_note, notes_of}
 use Rattle.cds_replay.specs.declared.book.Subscription.{Subscription}
-use Rattle.cds_replay.specs.Serving.{Subscribed, subscribed_by, nothing_granted, alive, holds_alive, with_grant, without, expired, notified, Released, released_by, nothing_released, next_release, with_end, with_release, note_to, Serving, Serves, IsServing, is_living, Granted, Ended}
+use Rattle.cds_replay.specs.Serving.{Subscribed, subscribed_by, nothing_granted, alive, holds_alive, with_grant, without, expired, notified, Released, released_by, nothing_released, next_release, with_end, with_release, note_to, Serving, Serves, IsServing, is_living, Ended}
 use Rattle.cds_replay.proofs.Subscribed.{names-alive, as-many, subscribed-scan, subscribed-end, subscribed-grant}
 use Rattle.cds_replay.proofs.Released.{Comes, is-released, released-within, released-scan}
 use Rattle.cds_replay.proofs.Ticking.{ticked-silent, ticked-release}

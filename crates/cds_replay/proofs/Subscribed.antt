@@ -1,18 +1,18 @@
 -- What one command does to the subscriptions that a server keeps.
-use Rattle.std.proofs.Common.{◌≡◌, ◌⊎◌, inl, inr, ◌+◌, ◌<◌, ◌≤◌, ℕ, zero, suc, Bool, true, false, cond, not, ◌&&◌, nat_eq, nat_lt, nat_le, List, [], ◌∷◌, ◌++◌, map, filter, length, Option, Some, None, is_some, refl, sym, ap, ◌∙◌, subst, arith, true≢false, eq-eqb, eqb-true, ne_eqb, ltb-true, ltb-false, lt-ltb}
+use Rattle.std.proofs.Common.{◌≡◌, ◌⊎◌, inl, inr, ◌+◌, ◌<◌, ◌≤◌, ℕ, zero, suc, Bool, true, false, cond, not, ◌&&◌, nat_eq, nat_lt, List, [], ◌∷◌, ◌++◌, map, filter, length, Option, Some, None, is_some, refl, sym, ap, ◌∙◌, subst, arith, true≢false, eq-eqb, ne_eqb, ltb-true, ltb-false, lt-ltb}
 use Rattle.std.specs.List.{AllByRecursion, filter_map, cons_option, range_with_len}
-use Rattle.std.proofs.lemmas.Bool.{cases_lt, eqb-false}
+use Rattle.std.proofs.lemmas.Bool.{cases_lt}
 use Rattle.std.proofs.lemmas.List.{append-nil}
 use Rattle.std.proofs.lemmas.List.Elements.{filter_map-append}
 use Rattle.cds_catalog.specs.Library.{FolderMap}
-use Rattle.cds_catalog.specs.History.{History, end_of}
+use Rattle.cds_catalog.specs.History.{end_of}
 use Rattle.cds_catalog.proofs.StepsFind.{each-filter, none≢some}
 use Rattle.cds_changes.proofs.Numbers.{range-more}
 use Rattle.cds_notes.specs.Commands.{Command, Scans, Grants, Ends, Ticks, scans_of, Release, release_at, releases_of, granted, granted_time, unless_past, runs_until, is_alive, Note, next_seq_of, seq_limit, alive_names, subscription_limit, has_room, released_note, released_notes, first_note, sent_by, notes_of}
 use Rattle.cds_notes.proofs.Among.{Among, among-all, row-among, seq-append, seq-none}
 use Rattle.cds_notes.proofs.Sent.{Sound, all-sound}
 use Rattle.cds_replay.specs.declared.book.Subscription.{Subscription}
-use Rattle.cds_replay.specs.Serving.{running, subscription_of, Subscribed, subscribed_by, alive, with_grant, without, expired, has_next, raised, notified, note_to}
+use Rattle.cds_replay.specs.Serving.{running, subscription_of, subscribed_by, alive, with_grant, without, expired, has_next, raised, notified}
 
 -- ---- lists of what some numbers have
 

@@ -1,10 +1,10 @@
 -- What a tick does to what a server keeps, with a release and without one.
-use Rattle.std.proofs.Common.{◌≡◌, ℕ, List, [], ◌∷◌, ◌++◌, map, Option, Some, None, refl, sym, ap, ◌∙◌}
+use Rattle.std.proofs.Common.{◌≡◌, ℕ, List, [], ◌∷◌, ◌++◌, map, Option, None, refl, ap, ◌∙◌}
 use Rattle.std.specs.List.{AllByRecursion}
 use Rattle.std.proofs.lemmas.List.{append-nil}
 use Rattle.cds_event.specs.declared.Event.{Event}
 use Rattle.cds_changes.specs.Events.{events_between}
-use Rattle.cds_notes.specs.Commands.{Command, Ticks, scans_of, Release, release_at, releases_of, released_to, Note, next_seq_of, alive_names, released_note, released_notes, sent_by, notes_of}
+use Rattle.cds_notes.specs.Commands.{Command, Ticks, scans_of, Release, release_at, releases_of, Note, alive_names, released_note, released_notes, sent_by, notes_of}
 use Rattle.cds_replay.specs.declared.book.Subscription.{Subscription}
 use Rattle.cds_replay.specs.Serving.{subscribed_by, alive, released_by, note_to}
 use Rattle.cds_replay.specs.ServingLaws.{ticks_expire, ticks_release}

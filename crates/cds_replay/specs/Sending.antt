@@ -1,5 +1,5 @@
 -- How a script's server keeps the notes that it sent: the events of a release once, however many notes tell them.
-use Rattle.std.specs.Prelude.{◌<◌, ℕ, List, [], map, length, Option, Some, None, MatchOption, unwrap_or, slice_get}
+use Rattle.std.specs.Prelude.{◌<◌, ℕ, List, [], length, Option, Some, None, MatchOption, unwrap_or, slice_get}
 use Rattle.std.specs.List.{AllByRecursion}
 use Rattle.cds_event.specs.declared.Event.{Event}
 use Rattle.cds_notes.specs.Commands.{Note}

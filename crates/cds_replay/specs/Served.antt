@@ -1,5 +1,5 @@
 -- What a script's server keeps of a few lists of commands, evaluated from the definitions.
-use Rattle.std.specs.Prelude.{◌≡◌, ℕ, true, false, List, [], ◌∷◌, ◌++◌, map, replicate, length, Some, None, codes}
+use Rattle.std.specs.Prelude.{◌≡◌, true, false, List, [], ◌∷◌, ◌++◌, replicate, Some, None, codes}
 use Rattle.cds_catalog.specs.Library.{FolderMap}
 use Rattle.cds_catalog.specs.Evaluated.{a_track}
 use Rattle.cds_notes.specs.Commands.{Command, Scans, Grants, Ends, Ticks, has_room, notes_of}

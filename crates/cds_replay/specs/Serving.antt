@@ -6,7 +6,7 @@ use Rattle.std.specs.List.{list_any, filter_map, range_with_len}
 use Rattle.cds_event.specs.declared.Event.{Event}
 use Rattle.cds_object.specs.declared.record.Record.{Record}
 use Rattle.cds_catalog.specs.Library.{FolderMap, map_of}
-use Rattle.cds_catalog.specs.History.{History, end_of}
+use Rattle.cds_catalog.specs.History.{end_of}
 use Rattle.cds_catalog.specs.Scans.{Accepted, scan_answer}
 use Rattle.cds_store.specs.Applied.{IsRefusal}
 use Rattle.cds_store.specs.Stands.{Stored, StandsFor}

@@ -1,10 +1,10 @@
 -- What one command does to what a script's server keeps.
-use Rattle.std.specs.Prelude.{◌≡◌, ℕ, nat_lt, List, ◌∷◌, ◌++◌, map, length, Some, None}
+use Rattle.std.specs.Prelude.{◌≡◌, ◌&&◌, ℕ, nat_lt, List, ◌∷◌, ◌++◌, map, length, Some, None}
 use Rattle.cds_catalog.specs.Library.{FolderMap}
 use Rattle.cds_catalog.specs.History.{end_of}
 use Rattle.cds_changes.specs.Events.{events_between}
-use Rattle.cds_notes.specs.Commands.{Command, Scans, Grants, Ends, Ticks, scans_of, granted, alive_names, subscription_limit, has_room, first_note, notes_of}
-use Rattle.cds_replay.specs.Serving.{Subscribed, subscribed_by, alive, with_grant, without, expired, notified, Released, released_by, next_release, with_end, with_release, note_to}
+use Rattle.cds_notes.specs.Commands.{Command, Scans, Grants, Ends, Ticks, scans_of, is_alive, next_seq_of, seq_limit, alive_names, subscription_limit, has_room, notes_of}
+use Rattle.cds_replay.specs.Serving.{subscribed_by, alive, with_grant, without, expired, notified, released_by, next_release, with_end, with_release, note_to, is_living}
 
 -- a scan has one more end
 abbrev pub scans_have_ends : Type 0
@@ -46,3 +46,8 @@ abbrev pub living_are_kept : Type 0
 living_are_kept = (first now : ℕ) (commands : List Command) →
     (alive_names now commands (notes_of first commands) ≡ map (λ s. s.name) (alive now (subscribed_by first commands).living))
     × (has_room now commands (notes_of first commands) ≡ nat_lt (length (alive now (subscribed_by first commands).living)) subscription_limit)
+
+-- a subscription lives where it was granted, has not run out and has a SEQ left
+abbrev pub living_are_alive : Type 0
+living_are_alive = (first name now : ℕ) (commands : List Command) →
+    is_living first name now commands ≡ is_alive name now commands && nat_lt (next_seq_of name (notes_of first commands)) seq_limit

@@ -32,3 +32,8 @@ pub fn ticks_release()
 pub fn living_are_kept()
     ensures { laws.living_are_kept }
 {}
+
+/// A subscription lives where it was granted, has not run out and has a SEQ left.
+pub fn living_are_alive()
+    ensures { laws.living_are_alive }
+{}

@@ -1,4 +1,4 @@
-use Rattle.std.proofs.Common.{◌≡◌, ◌++◌, [], ◌∷◌, List, ℕ, map, length, sym, ap, ◌∙◌, subst, arith}
+use Rattle.std.proofs.Common.{◌≡◌, ◌++◌, List, ℕ, map, length, sym, ap, ◌∙◌, subst}
 use Rattle.cds_event.specs.declared.Event.{Event}
 use Rattle.cds_notes.specs.Commands.{Note}
 use Rattle.cds_replay.specs.declared.sent.SentNote.{SentNote}

@@ -1,5 +1,5 @@
-use Rattle.std.proofs.Common.{◌≡◌, ◌+◌, ◌∷◌, ◌++◌, [], true, false, List, ℕ, refl, sym, ap, ◌∙◌, subst}
-use Rattle.cds_notes.specs.Commands.{Note, Grants, first_note}
+use Rattle.std.proofs.Common.{◌≡◌, ◌+◌, ◌∷◌, ◌++◌, [], ℕ, refl, sym, ap, ◌∙◌, subst}
+use Rattle.cds_notes.specs.Commands.{Grants, first_note}
 use Rattle.cds_replay.specs.Serving.{Serving, Serves, with_grant}
 use Rattle.cds_replay.proofs.Serves.{granted-is, room-is, subscribed-once}
 use Rattle.cds_replay.proofs.server.Server.subscribe.Goals as goal
