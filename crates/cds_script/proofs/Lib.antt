@@ -2,8 +2,8 @@ pub mod Bounded
 pub mod Delivered
 pub mod Given
 pub mod Held
+pub mod Lines
 pub mod MayBe
 pub mod Played
 pub mod Stood
 pub mod Words
-pub mod Lines
