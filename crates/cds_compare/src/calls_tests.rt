@@ -1,7 +1,7 @@
 use cds_base::Text;
 use cds_object::{Comments, Content, FlacInfo, Path, Record, Records, Row, Rows, content_of};
 use cds_plain::{PlainAnswer, PlainHistory};
-use cds_replica::{Ask, Read, Replica, Says, Shown};
+use cds_replica::{Ask, CopyRow, Read, Replica, Says, Shown};
 use cds_store::{ApplyError, Span, Store};
 use std::alloc::Global;
 use std::test::Fail;
@@ -247,11 +247,19 @@ fn has_copied(replica: &Replica, rows: &Rows, number: u32) -> bool {
         return false;
     }
     for (row, copied) in rows.as_slice().iter().zip(copy) {
-        if !same_row(row, copied) {
+        if !is_row(copied, row) {
             return false;
         }
     }
     true
+}
+
+/// Whether it is known what a row of a copy says, and it is this row.
+fn is_row(copied: &CopyRow, row: &Row) -> bool {
+    match copied.row() {
+        Some(known) => same_row(row, known),
+        None => false,
+    }
 }
 
 /// One read of a load. Answers whether it was refused; `None` where no load runs.
@@ -269,7 +277,7 @@ fn read_once(alloc: Global, both: &Both, replica: &mut Replica) -> Result<Option
 fn load_with(alloc: Global, scans: (&str, &str), place: u32) -> Result<(u32, u32, bool), Fail> {
     let mut both = both_from(alloc, 0)?;
     scan_both(alloc, &mut both, scans.0)?;
-    let mut replica = Replica::new();
+    let mut replica = Replica::new(alloc);
     replica.begin_load()?;
     let mut refused = 0u32;
     let mut reads = 0u32;
