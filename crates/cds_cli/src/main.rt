@@ -2,12 +2,12 @@
 #![tactic(auto)]
 
 mod command;
+#[cfg(test)]
+mod notes_tests;
 mod run;
 mod streams;
 #[cfg(test)]
 mod tests;
-#[cfg(test)]
-mod notes_tests;
 
 use cds_base::{Mem, Text, Words};
 use run::run;

@@ -17,8 +17,8 @@ pub struct Input<R: Read + Drop> {
 impl<R: Read + Drop> Input<R> {
     /// Nothing has been moved, and no call has failed.
     pub fn new(reader: R) -> Self
-        ensures moved { Source.moved result ≡ 0 }
-        ensures faults { Source.faults result ≡ 0 }
+        ensures moved { result.moved ≡ 0 }
+        ensures faults { result.faults ≡ 0 }
     {
         Input {
             reader,
@@ -59,7 +59,7 @@ pub struct Output<W: Write + Drop> {
 impl<W: Write + Drop> Output<W> {
     /// No call has failed.
     pub fn new(writer: W) -> Self
-        ensures { Sink.faults result ≡ 0 }
+        ensures { result.faults ≡ 0 }
     {
         Output { writer, faults: 0 }
     }

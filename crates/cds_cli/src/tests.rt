@@ -6,7 +6,12 @@ use std::alloc::{AllocError, Global};
 use std::test::Fail;
 
 /// The root's row with these children, this containerUpdateID and this many deleted children.
-pub fn root(alloc: Global, children: &str, update: &str, deleted: &str) -> Result<String, AllocError> {
+pub fn root(
+    alloc: Global,
+    children: &str,
+    update: &str,
+    deleted: &str,
+) -> Result<String, AllocError> {
     format!(in alloc;
         "<container id=\"0\" parentID=\"-1\" restricted=\"1\" searchable=\"1\" childCount=\"{children}\"><dc:title>root</dc:title><upnp:class>object.container</upnp:class><upnp:objectUpdateID>0</upnp:objectUpdateID><upnp:containerUpdateID>{update}</upnp:containerUpdateID><upnp:totalDeletedChildCount>{deleted}</upnp:totalDeletedChildCount></container>\n"
     )

@@ -87,7 +87,9 @@ fn count_alive(living: &[Subscription], now: u64) -> usize
 fn is_alive(living: &[Subscription], name: u128, now: u64) -> bool
     ensures { result ≡ list_any (λ t. nat_eq t.name name && nat_lt now t.end) living.now }
 {
-    living.iter().any(|s| u128::from(s.name) == name && now < s.end)
+    living
+        .iter()
+        .any(|s| u128::from(s.name) == name && now < s.end)
 }
 
 impl Book {

@@ -11,7 +11,7 @@ pub returns-clause-written : goal.returns-clause-written
 returns-clause-written c = λ turns after.
     let stands = ap (λ (p : Playing). p.replica) c.self.view_is ∙ after.replica in
     let same : known_text c.says.result (known_rows c.copy.result.now)
-        ≡ answer_text (scans_of (first_of turns) (played turns).commands) (says (played turns).replica) =
+    ≡ answer_text (scans_of (first_of turns) (played turns).commands) (says (played turns).replica) =
     (λ i. known_text (c.says.ensures.says (played turns).replica stands i) (c.copy.ensures.rows (played turns).replica stands i))
     ∙ known-answered turns after.may in
     written-as c.put_known.result (string_bytes c.put_known.new.out) (string_bytes c.args.out.now)

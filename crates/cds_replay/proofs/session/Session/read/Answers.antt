@@ -42,4 +42,3 @@ unreachable-requires-in-Err-Torn c =
     taken.0 c.in-Err-Torn.field-0 taken.1 (c.in-Err-Torn.ensures.answer (played turns).replica old.replica) in
     let other = c.in-Err-Torn.field-0-is in
     cc (only, other)
-
