@@ -6,7 +6,9 @@
 # - ten scans of these numbers of tracks with 2 % changed in each, with the growth per doubling;
 # - peak memory after 40 scans of the same 2,000 tracks against one (goal: at most 1.2 times);
 # - peak memory of 20 loads against one (goal: at most 1.2 times);
-# - peak memory of 20 asks that come in one piece against one (goal: at most 1.2 times).
+# - peak memory of 20 asks that come in one piece against one (goal: at most 1.2 times);
+# - 1,000 tracks that are followed through 100 scans with 2 % changed in each, each note delivered and each changed track
+#   read: the user time of the last ten scans against that of the first ten (goal: at most 1.2 times).
 # Needs bash, python3 and GNU time (/usr/bin/time), which tells the program's own peak memory.
 set -eu
 top=$(cd "$(dirname "$0")/.." && pwd)
@@ -31,6 +33,20 @@ def tracks(count, scan=0):
 def reads(count):
     return 4 + 2 * (-(-(count // 10) // 256) + count // 10)
 
+# A replica that follows so many scans, in each of which another 2 % of the tracks have grown by a byte for good.
+def followed(count, scans):
+    def found(scan):
+        for folder in range(count // 10):
+            yield f"folder f{folder}"
+            for track in range(10):
+                at = folder * 10 + track
+                grown = sum(1 for past in range(1, scan + 1) if past % 50 == at % 50)
+                yield f"track f{folder}/t{track}.flac {1000 + grown} 44100 2 16 441000"
+    lines = [*found(0), "scan", "load", *["read"] * reads(count), "subscribe", "accept", "deliver 1"]
+    for scan in range(1, scans + 1):
+        lines += [*found(scan), "scan", f"at {scan * 200}", f"deliver {scan + 1}", *["read"] * (count // 50)]
+    return lines + ["ask"]
+
 def write(name, lines):
     with open(f"{work}/{name}", "w") as file:
         file.write("\n".join(lines) + "\n")
@@ -47,6 +63,8 @@ write("scans40", (tracks(2000) + ["scan"]) * 40)
 write("loads1", tracks(2000) + ["scan"] + ["load"] + ["read"] * reads(2000) + ["ask"])
 write("loads20", tracks(2000) + ["scan"] + (["load"] + ["read"] * reads(2000)) * 20 + ["ask"])
 write("asks20", tracks(2000) + ["scan"] + ["load"] + ["read"] * reads(2000) + ["ask"] * 20)
+for scans in (0, 10, 90, 100):
+    write(f"followed{scans}", followed(1000, scans))
 PY
 
 python3 - "$work" "$program" <<'PY'
@@ -97,4 +115,7 @@ for count in (500, 1000, 2000, 4000):
 for many, one in (("scans40", "scans1"), ("loads20", "loads1"), ("asks20", "loads1")):
     a, b = measured(play, many, 3), measured(play, one, 3)
     print(f"{many} against {one}: {a[2]:.2f} MB and {b[2]:.2f} MB, {a[2] / b[2]:.2f} times; {a[0] * 1000:.0f} ms and {b[0] * 1000:.0f} ms")
+user = {scans: measured(play, f"followed{scans}", 10) for scans in (0, 10, 90, 100)}
+first, last = user[10][1] - user[0][1], user[100][1] - user[90][1]
+print(f"100 scans followed by notes: {user[100][0] * 1000:.0f} ms, {user[100][2]:.2f} MB; the first ten {first * 1000:.0f} ms user, the last ten {last * 1000:.0f} ms, {last / first:.2f} times")
 PY
