@@ -3,6 +3,7 @@ pub mod Delivered
 pub mod Given
 pub mod Held
 pub mod Lines
+pub mod Living
 pub mod MayBe
 pub mod Played
 pub mod Stood

@@ -1,5 +1,5 @@
 -- The replica of a script is one of an honest server, whose commands are those that the script's turns gave it; and what follows
--- for the script's turns: nothing is refused, what stands is a scan end, and the answer is complete.
+-- for the script's turns: nothing is refused, few subscriptions live, what stands is a scan end, and the answer is complete.
 use Rattle.std.specs.Prelude.{◌≡◌, ◌≤◌, ℕ, true, List, ◌∷◌, ◌++◌, length, Some, None, codes}
 use Rattle.std.specs.List.{AllByRecursion}
 use Rattle.std.specs.Fmt.{decimal}
@@ -9,7 +9,7 @@ use Rattle.cds_catalog.specs.Catalog.{catalog}
 use Rattle.cds_model.specs.Server.{reply_to}
 use Rattle.cds_model.specs.Stood.{IsScanEnd}
 use Rattle.cds_model.specs.declared.exchange.Ask.{Ask as Asked}
-use Rattle.cds_notes.specs.Commands.{Note, notes_of, released_to, releases_of}
+use Rattle.cds_notes.specs.Commands.{Note, alive_names, subscription_limit, notes_of, released_to, releases_of}
 use Rattle.cds_notes.specs.Inbox.{Accepts, Delivers, accepted, received, has_seq, taken_by}
 use Rattle.cds_notes.specs.Follow.{Known, Knows, known_by, next_ask, with_reply, with_notes, says, copied}
 use Rattle.cds_notes.specs.Given.{Entry, moment_after, given_by, latest_length, AreAccepted, IsGiven}
@@ -45,6 +45,14 @@ pub record AreTaken (turns : List Turn) : Type 0 where
 
 abbrev pub nothing_is_refused : Type 0
 nothing_is_refused = (turns : List Turn) → MayBe turns → AreTaken turns
+
+-- the names of the subscriptions that live after turns, at their current moment
+abbrev pub living_names : List Turn → List ℕ
+living_names turns = alive_names (clock_of turns) (played turns).commands (notes_of (first_of turns) (played turns).commands)
+
+-- at most 64 subscriptions live, after whichever turns
+abbrev pub subscriptions_are_few : Type 0
+subscriptions_are_few = (turns : List Turn) → MayBe turns → length (living_names turns) ≤ subscription_limit
 
 -- each ask among turns whose answer is a number writes `stands`, the number and the rows of the copy; the number is a scan
 -- end of the scans that were accepted by then, and the rows are the catalog after the scans up to it

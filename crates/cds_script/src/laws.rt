@@ -33,6 +33,11 @@ pub fn nothing_is_refused()
     ensures { given.nothing_is_refused }
 {}
 
+/// At most 64 subscriptions of a script live at the current moment.
+pub fn subscriptions_are_few()
+    ensures { given.subscriptions_are_few }
+{}
+
 /// In the report of a script each line `stands` tells a scan end of the scans that were accepted by then, and after it come the
 /// rows of the catalog after the scans up to it.
 pub fn all_turns_stand_at_scan_ends()
