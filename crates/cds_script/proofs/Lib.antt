@@ -7,4 +7,5 @@ pub mod Living
 pub mod MayBe
 pub mod Played
 pub mod Stood
+pub mod WithoutNotes
 pub mod Words

@@ -13,6 +13,12 @@ pub fn reports_are_of_turns()
     ensures { played.reports_are_of_turns }
 {}
 
+/// A script without notes has one report: the one that its turns give among scripts with notes, and the one that the grammar and
+/// the definitions of scripts without notes give.
+pub fn scripts_without_notes_have_one_report()
+    ensures { played.scripts_without_notes_have_one_report }
+{}
+
 /// Each turn of a script may stand after the older ones, and its first number is one of the server's.
 pub fn script_turns_may_be()
     ensures { played.script_turns_may_be }
