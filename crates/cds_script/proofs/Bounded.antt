@@ -12,8 +12,9 @@ use Rattle.cds_catalog.specs.Laws.{AreLibraries}
 use Rattle.cds_catalog.proofs.Accepted.{accepted_map}
 use Rattle.cds_catalog.proofs.Numbers.{ends_rise, equal_ends_equal_catalogs}
 use Rattle.cds_model.specs.declared.exchange.Ask.{Ask as Asked}
+use Rattle.cds_model.specs.declared.exchange.Shown.{Shown}
 use Rattle.cds_model.specs.Server.{Moment, reply_to}
-use Rattle.cds_model.specs.Replica.{Held, Idle, Begun, HasToken, HasNumber, HasRoot, Lists, HasPage, HasCopy, held_after, next_ask as load_ask}
+use Rattle.cds_model.specs.Replica.{Held, Idle, Begun, HasToken, HasNumber, HasRoot, Lists, HasPage, HasCopy, taken, held_after, held_by, next_ask as load_ask, Begins as LoadBegins, Shows as LoadShows}
 use Rattle.cds_model.specs.Report.{script_token}
 use Rattle.cds_model.specs.Loads.{load_reads, held_with, read_once, answered}
 use Rattle.cds_model.proofs.Honest.{IsServed, IsGiven as IsHeldGiven}
@@ -27,18 +28,19 @@ use Rattle.cds_notes.specs.Follow.{Known, Knows, position, is_drop, with_notes, 
 use Rattle.cds_notes.specs.Given.{moment_after, asked_at, given_by, latest_length}
 use Rattle.cds_notes.specs.HonestLaws.{begins_load, load_was_begun}
 use Rattle.cds_notes.specs.KnownLaws.{has_copy}
+use Rattle.cds_notes.specs.LoadTurns.{load_turns}
 use Rattle.cds_notes.specs.ServerLaws.{served}
 use Rattle.cds_notes.specs.declared.says.Says.{Says}
 use Rattle.cds_notes.specs.declared.says.Says.TheVariants.{Gap, BehindLoad, BehindRead, BehindVersion, Stands}
 use Rattle.cds_notes.proofs.Served.{commands-serve}
 use Rattle.cds_notes.proofs.Stages.{following-later}
 use Rattle.cds_notes.proofs.Honest.{entries-served}
+use Rattle.cds_notes.proofs.LoadTurns.{loads-are-of-turns}
 use Rattle.cds_script.specs.declared.turn.Turn.{Turn}
 use Rattle.cds_script.specs.declared.turn.Turn.TheVariants.{Folder, Track, Scan, Load, Read, Ask, First, At, Subscribe, Accept, Unsubscribe, Deliver, ReadFault}
 use Rattle.cds_script.specs.Report.{number_of, first_of, clock_of, records_since, Played, after_reply, after_note, sent_note, given_up, lives, play, played, history_of, answer_text}
 use Rattle.cds_script.specs.LoadBounds.{drops, reply_drops, note_drops, answered_after, answered_since, loads_are_bounded, all_turns_bound_loads}
 use Rattle.cds_script.proofs.Given.{Kept, ScannedCases, scanned-cases, oldest-all, turns-kept}
-use Rattle.cds_script.proofs.Held.{reply-becomes, reply-stays, notes-become}
 use Rattle.cds_script.proofs.Stood.{read-taken, note-taken, name-taken, may-before_ask}
 
 -- ---- what is owed
@@ -185,6 +187,25 @@ ask-load known (Lists number listing) c = refl
 ask-load known (HasPage number listing page) c = refl
 ask-load known (HasCopy number rows) c = absurd (cc)
 
+-- what is held after a reply that is not refused: where a copy stands it stays
+reply-held : (r : List ReplicaTurn) (shown : Shown) (b : Bool) → has_copy (known_by r).held ≡ b → is_refused (Shows shown) r ≡ false →
+    (known_by (Shows shown ∷ r)).held ≡ cond b (known_by r).held (held_after (known_by r).held (taken (known_by r).held shown))
+reply-held r shown b copy free =
+    loads-are-of-turns (Shows shown ∷ r) ∙ (λ i. held_by (cond (copy i || free i) (load_turns r) (LoadShows shown ∷ load_turns r))) ∙ by b
+  where
+    held : held_by (load_turns r) ≡ (known_by r).held
+    held = sym (loads-are-of-turns r)
+
+    by : (c : Bool) → held_by (cond (c || false) (load_turns r) (LoadShows shown ∷ load_turns r))
+        ≡ cond c (known_by r).held (held_after (known_by r).held (taken (known_by r).held shown))
+    by true = held
+    by false = ap (λ (h : Held). held_after h (taken h shown)) held
+
+-- and after notes: a first note that drops the copy begins a load, others leave it
+notes-held : (r : List ReplicaTurn) (drop : Bool) → held_by (cond drop (LoadBegins ∷ load_turns r) (load_turns r)) ≡ cond drop Begun (known_by r).held
+notes-held r true = refl
+notes-held r false = sym (loads-are-of-turns r)
+
 -- a reply that is taken
 shows-by : (r : List ReplicaTurn) (turn : ReplicaTurn) → is_refused turn r ≡ false → and_turn turn r ≡ turn ∷ r
 shows-by r turn free = ap (λ b. cond b r (turn ∷ r)) free
@@ -204,22 +225,21 @@ read-bound first p kept n bound (Some ask) asks =
     ok : (now : Known) × (with_reply known known.held (reply_to m ask) ≡ Knows now)
     ok = read-taken first p kept ask asks
 
-    turns : asked_at m p.replica (Some ask) ≡ Shows (reply_to m ask) ∷ p.replica
-    turns = shows-by p.replica (Shows (reply_to m ask)) (ap is_no ok.1)
+    free : is_refused (Shows (reply_to m ask)) p.replica ≡ false
+    free = ap is_no ok.1
 
-    after : (known_by (Shows (reply_to m ask) ∷ p.replica)).held ≡ ok.0.held
-    after = ap (λ o. (known_after known o).held) ok.1
+    turns : asked_at m p.replica (Some ask) ≡ Shows (reply_to m ask) ∷ p.replica
+    turns = shows-by p.replica (Shows (reply_to m ask)) free
 
     by : Bound m p.replica n → (b : Bool) → has_copy known.held ≡ b → Bound m (Shows (reply_to m ask) ∷ p.replica) (n + 1)
-    by any true c = inr (inl (ap has_copy (after ∙ reply-stays known ok.0 known.held (reply_to m ask) c ok.1) ∙ c))
+    by any true c = inr (inl (ap has_copy (reply-held p.replica (reply_to m ask) true c free) ∙ c))
     by (inl none) false c =
         let idle : next_ask known ≡ None = ask-load known known.held c ∙ ap load_ask none.1 in absurd (cc)
     by (inr (inl copy)) false c = absurd (cc)
     by (inr (inr owing)) false c =
-        let became = reply-becomes known ok.0 known.held (reply_to m ask) c ok.1 in
         let asked : load_ask known.held ≡ Some ask = sym (ask-load known known.held c) ∙ asks in
         let now : (known_by (Shows (reply_to m ask) ∷ p.replica)).held ≡ read_once m known.held =
-        after ∙ became.2 ∙ ap (held_after known.held) (sym became.1) ∙ sym (ap (held_with m known.held) asked) in
+        reply-held p.replica (reply_to m ask) false c free ∙ sym (ap (held_with m known.held) asked) in
         let serves = now-serves first p kept in
         let less = read-owes (Stood first p kept) m serves (serves.trees m serves.stood) known.held ask owing.left asked (held-given first p kept) owing.owes in
         let bound = owing.bound in let fewer = less.fewer in
@@ -232,19 +252,15 @@ read-bound first p kept n bound (Some ask) asks =
 
 -- ---- notes that are taken
 
-taken-bound : (m : Moment) (r : List ReplicaTurn) (turn : ReplicaTurn) (notes : List Note) (now : Known) (n : ℕ) → begins_load turn ≡ false → taken_by turn r ≡ notes →
-    with_notes notes (known_by r) ≡ Knows now → known_by (turn ∷ r) ≡ known_after (known_by r) (with_notes (taken_by turn r) (known_by r)) → Bound m r n →
-    Bound m (turn ∷ r) (cond (is_drop (position (known_by r)) notes) 0 n)
-taken-bound m r turn notes now n begins takes knows after bound = by (is_drop (position (known_by r)) notes) refl
+taken-bound : (m : Moment) (r : List ReplicaTurn) (turn : ReplicaTurn) (n : ℕ) → begins_load turn ≡ false →
+    (known_by (turn ∷ r)).held ≡ cond (is_drop (position (known_by r)) (taken_by turn r)) Begun (known_by r).held → Bound m r n →
+    Bound m (turn ∷ r) (cond (is_drop (position (known_by r)) (taken_by turn r)) 0 n)
+taken-bound m r turn n begins held bound = by (is_drop (position (known_by r)) (taken_by turn r)) refl
   where
-    held : (known_by (turn ∷ r)).held ≡ cond (is_drop (position (known_by r)) notes) Begun (known_by r).held
-    held = ap (λ (k : Known). k.held) (after ∙ (λ i. known_after (known_by r) (with_notes (takes i) (known_by r))) ∙ ap (known_after (known_by r)) knows)
-        ∙ notes-become notes (known_by r) now knows
-
-    by : (b : Bool) → is_drop (position (known_by r)) notes ≡ b → Bound m (turn ∷ r) (cond b 0 n)
+    by : (b : Bool) → is_drop (position (known_by r)) (taken_by turn r) ≡ b → Bound m (turn ∷ r) (cond b 0 n)
     by true e = begun-bound m (turn ∷ r) (held ∙ ap (λ b. cond b Begun (known_by r).held) e)
     by false e = same-bound m r (turn ∷ r) n
-        ((λ i. begins i || is_drop (position (known_by r)) (takes i) || load_was_begun r) ∙ ap (λ b. b || load_was_begun r) e)
+        ((λ i. begins i || is_drop (position (known_by r)) (taken_by turn r) || load_was_begun r) ∙ ap (λ b. b || load_was_begun r) e)
         (held ∙ ap (λ b. cond b Begun (known_by r).held) e) bound
 
 reply-bound : (first : ℕ) (m : Moment) (p : Played) → Kept first p → (n : ℕ) → Bound m p.replica n → (o : Option (Option ℕ)) → p.reply ≡ o →
@@ -256,7 +272,8 @@ reply-bound first m p kept n bound (Some (Some name)) e =
     let free : is_refused (Accepts name) p.replica ≡ false = ap is_no ok.1 in
     subst (λ turns. Bound m turns (cond (drops (Accepts name) p.replica) 0 n)) (sym (shows-by p.replica (Accepts name) free))
     (subst (λ (b : Bool). Bound m (Accepts name ∷ p.replica) (cond (not b && is_drop (position (known_by p.replica)) (taken_by (Accepts name) p.replica)) 0 n)) (sym free)
-    (taken-bound m p.replica (Accepts name) (taken_by (Accepts name) p.replica) ok.0 n refl refl ok.1 refl bound))
+    (taken-bound m p.replica (Accepts name) n refl
+    (loads-are-of-turns (Accepts name ∷ p.replica) ∙ notes-held p.replica (is_drop (position (known_by p.replica)) (taken_by (Accepts name) p.replica))) bound))
 
 note-bound : (first : ℕ) (m : Moment) (p : Played) → Kept first p → (n number : ℕ) → Bound m p.replica n → (o : Option Note) → sent_note number (notes_of first p.commands) ≡ o →
     Bound m (after_note o p.replica) (cond (note_drops o p.replica) 0 n)
@@ -276,7 +293,8 @@ note-bound first m p kept n number bound (Some note) e = by (is_turned_away (arr
     by false a =
         subst (λ (b : Bool). Bound m (cond b p.replica (Delivers note ∷ p.replica)) (cond (not b && is_drop (position (known_by p.replica)) (taken_by (Delivers note) p.replica)) 0 n))
         (sym (refused false a))
-        (taken-bound m p.replica (Delivers note) (taken_by (Delivers note) p.replica) ok.0 n refl refl ok.1 refl bound)
+        (taken-bound m p.replica (Delivers note) n refl
+        (loads-are-of-turns (Delivers note ∷ p.replica) ∙ notes-held p.replica (is_drop (position (known_by p.replica)) (taken_by (Delivers note) p.replica))) bound)
 
 -- ---- all turns
 

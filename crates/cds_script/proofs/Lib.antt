@@ -1,7 +1,6 @@
 pub mod Bounded
 pub mod Delivered
 pub mod Given
-pub mod Held
 pub mod Lines
 pub mod Living
 pub mod MayBe

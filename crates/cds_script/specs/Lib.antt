@@ -1,7 +1,6 @@
 pub mod Complete
 pub mod Evaluated
 pub mod LoadBounds
-pub mod LoadTurns
 pub mod Noted
 pub mod Played
 pub mod Report

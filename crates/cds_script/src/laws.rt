@@ -2,7 +2,6 @@
 
 ghost use Rattle.cds_script.specs.Complete as complete;
 ghost use Rattle.cds_script.specs.LoadBounds as bounds;
-ghost use Rattle.cds_script.specs.LoadTurns as loads;
 ghost use Rattle.cds_script.specs.Played as played;
 ghost use Rattle.cds_script.specs.Script as script;
 ghost use Rattle.cds_script.specs.ScriptGiven as given;
@@ -54,11 +53,6 @@ pub fn all_turns_stand_at_scan_ends()
 /// is released, and nothing is to be read, an ask writes the server's number and the catalog after all scans.
 pub fn answers_are_complete()
     ensures { given.answers_are_complete }
-{}
-
-/// What a replica holds is what the turns of its load alone make of it, for every list of turns.
-pub fn loads_are_held()
-    ensures { loads.loads_are_held }
 {}
 
 /// In a script a replica is behind its load only where none was begun, or for as many reads as a load of the catalog takes,

@@ -20,9 +20,9 @@ pub use evaluated::{
 pub use laws::{
     all_answers_are_complete, all_turns_bound_loads, all_turns_stand_at_scan_ends,
     answers_are_complete, delivered_notes_are_received, lines_mean_in_range, loads_are_bounded,
-    loads_are_held, nothing_is_refused, nothing_is_to_be_read, reports_are_of_turns,
-    script_turns_may_be, scripts_are_given, scripts_can_be_complete,
-    scripts_without_notes_have_one_report, subscriptions_are_few,
+    nothing_is_refused, nothing_is_to_be_read, reports_are_of_turns, script_turns_may_be,
+    scripts_are_given, scripts_can_be_complete, scripts_without_notes_have_one_report,
+    subscriptions_are_few,
 };
 pub use line::read_line;
 pub use turn::{Meaning, Turn};
