@@ -53,30 +53,41 @@ fn lines_mean_turns(rt: HostRuntime) -> Result<(), Fail> {
         ("", "nothing"),
         ("#", "nothing"),
         ("# subscribe", "nothing"),
-        ("subscribe ", "outside"),
-        (" subscribe", "outside"),
-        ("Subscribe", "outside"),
-        ("subscribe 1", "outside"),
-        ("subscribed", "outside"),
-        ("read fault", "outside"),
-        ("accept%20", "outside"),
-        ("first", "outside"),
-        ("first 01", "outside"),
-        ("first +1", "outside"),
-        ("first 4294967296", "outside"),
-        ("first 1 2", "outside"),
-        ("at -1", "outside"),
-        ("at 1800000", "outside"),
-        ("deliver", "outside"),
-        ("deliver 1 2", "outside"),
-        ("deliver 4294967296", "outside"),
-        ("deliver one", "outside"),
-        ("renew 1", "outside"),
-        ("folder ../x", "outside"),
-        ("\r", "outside"),
     ] {
         let text = outline(alloc, line)?;
         assert_eq!(rt; text.as_str(), meaning, "{line}");
+    }
+    Ok(())
+}
+
+#[test]
+fn other_lines_are_outside(rt: HostRuntime) -> Result<(), Fail> {
+    let alloc = rt.alloc();
+    for line in [
+        "subscribe ",
+        " subscribe",
+        "Subscribe",
+        "subscribe 1",
+        "subscribed",
+        "read fault",
+        "accept%20",
+        "first",
+        "first 01",
+        "first +1",
+        "first 4294967296",
+        "first 1 2",
+        "at -1",
+        "at 1800000",
+        "deliver",
+        "deliver 1 2",
+        "deliver 4294967296",
+        "deliver one",
+        "renew 1",
+        "folder ../x",
+        "\r",
+    ] {
+        let text = outline(alloc, line)?;
+        assert_eq!(rt; text.as_str(), "outside", "{line}");
     }
     Ok(())
 }
