@@ -109,7 +109,8 @@ pub fn run<S: Source, K: Sink>(alloc: Global, words: &Words, source: &mut S, sin
 
     // The answer is complete: an ask of these turns writes the server's number and the catalog after all scans where a load
     // was begun, the subscription that was accepted last lives, each note that was sent to it was delivered and none of them
-    // answered `full`, no change waits for its release, and a read wrote `read none` since the last note.
+    // answered `full`, no change waits for its release, and a read wrote `read none` since the last load, acceptance and
+    // delivery.
     ensures complete { command_of words.now ≡ Some Replay → WhereTold (S.left source.old) (λ bytes. AnswersAreComplete (script_turns bytes)) }
 
     // Faults of the outside come only where their count rose.

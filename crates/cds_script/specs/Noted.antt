@@ -130,7 +130,8 @@ abbrev pub given_up_once : Type 0
 given_up_once = Leaves (codes "unsubscribe\nsubscribe\nunsubscribe\naccept\nunsubscribe\nunsubscribe\n") 0
     (codes "unsubscribe none\nnote 1 seq 0 at 0\nunsubscribe none\naccept 200\nunsubscribe 200\nunsubscribe 412\n")
 
--- early notes of two requests: the second drops those of the first, and what is missing then is named before all else
+-- early notes of two requests: the second drops those of the first, and a note of the name that the first would have given is
+-- unknown once the second is accepted
 abbrev pub early_notes_are_dropped : Type 0
 early_notes_are_dropped = Leaves
     (codes "subscribe\ndeliver 1\ndeliver 1\nsubscribe\ndeliver 1\ndeliver 2\ndeliver 1\naccept\nask\n" ++ one_track ++ codes "scan\nat 0\ndeliver 4\ndeliver 3\nask\n") 0

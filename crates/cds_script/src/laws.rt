@@ -33,7 +33,8 @@ pub fn scripts_are_given()
     ensures { given.scripts_are_given }
 {}
 
-/// No reply and no note of a script is refused: none cannot be read, jumps over a change, or tells what cannot be.
+/// No reply and no note of a script is unreadable, jumps over a change or tells what cannot be. (A note may be of an unknown
+/// name, or one too many.)
 pub fn nothing_is_refused()
     ensures { given.nothing_is_refused }
 {}
