@@ -8,6 +8,7 @@ use Rattle.cds_object.specs.Path.{path_read, name_of}
 use Rattle.cds_object.specs.Content.{same_text}
 use Rattle.cds_object.specs.ContentOf.{track_of}
 use Rattle.cds_model.specs.Script.{words_of, is_word, number_from_to, info_from}
+use Rattle.cds_notes.specs.Commands.{granted_time}
 use Rattle.cds_script.specs.declared.turn.Turn.{Turn}
 use Rattle.cds_script.specs.declared.turn.Turn.TheVariants.{Folder, Track, Scan, Load, Read, Ask, First, At, Subscribe, Accept, Unsubscribe, Deliver, ReadFault}
 use Rattle.cds_script.specs.declared.turn.Meaning.{Meaning}
@@ -37,7 +38,7 @@ plain_turn word =
 
 -- a moment is below this one, in milliseconds: no subscription runs out before it
 abbrev pub moment_limit : ℕ
-moment_limit = 1800000
+moment_limit = granted_time
 
 -- the turns of lines that name a number, if they do
 abbrev pub first_turn : Option ℕ → Option Turn
