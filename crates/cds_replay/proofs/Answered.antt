@@ -1,7 +1,6 @@
 -- What a session's replica and server answer is what its turns write, and nothing is refused.
-use Rattle.std.proofs.Common.{◌≡◌, ℕ, zero, suc, ◌-◌, ◌≤◌, arith, List, [], ◌∷◌, ◌++◌, Bool, true, false, cond, nat_eq, Option, Some, None, Result, Ok, Err, refl, ap, sym, subst, ◌∙◌}
-use Rattle.std.specs.Prelude.{codes, slice_get, OnOk}
-use Rattle.std.proofs.lemmas.Bool.{eqb-true, false_from_ne_true}
+use Rattle.std.proofs.Common.{◌≡◌, ℕ, List, ◌++◌, Bool, true, false, cond, Option, Some, Result, Ok, Err, refl, ap, sym, subst, ◌∙◌}
+use Rattle.std.specs.Prelude.{codes, OnOk}
 use Rattle.std.specs.Fmt.{decimal}
 use Rattle.cds_object.specs.Object.{ObjectRow}
 use Rattle.cds_object.specs.Fragment.{full_text}
@@ -24,40 +23,14 @@ use Rattle.cds_replica.specs.declared.error.AnswerError.{AnswerError}
 use Rattle.cds_replica.specs.declared.error.AnswerError.TheVariants.{Unreadable, Jump as AnswerJump, Torn as AnswerTorn, Mem as AnswerMem}
 use Rattle.cds_script.specs.declared.turn.Turn.{Turn}
 use Rattle.cds_script.specs.declared.turn.Turn.TheVariants.{Ask}
-use Rattle.cds_script.specs.Report.{first_of, clock_of, history_of, answer_text, arrival_text, deliver_text, unsubscribe_text, written_by, lives, played, sent_note}
+use Rattle.cds_script.specs.Report.{first_of, clock_of, history_of, answer_text, arrival_text, deliver_text, unsubscribe_text, written_by, played, sent_note}
 use Rattle.cds_script.specs.Played.{MayBe}
 use Rattle.cds_script.proofs.Given.{Waits, turns-kept}
-use Rattle.cds_script.proofs.Stood.{turns-taken, turns-stand}
+use Rattle.cds_script.proofs.Stood.{turns-taken, stands-at}
 use Rattle.cds_replay.specs.Lines.{known_text, taken_text, delivered_line, ended_text, was_noticed}
-use Rattle.cds_replay.specs.Serving.{sent_note as note_at, Serving, Ended, Serves}
+use Rattle.cds_replay.specs.Serving.{Serving, Ended, Serves}
 use Rattle.cds_replay.specs.Session.{Playing, IsAfter, moment_in}
-use Rattle.cds_replay.proofs.Turns.{moment-is, lives-living}
-
--- the note of a number, counted from 1
-not-zero : (n : ℕ) → nat_eq (suc n) 0 ≡ false
-not-zero n = false_from_ne_true _ (λ e. let is = eqb-true (suc n) 0 e in omega (arith, is))
-
-not-one : (n : ℕ) → nat_eq (suc (suc n)) 1 ≡ false
-not-one n = false_from_ne_true _ (λ e. let is = eqb-true (suc (suc n)) 1 e in omega (arith, is))
-
-less-one : (n : ℕ) → suc n - 1 ≡ n
-less-one n = omega arith
-
-get-is : (n : ℕ) (notes : List Note) → slice_get notes n ≡ sent_note (suc n) notes
-get-is zero [] = refl
-get-is (suc n) [] = refl
-get-is zero (note ∷ notes) = refl
-get-is (suc n) (note ∷ notes) =
-    get-is n notes
-    ∙ sym (ap (λ m. sent_note m notes) (less-one (suc n)))
-    ∙ sym (ap (λ b. cond b None (sent_note (suc (suc n) - 1) notes)) (not-zero (suc n)))
-    ∙ sym (ap (λ b. cond b (Some note) (cond (nat_eq (suc (suc n)) 0) None (sent_note (suc (suc n) - 1) notes))) (not-one n))
-
-pub same-note : (number : ℕ) (notes : List Note) → note_at number notes ≡ sent_note number notes
-same-note zero [] = refl
-same-note zero (note ∷ notes) = refl
-same-note (suc n) notes =
-    ap (λ b. cond b None (slice_get notes (suc n - 1))) (not-zero n) ∙ ap (slice_get notes) (less-one n) ∙ get-is n notes
+use Rattle.cds_replay.proofs.Turns.{moment-is}
 
 -- the reply to the next ask is taken
 pub reply-taken : (was : Playing) (ask : Asked) (shown : Shown) (turns : List Turn) → IsAfter was turns →
@@ -88,11 +61,7 @@ known-written turns may = by (says (played turns).replica) refl
     by (BehindVersion version) e = ap (λ s. known_text s rows) e ∙ sym (ap (answer_text (history_of turns)) e)
     by (Stands number) e =
         ap (λ s. known_text s rows) e
-        ∙ sym (turns-stand (Ask ∷ turns) (record { stand = (refl, may.stand); number = asked-number turns may }) [] turns number refl e).1
-      where
-        asked-number : (turns : List Turn) → MayBe turns → first_of (Ask ∷ turns) ≤ 4294967295
-        asked-number [] may = omega arith
-        asked-number (turn ∷ older) may = may.number
+        ∙ sym (stands-at turns may number e).1
 
 pub known-answered : (turns : List Turn) → MayBe turns → known_text (says (played turns).replica) (copied (known_by (played turns).replica))
     ≡ answer_text (scans_of (first_of turns) (played turns).commands) (says (played turns).replica)
@@ -143,9 +112,9 @@ notice-written turns number note answer may is told notice =
 pub ended-written : (name now first : ℕ) (commands : List Command) (lived : Bool) (was server : Serving) → Ended first name now commands lived was server →
     ended_text lived ≡ unsubscribe_text (Some name) first now commands
 ended-written name now first commands true was server ended =
-    sym (ap (λ b. cond b (codes "unsubscribe 200\n") (codes "unsubscribe 412\n")) (lives-living name now first commands ∙ ended.0))
+    sym (ap (λ b. cond b (codes "unsubscribe 200\n") (codes "unsubscribe 412\n")) ended.0)
 ended-written name now first commands false was server ended =
-    sym (ap (λ b. cond b (codes "unsubscribe 200\n") (codes "unsubscribe 412\n")) (lives-living name now first commands ∙ ended.0))
+    sym (ap (λ b. cond b (codes "unsubscribe 200\n") (codes "unsubscribe 412\n")) ended.0)
 
 -- where a name is held back a request is out
 pub name-waits : (turns : List Turn) (name : ℕ) → MayBe turns → (played turns).reply ≡ Some (Some name) → is_out (played turns).replica ≡ true

@@ -3,7 +3,7 @@ use Rattle.std.proofs.Common.{◌≡◌, ◌⊎◌, inl, inr, ◌+◌, ◌<◌, 
 use Rattle.std.specs.List.{list_any, range_with_len}
 use Rattle.cds_notes.specs.Commands.{Command, Scans, Grants, Ends, Ticks, granted, granted_time, unless_past, runs_until, is_alive, next_seq_of, seq_limit, notes_of}
 use Rattle.cds_notes.proofs.Among.{Among, among-filter, among-row, filter-among}
-use Rattle.cds_replay.specs.Serving.{is_living}
+use Rattle.cds_script.specs.Report.{lives}
 
 past-runs : (moment : ℕ) (o : Option ℕ) → is_some (unless_past moment o) ≡ true → is_some o ≡ true
 past-runs moment None e = e
@@ -46,7 +46,7 @@ both-hold true b e = refl
 both-hold false b e = e
 
 pub living-alive : (first name now : ℕ) (commands : List Command) →
-    is_living first name now commands ≡ is_alive name now commands && nat_lt (next_seq_of name (notes_of first commands)) seq_limit
+    lives name first now commands ≡ is_alive name now commands && nat_lt (next_seq_of name (notes_of first commands)) seq_limit
 living-alive first name now commands = by (passes name) refl
   where
     passes : ℕ → Bool

@@ -9,8 +9,9 @@ use Rattle.cds_catalog.specs.Steps.{Standing}
 use Rattle.cds_store.specs.Stands.{Stored, StandsFor, no_scans}
 use Rattle.cds_changes.specs.Events.{events_between}
 use Rattle.cds_notes.specs.Commands.{Command, Scans, Grants, Ends, Ticks, scans_of, granted, Note, subscription_limit, has_room, first_note, notes_of}
+use Rattle.cds_script.specs.Report.{lives}
 use Rattle.cds_replay.specs.declared.book.Subscription.{Subscription}
-use Rattle.cds_replay.specs.Serving.{Subscribed, subscribed_by, nothing_granted, alive, holds_alive, with_grant, without, expired, notified, Released, released_by, nothing_released, next_release, with_end, with_release, note_to, Serving, Serves, IsServing, is_living, Ended}
+use Rattle.cds_replay.specs.Serving.{Subscribed, subscribed_by, nothing_granted, alive, holds_alive, with_grant, without, expired, notified, Released, released_by, nothing_released, next_release, with_end, with_release, note_to, Serving, Serves, IsServing, Ended}
 use Rattle.cds_replay.proofs.Subscribed.{names-alive, as-many, subscribed-scan, subscribed-end, subscribed-grant}
 use Rattle.cds_replay.proofs.Released.{Comes, is-released, released-within, released-scan}
 use Rattle.cds_replay.proofs.Ticking.{ticked-silent, ticked-release}
@@ -76,7 +77,7 @@ module _ (was : Serving) (first : ℕ) (commands : List Command) (serves : Serve
   pub room-is : (now : ℕ) → has_room now commands (notes_of first commands) ≡ nat_lt (length (alive now was.subscribed.living)) subscription_limit
   room-is now = as-many first now commands ∙ ap (λ (s : Subscribed). nat_lt (length (alive now s.living)) subscription_limit) (sym serves.subscribed)
 
-  living-is : (name now : ℕ) → is_living first name now commands ≡ holds_alive name now was.subscribed
+  living-is : (name now : ℕ) → lives name first now commands ≡ holds_alive name now was.subscribed
   living-is name now =
       ap (list_any (λ other. nat_eq other name)) (names-alive first now commands)
       ∙ any-alive name now (subscribed_by first commands).living

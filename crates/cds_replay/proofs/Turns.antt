@@ -1,7 +1,6 @@
 -- A session that stands for turns stands for them and one more: what each turn makes of the server and of the replica.
-use Rattle.std.proofs.Common.{◌≡◌, ℕ, ◌+◌, ◌≤◌, List, [], ◌∷◌, ◌++◌, length, drop, Bool, true, false, cond, nat_lt, nat_le, nat_eq, not, ◌&&◌, ◌||◌, true≢false, Option, Some, None, Result, Ok, Err, refl, ap, sym, subst, ◌∙◌, arith}
-use Rattle.std.specs.List.{list_any}
-use Rattle.std.proofs.lemmas.Bool.{le-leb, eqb-true}
+use Rattle.std.proofs.Common.{◌≡◌, ℕ, ◌+◌, ◌≤◌, List, [], ◌∷◌, ◌++◌, length, drop, Bool, true, false, cond, nat_lt, nat_le, not, ◌&&◌, Option, Some, None, Result, Ok, Err, refl, ap, sym, subst, ◌∙◌, arith}
+use Rattle.std.proofs.lemmas.Bool.{le-leb}
 use Rattle.cds_object.specs.declared.content.Content.{Content}
 use Rattle.cds_object.specs.declared.record.Record.{Record}
 use Rattle.cds_catalog.specs.Library.{map_of}
@@ -17,7 +16,7 @@ use Rattle.cds_model.specs.Report.{folder_record}
 use Rattle.cds_model.specs.Server.{reply_to}
 use Rattle.cds_model.specs.declared.exchange.Ask.{Ask as Asked}
 use Rattle.cds_model.specs.declared.exchange.Shown.{Shown}
-use Rattle.cds_notes.specs.Commands.{Command, Scans, Grants, Ends, Ticks, Note, scans_of, granted, alive_names, has_room, notes_of}
+use Rattle.cds_notes.specs.Commands.{Command, Scans, Grants, Ends, Ticks, Note, scans_of, granted, has_room, notes_of}
 use Rattle.cds_notes.specs.Inbox.{ReplicaTurn, Begins, Shows, Requests, Accepts, Refuses, Delivers, accepted}
 use Rattle.cds_notes.specs.Follow.{Known, Outcome, Knows, known_by, next_ask, and_turn}
 use Rattle.cds_notes.specs.Given.{moment_after, asked_at}
@@ -25,28 +24,11 @@ use Rattle.cds_replica.specs.Called.{GoesOn, TakesTurn}
 use Rattle.cds_replica.specs.Kept.{Kept, StandsFor}
 use Rattle.cds_script.specs.declared.turn.Turn.{Turn}
 use Rattle.cds_script.specs.declared.turn.Turn.TheVariants.{Folder, Track, Scan, Load, Read, Ask, First, At, Subscribe, Accept, Unsubscribe, Deliver, ReadFault}
-use Rattle.cds_script.specs.Report.{first_of, clock_of, records_since, may_stand, scanned, after_reply, after_note, sent_note, lives, given_up, Played, played}
+use Rattle.cds_script.specs.Report.{first_of, clock_of, records_since, may_stand, scanned, after_reply, after_note, sent_note, given_up, Played, played}
 use Rattle.cds_replay.specs.Lines.{was_answered}
-use Rattle.cds_replay.specs.Serving.{Serving, Scanned, Granted, Ended, Serves, is_living}
+use Rattle.cds_replay.specs.Serving.{Serving, Scanned, Granted, Ended, Serves}
 use Rattle.cds_replay.specs.Session.{Playing, IsAfter, moment_in, with_record}
 use Rattle.cds_replay.proofs.Turned.{some-turns, first-more, turned}
-
--- whether a subscription lives, either way round
-eq-turned : (a b : ℕ) → nat_eq a b ≡ nat_eq b a
-eq-turned a b = by (nat_eq a b) (nat_eq b a) refl refl
-  where
-    by : (x y : Bool) → nat_eq a b ≡ x → nat_eq b a ≡ y → x ≡ y
-    by true true e f = refl
-    by false false e f = refl
-    by true false e f = let same = eqb-true a b e in absurd (true≢false (sym (subst (λ n. nat_eq a n ≡ true) (sym same) e) ∙ subst (λ n. nat_eq n a ≡ false) (sym same) f))
-    by false true e f = let same = eqb-true b a f in absurd (true≢false (sym (subst (λ n. nat_eq b n ≡ true) (sym same) f) ∙ subst (λ n. nat_eq n b ≡ false) (sym same) e))
-
-any-turned : (name : ℕ) (names : List ℕ) → list_any (nat_eq name) names ≡ list_any (λ other. nat_eq other name) names
-any-turned name [] = refl
-any-turned name (other ∷ names) = λ i. eq-turned name other i || any-turned name names i
-
-pub lives-living : (name now first : ℕ) (commands : List Command) → lives name first now commands ≡ is_living first name now commands
-lives-living name now first commands = any-turned name (alive_names now commands (notes_of first commands))
 
 -- a load
 pub load-after : (was : Playing) (replica : Kept) (turns : List Turn) → IsAfter was turns → GoesOn was.replica Begins replica →
@@ -219,10 +201,10 @@ end-after was server name lived turns after is ends =
     by : (b : Bool) → Ended (first_of turns) name (clock_of turns) (played turns).commands b was.server server →
         Serves server (first_of turns) (given_up (Some name) (first_of turns) (clock_of turns) (played turns).commands)
     by true e =
-        subst (λ b. Serves server (first_of turns) (cond b (Ends name ∷ (played turns).commands) (played turns).commands)) (sym (lives-living name (clock_of turns) (first_of turns) (played turns).commands ∙ e.0)) e.1
+        subst (λ b. Serves server (first_of turns) (cond b (Ends name ∷ (played turns).commands) (played turns).commands)) (sym e.0) e.1
     by false e =
         subst (λ b. Serves server (first_of turns) (cond b (Ends name ∷ (played turns).commands) (played turns).commands))
-        (sym (lives-living name (clock_of turns) (first_of turns) (played turns).commands ∙ e.0))
+        (sym e.0)
         (subst (λ s. Serves s (first_of turns) (played turns).commands) (sym e.1) after.server)
 
 -- a note that was sent reaches the replica

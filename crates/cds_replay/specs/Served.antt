@@ -4,7 +4,8 @@ use Rattle.cds_catalog.specs.Library.{FolderMap}
 use Rattle.cds_catalog.specs.Evaluated.{a_track}
 use Rattle.cds_notes.specs.Commands.{Command, Scans, Grants, Ends, Ticks, has_room, notes_of}
 use Rattle.cds_notes.specs.Evaluated.{one, two, added, added_other, tracks_come}
-use Rattle.cds_replay.specs.Serving.{subscribed_by, released_by, sent_note}
+use Rattle.cds_script.specs.Report.{sent_note}
+use Rattle.cds_replay.specs.Serving.{subscribed_by, released_by}
 
 -- two tracks that come one after another, each told to a subscription that was there before
 abbrev pub tracks_are_told : Type 0

@@ -1,7 +1,7 @@
 -- What the private server of a script keeps of the commands that it accepted: a function of its first number and of these
 -- commands, the newest of which stands first. What a subscription, a release and a note are, the commands alone say (UPnP
 -- Device Architecture 2.0 on eventing, UPnP ContentDirectory:4 on the moderation of events).
-use Rattle.std.specs.Prelude.{◌≡◌, ◌+◌, ◌-◌, ◌≤◌, ◌&&◌, ℕ, Bool, true, false, cond, not, nat_eq, nat_lt, nat_le, List, [], ◌∷◌, ◌++◌, map, filter, Option, Some, None, Result, Ok, Err, slice_get}
+use Rattle.std.specs.Prelude.{◌≡◌, ◌+◌, ◌-◌, ◌≤◌, ◌&&◌, ℕ, Bool, true, false, cond, not, nat_eq, nat_lt, nat_le, List, [], ◌∷◌, ◌++◌, map, filter, Option, Some, None, Result, Ok, Err}
 use Rattle.std.specs.List.{list_any, filter_map, range_with_len}
 use Rattle.cds_event.specs.declared.Event.{Event}
 use Rattle.cds_object.specs.declared.record.Record.{Record}
@@ -12,7 +12,8 @@ use Rattle.cds_store.specs.Applied.{IsRefusal}
 use Rattle.cds_store.specs.Stands.{Stored, StandsFor}
 use Rattle.cds_store.specs.declared.error.ApplyError.{ApplyError}
 use Rattle.cds_store.specs.declared.span.Span.{Span}
-use Rattle.cds_notes.specs.Commands.{Command, Scans, Grants, Ends, scans_of, Release, release_size, release_pause, released_to, releases_of, granted, granted_time, runs_until, Note, next_seq_of, seq_limit, alive_names, has_room, notes_of}
+use Rattle.cds_notes.specs.Commands.{Command, Scans, Grants, Ends, scans_of, Release, release_size, release_pause, released_to, releases_of, granted, granted_time, runs_until, Note, next_seq_of, seq_limit, has_room, notes_of}
+use Rattle.cds_script.specs.Report.{lives}
 use Rattle.cds_replay.specs.declared.book.Subscription.{Subscription}
 
 -- ---- subscriptions
@@ -74,7 +75,7 @@ expired now s = record { granted = s.granted; living = alive now s.living }
 
 -- after each was sent a note: its SEQ is raised, and it ends where that was the last one
 abbrev pub has_next : Subscription → Bool
-has_next s = nat_lt s.next_seq 4294967295
+has_next s = nat_lt s.next_seq (seq_limit - 1)
 
 abbrev pub raised : Subscription → Subscription
 raised s = record { name = s.name; end = s.end; next_seq = s.next_seq + 1 }
@@ -144,10 +145,6 @@ with_release now to r = record { to = to; moment = Some now; ends = filter (λ e
 abbrev pub note_to : ℕ → List Event → Subscription → Note
 note_to number events s = record { name = s.name; seq = s.next_seq; number = number; events = events }
 
--- the note of a number, counted from 1 over all that were sent
-abbrev pub sent_note : ℕ → List Note → Option Note
-sent_note number sent = cond (nat_eq number 0) None (slice_get sent (number - 1))
-
 -- ---- the server
 
 -- what a server keeps
@@ -164,10 +161,6 @@ pub record Serves (serving : Serving) (first : ℕ) (commands : List Command) : 
   pub subscribed : serving.subscribed ≡ subscribed_by first commands
   pub released : serving.released ≡ released_by first commands
   pub sent : serving.sent ≡ notes_of first commands
-
--- whether a subscription lives at a moment
-abbrev pub is_living : ℕ → ℕ → ℕ → List Command → Bool
-is_living first name now commands = list_any (λ other. nat_eq other name) (alive_names now commands (notes_of first commands))
 
 -- what a server is after a scan of records, from one that stood for commands: it stands for them and the scan, and the span
 -- is that of the scan's changes; or the scan is refused, and nothing changes
@@ -188,8 +181,8 @@ Granted first moment commands (Some name) before now =
 
 -- after a subscription was given up: it ends where it lives; else nothing changes
 abbrev pub Ended : ℕ → ℕ → ℕ → List Command → Bool → Serving → Serving → Type 0
-Ended first name moment commands true before now = (is_living first name moment commands ≡ true) × Serves now first (Ends name ∷ commands)
-Ended first name moment commands false before now = (is_living first name moment commands ≡ false) × (now ≡ before)
+Ended first name moment commands true before now = (lives name first moment commands ≡ true) × Serves now first (Ends name ∷ commands)
+Ended first name moment commands false before now = (lives name first moment commands ≡ false) × (now ≡ before)
 
 -- what every server keeps: it stands for some commands
 pub record IsServing (serving : Serving) : Type 0 where

@@ -4,7 +4,8 @@ use Rattle.cds_catalog.specs.Library.{FolderMap}
 use Rattle.cds_catalog.specs.History.{end_of}
 use Rattle.cds_changes.specs.Events.{events_between}
 use Rattle.cds_notes.specs.Commands.{Command, Scans, Grants, Ends, Ticks, scans_of, is_alive, next_seq_of, seq_limit, alive_names, subscription_limit, has_room, notes_of}
-use Rattle.cds_replay.specs.Serving.{subscribed_by, alive, with_grant, without, expired, notified, released_by, next_release, with_end, with_release, note_to, is_living}
+use Rattle.cds_script.specs.Report.{lives}
+use Rattle.cds_replay.specs.Serving.{subscribed_by, alive, with_grant, without, expired, notified, released_by, next_release, with_end, with_release, note_to}
 
 -- a scan has one more end
 abbrev pub scans_have_ends : Type 0
@@ -50,4 +51,4 @@ living_are_kept = (first now : ℕ) (commands : List Command) →
 -- a subscription lives where it was granted, has not run out and has a SEQ left
 abbrev pub living_are_alive : Type 0
 living_are_alive = (first name now : ℕ) (commands : List Command) →
-    is_living first name now commands ≡ is_alive name now commands && nat_lt (next_seq_of name (notes_of first commands)) seq_limit
+    lives name first now commands ≡ is_alive name now commands && nat_lt (next_seq_of name (notes_of first commands)) seq_limit

@@ -2,7 +2,8 @@
 
 ghost use Rattle.std.specs.Prelude.{◌≡◌, ◌++◌, [], ◌∷◌, map, length, slice_get, option_map, IfOk, OnErr, OnOk};
 ghost use Rattle.cds_notes.specs.Commands.{first_note};
-ghost use Rattle.cds_replay.specs.Serving.{alive, note_to, sent_note};
+ghost use Rattle.cds_script.specs.Report.{sent_note};
+ghost use Rattle.cds_replay.specs.Serving.{alive, note_to};
 ghost use Rattle.cds_replay.specs.Sending.{events_at, head_of, kept_note, told_note};
 
 use crate::book::Subscription;

@@ -2,8 +2,9 @@
 
 ghost use Rattle.std.specs.Prelude.{◌≡◌, ◌+◌, ◌<◌, ◌≤◌, ◌^◌, ℕ, List, [], ◌∷◌, length, Some, slice_get, option_map, IfOk, OnErr, OnOk};
 ghost use Rattle.cds_notes.specs.Commands.{Command, Ticks};
+ghost use Rattle.cds_script.specs.Report.{sent_note};
 ghost use Rattle.cds_replay.specs.Sending.{head_of};
-ghost use Rattle.cds_replay.specs.Serving.{Ended, Granted, Scanned, Serves, next_release, sent_note};
+ghost use Rattle.cds_replay.specs.Serving.{Ended, Granted, Scanned, Serves, next_release};
 
 use crate::book::Book;
 use crate::releases::Releases;

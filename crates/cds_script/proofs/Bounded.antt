@@ -24,7 +24,7 @@ use Rattle.cds_model.proofs.Bounds.{Stale, Owes, read-stale, scan-stale}
 use Rattle.cds_notes.specs.Commands.{Command, Grants, Ends, Note, scans_of, granted, has_room, notes_of}
 use Rattle.cds_notes.specs.Copy.{least_unread, read_up_to}
 use Rattle.cds_notes.specs.Inbox.{ReplicaTurn, Begins, Shows, Requests, Accepts, Refuses, Delivers, accepted, missing, taken_by, arrival}
-use Rattle.cds_notes.specs.Follow.{Known, Knows, position, is_drop, with_notes, with_reply, known_after, known_by, is_no, is_turned_away, is_refused, and_turn, ask_of, next_ask, copy_says, says_without_gap, says_of, says}
+use Rattle.cds_notes.specs.Follow.{Known, Knows, position, is_drop, with_notes, with_reply, known_by, is_no, is_turned_away, is_refused, and_turn, ask_of, next_ask, copy_says, says_without_gap, says_of, says}
 use Rattle.cds_notes.specs.Given.{moment_after, asked_at, given_by, latest_length}
 use Rattle.cds_notes.specs.HonestLaws.{begins_load, load_was_begun}
 use Rattle.cds_notes.specs.KnownLaws.{has_copy}
@@ -41,7 +41,7 @@ use Rattle.cds_script.specs.declared.turn.Turn.TheVariants.{Folder, Track, Scan,
 use Rattle.cds_script.specs.Report.{number_of, first_of, clock_of, records_since, Played, after_reply, after_note, sent_note, given_up, lives, play, played, history_of, answer_text}
 use Rattle.cds_script.specs.LoadBounds.{drops, reply_drops, note_drops, answered_after, answered_since, loads_are_bounded, all_turns_bound_loads}
 use Rattle.cds_script.proofs.Given.{Kept, ScannedCases, scanned-cases, oldest-all, turns-kept}
-use Rattle.cds_script.proofs.Stood.{read-taken, note-taken, name-taken, may-before_ask}
+use Rattle.cds_script.proofs.Stood.{read-taken, note-taken, name-taken, may-before_ask, letter_at}
 
 -- ---- what is owed
 
@@ -414,11 +414,6 @@ loads-bounded turns may behind = by (bounds turns may.number)
     by (inr (inr owing)) = let left = some owing.left owing.owes in let bound = owing.bound in inr (omega (arith, bound, left))
 
 -- an ask that writes `behind load` comes where the replica is behind its load
-letter_at : ℕ → List ℕ → ℕ
-letter_at k [] = 0
-letter_at zero (b ∷ bytes) = b
-letter_at (suc k) (b ∷ bytes) = letter_at k bytes
-
 pub turns-bound_loads : all_turns_bound_loads
 unfolding letter_at
 turns-bound_loads turns may newer older parts written =

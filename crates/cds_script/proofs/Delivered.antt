@@ -1,10 +1,10 @@
 -- What was delivered of the accepted name is received, and after `read none` nothing is to be read: the answer is complete.
-use Rattle.std.proofs.Common.{◌≡◌, ◌⊎◌, inl, inr, ℕ, zero, suc, ◌+◌, ◌-◌, ◌<◌, ◌≤◌, List, [], ◌∷◌, ◌++◌, length, take, drop, Bool, true, false, cond, not, ◌&&◌, ◌||◌, nat_eq, nat_lt, nat_le, refl, ap, sym, subst, ◌∙◌, arith, true≢false, eq-eqb, ltb-true, Option, Some, None}
+use Rattle.std.proofs.Common.{◌≡◌, ◌⊎◌, inl, inr, ℕ, zero, suc, ◌+◌, ◌<◌, ◌≤◌, List, [], ◌∷◌, ◌++◌, length, take, drop, Bool, true, false, cond, not, ◌&&◌, ◌||◌, nat_eq, nat_lt, nat_le, refl, ap, sym, subst, ◌∙◌, arith, true≢false, eq-eqb, ltb-true, Option, Some, None}
 use Rattle.std.specs.Prelude.{codes}
 use Rattle.std.specs.Fmt.{digits}
 use Rattle.std.specs.Option.{option_eq}
-use Rattle.std.specs.List.{AllByRecursion, list_all}
-use Rattle.std.proofs.lemmas.Bool.{and_parts, ne_eqb, leb-true, eqb-true, eqb-false}
+use Rattle.std.specs.List.{AllByRecursion, list_all, slice_get}
+use Rattle.std.proofs.lemmas.Bool.{and_parts, ne_eqb, leb-true}
 use Rattle.cds_object.specs.declared.record.Record.{Record}
 use Rattle.cds_object.specs.Object.{ObjectRow, is_folder}
 use Rattle.cds_object.specs.Tree.{row_of, children_of}
@@ -24,59 +24,37 @@ use Rattle.cds_script.specs.declared.turn.Turn.TheVariants.{Folder, Track, Scan,
 use Rattle.cds_script.specs.Report.{first_of, clock_of, records_since, Played, after_reply, after_note, sent_note, lives, given_up, play, played}
 use Rattle.cds_script.specs.Played.{AllStand}
 use Rattle.cds_script.specs.Complete.{is_full, delivered_notes_are_received, is_quiet, nothing_is_to_be_read, all_answers_are_complete}
-use Rattle.cds_script.proofs.Given.{Waits, Kept, ScannedCases, scanned-cases, granted-rises, sent-contained, turns-kept}
+use Rattle.cds_script.proofs.Given.{Waits, Kept, ScannedCases, scanned-cases, granted-rises, sent-place, sent-contained, turns-kept}
 use Rattle.cds_script.proofs.Stood.{note-taken, name-taken, may-before_ask, answers-are_complete}
 
 -- ---- the note of a number
 
+get-append : (n : ℕ) (notes more : List Note) (note : Note) → slice_get notes n ≡ Some note → slice_get (notes ++ more) n ≡ Some note
+get-append n [] more note e = absurd (cc)
+get-append zero (other ∷ notes) more note e = e
+get-append (suc n) (other ∷ notes) more note e = get-append n notes more note e
+
 sent-append : (number : ℕ) (notes more : List Note) (note : Note) → sent_note number notes ≡ Some note → sent_note number (notes ++ more) ≡ Some note
-sent-append number [] more note e = absurd (cc)
-sent-append number (other ∷ notes) more note e = by (nat_eq number 1) (nat_eq number 0) e (λ f. sent-append (number - 1) notes more note f)
-  where
-    by : (b c : Bool) → cond b (Some other) (cond c None (sent_note (number - 1) notes)) ≡ Some note →
-        (sent_note (number - 1) notes ≡ Some note → sent_note (number - 1) (notes ++ more) ≡ Some note) →
-        cond b (Some other) (cond c None (sent_note (number - 1) (notes ++ more))) ≡ Some note
-    by true c f later = f
-    by false true f later = absurd (cc)
-    by false false f later = later f
+sent-append zero notes more note e = absurd (cc)
+sent-append (suc n) notes more note e = sent-place n (notes ++ more) ∙ get-append n notes more note (sym (sent-place n notes) ∙ e)
 
 -- a number from 1 up to how many there are has a note
+get-there : (n : ℕ) (notes : List Note) → n < length notes → (note : Note) × (slice_get notes n ≡ Some note)
+get-there n [] low = absurd (omega (arith, low))
+get-there zero (note ∷ notes) low = (note, refl)
+get-there (suc n) (note ∷ notes) low = get-there n notes (omega (arith, low))
+
 sent-there : (number : ℕ) (notes : List Note) → 0 < number → number ≤ length notes → (note : Note) × (sent_note number notes ≡ Some note)
-sent-there number [] low high = absurd (omega (arith, low, high))
-sent-there number (other ∷ notes) low high = by (nat_eq number 1) refl (nat_eq number 0) refl (λ l h. sent-there (number - 1) notes l h)
-  where
-    by : (b : Bool) → nat_eq number 1 ≡ b → (c : Bool) → nat_eq number 0 ≡ c →
-        (0 < number - 1 → number - 1 ≤ length notes → (note : Note) × (sent_note (number - 1) notes ≡ Some note)) →
-        (note : Note) × (cond b (Some other) (cond c None (sent_note (number - 1) notes)) ≡ Some note)
-    by true e c f later = (other, refl)
-    by false e true f later = let none : number ≡ 0 = eqb-true number 0 f in absurd (omega (arith, none, low))
-    by false e false f later =
-        let apart : number ≡ 1 → ⊥ = eqb-false number 1 e in
-        later (omega (arith, low, apart)) (omega (arith, high))
+sent-there zero notes low high = absurd (omega (arith, low))
+sent-there (suc n) notes low high = let there = get-there n notes (omega (arith, high)) in (there.0, sent-place n notes ∙ there.1)
 
 sent-among : (number : ℕ) (notes : List Note) (note : Note) → sent_note number notes ≡ Some note → Among note notes
 sent-among number notes note e = among-contained notes note (sent-contained number notes note e)
 
 -- what holds of the note of each number holds of each note
-sent-none : (notes : List Note) (note : Note) → sent_note 0 notes ≡ Some note → ⊥
-sent-none [] note e = cc
-sent-none (other ∷ notes) note e = cc
-
 sent-later : (n : ℕ) (other : Note) (notes : List Note) (note : Note) → sent_note n notes ≡ Some note → sent_note (suc n) (other ∷ notes) ≡ Some note
-sent-later zero other notes note e = absurd (sent-none notes note e)
-sent-later (suc n) other notes note e = later
-  where
-    two : nat_eq (suc (suc n)) 1 ≡ false
-    two = ne_eqb (suc (suc n)) 1 (λ f. omega (arith, f))
-
-    some : nat_eq (suc (suc n)) 0 ≡ false
-    some = ne_eqb (suc (suc n)) 0 (λ f. omega (arith, f))
-
-    less : suc (suc n) - 1 ≡ suc n
-    less = omega arith
-
-    later : sent_note (suc (suc n)) (other ∷ notes) ≡ Some note
-    later = (λ i. cond (two i) (Some other) (cond (some i) None (sent_note (less i) notes))) ∙ e
+sent-later zero other notes note e = absurd (cc)
+sent-later (suc n) other notes note e = sent-place (suc n) (other ∷ notes) ∙ sym (sent-place n notes) ∙ e
 
 sent-all : (P : Note → Type 0) (notes : List Note) → ((number : ℕ) (note : Note) → sent_note number notes ≡ Some note → P note) → AllByRecursion P notes
 sent-all P [] h = tt

@@ -1,6 +1,8 @@
 -- The replica of a script is one of an honest server.
-use Rattle.std.proofs.Common.{◌≡◌, ◌⊎◌, inl, inr, ℕ, zero, suc, ◌+◌, ◌-◌, ◌<◌, ◌≤◌, List, [], ◌∷◌, length, drop, Bool, true, false, cond, nat_eq, nat_lt, refl, ap, sym, subst, ◌∙◌, arith, length-append, ltb-false, Option, Some, None}
-use Rattle.std.specs.List.{Contains}
+use Rattle.std.proofs.Common.{◌≡◌, ◌⊎◌, inl, inr, ℕ, zero, suc, ◌+◌, ◌-◌, ◌<◌, ◌≤◌, List, [], ◌∷◌, length, drop, Bool, true, false, cond, nat_lt, refl, ap, sym, subst, ◌∙◌, arith, length-append, ltb-false, Option, Some, None}
+use Rattle.std.specs.List.{Contains, slice_get}
+use Rattle.std.proofs.lemmas.Bool.{ne_eqb}
+use Rattle.std.proofs.lemmas.Option.{slice_get_within, get_or_from_slice_get}
 use Rattle.cds_object.specs.declared.record.Record.{Record}
 use Rattle.cds_catalog.specs.Library.{found, map_of}
 use Rattle.cds_catalog.specs.History.{History, latest, changes_of, end_of}
@@ -103,15 +105,17 @@ out-asked moment turns (Some ask) = out-and (Shows (reply_to moment ask)) turns 
 
 -- ---- a note of a number is among those that were sent
 
-pub sent-contained : (number : ℕ) (notes : List Note) (note : Note) → sent_note number notes ≡ Some note → Contains notes note
-sent-contained number [] note e = absurd (cc)
-sent-contained number (other ∷ notes) note e = by (nat_eq number 1) (nat_eq number 0) e (λ f. sent-contained (number - 1) notes note f)
+-- it stands at the place below its number
+pub sent-place : (n : ℕ) (notes : List Note) → sent_note (suc n) notes ≡ slice_get notes n
+sent-place n notes = ap (λ b. cond b None (slice_get notes (suc n - 1))) (ne_eqb (suc n) 0 (λ e. omega (arith, e))) ∙ ap (λ (m : ℕ). slice_get notes m) less
   where
-    by : (b c : Bool) → cond b (Some other) (cond c None (sent_note (number - 1) notes)) ≡ Some note →
-        (sent_note (number - 1) notes ≡ Some note → Contains notes note) → Contains (other ∷ notes) note
-    by true c f later = let same : other ≡ note = cc in (0, omega arith, same)
-    by false true f later = absurd (cc)
-    by false false f later = let there = later f in let low = there.1 in (suc there.0, omega (arith, low), there.2)
+    less : suc n - 1 ≡ n
+    less = omega arith
+
+pub sent-contained : (number : ℕ) (notes : List Note) (note : Note) → sent_note number notes ≡ Some note → Contains notes note
+sent-contained zero notes note e = absurd (cc)
+sent-contained (suc n) notes note e =
+    let there = sym (sent-place n notes) ∙ e in (n, slice_get_within notes n note there, get_or_from_slice_get notes n note note there)
 
 -- ---- a scan that is accepted
 

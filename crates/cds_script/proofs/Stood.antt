@@ -1,5 +1,5 @@
 -- In a script nothing is refused, what stands is a scan end, and the answer is complete.
-use Rattle.std.proofs.Common.{◌≡◌, ℕ, suc, ◌-◌, ◌≤◌, List, [], ◌∷◌, ◌++◌, length, Bool, true, false, nat_eq, ◌||◌, refl, ap, sym, subst, ◌∙◌, arith, true≢false, Some, None}
+use Rattle.std.proofs.Common.{◌≡◌, ℕ, zero, suc, ◌-◌, ◌≤◌, List, [], ◌∷◌, ◌++◌, length, Bool, true, false, nat_eq, ◌||◌, refl, ap, sym, subst, ◌∙◌, arith, true≢false, Some, None}
 use Rattle.std.specs.Prelude.{codes}
 use Rattle.std.specs.Fmt.{decimal}
 use Rattle.std.specs.List.{Contains, list_any, AllByRecursion}
@@ -18,13 +18,14 @@ use Rattle.cds_notes.specs.Inbox.{ReplicaTurn, Accepts, Delivers, is_out, accept
 use Rattle.cds_notes.specs.Follow.{Known, Knows, known_by, next_ask, with_reply, with_notes, says, copied}
 use Rattle.cds_notes.specs.Given.{oldest, moment_after, Asks, Granted, Gets, asked_at, given_by, latest_length}
 use Rattle.cds_notes.specs.HonestLaws.{load_was_begun}
-use Rattle.cds_notes.specs.declared.says.Says.TheVariants.{Stands}
+use Rattle.cds_notes.specs.declared.says.Says.{Says}
+use Rattle.cds_notes.specs.declared.says.Says.TheVariants.{Gap, BehindLoad, BehindRead, BehindVersion, Stands}
 use Rattle.cds_notes.proofs.Served.{scans-first, dropped-grows}
 use Rattle.cds_notes.proofs.Honest.{stood, entries-served, entry-taken}
 use Rattle.cds_notes.proofs.Complete.{answers-complete}
 use Rattle.cds_script.specs.declared.turn.Turn.{Turn}
 use Rattle.cds_script.specs.declared.turn.Turn.TheVariants.{Ask}
-use Rattle.cds_script.specs.Report.{first_of, clock_of, sent_note, lives, Played, played, history_of, answer_text}
+use Rattle.cds_script.specs.Report.{first_of, clock_of, sent_note, lives, Played, played, history_of, answer_text, written_by}
 use Rattle.cds_script.specs.Played.{AllStand, MayBe}
 use Rattle.cds_script.specs.ScriptGiven.{nothing_is_refused, all_turns_stand_at_scan_ends, answers_are_complete}
 use Rattle.cds_script.proofs.Given.{Waits, Kept, oldest-all, sent-contained, turns-kept}
@@ -121,25 +122,47 @@ scan-end first p kept number stands =
       are = ap (λ turns. copied (known_by turns)) kept.are ∙ s.3 ∙ ap catalog older;
     }
 
-pub turns-stand : all_turns_stand_at_scan_ends
-turns-stand turns may newer older number parts stands =
-    let kept = turns-kept older (may-before_ask newer older turns parts may).number in
-    let end = scan-end (first_of older) (played older) kept number stands in (
+-- what an ask writes where the replica stands at a number
+pub stands-at : (turns : List Turn) → MayBe turns → (number : ℕ) → says (played turns).replica ≡ Stands number →
+    IsScanEnd (history_of turns) number (copied (known_by (played turns).replica))
+    × (written_by turns Ask ≡ codes "stands " ++ decimal number ++ codes "\n" ++ full_text (copied (known_by (played turns).replica)))
+stands-at turns may number stands =
+    let kept = turns-kept turns may.number in
+    let end = scan-end (first_of turns) (played turns) kept number stands in (
       end,
-      ap (answer_text (history_of older)) stands
+      ap (answer_text (history_of turns)) stands
           ∙ ap (λ rows. codes "stands " ++ decimal number ++ codes "\n" ++ full_text rows)
-          (end-catalog (history_of older) number (copied (known_by (played older).replica)) kept.accepted.libraries end),
+          (end-catalog (history_of turns) number (copied (known_by (played turns).replica)) kept.accepted.libraries end),
     )
+
+-- a letter of a text tells what wrote it
+unfoldable pub letter_at : ℕ → List ℕ → ℕ
+letter_at k [] = 0
+letter_at zero (b ∷ bytes) = b
+letter_at (suc k) (b ∷ bytes) = letter_at k bytes
+
+stands-written : (history : History) (answer : Says) (rest : List ℕ) → answer_text history answer ≡ codes "stands " ++ rest → (number : ℕ) × (answer ≡ Stands number)
+unfolding letter_at
+stands-written history (Gap seq) rest e = let letter : 103 ≡ 115 = ap (letter_at 0) e in absurd (omega (arith, letter))
+stands-written history BehindLoad rest e = let letter : 98 ≡ 115 = ap (letter_at 0) e in absurd (omega (arith, letter))
+stands-written history (BehindRead id) rest e = let letter : 98 ≡ 115 = ap (letter_at 0) e in absurd (omega (arith, letter))
+stands-written history (BehindVersion number) rest e = let letter : 98 ≡ 115 = ap (letter_at 0) e in absurd (omega (arith, letter))
+stands-written history (Stands number) rest e = (number, refl)
+
+pub turns-stand : all_turns_stand_at_scan_ends
+turns-stand turns may newer older rest parts wrote =
+    let stands = stands-written (history_of older) (says (played older).replica) rest wrote in
+    let at = stands-at older (may-before_ask newer older turns parts may) stands.0 stands.1 in (stands.0, stands.1, at.0, at.1)
 
 -- ---- the answer is complete
 
-any-contained : (name : ℕ) (names : List ℕ) → list_any (nat_eq name) names ≡ true → Contains names name
+any-contained : (name : ℕ) (names : List ℕ) → list_any (λ other. nat_eq other name) names ≡ true → Contains names name
 any-contained name [] e = absurd (true≢false (sym e))
-any-contained name (other ∷ names) e = by (nat_eq name other) refl e (λ f. any-contained name names f)
+any-contained name (other ∷ names) e = by (nat_eq other name) refl e (λ f. any-contained name names f)
   where
-    by : (b : Bool) → nat_eq name other ≡ b → (b || list_any (nat_eq name) names) ≡ true → (list_any (nat_eq name) names ≡ true → Contains names name) →
-        Contains (other ∷ names) name
-    by true same f later = (0, omega arith, sym (eqb-true name other same))
+    by : (b : Bool) → nat_eq other name ≡ b → (b || list_any (λ n. nat_eq n name) names) ≡ true →
+        (list_any (λ n. nat_eq n name) names ≡ true → Contains names name) → Contains (other ∷ names) name
+    by true same f later = (0, omega arith, eqb-true other name same)
     by false same f later = let there = later f in let low = there.1 in (suc there.0, omega (arith, low), there.2)
 
 stands-complete : (first now name : ℕ) (p : Played) → Kept first p → load_was_begun p.replica ≡ true → accepted p.replica ≡ Some name →

@@ -1,6 +1,6 @@
 -- The report of a script: what its turns write, by the commands that the server accepted and by the replica's turns (this
 -- project's profile).
-use Rattle.std.specs.Prelude.{◌+◌, ◌-◌, ℕ, Bool, true, false, cond, nat_eq, nat_lt, nat_le, ◌&&◌, List, [], ◌∷◌, ◌++◌, length, take, Option, Some, None, codes}
+use Rattle.std.specs.Prelude.{◌+◌, ◌-◌, ℕ, Bool, true, false, cond, nat_eq, nat_lt, nat_le, ◌&&◌, List, [], ◌∷◌, ◌++◌, length, take, Option, Some, None, slice_get, codes}
 use Rattle.std.specs.List.{list_any}
 use Rattle.std.specs.Fmt.{decimal}
 use Rattle.cds_object.specs.Fragment.{full_text}
@@ -105,12 +105,11 @@ after_note (Some note) turns = and_turn (Delivers note) turns
 
 -- the note of a number among all that were sent, counted from 1
 abbrev pub sent_note : ℕ → List Note → Option Note
-sent_note number [] = None
-sent_note number (note ∷ notes) = cond (nat_eq number 1) (Some note) (cond (nat_eq number 0) None (sent_note (number - 1) notes))
+sent_note number notes = cond (nat_eq number 0) None (slice_get notes (number - 1))
 
 -- whether the subscription of a name lives at a moment, after commands from a first number on
 abbrev pub lives : ℕ → ℕ → ℕ → List Command → Bool
-lives name first now commands = list_any (nat_eq name) (alive_names now commands (notes_of first commands))
+lives name first now commands = list_any (λ other. nat_eq other name) (alive_names now commands (notes_of first commands))
 
 -- the commands after the subscription of a name was given up, if there is one and it lives
 abbrev pub given_up : Option ℕ → ℕ → ℕ → List Command → List Command

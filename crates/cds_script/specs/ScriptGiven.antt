@@ -1,5 +1,6 @@
 -- The replica of a script is one of an honest server, whose commands are those that the script's turns gave it; and what follows
--- for the script's turns: nothing is refused, few subscriptions live, what stands is a scan end, and the answer is complete.
+-- for the script's turns: nothing is unreadable, jumps or is torn, few subscriptions live, what stands is a scan end, and the
+-- answer is complete.
 use Rattle.std.specs.Prelude.{◌≡◌, ◌≤◌, ℕ, true, List, ◌∷◌, ◌++◌, length, Some, None, codes}
 use Rattle.std.specs.List.{AllByRecursion}
 use Rattle.std.specs.Fmt.{decimal}
@@ -54,12 +55,13 @@ living_names turns = alive_names (clock_of turns) (played turns).commands (notes
 abbrev pub subscriptions_are_few : Type 0
 subscriptions_are_few = (turns : List Turn) → MayBe turns → length (living_names turns) ≤ subscription_limit
 
--- each ask among turns whose answer is a number writes `stands`, the number and the rows of the copy; the number is a scan
--- end of the scans that were accepted by then, and the rows are the catalog after the scans up to it
+-- each ask among turns that writes `stands` writes the number that the replica says, and the rows of its copy; the number is a
+-- scan end of the scans that were accepted by then, and the rows are the catalog after the scans up to it
 abbrev pub StandsAtScanEnds : List Turn → Type 0
-StandsAtScanEnds turns = (newer older : List Turn) (number : ℕ) → turns ≡ newer ++ Ask ∷ older →
-    says (played older).replica ≡ Stands number →
-    IsScanEnd (history_of older) number (copied (known_by (played older).replica))
+StandsAtScanEnds turns = (newer older : List Turn) (rest : List ℕ) → turns ≡ newer ++ Ask ∷ older →
+    written_by older Ask ≡ codes "stands " ++ rest →
+    (number : ℕ) × (says (played older).replica ≡ Stands number)
+    × IsScanEnd (history_of older) number (copied (known_by (played older).replica))
     × (written_by older Ask ≡ codes "stands " ++ decimal number ++ codes "\n" ++ full_text (copied (known_by (played older).replica)))
 
 abbrev pub all_turns_stand_at_scan_ends : Type 0

@@ -1,5 +1,4 @@
-use Rattle.std.proofs.Common.{◌≡◌, ◌⊎◌, inl, inr, ℕ, ◌-◌, List, [], ◌∷◌, ◌++◌, take, drop, Bool, true, false, cond, nat_eq, refl, sym, ap, ◌∙◌, subst, arith, Some, None}
-use Rattle.std.proofs.lemmas.Bool.{eqb-true}
+use Rattle.std.proofs.Common.{◌≡◌, ◌⊎◌, inl, inr, ℕ, zero, suc, List, [], ◌∷◌, ◌++◌, take, drop, false, refl, sym, ap, ◌∙◌, subst, Some, None}
 use Rattle.cds_notes.specs.Commands.{Note, first_note, notes_of}
 use Rattle.cds_notes.specs.Evaluated.{added}
 use Rattle.cds_notes.specs.Inbox.{arrival}
@@ -8,19 +7,15 @@ use Rattle.cds_script.specs.declared.turn.Turn.TheVariants.{Deliver}
 use Rattle.cds_script.specs.Report.{sent_note, played}
 use Rattle.cds_script.specs.Played.{script_turns}
 use Rattle.cds_script.specs.Complete.{is_full, followed_script}
+use Rattle.cds_script.proofs.Given.{sent-place}
 use Rattle.cds_script.proofs.laws.scripts_can_be_complete.Goals as goal
 
 -- of two notes the numbers are 1 and 2
 two-sent : (a b : Note) (number : ℕ) (note : Note) → sent_note number (a ∷ b ∷ []) ≡ Some note → (number ≡ 1) ⊎ (number ≡ 2)
-two-sent a b number note e = by (nat_eq number 1) refl (nat_eq number 0) (nat_eq (number - 1) 1) refl (nat_eq (number - 1) 0) e
-  where
-    by : (p : Bool) → nat_eq number 1 ≡ p → (q r : Bool) → nat_eq (number - 1) 1 ≡ r → (s : Bool) →
-        cond p (Some a) (cond q None (cond r (Some b) (cond s None None))) ≡ Some note → (number ≡ 1) ⊎ (number ≡ 2)
-    by true f q r g s k = inl (eqb-true number 1 f)
-    by false f true r g s k = absurd (cc)
-    by false f false true g s k = let less = eqb-true (number - 1) 1 g in inr (omega (arith, less))
-    by false f false false g true k = absurd (cc)
-    by false f false false g false k = absurd (cc)
+two-sent a b zero note e = absurd (cc)
+two-sent a b (suc zero) note e = inl refl
+two-sent a b (suc (suc zero)) note e = inr refl
+two-sent a b (suc (suc (suc n))) note e = let none : None ≡ Some note = sym (sent-place (suc (suc n)) (a ∷ b ∷ [])) ∙ e in absurd (cc)
 
 abbrev turns : List Turn
 turns = script_turns followed_script

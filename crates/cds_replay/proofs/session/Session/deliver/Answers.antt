@@ -5,9 +5,8 @@ use Rattle.std.proofs.lemmas.Result.{on_ok_weaker}
 use Rattle.cds_notes.specs.Commands.{notes_of}
 use Rattle.cds_script.specs.Report.{first_of, deliver_text, sent_note, played}
 use Rattle.cds_replay.specs.Lines.{delivered_line, was_noticed}
-use Rattle.cds_replay.specs.Serving.{sent_note as note_at}
 use Rattle.cds_replay.specs.Session.{Playing, IsAfter}
-use Rattle.cds_replay.proofs.Answered.{same-note, noticed, notice-written, written-as}
+use Rattle.cds_replay.proofs.Answered.{noticed, notice-written, written-as}
 use Rattle.cds_replay.proofs.Turns.{deliver-after, no-note-after}
 use Rattle.cds_replay.proofs.session.Session.deliver.Goals as goal
 
@@ -16,7 +15,7 @@ returns-in-None-clause-after c = λ turns after may.
     let was : Playing = record { server = c.self.inside.server; replica = c.self.inside.replica; records = c.self.inside.records; clock = c.self.inside.clock; reply = c.self.inside.reply; fresh = c.self.inside.fresh } in
     let old : IsAfter was turns = subst (λ p. IsAfter p turns) (sym c.self.view_is) after in
     let sent : sent_note c.args.number (notes_of (first_of turns) (played turns).commands) ≡ None =
-    sym (same-note c.args.number (notes_of (first_of turns) (played turns).commands)) ∙ sym (ap (note_at c.args.number) old.server.sent)
+    sym (ap (sent_note c.args.number) old.server.sent)
     ∙ sym c.in_ok-note.ensures ∙ c.in-None.is in
     no-note-after was c.args.number turns old may sent
 
@@ -25,7 +24,7 @@ returns-in-None-clause-written c = λ turns after.
     let was : Playing = record { server = c.self.inside.server; replica = c.self.inside.replica; records = c.self.inside.records; clock = c.self.inside.clock; reply = c.self.inside.reply; fresh = c.self.inside.fresh } in
     let old : IsAfter was turns = subst (λ p. IsAfter p turns) (sym c.self.view_is) after in
     let sent : sent_note c.args.number (notes_of (first_of turns) (played turns).commands) ≡ None =
-    sym (same-note c.args.number (notes_of (first_of turns) (played turns).commands)) ∙ sym (ap (note_at c.args.number) old.server.sent)
+    sym (ap (sent_note c.args.number) old.server.sent)
     ∙ sym c.in_ok-note.ensures ∙ c.in-None.is in
     sym (append-nil (string_bytes c.args.out.now)) ∙ sym (ap (λ o. string_bytes c.args.out.now ++ deliver_text c.args.number o (played turns).replica) sent)
 
@@ -34,7 +33,7 @@ returns-else-not-was_noticed-clause-after c = λ turns after may.
     let was : Playing = record { server = c.self.inside.server; replica = c.self.inside.replica; records = c.self.inside.records; clock = c.self.inside.clock; reply = c.self.inside.reply; fresh = c.self.inside.fresh } in
     let old : IsAfter was turns = subst (λ p. IsAfter p turns) (sym c.self.view_is) after in
     let sent : sent_note c.args.number (notes_of (first_of turns) (played turns).commands) ≡ Some c.in-Some.note =
-    sym (same-note c.args.number (notes_of (first_of turns) (played turns).commands)) ∙ sym (ap (note_at c.args.number) old.server.sent)
+    sym (ap (sent_note c.args.number) old.server.sent)
     ∙ sym c.in_ok-note.ensures ∙ c.in-Some.is in
     let told : was_noticed c.notify-answer.result ≡ true = sym c.was_noticed.ensures ∙ c.if-not-was_noticed.false in
     let now = deliver-after was c.notify-answer.new.self c.args.number c.in-Some.note turns old may sent (noticed c.notify-answer.result told c.notify-answer.ensures.stands) in
@@ -45,7 +44,7 @@ returns-else-not-was_noticed-clause-written c = λ turns after.
     let was : Playing = record { server = c.self.inside.server; replica = c.self.inside.replica; records = c.self.inside.records; clock = c.self.inside.clock; reply = c.self.inside.reply; fresh = c.self.inside.fresh } in
     let old : IsAfter was turns = subst (λ p. IsAfter p turns) (sym c.self.view_is) after in
     let sent : sent_note c.args.number (notes_of (first_of turns) (played turns).commands) ≡ Some c.in-Some.note =
-    sym (same-note c.args.number (notes_of (first_of turns) (played turns).commands)) ∙ sym (ap (note_at c.args.number) old.server.sent)
+    sym (ap (sent_note c.args.number) old.server.sent)
     ∙ sym c.in_ok-note.ensures ∙ c.in-Some.is in
     let told : was_noticed c.notify-answer.result ≡ true = sym c.was_noticed.ensures ∙ c.if-not-was_noticed.false in
     let same = notice-written turns c.args.number c.in-Some.note c.notify-answer.result old.may sent told (c.notify-answer.ensures.answer (played turns).replica old.replica) in
