@@ -6,21 +6,23 @@ use Rattle.cds_object.specs.Object.{ObjectRow}
 use Rattle.cds_event.specs.declared.Event.{Event}
 use Rattle.cds_changes.specs.Events.{update_of}
 use Rattle.cds_model.specs.Attempts.{Verdict, CannotBe as CannotCome, verdict_of, attempt_of, says_by}
-use Rattle.cds_model.specs.Replica.{Held, Idle, Begun, HasToken, HasNumber, HasRoot, Lists, HasPage, HasCopy, Taken, Holds, Unreadable as NotReadable, Torn as CannotBe, taken, next_ask as load_ask, says as load_says}
+use Rattle.cds_model.specs.Replica.{Held, Idle, Begun, HasToken, HasNumber, HasRoot, Lists, HasPage, HasCopy, Taken, Holds, Unreadable as NotReadable, Torn as CannotBe, taken, next_ask as load_ask, says as load_says, copied as load_copied}
 use Rattle.cds_model.specs.declared.exchange.Ask.{Ask}
 use Rattle.cds_model.specs.declared.exchange.Read.{Read}
 use Rattle.cds_model.specs.declared.exchange.Shown.{Shown}
 use Rattle.cds_model.specs.declared.exchange.Says.TheVariants.{BehindLoad as LoadRuns, Stands as LoadStands}
-use Rattle.cds_notes.specs.Copy.{rows_after, least_unread, read_up_to}
+use Rattle.cds_notes.specs.Copy.{KnownRow, Happening, rows_after, least_unread, read_up_to}
 use Rattle.cds_notes.specs.Inbox.{ReplicaTurn}
 use Rattle.cds_notes.specs.Follow.{Known, position, Outcome, Knows, CannotBeRead, Jumps, Tears, first_torn, judged, counted_from, loaded, with_reply, known_by, next_ask, ask_of, copy_says, says_without_gap, says_of, says, copied, changes_above}
 use Rattle.cds_notes.specs.KnownLaws.{has_copy}
 use Rattle.cds_notes.specs.declared.says.Says.{Says}
 use Rattle.cds_notes.specs.declared.says.Says.TheVariants.{BehindLoad, BehindVersion, Stands}
-use Rattle.cds_replica.specs.Attempted.{AsksByAttempt, TakesByAttempt, SaysByAttempt, IsVerdict}
+use Rattle.cds_replica.specs.Attempted.{AsksByAttempt, TakesByAttempt, SaysByAttempt, CopiesByAttempt, IsVerdict}
 use Rattle.cds_replica.specs.Called.{IsAnswer}
-use Rattle.cds_replica.specs.Kept.{Kept, StandsFor}
-use Rattle.cds_model.proofs.Traces.{asks-of_attempts, refusals-of_attempts, answers-of_attempts}
+use Rattle.cds_replica.specs.Keeping.{phase_all}
+use Rattle.cds_replica.specs.Kept.{phase_of, Kept, StandsFor}
+use Rattle.cds_replica.proofs.KeptCounts.{known-copied}
+use Rattle.cds_model.proofs.Traces.{asks-of_attempts, refusals-of_attempts, answers-of_attempts, copies-of_attempts}
 use Rattle.cds_replica.specs.LoadTurns.{loads_of, WasShown}
 use Rattle.cds_replica.proofs.KeptLoads.{held-of-loads, copied-were-shown}
 use Rattle.cds_replica.specs.declared.error.AnswerError.{AnswerError}
@@ -147,3 +149,20 @@ pub rows-shown : (kept : Kept) (at : ℕ) (result : Option (Bor ObjectRow)) (tur
 rows-shown kept at None turns is stood = tt
 rows-shown kept at (Some row) turns is stood =
     at-place (λ (r : ObjectRow). WasShown r turns) (copied (known_by turns)) at row.now (copied-were-shown turns) (sym (is turns stood))
+
+-- ---- the rows of a copy are the attempt's, with what befell it since
+
+all-held : (held : Held) (happenings : List Happening) → has_copy held ≡ true → phase_all (phase_of held happenings) ≡ rows_after (load_copied held) happenings
+all-held Idle happenings e = absurd (true≢false (sym e))
+all-held Begun happenings e = absurd (true≢false (sym e))
+all-held HasToken happenings e = absurd (true≢false (sym e))
+all-held (HasNumber number) happenings e = absurd (true≢false (sym e))
+all-held (HasRoot number root) happenings e = absurd (true≢false (sym e))
+all-held (Lists number listing) happenings e = absurd (true≢false (sym e))
+all-held (HasPage number listing page) happenings e = absurd (true≢false (sym e))
+all-held (HasCopy number rows) happenings e = known-copied rows happenings
+
+pub copies-by_attempt : (kept : Kept) (rows : List KnownRow) → rows ≡ phase_all kept.known.phase → CopiesByAttempt kept rows
+copies-by_attempt kept rows is turns stood shown copy =
+    is ∙ ap (λ (k : Kept). phase_all k.known.phase) stood ∙ all-held (known_by turns).held (known_by turns).happenings copy
+    ∙ ap (λ (l : List ObjectRow). rows_after l (known_by turns).happenings) (ap load_copied (held-of-loads turns) ∙ copies-of_attempts (loads_of turns) shown)

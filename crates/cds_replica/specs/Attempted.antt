@@ -1,13 +1,14 @@
 -- What a replica's calls say of the load in its turns, whatever server told and replied: by the attempt that runs, of the
 -- replies that were taken since the load began or its number last changed; and that its rows were shown.
-use Rattle.std.specs.Prelude.{◌≡◌, ◌⊎◌, false, List, ◌∷◌, Option, None, Result, Ok, Err}
+use Rattle.std.specs.Prelude.{◌≡◌, ◌⊎◌, true, false, List, ◌∷◌, Option, None, Result, Ok, Err}
 use Rattle.std.specs.Option.{option_and_then}
-use Rattle.cds_model.specs.Attempts.{Verdict, Fine, CannotBeRead, CannotBe, attempt_of, ask_in, verdict_by, says_by, ShowsRows}
+use Rattle.cds_model.specs.Attempts.{Verdict, Fine, CannotBeRead, CannotBe, attempt_of, ask_in, verdict_by, says_by, copied_by, ShowsRows}
 use Rattle.cds_model.specs.Replica.{Shows as LoadShows}
 use Rattle.cds_model.specs.declared.exchange.Ask.{Ask}
 use Rattle.cds_model.specs.declared.exchange.Read.{Read}
 use Rattle.cds_model.specs.declared.exchange.Shown.{Shown}
 use Rattle.cds_model.specs.declared.exchange.Says.TheVariants.{BehindLoad as LoadRuns}
+use Rattle.cds_notes.specs.Copy.{KnownRow, rows_after}
 use Rattle.cds_notes.specs.Inbox.{ReplicaTurn, missing}
 use Rattle.cds_notes.specs.Follow.{known_by}
 use Rattle.cds_notes.specs.KnownLaws.{has_copy}
@@ -41,3 +42,8 @@ TakesByAttempt kept shown result = (turns : List ReplicaTurn) → StandsFor kept
 abbrev pub SaysByAttempt : Kept → Says → Type 0
 SaysByAttempt kept answer = (turns : List ReplicaTurn) → StandsFor kept turns → ShowsRows (loads_of turns) → missing turns ≡ None →
     (answer ≡ BehindLoad → says_by (attempt_of (loads_of turns)) ≡ LoadRuns) × (says_by (attempt_of (loads_of turns)) ≡ LoadRuns → answer ≡ BehindLoad)
+
+-- a copy has the rows that the attempt showed, in ascending order of ids, with all that befell it since
+abbrev pub CopiesByAttempt : Kept → List KnownRow → Type 0
+CopiesByAttempt kept rows = (turns : List ReplicaTurn) → StandsFor kept turns → ShowsRows (loads_of turns) → has_copy (known_by turns).held ≡ true →
+    rows ≡ rows_after (copied_by (attempt_of (loads_of turns))) (known_by turns).happenings

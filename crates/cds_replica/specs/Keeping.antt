@@ -10,7 +10,7 @@ use Rattle.cds_model.specs.declared.exchange.Ask.TheVariants.{Metadata}
 use Rattle.cds_model.specs.declared.exchange.Read.{Read}
 use Rattle.cds_model.specs.declared.exchange.Shown.{Shown}
 use Rattle.cds_model.specs.declared.exchange.Shown.TheVariants.{Text, Number, Page, Fault}
-use Rattle.cds_notes.specs.Copy.{shown_row}
+use Rattle.cds_notes.specs.Copy.{KnownRow, shown_row}
 use Rattle.cds_notes.specs.Inbox.{missing_of}
 use Rattle.cds_notes.specs.Follow.{Outcome, Knows, CannotBeRead, Jumps, Tears}
 use Rattle.cds_notes.specs.declared.says.Says.{Says}
@@ -165,3 +165,8 @@ kept_says kept = tells_or_gap (missing_of kept.inbox.waiting kept.inbox.next) (p
 abbrev pub phase_rows : KeptPhase → List ObjectRow
 phase_rows (Loads held) = []
 phase_rows (Copies number copy) = filter_map shown_row (known_rows copy)
+
+-- all its rows, also those of which it is not known yet what they say
+abbrev pub phase_all : KeptPhase → List KnownRow
+phase_all (Loads held) = []
+phase_all (Copies number copy) = known_rows copy

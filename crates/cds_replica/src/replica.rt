@@ -5,11 +5,11 @@ ghost use Rattle.cds_notes.specs.Copy.{shown_row};
 ghost use Rattle.cds_notes.specs.Inbox.{ReplicaTurn, Begins, Shows, Requests, Accepts, Refuses, Delivers, accepted, arrival, taken_by};
 ghost use Rattle.cds_notes.specs.Follow.{known_by, next_ask, says, copied, with_notes, with_reply};
 ghost use Rattle.cds_replica.specs.Answer.{read_of};
-ghost use Rattle.cds_replica.specs.Attempted.{AsksByAttempt, TakesByAttempt, SaysByAttempt};
+ghost use Rattle.cds_replica.specs.Attempted.{AsksByAttempt, TakesByAttempt, SaysByAttempt, CopiesByAttempt};
 ghost use Rattle.cds_replica.specs.Called.{GoesOn, TakesTurn, IsNotice, IsAcceptance, IsAnswer, UnlessFull, UnlessMem, IsTaking, IsDelivered, of_notes, refusal_of};
 ghost use Rattle.cds_replica.specs.Inboxed.{arrival_in, follows, followers, taken_early, with_name, with_next};
 ghost use Rattle.cds_replica.specs.Honest.{TakesGiven, HearsGiven, AcceptsGiven, SaysGiven, CompletesGiven};
-ghost use Rattle.cds_replica.specs.Keeping.{phase_ask, phase_rows, kept_says};
+ghost use Rattle.cds_replica.specs.Keeping.{phase_ask, phase_all, phase_rows, kept_says};
 ghost use Rattle.cds_replica.specs.Kept.{StandsFor};
 ghost use Rattle.cds_replica.specs.LoadTurns.{WasShown};
 
@@ -226,8 +226,9 @@ impl Replica {
     /// The rows of the copy, in ascending order of ids, with those of which it is not known yet what they say; none where no
     /// copy stands. To go over them takes one walk.
     pub fn copy(&self) -> &[CopyRow]
-        ensures kept { filter_map shown_row (map (λ kept. kept.row) result.now) ≡ phase_rows self.now.known.phase }
+        ensures kept { map (λ kept. kept.row) result.now ≡ phase_all self.now.known.phase }
         ensures rows { (turns : List ReplicaTurn) → StandsFor self.now turns → filter_map shown_row (map (λ kept. kept.row) result.now) ≡ copied (known_by turns) }
+        ensures attempt { CopiesByAttempt self.now (map (λ kept. kept.row) result.now) }
     {
         self.known.rows()
     }
