@@ -4,6 +4,7 @@ ghost use Rattle.std.specs.Option.{option_map};
 ghost use Rattle.cds_notes.specs.Copy.{shown_row};
 ghost use Rattle.cds_notes.specs.Inbox.{ReplicaTurn, Begins, Shows, Requests, Accepts, Refuses, Delivers, accepted, arrival, taken_by};
 ghost use Rattle.cds_notes.specs.Follow.{known_by, next_ask, says, copied, with_notes, with_reply};
+ghost use Rattle.cds_notes.specs.Seen.{WasShown};
 ghost use Rattle.cds_replica.specs.Answer.{read_of};
 ghost use Rattle.cds_replica.specs.Attempted.{AsksByAttempt, TakesByAttempt, SaysByAttempt, CopiesByAttempt};
 ghost use Rattle.cds_replica.specs.Called.{GoesOn, TakesTurn, IsNotice, IsAcceptance, IsAnswer, UnlessFull, UnlessMem, IsTaking, IsDelivered, of_notes, refusal_of};
@@ -11,7 +12,6 @@ ghost use Rattle.cds_replica.specs.Inboxed.{arrival_in, follows, followers, take
 ghost use Rattle.cds_replica.specs.Honest.{TakesGiven, HearsGiven, AcceptsGiven, SaysGiven, CompletesGiven};
 ghost use Rattle.cds_replica.specs.Keeping.{phase_ask, phase_all, phase_rows, kept_says};
 ghost use Rattle.cds_replica.specs.Kept.{StandsFor};
-ghost use Rattle.cds_replica.specs.LoadTurns.{WasShown};
 
 use crate::copy_row::CopyRow;
 use crate::inbox::{Arrival, Inbox};
