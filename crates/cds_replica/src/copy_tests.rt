@@ -1,8 +1,9 @@
 ghost use Rattle.std.specs.Prelude.{◌≡◌, ◌==◌, is_none};
 
 use crate::changes::changes_above;
+use crate::copy::CatalogCopy;
 use crate::copy_row::CopyRow;
-use crate::{CatalogCopy, CountError};
+use crate::count_error::CountError;
 use cds_base::{Mem, Text};
 use cds_event::{Class, Event};
 use cds_object::{Content, ObjectId, Row, TrackContent, Trackers};

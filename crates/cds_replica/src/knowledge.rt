@@ -8,12 +8,13 @@ ghost use Rattle.cds_replica.specs.Keeping.{IsHeard, IsStep, kept_begun, hears, 
 ghost use Rattle.cds_replica.specs.Phases.{phase_in};
 ghost use Rattle.cds_replica.specs.Kept.{kept_known, kept_position};
 
+use crate::AnswerError;
 use crate::copy::CatalogCopy;
 use crate::copy_row::CopyRow;
+use crate::count_error::CountError;
 use crate::phase::Phase;
 use crate::stage::Stage;
 use crate::telling::Telling;
-use crate::{AnswerError, CountError};
 use cds_event::Event;
 use cds_model::{Ask, Read, Shown};
 use cds_notes::Says;

@@ -26,9 +26,7 @@ mod telling;
 
 pub use cds_model::{Ask, Read, Shown};
 pub use cds_notes::Says;
-pub use copy::CatalogCopy;
 pub use copy_row::CopyRow;
-pub use count_error::CountError;
 pub use error::AnswerError;
 pub use note::{Note, Sid, Taken};
 pub use notify_error::NotifyError;

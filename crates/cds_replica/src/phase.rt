@@ -5,9 +5,9 @@ ghost use Rattle.cds_replica.specs.Copied.{AreAbove};
 ghost use Rattle.cds_replica.specs.Keeping.{IsHeard, hears_changes, phase_ask, phase_all, phase_rows};
 ghost use Rattle.cds_replica.specs.Phases.{phase_in};
 
-use crate::CountError;
 use crate::copy::CatalogCopy;
 use crate::copy_row::CopyRow;
+use crate::count_error::CountError;
 use crate::stage::Stage;
 use cds_event::Event;
 use cds_model::Ask;

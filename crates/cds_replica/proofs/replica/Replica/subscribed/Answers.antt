@@ -1,11 +1,11 @@
 use Rattle.cds_notes.specs.Inbox.{Accepts}
-use Rattle.cds_replica.proofs.Turning.{accepted-stands, unless-full}
+use Rattle.cds_replica.proofs.Turning.{accepted-stands, unless-no_memory}
 use Rattle.cds_replica.proofs.Honest.{accepts-given}
 use Rattle.cds_replica.proofs.replica.Replica.subscribed.Goals as goal
 
 pub returns-clause-stands : goal.returns-clause-stands
 returns-clause-stands c =
-    unless-full c.take_early.result c.args.self.now c.take_early.new.self (Accepts c.args.sid.0)
+    unless-no_memory c.take_early.result c.args.self.now c.take_early.new.self (Accepts c.args.sid.0)
     (λ turns stood. (accepted-stands c.args.sid.0 turns c.args.self.now c.take_early.new.self c.take_early.result stood c.take_early.ensures).0)
 
 pub returns-clause-answer : goal.returns-clause-answer
