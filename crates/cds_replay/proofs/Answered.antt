@@ -14,7 +14,7 @@ use Rattle.cds_notes.specs.Given.{moment_after}
 use Rattle.cds_notes.specs.declared.says.Says.{Says}
 use Rattle.cds_notes.specs.declared.says.Says.TheVariants.{Gap, BehindLoad, BehindRead, BehindVersion, Stands}
 use Rattle.cds_replica.specs.Called.{IsAnswer, IsAcceptance, IsNotice}
-use Rattle.cds_replica.specs.Called.{UnlessFull}
+use Rattle.cds_replica.specs.Called.{UnlessNoMemory}
 use Rattle.cds_replica.specs.declared.note.Taken.{Taken}
 use Rattle.cds_replica.specs.declared.note.Taken.TheVariants.{Took, Repeat, Early, Held}
 use Rattle.cds_replica.specs.declared.notify_error.NotifyError.{NotifyError}
@@ -76,7 +76,7 @@ no-name-refusal outcome now (Torn id) is answer = let other : outcome ≡ Tears 
 no-name-refusal outcome now NoMemory is answer = refl
 
 -- a fact holds where a note was answered
-pub noticed : {P : Type 0} (answer : Result Taken NotifyError) → was_noticed answer ≡ true → UnlessFull answer P → P
+pub noticed : {P : Type 0} (answer : Result Taken NotifyError) → was_noticed answer ≡ true → UnlessNoMemory answer P → P
 noticed (Ok taken) told fact = fact
 noticed (Err Unknown) told fact = fact
 noticed (Err (TooMany held)) told fact = fact

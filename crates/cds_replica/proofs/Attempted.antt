@@ -6,23 +6,27 @@ use Rattle.cds_object.specs.Object.{ObjectRow}
 use Rattle.cds_event.specs.declared.Event.{Event}
 use Rattle.cds_changes.specs.Events.{update_of}
 use Rattle.cds_model.specs.Attempts.{Verdict, CannotBe as CannotCome, verdict_of, attempt_of, says_by}
-use Rattle.cds_model.specs.Replica.{Held, Idle, Begun, HasToken, HasNumber, HasRoot, Lists, HasPage, HasCopy, Taken, Holds, Unreadable as NotReadable, Torn as CannotBe, taken, next_ask as load_ask, says as load_says}
+use Rattle.cds_model.specs.Replica.{Held, Idle, Begun, HasToken, HasNumber, HasRoot, Lists, HasPage, HasCopy, Taken, Holds, Unreadable as NotReadable, Torn as CannotBe, taken, next_ask as load_ask, says as load_says, copied as load_copied}
 use Rattle.cds_model.specs.declared.exchange.Ask.{Ask}
 use Rattle.cds_model.specs.declared.exchange.Read.{Read}
 use Rattle.cds_model.specs.declared.exchange.Shown.{Shown}
 use Rattle.cds_model.specs.declared.exchange.Says.TheVariants.{BehindLoad as LoadRuns, Stands as LoadStands}
-use Rattle.cds_notes.specs.Copy.{rows_after, least_unread, read_up_to}
+use Rattle.cds_notes.specs.Copy.{KnownRow, Happening, rows_after, least_unread, read_up_to}
 use Rattle.cds_notes.specs.Inbox.{ReplicaTurn}
 use Rattle.cds_notes.specs.Follow.{Known, position, Outcome, Knows, CannotBeRead, Jumps, Tears, first_torn, judged, counted_from, loaded, with_reply, known_by, next_ask, ask_of, copy_says, says_without_gap, says_of, says, copied, changes_above}
 use Rattle.cds_notes.specs.KnownLaws.{has_copy}
+use Rattle.cds_notes.specs.LoadTurns.{load_turns}
+use Rattle.cds_notes.specs.Seen.{WasShown}
 use Rattle.cds_notes.specs.declared.says.Says.{Says}
 use Rattle.cds_notes.specs.declared.says.Says.TheVariants.{BehindLoad, BehindVersion, Stands}
-use Rattle.cds_replica.specs.Attempted.{AsksByAttempt, TakesByAttempt, SaysByAttempt, IsVerdict}
+use Rattle.cds_replica.specs.Attempted.{AsksByAttempt, TakesByAttempt, SaysByAttempt, CopiesByAttempt, IsVerdict}
 use Rattle.cds_replica.specs.Called.{IsAnswer}
-use Rattle.cds_replica.specs.Kept.{Kept, StandsFor}
-use Rattle.cds_model.proofs.Traces.{asks-of_attempts, refusals-of_attempts, answers-of_attempts}
-use Rattle.cds_replica.specs.LoadTurns.{loads_of, WasShown}
-use Rattle.cds_replica.proofs.KeptLoads.{held-of-loads, copied-were-shown}
+use Rattle.cds_replica.specs.Keeping.{phase_all}
+use Rattle.cds_replica.specs.Kept.{phase_of, Kept, StandsFor}
+use Rattle.cds_replica.proofs.KeptCounts.{known-copied}
+use Rattle.cds_notes.proofs.LoadTurns.{loads-are-of-turns}
+use Rattle.cds_notes.proofs.Seen.{copies-shown}
+use Rattle.cds_model.proofs.Traces.{asks-of_attempts, refusals-of_attempts, answers-of_attempts, copies-of_attempts}
 use Rattle.cds_replica.specs.declared.error.AnswerError.{AnswerError}
 use Rattle.cds_replica.specs.declared.error.AnswerError.TheVariants.{Unreadable, Jump, Torn, Mem}
 
@@ -40,7 +44,7 @@ ask-load known (HasCopy number rows) e = absurd (true≢false e)
 
 pub asks-by_attempt : (kept : Kept) (result : Option Ask) → ((turns : List ReplicaTurn) → StandsFor kept turns → result ≡ next_ask (known_by turns)) → AsksByAttempt kept result
 asks-by_attempt kept result next turns stood rows load =
-    next turns stood ∙ ask-load (known_by turns) (known_by turns).held load ∙ ap load_ask (held-of-loads turns) ∙ asks-of_attempts (loads_of turns) rows
+    next turns stood ∙ ask-load (known_by turns) (known_by turns).held load ∙ ap load_ask (loads-are-of-turns turns) ∙ asks-of_attempts (load_turns turns) rows
 
 -- ---- replies to the load
 
@@ -100,7 +104,7 @@ reply-loaded known (HasCopy number rows) shown e = absurd (true≢false e)
 pub takes-by_attempt : (kept : Kept) (shown : Shown) (result : Result Read AnswerError)
     → ((turns : List ReplicaTurn) → StandsFor kept turns → IsAnswer (with_reply (known_by turns) (known_by turns).held shown) result) → TakesByAttempt kept shown result
 takes-by_attempt kept shown result answer turns stood rows load =
-    subst (λ (v : Verdict). IsVerdict v result) (ap (λ (h : Held). verdict_of (taken h shown)) (held-of-loads turns) ∙ refusals-of_attempts (loads_of turns) shown rows)
+    subst (λ (v : Verdict). IsVerdict v result) (ap (λ (h : Held). verdict_of (taken h shown)) (loads-are-of-turns turns) ∙ refusals-of_attempts (load_turns turns) shown rows)
     (verdict-loaded (known_by turns) (taken (known_by turns).held shown) result
     (subst (λ (o : Outcome). IsAnswer o result) (reply-loaded (known_by turns) (known_by turns).held shown load) (answer turns stood)))
 
@@ -130,7 +134,7 @@ runs-same known (HasCopy number rows) = (λ e. absurd (copy-runs known (least_un
 pub says-by_attempt : (kept : Kept) (result : Says) → ((turns : List ReplicaTurn) → StandsFor kept turns → result ≡ says turns) → SaysByAttempt kept result
 says-by_attempt kept result said turns stood rows none =
     let whole : result ≡ says_without_gap (known_by turns) (known_by turns).held = said turns stood ∙ ap (λ (o : Option ℕ). says_of o (known_by turns)) none in
-    let load : load_says (known_by turns).held ≡ says_by (attempt_of (loads_of turns)) = ap load_says (held-of-loads turns) ∙ answers-of_attempts (loads_of turns) rows in
+    let load : load_says (known_by turns).held ≡ says_by (attempt_of (load_turns turns)) = ap load_says (loads-are-of-turns turns) ∙ answers-of_attempts (load_turns turns) rows in
     let same = runs-same (known_by turns) (known_by turns).held in
     (λ e. sym load ∙ same.0 (sym whole ∙ e), λ e. whole ∙ same.1 (load ∙ e))
 
@@ -146,4 +150,21 @@ pub rows-shown : (kept : Kept) (at : ℕ) (result : Option (Bor ObjectRow)) (tur
     → IfSome result (λ row. WasShown row.now turns)
 rows-shown kept at None turns is stood = tt
 rows-shown kept at (Some row) turns is stood =
-    at-place (λ (r : ObjectRow). WasShown r turns) (copied (known_by turns)) at row.now (copied-were-shown turns) (sym (is turns stood))
+    at-place (λ (r : ObjectRow). WasShown r turns) (copied (known_by turns)) at row.now (copies-shown turns) (sym (is turns stood))
+
+-- ---- the rows of a copy are the attempt's, with what befell it since
+
+all-held : (held : Held) (happenings : List Happening) → has_copy held ≡ true → phase_all (phase_of held happenings) ≡ rows_after (load_copied held) happenings
+all-held Idle happenings e = absurd (true≢false (sym e))
+all-held Begun happenings e = absurd (true≢false (sym e))
+all-held HasToken happenings e = absurd (true≢false (sym e))
+all-held (HasNumber number) happenings e = absurd (true≢false (sym e))
+all-held (HasRoot number root) happenings e = absurd (true≢false (sym e))
+all-held (Lists number listing) happenings e = absurd (true≢false (sym e))
+all-held (HasPage number listing page) happenings e = absurd (true≢false (sym e))
+all-held (HasCopy number rows) happenings e = known-copied rows happenings
+
+pub copies-by_attempt : (kept : Kept) (rows : List KnownRow) → rows ≡ phase_all kept.known.phase → CopiesByAttempt kept rows
+copies-by_attempt kept rows is turns stood shown copy =
+    is ∙ ap (λ (k : Kept). phase_all k.known.phase) stood ∙ all-held (known_by turns).held (known_by turns).happenings copy
+    ∙ ap (λ (l : List ObjectRow). rows_after l (known_by turns).happenings) (ap load_copied (loads-are-of-turns turns) ∙ copies-of_attempts (load_turns turns) shown)

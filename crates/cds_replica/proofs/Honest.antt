@@ -12,7 +12,7 @@ use Rattle.cds_notes.specs.Given.{oldest, moment_after, Asks, Granted, Gets, giv
 use Rattle.cds_notes.specs.declared.says.Says.{Says}
 use Rattle.cds_notes.proofs.Honest.{calls-taken, copies-stood}
 use Rattle.cds_notes.proofs.Complete.{answers-complete}
-use Rattle.cds_replica.specs.Called.{IsTaken, IsNotice, IsAcceptance, IsAnswer, UnlessFull, UnlessMem}
+use Rattle.cds_replica.specs.Called.{IsTaken, IsNotice, IsAcceptance, IsAnswer, UnlessNoMemory, UnlessMem}
 use Rattle.cds_replica.specs.Honest.{IsReadThen, IsHeardThen, TakesGiven, HearsGiven, AcceptsGiven, SaysGiven, CompletesGiven}
 use Rattle.cds_replica.specs.Keeping.{phase_rows, kept_says}
 use Rattle.cds_replica.specs.Kept.{Kept, StandsFor}
@@ -57,7 +57,7 @@ takes-given old new shown result answers first commands entries k accepted given
 
 pub hears-given : (old new : Kept) (note : Note) (result : Result Taken NotifyError)
     → ((turns : List ReplicaTurn) → StandsFor old turns →
-    UnlessFull result (StandsFor new (and_turn (Delivers note) turns)) × IsNotice (arrival note turns) (with_notes (taken_by (Delivers note) turns) (known_by turns)) result)
+    UnlessNoMemory result (StandsFor new (and_turn (Delivers note) turns)) × IsNotice (arrival note turns) (with_notes (taken_by (Delivers note) turns) (known_by turns)) result)
     → HearsGiven old note new result
 hears-given old new note result all first commands entries k accepted given stood =
     by result (all turns stood).0 (all turns stood).1
@@ -68,7 +68,7 @@ hears-given old new note result all first commands entries k accepted given stoo
     taken : IsTaken (with_notes (taken_by (Delivers note) turns) (known_by turns))
     taken = calls-taken first commands (Gets k note) entries accepted given
 
-    by : (result : Result Taken NotifyError) → UnlessFull result (StandsFor new (and_turn (Delivers note) turns))
+    by : (result : Result Taken NotifyError) → UnlessNoMemory result (StandsFor new (and_turn (Delivers note) turns))
         → IsNotice (arrival note turns) (with_notes (taken_by (Delivers note) turns) (known_by turns)) result → IsHeardThen result (StandsFor new (and_turn (Delivers note) turns))
     by (Ok x) then is = then
     by (Err Unknown) then is = then
@@ -79,7 +79,7 @@ hears-given old new note result all first commands entries k accepted given stoo
 
 pub accepts-given : (old new : Kept) (name : ℕ) (result : Result (Unit {0}) NotifyError)
     → ((turns : List ReplicaTurn) → StandsFor old turns →
-    UnlessFull result (StandsFor new (and_turn (Accepts name) turns)) × IsAcceptance (with_notes (taken_by (Accepts name) turns) (known_by turns)) result)
+    UnlessNoMemory result (StandsFor new (and_turn (Accepts name) turns)) × IsAcceptance (with_notes (taken_by (Accepts name) turns) (known_by turns)) result)
     → AcceptsGiven old name new result
 accepts-given old new name result all first commands entries k accepted given stood =
     by result (all turns stood).0 (all turns stood).1
@@ -90,7 +90,7 @@ accepts-given old new name result all first commands entries k accepted given st
     taken : IsTaken (with_notes (taken_by (Accepts name) turns) (known_by turns))
     taken = calls-taken first commands (Granted k name) entries accepted given
 
-    by : (result : Result (Unit {0}) NotifyError) → UnlessFull result (StandsFor new (and_turn (Accepts name) turns))
+    by : (result : Result (Unit {0}) NotifyError) → UnlessNoMemory result (StandsFor new (and_turn (Accepts name) turns))
         → IsAcceptance (with_notes (taken_by (Accepts name) turns) (known_by turns)) result → IsHeardThen result (StandsFor new (and_turn (Accepts name) turns))
     by (Ok x) then is = then
     by (Err Unknown) then is = then

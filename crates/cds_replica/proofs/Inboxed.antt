@@ -68,7 +68,7 @@ repeat-kept note turns = by (is_accepted note.name turns) refl
     by true e = has-kept note.name note.seq turns (accepted-name note.name turns e)
     by false e = ap (λ b. is_out turns && b) (sym (different-any note (early_notes turns)))
 
-held-kept : (turns : List ReplicaTurn) → length (held_notes turns) ≡ held_count (inbox_of turns)
+pub held-kept : (turns : List ReplicaTurn) → length (held_notes turns) ≡ held_count (inbox_of turns)
 held-kept turns = length-append {A = Note} (waiting_notes turns) (different (early_notes turns))
 
 -- what becomes of a note is settled by what is kept

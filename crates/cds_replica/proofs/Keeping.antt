@@ -17,8 +17,8 @@ use Rattle.cds_notes.specs.Follow.{Known, position, changes_above, Outcome, Know
 use Rattle.cds_replica.specs.Copied.{KeptCopy, copy_of, IsSound, AreAbove}
 use Rattle.cds_replica.specs.CopySteps.{Count, count_from, count_of, copy_read as copy_with, version_of}
 use Rattle.cds_replica.specs.Ended.{end_count}
-use Rattle.cds_replica.specs.Kept.{KeptPhase, Copies, phase_of, KeptKnown, kept_known, kept_of}
-use Rattle.cds_replica.specs.Keeping.{Becomes, Leads, Unreadable, Leap, Tear, with_what, kept_outcome, of_count, hears_changes, with_telling, load_takes, with_phase, row_of_read, object_of_read, copy_takes, answers, phase_ask, copy_tells, phase_tells, tells_or_gap, kept_says, phase_rows}
+use Rattle.cds_replica.specs.Kept.{KeptPhase, Loads, Copies, phase_of, KeptKnown, kept_known, kept_of}
+use Rattle.cds_replica.specs.Keeping.{Becomes, Leads, Unreadable, Leap, Tear, with_what, kept_outcome, of_count, hears_changes, with_telling, load_takes, with_phase, row_of_read, object_of_read, copy_takes, answers, phase_ask, copy_tells, phase_tells, tells_or_gap, kept_says, phase_rows, phase_all}
 use Rattle.cds_replica.specs.Telling.{tells, nothing_told}
 use Rattle.cds_replica.proofs.Inboxed.{missing-kept}
 use Rattle.cds_replica.proofs.KeptCounts.{count-kept, known-copied, can-same, read-copied}
@@ -215,3 +215,10 @@ rows-held (HasCopy number rows) happenings = ap (filter_map shown_row) (known-co
 
 pub rows-kept : (turns : List ReplicaTurn) → phase_rows (kept_of turns).known.phase ≡ copied (known_by turns)
 rows-kept turns = rows-held (known_by turns).held (known_by turns).happenings
+
+all-rows : (phase : KeptPhase) → filter_map shown_row (phase_all phase) ≡ phase_rows phase
+all-rows (Loads held) = refl
+all-rows (Copies number copy) = refl
+
+pub all-kept : (turns : List ReplicaTurn) → filter_map shown_row (phase_all (kept_of turns).known.phase) ≡ copied (known_by turns)
+all-kept turns = all-rows (kept_of turns).known.phase ∙ rows-kept turns

@@ -10,7 +10,7 @@ use Rattle.cds_notes.specs.Copy.{KnownRow, known_of, knows, knows_container, can
 use Rattle.cds_notes.specs.Follow.{Known, Knows, Jumps, first_torn, judged, counted_from, is_of}
 use Rattle.cds_notes.specs.ServerLaws.{befalling}
 use Rattle.cds_notes.proofs.Copies.{read-up-to}
-use Rattle.cds_replica.specs.Copied.{KeptRow, IsSound, AreAbove, kept_row, copy_of, known_rows}
+use Rattle.cds_replica.specs.Copied.{KeptRow, IsSound, AreAbove, kept_row, copy_of, bare_rows}
 use Rattle.cds_replica.specs.CopySteps.{rows_changed_by, cannot_come, first_cannot, Counts, Leaps, judged_count, count_from, count_of, version_of, copy_read, can_be_of}
 use Rattle.cds_replica.proofs.KeptIds.{root-stays, root-stands, distinct-after}
 use Rattle.cds_replica.proofs.KeptSteps.{rows-of, change-kept, read-kept}
@@ -74,11 +74,11 @@ first-same rows (event ∷ events) e =
 
 -- ---- what becomes of changes
 
-pub known-copied : (rows : List ObjectRow) (happenings : List Happening) → known_rows (copy_of rows happenings) ≡ rows_after rows happenings
+pub known-copied : (rows : List ObjectRow) (happenings : List Happening) → bare_rows (copy_of rows happenings) ≡ rows_after rows happenings
 known-copied rows happenings = rows-of happenings (rows_after rows happenings)
 
 pub cannot-same : (rows : List ObjectRow) (happenings : List Happening) (events : List Event) → IsSound rows happenings
-    → first_cannot (known_rows (copy_of rows happenings)) events ≡ first_torn (rows_after rows happenings) events
+    → first_cannot (bare_rows (copy_of rows happenings)) events ≡ first_torn (rows_after rows happenings) events
 cannot-same rows happenings events sound =
     ap (λ (l : List KnownRow). first_cannot l events) (known-copied rows happenings) ∙ first-same (rows_after rows happenings) events (root-stands rows happenings sound)
 
@@ -96,7 +96,7 @@ count-kept rows known at (event ∷ events) sound above = by (nat_eq (update_of 
         λ i. Counts (record { rows = rest.1 i; read_up_to = read-up-to (event ∷ events) known.happenings i })
 
     by : (b : Bool) → count_of rows (cond b (judged known (event ∷ events) (first_torn (rows_after rows known.happenings) (event ∷ events))) (Jumps (at + 1) (update_of event)))
-        ≡ cond b (judged_count (copy_of rows known.happenings) (event ∷ events) (first_cannot (known_rows (copy_of rows known.happenings)) (event ∷ events))) (Leaps (at + 1) (update_of event))
+        ≡ cond b (judged_count (copy_of rows known.happenings) (event ∷ events) (first_cannot (bare_rows (copy_of rows known.happenings)) (event ∷ events))) (Leaps (at + 1) (update_of event))
     by true =
         on (first_torn (rows_after rows known.happenings) (event ∷ events)) refl
         ∙ ap (judged_count (copy_of rows known.happenings) (event ∷ events)) (sym (cannot-same rows known.happenings (event ∷ events) sound))

@@ -12,7 +12,7 @@ use Rattle.cds_event.specs.declared.Event.{Event}
 use Rattle.cds_model.specs.Replica.{Lists, HasCopy, Waiting, Listing as Progress, put_by, puts_by, put_rows, put_containers, waiting_of, others_waiting, listed}
 use Rattle.cds_changes.specs.Events.{update_of}
 use Rattle.cds_notes.specs.Follow.{changes_above}
-use Rattle.cds_replica.specs.Copied.{KeptRow, KeptCopy, copy_of, known_rows}
+use Rattle.cds_replica.specs.Copied.{KeptRow, KeptCopy, copy_of, bare_rows}
 use Rattle.cds_replica.specs.CopySteps.{loaded_row, rows_changed_by, AddsNoRoot, first_cannot, Count, Counts, Leaps, Tears, judged_count, count_from, leap_from}
 use Rattle.cds_replica.specs.Outlines.{shown_outline, outlines_of, outline_id, outlines_cannot}
 use Rattle.cds_replica.specs.Ended.{end_count, whole_rows, tracks, is_end, IsRefusal}
@@ -66,7 +66,7 @@ module _ (rows : List ObjectRow) (number : ℕ) (kept changes : List Event) (is 
   whole : (becomes : Count) → count_from (copy_of rows []) number changes ≡ becomes → end_count rows number kept ≡ becomes
   whole becomes e = ap (count_from (copy_of rows []) number) (sym is) ∙ e
 
-  cannot : (outlines : List Outline) → outlines ≡ map shown_outline rows → outlines_cannot outlines changes ≡ first_cannot (known_rows (copy_of rows [])) changes
+  cannot : (outlines : List Outline) → outlines ≡ map shown_outline rows → outlines_cannot outlines changes ≡ first_cannot (bare_rows (copy_of rows [])) changes
   cannot outlines e =
       ap (λ (l : List Outline). outlines_cannot l changes) (e ∙ sym (outlines-loaded rows)) ∙ outlined-cannot (copy_of rows []).rows changes
 
@@ -82,7 +82,7 @@ module _ (rows : List ObjectRow) (number : ℕ) (kept changes : List Event) (is 
   end-torn outlines id e leap some = whole (Tears id) (count-torn (copy_of rows []) number changes id leap (sym (cannot outlines e) ∙ some))
 
   pub end-no-root : (outlines : List Outline) → outlines ≡ map shown_outline rows → outlines_cannot outlines changes ≡ None → AllByRecursion AddsNoRoot changes
-  end-no-root outlines e none = no-root (known_rows (copy_of rows [])) changes (sym (cannot outlines e) ∙ none)
+  end-no-root outlines e none = no-root (bare_rows (copy_of rows [])) changes (sym (cannot outlines e) ∙ none)
 
   pub end-leap : (refusal : CountError) → leap_from number changes ≡ Some refusal → IsRefusal (end_count rows number kept) refusal
   end-leap refusal e = subst (λ (l : List Event). IsRefusal (count_from (copy_of rows []) number l) refusal) is (by changes e)
@@ -95,7 +95,7 @@ module _ (rows : List ObjectRow) (number : ℕ) (kept changes : List Event) (is 
       by [] f = let no : ⊥ = cc in absurd no
       by (event ∷ events) f =
           on (copy_of rows []) (number + 1) (update_of event) (nat_eq (update_of event) (number + 1))
-          (judged_count (copy_of rows []) (event ∷ events) (first_cannot (known_rows (copy_of rows [])) (event ∷ events))) f
+          (judged_count (copy_of rows []) (event ∷ events) (first_cannot (bare_rows (copy_of rows [])) (event ∷ events))) f
 
 -- ---- whether a load ends
 

@@ -10,7 +10,7 @@ use Rattle.cds_event.specs.declared.Event.TheVariants.{ObjAdd, ObjMod, ObjDel, S
 use Rattle.cds_changes.specs.Events.{update_of}
 use Rattle.cds_catalog.proofs.StepsFind.{none≢some}
 use Rattle.cds_notes.specs.Copy.{Version, KnownRow, object_of, changed, cannot_be}
-use Rattle.cds_replica.specs.Copied.{KeptRow, KeptCopy, known_rows}
+use Rattle.cds_replica.specs.Copied.{KeptRow, KeptCopy, bare_rows}
 use Rattle.cds_replica.specs.CopySteps.{read_of_row, rows_read, rows_changed_by, AddsNoRoot, cannot_come, first_cannot, Counts, Leaps, Tears, judged_count, count_from, leap_from}
 use Rattle.cds_replica.specs.Outlines.{outlines_of, outlines_cannot}
 use Rattle.cds_replica.specs.declared.outline.Outline.{Outline}
@@ -47,12 +47,12 @@ module _ (copy : KeptCopy) (at : ℕ) where
       by true f = refl
       by false f = none≢some None (Jump (at + 1) (update_of event)) refl (sym f)
 
-  pub count-torn : (events : List Event) (id : ℕ) → leap_from at events ≡ None → first_cannot (known_rows copy) events ≡ Some id → count_from copy at events ≡ Tears id
+  pub count-torn : (events : List Event) (id : ℕ) → leap_from at events ≡ None → first_cannot (bare_rows copy) events ≡ Some id → count_from copy at events ≡ Tears id
   count-torn [] id e f = none≢some None id refl f
   count-torn (event ∷ events) id e f =
       (λ i. cond (leaps-not event events e i) (judged_count copy (event ∷ events) (f i)) (Leaps (at + 1) (update_of event)))
 
-  pub count-counts : (events : List Event) → leap_from at events ≡ None → first_cannot (known_rows copy) events ≡ None
+  pub count-counts : (events : List Event) → leap_from at events ≡ None → first_cannot (bare_rows copy) events ≡ None
       → count_from copy at events ≡ Counts (record { rows = rows_changed_by copy.rows events; read_up_to = copy.read_up_to })
   count-counts [] e f = refl
   count-counts (event ∷ events) e f =
@@ -60,7 +60,7 @@ module _ (copy : KeptCopy) (at : ℕ) where
 
 -- what was decided in outline
 pub decided : (copy : KeptCopy) (events : List Event) (outlines : List Outline) (found o : Option ℕ) → outlines ≡ outlines_of copy.rows
-    → found ≡ outlines_cannot outlines events → found ≡ o → first_cannot (known_rows copy) events ≡ o
+    → found ≡ outlines_cannot outlines events → found ≡ o → first_cannot (bare_rows copy) events ≡ o
 decided copy events outlines found o same is e =
     sym (outlined-cannot copy.rows events) ∙ ap (λ (l : List Outline). outlines_cannot l events) (sym same) ∙ sym is ∙ e
 

@@ -248,7 +248,7 @@ new-above at (note ∷ notes) =
     (above-lower at (max at note.number) (new_changes (max at note.number) notes) (omega arith) (new-above (max at note.number) notes))
 
 -- changes leave what is held as it is
-pub counted-held : (rows : List ObjectRow) (known : Known) (at : ℕ) (events : List Event) (now : Known) → counted_from rows known at events ≡ Knows now → now.held ≡ known.held
+counted-held : (rows : List ObjectRow) (known : Known) (at : ℕ) (events : List Event) (now : Known) → counted_from rows known at events ≡ Knows now → now.held ≡ known.held
 counted-held rows known at [] now e = let same : known ≡ now = cc in ap (λ (k : Known). k.held) (sym same)
 counted-held rows known at (event ∷ events) now e = by (nat_eq (update_of event) (at + 1)) (first_torn (rows_after rows known.happenings) (event ∷ events)) e
   where

@@ -6,7 +6,6 @@ pub mod Keeping
 pub mod KeptCounts
 pub mod KeptEnding
 pub mod KeptIds
-pub mod KeptLoads
 pub mod KeptLoops
 pub mod KeptOutlines
 pub mod KeptSteps

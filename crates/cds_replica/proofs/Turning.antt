@@ -1,15 +1,15 @@
 -- What is kept after a turn.
-use Rattle.std.proofs.Common.{◌≡◌, ℕ, true, false, cond, ◌||◌, List, [], ◌∷◌, Result, Ok, Err, refl, sym, ap, ◌∙◌}
+use Rattle.std.proofs.Common.{◌≡◌, ◌≤◌, ℕ, true, false, cond, ◌||◌, List, [], ◌∷◌, Result, Ok, Err, refl, sym, ap, ◌∙◌, subst}
 use Rattle.std.proofs.lemmas.List.{append-nil}
 use Rattle.cds_event.specs.declared.Event.{Event}
 use Rattle.cds_model.specs.Replica.{Held, Idle, Begun, HasToken, HasNumber, HasRoot, Lists, HasPage, HasCopy}
 use Rattle.cds_model.specs.declared.exchange.Read.{Read}
 use Rattle.cds_model.specs.declared.exchange.Shown.{Shown}
 use Rattle.cds_notes.specs.Commands.{Note}
-use Rattle.cds_notes.specs.Inbox.{ReplicaTurn, Shows, Accepts, Delivers, Arrival, IsUnknown, IsRepeat, IsTooMany, IsEarly, IsHeld, IsNext, arrival, taken_by}
+use Rattle.cds_notes.specs.Inbox.{ReplicaTurn, Shows, Accepts, Delivers, Arrival, IsUnknown, IsRepeat, IsTooMany, IsEarly, IsHeld, IsNext, held_limit, arrival, taken_by}
 use Rattle.cds_notes.specs.Follow.{Known, Outcome, Knows, CannotBeRead, Jumps, Tears, with_notes, with_reply, known_after, known_by, is_no, is_turned_away, is_refused, and_turn}
-use Rattle.cds_replica.specs.Called.{TakesTurn, IsNotice, IsAcceptance, IsAnswer, UnlessFull, UnlessMem, of_notes, IsTaking, IsDelivered}
-use Rattle.cds_replica.specs.Inboxed.{KeptInbox, inbox_of, arrival_in, with_name, taken_early, with_note, taken_in, followers}
+use Rattle.cds_replica.specs.Called.{TakesTurn, HoldsFew, IsNotice, IsAcceptance, IsAnswer, UnlessNoMemory, UnlessMem, of_notes, IsTaking, IsDelivered}
+use Rattle.cds_replica.specs.Inboxed.{KeptInbox, IsInbox, inbox_of, held_count, arrival_in, with_name, taken_early, with_note, taken_in, followers}
 use Rattle.cds_replica.specs.Keeping.{Becomes, Leads, Unreadable, Leap, Tear, with_what, kept_outcome, kept_changes, hears_changes, with_telling, answers, IsStep}
 use Rattle.cds_replica.specs.Kept.{KeptPhase, Loads, Copies, KeptKnown, kept_known, kept_position, Kept, kept_of, StandsFor}
 use Rattle.cds_replica.specs.Telling.{tells, nothing_told}
@@ -19,7 +19,7 @@ use Rattle.cds_replica.specs.declared.note.Taken.{Taken}
 use Rattle.cds_replica.specs.declared.note.Taken.TheVariants.{Took, Repeat, Early, Held as Waits}
 use Rattle.cds_replica.specs.declared.notify_error.NotifyError.{NotifyError}
 use Rattle.cds_replica.specs.declared.notify_error.NotifyError.TheVariants.{Unknown, Full, Jump, Torn, Mem}
-use Rattle.cds_replica.proofs.Inboxed.{arrival-kept, accepted-kept, accepted-taken, delivered-kept}
+use Rattle.cds_replica.proofs.Inboxed.{held-kept, arrival-kept, accepted-kept, accepted-taken, delivered-kept}
 use Rattle.cds_replica.proofs.KeptTurns.{turns-sound}
 use Rattle.cds_replica.proofs.Keeping.{notes-kept, reply-kept}
 
@@ -65,6 +65,12 @@ kept-then : (known now : Known) (inbox : KeptInbox) (o : Outcome) (new : Kept) �
     → new ≡ record { known = kept_known (known_after known o); inbox = inbox }
 kept-then known now inbox o new e same box = λ i. record { known = (sym same ∙ ap (λ (o : Outcome). kept_known (known_after known o)) (sym e)) i; inbox = box i }
 
+-- ---- few notes are held
+
+pub holds-few : (kept : Kept) → IsInbox kept.inbox → HoldsFew kept
+holds-few kept is turns stood =
+    subst (λ (count : ℕ). count ≤ held_limit) (ap (λ (k : Kept). held_count k.inbox) stood ∙ sym (held-kept turns)) is.few
+
 -- ---- a name is accepted
 
 of-early : (name : ℕ) (turns : List ReplicaTurn) (old : Kept) → old ≡ kept_of turns
@@ -76,7 +82,7 @@ of-early name turns old stood =
 
 pub accepted-stands : (name : ℕ) (turns : List ReplicaTurn) (old new : Kept) (result : Result (Unit {0}) NotifyError) → StandsFor old turns
     → IsTaking (of_notes (taken_early name old.inbox) old.known) old (with_name name old.inbox) new result
-    → UnlessFull result (StandsFor new (and_turn (Accepts name) turns)) × IsAcceptance (with_notes (taken_by (Accepts name) turns) (known_by turns)) result
+    → UnlessNoMemory result (StandsFor new (and_turn (Accepts name) turns)) × IsAcceptance (with_notes (taken_by (Accepts name) turns) (known_by turns)) result
 accepted-stands name turns old new (Ok done) stood is =
     let lead = leads-known (with_notes (taken_by (Accepts name) turns) (known_by turns)) new.known (sym (of-early name turns old stood) ∙ is.0) in
     let box : new.inbox ≡ inbox_of (Accepts name ∷ turns) = is.1 ∙ ap (λ (kept : Kept). with_name name kept.inbox) stood ∙ sym (accepted-kept name turns) in (
@@ -171,7 +177,7 @@ module _ (note : Note) (turns : List ReplicaTurn) (old new : Kept) (stood : Stan
       ∙ sym (notes-kept (note ∷ followers old.inbox) (known_by turns) (turns-sound turns)) ∙ ap kept_outcome (sym here.1)
 
   pub delivered-stands : (result : Result Taken NotifyError) → IsDelivered (arrival_in note old.inbox) note old new result
-      → UnlessFull result (StandsFor new (and_turn (Delivers note) turns)) × IsNotice (arrival note turns) out result
+      → UnlessNoMemory result (StandsFor new (and_turn (Delivers note) turns)) × IsNotice (arrival note turns) out result
   delivered-stands (Ok Took) is =
       let here = at IsNext (sym arrives ∙ is.0) refl in
       let lead = leads-known out new.known (sym (of-next is.0) ∙ is.1) in (
@@ -242,14 +248,14 @@ step-unchanged becomes old new AnswerMem is = is
 
 -- ---- a fact for every list of turns that holds unless memory ran out
 
-pub unless-full : {A : Type 0} (result : Result A NotifyError) (old new : Kept) (turn : ReplicaTurn)
-    → ((turns : List ReplicaTurn) → StandsFor old turns → UnlessFull result (StandsFor new (and_turn turn turns))) → UnlessFull result (TakesTurn old turn new)
-unless-full (Ok x) old new turn h = h
-unless-full (Err Unknown) old new turn h = h
-unless-full (Err (Full held)) old new turn h = h
-unless-full (Err (Jump expected first)) old new turn h = h
-unless-full (Err (Torn id)) old new turn h = h
-unless-full (Err Mem) old new turn h = tt
+pub unless-no_memory : {A : Type 0} (result : Result A NotifyError) (old new : Kept) (turn : ReplicaTurn)
+    → ((turns : List ReplicaTurn) → StandsFor old turns → UnlessNoMemory result (StandsFor new (and_turn turn turns))) → UnlessNoMemory result (TakesTurn old turn new)
+unless-no_memory (Ok x) old new turn h = h
+unless-no_memory (Err Unknown) old new turn h = h
+unless-no_memory (Err (Full held)) old new turn h = h
+unless-no_memory (Err (Jump expected first)) old new turn h = h
+unless-no_memory (Err (Torn id)) old new turn h = h
+unless-no_memory (Err Mem) old new turn h = tt
 
 pub unless-mem : (result : Result Read AnswerError) (old new : Kept) (turn : ReplicaTurn)
     → ((turns : List ReplicaTurn) → StandsFor old turns → UnlessMem result (StandsFor new (and_turn turn turns))) → UnlessMem result (TakesTurn old turn new)

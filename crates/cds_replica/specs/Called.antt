@@ -1,7 +1,7 @@
 -- What a replica's calls say of every list of turns that it stood for, honest or not.
-use Rattle.std.specs.Prelude.{◌≡◌, List, ◌∷◌, Result, Ok, Err}
+use Rattle.std.specs.Prelude.{◌≡◌, ◌≤◌, List, ◌∷◌, length, Result, Ok, Err}
 use Rattle.cds_model.specs.declared.exchange.Read.{Read}
-use Rattle.cds_notes.specs.Inbox.{ReplicaTurn, Arrival, IsUnknown, IsRepeat, IsTooMany, IsEarly, IsHeld, IsNext}
+use Rattle.cds_notes.specs.Inbox.{ReplicaTurn, held_notes, held_limit, Arrival, IsUnknown, IsRepeat, IsTooMany, IsEarly, IsHeld, IsNext}
 use Rattle.cds_notes.specs.Commands.{Note}
 use Rattle.cds_notes.specs.Follow.{Known, Outcome, Knows, CannotBeRead, Jumps, Tears, is_drop, and_turn}
 use Rattle.cds_replica.specs.Inboxed.{KeptInbox, with_early, with_waiting, followers, with_next}
@@ -24,6 +24,10 @@ GoesOn old turn new = (turns : List ReplicaTurn) → StandsFor old turns → Sta
 -- what stood for some turns stands for them and this one, where it is not refused
 abbrev pub TakesTurn : Kept → ReplicaTurn → Kept → Type 0
 TakesTurn old turn new = (turns : List ReplicaTurn) → StandsFor old turns → StandsFor new (and_turn turn turns)
+
+-- at most 64 notes are held, early ones included
+abbrev pub HoldsFew : Kept → Type 0
+HoldsFew kept = (turns : List ReplicaTurn) → StandsFor kept turns → length (held_notes turns) ≤ held_limit
 
 -- something was taken
 abbrev pub IsTaken : Outcome → Type 0
@@ -60,13 +64,13 @@ IsAnswer becomes (Err (AnswerTorn id)) = becomes ≡ Tears id
 IsAnswer becomes (Err AnswerMem) = Unit {0}
 
 -- a fact that holds unless memory ran out
-abbrev pub UnlessFull : {A : Type 0} → Result A NotifyError → Type 0 → Type 0
-UnlessFull (Ok x) fact = fact
-UnlessFull (Err Unknown) fact = fact
-UnlessFull (Err (Full held)) fact = fact
-UnlessFull (Err (Jump expected first)) fact = fact
-UnlessFull (Err (Torn id)) fact = fact
-UnlessFull (Err Mem) fact = Unit {0}
+abbrev pub UnlessNoMemory : {A : Type 0} → Result A NotifyError → Type 0 → Type 0
+UnlessNoMemory (Ok x) fact = fact
+UnlessNoMemory (Err Unknown) fact = fact
+UnlessNoMemory (Err (Full held)) fact = fact
+UnlessNoMemory (Err (Jump expected first)) fact = fact
+UnlessNoMemory (Err (Torn id)) fact = fact
+UnlessNoMemory (Err Mem) fact = Unit {0}
 
 abbrev pub UnlessMem : Result Read AnswerError → Type 0 → Type 0
 UnlessMem (Ok read) fact = fact

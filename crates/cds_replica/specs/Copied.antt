@@ -65,8 +65,8 @@ copy_of rows happenings = record {
 }
 
 -- its rows without the numbers
-abbrev pub known_rows : KeptCopy → List KnownRow
-known_rows copy = map (λ (kept : KeptRow). kept.row) copy.rows
+abbrev pub bare_rows : KeptCopy → List KnownRow
+bare_rows copy = map (λ (kept : KeptRow). kept.row) copy.rows
 
 -- no two rows have one id
 abbrev pub AreDistinct : List KnownRow → Type 0

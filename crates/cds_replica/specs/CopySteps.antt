@@ -12,7 +12,7 @@ use Rattle.cds_changes.specs.Events.{update_of}
 use Rattle.cds_model.specs.Replica.{put_by}
 use Rattle.cds_notes.specs.Copy.{Version, KnownRow, known_row, known_of, parent_in, counts_addition, counts_modification, counts_deletion, is_container, added_row, changed, cannot_be, object_of, newer}
 use Rattle.cds_notes.specs.Follow.{Outcome, Knows, CannotBeRead, Jumps, Tears as Cannot, is_of}
-use Rattle.cds_replica.specs.Copied.{KeptRow, KeptCopy, kept_id, copy_of, known_rows}
+use Rattle.cds_replica.specs.Copied.{KeptRow, KeptCopy, kept_id, copy_of, bare_rows}
 use Rattle.cds_replica.specs.declared.copy_row.ChildChange.{ChildChange}
 use Rattle.cds_replica.specs.declared.copy_row.ChildChange.TheVariants.{Added, Modified, Deleted}
 use Rattle.cds_replica.specs.declared.count_error.CountError.{CountError}
@@ -120,7 +120,7 @@ judged_count copy events None = Counts (record copy { rows = rows_changed_by cop
 abbrev pub count_from : KeptCopy → ℕ → List Event → Count
 count_from copy at [] = Counts copy
 count_from copy at (event ∷ events) =
-    cond (nat_eq (update_of event) (at + 1)) (judged_count copy (event ∷ events) (first_cannot (known_rows copy) (event ∷ events)))
+    cond (nat_eq (update_of event) (at + 1)) (judged_count copy (event ∷ events) (first_cannot (bare_rows copy) (event ∷ events)))
     (Leaps (at + 1) (update_of event))
 
 -- the same of what a replica knows whose copy began with these rows
@@ -167,4 +167,4 @@ copy_read copy id v = record { rows = rows_read id v copy.rows; read_up_to = max
 
 -- whether a row can be that of an object of a copy
 abbrev pub can_be_of : KeptCopy → ℕ → ObjectRow → Bool
-can_be_of copy id row = is_of id row (known_of id (known_rows copy))
+can_be_of copy id row = is_of id row (known_of id (bare_rows copy))

@@ -10,12 +10,12 @@ use Rattle.cds_model.specs.declared.exchange.Ask.TheVariants.{Metadata}
 use Rattle.cds_model.specs.declared.exchange.Read.{Read}
 use Rattle.cds_model.specs.declared.exchange.Shown.{Shown}
 use Rattle.cds_model.specs.declared.exchange.Shown.TheVariants.{Text, Number, Page, Fault}
-use Rattle.cds_notes.specs.Copy.{shown_row}
+use Rattle.cds_notes.specs.Copy.{KnownRow, shown_row}
 use Rattle.cds_notes.specs.Inbox.{missing_of}
 use Rattle.cds_notes.specs.Follow.{Outcome, Knows, CannotBeRead, Jumps, Tears}
 use Rattle.cds_notes.specs.declared.says.Says.{Says}
 use Rattle.cds_notes.specs.declared.says.Says.TheVariants.{Gap, BehindLoad, BehindRead, BehindVersion, Stands}
-use Rattle.cds_replica.specs.Copied.{KeptCopy, known_rows, least_wanted}
+use Rattle.cds_replica.specs.Copied.{KeptCopy, bare_rows, least_wanted}
 use Rattle.cds_replica.specs.CopySteps.{Count, Counts, Leaps, Tears as CannotCount, count_from, copy_read, version_of, can_be_of}
 use Rattle.cds_replica.specs.Ended.{end_count}
 use Rattle.cds_replica.specs.Kept.{KeptPhase, Loads, Copies, KeptKnown, kept_known, kept_position, Kept}
@@ -164,4 +164,9 @@ kept_says kept = tells_or_gap (missing_of kept.inbox.waiting kept.inbox.next) (p
 -- the rows of the copy whose objects are known
 abbrev pub phase_rows : KeptPhase → List ObjectRow
 phase_rows (Loads held) = []
-phase_rows (Copies number copy) = filter_map shown_row (known_rows copy)
+phase_rows (Copies number copy) = filter_map shown_row (bare_rows copy)
+
+-- all its rows, also those of which it is not known yet what they say
+abbrev pub phase_all : KeptPhase → List KnownRow
+phase_all (Loads held) = []
+phase_all (Copies number copy) = bare_rows copy

@@ -11,7 +11,6 @@ pub mod Inboxed
 pub mod Keeping
 pub mod Kept
 pub mod Known
-pub mod LoadTurns
 pub mod Outlines
 pub mod Phases
 pub mod Telling

@@ -5,16 +5,17 @@ ghost use Rattle.std.specs.List.{filter_map};
 ghost use Rattle.cds_notes.specs.Copy.{shown_row};
 ghost use Rattle.cds_replica.specs.Answer.{read_of};
 ghost use Rattle.cds_replica.specs.Keeping.{IsStep, copy_takes, row_of_read};
-ghost use Rattle.cds_replica.specs.Copied.{AreAbove, known_rows, lesser_of, least_wanted};
+ghost use Rattle.cds_replica.specs.Copied.{AreAbove, bare_rows, lesser_of, least_wanted};
 ghost use Rattle.cds_replica.specs.CopySteps.{IsCount, count_from, leap_from, copy_read, version_of, can_be_of};
 
+use crate::AnswerError;
 use crate::changes::update_of;
 use crate::copy_row::CopyRow;
 use crate::copy_rows::{additions, change_all, read};
+use crate::count_error::CountError;
 use crate::order::Identified;
 use crate::outline::{first_cannot, outlines_of};
 use crate::taking::only_row;
-use crate::{AnswerError, CountError};
 use cds_event::Event;
 use cds_model::{Read, Shown};
 use cds_object::{Row, Rows};
@@ -106,7 +107,7 @@ impl CatalogCopy {
 
     /// The row at a place among those of which it is known what they say, counted from 0. It takes a walk over the rows.
     pub fn row(&self, at: usize) -> Option<&Row>
-        ensures { option_copied result ≡ slice_get (filter_map shown_row (known_rows self.now)) at }
+        ensures { option_copied result ≡ slice_get (filter_map shown_row (bare_rows self.now)) at }
     {
         let mut left = at;
         for row in self.rows.iter() {

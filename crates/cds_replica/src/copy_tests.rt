@@ -1,8 +1,9 @@
 ghost use Rattle.std.specs.Prelude.{◌≡◌, ◌==◌, is_none};
 
 use crate::changes::changes_above;
+use crate::copy::CatalogCopy;
 use crate::copy_row::CopyRow;
-use crate::{CatalogCopy, CountError};
+use crate::count_error::CountError;
 use cds_base::{Mem, Text};
 use cds_event::{Class, Event};
 use cds_object::{Content, ObjectId, Row, TrackContent, Trackers};
@@ -126,70 +127,84 @@ fn answer_text(alloc: Global, answer: Result<(), CountError>) -> Result<String, 
 }
 
 /// Two changes after number 4, and what they are answered and lead to.
-#[derive(Drop)]
-struct Case {
-    changes: [Event; 2],
-    expected: &'static str,
-}
+type Case = (Event, Event, &'static str);
 
 /// What two changes are answered, and the copy then.
-fn outcome(alloc: Global, changes: &[Event]) -> Result<String, Fail> {
+fn outcome(alloc: Global, first: Event, second: Event) -> Result<String, Fail> {
     let mut copy = copy_at_4(alloc)?;
-    let changes = changes_above(alloc, 4, changes)?;
+    let changes = changes_above(alloc, 4, &[first, second])?;
     let answer = copy.count(alloc, 4, changes.as_slice());
     let mut text = answer_text(alloc, answer)?;
     text.push_str(text_of(alloc, &copy)?.as_str())?;
     Ok(text)
 }
 
+/// What is wanted of the first changes that are answered or lead to something else.
+fn first_wrong(alloc: Global, cases: &[Case]) -> Result<Option<&'static str>, Fail> {
+    for (first, second, want) in cases {
+        let text = outcome(alloc, *first, *second)?;
+        if text.as_str() != *want {
+            return Ok(Some(*want));
+        }
+    }
+    Ok(None)
+}
+
 #[test]
 fn changes_are_counted(rt: HostRuntime) -> Result<(), Fail> {
-    let alloc = rt.alloc();
-    let cases = [
-        Case {
-            changes: [added(3, 5, 1, Class::Track), modified(2, 6)],
-            expected: "counted: 0@4[4 1 0] 1@4[6 2 0] 2@4 ? unread 2",
-        },
-        Case {
-            changes: [deleted(2, 5), deleted(1, 6)],
-            expected: "counted: 0@4[6 0 1] ",
-        },
-        Case {
-            changes: [
-                added(3, 5, 0, Class::Container),
-                added(4, 6, 3, Class::Track),
-            ],
-            expected: "counted: 0@4[5 2 0] 1@4[4 1 0] 2@4 ? ? unread 3",
-        },
-        Case {
-            changes: [added(3, 5, 1, Class::Track), deleted(3, 6)],
-            expected: "counted: 0@4[4 1 0] 1@4[6 1 1] 2@4 ",
-        },
-        Case {
-            changes: [modified(2, 6), modified(2, 7)],
-            expected: "jump 5 6: 0@4[4 1 0] 1@4[4 1 0] 2@4 ",
-        },
-        Case {
-            changes: [deleted(2, 5), modified(2, 6)],
-            expected: "torn 2: 0@4[4 1 0] 1@4[4 1 0] 2@4 ",
-        },
-        Case {
-            changes: [modified(2, 5), deleted(1, 6)],
-            expected: "torn 1: 0@4[4 1 0] 1@4[4 1 0] 2@4 ",
-        },
-        Case {
-            changes: [added(3, 5, 2, Class::Track), modified(2, 6)],
-            expected: "torn 3: 0@4[4 1 0] 1@4[4 1 0] 2@4 ",
-        },
-        Case {
-            changes: [modified(0, 5), modified(2, 6)],
-            expected: "torn 0: 0@4[4 1 0] 1@4[4 1 0] 2@4 ",
-        },
+    let cases: [Case; 4] = [
+        (
+            added(3, 5, 1, Class::Track),
+            modified(2, 6),
+            "counted: 0@4[4 1 0] 1@4[6 2 0] 2@4 ? unread 2",
+        ),
+        (deleted(2, 5), deleted(1, 6), "counted: 0@4[6 0 1] "),
+        (
+            added(3, 5, 0, Class::Container),
+            added(4, 6, 3, Class::Track),
+            "counted: 0@4[5 2 0] 1@4[4 1 0] 2@4 ? ? unread 3",
+        ),
+        (
+            added(3, 5, 1, Class::Track),
+            deleted(3, 6),
+            "counted: 0@4[4 1 0] 1@4[6 1 1] 2@4 ",
+        ),
     ];
-    for case in &cases {
-        let text = outcome(alloc, &case.changes)?;
-        assert!(rt; text.as_str() == case.expected, "{}", text.as_str());
-    }
+    assert_eq!(rt; first_wrong(rt.alloc(), &cases)?, None);
+    Ok(())
+}
+
+/// Changes that cannot be leave the copy as it was.
+#[test]
+fn changes_are_refused(rt: HostRuntime) -> Result<(), Fail> {
+    let cases: [Case; 5] = [
+        (
+            modified(2, 6),
+            modified(2, 7),
+            "jump 5 6: 0@4[4 1 0] 1@4[4 1 0] 2@4 ",
+        ),
+        (
+            deleted(2, 5),
+            modified(2, 6),
+            "torn 2: 0@4[4 1 0] 1@4[4 1 0] 2@4 ",
+        ),
+        (
+            modified(2, 5),
+            deleted(1, 6),
+            "torn 1: 0@4[4 1 0] 1@4[4 1 0] 2@4 ",
+        ),
+        (
+            added(3, 5, 2, Class::Track),
+            modified(2, 6),
+            "torn 3: 0@4[4 1 0] 1@4[4 1 0] 2@4 ",
+        ),
+        (
+            modified(0, 5),
+            modified(2, 6),
+            "torn 0: 0@4[4 1 0] 1@4[4 1 0] 2@4 ",
+        ),
+    ];
+    assert_eq!(rt; first_wrong(rt.alloc(), &cases)?, None);
     Ok(())
 }
 

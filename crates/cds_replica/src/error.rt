@@ -9,8 +9,8 @@ pub enum AnswerError {
     /// The first change above the number of a load, of those that notes told meanwhile, is not the one after it.
     #[error("change {first} came where {expected} was to come")]
     Jump { expected: u32, first: u32 },
-    /// What was shown or told of this object cannot be: of the root's row this is said at once, of a page where the number after
-    /// it stayed.
+    /// What was shown or told of this object cannot be. Of the root's row, and of an object's own row, this is said at
+    /// once; of a page, where the number after it stayed; and of changes that notes told meanwhile, at the end of a load.
     #[error("what was shown of object {id} cannot be")]
     Torn { id: u32 },
     /// Memory ran out.

@@ -110,6 +110,13 @@ impl Inbox {
         }
     }
 
+    /// What holds of every inbox, which this makes known where a proof needs it.
+    pub fn facts(&self)
+        ensures { IsInbox self.now }
+    {
+        let _ = &self.waiting;
+    }
+
     /// What becomes of a delivered note.
     pub fn arrival(&self, note: &Note) -> Arrival
         ensures { arrival_of result ≡ arrival_in note.now self.now }

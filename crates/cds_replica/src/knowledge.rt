@@ -1,21 +1,20 @@
 //! What a replica knows beside its notes.
 
 ghost use Rattle.std.specs.Prelude.{◌≡◌, map, IfOk, option_copied, slice_get};
-ghost use Rattle.std.specs.List.{filter_map};
-ghost use Rattle.cds_notes.specs.Copy.{shown_row};
 ghost use Rattle.cds_notes.specs.Follow.{nothing_known};
 ghost use Rattle.cds_replica.specs.Answer.{read_of};
 ghost use Rattle.cds_replica.specs.Copied.{AreAbove, least_wanted};
-ghost use Rattle.cds_replica.specs.Keeping.{IsHeard, IsStep, kept_begun, hears, with_telling, answers, phase_ask, phase_rows, phase_tells, copy_tells, with_phase};
+ghost use Rattle.cds_replica.specs.Keeping.{IsHeard, IsStep, kept_begun, hears, with_telling, answers, phase_ask, phase_all, phase_rows, phase_tells, copy_tells, with_phase};
 ghost use Rattle.cds_replica.specs.Phases.{phase_in};
 ghost use Rattle.cds_replica.specs.Kept.{kept_known, kept_position};
 
+use crate::AnswerError;
 use crate::copy::CatalogCopy;
 use crate::copy_row::CopyRow;
+use crate::count_error::CountError;
 use crate::phase::Phase;
 use crate::stage::Stage;
 use crate::telling::Telling;
-use crate::{AnswerError, CountError};
 use cds_event::Event;
 use cds_model::{Ask, Read, Shown};
 use cds_notes::Says;
@@ -153,7 +152,7 @@ impl Knowledge {
 
     /// The rows of the copy, in ascending order of ids; none where no copy stands.
     pub fn rows(&self) -> &[CopyRow]
-        ensures { filter_map shown_row (map (λ kept. kept.row) result.now) ≡ phase_rows self.now.phase }
+        ensures { map (λ kept. kept.row) result.now ≡ phase_all self.now.phase }
     {
         self.phase.rows()
     }

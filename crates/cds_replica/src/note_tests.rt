@@ -249,43 +249,70 @@ fn answers(alloc: Global, steps: &[Step]) -> Result<String, Fail> {
     Ok(out)
 }
 
-/// Notes that come out of order, again, before or after what is read.
+/// Whether a replica answers so to steps after this.
+fn are_answered(alloc: Global, steps: &[Step], want: &str) -> Result<bool, Fail> {
+    let got = answers(alloc, steps)?;
+    Ok(got.as_str() == want)
+}
+
+/// Notes that come out of order, and again.
 #[test]
-fn histories(rt: HostRuntime) -> Result<(), Fail> {
+fn notes_in_any_order(rt: HostRuntime) -> Result<(), Fail> {
     let alloc = rt.alloc();
-    let (first, second) = (Some(added(1, 1)), Some(added(2, 2)));
-    let (goes, changes) = (Some(deleted(1, 2)), Some(modified(1, 2)));
     let out_of_order = [
-        Step::Deliver(1, 2, 2, second),
+        Step::Deliver(1, 2, 2, Some(added(2, 2))),
         Step::Ask,
-        Step::Deliver(1, 1, 1, first),
+        Step::Deliver(1, 1, 1, Some(added(1, 1))),
         Step::Ask,
         Step::Read(2, Server::Two),
         Step::Ask,
     ];
+    let want = "held 1 gap 1 took behind read 1 ok ok stands 2 0@0 (2 2 0) 1@1 2@2 ";
+    assert!(rt; are_answered(alloc, &out_of_order, want)?);
+    let goes = Some(deleted(1, 2));
     let repeated = [
-        Step::Deliver(1, 1, 1, first),
+        Step::Deliver(1, 1, 1, Some(added(1, 1))),
         Step::Read(1, Server::One),
         Step::Deliver(1, 2, 2, goes),
         Step::Deliver(1, 2, 2, goes),
         Step::Deliver(1, 2, 2, goes),
         Step::Ask,
     ];
+    let want = "took ok took repeat repeat stands 2 0@0 (0 2 1) ";
+    assert!(rt; are_answered(alloc, &repeated, want)?);
+    Ok(())
+}
+
+/// Notes that come after what is read of their objects.
+#[test]
+fn reads_before_notes(rt: HostRuntime) -> Result<(), Fail> {
+    let alloc = rt.alloc();
     let read_late = [
-        Step::Deliver(1, 1, 1, first),
+        Step::Deliver(1, 1, 1, Some(added(1, 1))),
         Step::Read(1, Server::Gone),
         Step::Ask,
-        Step::Deliver(1, 2, 2, goes),
+        Step::Deliver(1, 2, 2, Some(deleted(1, 2))),
         Step::Ask,
     ];
+    let want = "took 701 behind read 1 took stands 2 0@0 (0 2 1) ";
+    assert!(rt; are_answered(alloc, &read_late, want)?);
     let read_ahead = [
-        Step::Deliver(1, 1, 1, first),
+        Step::Deliver(1, 1, 1, Some(added(1, 1))),
         Step::Read(1, Server::Changed),
         Step::Ask,
-        Step::Deliver(1, 2, 2, changes),
+        Step::Deliver(1, 2, 2, Some(modified(1, 2))),
         Step::Ask,
     ];
-    let load_begins_again = [
+    let want = "took ok behind version 2 took stands 2 0@0 (1 2 0) 1@2 ";
+    assert!(rt; are_answered(alloc, &read_ahead, want)?);
+    Ok(())
+}
+
+/// A load that meets another number begins again, and a first note above the position drops the copy.
+#[test]
+fn loads_anew(rt: HostRuntime) -> Result<(), Fail> {
+    let alloc = rt.alloc();
+    let begins_again = [
         Step::Load,
         Step::Read(4, Server::Empty),
         Step::Read(2, Server::One),
@@ -293,40 +320,23 @@ fn histories(rt: HostRuntime) -> Result<(), Fail> {
         Step::Read(6, Server::One),
         Step::Ask,
     ];
-    for (steps, want) in [
-        (
-            &out_of_order[..],
-            "held 1 gap 1 took behind read 1 ok ok stands 2 0@0 (2 2 0) 1@1 2@2 ",
-        ),
-        (
-            &repeated[..],
-            "took ok took repeat repeat stands 2 0@0 (0 2 1) ",
-        ),
-        (
-            &read_late[..],
-            "took 701 behind read 1 took stands 2 0@0 (0 2 1) ",
-        ),
-        (
-            &read_ahead[..],
-            "took ok behind version 2 took stands 2 0@0 (1 2 0) 1@2 ",
-        ),
-        (
-            &load_begins_again[..],
-            "ok ok ok ok ok ok behind load ok ok ok ok ok ok stands 1 0@0 (1 1 0) 1@1 ",
-        ),
-    ] {
-        let got = answers(alloc, steps)?;
-        assert!(rt; got.as_str() == want, "{got}");
-    }
+    let want = "ok ok ok ok ok ok behind load ok ok ok ok ok ok stands 1 0@0 (1 1 0) 1@1 ";
+    assert!(rt; are_answered(alloc, &begins_again, want)?);
+    let dropped = [
+        Step::Subscribe,
+        Step::Accept(2),
+        Step::Deliver(2, 0, 5, None),
+        Step::Ask,
+    ];
+    assert!(rt; are_answered(alloc, &dropped, "took behind load ")?);
     Ok(())
 }
 
-/// Early notes, notes that are refused, and a first note that drops the copy.
+/// Early notes, and those of a request that another one follows.
 #[test]
-fn early_and_refused_notes(rt: HostRuntime) -> Result<(), Fail> {
+fn early_notes(rt: HostRuntime) -> Result<(), Fail> {
     let alloc = rt.alloc();
-    let (first, leap) = (Some(added(1, 1)), Some(added(1, 5)));
-    let strays = Some(modified(7, 1));
+    let first = Some(added(1, 1));
     let early = [
         Step::Subscribe,
         Step::Deliver(2, 1, 1, first),
@@ -338,6 +348,8 @@ fn early_and_refused_notes(rt: HostRuntime) -> Result<(), Fail> {
         Step::Ask,
         Step::Deliver(3, 2, 2, None),
     ];
+    let want = "early repeat early gap 0 took behind read 1 unknown ";
+    assert!(rt; are_answered(alloc, &early, want)?);
     let subscribed_again = [
         Step::Subscribe,
         Step::Deliver(2, 1, 1, first),
@@ -345,6 +357,16 @@ fn early_and_refused_notes(rt: HostRuntime) -> Result<(), Fail> {
         Step::Accept(2),
         Step::Ask,
     ];
+    let want = "early stands 0 0@0 (0 0 0) ";
+    assert!(rt; are_answered(alloc, &subscribed_again, want)?);
+    Ok(())
+}
+
+/// Notes of a request that was refused, and notes whose changes cannot be counted.
+#[test]
+fn refused_notes(rt: HostRuntime) -> Result<(), Fail> {
+    let alloc = rt.alloc();
+    let first = Some(added(1, 1));
     let not_accepted = [
         Step::Subscribe,
         Step::Deliver(2, 0, 0, None),
@@ -353,35 +375,17 @@ fn early_and_refused_notes(rt: HostRuntime) -> Result<(), Fail> {
         Step::Deliver(1, 1, 1, first),
         Step::Ask,
     ];
+    let want = "early unknown took behind read 1 ";
+    assert!(rt; are_answered(alloc, &not_accepted, want)?);
     let refused = [
-        Step::Deliver(1, 1, 5, leap),
-        Step::Deliver(1, 1, 1, strays),
+        Step::Deliver(1, 1, 5, Some(added(1, 5))),
+        Step::Deliver(1, 1, 1, Some(modified(7, 1))),
         Step::Ask,
         Step::Deliver(1, 1, 1, first),
         Step::Ask,
     ];
-    let dropped = [
-        Step::Subscribe,
-        Step::Accept(2),
-        Step::Deliver(2, 0, 5, None),
-        Step::Ask,
-    ];
-    for (steps, want) in [
-        (
-            &early[..],
-            "early repeat early gap 0 took behind read 1 unknown ",
-        ),
-        (&subscribed_again[..], "early stands 0 0@0 (0 0 0) "),
-        (&not_accepted[..], "early unknown took behind read 1 "),
-        (
-            &refused[..],
-            "jump 1 5 torn 7 stands 0 0@0 (0 0 0) took behind read 1 ",
-        ),
-        (&dropped[..], "took behind load "),
-    ] {
-        let got = answers(alloc, steps)?;
-        assert!(rt; got.as_str() == want, "{got}");
-    }
+    let want = "jump 1 5 torn 7 stands 0 0@0 (0 0 0) took behind read 1 ";
+    assert!(rt; are_answered(alloc, &refused, want)?);
     Ok(())
 }
 

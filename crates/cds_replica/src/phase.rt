@@ -1,15 +1,13 @@
 //! The load or the copy of a replica.
 
 ghost use Rattle.std.specs.Prelude.{◌≡◌, map, option_copied, slice_get};
-ghost use Rattle.std.specs.List.{filter_map};
-ghost use Rattle.cds_notes.specs.Copy.{shown_row};
 ghost use Rattle.cds_replica.specs.Copied.{AreAbove};
-ghost use Rattle.cds_replica.specs.Keeping.{IsHeard, hears_changes, phase_ask, phase_rows};
+ghost use Rattle.cds_replica.specs.Keeping.{IsHeard, hears_changes, phase_ask, phase_all, phase_rows};
 ghost use Rattle.cds_replica.specs.Phases.{phase_in};
 
-use crate::CountError;
 use crate::copy::CatalogCopy;
 use crate::copy_row::CopyRow;
+use crate::count_error::CountError;
 use crate::stage::Stage;
 use cds_event::Event;
 use cds_model::Ask;
@@ -50,7 +48,7 @@ impl Phase {
 
     /// The rows of the copy, in ascending order of ids; none where no copy stands.
     pub fn rows(&self) -> &[CopyRow]
-        ensures { filter_map shown_row (map (λ kept. kept.row) result.now) ≡ phase_rows (phase_in self.now) }
+        ensures { map (λ kept. kept.row) result.now ≡ phase_all (phase_in self.now) }
     {
         match self {
             Phase::Load(_) => &[],

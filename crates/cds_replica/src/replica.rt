@@ -4,20 +4,21 @@ ghost use Rattle.std.specs.Option.{option_map};
 ghost use Rattle.cds_notes.specs.Copy.{shown_row};
 ghost use Rattle.cds_notes.specs.Inbox.{ReplicaTurn, Begins, Shows, Requests, Accepts, Refuses, Delivers, accepted, arrival, taken_by};
 ghost use Rattle.cds_notes.specs.Follow.{known_by, next_ask, says, copied, with_notes, with_reply};
+ghost use Rattle.cds_notes.specs.Seen.{WasShown};
 ghost use Rattle.cds_replica.specs.Answer.{read_of};
-ghost use Rattle.cds_replica.specs.Attempted.{AsksByAttempt, TakesByAttempt, SaysByAttempt};
-ghost use Rattle.cds_replica.specs.Called.{GoesOn, TakesTurn, IsNotice, IsAcceptance, IsAnswer, UnlessFull, UnlessMem, IsTaking, IsDelivered, of_notes, refusal_of};
+ghost use Rattle.cds_replica.specs.Attempted.{AsksByAttempt, TakesByAttempt, SaysByAttempt, CopiesByAttempt};
+ghost use Rattle.cds_replica.specs.Called.{GoesOn, TakesTurn, HoldsFew, IsNotice, IsAcceptance, IsAnswer, UnlessNoMemory, UnlessMem, IsTaking, IsDelivered, of_notes, refusal_of};
 ghost use Rattle.cds_replica.specs.Inboxed.{arrival_in, follows, followers, taken_early, with_name, with_next};
 ghost use Rattle.cds_replica.specs.Honest.{TakesGiven, HearsGiven, AcceptsGiven, SaysGiven, CompletesGiven};
-ghost use Rattle.cds_replica.specs.Keeping.{phase_ask, phase_rows, kept_says};
+ghost use Rattle.cds_replica.specs.Keeping.{phase_ask, phase_all, phase_rows, kept_says};
 ghost use Rattle.cds_replica.specs.Kept.{StandsFor};
-ghost use Rattle.cds_replica.specs.LoadTurns.{WasShown};
 
 use crate::copy_row::CopyRow;
+use crate::count_error::CountError;
 use crate::inbox::{Arrival, Inbox};
 use crate::knowledge::Knowledge;
 use crate::note::{Note, Sid, Taken};
-use crate::{AnswerError, CountError, NotifyError};
+use crate::{AnswerError, NotifyError};
 use cds_base::Mem;
 use cds_model::{Ask, Read, Shown};
 use cds_notes::Says;
@@ -53,12 +54,21 @@ impl Replica {
         }
     }
 
+    /// What holds of the notes of every replica, which this makes known where a proof needs it.
+    fn facts(&self)
+        ensures { HoldsFew self.now }
+    {
+        self.inbox.facts();
+    }
+
     /// Drops the copy and begins a load.
     pub fn begin_load(&mut self) -> Result<(), Mem>
         ensures ok { IsOk result }
         ensures stands { GoesOn self.old Begins self.new }
+        ensures few { HoldsFew self.new }
     {
         self.known.begin_load();
+        self.facts();
         Ok(())
     }
 
@@ -66,16 +76,20 @@ impl Replica {
     pub fn subscribing(&mut self) -> Result<(), Mem>
         ensures ok { IsOk result }
         ensures stands { GoesOn self.old Requests self.new }
+        ensures few { HoldsFew self.new }
     {
         self.inbox.request();
+        self.facts();
         Ok(())
     }
 
     /// The request was refused. Its early notes are dropped, and the subscription from before stays.
     pub fn not_subscribed(&mut self)
         ensures stands { GoesOn self.old Refuses self.new }
+        ensures few { HoldsFew self.new }
     {
         self.inbox.refuse();
+        self.facts();
     }
 
     /// Whether a subscribe request is out.
@@ -91,11 +105,14 @@ impl Replica {
     pub fn subscribed(&mut self, alloc: Global, sid: Sid) -> Result<(), NotifyError>
         requires { IsTrue self.old.inbox.out }
         ensures unchanged { OnErr result (self.new ≡ self.old) }
-        ensures stands { UnlessFull result (TakesTurn self.old (Accepts sid.0) self.new) }
+        ensures stands { UnlessNoMemory result (TakesTurn self.old (Accepts sid.0) self.new) }
         ensures answer { (turns : List ReplicaTurn) → StandsFor self.old turns → IsAcceptance (with_notes (taken_by (Accepts sid.0) turns) (known_by turns)) result }
         ensures given { AcceptsGiven self.old sid.0 self.new result }
+        ensures few { HoldsFew self.new }
     {
-        self.take_early(alloc, sid)
+        let answer = self.take_early(alloc, sid);
+        self.facts();
+        answer
     }
 
     /// Takes the early notes of a name.
@@ -124,11 +141,14 @@ impl Replica {
     /// kept for the load's end. All is decided, and all memory taken, before anything changes.
     pub fn notify(&mut self, alloc: Global, note: Note) -> Result<Taken, NotifyError>
         ensures unchanged { OnErr result (self.new ≡ self.old) }
-        ensures stands { UnlessFull result (TakesTurn self.old (Delivers note) self.new) }
+        ensures stands { UnlessNoMemory result (TakesTurn self.old (Delivers note) self.new) }
         ensures answer { (turns : List ReplicaTurn) → StandsFor self.old turns → IsNotice (arrival note turns) (with_notes (taken_by (Delivers note) turns) (known_by turns)) result }
         ensures given { HearsGiven self.old note self.new result }
+        ensures few { HoldsFew self.new }
     {
-        self.deliver(alloc, note)
+        let answer = self.deliver(alloc, note);
+        self.facts();
+        answer
     }
 
     /// Takes or holds a note, or refuses it.
@@ -194,8 +214,11 @@ impl Replica {
         ensures read { IfOk result (λ read. read ≡ read_of shown) }
         ensures given { TakesGiven self.old shown self.new result }
         ensures attempt { TakesByAttempt self.old shown result }
+        ensures few { HoldsFew self.new }
     {
-        self.known.take(alloc, shown)
+        let answer = self.known.take(alloc, shown);
+        self.facts();
+        answer
     }
 
     /// What is known of the server's catalog, in this order: a SEQ is missing; no copy stands; an object is unread; an object
@@ -226,8 +249,9 @@ impl Replica {
     /// The rows of the copy, in ascending order of ids, with those of which it is not known yet what they say; none where no
     /// copy stands. To go over them takes one walk.
     pub fn copy(&self) -> &[CopyRow]
-        ensures kept { filter_map shown_row (map (λ kept. kept.row) result.now) ≡ phase_rows self.now.known.phase }
+        ensures kept { map (λ kept. kept.row) result.now ≡ phase_all self.now.known.phase }
         ensures rows { (turns : List ReplicaTurn) → StandsFor self.now turns → filter_map shown_row (map (λ kept. kept.row) result.now) ≡ copied (known_by turns) }
+        ensures attempt { CopiesByAttempt self.now (map (λ kept. kept.row) result.now) }
     {
         self.known.rows()
     }

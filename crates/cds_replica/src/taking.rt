@@ -10,10 +10,11 @@ ghost use Rattle.cds_replica.specs.Keeping.{IsStep, load_takes, leads_to};
 ghost use Rattle.cds_replica.specs.Kept.{Loads};
 ghost use Rattle.cds_replica.specs.Phases.{phase_in, ends_load, answer_of};
 
+use crate::AnswerError;
+use crate::count_error::CountError;
 use crate::listing::Listing;
 use crate::phase::Phase;
 use crate::stage::Stage;
-use crate::{AnswerError, CountError};
 use cds_event::Event;
 use cds_model::{Read, Shown};
 use cds_object::{Row, Rows};

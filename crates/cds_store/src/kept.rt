@@ -52,9 +52,16 @@ pub(crate) fn keep(kept: &mut Vec<Noted>, more: &[Noted]) -> Result<(), Mem>
     Ok(())
 }
 
+/// Whether an event is above a number.
+fn is_after(item: &Noted, to: u32) -> bool
+    ensures { result ≡ is_after to item.now }
+{
+    to < update_of(item.event)
+}
+
 /// Drops the events up to a number.
 pub(crate) fn retain_after(kept: &mut Vec<Noted>, to: u32)
     ensures { kept.new.items ≡ filter (is_after to) kept.old.items }
 {
-    kept.retain(|item| to < update_of(item.event));
+    kept.retain(|item| is_after(item, to));
 }

@@ -102,102 +102,104 @@ fn is_so(alloc: Global, case: &Case) -> Result<bool, Fail> {
     Ok(events.as_str() == case.events && containers.as_str() == case.containers)
 }
 
-/// Spans of small histories: subtree updates, kinds that change, and changes that are forgotten.
+/// Small histories: subtree updates, kinds that change, and changes that are forgotten.
+const CASES: [Case; 11] = [
+    Case {
+        first: 0,
+        scans: "R/ R/a",
+        forget: 0,
+        span: (0, 2),
+        events: "+1@1*<0/ +2@2*<1 =1@2 ",
+        containers: "0:1 1:2 ",
+    },
+    Case {
+        first: 10,
+        scans: "R/ R/a||R/ R/a|R/ R/a=2",
+        forget: 0,
+        span: (12, 17),
+        events: "-2@13* -1@14* =1@14 +3@15*<0/ +4@16*<3 =3@16 ~4@17 ",
+        containers: "0:15 3:17 ",
+    },
+    Case {
+        first: 10,
+        scans: "R/ R/a||R/ R/a|R/ R/a=2",
+        forget: 16,
+        span: (16, 17),
+        events: "~4@17 ",
+        containers: "3:17 ",
+    },
+    Case {
+        first: 10,
+        scans: "R/ R/a||R/ R/a|R/ R/a=2",
+        forget: 14,
+        span: (12, 17),
+        events: "forgotten",
+        containers: "forgotten",
+    },
+    Case {
+        first: 10,
+        scans: "R/ R/a||R/ R/a|R/ R/a=2",
+        forget: 0,
+        span: (10, 14),
+        events: "+1@11*<0/ +2@12*<1 =1@12 -2@13* -1@14* =1@14 ",
+        containers: "0:14 ",
+    },
+    Case {
+        first: 0,
+        scans: "R/ R/a|R",
+        forget: 2,
+        span: (2, 5),
+        events: "-2@3* -1@4* =1@4 +3@5<0 ",
+        containers: "0:5 ",
+    },
+    Case {
+        first: 0,
+        scans: "x y|x/ y",
+        forget: 0,
+        span: (2, 4),
+        events: "-1@3 +3@4<0/ ",
+        containers: "0:4 3:4 ",
+    },
+    Case {
+        first: 0,
+        scans: "A/ A/B/ A/B/t C/ C/t D/",
+        forget: 0,
+        span: (0, 6),
+        events: "+1@1*<0/ +2@2*<1/ +3@3*<2 =1@3 +4@4*<0/ +5@5*<4 =4@5 +6@6<0/ ",
+        containers: "0:6 1:2 2:3 4:5 6:6 ",
+    },
+    Case {
+        first: 0,
+        scans: "A/ A/B/ A/B/t C/ C/t D/|D/",
+        forget: 6,
+        span: (6, 11),
+        events: "-5@7* -4@8* =4@8 -3@9* -2@10* -1@11* =1@11 ",
+        containers: "0:11 ",
+    },
+    Case {
+        first: 0,
+        scans: "x|x y|x y z",
+        forget: 1,
+        span: (1, 3),
+        events: "+2@2<0 +3@3<0 ",
+        containers: "0:3 ",
+    },
+    Case {
+        first: 0,
+        scans: "x|x y|x y z",
+        forget: 3,
+        span: (3, 3),
+        events: "",
+        containers: "",
+    },
+];
+
+/// Spans of small histories.
 #[test]
 fn spans(rt: HostRuntime) -> Result<(), Fail> {
     let alloc = rt.alloc();
-    let cases = [
-        Case {
-            first: 0,
-            scans: "R/ R/a",
-            forget: 0,
-            span: (0, 2),
-            events: "+1@1*<0/ +2@2*<1 =1@2 ",
-            containers: "0:1 1:2 ",
-        },
-        Case {
-            first: 10,
-            scans: "R/ R/a||R/ R/a|R/ R/a=2",
-            forget: 0,
-            span: (12, 17),
-            events: "-2@13* -1@14* =1@14 +3@15*<0/ +4@16*<3 =3@16 ~4@17 ",
-            containers: "0:15 3:17 ",
-        },
-        Case {
-            first: 10,
-            scans: "R/ R/a||R/ R/a|R/ R/a=2",
-            forget: 16,
-            span: (16, 17),
-            events: "~4@17 ",
-            containers: "3:17 ",
-        },
-        Case {
-            first: 10,
-            scans: "R/ R/a||R/ R/a|R/ R/a=2",
-            forget: 14,
-            span: (12, 17),
-            events: "forgotten",
-            containers: "forgotten",
-        },
-        Case {
-            first: 10,
-            scans: "R/ R/a||R/ R/a|R/ R/a=2",
-            forget: 0,
-            span: (10, 14),
-            events: "+1@11*<0/ +2@12*<1 =1@12 -2@13* -1@14* =1@14 ",
-            containers: "0:14 ",
-        },
-        Case {
-            first: 0,
-            scans: "R/ R/a|R",
-            forget: 2,
-            span: (2, 5),
-            events: "-2@3* -1@4* =1@4 +3@5<0 ",
-            containers: "0:5 ",
-        },
-        Case {
-            first: 0,
-            scans: "x y|x/ y",
-            forget: 0,
-            span: (2, 4),
-            events: "-1@3 +3@4<0/ ",
-            containers: "0:4 3:4 ",
-        },
-        Case {
-            first: 0,
-            scans: "A/ A/B/ A/B/t C/ C/t D/",
-            forget: 0,
-            span: (0, 6),
-            events: "+1@1*<0/ +2@2*<1/ +3@3*<2 =1@3 +4@4*<0/ +5@5*<4 =4@5 +6@6<0/ ",
-            containers: "0:6 1:2 2:3 4:5 6:6 ",
-        },
-        Case {
-            first: 0,
-            scans: "A/ A/B/ A/B/t C/ C/t D/|D/",
-            forget: 6,
-            span: (6, 11),
-            events: "-5@7* -4@8* =4@8 -3@9* -2@10* -1@11* =1@11 ",
-            containers: "0:11 ",
-        },
-        Case {
-            first: 0,
-            scans: "x|x y|x y z",
-            forget: 1,
-            span: (1, 3),
-            events: "+2@2<0 +3@3<0 ",
-            containers: "0:3 ",
-        },
-        Case {
-            first: 0,
-            scans: "x|x y|x y z",
-            forget: 3,
-            span: (3, 3),
-            events: "",
-            containers: "",
-        },
-    ];
-    for case in cases.iter() {
-        assert!(rt; is_so(alloc, case)?);
+    for case in CASES.iter() {
+        assert!(rt; is_so(alloc, case)?, "{}", case.scans);
     }
     Ok(())
 }

@@ -94,7 +94,8 @@ fn is_spent(number: u32, needed: u32) -> bool
 impl Store {
     /// A store before any scan: the root alone, at the first number.
     pub fn new(alloc: Global, first: u32) -> Result<Store, Mem>
-        ensures { IfOk result (λ store. StandsFor store (no_scans first)) }
+        ensures stands { IfOk result (λ store. StandsFor store (no_scans first)) }
+        ensures forgotten { IfOk result (λ store. store.forgotten ≡ first) }
     {
         let catalog = Catalog::new(alloc, first)?;
         Ok(Store {

@@ -3,7 +3,7 @@ use Rattle.std.specs.Prelude.{OnOk}
 use Rattle.std.proofs.lemmas.Result.{on_ok_weaker}
 use Rattle.cds_notes.specs.Inbox.{Accepts, taken_by}
 use Rattle.cds_notes.specs.Follow.{known_by, with_notes}
-use Rattle.cds_replica.specs.Called.{UnlessFull, TakesTurn}
+use Rattle.cds_replica.specs.Called.{UnlessNoMemory, TakesTurn}
 use Rattle.cds_replica.specs.Kept.{Kept}
 use Rattle.cds_replica.specs.declared.notify_error.NotifyError.TheVariants.{Mem}
 use Rattle.cds_script.specs.declared.turn.Turn.TheVariants.{Accept}
@@ -65,7 +65,7 @@ returns-after-subscribed-clause-after c = λ turns after.
           always c.match-subscribed.result
           (subst (λ r. IsAfter (record was { replica = c.subscribed.new.self; reply = r; fresh = false }) (Accept ∷ turns)) (sym c.take.ensures.after)
           (accept-after was c.subscribed.new.self c.from.result turns old reply
-          (subst (λ r. UnlessFull r (TakesTurn was.replica (Accepts c.from.result) c.subscribed.new.self)) w.in-Ok.is c.subscribed.ensures.stands)))
+          (subst (λ r. UnlessNoMemory r (TakesTurn was.replica (Accepts c.from.result) c.subscribed.new.self)) w.in-Ok.is c.subscribed.ensures.stands)))
       | in-Err-Mem w ↦
           subst (λ r. OnOk r (IsAfter (record was { replica = c.subscribed.new.self; reply = c.take.new.self; fresh = false }) (Accept ∷ turns))) (sym w.result-is) tt
     ]

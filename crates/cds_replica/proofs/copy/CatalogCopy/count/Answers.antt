@@ -1,5 +1,5 @@
 use Rattle.std.proofs.Common.{List, None, Some, ap, sym, refl, ◌∙◌}
-use Rattle.cds_replica.specs.Copied.{KeptRow, KeptCopy, known_rows}
+use Rattle.cds_replica.specs.Copied.{KeptRow, KeptCopy, bare_rows}
 use Rattle.cds_replica.specs.CopySteps.{rows_changed_by, count_from, Counts}
 use Rattle.cds_replica.specs.Outlines.{outlines_of}
 use Rattle.cds_replica.proofs.KeptLoops.{decided, count-torn, count-counts, no-root}
@@ -18,7 +18,7 @@ returns-in-Some-2 c =
 pub change_all-requires-clause-above : goal.change_all-requires-clause-above
 change_all-requires-clause-above c =
     let copy : KeptCopy = record { rows = c.self.inside.rows.items; read_up_to = c.self.inside.read_up_to } in
-    no-root (known_rows copy) c.args.events.now
+    no-root (bare_rows copy) c.args.events.now
     (decided copy c.args.events.now c.in_ok-outlines.outlines.items c.in_ok-id.field-0 None
     (c.in_ok-outlines.ensures ∙ ap outlines_of c.as_slice.ensures.value) c.in_ok-id.ensures c.in-None-2.is)
 
