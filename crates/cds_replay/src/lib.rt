@@ -4,6 +4,7 @@
 mod book;
 mod fragment;
 mod laws;
+mod pieces;
 mod play;
 mod put;
 mod releases;
@@ -15,6 +16,7 @@ mod served;
 mod server;
 mod session;
 
+pub use pieces::{empty_piece, read_piece};
 pub use play::{ReplayError, replay};
 
 #[cfg(test)]

@@ -12,14 +12,12 @@ ghost use Rattle.cds_script.specs.ScriptGiven.{StandsAtScanEnds};
 ghost use Rattle.cds_replay.specs.Script.{left_in, Sound, GoesOn};
 ghost use Rattle.cds_replay.specs.Replay.{OnLine, OnLimit, OnReadFault, OnWriteFault, Holds, EndsIn, Played, Stopped, answer_of};
 
+use crate::pieces::{empty_piece, read_piece};
 use crate::script::{Script, Stop, cut_line};
 use cds_base::{Failed, Mem, Sink, Source, write_all};
 use std::alloc::Global;
 use std::convert::From;
 use thiserror::Error;
-
-/// How many bytes are read at once.
-const PIECE: usize = 8_192;
 
 /// Why a replay ended before its script did.
 #[derive(Clone, Copy, Debug, PartialEq, Eq, Error)]
@@ -124,33 +122,6 @@ fn play_on<S: Source, K: Sink>(
             }
         }
     }
-}
-
-/// Room for a piece of a script.
-fn empty_piece(alloc: Global) -> Result<Vec<u8>, Mem>
-    ensures { IfOk result (λ piece. 0 < length piece.items) }
-{
-    let piece = vec![in alloc; 0; PIECE]?;
-    Ok(piece)
-}
-
-/// Reads a piece into the front of the buffer, at most one byte more than are left.
-fn read_piece<S: Source>(source: &mut S, buffer: &mut [u8], left: usize) -> Result<usize, Failed>
-    requires some { 0 < length buffer.old }
-    requires within { left ≤ script_limit }
-    ensures room { IfOk result (λ n. n ≤ length buffer.old) }
-    ensures few { IfOk result (λ n. n ≤ left + 1) }
-    ensures count { IfOk result (λ n. S.moved source.new ≡ raised (S.moved source.old) n) }
-    ensures content { IfOk result (λ n. WhereTold (S.left source.old) (λ bytes. take n buffer.new ≡ take n bytes)) }
-    ensures rest { IfOk result (λ n. WhereTold (S.left source.old) (λ bytes. S.left source.new ≡ Some (drop n bytes))) }
-    ensures end { IfOk result (λ n. n ≡ 0 → WhereTold (S.left source.old) (λ bytes. bytes ≡ [])) }
-    ensures stays { OnErr result (S.moved source.new ≡ S.moved source.old) }
-    ensures rose { OnErr result (Rose (S.faults source.old) (S.faults source.new)) }
-    ensures never_falls { S.faults source.old ≤ S.faults source.new }
-{
-    let most = buffer.len().min(left + 1);
-    let (front, _) = buffer.split_at_mut(most);
-    source.read(front)
 }
 
 /// Plays a piece of a script: what a line adds to the report is written before the next line is looked at, so that the
