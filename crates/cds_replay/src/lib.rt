@@ -3,8 +3,8 @@
 
 mod book;
 mod fragment;
+mod input;
 mod laws;
-mod pieces;
 mod play;
 mod put;
 mod releases;
@@ -16,7 +16,7 @@ mod served;
 mod server;
 mod session;
 
-pub use pieces::{empty_piece, read_piece};
+pub use input::{empty_piece, read_piece};
 pub use play::{ReplayError, replay};
 
 #[cfg(test)]

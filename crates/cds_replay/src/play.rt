@@ -12,7 +12,7 @@ ghost use Rattle.cds_script.specs.ScriptGiven.{StandsAtScanEnds};
 ghost use Rattle.cds_replay.specs.Script.{left_in, Sound, GoesOn};
 ghost use Rattle.cds_replay.specs.Replay.{OnLine, OnLimit, OnReadFault, OnWriteFault, Holds, EndsIn, Played, Stopped, answer_of};
 
-use crate::pieces::{empty_piece, read_piece};
+use crate::input::{empty_piece, read_piece};
 use crate::script::{Script, Stop, cut_line};
 use cds_base::{Failed, Mem, Sink, Source, write_all};
 use std::alloc::Global;

@@ -236,12 +236,14 @@ fn answer_from(alloc: Global, first: u32, records: &Records) -> Result<String, F
     answer_text(alloc, answer)
 }
 
-/// As many objects as fit, which only numbers are too few for, and one more. Of several causes the first in this order is
-/// answered: a record that cannot stand, too many records, too few numbers. So no change is made of so many.
+/// As many objects as fit, and one more. Of several causes the first in this order is answered: a record that cannot stand,
+/// too many records, too few numbers.
 #[test]
 fn as_many_as_fit(rt: HostRuntime) -> Result<(), Fail> {
     let alloc = rt.alloc();
     let mut most = flat(alloc, 65_535)?;
+    let whole = answer_from(alloc, 0, &most)?;
+    assert_eq!(rt; whole.as_str(), "0-65535 ");
     let spent = answer_from(alloc, 4_294_967_295, &most)?;
     assert_eq!(rt; spent.as_str(), "spent 65535 ");
     most.push(record_of(alloc, "one_more")?)?;

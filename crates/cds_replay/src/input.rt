@@ -20,7 +20,11 @@ pub fn empty_piece(alloc: Global) -> Result<Vec<u8>, Mem>
 
 /// Reads a piece into the front of the buffer, at most one byte more than are left up to the limit, and answers how many
 /// bytes came: 0 where the source has no more, if it tells its bytes.
-pub fn read_piece<S: Source>(source: &mut S, buffer: &mut [u8], left: usize) -> Result<usize, Failed>
+pub fn read_piece<S: Source>(
+    source: &mut S,
+    buffer: &mut [u8],
+    left: usize,
+) -> Result<usize, Failed>
     requires some { 0 < length buffer.old }
     requires within { left ≤ script_limit }
     ensures room { IfOk result (λ n. n ≤ length buffer.old) }
