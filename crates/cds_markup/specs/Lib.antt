@@ -1,0 +1,17 @@
+pub mod Form
+pub mod Grammar
+pub mod Namespaces
+pub mod Document
+pub mod Refusal
+pub mod Step
+pub mod Reading
+pub mod Agree
+pub mod Course
+pub mod Parts
+pub mod Weight
+pub mod MeaningCode
+pub mod Elements
+pub mod NodesFall
+pub mod Building
+pub mod Law
+pub mod Decided

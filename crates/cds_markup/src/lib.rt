@@ -1,0 +1,32 @@
+//! Documents: XML 1.0 with namespaces, without document types, entities of one's own and processing instructions.
+#![tactic(auto)]
+
+mod build;
+mod element;
+mod error;
+mod laws;
+mod name;
+mod names;
+mod parser;
+mod part;
+mod prolog;
+mod read;
+mod scope;
+mod tag;
+mod tags;
+mod texts;
+mod values;
+mod walk;
+
+pub use element::{Element, Node, Nodes};
+pub use error::MarkupError;
+pub use laws::{
+    characters_are_read, documents_are_read, names_are_read, one_answer, one_element,
+    parts_are_built, parts_are_told,
+};
+pub use name::{Attr, Attrs, Name};
+pub use part::{Part, Parts};
+pub use read::{read_document, read_parts};
+
+#[cfg(test)]
+mod tests;
