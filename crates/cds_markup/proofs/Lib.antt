@@ -50,3 +50,11 @@ pub mod AttrNames
 pub mod PieceSteps
 pub mod CourseSteps
 pub mod ReadSteps
+pub mod WrittenTexts
+pub mod WrittenTags
+pub mod WrittenScopes
+pub mod WrittenOnce
+pub mod WrittenContent
+pub mod WrittenDocument
+pub mod WrittenElement
+pub mod WrittenNames

@@ -21,3 +21,9 @@ children_then (ChildThen child children) more = ChildThen child (children_then c
 -- Children with one more behind them.
 abbrev pub and_node : Meanings → Node → Meanings
 and_node children node = children_then children (meanings_of (node ∷ []))
+
+-- Children as a list.
+abbrev pub nodes_of : Meanings → List Node
+nodes_of End = []
+nodes_of (TextThen text more) = Text text ∷ nodes_of more
+nodes_of (ChildThen child more) = Child child ∷ nodes_of more

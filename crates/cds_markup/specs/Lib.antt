@@ -15,3 +15,5 @@ pub mod NodesFall
 pub mod Building
 pub mod Law
 pub mod Decided
+pub mod Written
+pub mod WrittenRows

@@ -1,6 +1,6 @@
-ghost use Rattle.std.specs.Prelude.{◌≡◌, OnErr, OnOk};
+ghost use Rattle.std.specs.Prelude.{◌≡◌, OnErr, OnOk, length, option_copied, slice_get};
 ghost use Rattle.cds_markup.specs.Document.{End};
-ghost use Rattle.cds_markup.specs.Elements.{and_node, meanings_of};
+ghost use Rattle.cds_markup.specs.Elements.{and_node, nodes_of};
 ghost use Rattle.cds_markup.specs.Building.{first_element};
 
 use crate::{Attrs, Name};
@@ -77,6 +77,7 @@ impl Model for Nodes {
     ghost size_decreases = { λ a h. most_le-weight a.items.items };
 }
 
+#[tactic(auto, using(crate::proofs::NodesForm::nodes_again, crate::proofs::NodesForm::nodes_push))]
 impl Nodes {
     /// Nothing, which takes no memory.
     pub fn new(alloc: Global) -> Self
@@ -88,7 +89,6 @@ impl Nodes {
     }
 
     /// Adds a node at the end. A refused push drops the node and leaves the list as it was.
-    #[tactic(auto, using(crate::proofs::NodesForm::nodes_push))]
     pub fn push(&mut self, node: Node) -> Result<(), Mem>
         ensures ok { OnOk result (self.new ≡ and_node self.old node) }
         ensures err { OnErr result (self.new ≡ self.old) }
@@ -111,9 +111,23 @@ impl Nodes {
         }
     }
 
+    /// How many there are.
+    pub fn len(&self) -> usize
+        ensures { result ≡ length (nodes_of self.now) }
+    {
+        self.items.len()
+    }
+
+    /// The node at a place counted from 0, `None` past the end.
+    pub fn get(&self, at: usize) -> Option<&Node>
+        ensures { option_copied result ≡ slice_get (nodes_of self.now) at }
+    {
+        self.as_slice().get(at)
+    }
+
     /// The nodes in order.
     pub fn as_slice(&self) -> &[Node]
-        ensures { meanings_of result.now ≡ self.now }
+        ensures { result.now ≡ nodes_of self.now }
     {
         self.items.as_slice()
     }

@@ -17,6 +17,7 @@ mod tags;
 mod texts;
 mod values;
 mod walk;
+mod write;
 
 pub use element::{Element, Node, Nodes};
 pub use error::MarkupError;
@@ -27,6 +28,9 @@ pub use laws::{
 pub use name::{Attr, Attrs, Name};
 pub use part::{Part, Parts};
 pub use read::{read_document, read_parts};
+pub use write::{write_document, written_is_read, written_rows};
 
 #[cfg(test)]
 mod tests;
+#[cfg(test)]
+mod write_tests;

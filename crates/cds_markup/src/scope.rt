@@ -9,7 +9,7 @@ use cds_base::{Mem, Sequence, Text};
 use std::alloc::Global;
 
 /// The namespace of the prefix `xml` (Namespaces in XML).
-const XML_SPACE: &str = "http://www.w3.org/XML/1998/namespace";
+pub const XML_SPACE: &str = "http://www.w3.org/XML/1998/namespace";
 
 /// Whether the name is that of an attribute that declares the namespace of names without a prefix.
 fn declares_default(name: &QName) -> bool
