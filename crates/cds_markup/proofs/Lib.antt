@@ -58,3 +58,4 @@ pub mod WrittenContent
 pub mod WrittenDocument
 pub mod WrittenElement
 pub mod WrittenNames
+pub mod PiecesForm

@@ -17,3 +17,5 @@ pub mod Law
 pub mod Decided
 pub mod Written
 pub mod WrittenRows
+pub mod Pieces
+pub mod Reader

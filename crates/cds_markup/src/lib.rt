@@ -11,6 +11,7 @@ mod parser;
 mod part;
 mod prolog;
 mod read;
+mod reader;
 mod scope;
 mod tag;
 mod tags;
@@ -28,8 +29,11 @@ pub use laws::{
 pub use name::{Attr, Attrs, Name};
 pub use part::{Part, Parts};
 pub use read::{read_document, read_parts};
+pub use reader::{Reader, every_cutting};
 pub use write::{write_document, written_is_read, written_rows};
 
+#[cfg(test)]
+mod reader_tests;
 #[cfg(test)]
 mod tests;
 #[cfg(test)]

@@ -1,4 +1,5 @@
 ghost use Rattle.std.specs.Prelude.{◌≡◌, ◌++◌, length, List, ℕ, OnErr, OnOk, []};
+ghost use Rattle.cds_markup.specs.Document.{most_bytes};
 ghost use Rattle.cds_markup.specs.Course.{answer_of};
 ghost use Rattle.cds_markup.specs.Agree.{Parted, Reads};
 ghost use Rattle.cds_markup.specs.Decided.{Decides};
@@ -12,7 +13,11 @@ use cds_base::Mem;
 use std::alloc::Global;
 
 /// The most bytes that a document may have.
-const MOST_BYTES: usize = 67_108_864;
+pub fn byte_limit() -> usize
+    ensures { result ≡ most_bytes }
+{
+    67_108_864
+}
 
 /// Adds the parts of a document, in the order of the bytes: all of them, or those that stand before the first fault.
 /// `Bad` is the place of the first byte that cannot stand there, or where the input ends and is no document, or of the
@@ -68,7 +73,8 @@ fn read_new(alloc: Global, bytes: &[u8], out: &mut Parts) -> Result<(), MarkupEr
     requires { out.old ≡ [] }
     ensures { Reads bytes.now result out.new }
 {
-    let within = front(bytes, MOST_BYTES);
+    let limit = byte_limit();
+    let within = front(bytes, limit);
     let mut walk = Walk {
         parser: Parser::new(within),
         total: within.len(),
@@ -76,7 +82,7 @@ fn read_new(alloc: Global, bytes: &[u8], out: &mut Parts) -> Result<(), MarkupEr
     };
     let done = walk.document(alloc, out);
     let at = walk.place();
-    answer(done, at, bytes.len() > MOST_BYTES)
+    answer(done, at, bytes.len() > limit)
 }
 
 /// What to answer where reading came to a place, and bytes past the limit were left out.
@@ -90,7 +96,7 @@ fn answer(done: Result<(), Stop>, at: usize, cut: bool) -> Result<(), MarkupErro
         Err(Stop::Deep) => MarkupError::TooDeep { at },
         Err(_) => MarkupError::Bad { at },
     };
-    if cut && at >= MOST_BYTES {
+    if cut && at >= byte_limit() {
         return Err(MarkupError::TooLong);
     }
     Err(refusal)
