@@ -105,19 +105,16 @@ fn each_byte_has_its_place_behind_every_beginning(rt: HostRuntime) -> Result<(),
 }
 
 #[test]
-fn a_reader_that_refused_says_so(rt: HostRuntime) -> Result<(), Fail> {
+fn an_early_fault_is_the_answer_past_the_limit(rt: HostRuntime) -> Result<(), Fail> {
     let alloc = rt.alloc();
-    let mut most = Vec::new(alloc);
-    for _ in 0..1_048_576 {
-        most.push(b' ')?;
-    }
+    let blanks = vec![in alloc; b' '; 1_048_576]?;
     let mut reader = Reader::new(alloc)?;
-    reader.feed(alloc, b"<a/>")?;
+    reader.feed(alloc, b"<a>&bad;")?;
     for _ in 0..63 {
-        reader.feed(alloc, most.as_slice())?;
+        reader.feed(alloc, blanks.as_slice())?;
     }
     assert!(rt;
-        reader.feed(alloc, most.as_slice()) == Err(MarkupError::TooLong),
+        reader.feed(alloc, blanks.as_slice()) == Err(MarkupError::Bad { at: 4 }),
         "past the limit"
     );
     assert!(rt;
