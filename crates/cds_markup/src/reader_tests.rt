@@ -149,3 +149,37 @@ fn an_event_is_read_from_its_pieces(rt: HostRuntime) -> Result<(), Fail> {
     assert_eq!(rt; out.as_slice(), bytes);
     Ok(())
 }
+
+/// A piece, once more where memory was refused.
+fn fed(reader: &mut Reader, alloc: Global, piece: &[u8]) -> Result<(), MarkupError> {
+    match reader.feed(alloc, piece) {
+        Err(MarkupError::Mem) => reader.feed(alloc, piece),
+        answer => answer,
+    }
+}
+
+/// Where one allocation fails, whichever it is, what is tried once more gives the same.
+#[test]
+fn one_refused_allocation_changes_no_answer(rt: HostRuntime) -> Result<(), Fail> {
+    let alloc = rt.alloc();
+    let bytes: &[u8] = b"<a xmlns='u' b='1&#10;2'>x<![CDATA[<]]>y<!-- z --><c d=\"e\"/>f</a>";
+    let mut reader = match Reader::new(alloc) {
+        Ok(reader) => reader,
+        Err(_) => Reader::new(alloc)?,
+    };
+    for byte in bytes {
+        fed(&mut reader, alloc, &[*byte])?;
+    }
+    let element = match reader.finish(alloc) {
+        Err(MarkupError::Mem) => read_document(alloc, bytes)?,
+        answer => answer?,
+    };
+    let mut out = Vec::new(alloc);
+    if write_document(&element, &mut out).is_err() {
+        assert!(rt; out.is_empty(), "as it was");
+        write_document(&element, &mut out)?;
+    }
+    let want: &[u8] = b"<a xmlns=\"u\" b=\"1&#10;2\">x&lt;y<c d=\"e\"></c>f</a>";
+    assert_eq!(rt; out.as_slice(), want);
+    Ok(())
+}
