@@ -1,8 +1,8 @@
 -- Children with one more behind them, and children as a list.
-use Rattle.std.proofs.Common.{◌≡◌, ℕ, zero, suc, ◌+◌, ◌<◌, List, [], ◌∷◌, ◌++◌, length, get_or, refl, sym, ap, subst, ◌∙◌, arith}
+use Rattle.std.proofs.Common.{◌≡◌, ℕ, zero, suc, ◌<◌, List, [], ◌∷◌, ◌++◌, length, get_or, refl, sym, ap, subst, ◌∙◌, arith}
 use Rattle.cds_markup.specs.declared.element.Node.{Node}
 use Rattle.cds_markup.specs.declared.element.Node.TheVariants.{Text, Child}
-use Rattle.cds_markup.specs.Document.{Meaning, Meanings, Element, End, TextThen, ChildThen}
+use Rattle.cds_markup.specs.Document.{Meaning, Meanings, End, TextThen, ChildThen}
 use Rattle.cds_markup.specs.Elements.{meanings_of, and_node, nodes_of}
 use Rattle.cds_markup.specs.Weight.{weight, weight_one}
 

@@ -1,5 +1,5 @@
 -- What is written in an element is content by the grammar that means its children.
-use Rattle.std.proofs.Common.{◌≡◌, ◌≢◌, ◌==◌, ℕ, suc, ◌+◌, ◌^◌, ◌<◌, ◌≤◌, Bool, true, false, not, ◌&&◌, ◌||◌, List, [], ◌∷◌, ◌++◌, length, map, refl, sym, ap, subst, ◌∙◌, arith, append_assoc, append-nil, codes, cond, encode_utf8, lit<, None, Some, ◌⊎◌, inl, inr}
+use Rattle.std.proofs.Common.{◌≡◌, ◌≢◌, ◌==◌, ℕ, Bool, true, false, not, ◌&&◌, ◌||◌, List, [], ◌∷◌, ◌++◌, map, refl, sym, ap, subst, ◌∙◌, arith, append_assoc, append-nil, codes, cond, encode_utf8, lit<, Some, inl, inr}
 use Rattle.std.proofs.lemmas.Bool.Decides.{nat_tests}
 use Rattle.std.specs.List.{list_all}
 use Rattle.std.specs.Str.{encode_utf8_all}
@@ -9,7 +9,7 @@ use Rattle.cds_base.specs.Reference.{IsReference}
 use Rattle.cds_base.specs.Unescape.{AreAllowed}
 use Rattle.cds_markup.specs.declared.tag.Declaration.{Declaration}
 use Rattle.cds_markup.specs.Form.{Character, Many}
-use Rattle.cds_markup.specs.Grammar.{is_in_text, contains, IsText, Leaf, Text, Reference, Content, Nothing, LeafThen, TreeThen, begins_with_text, IsContent}
+use Rattle.cds_markup.specs.Grammar.{is_in_text, contains, IsText, Text, Reference, Content, LeafThen, begins_with_text, IsContent}
 use Rattle.cds_markup.specs.Namespaces.{is_empty}
 use Rattle.cds_markup.specs.Document.{Meanings, End, TextThen, ChildThen, return_before, lone_returns, line_ends, joined, and_joined, meanings, depths}
 use Rattle.cds_markup.proofs.TestForm.{HasFirst, has-first}

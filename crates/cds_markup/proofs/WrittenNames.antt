@@ -1,13 +1,11 @@
 -- How names and attributes are put together as they are written.
-use Rattle.std.proofs.Common.{◌≡◌, ◌≢◌, ℕ, ◌+◌, ◌<◌, ◌≤◌, Bool, true, false, List, [], ◌∷◌, ◌++◌, length, drop, cond, codes, refl, sym, ap, ◌∙◌, arith, append_assoc, append-nil}
-use Rattle.std.proofs.lemmas.Bool.Decides.{nat_tests}
+use Rattle.std.proofs.Common.{◌≡◌, ◌≢◌, ℕ, ◌+◌, ◌≤◌, Bool, true, false, List, [], ◌∷◌, ◌++◌, length, cond, codes, refl, arith}
 use Rattle.std.proofs.lemmas.Grind.{flat_map-append}
 use Rattle.cds_markup.specs.declared.name.Attr.{Attr}
 use Rattle.cds_markup.specs.declared.tag.TagAttr.{TagAttr}
-use Rattle.cds_markup.specs.declared.element.Node.{Node}
 use Rattle.cds_markup.specs.Grammar.{written_name}
 use Rattle.cds_markup.specs.Namespaces.{is_empty}
-use Rattle.cds_markup.specs.Written.{tag_attrs, with_name, counted, written_attr, written_attrs, written_inside}
+use Rattle.cds_markup.specs.Written.{tag_attrs, with_name, counted, written_attr, written_attrs}
 
 pub name_alone : (prefix local : List ℕ) → length prefix ≡ 0 → written_name prefix local ≡ local
 name_alone [] local e = refl

@@ -1,6 +1,5 @@
 -- No qualified name comes twice in a tag as it is written.
-use Rattle.std.proofs.Common.{◌≡◌, ◌==◌, ℕ, suc, ◌+◌, ◌^◌, ◌<◌, ◌≤◌, Bool, true, false, not, ◌&&◌, ◌||◌, List, [], ◌∷◌, ◌++◌, length, refl, sym, ap, ◌∙◌, arith, codes, cond, None, Some}
-use Rattle.std.specs.Fmt.{decimal}
+use Rattle.std.proofs.Common.{◌≡◌, ℕ, ◌+◌, ◌^◌, ◌<◌, ◌≤◌, Bool, true, false, not, ◌&&◌, List, [], ◌∷◌, ◌++◌, length, refl, sym, ap, ◌∙◌, arith, codes, cond, None, Some}
 use Rattle.std.specs.Str.{bytes_eq}
 use Rattle.std.specs.List.{list_all, list_any, AllByRecursion}
 use Rattle.cds_markup.specs.declared.name.Name.{Name}
@@ -8,7 +7,7 @@ use Rattle.cds_markup.specs.declared.name.Attr.{Attr}
 use Rattle.cds_markup.specs.declared.tag.QName.{QName}
 use Rattle.cds_markup.specs.declared.tag.TagAttr.{TagAttr}
 use Rattle.cds_markup.specs.declared.tag.Declaration.{Declaration}
-use Rattle.cds_markup.specs.Namespaces.{is_empty, xml_space, declarations, is_sound, declared, declared_in, or_outer, otherwise_none, space_of, in_space, element_name, named_attrs, same_qname, same_name, no_attr_twice, no_name_twice, where_once, keeps_rules, tag_says}
+use Rattle.cds_markup.specs.Namespaces.{is_empty, xml_space, declarations, is_sound, declared_in, or_outer, otherwise_none, space_of, in_space, element_name, named_attrs, same_qname, same_name, no_attr_twice, no_name_twice, where_once, tag_says}
 use Rattle.cds_markup.specs.Written.{numbered, under, declares, tag_attrs, default_declared, tag_of, CanBeAttr, CanBeTag}
 use Rattle.cds_markup.proofs.WrittenTexts.{and-both, and-first, and-second}
 use Rattle.cds_markup.proofs.WrittenTags.{xmlns-name, without-prefix, Stands, TagStands}

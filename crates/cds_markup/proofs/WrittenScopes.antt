@@ -1,21 +1,18 @@
 -- What is written of a tag says the element's name and its attributes.
-use Rattle.std.proofs.Common.{◌≡◌, ◌==◌, ℕ, suc, ◌+◌, ◌-◌, ◌^◌, ◌<◌, ◌≤◌, ◌≢◌, Bool, true, false, not, ◌&&◌, ◌||◌, List, [], ◌∷◌, ◌++◌, length, refl, sym, ap, subst, ◌∙◌, arith, codes, cond, None, Some, Option, map}
+use Rattle.std.proofs.Common.{◌≡◌, ℕ, ◌+◌, ◌^◌, ◌<◌, Bool, true, false, not, ◌&&◌, ◌||◌, List, [], ◌∷◌, ◌++◌, length, refl, sym, ap, ◌∙◌, arith, codes, cond, None, Some}
 use Rattle.std.proofs.lemmas.Bool.Decides.{nat_tests}
 use Rattle.std.proofs.lemmas.Slice.Eq.{bytes_eq-Decides}
 use Rattle.std.proofs.lemmas.Fmt.{decimal_injective}
 use Rattle.std.specs.Fmt.{decimal}
 use Rattle.std.specs.Str.{bytes_eq}
-use Rattle.std.specs.List.{list_all, list_any, AllByRecursion}
-use Rattle.cds_base.specs.Unescape.{AreAllowed}
-use Rattle.cds_markup.specs.declared.name.Name.{Name}
+use Rattle.std.specs.List.{list_all, AllByRecursion}
 use Rattle.cds_markup.specs.declared.name.Attr.{Attr}
-use Rattle.cds_markup.specs.declared.tag.QName.{QName}
 use Rattle.cds_markup.specs.declared.tag.TagAttr.{TagAttr}
 use Rattle.cds_markup.specs.declared.tag.Declaration.{Declaration}
-use Rattle.cds_markup.specs.Namespaces.{is_empty, xml_space, is_declaration, declarations, is_sound, declared, declared_in, or_outer, otherwise_none, space_of, in_space, attr_name, element_name, and_more, with_value, named_attrs, same_qname, same_name, no_attr_twice, no_name_twice, where_once, keeps_rules, tag_says}
-use Rattle.cds_markup.specs.Written.{numbered, under, declares, with_prefix, tag_attrs, default_declared, tag_of, CanBeAttr, CanBeTag}
-use Rattle.cds_markup.proofs.WrittenTexts.{and-both, and-first, and-second}
-use Rattle.cds_markup.proofs.WrittenTags.{numbered-name, xml-name, xmlns-name, without-prefix, behind-prefix, Stands, TagStands}
+use Rattle.cds_markup.specs.Namespaces.{is_empty, xml_space, is_declaration, declarations, is_sound, declared, space_of, in_space, attr_name, element_name, and_more, with_value, named_attrs}
+use Rattle.cds_markup.specs.Written.{numbered, under, declares, tag_attrs, CanBeAttr}
+use Rattle.cds_markup.proofs.WrittenTexts.{and-both}
+use Rattle.cds_markup.proofs.WrittenTags.{numbered-name, xml-name, xmlns-name, without-prefix, behind-prefix, Stands}
 
 -- tests on bytes
 pub empty-is : (xs : List ℕ) → is_empty xs ≡ true → xs ≡ []

@@ -1,20 +1,19 @@
 -- What is written of a tag is the tag by the grammar.
-use Rattle.std.proofs.Common.{◌≡◌, ◌==◌, ℕ, ◌+◌, ◌-◌, ◌^◌, ◌<◌, ◌≤◌, nat_lt, Bool, true, false, not, ◌&&◌, List, [], ◌∷◌, ◌++◌, length, refl, sym, ap, subst, ◌∙◌, arith, append_assoc, append-nil, codes, encode_utf8, cond, None, Some, Option}
+use Rattle.std.proofs.Common.{◌≡◌, ℕ, ◌^◌, ◌<◌, ◌≤◌, nat_lt, Bool, true, ◌&&◌, List, [], ◌∷◌, ◌++◌, refl, sym, arith, append_assoc, append-nil, codes, None, Some}
 use Rattle.std.proofs.lemmas.Bool.Decides.{nat_tests}
 use Rattle.std.proofs.lemmas.Fmt.{decimal_is_IsNumeral}
 use Rattle.std.proofs.lemmas.Str.Parse.{digit_from_value}
 use Rattle.std.proofs.lemmas.Str.{encode_ascii}
 use Rattle.std.specs.Fmt.{decimal}
-use Rattle.std.specs.List.{list_all, AllByRecursion, flat_map}
+use Rattle.std.specs.List.{list_all, AllByRecursion}
 use Rattle.std.specs.Str.Parse.{AllDigits}
-use Rattle.cds_base.specs.Characters.{is_allowed, is_blank, begins_name, is_in_name}
+use Rattle.cds_base.specs.Characters.{is_allowed, begins_name, is_in_name}
 use Rattle.cds_base.specs.Escape.{escaped}
 use Rattle.cds_base.specs.Unescape.{AreAllowed}
-use Rattle.cds_markup.specs.declared.tag.QName.{QName}
 use Rattle.cds_markup.specs.declared.tag.TagAttr.{TagAttr}
 use Rattle.cds_markup.specs.declared.tag.Tag.{Tag}
-use Rattle.cds_markup.specs.Form.{Word, Byte, Character, Then, Says, Many, Maybe, Raw}
-use Rattle.cds_markup.specs.Grammar.{IsName, IsQName, IsSpace, IsEquals, IsTagAttr, IsTag, IsStartTag, IsEndTag, name_bytes, qualified}
+use Rattle.cds_markup.specs.Form.{Character, Then, Many}
+use Rattle.cds_markup.specs.Grammar.{IsName, IsQName, IsSpace, IsTagAttr, IsTag, IsStartTag, IsEndTag, name_bytes}
 use Rattle.cds_markup.specs.Written.{numbered, written_attr, written_attrs, written_start, written_end}
 use Rattle.cds_markup.proofs.NameRows.{no-blanks, a-space, a-equals}
 use Rattle.cds_markup.proofs.WrittenTexts.{and-both, and-first, and-second, value-of}

@@ -1,20 +1,20 @@
 -- What escaping writes, character by character.
-use Rattle.std.proofs.Common.{◌≡◌, ◌==◌, ℕ, ◌+◌, ◌/◌, ◌%◌, ◌<◌, ◌≤◌, Bool, true, false, not, ◌&&◌, List, [], ◌∷◌, ◌++◌, cond, Some, refl, sym, ap, subst, ◌∙◌, arith, append_assoc, append-nil, codes, encode_utf8, lit<, ◌⊎◌, inl, inr}
+use Rattle.std.proofs.Common.{◌≡◌, ◌==◌, ℕ, ◌+◌, ◌/◌, ◌%◌, ◌<◌, ◌≤◌, Bool, true, false, not, ◌&&◌, List, [], ◌∷◌, ◌++◌, cond, Some, refl, sym, ap, subst, ◌∙◌, arith, append-nil, codes, encode_utf8, lit<, ◌⊎◌, inl, inr}
 use Rattle.std.proofs.lemmas.Bool.{eqb-true}
 use Rattle.std.proofs.lemmas.Bool.Decides.{nat_tests}
 use Rattle.std.proofs.lemmas.Grind.{flat_map-append}
 use Rattle.std.proofs.lemmas.Str.{encode_ascii}
 use Rattle.std.specs.List.{flat_map, list_all}
 use Rattle.std.specs.Str.{encode_utf8_all}
-use Rattle.cds_base.specs.Characters.{is_allowed, is_blank}
+use Rattle.cds_base.specs.Characters.{is_allowed}
 use Rattle.cds_base.specs.Escape.{escaped, escaped_byte}
 use Rattle.cds_base.specs.Reference.{IsReference, named}
 use Rattle.cds_base.specs.Unescape.{AreAllowed}
 use Rattle.cds_base.proofs.Escapes.{kept_char}
 use Rattle.cds_markup.specs.declared.values.ValuePiece.{ValuePiece}
 use Rattle.cds_markup.specs.declared.values.ValuePiece.TheVariants.{Literal, Referred}
-use Rattle.cds_markup.specs.Form.{Byte, Character, Then, Says, Many}
-use Rattle.cds_markup.specs.Grammar.{is_in_value, IsValuePiece, is_quote, piece_says, is_line_end, and_behind, with_line_ends, value_says, IsInside, IsValue}
+use Rattle.cds_markup.specs.Form.{Many}
+use Rattle.cds_markup.specs.Grammar.{is_in_value, IsValuePiece, piece_says, and_behind, with_line_ends, IsInside, IsValue}
 use Rattle.cds_markup.proofs.CharacterForm.{Ranges, ranges}
 use Rattle.cds_markup.proofs.Wide.{encode-two, encode-three, encode-four}
 

@@ -1,5 +1,5 @@
 -- Each element among some nodes has less in it than they have.
-use Rattle.std.specs.Prelude.{ℕ, suc, ◌≤◌, max, List, [], ◌∷◌}
+use Rattle.std.specs.Prelude.{◌≤◌, max, List, [], ◌∷◌}
 use Rattle.std.proofs.Common.{arith}
 use denote.Param.Weighed.{most}
 use Rattle.cds_markup.specs.declared.element.Node.{Node}

@@ -3,7 +3,7 @@ use Rattle.std.specs.Prelude.{◌≡◌, ℕ, List, [], ◌∷◌, codes}
 use Rattle.cds_markup.specs.declared.name.Name.{Name}
 use Rattle.cds_markup.specs.declared.name.Attr.{Attr}
 use Rattle.cds_markup.specs.Namespaces.{xml_space}
-use Rattle.cds_markup.specs.Document.{Meaning, Meanings, Element, End, TextThen, ChildThen}
+use Rattle.cds_markup.specs.Document.{Element, End, TextThen, ChildThen}
 use Rattle.cds_markup.specs.Written.{written}
 
 abbrev name : List ℕ → List ℕ → Name

@@ -104,10 +104,16 @@ fn each_byte_has_its_place_behind_every_beginning(rt: HostRuntime) -> Result<(),
     Ok(())
 }
 
+/// So many blanks.
+fn blanks(alloc: Global, count: usize) -> Result<Vec<u8>, Fail> {
+    let all = vec![in alloc; b' '; count]?;
+    Ok(all)
+}
+
 #[test]
 fn an_early_fault_is_the_answer_past_the_limit(rt: HostRuntime) -> Result<(), Fail> {
     let alloc = rt.alloc();
-    let blanks = vec![in alloc; b' '; 1_048_576]?;
+    let blanks = blanks(alloc, 1_048_576)?;
     let mut reader = Reader::new(alloc)?;
     reader.feed(alloc, b"<a>&bad;")?;
     for _ in 0..63 {

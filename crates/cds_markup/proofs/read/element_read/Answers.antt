@@ -1,4 +1,4 @@
-use Rattle.std.proofs.Common.{◌≡◌, [], subst}
+use Rattle.std.proofs.Common.{[], subst}
 use Rattle.cds_markup.specs.Agree.{Parted}
 use Rattle.cds_markup.proofs.Verdict.{parted_some, parted_ok}
 use Rattle.cds_markup.proofs.read.element_read.Goals as goal

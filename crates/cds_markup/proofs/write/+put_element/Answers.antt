@@ -1,5 +1,4 @@
-use Rattle.std.proofs.Common.{◌<◌, ◌++◌, codes, string_bytes, sym, ap, ◌∙◌, arith}
-use Rattle.cds_markup.specs.Document.{Element}
+use Rattle.std.proofs.Common.{◌<◌, ◌++◌, codes, string_bytes, ap, ◌∙◌, arith}
 use Rattle.cds_markup.specs.Weight.{weight, weight_one}
 use Rattle.cds_markup.specs.Written.{tag_of, written_start, written_end, written_in}
 use Rattle.cds_markup.proofs.NodesForm.{child_of}
