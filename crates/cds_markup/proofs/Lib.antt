@@ -27,6 +27,9 @@ pub mod ContentForm
 pub mod Closing
 pub mod Starts
 pub mod Pieces
+pub mod TextCut
+pub mod ShownForm
+pub mod CutParts
 pub mod Told
 pub mod NameBytes
 pub mod StartSound

@@ -23,7 +23,7 @@ piece_on total name outer opens left =
     cond (next_is is_less left) (markup_moves total (place total left) name outer opens (drop 1 left))
     (cond (next_is is_and left) (reference_moves (place total left) opens (reference_at left)) (text_moves (place total left) opens left (text_behind 0 left)))
 
-not-over : (n : ℕ) → (suc n == 0) ≡ false
+pub not-over : (n : ℕ) → (suc n == 0) ≡ false
 not-over n = grind (arith, nat_tests)
 
 piece-on : (total : ℕ) (name : QName) (outer opens : List Open) (b : ℕ) (l : List ℕ) → piece_moves total name outer opens (b ∷ l) ≡ piece_on total name outer opens (b ∷ l)
@@ -74,7 +74,7 @@ said-ok read rest e = by read.broken refl e where
   by true is e = absurd (cc)
   by false is e = (is, (ok_same tt tt read.left rest e).1)
 
-said-err : (read : TextRead) (rest : List ℕ) → text_said read ≡ Err rest → (read.broken ≡ true) × (read.left ≡ rest)
+pub said-err : (read : TextRead) (rest : List ℕ) → text_said read ≡ Err rest → (read.broken ≡ true) × (read.left ≡ rest)
 said-err read rest e = by read.broken refl e where
   by : (t : Bool) → read.broken ≡ t → ◌≡◌ {A = Step (Unit {0})} (cond t (Err read.left) (Ok (tt, read.left))) (Err rest) → (read.broken ≡ true) × (read.left ≡ rest)
   by true is e = (is, err_same {A = Unit {0}} read.left rest e)
@@ -102,14 +102,14 @@ whole-from : (k n : ℕ) (left : List ℕ) → length left ≤ k → Whole left 
 whole-from zero n left h = whole-step n left (λ m rest less. absurd (omega (arith, h, less)))
 whole-from (suc k) n left h = whole-step n left (λ m rest less. whole-from k m rest (omega (arith, h, less)))
 
-odd-is : (at : ℕ) (text : List ℕ) → odd_of at text false ≡ first_odd at text
+pub odd-is : (at : ℕ) (text : List ℕ) → odd_of at text false ≡ first_odd at text
 odd-is at [] = refl
 odd-is at (b ∷ text) = ap (λ x. cond (is_blank b) x (Some at)) (odd-is (at + 1) text)
 
 no-less : (n m : ℕ) → n ≡ m → nat_lt n m ≡ false
 no-less n m e = grind (arith, nat_tests)
 
-some-parts : (at : ℕ) (used : List ℕ) → used ≢ [] → text_parts at used false ≡ leaf_parts at (Text used)
+pub some-parts : (at : ℕ) (used : List ℕ) → used ≢ [] → text_parts at used false ≡ leaf_parts at (Text used)
 some-parts at [] some = absurd (some refl)
 some-parts at (b ∷ used) some =
     ap (λ t. cond (t && true) [] (Run at (odd_of at (b ∷ used) false) (line_ends (b ∷ used)) ∷ [])) (not-over (length used))
@@ -131,13 +131,11 @@ text-ok at opens left used rest e d some =
     ∙ ap (λ ps. Ok record { parts = ps; opens = opens; left = read.left }) (some-parts at used some)
     ∙ ap (λ xs. Ok record { parts = leaf_parts at (Text used); opens = opens; left = xs }) said.1
 
-pub text-err : (at : ℕ) (opens : List Open) (left rest : List ℕ) → text_step 0 left ≡ Err rest → (parts : List Part) × (text_moves at opens left (text_behind 0 left) ≡ Err record { parts = parts; stop = Broken; left = rest })
+pub text-err : (at : ℕ) (opens : List Open) (left rest : List ℕ) → text_step 0 left ≡ Err rest → text_moves at opens left (text_behind 0 left) ≡ Err record { parts = text_parts at (take (text_behind 0 left).whole left) (has_begun left (text_behind 0 left)); stop = Broken; left = rest }
 text-err at opens left rest e =
     let read = text_behind 0 left in
-    let said = said-err read rest e in (
-      text_parts at (take read.whole left) (has_begun left read),
-      ap (λ t. cond t (Err record { parts = text_parts at (take read.whole left) (has_begun left read); stop = Broken; left = read.left }) (Ok record { parts = text_parts at (take read.whole left) (has_begun left read); opens = opens; left = read.left })) said.0 ∙ ap (λ xs. Err record { parts = text_parts at (take read.whole left) (has_begun left read); stop = Broken; left = xs }) said.1,
-    )
+    let said = said-err read rest e in
+    ap (λ t. cond t (Err record { parts = text_parts at (take read.whole left) (has_begun left read); stop = Broken; left = read.left }) (Ok record { parts = text_parts at (take read.whole left) (has_begun left read); opens = opens; left = read.left })) said.0 ∙ ap (λ xs. Err record { parts = text_parts at (take read.whole left) (has_begun left read); stop = Broken; left = xs }) said.1
 
 -- where a text ends markup follows
 abbrev MarkupEnds : List ℕ → Step (Unit {0}) → Type 0

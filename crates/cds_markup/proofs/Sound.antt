@@ -1,11 +1,11 @@
 -- What is told of any bytes: a whole document, or why reading stops where it stops.
-use Rattle.std.proofs.Common.{◌≡◌, ◌≢◌, ◌==◌, ℕ, zero, suc, ◌+◌, ◌-◌, ◌<◌, ◌≤◌, Bool, true, false, not, ◌&&◌, ◌||◌, Some, Ok, Err, List, [], ◌∷◌, ◌++◌, length, refl, sym, ap, subst, ◌∙◌, arith, append_assoc, append-nil, length-append, codes, inl, inr}
+use Rattle.std.proofs.Common.{◌≡◌, ◌≢◌, ◌==◌, ℕ, zero, suc, ◌+◌, ◌-◌, ◌<◌, ◌≤◌, Bool, true, false, not, ◌&&◌, ◌||◌, Some, None, Ok, Err, List, [], ◌∷◌, ◌++◌, length, refl, sym, ap, subst, ◌∙◌, arith, append_assoc, append-nil, length-append, codes, inl, inr}
 use Rattle.cds_base.specs.Reference.{IsReference}
 use Rattle.cds_markup.specs.declared.part.Part.{Part}
 use Rattle.cds_markup.specs.declared.part.Part.TheVariants.{Start, End}
 use Rattle.cds_markup.specs.declared.tag.Tag.{Tag}
 use Rattle.cds_markup.specs.declared.error.Stop.TheVariants.{Broken}
-use Rattle.cds_markup.specs.Grammar.{Leaf, Text, Reference, Section, Comment, Full, Nothing, LeafThen, is_text, IsText, IsLeaf, IsSection, IsTag}
+use Rattle.cds_markup.specs.Grammar.{Leaf, Text, Reference, Section, Comment, Full, Nothing, LeafThen, is_text, IsText, IsLeaf, IsSection, IsTag, IsProlog}
 use Rattle.cds_markup.specs.Refusal.{CanGoOn, Opens, scopes_of}
 use Rattle.cds_markup.specs.Step.{Step, next_is}
 use Rattle.cds_markup.specs.Reading.{text_behind, end_at, reference_at, remark_at, enclosed_at, section_text_at, prolog_at, is_less, is_bang, is_and, is_in_run}
@@ -20,10 +20,12 @@ use Rattle.cds_markup.proofs.Scan.{contains-clean}
 use Rattle.cds_markup.proofs.TextRows.{parse-text, text_step, TextFrom, markup}
 use Rattle.cds_markup.proofs.SectionRows.{SectionRest, parse-section}
 use Rattle.cds_markup.proofs.CommentRows.{RemarkRest, parse-remark, comment-is}
-use Rattle.cds_markup.proofs.PrologRows.{parse-prolog, RootOpen}
+use Rattle.cds_markup.proofs.PrologRows.{parse-prolog, RootOpen, no-misc}
 use Rattle.cds_markup.proofs.ContentForm.{Apart, ends_with_text, content-is}
 use Rattle.cds_markup.proofs.Closing.{close-content, close-end, go-front, go-same, stands-opens}
-use Rattle.cds_markup.proofs.Starts.{SameStart, same-behind, same-next, alike-ok, alike-err, place-is}
+use Rattle.cds_markup.proofs.ShownForm.{no-cut}
+use Rattle.cds_markup.proofs.CutParts.{cut_text, text-cut}
+use Rattle.cds_markup.proofs.Starts.{SameStart, same-here, same-behind, same-next, alike-ok, alike-err, place-is}
 use Rattle.cds_markup.proofs.Pieces.{at-nothing, at-end, at-section, at-remark, at-start, at-reference, at-text, section-ok, section-err, text-ok, text-err, text-ends, text-some}
 use Rattle.cds_markup.proofs.PieceSteps.{content-next}
 use Rattle.cds_markup.proofs.Told.{open_of, opens_of, Told, Rec, Calm, Arrives, Piece, arrives-on, told-broke, told-leaf, told-tree, stands-deep}
@@ -67,7 +69,9 @@ module _ (n : ℕ) (bytes : List ℕ) (rec : Rec n bytes) (t : Tag) (outer : Lis
   at-none d =
       told-broke t outer before left parts arr [] [] d bytes e
       (close-content t outer before o Nothing [] (and-none (ends_with_text st.6)) refl)
+      st calm
       (λ x s. ([], ap (λ xs. piece_moves (length (before ++ xs)) t.name (opens_of outer) (opens_of (t ∷ outer)) xs) s ∙ at-nothing (length (before ++ [])) t.name (opens_of outer) (opens_of (t ∷ outer)) ∙ ap (λ xs. Err record { parts = []; stop = Broken; left = xs }) (sym s)))
+      (no-cut (t ∷ outer) (length before) [] [] parts)
 
   -- an end tag
   abbrev Ended : List ℕ → List ℕ
@@ -109,7 +113,9 @@ module _ (n : ℕ) (bytes : List ℕ) (rec : Rec n bytes) (t : Tag) (outer : Lis
   end-err used more rest d g read =
       told-broke t outer before left parts arr (60 ∷ 47 ∷ used) rest d bytes e
       (go-front (before ++ 60 ∷ 47 ∷ used) more (go-same (before ++ 60 ∷ 47 ∷ (used ++ more)) ((before ++ 60 ∷ 47 ∷ used) ++ more) (sym (append_assoc before (60 ∷ 47 ∷ used) more)) (close-end t outer before o (60 ∷ 47 ∷ (used ++ more)) (end-is t.name (used ++ more) g))))
+      st calm
       (λ x s. ([], at-end (T (60 ∷ 47 ∷ used) x) t.name (opens_of outer) (opens_of (t ∷ outer)) (used ++ x) ∙ ap (end_moves (place (T (60 ∷ 47 ∷ used) x) (60 ∷ 47 ∷ (used ++ x))) (opens_of outer)) (read x s)))
+      (no-cut (t ∷ outer) (length before) (60 ∷ 47 ∷ used) rest parts)
 
   at-end-tag : (l : List ℕ) → left ≡ 60 ∷ 47 ∷ l → Told bytes
   at-end-tag l d = by (end_at t.name l) refl where
@@ -147,7 +153,9 @@ module _ (n : ℕ) (bytes : List ℕ) (rec : Rec n bytes) (t : Tag) (outer : Lis
         let f = (parse-section (length l)).stops l rest (omega arith) h in
         told-broke t outer before left parts arr (60 ∷ 33 ∷ f.used) rest (d ∙ ap (λ xs. 60 ∷ 33 ∷ xs) f.spelled) bytes e
         (can-leaf (60 ∷ 33 ∷ f.used) f.more (Section f.value) (section-is (f.used ++ f.more) f.value f.viable) (and-none (ends_with_text st.6)))
+        st calm
         (λ x s. ([], section-on f.used rest x l f.spelled is s ∙ section-err (place (T (60 ∷ 33 ∷ f.used) x) (60 ∷ 33 ∷ (f.used ++ x))) (opens_of (t ∷ outer)) (f.used ++ x) x (alike-err enclosed_at SectionRest l rest f h x s)))
+        (no-cut (t ∷ outer) (length before) (60 ∷ 33 ∷ f.used) rest parts)
 
   -- a comment
   at-remark-tag : (l : List ℕ) → left ≡ 60 ∷ 33 ∷ l → next_is (λ b. b == 91) l ≡ false → Told bytes
@@ -182,7 +190,9 @@ module _ (n : ℕ) (bytes : List ℕ) (rec : Rec n bytes) (t : Tag) (outer : Lis
         let same = heads 33 b l (v ++ rest) c in
         told-broke t outer before left parts arr (60 ∷ 33 ∷ v) rest (d ∙ ap (λ xs. 60 ∷ 33 ∷ xs) same.1) bytes e
         (can-leaf (60 ∷ 33 ∷ v) more Comment (comment-is (33 ∷ (v ++ more)) (subst (λ b. RemarkRest (b ∷ (v ++ more)) tt) (sym same.0) g)) (and-none (ends_with_text st.6)))
+        st calm
         (λ x s. ([], on v rest x same.1 s ∙ ap (remark_moves (opens_of (t ∷ outer))) (ap (λ b. remark_at (b ∷ (v ++ x))) same.0 ∙ read x s)))
+        (no-cut (t ∷ outer) (length before) (60 ∷ 33 ∷ v) rest parts)
 
     by : (s : Step (Unit {0})) → remark_at (33 ∷ l) ≡ s → Told bytes
     by (Ok found) h =
@@ -234,7 +244,9 @@ module _ (n : ℕ) (bytes : List ℕ) (rec : Rec n bytes) (t : Tag) (outer : Lis
         let same = heads 38 b l (v ++ rest) i in
         told-broke t outer before left parts arr (38 ∷ v) rest (d ∙ ap (λ xs. 38 ∷ xs) same.1) bytes e
         (can-leaf (38 ∷ v) more (Reference c) (subst (λ b. IsReference (b ∷ (v ++ more)) c) (sym same.0) g) (and-none (ends_with_text st.6)))
+        st calm
         (λ x s. ([], on v x ∙ ap (reference_moves (place (T (38 ∷ v) x) (38 ∷ (v ++ x))) (opens_of (t ∷ outer))) (ap (λ b. reference_at (b ∷ (v ++ x))) same.0 ∙ read x s)))
+        (no-cut (t ∷ outer) (length before) (38 ∷ v) rest parts)
 
     by : (s : Step ℕ) → reference_at (38 ∷ l) ≡ s → Told bytes
     by (Ok found) h =
@@ -275,6 +287,9 @@ module _ (n : ℕ) (bytes : List ℕ) (rec : Rec n bytes) (t : Tag) (outer : Lis
     some-byte : (v : List ℕ) → b ∷ v ≡ [] → ⊥
     some-byte v e = cc
 
+    some-open : ◌≡◌ {A = List Tag} (t ∷ outer) [] → ⊥
+    some-open e = cc
+
     ok : (used rest : List ℕ) → b ∷ l ≡ used ++ rest → TextFrom 0 used tt → length rest < length (b ∷ l) → Follows markup rest → ((x : List ℕ) → SameStart rest x → text_step 0 (used ++ x) ≡ Ok (tt, x)) → Told bytes
     ok [] rest i g less follows read = absurd (omega (arith, less, ap length i))
     ok (c ∷ v) rest i g less follows read =
@@ -293,21 +308,22 @@ module _ (n : ℕ) (bytes : List ℕ) (rec : Rec n bytes) (t : Tag) (outer : Lis
 
     err : (used more rest : List ℕ) → b ∷ l ≡ used ++ rest → TextFrom 0 (used ++ more) tt → ((x : List ℕ) → SameStart rest x → text_step 0 (used ++ x) ≡ Err x) → Told bytes
     err [] more rest i g read =
-        told-broke t outer before left parts arr [] rest (d ∙ i) bytes e (can-text [] more g)
-        (λ x s. broke-here x (subst (λ xs. SameStart xs x) (sym i) s) (read x s))
+        told-broke t outer before left parts arr [] rest (d ∙ i) bytes e (can-text [] more g) st calm
+        (λ x s. (cut_text (place (T [] x) x) x, broke-here x (subst (λ xs. SameStart xs x) (sym i) s) (read x s)))
+        (text-cut (t ∷ outer) (length before) [] rest parts some-open (place (T [] rest) rest) (place-is before rest) (read rest (same-here rest)))
       where
-        broke-here : (x : List ℕ) → SameStart (b ∷ l) x → text_step 0 x ≡ Err x → (qs : List Part) × (Piece t outer before [] x ≡ Err record { parts = qs; stop = Broken; left = x })
+        broke-here : (x : List ℕ) → SameStart (b ∷ l) x → text_step 0 x ≡ Err x → Piece t outer before [] x ≡ Err record { parts = cut_text (place (T [] x) x) x; stop = Broken; left = x }
         broke-here [] s h = absurd s
         broke-here (c ∷ x) s h =
-            let more = text-err (place (T [] (c ∷ x)) (c ∷ x)) (opens_of (t ∷ outer)) (c ∷ x) (c ∷ x) h in
-            (more.0, at-text (T [] (c ∷ x)) t.name (opens_of outer) (opens_of (t ∷ outer)) c x (ap is_less (sym s) ∙ no-less) (ap is_and (sym s) ∙ no-and) ∙ more.1)
+            at-text (T [] (c ∷ x)) t.name (opens_of outer) (opens_of (t ∷ outer)) c x (ap is_less (sym s) ∙ no-less) (ap is_and (sym s) ∙ no-and)
+            ∙ text-err (place (T [] (c ∷ x)) (c ∷ x)) (opens_of (t ∷ outer)) (c ∷ x) (c ∷ x) h
     err (c ∷ v) more rest i g read =
         let same = heads b c l (v ++ rest) i in
+        let reads : (x : List ℕ) → SameStart rest x → text_step 0 (b ∷ (v ++ x)) ≡ Err x = λ x s. ap (λ b. text_step 0 (b ∷ (v ++ x))) same.0 ∙ read x s in
         told-broke t outer before left parts arr (b ∷ v) rest (d ∙ ap (λ xs. b ∷ xs) same.1) bytes e
-        (can-text (b ∷ v) more (subst (λ b. TextFrom 0 (b ∷ (v ++ more)) tt) (sym same.0) g))
-        (λ x s.
-        let h = text-err (place (T (b ∷ v) x) (b ∷ (v ++ x))) (opens_of (t ∷ outer)) (b ∷ (v ++ x)) x (ap (λ b. text_step 0 (b ∷ (v ++ x))) same.0 ∙ read x s) in
-        (h.0, on v x ∙ h.1))
+        (can-text (b ∷ v) more (subst (λ b. TextFrom 0 (b ∷ (v ++ more)) tt) (sym same.0) g)) st calm
+        (λ x s. (cut_text (place (T (b ∷ v) x) (b ∷ (v ++ x))) (b ∷ (v ++ x)), on v x ∙ text-err (place (T (b ∷ v) x) (b ∷ (v ++ x))) (opens_of (t ∷ outer)) (b ∷ (v ++ x)) x (reads x s)))
+        (text-cut (t ∷ outer) (length before) (b ∷ v) rest parts some-open (place (T (b ∷ v) rest) (b ∷ (v ++ rest))) (place-is before (b ∷ (v ++ rest))) (reads rest (same-here rest)))
 
     by : (s : Step (Unit {0})) → text_step 0 (b ∷ l) ≡ s → Told bytes
     by (Ok found) h =
@@ -362,6 +378,10 @@ course-broke : (bytes x : List ℕ) → prolog_at bytes ≡ Err x → course_of 
 unfolding course_of
 course-broke bytes x h = ap (from_root (length bytes)) h
 
+-- nothing stands before the beginning
+no-prolog : IsProlog [] tt
+no-prolog = record { front = []; back = []; what = None; spelled = refl; first = refl; second = record { front = []; back = []; what = None; spelled = refl; first = refl; second = no-misc } }
+
 pub told : (bytes : List ℕ) → Told bytes
 told bytes = by (prolog_at bytes) refl where
   ok : (left : List ℕ) → (f : Found prolog_at RootOpen bytes tt left) → prolog_at bytes ≡ Ok (tt, left) → Told bytes
@@ -383,6 +403,7 @@ told bytes = by (prolog_at bytes) refl where
         spelled = f.spelled;
         can = go-front f.used f.more (go-same (r.front ++ 60 ∷ []) (f.used ++ f.more) (sym whole) (can-tag [] r.front r.first [] (65 ∷ []) a-tag.0 a-tag.1));
         local = λ x s. ([], course-broke (f.used ++ x) x (alike-err prolog_at RootOpen bytes rest f h x s));
+        shown = inl (record { tags = []; front = []; back = f.used; earlier = []; spelled = refl; stands = (no-prolog, refl); calm = tt; deep = omega arith; cut = inl refl });
       }))
     where
       a-tag : (t : Tag) × IsTag (65 ∷ []) t

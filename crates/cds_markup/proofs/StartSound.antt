@@ -1,6 +1,7 @@
 -- What is told where a start tag begins.
 use Rattle.std.proofs.Common.{◌≡◌, ◌==◌, ℕ, suc, ◌+◌, ◌<◌, ◌≤◌, Bool, true, false, cond, ◌&&◌, ◌||◌, Option, Some, None, Result, Ok, Err, List, [], ◌∷◌, ◌++◌, length, drop, refl, sym, ap, subst, ◌∙◌, arith, append_assoc, append-nil, length-append, codes, ◌⊎◌, inl, inr}
 use Rattle.std.proofs.lemmas.Bool.Decides.{nat_tests}
+use Rattle.std.proofs.lemmas.List.{append_cancel_right}
 use Rattle.cds_markup.specs.declared.name.Name.{Name}
 use Rattle.cds_markup.specs.declared.name.Attr.{Attr}
 use Rattle.cds_markup.specs.declared.part.Part.{Part}
@@ -17,7 +18,7 @@ use Rattle.cds_markup.specs.Step.{Step, word_at, next_is}
 use Rattle.cds_markup.specs.Reading.{tag_at, is_greater, ends_tag}
 use Rattle.cds_markup.specs.Course.{Moved, Halted, Course, place, halts, with_parts, goes_on, start_moves, read_moves, ruled_moves, tag_ends, bare_moves, content_at, behind_root, course_of, scopes_in, may_begin_name, is_full}
 use Rattle.cds_markup.specs.Parts.{OpensParts}
-use Rattle.cds_markup.proofs.ReadsForm.{Found}
+use Rattle.cds_markup.proofs.ReadsForm.{Found, err_same}
 use Rattle.cds_markup.proofs.NameRows.{is-byte, a-qname, no-blanks}
 use Rattle.cds_markup.proofs.NamesForm.{begins-first}
 use Rattle.cds_markup.proofs.TagRows.{parse-tag, tag-ends, EndsTag}
@@ -25,6 +26,7 @@ use Rattle.cds_markup.proofs.Parses.{Any, word}
 use Rattle.cds_markup.proofs.NameBytes.{may-begin-of, first-begins}
 use Rattle.cds_markup.proofs.Closing.{close-tree, go-front, go-same, stands-opens}
 use Rattle.cds_markup.proofs.Starts.{SameStart, same-here, same-behind, same-next, alike-ok, alike-err, place-is}
+use Rattle.cds_markup.proofs.ShownForm.{Shown, CalmHere, calm-less, no-cut}
 use Rattle.cds_markup.proofs.Told.{open_of, opens_of, scopes-same, opens-many, Told, Rec, Arrives, parts-twice, told-tree}
 
 -- the reader is behind the `<` of a start tag
@@ -93,6 +95,17 @@ begins-with : (test : ℕ → Bool) (left : List ℕ) → next_is test left ≡ 
 begins-with test [] e = absurd (cc)
 begins-with test (b ∷ rest) e = (b, rest, refl, e)
 
+-- the byte that ends a tag and is no `>`, and what stands behind it
+slash-byte : (b : ℕ) → ends_tag b ≡ true → is_greater b ≡ false → b ≡ 47
+slash-byte b h f = grind (arith, nat_tests)
+
+word-end : (tail end : List ℕ) → word_at (codes "/>") (47 ∷ tail) ≡ Err end → end ≡ tail
+word-end [] end e = sym (err_same {A = Unit {0}} [] end e)
+word-end (c ∷ tail) end e = by (c == 62) refl e where
+  by : (s : Bool) → (c == 62) ≡ s → ◌≡◌ {A = Step (Unit {0})} (cond s (Ok (tt, tail)) (Err (c ∷ tail))) (Err end) → end ≡ c ∷ tail
+  by true i e = absurd (cc)
+  by false i e = sym (err_same {A = Unit {0}} (c ∷ tail) end e)
+
 module _ (n : ℕ) (bytes : List ℕ) (rec : Rec n bytes) (tags : List Tag) (before : List ℕ) (parts : List Part) (st : OpensParts tags before parts) (deep : length tags ≤ most_open) (left : List ℕ) (e : bytes ≡ before ++ 60 ∷ left) (small : length left ≤ n) (start : AtStart tags before left parts) where
   abbrev T : List ℕ → ℕ
   T x = length (before ++ 60 ∷ x)
@@ -108,6 +121,13 @@ module _ (n : ℕ) (bytes : List ℕ) (rec : Rec n bytes) (tags : List Tag) (bef
 
   longer : (u : List ℕ) → length (before ++ 60 ∷ u) ≡ length before + 1 + length u
   longer u = length-append before (60 ∷ u) ∙ omega arith
+
+  -- nothing is shown behind its place
+  shown-here : (back rest : List ℕ) → (start : next_is (λ b. b == 60) back ≡ true) → Shown (before ++ back) rest (parts ++ [])
+  shown-here back rest begins = inl (record { tags = tags; front = before; back = back; earlier = parts; spelled = refl; stands = st; calm = calm back begins; deep = deep; cut = no-cut tags (length before) back rest parts }) where
+    calm : (back : List ℕ) → next_is (λ b. b == 60) back ≡ true → CalmHere tags before parts st (back ++ rest)
+    calm [] i = absurd (cc)
+    calm (b ∷ back) i = subst (λ b. CalmHere tags before parts st (b ∷ (back ++ rest))) (sym (is-byte b 60 i)) (calm-less tags before parts st (back ++ rest))
 
   -- too deep
   too-deep : (is_full (opens_of tags) && next_is may_begin_name left) ≡ true → Told bytes
@@ -135,6 +155,7 @@ module _ (n : ℕ) (bytes : List ℕ) (rec : Rec n bytes) (tags : List Tag) (bef
           begins = (c.0, c.1, c.2);
         };
         is = ap course_of e ∙ start left (same-here left) ∙ ap (Go left) (start-deep (opens_of tags) (T left) (length before) left is);
+        shown = shown-here (60 ∷ []) left refl;
       })))
     where
       both-first : (s t : Bool) → (s && t) ≡ true → s ≡ true
@@ -163,6 +184,7 @@ module _ (n : ℕ) (bytes : List ℕ) (rec : Rec n bytes) (tags : List Tag) (bef
             parts ++ [],
             ap course_of (append_assoc before (60 ∷ f.used) x) ∙ reads-on (f.used ++ x) (subst (λ xs. SameStart xs (f.used ++ x)) (sym f.spelled) (same-behind f.used rest x s)) ∙ ap (λ r. Go (f.used ++ x) (read_moves (T (f.used ++ x)) (length before) (opens_of tags) r)) (alike-err tag_at IsTag left rest f d x s),
           );
+          shown = shown-here (60 ∷ f.used) rest refl;
         }))
 
     module _ (t : Tag) (u rest : List ℕ) (spelled : left ≡ u ++ rest) (is : IsTag u t) (read : (x : List ℕ) → SameStart rest x → tag_at (u ++ x) ≡ Ok (t, x)) (ends : EndsTag rest) where
@@ -207,6 +229,7 @@ module _ (n : ℕ) (bytes : List ℕ) (rec : Rec n bytes) (tags : List Tag) (bef
             can = can-tag tags before opens u [] t (subst (λ xs. IsTag xs t) (sym (append-nil u)) is);
             cause = (tags, length before, t, (record { before = before; inside = u; end = ends.0; rest = ends.1; spelled = e ∙ ap (λ xs. before ++ 60 ∷ xs) (spelled ∙ ap (λ xs. u ++ xs) ends.2); begins = refl; place = longer u; opens = opens; is_tag = is; ends = end-byte ends.0 ends.3 }), none);
             is = ap course_of all ∙ tag-on rest (same-here rest) ∙ ap (λ s. Go (u ++ rest) (ruled_moves (T (u ++ rest)) (length before) (opens_of tags) t s rest)) said;
+            shown = shown-here (60 ∷ u) rest refl;
           })))
 
       module _ (name : Name) (attrs : List Attr) (says : tag_says (scopes_of tags) t ≡ Some (name, attrs)) where
@@ -259,6 +282,31 @@ module _ (n : ℕ) (bytes : List ℕ) (rec : Rec n bytes) (tags : List Tag) (bef
             ruled-on x s
             ∙ ap (λ t0. Go (u ++ x) (cond t0 (Ok record { parts = First ∷ []; opens = open_of t ∷ opens_of tags; left = drop 1 x }) (bare_moves First At (opens_of tags) (word_at (codes "/>") x)))) (sym (same-next is_greater rest x s) ∙ no-greater)
 
+        -- its `/` stands, and no `>` behind it
+        shown-slash : next_is is_greater rest ≡ false → (used end : List ℕ) → rest ≡ used ++ end → word_at (codes "/>") rest ≡ Err end → Shown ((before ++ 60 ∷ u) ++ used) end (parts ++ First ∷ [])
+        shown-slash no-greater used end s d =
+            subst (λ us. Shown ((before ++ 60 ∷ u) ++ us) end (parts ++ First ∷ [])) (sym slash)
+            (subst (λ us. Shown us end (parts ++ First ∷ [])) (sym (append_assoc before (60 ∷ u) (47 ∷ [])))
+            (inl (record {
+              tags = tags;
+              front = before;
+              back = 60 ∷ (u ++ 47 ∷ []);
+              earlier = parts;
+              spelled = refl;
+              stands = st;
+              calm = calm-less tags before parts st ((u ++ 47 ∷ []) ++ end);
+              deep = deep;
+              cut = inr (inr (record { tag = t; inside = u; name = name; attrs = attrs; spelled = refl; is_tag = is; says = says; room = room; is = ap (λ n. parts ++ Start (length before) n name attrs ∷ []) (longer u) }));
+            })))
+          where
+            slash : used ≡ 47 ∷ []
+            slash = by rest used end s d ends no-greater where
+              by : (rest used end : List ℕ) → rest ≡ used ++ end → word_at (codes "/>") rest ≡ Err end → EndsTag rest → next_is is_greater rest ≡ false → used ≡ 47 ∷ []
+              by rest used end s d (b, tail, e, h) f =
+                  append_cancel_right used (47 ∷ []) end (sym s ∙ e ∙ ap (λ b. b ∷ tail) byte ∙ ap (λ xs. 47 ∷ xs) (sym (word-end tail end (sym (ap (word_at (codes "/>")) (e ∙ ap (λ b. b ∷ tail) byte)) ∙ d)))) where
+                    byte : b ≡ 47
+                    byte = slash-byte b h (sym (ap (next_is is_greater) e) ∙ f)
+
         unclosed : next_is is_greater rest ≡ false → (end : List ℕ) → word_at (codes "/>") rest ≡ Err end → Told bytes
         unclosed no-greater end d =
             let f = (word (length rest) (codes "/>") Any).stops rest end (omega arith) d in
@@ -271,9 +319,10 @@ module _ (n : ℕ) (bytes : List ℕ) (rec : Rec n bytes) (tags : List Tag) (bef
               spelled = all ∙ ap (λ xs. (before ++ 60 ∷ u) ++ xs) f.spelled ∙ sym (append_assoc (before ++ 60 ∷ u) f.used end);
               can = go-front ((before ++ 60 ∷ u) ++ f.used) f.more (go-same (before ++ 60 ∷ (u ++ (f.used ++ f.more))) (((before ++ 60 ∷ u) ++ f.used) ++ f.more) same tree);
               local = λ x s. (
-                parts ++ [],
+                parts ++ First ∷ [],
                 ap course_of (append_assoc (before ++ 60 ∷ u) f.used x) ∙ bare-on no-greater (f.used ++ x) (subst (λ xs. SameStart xs (f.used ++ x)) (sym f.spelled) (same-behind f.used end x s)) ∙ ap (λ r. Go (u ++ (f.used ++ x)) (bare_moves First At (opens_of tags) r)) (alike-err (word_at (codes "/>")) (Word (codes "/>")) rest end f d x s),
               );
+              shown = shown-slash no-greater f.used end f.spelled d;
             }))
 
         closed : next_is is_greater rest ≡ false → (end : List ℕ) → word_at (codes "/>") rest ≡ Ok (tt, end) → Told bytes

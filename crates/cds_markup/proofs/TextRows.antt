@@ -63,7 +63,7 @@ may-next test (b ∷ left) e = or-right (nat_le 128 b) (test b) e
 pub guarded-any : (test : ℕ → Bool) → ((c : ℕ) → 128 ≤ c → is_allowed c ≡ true → test c ≡ true) → (some : ℕ) → some < 128 → is_allowed some ≡ true → test some ≡ true → (left : List ℕ) → next_is test left ≡ true → character_at test left ≡ any_at left
 guarded-any test wide some low ok passes left e = passing test wide some low ok passes left (may-next test left e)
 
-run-any : (n : ℕ) (left : List ℕ) → next_is (is_in_run n) left ≡ true → character_at (is_in_run n) left ≡ any_at left
+pub run-any : (n : ℕ) (left : List ℕ) → next_is (is_in_run n) left ≡ true → character_at (is_in_run n) left ≡ any_at left
 run-any n left e = guarded-any (is_in_run n) (wide-run n) 65 (grind (arith, nat_tests)) refl (some-run n) left e
 
 text-is : (n : ℕ) (left : List ℕ) → text_step n left ≡ choose (is_in_run n) (run_more n) (run_end n) left
@@ -79,10 +79,10 @@ text-is n left = by (next_is (is_in_run n) left) refl where
   by false is = ap text_said (text-stop n left is)
 
 -- the same of the form
-abbrev RunMore : ℕ → List ℕ → Unit {0} → Type 0
+abbrev pub RunMore : ℕ → List ℕ → Unit {0} → Type 0
 RunMore n = Then (Character (is_in_run n)) (λ c. TextFrom (brackets_with n c))
 
-run-in-text : (n c : ℕ) → is_in_run n c ≡ true → is_in_text c ≡ true
+pub run-in-text : (n c : ℕ) → is_in_run n c ≡ true → is_in_text c ≡ true
 run-in-text n c e = by (not (c == 60)) (not (c == 38)) (not (closes_section n c)) e where
   by : (s t u : Bool) → (s && (t && u)) ≡ true → (s && t) ≡ true
   by s t u e = grind arith
@@ -101,7 +101,7 @@ pub clean-behind : (n c : ℕ) (front back w : List ℕ) → w ≡ front ++ back
 clean-behind n c front back w e d =
     ap (clean n) (e ∙ ap (λ xs. xs ++ back) d) ∙ clean-character n c back
 
-to-text : (n : ℕ) (w : List ℕ) (v : Unit {0}) → Either (RunMore n) Nought w v → TextFrom n w v
+pub to-text : (n : ℕ) (w : List ℕ) (v : Unit {0}) → Either (RunMore n) Nought w v → TextFrom n w v
 to-text n w v (inr g) = record { characters = []; each = g.0; open_ = ap (clean n) g.0 }
 to-text n w v (inl t) =
     let x = t.second in
@@ -111,7 +111,7 @@ to-text n w v (inl t) =
       open_ = clean-behind n t.what t.front t.back w t.spelled t.first.spelled ∙ and-both (not (closes_section n t.what)) (clean (brackets_with n t.what) t.back) (run-open n t.what t.first.passes) x.open_;
     }
 
-from-text : (n : ℕ) (w : List ℕ) (v : Unit {0}) → TextFrom n w v → Either (RunMore n) Nought w v
+pub from-text : (n : ℕ) (w : List ℕ) (v : Unit {0}) → TextFrom n w v → Either (RunMore n) Nought w v
 from-text n w v x = by x.characters x.each where
   by : (cs : List ℕ) → Many (Character is_in_text) w cs → Either (RunMore n) Nought w v
   by [] e = inr (e, refl)
@@ -140,7 +140,7 @@ next-by : (test : ℕ → Bool) (rest : List ℕ) → ((b : ℕ) → markup b �
 next-by test [] h f = refl
 next-by test (b ∷ rest) h f = h b f
 
-first-run : (n c : ℕ) (first : HasFirst c) → is_in_run n c ≡ true → is_allowed c ≡ true → is_in_run n first.head ≡ true
+pub first-run : (n c : ℕ) (first : HasFirst c) → is_in_run n c ≡ true → is_allowed c ≡ true → is_in_run n first.head ≡ true
 first-run n c first e ok = by (small-or-wide c) where
   high-run : 128 ≤ first.head → is_in_run n first.head ≡ true
   high-run h = grind (arith, nat_tests)

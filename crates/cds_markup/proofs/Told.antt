@@ -21,6 +21,8 @@ use Rattle.cds_markup.proofs.PieceSteps.{content-next, content-none}
 use Rattle.cds_markup.proofs.PrologRows.{parse-epilog, epilog-over}
 use Rattle.cds_markup.proofs.ContentForm.{append, Apart, ends_with_text, parts-append, depths-append, ends-leaf, ends-tree, tree-is}
 use Rattle.cds_markup.proofs.Starts.{SameStart, same-here, same-behind, alike-err}
+pub use Rattle.cds_markup.proofs.ShownForm.{Calm}
+use Rattle.cds_markup.proofs.ShownForm.{Shown, Cut}
 
 abbrev pub open_of : Tag → Open
 open_of t = record { name = t.name; declared = declarations t.attrs }
@@ -62,6 +64,7 @@ pub record Broke (bytes : List ℕ) : Type 0 where
   pub spelled : bytes ≡ used ++ rest
   pub can : CanGoOn used
   pub local : (x : List ℕ) → SameStart rest x → (parts : List Part) × (course_of (used ++ x) ≡ record { parts = parts; stop = Some Broken; left = x })
+  pub shown : Shown used rest (local rest (same-here rest)).0
 
 -- another stop
 pub record Stops (bytes : List ℕ) (stop : Stop) (why : ℕ → Type 0) : Type 0 where
@@ -72,6 +75,7 @@ pub record Stops (bytes : List ℕ) (stop : Stop) (why : ℕ → Type 0) : Type 
   pub can : CanGoOn used
   pub cause : why (length used)
   pub is : course_of bytes ≡ record { parts = parts; stop = Some stop; left = rest }
+  pub shown : Shown used rest parts
 
 abbrev pub Told : List ℕ → Type 0
 Told bytes = Whole bytes ⊎ (Broke bytes ⊎ (Stops bytes Unruly (BreaksRule bytes) ⊎ Stops bytes Deep (IsTooDeep bytes)))
@@ -79,6 +83,9 @@ Told bytes = Whole bytes ⊎ (Broke bytes ⊎ (Stops bytes Unruly (BreaksRule by
 -- parts behind parts
 pub parts-twice : (ps qs : List Part) (c : Course) → with_parts ps (with_parts qs c) ≡ with_parts (ps ++ qs) c
 parts-twice ps qs c = ap (λ xs. record { parts = xs; stop = c.stop; left = c.left }) (sym (append_assoc ps qs c.parts))
+
+pub stands-deep : (t : Tag) (outer : List Tag) (before : List ℕ) (parts : List Part) → OpensParts (t ∷ outer) before parts → length (t ∷ outer) ≤ most_open
+stands-deep t outer before parts (name, attrs, end, b0, start, inside, content, earlier, inner, e, o, is, says, place, others, deep, p) = omega (arith, deep)
 
 abbrev pub Piece : Tag → List Tag → List ℕ → List ℕ → List ℕ → Result Moved Halted
 Piece t outer before u x = piece_moves (length (before ++ (u ++ x))) t.name (opens_of outer) (opens_of (t ∷ outer)) (u ++ x)
@@ -98,8 +105,8 @@ module _ (t : Tag) (outer : List Tag) (before left : List ℕ) (parts : List Par
       ∙ ap behind_root (parts-twice parts qs (content_at (length (before ++ (u ++ x))) (opens_of tags) x))
       ∙ ap (λ n. behind_root (with_parts (parts ++ qs) (content_at n (opens_of tags) x))) (ap length (sym (append_assoc before u x)))
 
-  pub told-broke : (bytes : List ℕ) → bytes ≡ before ++ left → CanGoOn (before ++ u) → ((x : List ℕ) → SameStart rest x → (qs : List Part) × (Piece t outer before u x ≡ Err record { parts = qs; stop = Broken; left = x })) → Told bytes
-  told-broke bytes e can stops =
+  pub told-broke : (bytes : List ℕ) → bytes ≡ before ++ left → CanGoOn (before ++ u) → (st : OpensParts (t ∷ outer) before parts) → Calm st.6 left → (stops : (x : List ℕ) → SameStart rest x → (qs : List Part) × (Piece t outer before u x ≡ Err record { parts = qs; stop = Broken; left = x })) → Cut (t ∷ outer) (length before) u rest parts (parts ++ (stops rest (same-here rest)).0) → Told bytes
+  told-broke bytes e can st calm stops cut =
       inr (inl (record {
         used = before ++ u;
         rest = rest;
@@ -108,6 +115,17 @@ module _ (t : Tag) (outer : List Tag) (before left : List ℕ) (parts : List Par
         local = λ x s.
             let h = stops x s in
             (parts ++ h.0, goes-in x s ∙ ap (λ r. behind_root (with_parts parts (goes_on r (content_at (length (before ++ (u ++ x))))))) h.1);
+        shown = inl (record {
+          tags = t ∷ outer;
+          front = before;
+          back = u;
+          earlier = parts;
+          spelled = refl;
+          stands = st;
+          calm = subst (λ xs. Calm st.6 xs) d calm;
+          deep = stands-deep t outer before parts st;
+          cut = cut;
+        });
       }))
 
 -- more content in the innermost element
@@ -140,13 +158,7 @@ stands-more t outer before parts (name, attrs, end, b0, start, inside, content, 
       refl,
     )
 
-pub stands-deep : (t : Tag) (outer : List Tag) (before : List ℕ) (parts : List Part) → OpensParts (t ∷ outer) before parts → length (t ∷ outer) ≤ most_open
-stands-deep t outer before parts (name, attrs, end, b0, start, inside, content, earlier, inner, e, o, is, says, place, others, deep, p) = omega (arith, deep)
-
 -- a place inside the root, and what is told from each that has less behind it
-abbrev pub Calm : Content → List ℕ → Type 0
-Calm content left = ends_with_text content ≡ true → Follows markup left
-
 abbrev pub Rec : ℕ → List ℕ → Type 0
 Rec n bytes =
     (t : Tag) (outer : List Tag) (before left : List ℕ) (parts : List Part) (st : OpensParts (t ∷ outer) before parts) → Calm st.6 left → bytes ≡ before ++ left → length left < n → Arrives (t ∷ outer) before left parts → Told bytes
@@ -212,6 +224,16 @@ told-closed bytes root prolog element left parts is_prolog is_tree deep e arr = 
           (parts ++ []) ++ [],
           ap course_of (append_assoc (prolog ++ element) f.used x) ∙ course (f.used ++ x) (subst (λ xs. SameStart xs (f.used ++ x)) (sym f.spelled) (same-behind f.used rest x s)) ∙ ap (λ s. with_parts (parts ++ []) (ended s)) (alike-err epilog_at IsMisc left rest f d x s),
         );
+        shown = inr (record {
+          root = root;
+          prolog = prolog;
+          element = element;
+          back = f.used;
+          spelled = append_assoc prolog element f.used;
+          is_prolog = is_prolog;
+          is_tree = subst (λ ps. TreeParts root (length prolog) [] element ps) (sym (append-nil (parts ++ []) ∙ append-nil parts)) is_tree;
+          deep = deep;
+        });
       }))
 
   by : (s : Step (Unit {0})) → epilog_at left ≡ s → Told bytes

@@ -37,9 +37,10 @@ pub record Halted : Type 0 where
 abbrev pub halts : Stop → List ℕ → Result Moved Halted
 halts stop left = Err record { parts = []; stop = stop; left = left }
 
--- A start tag at a place, which says this, and what is left from its end on.
+-- A start tag at a place, which says this, and what is left from its end on. That of an empty element is found at its
+-- `/`, whether a `>` follows or not.
 abbrev pub bare_moves : Part → ℕ → List Open → Step (Unit {0}) → Result Moved Halted
-bare_moves start end opens (Err left) = halts Broken left
+bare_moves start end opens (Err left) = Err record { parts = start ∷ []; stop = Broken; left = left }
 bare_moves start end opens (Ok found) = Ok record { parts = start ∷ End end ∷ []; opens = opens; left = found.1 }
 
 abbrev pub tag_ends : ℕ → Part → Open → List Open → List ℕ → Result Moved Halted

@@ -19,3 +19,4 @@ pub mod Written
 pub mod WrittenRows
 pub mod Pieces
 pub mod Reader
+pub mod Found

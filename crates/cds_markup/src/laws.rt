@@ -1,4 +1,5 @@
 ghost use Rattle.cds_markup.specs.Decided.{PartsAreBuilt, PartsAreTold};
+ghost use Rattle.cds_markup.specs.Found.{PartsAreGiven};
 ghost use Rattle.cds_markup.specs.Law.{CharactersAreRead, DocumentsAreRead, NamesAreRead, OneAnswer, OneElement};
 
 /// What reading takes for a character is one, every allowed character is taken, and where it stops the bytes before
@@ -36,4 +37,10 @@ pub fn parts_are_built()
 /// The parts that reading a document gives are its parts, each at its place.
 pub fn parts_are_told()
     ensures { PartsAreTold }
+{}
+
+/// The parts that reading gives of any bytes are those that stand there before the first fault: each is what the
+/// grammar says at its place, and nothing that is found before the fault is left out.
+pub fn parts_are_given()
+    ensures { PartsAreGiven }
 {}

@@ -24,7 +24,7 @@ pub use element::{Element, Node, Nodes};
 pub use error::MarkupError;
 pub use laws::{
     characters_are_read, documents_are_read, names_are_read, one_answer, one_element,
-    parts_are_built, parts_are_told,
+    parts_are_built, parts_are_given, parts_are_told,
 };
 pub use name::{Attr, Attrs, Name};
 pub use part::{Part, Parts};

@@ -1,8 +1,8 @@
-ghost use Rattle.std.specs.Prelude.{◌≡◌, ◌==◌, ◌&&◌, ◌∷◌, ◌++◌, ◌≤◌, ◌<◌, nat_lt, length, List, ℕ, ◌+◌, ◌^◌, IfOk, take, Ok, [], encode_utf8};
+ghost use Rattle.std.specs.Prelude.{◌≡◌, ◌==◌, ◌&&◌, ◌∷◌, ◌++◌, ◌≤◌, ◌<◌, nat_lt, length, List, ℕ, ◌+◌, ◌^◌, IfOk, take, Ok, [], codes, encode_utf8};
 ghost use Rattle.cds_markup.specs.Namespaces.{declarations, tag_says};
 ghost use Rattle.cds_markup.specs.Reading.{tag_at, end_at, text_behind, reference_at, remark_at, section_text_at};
-ghost use Rattle.cds_markup.specs.Step.{next_is, Agrees};
-ghost use Rattle.cds_markup.specs.Course.{place, start_moves, read_moves, ruled_moves, tag_ends, scopes_in, may_begin_name, is_full, end_moves, bang_moves, section_moves, remark_moves, reference_moves, odd_of, text_parts, text_moves, markup_moves, piece_moves, content_at, root_course, course_of};
+ghost use Rattle.cds_markup.specs.Step.{next_is, word_at, Agrees};
+ghost use Rattle.cds_markup.specs.Course.{place, start_moves, read_moves, ruled_moves, tag_ends, bare_moves, scopes_in, may_begin_name, is_full, end_moves, bang_moves, section_moves, remark_moves, reference_moves, odd_of, text_parts, text_moves, markup_moves, piece_moves, content_at, root_course, course_of};
 ghost use Rattle.cds_markup.specs.Agree.{Moves, Runs, MatchInner, Pushes};
 
 use crate::error::Stop;
@@ -101,8 +101,17 @@ impl<'a> Walk<'a> {
             }
             return Ok(());
         }
-        self.parser.word(b"/>")?;
+        self.bare_end(end, part, out)
+    }
+
+    /// The end of an empty element's tag, at this place. The tag is found at its `/`, whatever follows.
+    fn bare_end(&mut self, end: usize, part: Part, out: &mut Parts) -> Result<(), Stop>
+        ensures step { Moves out.old (bare_moves part end self.old.opens.items (word_at (codes "/>") self.old.parser)) result (record { parts = out.new; opens = self.new.opens.items; left = self.new.parser }) }
+        ensures total { self.new.total ≡ self.old.total }
+    {
+        let closed = self.parser.word(b"/>");
         out.push(part)?;
+        closed?;
         out.push(Part::End { at: end })?;
         Ok(())
     }
