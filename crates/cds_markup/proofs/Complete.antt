@@ -232,10 +232,10 @@ tree-name (Full t content) v (start, inside, closing, e, is, others, ends) y =
     ap (next_is may_begin_name) (ap (λ xs. xs ++ y) (same ∙ append_assoc b.0 (62 ∷ []) (inside ++ closing)) ∙ append_assoc b.0 (62 ∷ (inside ++ closing)) y) ∙ tag-begins b.0 (62 ∷ (inside ++ closing) ++ y) t b.2
 
 -- what follows a literal text is markup
-begins-markup : (w x : List ℕ) (b : ℕ) (v : List ℕ) → w ≡ b ∷ v → markup b ≡ true → Follows markup (w ++ x)
+pub begins-markup : (w x : List ℕ) (b : ℕ) (v : List ℕ) → w ≡ b ∷ v → markup b ≡ true → Follows markup (w ++ x)
 begins-markup w x b v e h = subst (λ xs. Follows markup (xs ++ x)) (sym e) h
 
-leaf-markup : (leaf : Leaf) (front back x : List ℕ) → IsLeaf front leaf → is_text leaf ≡ false → Follows markup (front ++ (back ++ x))
+pub leaf-markup : (leaf : Leaf) (front back x : List ℕ) → IsLeaf front leaf → is_text leaf ≡ false → Follows markup (front ++ (back ++ x))
 leaf-markup (Text text) front back x g h = absurd (cc)
 leaf-markup (Reference c) front back x g h = let b = begins-reference front c g in begins-markup front (back ++ x) 38 b.0 b.1 refl
 leaf-markup (Section text) front back x g h = let b = is-section front text g in begins-markup front (back ++ x) 60 (33 ∷ 91 ∷ b.0) b.1 refl

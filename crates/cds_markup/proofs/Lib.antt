@@ -37,6 +37,8 @@ pub mod Sound
 pub mod Runs
 pub mod Complete
 pub mod Reach
+pub mod TextStanding
+pub mod Standing
 pub mod NestedForm
 pub mod NodesForm
 pub mod BuiltForm

@@ -68,7 +68,7 @@ pub section-err : (at : ℕ) (opens : List Open) (l rest : List ℕ) → enclose
 section-err at opens l rest e = ap (section_moves at opens) (after_err (λ text rest. Ok (line_ends text, rest)) e)
 
 -- a text
-said-ok : (read : TextRead) (rest : List ℕ) → text_said read ≡ Ok (tt, rest) → (read.broken ≡ false) × (read.left ≡ rest)
+pub said-ok : (read : TextRead) (rest : List ℕ) → text_said read ≡ Ok (tt, rest) → (read.broken ≡ false) × (read.left ≡ rest)
 said-ok read rest e = by read.broken refl e where
   by : (t : Bool) → read.broken ≡ t → ◌≡◌ {A = Step (Unit {0})} (cond t (Err read.left) (Ok (tt, read.left))) (Ok (tt, rest)) → (read.broken ≡ false) × (read.left ≡ rest)
   by true is e = absurd (cc)

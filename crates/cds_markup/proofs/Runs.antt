@@ -34,7 +34,7 @@ use Rattle.cds_markup.proofs.StartSound.{tag-begins}
 pub is-section : (w text : List ℕ) → IsSection w text → (rest : List ℕ) × (w ≡ 60 ∷ 33 ∷ 91 ∷ rest) × SectionRest (91 ∷ rest) text
 is-section w text t = (codes "CDATA[" ++ t.back, t.spelled ∙ ap (λ xs. xs ++ t.back) t.first, record { front = codes "[CDATA["; back = t.back; what = tt; spelled = refl; first = refl; second = t.second })
 
-text-from : (w text : List ℕ) → IsText w text → TextFrom 0 w tt
+pub text-from : (w text : List ℕ) → IsText w text → TextFrom 0 w tt
 text-from w text t = record { characters = t.characters.characters; each = t.characters.each; open_ = was-clean w t.characters.none }
 
 -- the first byte of a text is no markup

@@ -166,13 +166,13 @@ Rec n bytes =
 further : (at : ℕ) (w : List ℕ) → at + length w ≡ at + length w + 0
 further at w = omega arith
 
-leaf-content : (leaf : Leaf) (at : ℕ) (scopes : List (List Declaration)) (w : List ℕ) → IsLeaf w leaf → ContentParts (LeafThen leaf Nothing) at scopes w (leaf_parts at leaf)
+pub leaf-content : (leaf : Leaf) (at : ℕ) (scopes : List (List Declaration)) (w : List ℕ) → IsLeaf w leaf → ContentParts (LeafThen leaf Nothing) at scopes w (leaf_parts at leaf)
 leaf-content leaf at scopes w g = (w, [], [], sym (append-nil w), g, none (is_text leaf), (refl, refl), sym (append-nil (leaf_parts at leaf))) where
   none : (t : Bool) → (t && false) ≡ false
   none true = refl
   none false = refl
 
-tree-content : (tree : Tree) (at : ℕ) (scopes : List (List Declaration)) (w : List ℕ) (qs : List Part) → TreeParts tree at scopes w qs → ContentParts (TreeThen tree Nothing) at scopes w qs
+pub tree-content : (tree : Tree) (at : ℕ) (scopes : List (List Declaration)) (w : List ℕ) (qs : List Part) → TreeParts tree at scopes w qs → ContentParts (TreeThen tree Nothing) at scopes w qs
 tree-content tree at scopes w qs g = (w, [], qs, [], sym (append-nil w), g, (refl, refl), sym (append-nil qs))
 
 pub told-leaf : (n : ℕ) (bytes : List ℕ) → Rec n bytes → (t : Tag) (outer : List Tag) (before left : List ℕ) (parts : List Part) (st : OpensParts (t ∷ outer) before parts) → bytes ≡ before ++ left → Arrives (t ∷ outer) before left parts → (u rest : List ℕ) → left ≡ u ++ rest → length rest < n → (leaf : Leaf) → IsLeaf u leaf → Apart st.6 (LeafThen leaf Nothing) → (is_text leaf ≡ true → Follows markup rest) → ((x : List ℕ) → SameStart rest x → Piece t outer before u x ≡ Ok record { parts = leaf_parts (length before) leaf; opens = opens_of (t ∷ outer); left = x }) → Told bytes
