@@ -37,13 +37,16 @@ pub mod Sound
 pub mod Runs
 pub mod Complete
 pub mod Reach
+pub mod Inner
 pub mod TextStanding
 pub mod Standing
+pub mod Before
 pub mod NestedForm
 pub mod NodesForm
 pub mod BuiltForm
 pub mod Within
 pub mod Verdict
+pub mod Halting
 pub mod NumberSteps
 pub mod Shorter
 pub mod ValueSteps

@@ -47,6 +47,14 @@ quiet-text leaf (TreeThen tree more) at end back x (front, behind, e, g, others)
     let b = tree-first tree front g in
     inl (subst (λ xs. Follows markup xs) (sym (ap (λ xs. xs ++ x) e ∙ append_assoc front behind x)) (begins-markup front (behind ++ x) 60 b.0 b.1 refl))
 
+abbrev pub QuietHere : (tags : List Tag) (front : List ℕ) (parts : List Part) → OpensParts tags front parts → List ℕ → Type 0
+QuietHere [] front parts st x = Unit {0}
+QuietHere (t ∷ outer) front parts st x = QuietAfter st.6 (length front) x
+
+quiet-start : (tags : List Tag) (front : List ℕ) (parts : List Part) (st : OpensParts tags front parts) (start x : List ℕ) (t : Tag) → IsStartTag start t → QuietHere tags front parts st (start ++ x)
+quiet-start [] front parts st start x t is = tt
+quiet-start (inner ∷ outer) front parts st start x t is = λ ends. let b = start-parts start t is in inl (begins-markup start x 60 (b.0 ++ 62 ∷ []) b.1 refl)
+
 -- a text where none ends
 pub open-text : (t : Tag) (outer : List Tag) (before : List ℕ) → (o : Opens (t ∷ outer) before) → ends_with_text o.3 ≡ false → (w : List ℕ) → ((n : ℕ) → TextFrom n w tt) → Opens (t ∷ outer) (before ++ w)
 open-text t outer before o apart [] text = subst (Opens (t ∷ outer)) (sym (append-nil before)) o
@@ -235,6 +243,17 @@ module _ (bytes : List ℕ) (limit : ℕ) (clear : (at : ℕ) → at < limit →
       by : (u : List ℕ) × (w ≡ 60 ∷ (u ++ 47 ∷ 62 ∷ [])) × IsTag u t → AllStand earlier (Start (length before) end name attrs ∷ End end ∷ [])
       by (u, d, g) = (bare-start u d g, (inr (bare-ends u d g), tt))
 
+  -- a start tag with its `>`
+  pub whole-start : (t : Tag) (tags : List Tag) (before : List ℕ) (earlier : List Part) → OpensParts tags before earlier → (start x : List ℕ) (name : Name) (attrs : List Attr) (end : ℕ) → IsStartTag start t → tag_says (scopes_of tags) t ≡ Some (name, attrs) → end + 1 ≡ length before + length start → length tags + 1 ≤ 16 → bytes ≡ before ++ (start ++ x) → length before + length start ≤ limit → StartStands bytes earlier (length before) end name attrs
+  whole-start t tags before earlier st start x name attrs end is says place room e fits = by (start-parts start t is) where
+    by : (u : List ℕ) × (start ≡ 60 ∷ (u ++ 62 ∷ [])) × IsTag u t → StartStands bytes earlier (length before) end name attrs
+    by (u, d, g) = start-stands tags before earlier st t u 62 x g (inr refl) whole name attrs says room end (omega (arith, place, size)) (omega (arith, place, fits)) where
+      whole : bytes ≡ before ++ 60 ∷ (u ++ 62 ∷ x)
+      whole = e ∙ ap (λ xs. before ++ (xs ++ x)) d ∙ ap (λ xs. before ++ 60 ∷ xs) (append_assoc u (62 ∷ []) x)
+
+      size : length start ≡ length u + 2
+      size = ap length d ∙ omega (arith, length-append u (62 ∷ []))
+
   -- an element with content
   module _ (t : Tag) (tags : List Tag) (before : List ℕ) (earlier : List Part) (st : OpensParts tags before earlier) (start inside closing x : List ℕ) (name : Name) (attrs : List Attr) (end : ℕ) (is : IsStartTag start t) (ends : IsEndTag t.name closing tt) (says : tag_says (scopes_of tags) t ≡ Some (name, attrs)) (place : end + 1 ≡ length before + length start) (content : Content) (inner : List Part) (others : ContentParts content (length before + length start) (scopes_of (t ∷ tags)) inside inner) (deep : length (t ∷ tags) + depths content ≤ 16) (e : bytes ≡ before ++ ((start ++ (inside ++ closing)) ++ x)) (fits : length before + length (start ++ (inside ++ closing)) ≤ limit) where
     abbrev First : Part
@@ -265,14 +284,7 @@ module _ (bytes : List ℕ) (limit : ℕ) (clear : (at : ℕ) → at < limit →
     quiet-here h = let b = is-end t.name closing ends in inl (begins-markup closing x 60 (47 ∷ b.0) b.1 refl)
 
     first-stands : Stands bytes earlier First
-    first-stands = by (start-parts start t is) where
-      by : (u : List ℕ) × (start ≡ 60 ∷ (u ++ 62 ∷ [])) × IsTag u t → StartStands bytes earlier (length before) end name attrs
-      by (u, d, g) = start-stands tags before earlier st t u 62 ((inside ++ closing) ++ x) g (inr refl) whole name attrs says room end (omega (arith, place, size)) (omega (arith, place, long, fits)) where
-        whole : bytes ≡ before ++ 60 ∷ (u ++ 62 ∷ ((inside ++ closing) ++ x))
-        whole = e ∙ ap (λ xs. before ++ xs) (append_assoc start (inside ++ closing) x ∙ ap (λ xs. xs ++ ((inside ++ closing) ++ x)) d) ∙ ap (λ xs. before ++ 60 ∷ xs) (append_assoc u (62 ∷ []) ((inside ++ closing) ++ x))
-
-        size : length start ≡ length u + 2
-        size = ap length d ∙ omega (arith, length-append u (62 ∷ []))
+    first-stands = whole-start t tags before earlier st start ((inside ++ closing) ++ x) name attrs end is says place room (e ∙ ap (λ xs. before ++ xs) (append_assoc start (inside ++ closing) x)) (omega (arith, long, fits))
 
     size : length ((before ++ start) ++ inside) ≡ length before + length start + length inside
     size = length-append (before ++ start) inside ∙ omega (arith, length-append before start)
@@ -358,3 +370,20 @@ module _ (bytes : List ℕ) (limit : ℕ) (clear : (at : ℕ) → at < limit →
         (whole ∙ sym (append_assoc before front (back ++ x)))
         (omega (arith, size, fits, place))
         (subst (λ n. QuietAfter more n x) (omega (arith, size, place)) quiet)))
+
+  -- all that is open
+  pub open-stand : (tags : List Tag) (front : List ℕ) (parts : List Part) → (st : OpensParts tags front parts) → (x : List ℕ) → bytes ≡ front ++ x → length front ≤ limit → QuietHere tags front parts st x → AllStand [] parts
+  open-stand [] front parts (g, p) x e fits quiet = subst (λ qs. AllStand [] qs) (sym p) tt
+  open-stand (t ∷ outer) front parts (name, attrs, end, b0, start, inside, content, earlier, inner, d, o, is, says, place, others, deep, p) x e fits quiet =
+      let whole : bytes ≡ b0 ++ (start ++ (inside ++ x)) = e ∙ ap (λ xs. xs ++ x) d ∙ append_assoc b0 (start ++ inside) x ∙ ap (λ xs. b0 ++ xs) (append_assoc start inside x) in
+      let size : length front ≡ length b0 + (length start + length inside) = ap length d ∙ length-append b0 (start ++ inside) ∙ omega (arith, length-append start inside) in
+      let here : length (b0 ++ start) ≡ length b0 + length start = length-append b0 start in
+      let shallow : length (t ∷ outer) + 0 ≤ 16 = omega (arith, deep) in
+      let before = open-stand outer b0 earlier o (start ++ (inside ++ x)) whole (omega (arith, size, fits)) (quiet-start outer b0 earlier o start (inside ++ x) t is) in
+      let first : StartStands bytes earlier (length b0) end name attrs = whole-start t outer b0 earlier o start (inside ++ x) name attrs end is says place (omega (arith, deep)) whole (omega (arith, size, fits)) in
+      let behind = stand-content content t outer (b0 ++ start) (earlier ++ Start (length b0) end name attrs ∷ []) (opened t outer b0 start earlier name attrs end o is says place shallow) refl inside x inner
+      (subst (λ n. ContentParts content n (scopes_of (t ∷ outer)) inside inner) (sym here) others) deep
+      (whole ∙ sym (append_assoc b0 start (inside ++ x)))
+      (omega (arith, size, fits, here))
+      (subst (λ n. QuietAfter content n x) (omega (arith, size, here)) quiet) in
+      subst (λ qs. AllStand [] qs) (sym p) (all-append [] earlier (Start (length b0) end name attrs ∷ inner) before (first, behind))

@@ -36,18 +36,18 @@ use Rattle.cds_markup.proofs.BuiltForm.{tree-built}
 use Rattle.cds_markup.proofs.Within.{front-of, rule-more, deep-more, rule-within, deep-within, none-at}
 
 -- courses that differ
-stop-is : (c : Course) (ps qs : List Part) (s t : Option Stop) (x y : List ℕ) → c ≡ record { parts = ps; stop = s; left = x } → c ≡ record { parts = qs; stop = t; left = y } → (s ≡ t) × (x ≡ y) × (ps ≡ qs)
+pub stop-is : (c : Course) (ps qs : List Part) (s t : Option Stop) (x y : List ℕ) → c ≡ record { parts = ps; stop = s; left = x } → c ≡ record { parts = qs; stop = t; left = y } → (s ≡ t) × (x ≡ y) × (ps ≡ qs)
 stop-is c ps qs s t x y e d =
     (ap (λ c. c.stop) (sym e ∙ d), ap (λ c. c.left) (sym e ∙ d), ap (λ c. c.parts) (sym e ∙ d))
 
-no-stop : (s : Stop) → ◌≡◌ {A = Option Stop} None (Some s) → ⊥
+pub no-stop : (s : Stop) → ◌≡◌ {A = Option Stop} None (Some s) → ⊥
 no-stop s e = cc
 
-no-broken : (s : Stop) → (s ≡ Unruly) ⊎ (s ≡ Deep) → ◌≡◌ {A = Option Stop} (Some Broken) (Some s) → ⊥
+pub no-broken : (s : Stop) → (s ≡ Unruly) ⊎ (s ≡ Deep) → ◌≡◌ {A = Option Stop} (Some Broken) (Some s) → ⊥
 no-broken s (inl d) e = let no : ◌≡◌ {A = Option Stop} (Some Broken) (Some Unruly) = e ∙ ap Some d in cc
 no-broken s (inr d) e = let no : ◌≡◌ {A = Option Stop} (Some Broken) (Some Deep) = e ∙ ap Some d in cc
 
-stops-either : (bytes : List ℕ) (at : ℕ) → BreaksRule bytes at ⊎ IsTooDeep bytes at → StopsBy bytes at
+pub stops-either : (bytes : List ℕ) (at : ℕ) → BreaksRule bytes at ⊎ IsTooDeep bytes at → StopsBy bytes at
 stops-either bytes at (inl b) = rule-stops bytes at b
 stops-either bytes at (inr d) = deep-stops bytes at d
 
@@ -69,13 +69,13 @@ pub record Far (bytes : List ℕ) : Type 0 where
   pub can : CanGoOn used
   pub free : (at : ℕ) → at < length used → BreaksRule bytes at ⊎ IsTooDeep bytes at → ⊥
 
-whole-document : (bytes : List ℕ) → (w : Whole bytes) → IsDocument bytes w.root
+pub whole-document : (bytes : List ℕ) → (w : Whole bytes) → IsDocument bytes w.root
 whole-document bytes w = record { prolog = w.prolog; element = w.element; epilog = w.epilog; spelled = w.spelled; is_prolog = w.is_prolog; is_element = tree-is w.root (length w.prolog) [] w.element w.parts w.is_tree; is_epilog = w.is_misc }
 
-can-document : (bytes : List ℕ) (root : Tree) → IsDocument bytes root → CanGoOn bytes
+pub can-document : (bytes : List ℕ) (root : Tree) → IsDocument bytes root → CanGoOn bytes
 can-document bytes root d = ([], root, subst (λ xs. IsDocument xs root) (sym (append-nil bytes)) d)
 
-abbrev far-whole : (bytes : List ℕ) → Whole bytes → Far bytes
+abbrev pub far-whole : (bytes : List ℕ) → Whole bytes → Far bytes
 far-whole bytes w = record {
   used = bytes;
   rest = [];
@@ -86,7 +86,7 @@ far-whole bytes w = record {
       no-stop s.stop (stop-is (course_of bytes) w.parts s.parts None (Some s.stop) [] s.rest w.is s.is).0;
 }
 
-abbrev far-broke : (bytes : List ℕ) → Broke bytes → Far bytes
+abbrev pub far-broke : (bytes : List ℕ) → Broke bytes → Far bytes
 far-broke bytes b = record {
   used = b.used;
   rest = b.rest;
@@ -98,7 +98,7 @@ far-broke bytes b = record {
       no-broken s.stop s.two (stop-is (course_of bytes) broke.0 s.parts (Some Broken) (Some s.stop) b.rest s.rest (ap course_of b.spelled ∙ broke.1) s.is).0;
 }
 
-abbrev far-stops : (bytes : List ℕ) (stop : Stop) (why : ℕ → Type 0) → Stops bytes stop why → Far bytes
+abbrev pub far-stops : (bytes : List ℕ) (stop : Stop) (why : ℕ → Type 0) → Stops bytes stop why → Far bytes
 far-stops bytes stop why x = record {
   used = x.used;
   rest = x.rest;
@@ -112,7 +112,7 @@ far-stops bytes stop why x = record {
 }
 
 -- nothing refuses the whole before a place that is reached in its first bytes
-none-before : (bytes within more : List ℕ) → bytes ≡ within ++ more → (f : Far within) → (at : ℕ) → at < length f.used → Refuses bytes at → ⊥
+pub none-before : (bytes within more : List ℕ) → bytes ≡ within ++ more → (f : Far within) → (at : ℕ) → at < length f.used → Refuses bytes at → ⊥
 none-before bytes within more e f at h r =
     none-at bytes f.used (f.rest ++ more) (e ∙ ap (λ xs. xs ++ more) f.spelled ∙ append_assoc f.used f.rest more) f.can at h free r
   where
@@ -221,7 +221,7 @@ module _ (bytes : List ℕ) (cut : Bool) (l : Limit bytes cut) where
         inl (read ∙ ap (λ c. answer_of c (place (length I) []) (Ok tt)) c, (m.0, (w.root, record { document = subst (λ xs. IsDocument xs w.root) same (whole-document I w); means = m.1; within = w.deep; short = (l.whole c).1 })))
 
   -- a break
-  breaks-here : (b : Broke I) (c : ℕ) (tail : List ℕ) → b.rest ≡ c ∷ tail → IsBad bytes (length b.used)
+  pub breaks-here : (b : Broke I) (c : ℕ) (tail : List ℕ) → b.rest ≡ c ∷ tail → IsBad bytes (length b.used)
   breaks-here b c tail e =
       inl (inl (record {
         inside = omega (arith, ap length all, length-append b.used (c ∷ (tail ++ l.more)));
@@ -241,7 +241,7 @@ module _ (bytes : List ℕ) (cut : Bool) (l : Limit bytes cut) where
       none : CanGoOn (b.used ++ c ∷ []) → ⊥
       none (more, root, d) = no-document I b (c ∷ more) (subst (λ xs. SameStart xs (c ∷ more)) (sym e) refl) root (subst (λ xs. IsDocument xs root) (append_assoc b.used (c ∷ []) more) d)
 
-  ends-here : (b : Broke I) → b.rest ≡ [] → cut ≡ false → IsBad bytes (length b.used)
+  pub ends-here : (b : Broke I) → b.rest ≡ [] → cut ≡ false → IsBad bytes (length b.used)
   ends-here b e c =
       let all : bytes ≡ b.used = l.spelled ∙ ap (λ xs. xs ++ l.more) (b.spelled ∙ ap (λ xs. b.used ++ xs) e ∙ append-nil b.used) ∙ ap (λ xs. b.used ++ xs) (l.whole c).0 ∙ append-nil b.used in
       inl (inr (record {
@@ -299,7 +299,7 @@ answered bytes = by-told bytes (is_cut bytes) (limit bytes (is_cut bytes) refl) 
 some-more : (m : Meaning) (n : Option Meaning) → n ≡ Some m → n ≡ None → ⊥
 some-more m n e d = let no : ◌≡◌ {A = Option Meaning} (Some m) None = sym e ∙ d in cc
 
-document-read : (bytes : List ℕ) (root : Tree) (element : Meaning) → DocOf bytes root element → ReadWhole bytes root
+pub document-read : (bytes : List ℕ) (root : Tree) (element : Meaning) → DocOf bytes root element → ReadWhole bytes root
 document-read bytes root element d = by (document-run bytes root d.document) where
   by : ReadWhole bytes root ⊎ Doomed (course_of bytes) [] (TreeWhy [] root) → ReadWhole bytes root
   by (inl r) = r
@@ -311,7 +311,7 @@ document-read bytes root element d = by (document-run bytes root d.document) whe
 not-over : (m n : ℕ) → n ≤ m → nat_lt m n ≡ false
 not-over m n h = grind (arith, nat_tests)
 
-within-all : (bytes : List ℕ) → length bytes ≤ most_bytes → within_limit bytes ≡ bytes
+pub within-all : (bytes : List ℕ) → length bytes ≤ most_bytes → within_limit bytes ≡ bytes
 within-all bytes h = sym (append-nil (within_limit bytes)) ∙ ap (λ xs. within_limit bytes ++ xs) (sym (drop_all most_bytes bytes h)) ∙ take-append-drop most_bytes bytes
 
 read-says : (bytes : List ℕ) (root : Tree) (element : Meaning) (r : ReadWhole bytes root) → meaning root [] ≡ Some element → Says r.parts element
