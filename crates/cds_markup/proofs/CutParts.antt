@@ -64,7 +64,7 @@ module _ (at : ℕ) (left : List ℕ) (read : TextRead) (t : TextTold 0 left rea
   behind : length read.left ≡ length t.rest
   behind = ap length t.behind
 
-  abbrev given : List Part
+  abbrev pub given : List Part
   given = text_parts at (take read.whole left) (has_begun left read)
 
   begins : (begun : List ℕ) → t.begun ≡ begun → has_begun left read ≡ not (length begun == 0)
@@ -78,7 +78,7 @@ module _ (at : ℕ) (left : List ℕ) (read : TextRead) (t : TextTold 0 left rea
     by [] (b ∷ begun) f g e = absurd (cc)
     by (b ∷ front) begun f g e = absurd (cc)
 
-  given-some : t.front ++ t.begun ≢ [] → given ≡ Run at (first_odd at (t.front ++ t.begun)) (line_ends t.front) ∷ []
+  pub given-some : t.front ++ t.begun ≢ [] → given ≡ Run at (first_odd at (t.front ++ t.begun)) (line_ends t.front) ∷ []
   given-some some = ap (λ xs. text_parts at xs (has_begun left read)) whole ∙ by t.front t.begun refl refl some where
     by : (front begun : List ℕ) → t.front ≡ front → t.begun ≡ begun → t.front ++ t.begun ≢ [] → text_parts at t.front (has_begun left read) ≡ Run at (first_odd at (t.front ++ t.begun)) (line_ends t.front) ∷ []
     by [] [] f g some = absurd (some (ap (λ xs. xs ++ t.begun) f ∙ g))

@@ -47,6 +47,8 @@ pub mod BuiltForm
 pub mod Within
 pub mod Verdict
 pub mod Halting
+pub mod TextSplit
+pub mod AllGiven
 pub mod NumberSteps
 pub mod Shorter
 pub mod ValueSteps

@@ -163,7 +163,7 @@ pub record StopsBy (bytes : List ℕ) (at : ℕ) : Type 0 where
 stops-by : (bytes x : List ℕ) (at : ℕ) → length bytes ≤ at + 1 + length x → Doomed (course_of bytes) x (Unit {0}) → StopsBy bytes at
 stops-by bytes x at h d = record { stop = d.stop; rest = d.rest; parts = d.parts; is = d.is; two = d.two; there = omega (arith, h, d.long) }
 
-ends-either : (end : ℕ) → (end ≡ 47) ⊎ (end ≡ 62) → ends_tag end ≡ true
+pub ends-either : (end : ℕ) → (end ≡ 47) ⊎ (end ≡ 62) → ends_tag end ≡ true
 ends-either end (inl e) = ap ends_tag e
 ends-either end (inr e) = ap ends_tag e
 

@@ -8,7 +8,7 @@ use Rattle.cds_markup.specs.declared.tag.Tag.{Tag}
 use Rattle.cds_markup.specs.Grammar.{Leaf, Text, Reference, Section, Comment, Tree, Bare, Full, Content, Nothing, LeafThen, TreeThen, is_text, begins_with_text, IsLeaf, IsText, IsContent, IsTag, IsBareTag, IsStartTag, IsEndTag}
 use Rattle.cds_markup.specs.Namespaces.{tag_says}
 use Rattle.cds_markup.specs.Document.{line_ends, depth, depths, most_open, most_bytes}
-use Rattle.cds_markup.specs.Refusal.{CanGoOn, Opens, scopes_of}
+use Rattle.cds_markup.specs.Refusal.{CanGoOn, Opens, TextByte, scopes_of}
 use Rattle.cds_markup.specs.Reading.{is_less, is_and}
 use Rattle.cds_markup.specs.Parts.{TreeParts, ContentParts, OpensParts, first_odd, leaf_parts}
 use Rattle.cds_markup.specs.Found.{Clear, StartStands, EndTag, EndStands, BareStands, LeafStands, TextStands, Stands, IsBegun}
@@ -76,13 +76,33 @@ open-text t outer before (b0, start, inside, content, e, o, is, others) apart (b
 some-open : (t : Tag) (outer : List Tag) → ◌≡◌ {A = List Tag} (t ∷ outer) [] → ⊥
 some-open t outer e = cc
 
-not-byte : (b c : ℕ) → is_less b ≡ false → is_and b ≡ false → (b ≢ 60) × (b ≢ 38)
-not-byte b c h g = (λ e. no-less e, λ e. no-and e) where
+not-byte : (b : ℕ) → is_less b ≡ false → is_and b ≡ false → (b ≢ 60) × (b ≢ 38)
+not-byte b h g = (λ e. no-less e, λ e. no-and e) where
   no-less : b ≡ 60 → ⊥
   no-less e = let both : true ≡ false = sym (ap is_less e) ∙ h in cc
 
   no-and : b ≡ 38 → ⊥
   no-and e = let both : true ≡ false = sym (ap is_and e) ∙ g in cc
+
+-- the first character of a text that is no blank is found at its first byte
+pub odd-long : (at odd : ℕ) (v : List ℕ) → OddAt at odd v → odd + 1 ≤ at + length v
+odd-long at odd v o = omega (arith, o.place, ap length o.spelled, length-append o.blanks (o.byte ∷ o.rest))
+
+pub letter : (bytes : List ℕ) (t : Tag) (outer : List Tag) (before : List ℕ) → (o : Opens (t ∷ outer) before) → ends_with_text o.3 ≡ false → (v rest : List ℕ) → bytes ≡ before ++ (v ++ rest) → (at : ℕ) → OddAt (length before) at v → CanGoOn (take (at + 1) bytes) → (byte : ℕ) × TextByte bytes (t ∷ outer) at byte
+letter bytes t outer before o apart v rest e at odd may = (
+  odd.byte,
+  record {
+    before = before ++ odd.blanks;
+    rest = odd.rest ++ rest;
+    spelled = e ∙ ap (λ xs. before ++ xs) (ap (λ xs. xs ++ rest) odd.spelled ∙ append_assoc odd.blanks (odd.byte ∷ odd.rest) rest) ∙ sym (append_assoc before odd.blanks (odd.byte ∷ (odd.rest ++ rest)));
+    place = odd.place ∙ sym (length-append before odd.blanks);
+    opens = open-text t outer before o apart odd.blanks odd.text;
+    inside = some-open t outer;
+    no_blank = odd.no_blank;
+    no_markup = not-byte odd.byte odd.no_less odd.no_and;
+    may_be = may;
+  },
+)
 
 -- the state behind a start tag
 abbrev pub opened : (t : Tag) (tags : List Tag) (before start : List ℕ) (earlier : List Part) (name : Name) (attrs : List Attr) (end : ℕ) → OpensParts tags before earlier → IsStartTag start t → tag_says (scopes_of tags) t ≡ Some (name, attrs) → end + 1 ≡ length before + length start → length (t ∷ tags) + 0 ≤ 16 → OpensParts (t ∷ tags) (before ++ start) (earlier ++ Start (length before) end name attrs ∷ [])
@@ -126,29 +146,13 @@ module _ (bytes : List ℕ) (limit : ℕ) (clear : (at : ℕ) → at < limit →
     abbrev o : Opens (t ∷ outer) before
     o = (st.3, st.4, st.5, st.6, st.9, stands-opens outer st.3 st.7 st.10, st.11, content-is st.6 (length st.3 + length st.4) (scopes_of (t ∷ outer)) st.5 st.8 st.14)
 
-    found-at : (at : ℕ) → first_odd (length before) (front ++ begun) ≡ Some at → (byte : ℕ) × Rattle.cds_markup.specs.Refusal.TextByte bytes (t ∷ outer) at byte × Clear bytes at
-    found-at at d = by (odd-found text.characters front begun text.each cut (length before) at d) where
-      by : OddAt (length before) at (front ++ begun) → (byte : ℕ) × Rattle.cds_markup.specs.Refusal.TextByte bytes (t ∷ outer) at byte × Clear bytes at
-      by odd = (
-        odd.byte,
-        record {
-          before = before ++ odd.blanks;
-          rest = odd.rest ++ rest;
-          spelled = e ∙ ap (λ xs. before ++ xs) (sym (append_assoc front begun rest) ∙ ap (λ xs. xs ++ rest) odd.spelled ∙ append_assoc odd.blanks (odd.byte ∷ odd.rest) rest) ∙ sym (append_assoc before odd.blanks (odd.byte ∷ (odd.rest ++ rest)));
-          place = odd.place ∙ sym (length-append before odd.blanks);
-          opens = open-text t outer before o apart odd.blanks odd.text;
-          inside = some-open t outer;
-          no_blank = odd.no_blank;
-          no_markup = not-byte odd.byte 0 odd.no_less odd.no_and;
-          may_be = can (at + 1) less;
-        },
-        clear at (omega (arith, less)),
-      ) where
-        long : length front + length begun ≡ length odd.blanks + suc (length odd.rest)
-        long = sym (length-append front begun) ∙ ap length odd.spelled ∙ length-append odd.blanks (odd.byte ∷ odd.rest)
-
-        less : at + 1 ≤ limit
-        less = omega (arith, odd.place, long, fits)
+    found-at : (at : ℕ) → first_odd (length before) (front ++ begun) ≡ Some at → (byte : ℕ) × TextByte bytes (t ∷ outer) at byte × Clear bytes at
+    found-at at d =
+        let odd = odd-found text.characters front begun text.each cut (length before) at d in
+        let long = odd-long (length before) at (front ++ begun) odd in
+        let less : at + 1 ≤ limit = omega (arith, long, length-append front begun, fits) in
+        let found = letter bytes t outer before o apart (front ++ begun) rest (e ∙ ap (λ xs. before ++ xs) (sym (append_assoc front begun rest))) at odd (can (at + 1) less) in
+        (found.0, found.1, clear at (omega (arith, less)))
 
     pub text-stands : front ++ begun ≢ [] → ((more back : List ℕ) → begun ++ rest ≡ more ++ back → length before + length front + length more ≤ most_bytes → TextFrom 0 (front ++ more) tt → more ≡ []) → TextStands bytes earlier (length before) (first_odd (length before) (front ++ begun)) (line_ends front)
     text-stands some most = record {

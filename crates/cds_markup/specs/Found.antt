@@ -135,6 +135,7 @@ pub record TextGiven (bytes : List ℕ) (parts : List Part) (tags : List Tag) (a
   pub opens : OpensParts tags before earlier
   pub from : length before ≤ odd
   pub to : odd ≤ at
+  pub letter : (byte : ℕ) × TextByte bytes tags odd byte
   pub is : parts ≡ earlier ++ Run (length before) (Some odd) text ∷ later
 
 -- The parts of bytes as far as nothing refuses them: each stands, and nothing that is found is left out.
