@@ -1,7 +1,7 @@
 -- Nothing that is found before reading stops is left out of the parts.
 use Rattle.std.proofs.Common.{◌≡◌, ◌≢◌, ◌==◌, ℕ, suc, ◌+◌, ◌-◌, ◌<◌, ◌≤◌, nat_lt, Bool, true, false, cond, ◌&&◌, ◌||◌, Option, Some, None, Result, Ok, Err, List, [], ◌∷◌, ◌++◌, length, take, drop, refl, sym, ap, subst, ◌∙◌, arith, append_assoc, append-nil, length-append, length-take, min, codes, ◌⊎◌, inl, inr}
 use Rattle.std.proofs.lemmas.Bool.Decides.{nat_tests}
-use Rattle.std.proofs.lemmas.List.{take-append-drop, append_cancel_left}
+use Rattle.std.proofs.lemmas.List.{take-append-drop, take_at}
 use Rattle.cds_base.specs.Characters.{is_blank}
 use Rattle.cds_markup.specs.declared.name.Name.{Name}
 use Rattle.cds_markup.specs.declared.name.Attr.{Attr}
@@ -11,16 +11,18 @@ use Rattle.cds_markup.specs.declared.tag.Tag.{Tag}
 use Rattle.cds_markup.specs.declared.tag.Open.{Open}
 use Rattle.cds_markup.specs.declared.error.Stop.{Stop}
 use Rattle.cds_markup.specs.declared.error.Stop.TheVariants.{Broken, Unruly, Deep}
-use Rattle.cds_markup.specs.Grammar.{Leaf, is_text, IsLeaf, IsEndTag}
+use Rattle.cds_markup.specs.Grammar.{Leaf, Text, Reference, Section, Comment, is_text, IsLeaf, IsEndTag}
 use Rattle.cds_markup.specs.Document.{line_ends, most_bytes}
 use Rattle.cds_markup.specs.Refusal.{CanGoOn, Opens, TagEnds, LeafEnds, TextByte}
 use Rattle.cds_markup.specs.Step.{Step, word_at, next_is}
 use Rattle.cds_markup.specs.Reading.{TextRead, text_behind, is_greater, is_less, is_and, epilog_at}
-use Rattle.cds_markup.specs.Course.{Moved, Halted, Course, place, halts, with_parts, goes_on, halted, tag_ends, bare_moves, text_ends, text_moves, piece_moves, content_at, behind_root, ended, course_of, within_limit, parts_of}
+use Rattle.cds_markup.specs.Course.{Moved, Halted, Course, place, halts, with_parts, goes_on, halted, tag_ends, bare_moves, text_ends, text_moves, piece_moves, content_at, behind_root, ended, course_of, within_limit, is_cut, parts_of}
 use Rattle.cds_markup.specs.Parts.{OpensParts, first_odd, leaf_parts}
 use Rattle.cds_markup.specs.Found.{Clear, EndTag, TagGiven, PartsGiven, TextGiven, Given}
 use Rattle.cds_markup.proofs.ReadsForm.{Follows}
 use Rattle.cds_markup.proofs.EndRows.{is-end}
+use Rattle.cds_markup.proofs.ReferenceRows.{begins-reference}
+use Rattle.cds_markup.proofs.CommentRows.{is-comment}
 use Rattle.cds_markup.proofs.TextRows.{TextFrom, text_step, markup}
 use Rattle.cds_markup.proofs.ContentForm.{ends_with_text}
 use Rattle.cds_markup.proofs.Starts.{place-is}
@@ -28,7 +30,7 @@ use Rattle.cds_markup.proofs.Pieces.{at-text, text-ends}
 use Rattle.cds_markup.proofs.PieceSteps.{content-next}
 use Rattle.cds_markup.proofs.Told.{open_of, opens_of, Calm}
 use Rattle.cds_markup.proofs.StartSound.{tag-begins}
-use Rattle.cds_markup.proofs.Runs.{start-run, IsDeep, IsUnruly, Says, leaf-piece, end-piece, text-first}
+use Rattle.cds_markup.proofs.Runs.{start-run, IsDeep, IsUnruly, Says, is-section, leaf-piece, end-piece, text-first}
 use Rattle.cds_markup.proofs.Complete.{Doomed, begins-markup, leaf-markup}
 use Rattle.cds_markup.proofs.Reach.{Reached, Reach, reach, ends-either}
 use Rattle.cds_markup.proofs.Inner.{Inside, ReachInside, reach-inside}
@@ -38,8 +40,10 @@ use Rattle.cds_markup.proofs.TextCut.{TextTold, text-told}
 use Rattle.cds_markup.proofs.CutParts.{cut_text, given-some}
 use Rattle.cds_markup.proofs.TextStanding.{OddAt, odd-found}
 use Rattle.cds_markup.proofs.Standing.{letter}
+use Rattle.cds_markup.proofs.Before.{can-front, shown-each}
 use Rattle.cds_markup.proofs.TextSplit.{OpenSplit, open-split}
 use Rattle.cds_markup.proofs.Halting.{Halts, halting}
+use Rattle.cds_markup.proofs.Verdict.{Limit, limit}
 
 -- the parts of a course begin with those so far
 abbrev behind_by : List Part → Course → Option Stop → Course
@@ -68,6 +72,46 @@ first-odd-some at (c ∷ w) b q dark = by (is_blank c) (first-odd-some (at + 1) 
   by : (s : Bool) → (odd : ℕ) × (first_odd (at + 1) (w ++ b ∷ q) ≡ Some odd) × (at + 1 ≤ odd) × (odd ≤ at + 1 + length w) → (odd : ℕ) × (cond s (first_odd (at + 1) (w ++ b ∷ q)) (Some at) ≡ Some odd) × (at ≤ odd) × (odd ≤ at + suc (length w))
   by true (odd, e, from, to) = (odd, e, omega (arith, from), omega (arith, to))
   by false (odd, e, from, to) = (at, refl, omega arith, omega arith)
+
+-- a text that is read, whole or not, is given
+text-begins : (found : List Part) (opens : List Open) (read : TextRead) (next : List Open → List ℕ → Course) → (later : List Part) × ((goes_on (text_ends found opens read) next).parts ≡ found ++ later)
+text-begins found opens read next = by read.broken where
+  by : (b : Bool) → (later : List Part) × ((goes_on (cond b (Err record { parts = found; stop = Broken; left = read.left }) (Ok record { parts = found; opens = opens; left = read.left })) next).parts ≡ found ++ later)
+  by true = ([], sym (append-nil found))
+  by false = ((next opens read.left).parts, refl)
+
+leaf-some : (leaf : Leaf) (front : List ℕ) → IsLeaf front leaf → is_text leaf ≡ false → 0 < length front
+leaf-some (Text text) front g h = absurd (cc)
+leaf-some (Reference c) front g h = let b = begins-reference front c g in omega (arith, ap length b.1)
+leaf-some (Section text) front g h = let b = is-section front text g in omega (arith, ap length b.1)
+leaf-some Comment front g h = let b = is-comment front g in omega (arith, ap length b.1)
+
+not-less : (b : ℕ) → b ≢ 60 → is_less b ≡ false
+not-less b h = grind (arith, nat_tests)
+
+not-and : (b : ℕ) → b ≢ 38 → is_and b ≡ false
+not-and b h = grind (arith, nat_tests)
+
+no-markup : (b : ℕ) → (b ≢ 60) × (b ≢ 38) → markup b ≡ true → ⊥
+no-markup b h m = clash (is_less b) (is_and b) m (not-less b h.0) (not-and b h.1) where
+  clash : (s u : Bool) → (s || u) ≡ true → s ≡ false → u ≡ false → ⊥
+  clash s u m e d = grind arith
+
+some-bytes : (b : ℕ) (w : List ℕ) → b ∷ w ≡ [] → ⊥
+some-bytes b w e = cc
+
+no-length : (w : List ℕ) → length w ≡ 0 → w ≡ []
+no-length [] h = refl
+no-length (b ∷ w) h = absurd (omega (arith, h))
+
+first-same : (b c : ℕ) (v w : List ℕ) → b ∷ v ≡ c ∷ w → b ≡ c
+first-same b c v w e = cc
+
+lt-is : (m n : ℕ) → nat_lt m n ≡ true → m < n
+lt-is m n e = grind (arith, nat_tests)
+
+le-is : (m n : ℕ) → nat_lt m n ≡ false → n ≤ m
+le-is m n e = grind (arith, nat_tests)
 
 module _ (bytes : List ℕ) (h : Halts bytes) where
   abbrev I : List ℕ
@@ -204,3 +248,223 @@ module _ (bytes : List ℕ) (h : Halts bytes) where
     piece-given =
         let r = within (before ++ front) rest piece-all (omega (arith, piece-size, piece-less)) in
         piece-in r.0 r.1 (reach-inside t outer before o (front ++ r.0) (calm r.0))
+
+  -- references, sections and comments
+  leaves-given : (tags : List Tag) (begin at : ℕ) (leaf : Leaf) → (found : LeafEnds bytes tags begin at leaf) → is_text leaf ≡ false → Clear bytes at → PartsGiven (parts_of bytes) (leaf_parts begin leaf) tags found.before
+  leaves-given [] begin at leaf found none c = absurd (found.inside refl)
+  leaves-given (t ∷ outer) begin at leaf found none c =
+      subst (λ n. PartsGiven (parts_of bytes) (leaf_parts n leaf) (t ∷ outer) found.before) (sym found.begins)
+      (piece-given t outer found.before found.front found.rest found.opens found.spelled at c (found.place ∙ ap (λ n. n + length found.front) found.begins) (leaf-some leaf found.front found.is_leaf none) (leaf_parts (length found.before) leaf)
+      (λ r ends. leaf-markup leaf found.front [] r found.is_leaf none)
+      (λ r. (
+        opens_of (t ∷ outer),
+        leaf-piece (length (found.before ++ (found.front ++ r))) t.name (opens_of outer) (opens_of (t ∷ outer)) found.front r leaf found.is_leaf (λ is. absurd (no-text leaf none is))
+            ∙ ap (λ n. Ok record { parts = leaf_parts n leaf; opens = opens_of (t ∷ outer); left = r }) (place-is found.before (found.front ++ r)),
+      )))
+    where
+      no-text : (leaf : Leaf) → is_text leaf ≡ false → is_text leaf ≡ true → ⊥
+      no-text leaf isn is = let both : true ≡ false = sym is ∙ isn in cc
+
+  -- end tags
+  ends-given : (tag : Tag) (outer : List Tag) (begin at : ℕ) → (found : EndTag bytes tag outer begin at) → Clear bytes at → PartsGiven (parts_of bytes) (End begin ∷ []) (tag ∷ outer) found.before
+  ends-given tag outer begin at found c =
+      let b = is-end tag.name found.closing found.is_end in
+      subst (λ n. PartsGiven (parts_of bytes) (End n ∷ []) (tag ∷ outer) found.before) (sym found.begins)
+      (piece-given tag outer found.before found.closing found.rest found.opens found.spelled at c (found.place ∙ ap (λ n. n + length found.closing) found.begins) (omega (arith, ap length b.1)) (End (length found.before) ∷ [])
+      (λ r ends. begins-markup found.closing r 60 (47 ∷ b.0) b.1 refl)
+      (λ r. (
+        opens_of outer,
+        end-piece (length (found.before ++ (found.closing ++ r))) tag.name (opens_of outer) (opens_of (tag ∷ outer)) found.closing r found.is_end
+            ∙ ap (λ n. Ok record { parts = End n ∷ []; opens = opens_of outer; left = r }) (place-is found.before (found.closing ++ r)),
+      )))
+
+  -- literal texts
+  module _ (t : Tag) (outer : List Tag) (at byte : ℕ) (x : TextByte bytes (t ∷ outer) at byte) (c : Clear bytes at) (s : OpenSplit t outer x.before) where
+    abbrev top : List ℕ
+    top = x.before ++ byte ∷ []
+
+    top-all : bytes ≡ top ++ x.rest
+    top-all = x.spelled ∙ sym (append_assoc x.before (byte ∷ []) x.rest)
+
+    top-size : length top ≡ at + 1
+    top-size = length-append x.before (byte ∷ []) ∙ omega (arith, x.place)
+
+    text-less : at < length I
+    text-less = near at c (omega (arith, top-size, ap length top-all, length-append top x.rest))
+
+    text-place : at ≡ length s.front + length s.text
+    text-place = x.place ∙ ap length s.spelled ∙ length-append s.front s.text
+
+    module _ (r : List ℕ) (d : I ≡ top ++ r) where
+      abbrev X : List ℕ
+      X = s.text ++ byte ∷ r
+
+      text-spelled : I ≡ s.front ++ X
+      text-spelled = d ∙ append_assoc x.before (byte ∷ []) r ∙ ap (λ xs. xs ++ byte ∷ r) s.spelled ∙ append_assoc s.front s.text (byte ∷ r)
+
+      text-long : length I ≡ at + 1 + length r
+      text-long = ap length d ∙ length-append top r ∙ omega (arith, top-size)
+
+      abbrev K : ℕ
+      K = length (s.front ++ X)
+
+      abbrev read : TextRead
+      read = text_behind 0 X
+
+      told : TextTold 0 X (text_behind 0 X)
+      told = text-told 0 X
+
+      -- it begins with no markup
+      plain-head : (b : ℕ) × (v : List ℕ) × (X ≡ b ∷ v) × (is_less b ≡ false) × (is_and b ≡ false)
+      plain-head = by s.text s.plain where
+        by : (w : List ℕ) → TextFrom 0 w tt → (b : ℕ) × (v : List ℕ) × (w ++ byte ∷ r ≡ b ∷ v) × (is_less b ≡ false) × (is_and b ≡ false)
+        by [] p = (byte, r, refl, not-less byte x.no_markup.0, not-and byte x.no_markup.1)
+        by (b ∷ w) p =
+            let first = text-first (b ∷ w) p (some-bytes b w) in
+            (first.0, first.1 ++ byte ∷ r, ap (λ xs. xs ++ byte ∷ r) first.2, first.3, first.4)
+
+      text-moved : piece_moves K t.name (opens_of outer) (opens_of (t ∷ outer)) X ≡ text_moves (place K X) (opens_of (t ∷ outer)) X (text_behind 0 X)
+      text-moved =
+          let p = plain-head in
+          ap (piece_moves K t.name (opens_of outer) (opens_of (t ∷ outer))) p.2
+          ∙ at-text K t.name (opens_of outer) (opens_of (t ∷ outer)) p.0 p.1 p.3 p.4
+          ∙ ap (λ xs. text_moves (place K xs) (opens_of (t ∷ outer)) xs (text_behind 0 xs)) (sym p.2)
+
+      module _ (z : Inside t outer s.front X) where
+        text-run : course_of I ≡ behind_root (with_parts z.parts (goes_on (text_moves (place K X) (opens_of (t ∷ outer)) X (text_behind 0 X)) (content_at K)))
+        text-run =
+            ap course_of text-spelled ∙ z.run
+            ∙ ap (λ c. behind_root (with_parts z.parts c)) (content-next K (open_of t) (opens_of outer) X ∙ ap (λ m. goes_on m (content_at K)) text-moved)
+
+        -- the character is read, or begun
+        not-before : length told.front + length told.begun ≤ length s.text → ⊥
+        not-before fits = by (text_behind 0 X).broken refl where
+          q : (q : List ℕ) × (s.text ≡ told.front ++ q) × (told.begun ++ told.rest ≡ q ++ byte ∷ r)
+          q = front-of told.front (told.begun ++ told.rest) s.text (byte ∷ r) (sym told.spelled) (omega (arith, fits))
+
+          none : q.0 ≡ []
+          none = told.most q.0 (byte ∷ r) q.2 (subst (λ xs. TextFrom 0 xs tt) q.1 s.plain)
+
+          same : s.text ≡ told.front
+          same = q.1 ∙ ap (λ xs. told.front ++ xs) none ∙ append-nil told.front
+
+          unbegun : told.begun ≡ []
+          unbegun = no-length told.begun (omega (arith, fits, ap length same))
+
+          behind : (text_behind 0 X).left ≡ byte ∷ r
+          behind = told.behind ∙ ap (λ xs. xs ++ told.rest) (sym unbegun) ∙ q.2 ∙ ap (λ xs. xs ++ byte ∷ r) none
+
+          by : (b : Bool) → (text_behind 0 X).broken ≡ b → ⊥
+          by false is = no-markup byte x.no_markup (subst (λ xs. Follows markup xs) behind (text-ends X (text_behind 0 X).left (ap (λ b. cond b (Err (text_behind 0 X).left) (Ok (tt, (text_behind 0 X).left))) is)))
+          by true is =
+              let halt : course_of I ≡ record { parts = z.parts ++ cut_text (place K X) X; stop = Some Broken; left = (text_behind 0 X).left } =
+              text-run ∙ ap (λ b. behind_root (with_parts z.parts (goes_on (cond b (Err record { parts = cut_text (place K X) X; stop = Broken; left = (text_behind 0 X).left }) (Ok record { parts = cut_text (place K X) X; opens = opens_of (t ∷ outer); left = (text_behind 0 X).left })) (content_at K)))) is in
+              omega (arith, h.far at c text-less, size, same-rest (z.parts ++ cut_text (place K X) X) (Some Broken) (text_behind 0 X).left halt, ap length behind, text-long)
+
+        reads-on : (q : List ℕ) × (told.front ++ told.begun ≡ s.text ++ byte ∷ q)
+        reads-on = by (nat_lt (length s.text) (length told.front + length told.begun)) refl where
+          inner : length s.text < length told.front + length told.begun → (q : List ℕ) × (told.front ++ told.begun ≡ s.text ++ byte ∷ q)
+          inner less = by q.0 q.1 q.2 where
+            q : (q : List ℕ) × (told.front ++ told.begun ≡ s.text ++ q) × (byte ∷ r ≡ q ++ told.rest)
+            q = front-of s.text (byte ∷ r) (told.front ++ told.begun) told.rest (told.spelled ∙ sym (append_assoc told.front told.begun told.rest)) (omega (arith, less, length-append told.front told.begun))
+
+            by : (q : List ℕ) → told.front ++ told.begun ≡ s.text ++ q → byte ∷ r ≡ q ++ told.rest → (q : List ℕ) × (told.front ++ told.begun ≡ s.text ++ byte ∷ q)
+            by [] e g = absurd (omega (arith, less, ap length e, length-append told.front told.begun, length-append s.text []))
+            by (b ∷ q) e g = (q, e ∙ ap (λ b. s.text ++ b ∷ q) (sym (first-same byte b r (q ++ told.rest) g)))
+
+          by : (b : Bool) → nat_lt (length s.text) (length told.front + length told.begun) ≡ b → (q : List ℕ) × (told.front ++ told.begun ≡ s.text ++ byte ∷ q)
+          by true is = inner (lt-is (length s.text) (length told.front + length told.begun) is)
+          by false is = absurd (not-before (le-is (length s.text) (length told.front + length told.begun) is))
+
+        module _ (q : List ℕ) (e : told.front ++ told.begun ≡ s.text ++ byte ∷ q) (odd : ℕ) (first : first_odd (length s.front) (s.text ++ byte ∷ q) ≡ Some odd) (from : length s.front ≤ odd) (to : odd ≤ length s.front + length s.text) where
+          some : told.front ++ told.begun ≡ [] → ⊥
+          some n = omega (arith, ap length (sym n ∙ e), length-append s.text (byte ∷ q))
+
+          abbrev Given_ : Part
+          Given_ = Run (length s.front) (Some odd) (line_ends told.front)
+
+          is-given : cut_text (place K X) X ≡ Run (length s.front) (Some odd) (line_ends told.front) ∷ []
+          is-given =
+              given-some (place K X) X (text_behind 0 X) told some
+              ∙ ap (λ n. Run n (first_odd n (told.front ++ told.begun)) (line_ends told.front) ∷ []) (place-is s.front X)
+              ∙ ap (λ o. Run (length s.front) o (line_ends told.front) ∷ []) (ap (first_odd (length s.front)) e ∙ first)
+
+          all-read : bytes ≡ s.front ++ ((told.front ++ told.begun) ++ (told.rest ++ drop most_bytes bytes))
+          all-read =
+              sym (take-append-drop most_bytes bytes)
+              ∙ ap (λ xs. xs ++ drop most_bytes bytes) (text-spelled ∙ ap (λ xs. s.front ++ xs) (told.spelled ∙ sym (append_assoc told.front told.begun told.rest)))
+              ∙ append_assoc s.front ((told.front ++ told.begun) ++ told.rest) (drop most_bytes bytes)
+              ∙ ap (λ xs. s.front ++ xs) (append_assoc (told.front ++ told.begun) told.rest (drop most_bytes bytes))
+
+          may : CanGoOn (take (odd + 1) bytes)
+          may =
+              go-same (take (odd + 1) (take (at + 1) bytes ++ drop (at + 1) bytes)) (take (odd + 1) bytes) (ap (take (odd + 1)) (take-append-drop (at + 1) bytes))
+              (can-front (take (at + 1) bytes) (drop (at + 1) bytes) (odd + 1) x.may_be (omega (arith, ap length front, top-size, to, text-place)))
+            where
+              front : take (at + 1) bytes ≡ top
+              front = ap (take (at + 1)) top-all ∙ take_at top x.rest (at + 1) top-size
+
+          a-letter : (byte : ℕ) × TextByte bytes (t ∷ outer) odd byte
+          a-letter =
+              letter bytes t outer s.front s.opens s.quiet (told.front ++ told.begun) (told.rest ++ drop most_bytes bytes) all-read odd
+              (odd-found told.text.characters told.front told.begun told.text.each told.cut (length s.front) odd (ap (first_odd (length s.front)) e ∙ first)) may
+
+          text-is : TextGiven bytes (parts_of bytes) (t ∷ outer) at
+          text-is =
+              let moved = text_moves (place K X) (opens_of (t ∷ outer)) X (text_behind 0 X) in
+              let root = root-parts z.parts (goes_on (text_moves (place K X) (opens_of (t ∷ outer)) X (text_behind 0 X)) (content_at K)) in
+              let inner = text-begins (cut_text (place K X) X) (opens_of (t ∷ outer)) (text_behind 0 X) (content_at K) in
+              record {
+                earlier = z.parts;
+                later = inner.0 ++ root.0;
+                before = s.front;
+                rest = s.text ++ byte ∷ x.rest;
+                odd = odd;
+                text = line_ends told.front;
+                spelled = x.spelled ∙ ap (λ xs. xs ++ byte ∷ x.rest) s.spelled ∙ append_assoc s.front s.text (byte ∷ x.rest);
+                opens = z.stands;
+                from = from;
+                to = omega (arith, to, text-place);
+                letter = a-letter;
+                is = ap (λ c. c.parts) text-run
+                    ∙ root.1
+                    ∙ ap (λ xs. z.parts ++ (xs ++ root.0)) (inner.1 ∙ ap (λ xs. xs ++ inner.0) is-given);
+              }
+
+        text-found : TextGiven bytes (parts_of bytes) (t ∷ outer) at
+        text-found =
+            let on = reads-on in
+            let first = first-odd-some (length s.front) s.text byte on.0 x.no_blank in
+            text-is on.0 on.1 first.0 first.1 first.2 first.3
+
+      text-in : ReachInside t outer s.front X → TextGiven bytes (parts_of bytes) (t ∷ outer) at
+      text-in (inr e) = absurd (early at c text-less s.front X text-spelled (omega (arith, text-place)) e)
+      text-in (inl z) = text-found z
+
+    text-given : TextGiven bytes (parts_of bytes) (t ∷ outer) at
+    text-given =
+        let r = within top x.rest top-all (omega (arith, top-size, text-less)) in
+        text-in r.0 r.1 (reach-inside t outer s.front s.opens (s.text ++ byte ∷ r.0) (λ ends. absurd (both s.quiet ends)))
+      where
+        both : {b : Bool} → b ≡ false → b ≡ true → ⊥
+        both e d = let no : true ≡ false = sym d ∙ e in cc
+
+  texts-given : (tags : List Tag) (at byte : ℕ) → TextByte bytes tags at byte → Clear bytes at → TextGiven bytes (parts_of bytes) tags at
+  texts-given [] at byte x c = absurd (x.inside refl)
+  texts-given (t ∷ outer) at byte x c = text-given t outer at byte x c (open-split t outer x.before x.opens)
+
+-- the parts of any bytes
+pub parts-are-given : (bytes : List ℕ) → Given bytes (parts_of bytes)
+parts-are-given bytes = by (halting bytes) (is_cut bytes) (limit bytes (is_cut bytes) refl) where
+  cut : (c : Bool) → (l : Limit bytes c) → (l.more ≡ []) ⊎ (most_bytes ≤ length (within_limit bytes))
+  cut false l = inl (l.whole refl).0
+  cut true l = inr (omega (arith, (l.over refl).1))
+
+  by : Halts bytes → (c : Bool) → Limit bytes c → Given bytes (parts_of bytes)
+  by h c l = record {
+    each = λ earlier later part e. shown-each bytes (within_limit bytes) l.more l.spelled (cut c l) h.used h.rest h.spelled h.clear h.can h.parts h.shown earlier later part (sym (ap (λ c. c.parts) h.is) ∙ e);
+    starts = λ tags begin at tag found c. starts-given bytes h tags begin at tag found c;
+    ends = λ tag outer begin at found c. ends-given bytes h tag outer begin at found c;
+    leaves = λ tags begin at leaf found none c. leaves-given bytes h tags begin at leaf found none c;
+    texts = λ tags at byte found c. texts-given bytes h tags at byte found c;
+  }
