@@ -49,6 +49,7 @@ pub mod Verdict
 pub mod Halting
 pub mod TextSplit
 pub mod AllGiven
+pub mod Fronts
 pub mod NumberSteps
 pub mod Shorter
 pub mod ValueSteps

@@ -153,7 +153,7 @@ read-by : (bytes : List ℕ) (ps : List Part) (stop : Option Stop) (left : List 
 read-by bytes ps stop left e =
     ap (λ c. answer_of (is_cut bytes) (place (length (within_limit bytes)) c.left) (ending_of c.stop)) e
 
-abbrev Answered : List ℕ → Type 0
+abbrev pub Answered : List ℕ → Type 0
 Answered bytes =
     ((read_of bytes ≡ Ok tt) × ((element : Meaning) × Doc bytes element))
     ⊎ ((r : MarkupError) × (read_of bytes ≡ Err r) × IsRefused bytes r × (r ≢ Mem))
@@ -292,7 +292,7 @@ module _ (bytes : List ℕ) (cut : Bool) (l : Limit bytes cut) where
   by-told (inr (inr (inl s))) = at-rule s
   by-told (inr (inr (inr s))) = at-deep s
 
-answered : (bytes : List ℕ) → Answered bytes
+pub answered : (bytes : List ℕ) → Answered bytes
 answered bytes = by-told bytes (is_cut bytes) (limit bytes (is_cut bytes) refl) (told (within_limit bytes))
 
 -- a document is read

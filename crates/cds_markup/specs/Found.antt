@@ -1,16 +1,18 @@
 -- What stands in bytes as far as nothing refuses them: each part at its place, by the grammar alone, with the start tags
 -- that are open around it and the parts before it.
-use Rattle.std.specs.Prelude.{◌≡◌, ◌≢◌, ℕ, ◌+◌, ◌<◌, ◌≤◌, false, ◌⊎◌, Option, Some, List, [], ◌∷◌, ◌++◌, codes, length}
+use Rattle.std.specs.Prelude.{◌≡◌, ◌≢◌, ℕ, ◌+◌, ◌<◌, ◌≤◌, false, ◌⊎◌, Option, Some, Result, Ok, Err, List, [], ◌∷◌, ◌++◌, codes, length}
 use Rattle.cds_markup.specs.declared.name.Name.{Name}
 use Rattle.cds_markup.specs.declared.name.Attr.{Attr}
 use Rattle.cds_markup.specs.declared.part.Part.{Part}
 use Rattle.cds_markup.specs.declared.part.Part.TheVariants.{Start, End, Run}
 use Rattle.cds_markup.specs.declared.tag.Tag.{Tag}
+use Rattle.cds_markup.specs.declared.error.MarkupError.{MarkupError}
+use Rattle.cds_markup.specs.declared.error.MarkupError.TheVariants.{Mem}
 use Rattle.cds_markup.specs.Form.{Character}
 use Rattle.cds_markup.specs.Grammar.{Leaf, Tree, is_text, Without, is_in_text, IsEndTag}
 use Rattle.cds_markup.specs.Namespaces.{tag_says}
-use Rattle.cds_markup.specs.Document.{Meaning, DocOf, line_ends, most_open, most_bytes}
-use Rattle.cds_markup.specs.Refusal.{Opens, scopes_of, TagEnds, LeafEnds, TextByte, Refuses}
+use Rattle.cds_markup.specs.Document.{Meaning, DocOf, Doc, line_ends, most_open, most_bytes}
+use Rattle.cds_markup.specs.Refusal.{Opens, scopes_of, TagEnds, LeafEnds, TextByte, Refuses, IsRefused}
 use Rattle.cds_markup.specs.Course.{parts_of}
 use Rattle.cds_markup.specs.Parts.{first_odd, leaf_parts, OpensParts, DocumentParts}
 
@@ -149,6 +151,14 @@ pub record Given (bytes : List ℕ) (parts : List Part) : Type 0 where
 -- The parts that reading gives are these, of any bytes.
 abbrev pub PartsAreGiven : Type 0
 PartsAreGiven = (bytes : List ℕ) → Given bytes (parts_of bytes)
+
+-- What reading the parts of bytes answers, and the parts that it adds to those before. Want of memory says nothing of the
+-- bytes and adds none.
+abbrev pub Tells : List ℕ → Result (Unit {0}) MarkupError → List Part → List Part → Type 0
+Tells bytes (Err Mem) before parts = parts ≡ before
+Tells bytes (Err refusal) before parts = (found : List Part) × (parts ≡ before ++ found) × Given bytes found × IsRefused bytes refusal
+Tells bytes (Ok done) before parts =
+    (found : List Part) × (parts ≡ before ++ found) × Given bytes found × (element : Meaning) × Doc bytes element × DocumentParts bytes found
 
 -- What is open at a place that is free of refusals: each part before it stands there, found before the place.
 abbrev pub PartsStandBefore : Type 0

@@ -1,5 +1,5 @@
 ghost use Rattle.cds_markup.specs.Decided.{PartsAreBuilt, PartsAreTold};
-ghost use Rattle.cds_markup.specs.Found.{PartsAreGiven};
+ghost use Rattle.cds_markup.specs.Found.{LeavesHaveOneEnd, PartsAreGiven, PartsAreOfRoots, PartsStandBefore};
 ghost use Rattle.cds_markup.specs.Law.{CharactersAreRead, DocumentsAreRead, NamesAreRead, OneAnswer, OneElement};
 
 /// What reading takes for a character is one, every allowed character is taken, and where it stops the bytes before
@@ -43,4 +43,19 @@ pub fn parts_are_told()
 /// grammar says at its place, and nothing that is found before the fault is left out.
 pub fn parts_are_given()
     ensures { PartsAreGiven }
+{}
+
+/// Before a place that nothing refuses each part of what is open stands, and is found before that place.
+pub fn parts_stand_before()
+    ensures { PartsStandBefore }
+{}
+
+/// A reference or a CDATA section that begins at a place ends at one place.
+pub fn leaves_have_one_end()
+    ensures { LeavesHaveOneEnd }
+{}
+
+/// The parts of a document are those of its root as it is written, whichever way it is read.
+pub fn parts_are_of_roots()
+    ensures { PartsAreOfRoots }
 {}

@@ -3,6 +3,7 @@ ghost use Rattle.cds_markup.specs.Document.{most_bytes};
 ghost use Rattle.cds_markup.specs.Course.{answer_of};
 ghost use Rattle.cds_markup.specs.Agree.{Parted, Reads};
 ghost use Rattle.cds_markup.specs.Decided.{Decides};
+ghost use Rattle.cds_markup.specs.Found.{Tells};
 
 use crate::build::element_of;
 use crate::error::Stop;
@@ -25,6 +26,14 @@ pub fn byte_limit() -> usize
 /// where 16 elements are open; `TooLong` where more than 67,108,864 bytes came without a fault before. `Mem` leaves
 /// the parts as they were.
 pub fn read_parts(alloc: Global, bytes: &[u8], out: &mut Parts) -> Result<(), MarkupError>
+    ensures read { Parted bytes.now result out.old out.new }
+    ensures told { Tells bytes.now result out.old out.new }
+{
+    add_parts(alloc, bytes, out)
+}
+
+/// The same, said by the course of the reader.
+fn add_parts(alloc: Global, bytes: &[u8], out: &mut Parts) -> Result<(), MarkupError>
     ensures { Parted bytes.now result out.old out.new }
 {
     let mut found = Parts::new(alloc);
