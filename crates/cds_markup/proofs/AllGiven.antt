@@ -12,13 +12,14 @@ use Rattle.cds_markup.specs.declared.tag.Open.{Open}
 use Rattle.cds_markup.specs.declared.error.Stop.{Stop}
 use Rattle.cds_markup.specs.declared.error.Stop.TheVariants.{Broken, Unruly, Deep}
 use Rattle.cds_markup.specs.Grammar.{Leaf, Text, Reference, Section, Comment, is_text, IsLeaf, IsEndTag}
+use Rattle.cds_markup.specs.Namespaces.{tag_says}
 use Rattle.cds_markup.specs.Document.{line_ends, most_bytes}
-use Rattle.cds_markup.specs.Refusal.{CanGoOn, Opens, TagEnds, LeafEnds, TextByte}
+use Rattle.cds_markup.specs.Refusal.{CanGoOn, Opens, scopes_of, TagEnds, LeafEnds, TextByte}
 use Rattle.cds_markup.specs.Step.{Step, word_at, next_is}
 use Rattle.cds_markup.specs.Reading.{TextRead, text_behind, is_greater, is_less, is_and, epilog_at}
 use Rattle.cds_markup.specs.Course.{Moved, Halted, Course, place, halts, with_parts, goes_on, halted, tag_ends, bare_moves, text_ends, text_moves, piece_moves, content_at, behind_root, ended, course_of, within_limit, is_cut, parts_of}
 use Rattle.cds_markup.specs.Parts.{OpensParts, first_odd, leaf_parts}
-use Rattle.cds_markup.specs.Found.{Clear, EndTag, TagGiven, PartsGiven, TextGiven, Given}
+use Rattle.cds_markup.specs.Found.{Clear, EndTag, TagGiven, PartsGiven, BareGiven, BlankGiven, TextGiven, Given}
 use Rattle.cds_markup.proofs.ReadsForm.{Follows}
 use Rattle.cds_markup.proofs.EndRows.{is-end}
 use Rattle.cds_markup.proofs.ReferenceRows.{begins-reference}
@@ -66,6 +67,9 @@ tag-first end start inner opens left next = by (next_is is_greater left) where
   by true = ((next (inner ∷ opens) (drop 1 left)).parts, refl)
   by false = bare (word_at (codes "/>") left)
 
+bare-first : (end : ℕ) (start : Part) (inner : Open) (opens : List Open) (tail : List ℕ) (next : List Open → List ℕ → Course) → (later : List Part) × ((goes_on (tag_ends end start inner opens (47 ∷ 62 ∷ tail)) next).parts ≡ start ∷ End end ∷ later)
+bare-first end start inner opens tail next = ((next opens tail).parts, refl)
+
 first-odd-some : (at : ℕ) (w : List ℕ) (b : ℕ) (q : List ℕ) → is_blank b ≡ false → (odd : ℕ) × (first_odd at (w ++ b ∷ q) ≡ Some odd) × (at ≤ odd) × (odd ≤ at + length w)
 first-odd-some at [] b q dark = (at, ap (λ t. cond t (first_odd (at + 1) q) (Some at)) dark, omega arith, omega arith)
 first-odd-some at (c ∷ w) b q dark = by (is_blank c) (first-odd-some (at + 1) w b q dark) where
@@ -112,6 +116,25 @@ lt-is m n e = grind (arith, nat_tests)
 
 le-is : (m n : ℕ) → nat_lt m n ≡ false → n ≤ m
 le-is m n e = grind (arith, nat_tests)
+
+blank-plain : (b : ℕ) → is_blank b ≡ true → (b ≢ 60) × (b ≢ 38)
+blank-plain b h = (λ e. no-less e, λ e. no-and e) where
+  no-less : b ≡ 60 → ⊥
+  no-less e = let no : true ≡ false = sym h ∙ ap is_blank e in cc
+
+  no-and : b ≡ 38 → ⊥
+  no-and e = let no : true ≡ false = sym h ∙ ap is_blank e in cc
+
+-- what is known of the text around a byte that is no markup, from where it begins
+pub record KnownText (bytes : List ℕ) (parts : List Part) (t : Tag) (outer : List Tag) (front text_before : List ℕ) (byte : ℕ) : Type 0 where
+  pub read : List ℕ
+  pub text : List ℕ
+  pub more : List ℕ
+  pub rest : List ℕ
+  pub goes : read ≡ text_before ++ byte ∷ more
+  pub spelled : bytes ≡ front ++ (read ++ rest)
+  pub found : (odd : ℕ) → first_odd (length front) read ≡ Some odd → OddAt (length front) odd read
+  pub given : PartsGiven parts (Run (length front) (first_odd (length front) read) text ∷ []) (t ∷ outer) front
 
 module _ (bytes : List ℕ) (h : Halts bytes) where
   abbrev I : List ℕ
@@ -176,40 +199,83 @@ module _ (bytes : List ℕ) (h : Halts bytes) where
       place-end : place N (t.end ∷ r) ≡ at
       place-end = omega (arith, length-append t.before (60 ∷ Y), length-append t.inside (t.end ∷ r), t.place, t.begins)
 
-      start-given : Reach tags t.before Y → TagGiven bytes (parts_of bytes) tags begin at tag t.before
-      start-given (inr d) = absurd (early at c less t.before (60 ∷ Y) spelled (omega (arith, t.place, t.begins)) d)
-      start-given (inl s) = by (start-run tags N (length t.before) t.inside tag t.is_tag t.end r (ends-either t.end t.ends) s.deep) where
+      pub record Known : Type 0 where
+        pub name : Name
+        pub attrs : List Attr
+        pub earlier : List Part
+        pub root : List Part
+        pub says : tag_says (scopes_of tags) tag ≡ Some (name, attrs)
+        pub opens : OpensParts tags t.before earlier
+        pub is : parts_of bytes ≡ earlier ++ ((goes_on (tag_ends at (Start begin at name attrs) (open_of tag) (opens_of tags) (t.end ∷ r)) (content_at N)).parts ++ root)
+
+      start-known : Reach tags t.before Y → Known
+      start-known (inr d) = absurd (early at c less t.before (60 ∷ Y) spelled (omega (arith, t.place, t.begins)) d)
+      start-known (inl s) = by (start-run tags N (length t.before) t.inside tag t.is_tag t.end r (ends-either t.end t.ends) s.deep) where
         late : (ps : List Part) (stop : Stop) (rest : List ℕ) → course_of I ≡ record { parts = ps; stop = Some stop; left = rest } → length (t.end ∷ r) ≤ length rest → ⊥
         late ps stop rest is far = omega (arith, h.far at c less, size, same-rest ps (Some stop) rest is, far, long, t.place, t.begins)
 
         longer : length (t.end ∷ r) ≤ length Y
         longer = omega (arith, length-append t.inside (t.end ∷ r))
 
-        by : IsDeep tags N (length t.before) t.inside tag t.is_tag t.end r (ends-either t.end t.ends) s.deep ⊎ (IsUnruly tags N (length t.before) t.inside tag t.is_tag t.end r (ends-either t.end t.ends) s.deep ⊎ Says tags N (length t.before) t.inside tag t.is_tag t.end r (ends-either t.end t.ends) s.deep) → TagGiven bytes (parts_of bytes) tags begin at tag t.before
+        by : IsDeep tags N (length t.before) t.inside tag t.is_tag t.end r (ends-either t.end t.ends) s.deep ⊎ (IsUnruly tags N (length t.before) t.inside tag t.is_tag t.end r (ends-either t.end t.ends) s.deep ⊎ Says tags N (length t.before) t.inside tag t.is_tag t.end r (ends-either t.end t.ends) s.deep) → Known
         by (inl d) = absurd (late (s.parts ++ []) Deep Y (ap course_of spelled ∙ s.run ∙ ap (λ m. behind_root (with_parts s.parts (goes_on m (content_at N)))) d.moves) longer)
         by (inr (inl d)) = absurd (late (s.parts ++ []) Unruly (t.end ∷ r) (ap course_of spelled ∙ s.run ∙ ap (λ m. behind_root (with_parts s.parts (goes_on m (content_at N)))) d.moves) (omega arith))
         by (inr (inr d)) =
-            let start : Part = Start (length t.before) (place N (t.end ∷ r)) d.name d.attrs in
-            let first = tag-first (place N (t.end ∷ r)) start (open_of tag) (opens_of tags) (t.end ∷ r) (content_at N) in
-            let root = root-parts s.parts (goes_on (tag_ends (place N (t.end ∷ r)) start (open_of tag) (opens_of tags) (t.end ∷ r)) (content_at N)) in
+            let step : ℕ → ℕ → Result Moved Halted = λ begin end. tag_ends end (Start begin end d.name d.attrs) (open_of tag) (opens_of tags) (t.end ∷ r) in
+            let root = root-parts s.parts (goes_on (tag_ends at (Start begin at d.name d.attrs) (open_of tag) (opens_of tags) (t.end ∷ r)) (content_at N)) in
             record {
               name = d.name;
               attrs = d.attrs;
               earlier = s.parts;
-              later = first.0 ++ root.0;
+              root = root.0;
               says = d.says;
               opens = s.stands;
-              is = ap (λ c. c.parts) (ap course_of spelled ∙ s.run ∙ ap (λ m. behind_root (with_parts s.parts (goes_on m (content_at N)))) d.moves)
-                  ∙ root.1
-                  ∙ ap (λ xs. s.parts ++ (xs ++ root.0)) first.1
-                  ∙ ap (λ n. s.parts ++ Start n (place N (t.end ∷ r)) d.name d.attrs ∷ (first.0 ++ root.0)) (sym t.begins)
-                  ∙ ap (λ n. s.parts ++ Start begin n d.name d.attrs ∷ (first.0 ++ root.0)) place-end;
+              is = ap (λ c. c.parts) (ap course_of spelled ∙ s.run ∙ ap (λ m. behind_root (with_parts s.parts (goes_on m (content_at N)))) (d.moves ∙ ap (λ n. tag_ends (place N (t.end ∷ r)) (Start n (place N (t.end ∷ r)) d.name d.attrs) (open_of tag) (opens_of tags) (t.end ∷ r)) (sym t.begins) ∙ ap (λ n. tag_ends n (Start begin n d.name d.attrs) (open_of tag) (opens_of tags) (t.end ∷ r)) place-end))
+                  ∙ root.1;
             }
 
-    pub starts-given : TagGiven bytes (parts_of bytes) tags begin at tag t.before
+      known : Known
+      known = start-known (reach tags t.before t.opens (t.inside ++ t.end ∷ r) (tag-begins t.inside (t.end ∷ r) tag t.is_tag))
+
+      start-given : TagGiven bytes (parts_of bytes) tags begin at tag t.before
+      start-given =
+          let k = known in
+          let first = tag-first at (Start begin at k.name k.attrs) (open_of tag) (opens_of tags) (t.end ∷ r) (content_at N) in
+          record { name = k.name; attrs = k.attrs; earlier = k.earlier; later = first.0 ++ k.root; says = k.says; opens = k.opens; is = k.is ∙ ap (λ xs. k.earlier ++ (xs ++ k.root)) first.1 }
+
+      -- with its `>`
+      bare-given : t.end ≡ 47 → (tail : List ℕ) → r ≡ 62 ∷ tail → BareGiven (parts_of bytes) tags begin at t.before
+      bare-given slash tail d =
+          let k = known in
+          let first = bare-first at (Start begin at k.name k.attrs) (open_of tag) (opens_of tags) tail (content_at N) in
+          record {
+            name = k.name;
+            attrs = k.attrs;
+            given = record {
+              earlier = k.earlier;
+              later = first.0 ++ k.root;
+              opens = k.opens;
+              is = k.is ∙ ap (λ xs. k.earlier ++ ((goes_on (tag_ends at (Start begin at k.name k.attrs) (open_of tag) (opens_of tags) xs) (content_at N)).parts ++ k.root)) (ap (λ b. b ∷ r) slash ∙ ap (λ xs. 47 ∷ xs) d)
+                  ∙ ap (λ xs. k.earlier ++ (xs ++ k.root)) first.1;
+            };
+          }
+
+    starts-given : TagGiven bytes (parts_of bytes) tags begin at tag t.before
     starts-given =
         let r = within head t.rest head-all (omega (arith, head-size, less)) in
-        start-given r.0 r.1 (reach tags t.before t.opens (t.inside ++ t.end ∷ r.0) (tag-begins t.inside (t.end ∷ r.0) tag t.is_tag))
+        start-given r.0 r.1
+
+    bares-given : (more : List ℕ) → t.end ≡ 47 → t.rest ≡ 62 ∷ more → Clear bytes (at + 1) → BareGiven (parts_of bytes) tags begin at t.before
+    bares-given more slash d c2 = by r.0 r.1 r.2 where
+      far : at + 1 < length I
+      far = near (at + 1) c2 (omega (arith, head-size, ap length head-all, length-append head t.rest, ap length d))
+
+      r : (r : List ℕ) × (I ≡ head ++ r) × (t.rest ≡ r ++ drop most_bytes bytes)
+      r = front-of head t.rest I (drop most_bytes bytes) (sym head-all ∙ sym (take-append-drop most_bytes bytes)) (omega (arith, head-size, less))
+
+      by : (r : List ℕ) → I ≡ head ++ r → t.rest ≡ r ++ drop most_bytes bytes → BareGiven (parts_of bytes) tags begin at t.before
+      by [] e g = absurd (omega (arith, far, ap length e, length-append head [], head-size))
+      by (b ∷ tail) e g = bare-given (b ∷ tail) e slash tail (ap (λ b. b ∷ tail) (first-same b 62 (tail ++ drop most_bytes bytes) more (sym g ∙ d)))
 
   -- a piece inside the root that is read
   module _ (t : Tag) (outer : List Tag) (before front rest : List ℕ) (o : Opens (t ∷ outer) before) (e : bytes ≡ before ++ (front ++ rest)) (at : ℕ) (c : Clear bytes at) (place-at : at + 1 ≡ length before + length front) (some : 0 < length front) (found : List Part) (calm : (r : List ℕ) → Calm o.3 (front ++ r)) (moves : (r : List ℕ) → (opens : List Open) × (piece_moves (length (before ++ (front ++ r))) t.name (opens_of outer) (opens_of (t ∷ outer)) (front ++ r) ≡ Ok record { parts = found; opens = opens; left = r })) where
@@ -279,28 +345,28 @@ module _ (bytes : List ℕ) (h : Halts bytes) where
       )))
 
   -- literal texts
-  module _ (t : Tag) (outer : List Tag) (at byte : ℕ) (x : TextByte bytes (t ∷ outer) at byte) (c : Clear bytes at) (s : OpenSplit t outer x.before) where
+  module _ (t : Tag) (outer : List Tag) (at byte : ℕ) (before rest : List ℕ) (spelled : bytes ≡ before ++ byte ∷ rest) (place-at : at ≡ length before) (plain : (byte ≢ 60) × (byte ≢ 38)) (c : Clear bytes at) (s : OpenSplit t outer before) where
     abbrev top : List ℕ
-    top = x.before ++ byte ∷ []
+    top = before ++ byte ∷ []
 
-    top-all : bytes ≡ top ++ x.rest
-    top-all = x.spelled ∙ sym (append_assoc x.before (byte ∷ []) x.rest)
+    top-all : bytes ≡ top ++ rest
+    top-all = spelled ∙ sym (append_assoc before (byte ∷ []) rest)
 
     top-size : length top ≡ at + 1
-    top-size = length-append x.before (byte ∷ []) ∙ omega (arith, x.place)
+    top-size = length-append before (byte ∷ []) ∙ omega (arith, place-at)
 
     text-less : at < length I
-    text-less = near at c (omega (arith, top-size, ap length top-all, length-append top x.rest))
+    text-less = near at c (omega (arith, top-size, ap length top-all, length-append top rest))
 
     text-place : at ≡ length s.front + length s.text
-    text-place = x.place ∙ ap length s.spelled ∙ length-append s.front s.text
+    text-place = place-at ∙ ap length s.spelled ∙ length-append s.front s.text
 
     module _ (r : List ℕ) (d : I ≡ top ++ r) where
       abbrev X : List ℕ
       X = s.text ++ byte ∷ r
 
       text-spelled : I ≡ s.front ++ X
-      text-spelled = d ∙ append_assoc x.before (byte ∷ []) r ∙ ap (λ xs. xs ++ byte ∷ r) s.spelled ∙ append_assoc s.front s.text (byte ∷ r)
+      text-spelled = d ∙ append_assoc before (byte ∷ []) r ∙ ap (λ xs. xs ++ byte ∷ r) s.spelled ∙ append_assoc s.front s.text (byte ∷ r)
 
       text-long : length I ≡ at + 1 + length r
       text-long = ap length d ∙ length-append top r ∙ omega (arith, top-size)
@@ -318,7 +384,7 @@ module _ (bytes : List ℕ) (h : Halts bytes) where
       plain-head : (b : ℕ) × (v : List ℕ) × (X ≡ b ∷ v) × (is_less b ≡ false) × (is_and b ≡ false)
       plain-head = by s.text s.plain where
         by : (w : List ℕ) → TextFrom 0 w tt → (b : ℕ) × (v : List ℕ) × (w ++ byte ∷ r ≡ b ∷ v) × (is_less b ≡ false) × (is_and b ≡ false)
-        by [] p = (byte, r, refl, not-less byte x.no_markup.0, not-and byte x.no_markup.1)
+        by [] p = (byte, r, refl, not-less byte plain.0, not-and byte plain.1)
         by (b ∷ w) p =
             let first = text-first (b ∷ w) p (some-bytes b w) in
             (first.0, first.1 ++ byte ∷ r, ap (λ xs. xs ++ byte ∷ r) first.2, first.3, first.4)
@@ -355,7 +421,7 @@ module _ (bytes : List ℕ) (h : Halts bytes) where
           behind = told.behind ∙ ap (λ xs. xs ++ told.rest) (sym unbegun) ∙ q.2 ∙ ap (λ xs. xs ++ byte ∷ r) none
 
           by : (b : Bool) → (text_behind 0 X).broken ≡ b → ⊥
-          by false is = no-markup byte x.no_markup (subst (λ xs. Follows markup xs) behind (text-ends X (text_behind 0 X).left (ap (λ b. cond b (Err (text_behind 0 X).left) (Ok (tt, (text_behind 0 X).left))) is)))
+          by false is = no-markup byte plain (subst (λ xs. Follows markup xs) behind (text-ends X (text_behind 0 X).left (ap (λ b. cond b (Err (text_behind 0 X).left) (Ok (tt, (text_behind 0 X).left))) is)))
           by true is =
               let halt : course_of I ≡ record { parts = z.parts ++ cut_text (place K X) X; stop = Some Broken; left = (text_behind 0 X).left } =
               text-run ∙ ap (λ b. behind_root (with_parts z.parts (goes_on (cond b (Err record { parts = cut_text (place K X) X; stop = Broken; left = (text_behind 0 X).left }) (Ok record { parts = cut_text (place K X) X; opens = opens_of (t ∷ outer); left = (text_behind 0 X).left })) (content_at K)))) is in
@@ -376,82 +442,131 @@ module _ (bytes : List ℕ) (h : Halts bytes) where
           by true is = inner (lt-is (length s.text) (length told.front + length told.begun) is)
           by false is = absurd (not-before (le-is (length s.text) (length told.front + length told.begun) is))
 
-        module _ (q : List ℕ) (e : told.front ++ told.begun ≡ s.text ++ byte ∷ q) (odd : ℕ) (first : first_odd (length s.front) (s.text ++ byte ∷ q) ≡ Some odd) (from : length s.front ≤ odd) (to : odd ≤ length s.front + length s.text) where
-          some : told.front ++ told.begun ≡ [] → ⊥
-          some n = omega (arith, ap length (sym n ∙ e), length-append s.text (byte ∷ q))
+        on : (q : List ℕ) × (told.front ++ told.begun ≡ s.text ++ byte ∷ q)
+        on = reads-on
 
-          abbrev Given_ : Part
-          Given_ = Run (length s.front) (Some odd) (line_ends told.front)
+        some : told.front ++ told.begun ≡ [] → ⊥
+        some n = omega (arith, ap length (sym n ∙ on.1), length-append s.text (byte ∷ on.0))
 
-          is-given : cut_text (place K X) X ≡ Run (length s.front) (Some odd) (line_ends told.front) ∷ []
-          is-given =
-              given-some (place K X) X (text_behind 0 X) told some
-              ∙ ap (λ n. Run n (first_odd n (told.front ++ told.begun)) (line_ends told.front) ∷ []) (place-is s.front X)
-              ∙ ap (λ o. Run (length s.front) o (line_ends told.front) ∷ []) (ap (first_odd (length s.front)) e ∙ first)
+        abbrev First : Option ℕ
+        First = first_odd (length s.front) (told.front ++ told.begun)
 
-          all-read : bytes ≡ s.front ++ ((told.front ++ told.begun) ++ (told.rest ++ drop most_bytes bytes))
-          all-read =
-              sym (take-append-drop most_bytes bytes)
-              ∙ ap (λ xs. xs ++ drop most_bytes bytes) (text-spelled ∙ ap (λ xs. s.front ++ xs) (told.spelled ∙ sym (append_assoc told.front told.begun told.rest)))
-              ∙ append_assoc s.front ((told.front ++ told.begun) ++ told.rest) (drop most_bytes bytes)
-              ∙ ap (λ xs. s.front ++ xs) (append_assoc (told.front ++ told.begun) told.rest (drop most_bytes bytes))
+        is-given : cut_text (place K X) X ≡ Run (length s.front) First (line_ends told.front) ∷ []
+        is-given =
+            given-some (place K X) X (text_behind 0 X) told some
+            ∙ ap (λ n. Run n (first_odd n (told.front ++ told.begun)) (line_ends told.front) ∷ []) (place-is s.front X)
 
-          may : CanGoOn (take (odd + 1) bytes)
-          may =
-              go-same (take (odd + 1) (take (at + 1) bytes ++ drop (at + 1) bytes)) (take (odd + 1) bytes) (ap (take (odd + 1)) (take-append-drop (at + 1) bytes))
-              (can-front (take (at + 1) bytes) (drop (at + 1) bytes) (odd + 1) x.may_be (omega (arith, ap length front, top-size, to, text-place)))
-            where
-              front : take (at + 1) bytes ≡ top
-              front = ap (take (at + 1)) top-all ∙ take_at top x.rest (at + 1) top-size
+        text-run-given : PartsGiven (parts_of bytes) (Run (length s.front) First (line_ends told.front) ∷ []) (t ∷ outer) s.front
+        text-run-given =
+            let root = root-parts z.parts (goes_on (text_moves (place K X) (opens_of (t ∷ outer)) X (text_behind 0 X)) (content_at K)) in
+            let inner = text-begins (cut_text (place K X) X) (opens_of (t ∷ outer)) (text_behind 0 X) (content_at K) in
+            record {
+              earlier = z.parts;
+              later = inner.0 ++ root.0;
+              opens = z.stands;
+              is = ap (λ c. c.parts) text-run
+                  ∙ root.1
+                  ∙ ap (λ xs. z.parts ++ (xs ++ root.0)) (inner.1 ∙ ap (λ xs. xs ++ inner.0) is-given);
+            }
 
-          a-letter : (byte : ℕ) × TextByte bytes (t ∷ outer) odd byte
-          a-letter =
-              letter bytes t outer s.front s.opens s.quiet (told.front ++ told.begun) (told.rest ++ drop most_bytes bytes) all-read odd
-              (odd-found told.text.characters told.front told.begun told.text.each told.cut (length s.front) odd (ap (first_odd (length s.front)) e ∙ first)) may
+        all-read : bytes ≡ s.front ++ ((told.front ++ told.begun) ++ (told.rest ++ drop most_bytes bytes))
+        all-read =
+            sym (take-append-drop most_bytes bytes)
+            ∙ ap (λ xs. xs ++ drop most_bytes bytes) (text-spelled ∙ ap (λ xs. s.front ++ xs) (told.spelled ∙ sym (append_assoc told.front told.begun told.rest)))
+            ∙ append_assoc s.front ((told.front ++ told.begun) ++ told.rest) (drop most_bytes bytes)
+            ∙ ap (λ xs. s.front ++ xs) (append_assoc (told.front ++ told.begun) told.rest (drop most_bytes bytes))
 
-          text-is : TextGiven bytes (parts_of bytes) (t ∷ outer) at
-          text-is =
-              let moved = text_moves (place K X) (opens_of (t ∷ outer)) X (text_behind 0 X) in
-              let root = root-parts z.parts (goes_on (text_moves (place K X) (opens_of (t ∷ outer)) X (text_behind 0 X)) (content_at K)) in
-              let inner = text-begins (cut_text (place K X) X) (opens_of (t ∷ outer)) (text_behind 0 X) (content_at K) in
-              record {
-                earlier = z.parts;
-                later = inner.0 ++ root.0;
-                before = s.front;
-                rest = s.text ++ byte ∷ x.rest;
-                odd = odd;
-                text = line_ends told.front;
-                spelled = x.spelled ∙ ap (λ xs. xs ++ byte ∷ x.rest) s.spelled ∙ append_assoc s.front s.text (byte ∷ x.rest);
-                opens = z.stands;
-                from = from;
-                to = omega (arith, to, text-place);
-                letter = a-letter;
-                is = ap (λ c. c.parts) text-run
-                    ∙ root.1
-                    ∙ ap (λ xs. z.parts ++ (xs ++ root.0)) (inner.1 ∙ ap (λ xs. xs ++ inner.0) is-given);
-              }
+        known-text : KnownText bytes (parts_of bytes) t outer s.front s.text byte
+        known-text = record {
+          read = told.front ++ told.begun;
+          text = line_ends told.front;
+          more = on.0;
+          rest = told.rest ++ drop most_bytes bytes;
+          goes = on.1;
+          spelled = all-read;
+          found = λ odd d. odd-found told.text.characters told.front told.begun told.text.each told.cut (length s.front) odd d;
+          given = text-run-given;
+        }
 
-        text-found : TextGiven bytes (parts_of bytes) (t ∷ outer) at
-        text-found =
-            let on = reads-on in
-            let first = first-odd-some (length s.front) s.text byte on.0 x.no_blank in
-            text-is on.0 on.1 first.0 first.1 first.2 first.3
-
-      text-in : ReachInside t outer s.front X → TextGiven bytes (parts_of bytes) (t ∷ outer) at
+      text-in : ReachInside t outer s.front X → KnownText bytes (parts_of bytes) t outer s.front s.text byte
       text-in (inr e) = absurd (early at c text-less s.front X text-spelled (omega (arith, text-place)) e)
-      text-in (inl z) = text-found z
+      text-in (inl z) = known-text z
 
-    text-given : TextGiven bytes (parts_of bytes) (t ∷ outer) at
-    text-given =
-        let r = within top x.rest top-all (omega (arith, top-size, text-less)) in
+    text-known : KnownText bytes (parts_of bytes) t outer s.front s.text byte
+    text-known =
+        let r = within top rest top-all (omega (arith, top-size, text-less)) in
         text-in r.0 r.1 (reach-inside t outer s.front s.opens (s.text ++ byte ∷ r.0) (λ ends. absurd (both s.quiet ends)))
       where
         both : {b : Bool} → b ≡ false → b ≡ true → ⊥
         both e d = let no : true ≡ false = sym d ∙ e in cc
 
+  -- a character that is no blank
+  module _ (t : Tag) (outer : List Tag) (at byte : ℕ) (x : TextByte bytes (t ∷ outer) at byte) (s : OpenSplit t outer x.before) (k : KnownText bytes (parts_of bytes) t outer s.front s.text byte) where
+    split-place : at ≡ length s.front + length s.text
+    split-place = x.place ∙ ap length s.spelled ∙ length-append s.front s.text
+
+    module _ (odd : ℕ) (first : first_odd (length s.front) (s.text ++ byte ∷ k.more) ≡ Some odd) (from : length s.front ≤ odd) (to : odd ≤ length s.front + length s.text) where
+      first-is : first_odd (length s.front) k.read ≡ Some odd
+      first-is = ap (first_odd (length s.front)) k.goes ∙ first
+
+      may : CanGoOn (take (odd + 1) bytes)
+      may =
+          go-same (take (odd + 1) (take (at + 1) bytes ++ drop (at + 1) bytes)) (take (odd + 1) bytes) (ap (take (odd + 1)) (take-append-drop (at + 1) bytes))
+          (can-front (take (at + 1) bytes) (drop (at + 1) bytes) (odd + 1) x.may_be (omega (arith, ap length front, head-long, to, split-place)))
+        where
+          head-long : length (x.before ++ byte ∷ []) ≡ at + 1
+          head-long = length-append x.before (byte ∷ []) ∙ omega (arith, x.place)
+
+          front : take (at + 1) bytes ≡ x.before ++ byte ∷ []
+          front = ap (take (at + 1)) (x.spelled ∙ sym (append_assoc x.before (byte ∷ []) x.rest)) ∙ take_at (x.before ++ byte ∷ []) x.rest (at + 1) head-long
+
+      text-is : TextGiven bytes (parts_of bytes) (t ∷ outer) at
+      text-is = record {
+        earlier = k.given.earlier;
+        later = k.given.later;
+        before = s.front;
+        rest = s.text ++ byte ∷ x.rest;
+        odd = odd;
+        text = k.text;
+        spelled = x.spelled ∙ ap (λ xs. xs ++ byte ∷ x.rest) s.spelled ∙ append_assoc s.front s.text (byte ∷ x.rest);
+        opens = k.given.opens;
+        from = from;
+        to = omega (arith, to, split-place);
+        letter = letter bytes t outer s.front s.opens s.quiet k.read k.rest k.spelled odd (k.found odd first-is) may;
+        is = k.given.is ∙ ap (λ o. k.given.earlier ++ Run (length s.front) o k.text ∷ k.given.later) first-is;
+      }
+
+    text-found : TextGiven bytes (parts_of bytes) (t ∷ outer) at
+    text-found =
+        let first = first-odd-some (length s.front) s.text byte k.more x.no_blank in
+        text-is first.0 first.1 first.2 first.3
+
   texts-given : (tags : List Tag) (at byte : ℕ) → TextByte bytes tags at byte → Clear bytes at → TextGiven bytes (parts_of bytes) tags at
   texts-given [] at byte x c = absurd (x.inside refl)
-  texts-given (t ∷ outer) at byte x c = text-given t outer at byte x c (open-split t outer x.before x.opens)
+  texts-given (t ∷ outer) at byte x c =
+      let s = open-split t outer x.before x.opens in
+      text-found t outer at byte x s (text-known t outer at byte x.before x.rest x.spelled x.place x.no_markup c s)
+
+  -- white space
+  blanks-given : (t : Tag) (outer : List Tag) (before rest : List ℕ) (byte : ℕ) → bytes ≡ before ++ byte ∷ rest → Opens (t ∷ outer) before → is_blank byte ≡ true → Clear bytes (length before) → BlankGiven bytes (parts_of bytes) (t ∷ outer) (length before)
+  blanks-given t outer before rest byte e o blank c =
+      let s = open-split t outer before o in
+      let k = text-known t outer (length before) byte before rest e refl (blank-plain byte blank) c s in
+      record {
+        before = s.front;
+        rest = s.text ++ byte ∷ rest;
+        odd = first_odd (length s.front) k.read;
+        text = k.text;
+        spelled = e ∙ ap (λ xs. xs ++ byte ∷ rest) s.spelled ∙ append_assoc s.front s.text (byte ∷ rest);
+        from = omega (arith, ap length s.spelled, length-append s.front s.text);
+        given = k.given;
+      }
+
+earlier-clear : (bytes : List ℕ) (at : ℕ) → Clear bytes (at + 1) → Clear bytes at
+earlier-clear bytes at c = record { none = λ earlier g r. c.none earlier (omega (arith, g)) r; short = by c.short } where
+  by : (at + 1 < most_bytes) ⊎ (length bytes ≤ most_bytes) → (at < most_bytes) ⊎ (length bytes ≤ most_bytes)
+  by (inl g) = inl (omega (arith, g))
+  by (inr g) = inr g
 
 -- the parts of any bytes
 pub parts-are-given : (bytes : List ℕ) → Given bytes (parts_of bytes)
@@ -465,6 +580,8 @@ parts-are-given bytes = by (halting bytes) (is_cut bytes) (limit bytes (is_cut b
     each = λ earlier later part e. shown-each bytes (within_limit bytes) l.more l.spelled (cut c l) h.used h.rest h.spelled h.clear h.can h.parts h.shown earlier later part (sym (ap (λ c. c.parts) h.is) ∙ e);
     starts = λ tags begin at tag found c. starts-given bytes h tags begin at tag found c;
     ends = λ tag outer begin at found c. ends-given bytes h tag outer begin at found c;
+    bares = λ tags begin at tag found more slash d c. bares-given bytes h tags begin at tag found (earlier-clear bytes at c) more slash d c;
     leaves = λ tags begin at leaf found none c. leaves-given bytes h tags begin at leaf found none c;
+    blanks = λ tag outer before rest byte e o blank c. blanks-given bytes h tag outer before rest byte e o blank c;
     texts = λ tags at byte found c. texts-given bytes h tags at byte found c;
   }

@@ -1,6 +1,7 @@
 -- What stands in bytes as far as nothing refuses them: each part at its place, by the grammar alone, with the start tags
 -- that are open around it and the parts before it.
-use Rattle.std.specs.Prelude.{◌≡◌, ◌≢◌, ℕ, ◌+◌, ◌<◌, ◌≤◌, false, ◌⊎◌, Option, Some, Result, Ok, Err, List, [], ◌∷◌, ◌++◌, codes, length}
+use Rattle.std.specs.Prelude.{◌≡◌, ◌≢◌, ℕ, ◌+◌, ◌<◌, ◌≤◌, true, false, ◌⊎◌, Option, Some, Result, Ok, Err, List, [], ◌∷◌, ◌++◌, codes, length}
+use Rattle.cds_base.specs.Characters.{is_blank}
 use Rattle.cds_markup.specs.declared.name.Name.{Name}
 use Rattle.cds_markup.specs.declared.name.Attr.{Attr}
 use Rattle.cds_markup.specs.declared.part.Part.{Part}
@@ -125,6 +126,22 @@ pub record PartsGiven (parts found : List Part) (tags : List Tag) (before : List
   pub opens : OpensParts tags before earlier
   pub is : parts ≡ earlier ++ (found ++ later)
 
+-- the tag of an empty element with its `>`,
+pub record BareGiven (parts : List Part) (tags : List Tag) (begin at : ℕ) (before : List ℕ) : Type 0 where
+  pub name : Name
+  pub attrs : List Attr
+  pub given : PartsGiven parts (Start begin at name attrs ∷ End at ∷ []) tags before
+
+-- white space in a literal text,
+pub record BlankGiven (bytes : List ℕ) (parts : List Part) (tags : List Tag) (at : ℕ) : Type 0 where
+  pub before : List ℕ
+  pub rest : List ℕ
+  pub odd : Option ℕ
+  pub text : List ℕ
+  pub spelled : bytes ≡ before ++ rest
+  pub from : length before ≤ at
+  pub given : PartsGiven parts (Run (length before) odd text ∷ []) tags before
+
 -- and a literal text in which a character that is no blank was found at a place or before.
 pub record TextGiven (bytes : List ℕ) (parts : List Part) (tags : List Tag) (at : ℕ) : Type 0 where
   pub earlier : List Part
@@ -145,7 +162,9 @@ pub record Given (bytes : List ℕ) (parts : List Part) : Type 0 where
   pub each : (earlier later : List Part) (part : Part) → parts ≡ earlier ++ part ∷ later → Stands bytes earlier part
   pub starts : (tags : List Tag) (begin at : ℕ) (tag : Tag) → (found : TagEnds bytes tags begin at tag) → Clear bytes at → TagGiven bytes parts tags begin at tag found.before
   pub ends : (tag : Tag) (outer : List Tag) (begin at : ℕ) → (found : EndTag bytes tag outer begin at) → Clear bytes at → PartsGiven parts (End begin ∷ []) (tag ∷ outer) found.before
+  pub bares : (tags : List Tag) (begin at : ℕ) (tag : Tag) → (found : TagEnds bytes tags begin at tag) → (more : List ℕ) → found.end ≡ 47 → found.rest ≡ 62 ∷ more → Clear bytes (at + 1) → BareGiven parts tags begin at found.before
   pub leaves : (tags : List Tag) (begin at : ℕ) (leaf : Leaf) → (found : LeafEnds bytes tags begin at leaf) → is_text leaf ≡ false → Clear bytes at → PartsGiven parts (leaf_parts begin leaf) tags found.before
+  pub blanks : (tag : Tag) (outer : List Tag) (before rest : List ℕ) (byte : ℕ) → bytes ≡ before ++ byte ∷ rest → Opens (tag ∷ outer) before → is_blank byte ≡ true → Clear bytes (length before) → BlankGiven bytes parts (tag ∷ outer) (length before)
   pub texts : (tags : List Tag) (at byte : ℕ) → TextByte bytes tags at byte → Clear bytes at → TextGiven bytes parts tags at
 
 -- The parts that reading gives are these, of any bytes.
