@@ -187,7 +187,7 @@ fn told(alloc: Global, bytes: &[u8]) -> Result<String, Fail> {
 
 #[test]
 fn parts_have_their_places(rt: HostRuntime) -> Result<(), Fail> {
-    let cases: [(&[u8], &str); 7] = [
+    let cases: [(&[u8], &str); 12] = [
         (
             b"<a xmlns='u' b='1\r\n2'> \r\nx\r<b/>&#13;<![CDATA[]]></a>",
             "start 0 21 u:a :b=1 2\nrun 22 Some(25)  \nx\n\nstart 27 29 u:b\nend 29\nrun 31 Some(31) \r\nrun 36 Some(36) \nend 48\nOk(())",
@@ -212,6 +212,14 @@ fn parts_have_their_places(rt: HostRuntime) -> Result<(), Fail> {
         (
             b"<a>  <b",
             "start 0 2 :a\nrun 3 None   \nErr(Bad { at: 7 })",
+        ),
+        (b"<a><b/x", "start 0 2 :a\nstart 3 5 :b\nErr(Bad { at: 6 })"),
+        (b"<a><b/", "start 0 2 :a\nstart 3 5 :b\nErr(Bad { at: 6 })"),
+        (b"<a><x:b/>", "start 0 2 :a\nErr(Bad { at: 7 })"),
+        (b"<a></a", "start 0 2 :a\nErr(Bad { at: 6 })"),
+        (
+            b"<a><!-- x --> <![CDATA[y]>",
+            "start 0 2 :a\nrun 13 None  \nErr(Bad { at: 26 })",
         ),
     ];
     for (bytes, want) in cases {
