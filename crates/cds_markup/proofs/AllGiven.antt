@@ -39,7 +39,7 @@ use Rattle.cds_markup.proofs.Closing.{go-front, go-same}
 use Rattle.cds_markup.proofs.Within.{front-of}
 use Rattle.cds_markup.proofs.TextCut.{TextTold, text-told}
 use Rattle.cds_markup.proofs.CutParts.{cut_text, given-some}
-use Rattle.cds_markup.proofs.TextStanding.{OddAt, odd-found}
+use Rattle.cds_markup.proofs.TextStanding.{plain-of, OddAt, odd-found}
 use Rattle.cds_markup.proofs.Standing.{letter}
 use Rattle.cds_markup.proofs.Before.{can-front, shown-each}
 use Rattle.cds_markup.proofs.TextSplit.{OpenSplit, open-split}
@@ -525,10 +525,13 @@ module _ (bytes : List ℕ) (h : Halts bytes) where
         earlier = k.given.earlier;
         later = k.given.later;
         before = s.front;
-        rest = s.text ++ byte ∷ x.rest;
+        between = s.text;
+        rest = byte ∷ x.rest;
         odd = odd;
         text = k.text;
         spelled = x.spelled ∙ ap (λ xs. xs ++ byte ∷ x.rest) s.spelled ∙ append_assoc s.front s.text (byte ∷ x.rest);
+        place = split-place;
+        plain = plain-of s.text s.plain;
         opens = k.given.opens;
         from = from;
         to = omega (arith, to, split-place);
@@ -554,11 +557,13 @@ module _ (bytes : List ℕ) (h : Halts bytes) where
       let k = text-known t outer (length before) byte before rest e refl (blank-plain byte blank) c s in
       record {
         before = s.front;
-        rest = s.text ++ byte ∷ rest;
+        between = s.text;
+        rest = byte ∷ rest;
         odd = first_odd (length s.front) k.read;
         text = k.text;
         spelled = e ∙ ap (λ xs. xs ++ byte ∷ rest) s.spelled ∙ append_assoc s.front s.text (byte ∷ rest);
-        from = omega (arith, ap length s.spelled, length-append s.front s.text);
+        place = ap length s.spelled ∙ length-append s.front s.text;
+        plain = plain-of s.text s.plain;
         given = k.given;
       }
 

@@ -132,25 +132,30 @@ pub record BareGiven (parts : List Part) (tags : List Tag) (begin at : ℕ) (bef
   pub attrs : List Attr
   pub given : PartsGiven parts (Start begin at name attrs ∷ End at ∷ []) tags before
 
--- white space in a literal text,
+-- white space in a literal text: all that stands between the text's beginning and the place is of this text,
 pub record BlankGiven (bytes : List ℕ) (parts : List Part) (tags : List Tag) (at : ℕ) : Type 0 where
   pub before : List ℕ
+  pub between : List ℕ
   pub rest : List ℕ
   pub odd : Option ℕ
   pub text : List ℕ
-  pub spelled : bytes ≡ before ++ rest
-  pub from : length before ≤ at
+  pub spelled : bytes ≡ before ++ (between ++ rest)
+  pub place : at ≡ length before + length between
+  pub plain : IsPlain between
   pub given : PartsGiven parts (Run (length before) odd text ∷ []) tags before
 
--- and a literal text in which a character that is no blank was found at a place or before.
+-- and a character that is no blank, in whose text it is found or one before it.
 pub record TextGiven (bytes : List ℕ) (parts : List Part) (tags : List Tag) (at : ℕ) : Type 0 where
   pub earlier : List Part
   pub later : List Part
   pub before : List ℕ
+  pub between : List ℕ
   pub rest : List ℕ
   pub odd : ℕ
   pub text : List ℕ
-  pub spelled : bytes ≡ before ++ rest
+  pub spelled : bytes ≡ before ++ (between ++ rest)
+  pub place : at ≡ length before + length between
+  pub plain : IsPlain between
   pub opens : OpensParts tags before earlier
   pub from : length before ≤ odd
   pub to : odd ≤ at

@@ -24,8 +24,8 @@ pub enum Part {
     Run {
         /// Where it begins.
         at: usize,
-        /// The place of the first character that is no blank in a literal text, or of one that a fault cuts right behind
-        /// it, and `at` for the other two.
+        /// The place of the first character that is no blank in a literal text, or of one that a fault cuts right
+        /// behind it, and `at` for the other two.
         odd: Option<usize>,
         /// What it says.
         text: Text,

@@ -21,8 +21,8 @@ pub fn byte_limit() -> usize
 }
 
 /// Adds the parts of a document, in the order of the bytes: all of them, or those that stand before the first fault. A
-/// start tag is given once the `>` or `/` that ends it stands, whatever follows a `/`; a literal text that a fault cuts is
-/// given as far as its whole characters go; a reference, a section or an end tag that a fault cuts is not given.
+/// start tag is given once the `>` or `/` that ends it stands, whatever follows a `/`; a literal text that a fault cuts
+/// is given as far as its whole characters go; a reference, a section or an end tag that a fault cuts is not given.
 /// `Bad` is the place of the first byte that cannot stand there, or where the input ends and is no document, or of the
 /// `>` or `/` that ends a start tag which breaks a rule of namespaces; `TooDeep` the first byte of a start tag's name
 /// where 16 elements are open; `TooLong` where more than 67,108,864 bytes came without a fault before. `Mem` leaves
