@@ -6,14 +6,7 @@ use Rattle.cds_markup.specs.Grammar.{Leaf, Tree, Bare, Full, Content, Nothing, L
 use Rattle.cds_markup.specs.Document.{Meaning, Meanings, End, meaning, meanings, depth, depths, and_joined, and_children, of_tag, leaf_says}
 use Rattle.cds_markup.specs.Namespaces.{declarations}
 use Rattle.cds_markup.specs.Parts.{TreeParts, ContentParts, leaf_parts}
-
--- whether content ends in a literal text
-abbrev pub ends_with_text : Content → Bool
-ends_with_text Nothing = false
-ends_with_text (LeafThen leaf Nothing) = is_text leaf
-ends_with_text (LeafThen leaf (LeafThen next more)) = ends_with_text (LeafThen next more)
-ends_with_text (LeafThen leaf (TreeThen tree more)) = ends_with_text (TreeThen tree more)
-ends_with_text (TreeThen tree more) = ends_with_text more
+pub use Rattle.cds_markup.specs.Found.{ends_with_text}
 
 abbrev pub append : Content → Content → Content
 append Nothing d = d

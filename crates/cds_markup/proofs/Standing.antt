@@ -165,6 +165,7 @@ module _ (bytes : List ℕ) (limit : ℕ) (clear : (at : ℕ) → at < limit →
       begins = refl;
       inside = some-open t outer;
       parts = st;
+      whole = apart;
       plain = plain-of front text;
       cut = cut;
       some = some;

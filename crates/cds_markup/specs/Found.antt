@@ -1,6 +1,6 @@
 -- What stands in bytes as far as nothing refuses them: each part at its place, by the grammar alone, with the start tags
 -- that are open around it and the parts before it.
-use Rattle.std.specs.Prelude.{◌≡◌, ◌≢◌, ℕ, ◌+◌, ◌<◌, ◌≤◌, true, false, ◌⊎◌, Option, Some, Result, Ok, Err, List, [], ◌∷◌, ◌++◌, codes, length}
+use Rattle.std.specs.Prelude.{◌≡◌, ◌≢◌, ⊤, ℕ, ◌+◌, ◌<◌, ◌≤◌, Bool, true, false, ◌⊎◌, Option, Some, Result, Ok, Err, List, [], ◌∷◌, ◌++◌, codes, length}
 use Rattle.cds_base.specs.Characters.{is_blank}
 use Rattle.cds_markup.specs.declared.name.Name.{Name}
 use Rattle.cds_markup.specs.declared.name.Attr.{Attr}
@@ -10,7 +10,7 @@ use Rattle.cds_markup.specs.declared.tag.Tag.{Tag}
 use Rattle.cds_markup.specs.declared.error.MarkupError.{MarkupError}
 use Rattle.cds_markup.specs.declared.error.MarkupError.TheVariants.{Mem}
 use Rattle.cds_markup.specs.Form.{Character}
-use Rattle.cds_markup.specs.Grammar.{Leaf, Tree, is_text, Without, is_in_text, IsEndTag}
+use Rattle.cds_markup.specs.Grammar.{Leaf, Tree, Content, Nothing, LeafThen, TreeThen, is_text, Without, is_in_text, IsEndTag}
 use Rattle.cds_markup.specs.Namespaces.{tag_says}
 use Rattle.cds_markup.specs.Document.{Meaning, DocOf, Doc, line_ends, most_open, most_bytes}
 use Rattle.cds_markup.specs.Refusal.{Opens, scopes_of, TagEnds, LeafEnds, TextByte, Refuses, IsRefused}
@@ -76,6 +76,18 @@ pub record LeafStands (bytes : List ℕ) (earlier : List Part) (part : Part) : T
   pub is : leaf_parts begin leaf ≡ part ∷ []
   pub clear : Clear bytes at
 
+-- Whether content ends in a literal text, and places where none ends.
+abbrev pub ends_with_text : Content → Bool
+ends_with_text Nothing = false
+ends_with_text (LeafThen leaf Nothing) = is_text leaf
+ends_with_text (LeafThen leaf (LeafThen next more)) = ends_with_text (LeafThen next more)
+ends_with_text (LeafThen leaf (TreeThen tree more)) = ends_with_text (TreeThen tree more)
+ends_with_text (TreeThen tree more) = ends_with_text more
+
+abbrev pub BehindNoText : (tags : List Tag) (before : List ℕ) (parts : List Part) → OpensParts tags before parts → Type 0
+BehindNoText [] before parts opens = ⊤
+BehindNoText (t ∷ outer) before parts opens = ends_with_text opens.6 ≡ false
+
 -- Whole characters of a literal text, of which there may be none, and the first bytes of one more, but not all.
 abbrev pub IsPlain : List ℕ → Type 0
 IsPlain bytes = Without (codes "]]>") is_in_text bytes bytes
@@ -83,7 +95,7 @@ IsPlain bytes = Without (codes "]]>") is_in_text bytes bytes
 abbrev pub IsBegun : List ℕ → Type 0
 IsBegun bytes = (more : List ℕ) × (c : ℕ) × (more ≢ []) × Character is_in_text (bytes ++ more) c
 
--- A literal text, as far as its whole characters go. The first character that is no blank, which may be one that a fault
+-- A literal text from its beginning, as far as its whole characters go. The first character that is no blank, which may be one that a fault
 -- cuts behind the text, is found at its first byte.
 pub record TextStands (bytes : List ℕ) (earlier : List Part) (begin : ℕ) (odd : Option ℕ) (text : List ℕ) : Type 0 where
   pub tags : List Tag
@@ -95,6 +107,7 @@ pub record TextStands (bytes : List ℕ) (earlier : List Part) (begin : ℕ) (od
   pub begins : begin ≡ length before
   pub inside : tags ≢ []
   pub parts : OpensParts tags before earlier
+  pub whole : BehindNoText tags before earlier parts
   pub plain : IsPlain front
   pub cut : IsBegun begun
   pub some : front ++ begun ≢ []
