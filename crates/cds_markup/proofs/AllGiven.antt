@@ -1,5 +1,5 @@
 -- Nothing that is found before reading stops is left out of the parts.
-use Rattle.std.proofs.Common.{◌≡◌, ◌≢◌, ◌==◌, ℕ, suc, ◌+◌, ◌-◌, ◌<◌, ◌≤◌, nat_lt, Bool, true, false, cond, ◌&&◌, ◌||◌, Option, Some, None, Result, Ok, Err, List, [], ◌∷◌, ◌++◌, length, take, drop, refl, sym, ap, subst, ◌∙◌, arith, append_assoc, append-nil, length-append, length-take, min, codes, ◌⊎◌, inl, inr}
+use Rattle.std.proofs.Common.{◌≡◌, ◌≢◌, ℕ, suc, ◌+◌, ◌<◌, ◌≤◌, nat_lt, Bool, true, false, cond, ◌||◌, Option, Some, None, Result, Ok, Err, List, [], ◌∷◌, ◌++◌, length, take, drop, refl, sym, ap, subst, ◌∙◌, arith, append_assoc, append-nil, length-append, length-take, min, codes, ◌⊎◌, inl, inr}
 use Rattle.std.proofs.lemmas.Bool.Decides.{nat_tests}
 use Rattle.std.proofs.lemmas.List.{take-append-drop, take_at}
 use Rattle.cds_base.specs.Characters.{is_blank}
@@ -11,21 +11,20 @@ use Rattle.cds_markup.specs.declared.tag.Tag.{Tag}
 use Rattle.cds_markup.specs.declared.tag.Open.{Open}
 use Rattle.cds_markup.specs.declared.error.Stop.{Stop}
 use Rattle.cds_markup.specs.declared.error.Stop.TheVariants.{Broken, Unruly, Deep}
-use Rattle.cds_markup.specs.Grammar.{Leaf, Text, Reference, Section, Comment, is_text, IsLeaf, IsEndTag}
+use Rattle.cds_markup.specs.Grammar.{Leaf, Text, Reference, Section, Comment, is_text, IsLeaf}
 use Rattle.cds_markup.specs.Namespaces.{tag_says}
 use Rattle.cds_markup.specs.Document.{line_ends, most_bytes}
 use Rattle.cds_markup.specs.Refusal.{CanGoOn, Opens, scopes_of, TagEnds, LeafEnds, TextByte}
 use Rattle.cds_markup.specs.Step.{Step, word_at, next_is}
 use Rattle.cds_markup.specs.Reading.{TextRead, text_behind, is_greater, is_less, is_and, epilog_at}
-use Rattle.cds_markup.specs.Course.{Moved, Halted, Course, place, halts, with_parts, goes_on, halted, tag_ends, bare_moves, text_ends, text_moves, piece_moves, content_at, behind_root, ended, course_of, within_limit, is_cut, parts_of}
+use Rattle.cds_markup.specs.Course.{Moved, Halted, Course, place, with_parts, goes_on, tag_ends, bare_moves, text_ends, text_moves, piece_moves, content_at, behind_root, ended, course_of, within_limit, is_cut, parts_of}
 use Rattle.cds_markup.specs.Parts.{OpensParts, first_odd, leaf_parts}
 use Rattle.cds_markup.specs.Found.{Clear, EndTag, TagGiven, PartsGiven, BareGiven, BlankGiven, TextGiven, Given}
 use Rattle.cds_markup.proofs.ReadsForm.{Follows}
 use Rattle.cds_markup.proofs.EndRows.{is-end}
 use Rattle.cds_markup.proofs.ReferenceRows.{begins-reference}
 use Rattle.cds_markup.proofs.CommentRows.{is-comment}
-use Rattle.cds_markup.proofs.TextRows.{TextFrom, text_step, markup}
-use Rattle.cds_markup.proofs.ContentForm.{ends_with_text}
+use Rattle.cds_markup.proofs.TextRows.{TextFrom, markup}
 use Rattle.cds_markup.proofs.Starts.{place-is}
 use Rattle.cds_markup.proofs.Pieces.{at-text, text-ends}
 use Rattle.cds_markup.proofs.PieceSteps.{content-next}
@@ -33,9 +32,9 @@ use Rattle.cds_markup.proofs.Told.{open_of, opens_of, Calm}
 use Rattle.cds_markup.proofs.StartSound.{tag-begins}
 use Rattle.cds_markup.proofs.Runs.{start-run, IsDeep, IsUnruly, Says, is-section, leaf-piece, end-piece, text-first}
 use Rattle.cds_markup.proofs.Complete.{Doomed, begins-markup, leaf-markup}
-use Rattle.cds_markup.proofs.Reach.{Reached, Reach, reach, ends-either}
+use Rattle.cds_markup.proofs.Reach.{Reach, reach, ends-either}
 use Rattle.cds_markup.proofs.Inner.{Inside, ReachInside, reach-inside}
-use Rattle.cds_markup.proofs.Closing.{go-front, go-same}
+use Rattle.cds_markup.proofs.Closing.{go-same}
 use Rattle.cds_markup.proofs.Within.{front-of}
 use Rattle.cds_markup.proofs.TextCut.{TextTold, text-told}
 use Rattle.cds_markup.proofs.CutParts.{cut_text, given-some}

@@ -1,20 +1,19 @@
 -- What is shown where reading stops stands in the bytes.
-use Rattle.std.proofs.Common.{◌≡◌, ℕ, suc, ◌+◌, ◌<◌, ◌≤◌, Bool, true, false, ◌&&◌, ◌||◌, Some, List, [], ◌∷◌, ◌++◌, length, take, drop, refl, sym, ap, subst, ◌∙◌, arith, append_assoc, append-nil, length-append, length-take, min, ◌⊎◌, inl, inr}
-use Rattle.std.proofs.lemmas.List.{take-append-drop, take_at}
+use Rattle.std.proofs.Common.{◌≡◌, ℕ, ◌+◌, ◌<◌, ◌≤◌, Bool, true, false, List, [], ◌∷◌, ◌++◌, length, take, drop, refl, sym, ap, subst, ◌∙◌, arith, append_assoc, append-nil, length-append, length-take, min, ◌⊎◌, inl, inr}
+use Rattle.std.proofs.lemmas.List.{take-append-drop}
 use Rattle.cds_markup.specs.declared.part.Part.{Part}
 use Rattle.cds_markup.specs.declared.part.Part.TheVariants.{Start, Run}
 use Rattle.cds_markup.specs.declared.tag.Tag.{Tag}
-use Rattle.cds_markup.specs.Grammar.{Text, LeafThen, Nothing}
 use Rattle.cds_markup.specs.Document.{most_bytes, line_ends}
-use Rattle.cds_markup.specs.Refusal.{CanGoOn, Breaks, BreaksAt, Refuses}
+use Rattle.cds_markup.specs.Refusal.{CanGoOn}
 use Rattle.cds_markup.specs.Parts.{OpensParts, first_odd}
-use Rattle.cds_markup.specs.Found.{Clear, Stands, StartStands, TextStands, PartsStandBefore}
+use Rattle.cds_markup.specs.Found.{Clear, Stands, StartStands}
 use Rattle.cds_markup.proofs.ReadsForm.{Follows}
 use Rattle.cds_markup.proofs.TextRows.{TextFrom, markup}
 use Rattle.cds_markup.proofs.ContentForm.{ends_with_text}
-use Rattle.cds_markup.proofs.Closing.{go-front, go-same, stands-opens, close-content}
-use Rattle.cds_markup.proofs.ShownForm.{Calm, CalmHere, CutText, CutTag, Cut, Opened, Closed, Shown}
-use Rattle.cds_markup.proofs.Within.{front-of, rule-more, deep-more}
+use Rattle.cds_markup.proofs.Closing.{go-front, go-same}
+use Rattle.cds_markup.proofs.ShownForm.{Calm, CalmHere, CutText, CutTag, Cut, Opened, Shown}
+use Rattle.cds_markup.proofs.Within.{front-of}
 use Rattle.cds_markup.proofs.TextStanding.{no-markup-first}
 use Rattle.cds_markup.proofs.Standing.{Quiet, QuietHere, AllStand, all-append, all-each, start-stands, text-stands, stand-tree, open-stand}
 

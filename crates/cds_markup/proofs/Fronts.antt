@@ -1,24 +1,24 @@
 -- What is open before a place, where a reference or a section ends, and what reading the parts of bytes tells of them.
-use Rattle.std.proofs.Common.{◌≡◌, ◌≢◌, ℕ, suc, ◌+◌, ◌<◌, ◌≤◌, true, false, Some, None, Result, Ok, Err, List, [], ◌∷◌, ◌++◌, length, take, drop, refl, sym, ap, subst, ◌∙◌, arith, append-nil, length-append, ◌⊎◌, inl, inr, ◌&&◌, Bool}
+use Rattle.std.proofs.Common.{◌≡◌, ℕ, ◌+◌, ◌<◌, ◌≤◌, true, false, Result, Ok, Err, List, [], ◌∷◌, ◌++◌, length, take, refl, sym, ap, subst, ◌∙◌, arith, append-nil, length-append, ◌⊎◌, inl, inr, ◌&&◌, Bool}
 use Rattle.std.proofs.lemmas.List.{take-append-le}
 use Rattle.cds_markup.specs.declared.part.Part.{Part}
 use Rattle.cds_markup.specs.declared.tag.Tag.{Tag}
 use Rattle.cds_markup.specs.declared.tag.QName.{QName}
 use Rattle.cds_markup.specs.declared.error.MarkupError.{MarkupError}
 use Rattle.cds_markup.specs.declared.error.MarkupError.TheVariants.{Bad, TooDeep, TooLong, Failed, Mem}
-use Rattle.cds_markup.specs.Grammar.{Leaf, Tree, Nothing, is_text, IsLeaf}
-use Rattle.cds_markup.specs.Document.{Meaning, DocOf, Doc, most_bytes}
+use Rattle.cds_markup.specs.Grammar.{Leaf, Tree, Nothing, is_text}
+use Rattle.cds_markup.specs.Document.{Meaning, DocOf, most_bytes}
 use Rattle.cds_markup.specs.Refusal.{CanGoOn, Opens, LeafEnds, Refuses, IsRefused}
 use Rattle.cds_markup.specs.Agree.{Parted}
 use Rattle.cds_markup.specs.Course.{Moved, Halted, place, piece_moves, course_of, read_of, parts_of}
 use Rattle.cds_markup.specs.Parts.{OpensParts, DocumentParts, leaf_parts}
 use Rattle.cds_markup.specs.Found.{Clear, Stands, Given, Tells}
 use Rattle.cds_markup.proofs.ContentForm.{ends_with_text}
-use Rattle.cds_markup.proofs.Closing.{go-front, go-same, stands-opens, close-content}
+use Rattle.cds_markup.proofs.Closing.{go-same, stands-opens, close-content}
 use Rattle.cds_markup.proofs.Within.{front-of, rule-more, deep-more}
 use Rattle.cds_markup.proofs.Runs.{leaf-piece}
 use Rattle.cds_markup.proofs.Before.{can-front}
-use Rattle.cds_markup.proofs.Standing.{AllStand, all-each, open-stand}
+use Rattle.cds_markup.proofs.Standing.{all-each, open-stand}
 use Rattle.cds_markup.proofs.Verdict.{document-read, within-all, documents-are-read}
 use Rattle.cds_markup.proofs.AllGiven.{parts-are-given}
 

@@ -1,12 +1,12 @@
 -- Where reading any bytes stops: nothing refuses them before, and they are refused there.
-use Rattle.std.proofs.Common.{◌≡◌, ℕ, suc, ◌+◌, ◌<◌, ◌≤◌, nat_lt, min, Bool, true, false, Option, Some, None, List, [], ◌∷◌, ◌++◌, length, take, refl, sym, ap, subst, ◌∙◌, arith, append-nil, length-append, length-take, ◌⊎◌, inl, inr}
+use Rattle.std.proofs.Common.{◌≡◌, ℕ, ◌<◌, ◌≤◌, nat_lt, min, Bool, true, false, Option, Some, None, List, [], ◌∷◌, ◌++◌, length, refl, sym, ap, subst, ◌∙◌, arith, append-nil, length-append, length-take, inl, inr}
 use Rattle.std.proofs.lemmas.Bool.Decides.{nat_tests}
 use Rattle.cds_markup.specs.declared.part.Part.{Part}
 use Rattle.cds_markup.specs.declared.error.Stop.{Stop}
 use Rattle.cds_markup.specs.declared.error.Stop.TheVariants.{Broken, Unruly, Deep}
 use Rattle.cds_markup.specs.Document.{most_bytes}
 use Rattle.cds_markup.specs.Refusal.{CanGoOn, BreaksRule, IsTooDeep, Refuses}
-use Rattle.cds_markup.specs.Course.{Course, course_of, within_limit, is_cut}
+use Rattle.cds_markup.specs.Course.{course_of, within_limit, is_cut}
 use Rattle.cds_markup.specs.Found.{Clear}
 use Rattle.cds_markup.proofs.Starts.{same-here}
 use Rattle.cds_markup.proofs.ShownForm.{Shown}

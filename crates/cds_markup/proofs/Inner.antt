@@ -1,5 +1,5 @@
 -- What is in the grammar is read, up to any place inside the root where no text is cut in two.
-use Rattle.std.proofs.Common.{◌≡◌, ℕ, suc, ◌+◌, ◌<◌, ◌≤◌, Some, None, Result, List, [], ◌∷◌, ◌++◌, length, refl, sym, ap, subst, ◌∙◌, arith, append_assoc, length-append, ◌⊎◌, inl, inr}
+use Rattle.std.proofs.Common.{◌≡◌, ℕ, suc, ◌+◌, ◌<◌, ◌≤◌, Some, List, [], ◌∷◌, ◌++◌, length, refl, sym, ap, subst, ◌∙◌, arith, append_assoc, length-append, ◌⊎◌, inl, inr}
 use Rattle.cds_markup.specs.declared.part.Part.{Part}
 use Rattle.cds_markup.specs.declared.part.Part.TheVariants.{Start}
 use Rattle.cds_markup.specs.declared.tag.Tag.{Tag}

@@ -3,7 +3,6 @@ use Rattle.std.proofs.Common.{◌≡◌, ◌≢◌, ◌==◌, ℕ, zero, suc, �
 use Rattle.std.proofs.lemmas.Bool.Decides.{nat_tests}
 use Rattle.std.proofs.lemmas.List.{take_at}
 use Rattle.cds_base.specs.Characters.{is_blank}
-use Rattle.cds_markup.specs.declared.part.Part.{Part}
 use Rattle.cds_markup.specs.declared.part.Part.TheVariants.{Run}
 use Rattle.cds_markup.specs.declared.tag.Open.{Open}
 use Rattle.cds_markup.specs.declared.tag.QName.{QName}

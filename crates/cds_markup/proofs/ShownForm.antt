@@ -1,11 +1,11 @@
 -- What is shown where reading stops: the elements that are open with the parts up to a place, and what is cut behind it.
-use Rattle.std.proofs.Common.{◌≡◌, ◌≢◌, ℕ, suc, ◌+◌, ◌≤◌, true, Some, List, [], ◌∷◌, ◌++◌, length, refl, append-nil, ◌⊎◌, inl, inr}
+use Rattle.std.proofs.Common.{◌≡◌, ◌≢◌, ℕ, ◌+◌, ◌≤◌, true, Some, List, [], ◌∷◌, ◌++◌, length, refl, append-nil, ◌⊎◌, inl}
 use Rattle.cds_markup.specs.declared.name.Name.{Name}
 use Rattle.cds_markup.specs.declared.name.Attr.{Attr}
 use Rattle.cds_markup.specs.declared.part.Part.{Part}
 use Rattle.cds_markup.specs.declared.part.Part.TheVariants.{Start, Run}
 use Rattle.cds_markup.specs.declared.tag.Tag.{Tag}
-use Rattle.cds_markup.specs.Grammar.{Tree, Content, IsTag, IsProlog, IsMisc}
+use Rattle.cds_markup.specs.Grammar.{Tree, Content, IsTag, IsProlog}
 use Rattle.cds_markup.specs.Namespaces.{tag_says}
 use Rattle.cds_markup.specs.Document.{depth, line_ends, most_open}
 use Rattle.cds_markup.specs.Refusal.{scopes_of}

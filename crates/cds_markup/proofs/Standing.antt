@@ -3,20 +3,20 @@ use Rattle.std.proofs.Common.{◌≡◌, ◌≢◌, ℕ, suc, ◌+◌, ◌<◌, 
 use Rattle.cds_markup.specs.declared.name.Name.{Name}
 use Rattle.cds_markup.specs.declared.name.Attr.{Attr}
 use Rattle.cds_markup.specs.declared.part.Part.{Part}
-use Rattle.cds_markup.specs.declared.part.Part.TheVariants.{Start, End, Run}
+use Rattle.cds_markup.specs.declared.part.Part.TheVariants.{Start, End}
 use Rattle.cds_markup.specs.declared.tag.Tag.{Tag}
 use Rattle.cds_markup.specs.Grammar.{Leaf, Text, Reference, Section, Comment, Tree, Bare, Full, Content, Nothing, LeafThen, TreeThen, is_text, begins_with_text, IsLeaf, IsText, IsContent, IsTag, IsBareTag, IsStartTag, IsEndTag}
 use Rattle.cds_markup.specs.Namespaces.{tag_says}
-use Rattle.cds_markup.specs.Document.{line_ends, depth, depths, most_open, most_bytes}
+use Rattle.cds_markup.specs.Document.{line_ends, depth, depths, most_bytes}
 use Rattle.cds_markup.specs.Refusal.{CanGoOn, Opens, TextByte, scopes_of}
 use Rattle.cds_markup.specs.Reading.{is_less, is_and}
 use Rattle.cds_markup.specs.Parts.{TreeParts, ContentParts, OpensParts, first_odd, leaf_parts}
-use Rattle.cds_markup.specs.Found.{Clear, StartStands, EndTag, EndStands, BareStands, LeafStands, TextStands, Stands, IsBegun}
+use Rattle.cds_markup.specs.Found.{Clear, StartStands, BareStands, LeafStands, TextStands, Stands, IsBegun}
 use Rattle.cds_markup.proofs.ReadsForm.{Follows}
 use Rattle.cds_markup.proofs.ReferenceRows.{begins-reference}
 use Rattle.cds_markup.proofs.EndRows.{is-end}
 use Rattle.cds_markup.proofs.TextRows.{TextFrom, markup}
-use Rattle.cds_markup.proofs.ContentForm.{append, Apart, ends_with_text, ends-leaf, ends-tree, content-append, content-is, tree-is}
+use Rattle.cds_markup.proofs.ContentForm.{append, Apart, ends_with_text, ends-leaf, ends-tree, content-append, content-is}
 use Rattle.cds_markup.proofs.Closing.{stands-opens}
 use Rattle.cds_markup.proofs.Told.{stands-more, leaf-content, tree-content}
 use Rattle.cds_markup.proofs.Sound.{text-is-text}

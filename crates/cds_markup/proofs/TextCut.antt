@@ -1,13 +1,12 @@
 -- A literal text as far as it is read: its whole characters, and the first bytes of one that breaks behind them.
-use Rattle.std.proofs.Common.{◌≡◌, ◌≢◌, ℕ, zero, suc, ◌+◌, ◌-◌, ◌<◌, ◌≤◌, Bool, true, false, Ok, Err, List, [], ◌∷◌, ◌++◌, length, refl, sym, ap, subst, ◌∙◌, arith, append_assoc, append-nil, length-append, encode_utf8, inl, inr}
+use Rattle.std.proofs.Common.{◌≡◌, ℕ, zero, suc, ◌+◌, ◌-◌, ◌<◌, ◌≤◌, Bool, true, false, Ok, Err, List, [], ◌∷◌, ◌++◌, length, refl, sym, ap, subst, ◌∙◌, arith, append_assoc, append-nil, length-append, encode_utf8, inl, inr}
 use Rattle.std.proofs.lemmas.Bool.Decides.{nat_tests}
 use Rattle.std.proofs.lemmas.List.{append_cancel_left}
 use Rattle.std.proofs.lemmas.Str.{encode_ascii}
 use Rattle.cds_markup.specs.Form.{Character}
-use Rattle.cds_markup.specs.Grammar.{is_in_text}
 use Rattle.cds_markup.specs.Found.{IsBegun}
 use Rattle.cds_markup.specs.Step.{Step, next_is}
-use Rattle.cds_markup.specs.Reading.{any_at, character_at, brackets_with, brackets_before, closes_section, is_in_run, TextRead, longer, text_behind}
+use Rattle.cds_markup.specs.Reading.{any_at, character_at, brackets_with, closes_section, is_in_run, TextRead, longer, text_behind}
 use Rattle.cds_markup.proofs.ReadsForm.{Follows, always, ok_same}
 use Rattle.cds_markup.proofs.TestForm.{has-first}
 use Rattle.cds_markup.proofs.TextSteps.{text-more, text-break, text-stop, any-less}

@@ -1,7 +1,7 @@
 -- Content without the literal text that ends it.
-use Rattle.std.proofs.Common.{◌≡◌, ◌≢◌, arith, Bool, true, false, ◌&&◌, ℕ, List, [], ◌∷◌, ◌++◌, refl, sym, ap, subst, ◌∙◌, append_assoc, append-nil, ◌⊎◌, inl, inr}
+use Rattle.std.proofs.Common.{◌≡◌, arith, Bool, true, false, ◌&&◌, ℕ, List, [], ◌∷◌, ◌++◌, refl, sym, ap, ◌∙◌, append_assoc, append-nil, ◌⊎◌, inl, inr}
 use Rattle.cds_markup.specs.declared.tag.Tag.{Tag}
-use Rattle.cds_markup.specs.Grammar.{Leaf, Text, Reference, Section, Comment, Tree, Content, Nothing, LeafThen, TreeThen, is_text, begins_with_text, IsContent, IsLeaf}
+use Rattle.cds_markup.specs.Grammar.{Leaf, Text, Reference, Section, Comment, Content, Nothing, LeafThen, TreeThen, is_text, begins_with_text, IsContent, IsLeaf}
 use Rattle.cds_markup.specs.Refusal.{Opens}
 use Rattle.cds_markup.proofs.TextRows.{TextFrom}
 use Rattle.cds_markup.proofs.ContentForm.{ends_with_text}

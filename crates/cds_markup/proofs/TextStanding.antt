@@ -1,5 +1,5 @@
 -- The first character of a text that is no blank, and how far the text goes.
-use Rattle.std.proofs.Common.{◌≡◌, ◌≢◌, ◌==◌, ℕ, suc, ◌+◌, ◌<◌, ◌≤◌, Bool, true, false, cond, not, ◌&&◌, ◌||◌, Option, Some, None, Ok, List, [], ◌∷◌, ◌++◌, length, refl, sym, ap, subst, ◌∙◌, arith, append_assoc, append-nil, length-append, encode_utf8, ◌⊎◌, inl, inr}
+use Rattle.std.proofs.Common.{◌≡◌, ◌≢◌, ℕ, ◌+◌, ◌<◌, ◌≤◌, Bool, true, false, cond, not, ◌||◌, Option, Some, List, [], ◌∷◌, ◌++◌, length, refl, sym, ap, subst, ◌∙◌, arith, ◌⊎◌, inl, inr}
 use Rattle.std.proofs.lemmas.Bool.Decides.{nat_tests}
 use Rattle.std.proofs.lemmas.List.{append_cancel_right}
 use Rattle.std.proofs.lemmas.Str.{encode_ascii}
@@ -13,7 +13,7 @@ use Rattle.cds_markup.proofs.ReadsForm.{Follows}
 use Rattle.cds_markup.proofs.TestForm.{HasFirst, has-first}
 use Rattle.cds_markup.proofs.Scan.{small-or-wide, contains-clean}
 use Rattle.cds_markup.proofs.SectionRows.{was-clean}
-use Rattle.cds_markup.proofs.TextRows.{TextFrom, to-text, parse-text, text_step, markup}
+use Rattle.cds_markup.proofs.TextRows.{TextFrom, to-text, parse-text, markup}
 use Rattle.cds_markup.proofs.Pieces.{said-ok}
 use Rattle.cds_markup.proofs.TextCut.{TextTold, text-told}
 use Rattle.cds_markup.proofs.CutParts.{begun-high, high-no-blank}
