@@ -1,0 +1,11 @@
+pub mod Spaces
+pub mod Judging
+pub mod Levels
+pub mod Finding
+pub mod Meanings
+pub mod Deciding
+pub mod PiecesForm
+pub mod PlainValues
+pub mod Tags
+pub mod WrittenRead
+pub mod Evaluating

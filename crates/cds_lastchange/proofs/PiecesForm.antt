@@ -1,0 +1,91 @@
+-- Bytes in pieces: a refusal of more bytes than may be stands whatever comes behind, and cutting changes no answer.
+use Rattle.std.proofs.Common.{◌≡◌, ◌≢◌, ℕ, ◌+◌, ◌<◌, ◌≤◌, nat_lt, nat_le, Bool, true, false, ◌&&◌, cond, Option, Some, None, Result, Ok, Err, List, [], ◌∷◌, ◌++◌, length, take, refl, sym, ap, subst, ◌∙◌, arith, append_assoc, append-nil, length-append}
+use Rattle.std.specs.List.{list_all}
+use Rattle.std.proofs.lemmas.Bool.Decides.{nat_tests}
+use Rattle.std.proofs.lemmas.List.{take-append-le}
+use Rattle.cds_base.specs.Characters.{is_blank}
+use Rattle.cds_event.specs.declared.Event.{Event}
+use Rattle.cds_markup.specs.declared.error.MarkupError.{MarkupError}
+use Rattle.cds_markup.specs.declared.part.Part.{Part}
+use Rattle.cds_markup.specs.Document.{most_bytes}
+use Rattle.cds_markup.specs.Course.{course_of, place, answer_of as read_answer, ending_of, within_limit, is_cut, read_of, parts_of}
+use Rattle.cds_lastchange.specs.declared.error.StateError.{StateError}
+use Rattle.cds_lastchange.specs.declared.error.StateError.TheVariants.{Bad, NotStateEvent, TooLong, Failed, Mem}
+use Rattle.cds_lastchange.specs.Refusal.{IsRefused, Decides}
+use Rattle.cds_lastchange.specs.Judged.{parts_judged, nothing_said, answer_of, is_empty, answer}
+use Rattle.cds_markup.specs.Pieces.{IsRefusal, Gives, together}
+use Rattle.cds_lastchange.specs.Feeding.{EveryCutting}
+use Rattle.cds_lastchange.proofs.Deciding.{complete-err, decides}
+
+-- past the limit nothing is read
+is-less : (m n : ℕ) → m < n → nat_lt m n ≡ true
+is-less m n h = grind (arith, nat_tests)
+
+cut-same : (m : ℕ) (bytes more : List ℕ) → m < length bytes → nat_lt m (length (bytes ++ more)) ≡ nat_lt m (length bytes)
+cut-same m bytes more h =
+    is-less m (length (bytes ++ more)) (omega (arith, h, length-append bytes more)) ∙ sym (is-less m (length bytes) h)
+
+abbrev read_so : List ℕ → Bool → Result (Unit {0}) MarkupError
+read_so within cut = read_answer cut (place (length within) (course_of within).left) (ending_of (course_of within).stop)
+
+within-same : (bytes more : List ℕ) → most_bytes < length bytes → within_limit (bytes ++ more) ≡ within_limit bytes
+within-same bytes more h = take-append-le most_bytes bytes more (omega (arith, h))
+
+read-same : (bytes more : List ℕ) → most_bytes < length bytes → read_of (bytes ++ more) ≡ read_of bytes
+read-same bytes more h =
+    ap (λ w. read_so w (is_cut (bytes ++ more))) (within-same bytes more h)
+    ∙ ap (read_so (within_limit bytes)) (cut-same most_bytes bytes more h)
+
+parts-same : (bytes more : List ℕ) → most_bytes < length bytes → parts_of (bytes ++ more) ≡ parts_of bytes
+parts-same bytes more h = ap (λ w. (course_of w).parts) (within-same bytes more h)
+
+not-below : (n : ℕ) → most_bytes < n → nat_le n most_bytes ≡ false
+not-below n h = grind (arith, nat_tests)
+
+and-false : (s t : Bool) → t ≡ false → (s && t) ≡ false
+and-false true t e = e
+and-false false t e = refl
+
+some-empty : (bytes : List ℕ) → most_bytes < length bytes → is_empty bytes ≡ false
+some-empty bytes h = and-false (list_all is_blank bytes) (nat_le (length bytes) most_bytes) (not-below (length bytes) h)
+
+long-more : (bytes more : List ℕ) → most_bytes < length bytes → most_bytes < length (bytes ++ more)
+long-more bytes more h = omega (arith, h, length-append bytes more)
+
+abbrev answer_so : Bool → Result (Unit {0}) MarkupError → List Part → Result (List Event) StateError
+answer_so empty read parts = cond empty (Ok []) (answer_of read (parts_judged nothing_said parts))
+
+answer-same : (bytes more : List ℕ) → most_bytes < length bytes → answer (bytes ++ more) ≡ answer bytes
+answer-same bytes more h =
+    ap (λ t. answer_so t (read_of (bytes ++ more)) (parts_of (bytes ++ more))) (some-empty (bytes ++ more) (long-more bytes more h) ∙ sym (some-empty bytes h))
+    ∙ ap (λ r. answer_so (is_empty bytes) r (parts_of (bytes ++ more))) (read-same bytes more h)
+    ∙ ap (answer_so (is_empty bytes) (read_of bytes)) (parts-same bytes more h)
+
+refused-of : (bytes : List ℕ) (r : StateError) → r ≢ Mem → Decides bytes (Err r) → IsRefused bytes r
+refused-of bytes Mem differs d = absurd (differs refl)
+refused-of bytes (Bad at) differs d = d.0
+refused-of bytes (NotStateEvent at) differs d = d.0
+refused-of bytes TooLong differs d = d.0
+refused-of bytes Failed differs d = d.0
+
+stands : (bytes more : List ℕ) (r : StateError) → most_bytes < length bytes → r ≢ Mem → Decides bytes (Err r) → Decides (bytes ++ more) (Err r)
+stands bytes more r h differs d =
+    subst (Decides (bytes ++ more)) (answer-same bytes more h ∙ complete-err bytes r (refused-of bytes r differs d) differs) (decides (bytes ++ more))
+
+pub past_limit : (bytes : List ℕ) (r : StateError) → most_bytes < length bytes → Decides bytes (Err r) → r ≢ Mem → IsRefusal Decides Mem bytes r
+past_limit bytes r h d differs = record { over = h; other = differs; stands = λ more. stands bytes more r h differs d }
+
+-- every cutting
+cut-so : (bytes : List ℕ) (pieces : List (List ℕ)) (result : Result (List Event) StateError) → Gives Decides Failed Mem (Some bytes) pieces result → Decides (bytes ++ together pieces) result
+cut-so bytes [] result g = subst (λ (b : List ℕ). Decides b result) (sym (append-nil bytes)) g
+cut-so bytes (piece ∷ more) result (Ok done, now, t, g) =
+    subst (λ (b : List ℕ). Decides b result) (append_assoc bytes piece (together more))
+    (cut-so (bytes ++ piece) more result (subst (λ (s : Option (List ℕ)). Gives Decides Failed Mem s more result) t.1 g))
+cut-so bytes (piece ∷ more) result (Err e, Some kept, t, g) =
+    subst (λ (r : Result (List Event) StateError). Decides (bytes ++ (piece ++ together more)) r) (sym (g ∙ ap Err t.0)) tt
+cut-so bytes (piece ∷ more) result (Err e, None, t, g) =
+    subst (λ (r : Result (List Event) StateError). Decides (bytes ++ (piece ++ together more)) r) (sym g)
+    (subst (λ (b : List ℕ). Decides b (Err e)) (append_assoc bytes piece (together more)) (t.stands (together more)))
+
+pub every-cutting : EveryCutting
+every-cutting pieces result g = cut-so [] pieces result g

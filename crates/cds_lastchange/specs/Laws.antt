@@ -1,0 +1,29 @@
+-- What holds of the definitions themselves.
+use Rattle.std.specs.Prelude.{◌≡◌, ◌≢◌, ℕ, ◌≤◌, ◌⊎◌, List, length}
+use Rattle.std.specs.List.{AllByRecursion}
+use Rattle.cds_event.specs.declared.Event.{Event}
+use Rattle.cds_markup.specs.Document.{most_bytes}
+use Rattle.cds_lastchange.specs.declared.error.StateError.{StateError}
+use Rattle.cds_lastchange.specs.declared.error.StateError.TheVariants.{Mem}
+use Rattle.cds_lastchange.specs.Spelled.{spelled, IsNumbered}
+use Rattle.cds_lastchange.specs.StateEvent.{IsStateEvent}
+use Rattle.cds_lastchange.specs.Refusal.{IsRefused}
+
+-- What is written of events is read as these events, where it is no longer than may be.
+abbrev pub WrittenIsRead : Type 0
+WrittenIsRead = (events : List Event) → AllByRecursion IsNumbered events → length (spelled events) ≤ most_bytes → IsStateEvent (spelled events) events
+
+-- Bytes are one list of events at most.
+abbrev pub OneList : Type 0
+OneList = (bytes : List ℕ) (one other : List Event) → IsStateEvent bytes one → IsStateEvent bytes other → one ≡ other
+
+-- Bytes are events or they are refused in one way, and not both.
+abbrev pub OneAnswer : Type 0
+OneAnswer =
+    (bytes : List ℕ) (r : StateError) → IsRefused bytes r → r ≢ Mem
+    → ((events : List Event) → IsStateEvent bytes events → ⊥) × ((other : StateError) → IsRefused bytes other → other ≢ Mem → other ≡ r)
+
+-- And there is an answer to all bytes.
+abbrev pub AllAreAnswered : Type 0
+AllAreAnswered =
+    (bytes : List ℕ) → ((events : List Event) × IsStateEvent bytes events) ⊎ ((r : StateError) × IsRefused bytes r × (r ≢ Mem))

@@ -1,0 +1,66 @@
+-- How events are written: the one text of a StateEvent (this project's profile of UPnP ContentDirectory:4 on
+-- LastChange).
+use Rattle.std.specs.Prelude.{ℕ, ◌^◌, ◌<◌, Bool, if◌then◌else◌, List, ◌++◌, codes}
+use Rattle.std.specs.List.{flat_map}
+use Rattle.std.specs.Fmt.{decimal}
+use Rattle.cds_event.specs.declared.Class.{Class}
+use Rattle.cds_event.specs.declared.Class.TheVariants.{Container, Track}
+use Rattle.cds_event.specs.declared.Event.{Event}
+use Rattle.cds_event.specs.declared.Event.TheVariants.{ObjAdd, ObjMod, ObjDel, StDone}
+
+-- The namespace of StateEvents.
+abbrev pub event_space : List ℕ
+event_space = codes "urn:schemas-upnp-org:av:cds-event"
+
+-- An attribute with its name and value, and a space before it.
+abbrev pub attribute : List ℕ → List ℕ → List ℕ
+attribute name value = codes " " ++ name ++ codes "=\"" ++ value ++ codes "\""
+
+-- An object, and the number of a change of it.
+unfoldable pub change_text : ℕ → ℕ → List ℕ
+change_text id update = attribute (codes "objID") (decimal id) ++ attribute (codes "updateID") (decimal update)
+
+-- Whether the change belongs to a subtree update.
+abbrev pub flag_text : Bool → List ℕ
+flag_text st = if st then codes "1" else codes "0"
+
+unfoldable pub flagged_text : ℕ → ℕ → Bool → List ℕ
+flagged_text id update st = change_text id update ++ attribute (codes "stUpdate") (flag_text st)
+
+-- The classes of objects (UPnP ContentDirectory:4 on classes).
+abbrev pub container_class : List ℕ
+container_class = codes "object.container"
+
+abbrev pub track_class : List ℕ
+track_class = codes "object.item.audioItem.musicTrack"
+
+unfoldable pub class_text : Class → List ℕ
+class_text Container = container_class
+class_text Track = track_class
+
+unfoldable pub added_text : ℕ → Class → List ℕ
+added_text parent class = attribute (codes "objParentID") (decimal parent) ++ attribute (codes "objClass") (class_text class)
+
+-- An event, which is an empty element.
+abbrev pub event_text : Event → List ℕ
+event_text (ObjAdd id update st parent class) = codes "<objAdd" ++ flagged_text id update st ++ added_text parent class ++ codes "/>"
+event_text (ObjMod id update st) = codes "<objMod" ++ flagged_text id update st ++ codes "/>"
+event_text (ObjDel id update st) = codes "<objDel" ++ flagged_text id update st ++ codes "/>"
+event_text (StDone id update) = codes "<stDone" ++ change_text id update ++ codes "/>"
+
+-- All of it.
+abbrev pub opening : List ℕ
+opening = codes "<StateEvent xmlns=\"urn:schemas-upnp-org:av:cds-event\">"
+
+abbrev pub closing : List ℕ
+closing = codes "</StateEvent>"
+
+abbrev pub spelled : List Event → List ℕ
+spelled events = opening ++ flat_map event_text events ++ closing
+
+-- The numbers of an event have 32 bits.
+abbrev pub IsNumbered : Event → Type 0
+IsNumbered (ObjAdd id update st parent class) = (id < 2 ^ 32) × (update < 2 ^ 32) × (parent < 2 ^ 32)
+IsNumbered (ObjMod id update st) = (id < 2 ^ 32) × (update < 2 ^ 32)
+IsNumbered (ObjDel id update st) = (id < 2 ^ 32) × (update < 2 ^ 32)
+IsNumbered (StDone id update) = (id < 2 ^ 32) × (update < 2 ^ 32)

@@ -1,0 +1,118 @@
+//! What the parts of a document say of a catalog's changes.
+
+ghost use Rattle.std.specs.Prelude.{◌≡◌, ◌∷◌, [], Ok, Err, Some};
+ghost use Rattle.cds_lastchange.specs.Judged.{event_judged, start_judged, part_judged, parts_judged, nothing_said, Judges};
+
+use crate::attributes::{event_of, is_state_event};
+use crate::{Event, Events, StateError};
+use cds_markup::{Attr, Name, Part};
+use std::alloc::Global;
+
+/// What is open where a part stands.
+#[derive(Clone, Copy, Debug, PartialEq, Eq)]
+pub enum Level {
+    /// Nothing.
+    Outside,
+    /// The root.
+    InRoot,
+    /// An event in it.
+    InEvent,
+}
+
+/// What the parts so far say.
+#[derive(Drop, Debug)]
+pub struct Judge {
+    /// What is open.
+    pub level: Level,
+    /// The events so far.
+    pub events: Events,
+}
+
+impl Judge {
+    /// Nothing yet.
+    pub fn new(alloc: Global) -> Self
+        ensures { result ≡ nothing_said }
+    {
+        Judge {
+            level: Level::Outside,
+            events: Events::new(alloc),
+        }
+    }
+
+    /// The root's start tag at this place.
+    fn root(&mut self, at: usize, name: &Name, attrs: &[Attr]) -> Result<(), StateError>
+        requires { self.old.level ≡ Level.Outside }
+        ensures { Judges (start_judged self.old.level self.old.events at name.now attrs.now) result self.new }
+    {
+        if !is_state_event(name) {
+            return Err(StateError::NotStateEvent { at });
+        }
+        self.level = Level::InRoot;
+        Ok(())
+    }
+
+    /// The start tag of an event at this place.
+    fn event(&mut self, at: usize, event: Option<Event>) -> Result<(), StateError>
+        ensures { Judges (event_judged self.old.events at event) result self.new }
+    {
+        match event {
+            None => Err(StateError::NotStateEvent { at }),
+            Some(event) => {
+                self.events.push(event)?;
+                self.level = Level::InEvent;
+                Ok(())
+            }
+        }
+    }
+
+    /// A start tag at this place.
+    fn start(&mut self, at: usize, name: &Name, attrs: &[Attr]) -> Result<(), StateError>
+        ensures { Judges (start_judged self.old.level self.old.events at name.now attrs.now) result self.new }
+    {
+        match self.level {
+            Level::Outside => self.root(at, name, attrs),
+            Level::InRoot => self.event(at, event_of(name, attrs)),
+            Level::InEvent => Err(StateError::NotStateEvent { at }),
+        }
+    }
+
+    /// An end tag.
+    fn end(&mut self)
+        ensures { Ok self.new ≡ part_judged self.old (Part.End 0) }
+    {
+        self.level = match self.level {
+            Level::InEvent => Level::InRoot,
+            _ => Level::Outside,
+        };
+    }
+
+    /// The next part.
+    fn part(&mut self, part: &Part) -> Result<(), StateError>
+        ensures { Judges (part_judged self.old part.now) result self.new }
+    {
+        match part {
+            Part::Start {
+                at,
+                name,
+                attrs,
+                ..
+            } => self.start(*at, name, attrs.as_slice()),
+            Part::End { .. } => {
+                self.end();
+                Ok(())
+            }
+            Part::Run { odd: None, .. } => Ok(()),
+            Part::Run { odd: Some(odd), .. } => Err(StateError::NotStateEvent { at: *odd }),
+        }
+    }
+
+    /// These parts.
+    pub fn parts(&mut self, parts: &[Part]) -> Result<(), StateError>
+        ensures { Judges (parts_judged self.old parts.now) result self.new }
+    {
+        for part in parts {
+            self.part(part)?;
+        }
+        Ok(())
+    }
+}

@@ -1,0 +1,23 @@
+//! What is proved of the definitions themselves: calling a function gives its law.
+
+ghost use Rattle.cds_lastchange.specs.Laws.{WrittenIsRead, OneList, OneAnswer, AllAreAnswered};
+
+/// What is written of events is read as these events, where it has at most 67,108,864 bytes.
+pub fn written_is_read()
+    ensures { WrittenIsRead }
+{}
+
+/// Bytes are one list of events at most.
+pub fn one_list()
+    ensures { OneList }
+{}
+
+/// Bytes are events or they are refused in one way, and not both.
+pub fn one_answer()
+    ensures { OneAnswer }
+{}
+
+/// There is an answer to all bytes.
+pub fn all_are_answered()
+    ensures { AllAreAnswered }
+{}

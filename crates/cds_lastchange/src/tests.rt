@@ -1,0 +1,338 @@
+use crate::{Class, Event, Events, StateError, StateReader, write_state_event};
+use std::alloc::Global;
+use std::test::Fail;
+
+/// The start tag of a StateEvent; its `>` is at 53.
+const START: &[u8] = b"<StateEvent xmlns=\"urn:schemas-upnp-org:av:cds-event\">";
+
+/// Reads these bytes in pieces of so many, at least one.
+fn read(alloc: Global, bytes: &[u8], size: usize) -> Result<Events, StateError> {
+    let mut reader = StateReader::new(alloc)?;
+    for piece in bytes.chunks(size.max(1)) {
+        reader.feed(alloc, piece)?;
+    }
+    reader.finish(alloc)
+}
+
+/// Bytes that begin a StateEvent and go on with these.
+fn begun(alloc: Global, rest: &[u8]) -> Result<Vec<u8>, Fail> {
+    let mut bytes = Vec::new(alloc);
+    bytes.extend_from_slice(START)?;
+    bytes.extend_from_slice(rest)?;
+    Ok(bytes)
+}
+
+/// The text of these events.
+fn written(alloc: Global, events: &[Event]) -> Result<Vec<u8>, Fail> {
+    let mut bytes = Vec::new(alloc);
+    write_state_event(alloc, events, &mut bytes)?;
+    Ok(bytes)
+}
+
+#[test]
+fn events_are_written(rt: HostRuntime) -> Result<(), Fail> {
+    let events = [
+        Event::ObjAdd {
+            id: 1,
+            update: 1,
+            st: true,
+            parent: 0,
+            class: Class::Container,
+        },
+        Event::ObjAdd {
+            id: 2,
+            update: 2,
+            st: true,
+            parent: 1,
+            class: Class::Track,
+        },
+        Event::StDone { id: 1, update: 2 },
+        Event::ObjMod {
+            id: 4_294_967_295,
+            update: 10,
+            st: false,
+        },
+    ];
+    let wanted = begun(
+        rt.alloc(),
+        b"<objAdd objID=\"1\" updateID=\"1\" stUpdate=\"1\" objParentID=\"0\" objClass=\"object.container\"/>\
+<objAdd objID=\"2\" updateID=\"2\" stUpdate=\"1\" objParentID=\"1\" objClass=\"object.item.audioItem.musicTrack\"/>\
+<stDone objID=\"1\" updateID=\"2\"/>\
+<objMod objID=\"4294967295\" updateID=\"10\" stUpdate=\"0\"/></StateEvent>",
+    )?;
+    let bytes = written(rt.alloc(), &events)?;
+    assert_eq!(rt; bytes.as_slice(), wanted.as_slice());
+    for size in [1, 7, 1000] {
+        let back = read(rt.alloc(), bytes.as_slice(), size)?;
+        assert_eq!(rt; back.as_slice(), &events[..]);
+    }
+    Ok(())
+}
+
+#[test]
+fn a_deletion_is_read_in_every_cutting(rt: HostRuntime) -> Result<(), Fail> {
+    let bytes = begun(
+        rt.alloc(),
+        b"<objDel objID=\"7\" updateID=\"9\" stUpdate=\"0\"/></StateEvent>",
+    )?;
+    assert_eq!(rt; bytes.len(), 112);
+    let wanted = [Event::ObjDel {
+        id: 7,
+        update: 9,
+        st: false,
+    }];
+    for size in [1, 2, 54, 112] {
+        let events = read(rt.alloc(), bytes.as_slice(), size)?;
+        assert_eq!(rt; events.as_slice(), &wanted[..]);
+    }
+    let again = written(rt.alloc(), &wanted)?;
+    assert_eq!(rt; again.as_slice(), bytes.as_slice());
+    let (cut, _) = bytes.as_slice().split_at(111);
+    for size in [1, 111] {
+        let answer = read(rt.alloc(), cut, size);
+        assert!(rt; matches!(answer, Err(StateError::Bad { at: 111 })));
+    }
+    Ok(())
+}
+
+/// How many events these bytes are, in pieces of one byte and in one piece.
+fn count(alloc: Global, bytes: &[u8]) -> Result<usize, StateError> {
+    let one = read(alloc, bytes, 1)?;
+    let all = read(alloc, bytes, 4096)?;
+    Ok(if one.len() == all.len() {
+        all.len()
+    } else {
+        4096
+    })
+}
+
+#[test]
+fn other_forms_are_read(rt: HostRuntime) -> Result<(), Fail> {
+    let cases: [(&[u8], usize); 9] = [
+        (b"", 0),
+        (b" \t\r\n", 0),
+        (
+            b"<StateEvent xmlns='urn:schemas-upnp-org:av:cds-event'/>",
+            0,
+        ),
+        (
+            b"<e:StateEvent xmlns:e=\"urn:schemas-upnp-org:av:cds-event\"></e:StateEvent>",
+            0,
+        ),
+        (
+            b"<StateEvent xmlns='urn:schemas-upnp-org:av:cds-event' xmlns:xsi='x' xsi:schemaLocation='a b'/>",
+            0,
+        ),
+        (
+            b"<!-- x --><StateEvent xmlns='urn:schemas-upnp-org:av:cds-event'> <!-- y -->\n</StateEvent> ",
+            0,
+        ),
+        (
+            b"<StateEvent xmlns='urn:schemas-upnp-org:av:cds-event'><stDone updateID='007' objID='&#49;'> </stDone></StateEvent>",
+            1,
+        ),
+        (
+            b"<e:StateEvent xmlns:e='urn:schemas-upnp-org:av:cds-event'><e:objMod x='' stUpdate='true' objID='1' updateID='2'><!--z--></e:objMod>\n<e:objDel objID='1' updateID='3' stUpdate='false' e:objID='x'/></e:StateEvent>",
+            2,
+        ),
+        (
+            b"\xEF\xBB\xBF<?xml version='1.0'?><StateEvent xmlns='urn:schemas-upnp-org:av:cds-event'><objAdd objClass='object.container' objID='1' objParentID='0' stUpdate='0' updateID='4294967295'/></StateEvent>",
+            1,
+        ),
+    ];
+    for (bytes, wanted) in cases {
+        let found = count(rt.alloc(), bytes)?;
+        assert_eq!(rt; found, wanted);
+    }
+    Ok(())
+}
+
+/// The places at which these bytes are refused in pieces of one byte and in one piece, and whether as a document.
+fn places(alloc: Global, bytes: &[u8]) -> Result<(usize, usize, bool), StateError> {
+    let one = place_of(read(alloc, bytes, 1))?;
+    let all = place_of(read(alloc, bytes, 4096))?;
+    Ok((one.0, all.0, one.1 && all.1))
+}
+
+/// The place of a refusal, and whether the bytes were no document.
+fn place_of(answer: Result<Events, StateError>) -> Result<(usize, bool), StateError> {
+    match answer {
+        Ok(_) => Ok((4096, false)),
+        Err(StateError::Bad { at }) => Ok((at, true)),
+        Err(StateError::NotStateEvent { at }) => Ok((at, false)),
+        Err(other) => Err(other),
+    }
+}
+
+#[test]
+fn what_is_no_event_is_refused(rt: HostRuntime) -> Result<(), Fail> {
+    let cases: [(&[u8], usize, bool); 30] = [
+        (b"<objNew/></StateEvent>", 54, false),
+        (
+            b"<objDel objID=\"7\" stUpdate=\"0\"/></StateEvent>",
+            54,
+            false,
+        ),
+        (
+            b"<objDel objID=\"7\" updateID=\"+5\" stUpdate=\"0\"/></StateEvent>",
+            54,
+            false,
+        ),
+        (
+            b"<objDel objID=\"7\" updateID=\"4294967296\" stUpdate=\"0\"/></StateEvent>",
+            54,
+            false,
+        ),
+        (
+            b"<objDel objID=\"7\" updateID=\"9\"/></StateEvent>",
+            54,
+            false,
+        ),
+        (
+            b"<objDel objID=\"7\" updateID=\"9\" stUpdate=\"TRUE\"/></StateEvent>",
+            54,
+            false,
+        ),
+        (
+            b"<objDel objID=\"\" updateID=\"9\" stUpdate=\"0\"/></StateEvent>",
+            54,
+            false,
+        ),
+        (
+            b"<objDel xmlns=\"\" objID=\"7\" updateID=\"9\" stUpdate=\"0\"/></StateEvent>",
+            54,
+            false,
+        ),
+        (b"<stDone objID=\"1\"/></StateEvent>", 54, false),
+        (
+            b"<stDone xmlns:x=\"y\" x:objID=\"1\" updateID=\"2\"/></StateEvent>",
+            54,
+            false,
+        ),
+        (b"<StateEvent/></StateEvent>", 54, false),
+        (
+            b"<objAdd objID='1' updateID='1' stUpdate='1' objParentID='0' objClass='object.item'/>",
+            54,
+            false,
+        ),
+        (b"<objNew", 61, true),
+        (b"<objNew/", 54, false),
+        (b"<objNew/x", 54, false),
+        (b"<objNew a='1' a='2'/></StateEvent>", 73, true),
+        (
+            b"<stDone objID='1' updateID='2'><a></a></stDone></StateEvent>",
+            85,
+            false,
+        ),
+        (
+            b"<stDone objID='1' updateID='2'>x</stDone></StateEvent>",
+            85,
+            false,
+        ),
+        (b"x&bad", 54, false),
+        (b" \n&#32;</StateEvent>", 56, false),
+        (b"&#32", 58, true),
+        (b"&bad;", 55, true),
+        (b"<![CDATA[]]></StateEvent>", 54, false),
+        (b"<![CDATA[]]", 65, true),
+        (b"<!-- ", 59, true),
+        (b"]]></StateEvent>", 54, false),
+        (b" \xC3", 55, false),
+        (b"\xED\xA0\x80", 54, false),
+        (b"\xC1\x80", 54, true),
+        (b"</StateEven", 65, true),
+    ];
+    for (rest, at, bad) in cases {
+        let bytes = begun(rt.alloc(), rest)?;
+        let found = places(rt.alloc(), bytes.as_slice())?;
+        assert_eq!(rt; found, (at, at, bad));
+    }
+    Ok(())
+}
+
+#[test]
+fn what_is_no_state_event_is_refused(rt: HostRuntime) -> Result<(), Fail> {
+    let cases: [(&[u8], usize, bool); 9] = [
+        (
+            b"<StateEvent xmlns=\"urn:schemas-upnp-org:av:cds-event\"/>x",
+            55,
+            true,
+        ),
+        (b"<StateEvent/>", 0, false),
+        (b" <a xmlns='urn:schemas-upnp-org:av:cds-event'>", 1, false),
+        (
+            b"<StateEvent xmlns='urn:schemas-upnp-org:av:cds-event' xmlns:x=''>",
+            64,
+            true,
+        ),
+        (b"\xEF\xBB\xBF", 3, true),
+        (b"\xEF\xBB\xBF ", 4, true),
+        (b"x", 0, true),
+        (b" <", 2, true),
+        (b"<!-- x -->", 10, true),
+    ];
+    for (bytes, at, bad) in cases {
+        let found = places(rt.alloc(), bytes)?;
+        assert_eq!(rt; found, (at, at, bad));
+    }
+    Ok(())
+}
+
+#[test]
+fn an_early_fault_is_the_answer_past_the_limit(rt: HostRuntime) -> Result<(), Fail> {
+    let alloc = rt.alloc();
+    let blanks = vec![in alloc; b' '; 1_048_576]?;
+    let mut reader = StateReader::new(alloc)?;
+    reader.feed(alloc, START)?;
+    reader.feed(alloc, b"<objNew/>&bad;")?;
+    for _ in 0..63 {
+        reader.feed(alloc, blanks.as_slice())?;
+    }
+    assert!(rt;
+        reader.feed(alloc, blanks.as_slice()) == Err(StateError::NotStateEvent { at: 54 }),
+        "past the limit"
+    );
+    assert!(rt;
+        reader.feed(alloc, b"") == Err(StateError::Failed),
+        "behind it"
+    );
+    assert!(rt;
+        reader.finish(alloc).err() == Some(StateError::Failed),
+        "at the end"
+    );
+    Ok(())
+}
+
+/// A piece, once more where memory was refused.
+fn fed(reader: &mut StateReader, alloc: Global, piece: &[u8]) -> Result<(), StateError> {
+    match reader.feed(alloc, piece) {
+        Err(StateError::Mem) => reader.feed(alloc, piece),
+        answer => answer,
+    }
+}
+
+/// Where one allocation fails, whichever it is, what is tried once more gives the same.
+#[test]
+fn one_refused_allocation_changes_no_answer(rt: HostRuntime) -> Result<(), Fail> {
+    let alloc = rt.alloc();
+    let bytes: &[u8] =
+        b"<StateEvent xmlns=\"urn:schemas-upnp-org:av:cds-event\"><objMod objID=\"1\" updateID=\"2\" stUpdate=\"1\"/></StateEvent>";
+    let mut reader = match StateReader::new(alloc) {
+        Ok(reader) => reader,
+        Err(_) => StateReader::new(alloc)?,
+    };
+    for byte in bytes {
+        fed(&mut reader, alloc, &[*byte])?;
+    }
+    let events = match reader.finish(alloc) {
+        Err(StateError::Mem) => read(alloc, bytes, 4096)?,
+        answer => answer?,
+    };
+    let mut out = Vec::new(alloc);
+    if write_state_event(alloc, events.as_slice(), &mut out).is_err() {
+        assert!(rt; out.is_empty(), "as it was");
+        write_state_event(alloc, events.as_slice(), &mut out)?;
+    }
+    assert_eq!(rt; out.as_slice(), bytes);
+    Ok(())
+}

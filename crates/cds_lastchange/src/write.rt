@@ -1,0 +1,192 @@
+//! The one written form of a StateEvent.
+
+ghost use Rattle.std.specs.Prelude.{◌≡◌, ◌≤◌, ◌++◌, OnOk, OnErr, string_bytes, length, codes};
+ghost use Rattle.std.specs.Fmt.{decimal};
+ghost use Rattle.std.specs.List.{AllByRecursion};
+ghost use Rattle.cds_markup.specs.Document.{most_bytes};
+ghost use Rattle.cds_lastchange.specs.Spelled.{attribute, change_text, flag_text, flagged_text, class_text, added_text, event_text, spelled, IsNumbered};
+ghost use Rattle.cds_lastchange.specs.StateEvent.{IsStateEvent};
+
+use crate::{Class, Event};
+use cds_base::Mem;
+use std::alloc::Global;
+use std::fmt::Write;
+
+/// Puts a text at the end.
+fn put(out: &mut String, text: &str) -> Result<(), Mem>
+    ensures { OnOk result (string_bytes out.new ≡ string_bytes out.old ++ text.now) }
+{
+    out.push_str(text)?;
+    Ok(())
+}
+
+/// Puts a number at the end in decimal.
+fn put_number(out: &mut String, number: u32) -> Result<(), Mem>
+    ensures { OnOk result (string_bytes out.new ≡ string_bytes out.old ++ decimal number) }
+{
+    write!(out, "{number}")?;
+    Ok(())
+}
+
+/// Puts an attribute with a text.
+fn put_attr(out: &mut String, name: &str, value: &str) -> Result<(), Mem>
+    ensures { OnOk result (string_bytes out.new ≡ string_bytes out.old ++ attribute name.now value.now) }
+{
+    put(out, " ")?;
+    put(out, name)?;
+    put(out, "=\"")?;
+    put(out, value)?;
+    put(out, "\"")?;
+    Ok(())
+}
+
+/// Puts an attribute with a number.
+fn put_number_attr(out: &mut String, name: &str, number: u32) -> Result<(), Mem>
+    ensures { OnOk result (string_bytes out.new ≡ string_bytes out.old ++ attribute name.now (decimal number)) }
+{
+    put(out, " ")?;
+    put(out, name)?;
+    put(out, "=\"")?;
+    put_number(out, number)?;
+    put(out, "\"")?;
+    Ok(())
+}
+
+/// Puts an object and the number of a change of it.
+#[tactic(auto, unfolding(crate::specs::Spelled::change_text))]
+fn put_change(out: &mut String, id: u32, update: u32) -> Result<(), Mem>
+    ensures { OnOk result (string_bytes out.new ≡ string_bytes out.old ++ change_text id update) }
+{
+    put_number_attr(out, "objID", id)?;
+    put_number_attr(out, "updateID", update)?;
+    Ok(())
+}
+
+/// How it is written whether a change belongs to a subtree update.
+fn flag_text(st: bool) -> &'static str
+    ensures { result.now ≡ flag_text st }
+{
+    if st { "1" } else { "0" }
+}
+
+/// Puts a change, and whether it belongs to a subtree update.
+#[tactic(auto, unfolding(crate::specs::Spelled::flagged_text))]
+fn put_flagged(out: &mut String, id: u32, update: u32, st: bool) -> Result<(), Mem>
+    ensures { OnOk result (string_bytes out.new ≡ string_bytes out.old ++ flagged_text id update st) }
+{
+    put_change(out, id, update)?;
+    put_attr(out, "stUpdate", flag_text(st))?;
+    Ok(())
+}
+
+/// The name of a class.
+#[tactic(auto, unfolding(crate::specs::Spelled::class_text))]
+fn class_text(class: Class) -> &'static str
+    ensures { result.now ≡ class_text class }
+{
+    match class {
+        Class::Container => "object.container",
+        Class::Track => "object.item.audioItem.musicTrack",
+    }
+}
+
+/// Puts the parent and the class of an added object.
+#[tactic(auto, unfolding(crate::specs::Spelled::added_text))]
+fn put_added(out: &mut String, parent: u32, class: Class) -> Result<(), Mem>
+    ensures { OnOk result (string_bytes out.new ≡ string_bytes out.old ++ added_text parent class) }
+{
+    put_number_attr(out, "objParentID", parent)?;
+    put_attr(out, "objClass", class_text(class))?;
+    Ok(())
+}
+
+/// Puts an addition.
+fn put_addition(
+    out: &mut String,
+    id: u32,
+    update: u32,
+    st: bool,
+    parent: u32,
+    class: Class,
+) -> Result<(), Mem>
+    ensures { OnOk result (string_bytes out.new ≡ string_bytes out.old ++ event_text (Event.ObjAdd id update st parent class)) }
+{
+    put(out, "<objAdd")?;
+    put_flagged(out, id, update, st)?;
+    put_added(out, parent, class)?;
+    put(out, "/>")?;
+    Ok(())
+}
+
+/// Puts a modification or a deletion, of which this is the name behind its `<`.
+fn put_flagged_event(
+    out: &mut String,
+    name: &str,
+    id: u32,
+    update: u32,
+    st: bool,
+) -> Result<(), Mem>
+    ensures { OnOk result (string_bytes out.new ≡ string_bytes out.old ++ (name.now ++ flagged_text id update st ++ codes "/>")) }
+{
+    put(out, name)?;
+    put_flagged(out, id, update, st)?;
+    put(out, "/>")?;
+    Ok(())
+}
+
+/// Puts the end of a subtree update.
+fn put_done(out: &mut String, id: u32, update: u32) -> Result<(), Mem>
+    ensures { OnOk result (string_bytes out.new ≡ string_bytes out.old ++ event_text (Event.StDone id update)) }
+{
+    put(out, "<stDone")?;
+    put_change(out, id, update)?;
+    put(out, "/>")?;
+    Ok(())
+}
+
+/// Puts an event. Its numbers have 32 bits.
+fn put_event(out: &mut String, event: Event) -> Result<(), Mem>
+    ensures puts { OnOk result (string_bytes out.new ≡ string_bytes out.old ++ event_text event) }
+    ensures numbered { IsNumbered event }
+{
+    match event {
+        Event::ObjAdd {
+            id,
+            update,
+            st,
+            parent,
+            class,
+        } => put_addition(out, id, update, st, parent, class),
+        Event::ObjMod { id, update, st } => put_flagged_event(out, "<objMod", id, update, st),
+        Event::ObjDel { id, update, st } => put_flagged_event(out, "<objDel", id, update, st),
+        Event::StDone { id, update } => put_done(out, id, update),
+    }
+}
+
+/// Puts all of it. The numbers of the events have 32 bits.
+fn put_events(out: &mut String, events: &[Event]) -> Result<(), Mem>
+    ensures puts { OnOk result (string_bytes out.new ≡ string_bytes out.old ++ spelled events.now) }
+    ensures numbered { OnOk result (AllByRecursion IsNumbered events.now) }
+{
+    put(
+        out,
+        "<StateEvent xmlns=\"urn:schemas-upnp-org:av:cds-event\">",
+    )?;
+    for event in events {
+        put_event(out, *event)?;
+    }
+    put(out, "</StateEvent>")?;
+    Ok(())
+}
+
+/// Adds the written form of these events, of which there is one. `Mem` leaves the bytes as they were.
+pub fn write_state_event(alloc: Global, events: &[Event], out: &mut Vec<u8>) -> Result<(), Mem>
+    ensures ok { OnOk result (out.new.items ≡ out.old.items ++ spelled events.now) }
+    ensures err { OnErr result (out.new.items ≡ out.old.items) }
+    ensures read_back { OnOk result (length (spelled events.now) ≤ most_bytes → IsStateEvent (spelled events.now) events.now) }
+{
+    let mut text = String::new(alloc);
+    put_events(&mut text, events)?;
+    out.extend_from_slice(text.as_bytes())?;
+    Ok(())
+}

@@ -1,0 +1,58 @@
+-- Bytes in pieces: a refusal of more bytes than may be stands whatever comes behind, and cutting changes no answer.
+use Rattle.std.proofs.Common.{◌≡◌, ◌≢◌, ℕ, ◌<◌, nat_lt, Bool, true, Option, Some, None, Result, Ok, Err, List, [], ◌∷◌, ◌++◌, length, refl, sym, ap, subst, ◌∙◌, arith, append_assoc, append-nil, length-append}
+use Rattle.std.proofs.lemmas.Bool.Decides.{nat_tests}
+use Rattle.std.proofs.lemmas.List.{take-append-le}
+use Rattle.cds_markup.specs.declared.error.MarkupError.{MarkupError}
+use Rattle.cds_markup.specs.declared.error.MarkupError.TheVariants.{Bad, TooDeep, TooLong, Failed, Mem}
+use Rattle.cds_markup.specs.Document.{Meaning, most_bytes}
+use Rattle.cds_markup.specs.Refusal.{IsRefused}
+use Rattle.cds_markup.specs.Course.{course_of, place, answer_of, ending_of, within_limit, is_cut, read_of}
+use Rattle.cds_markup.specs.Decided.{Decides}
+use Rattle.cds_markup.specs.Pieces.{IsRefusal, Gives, together}
+use Rattle.cds_markup.specs.Reader.{EveryCutting}
+use Rattle.cds_markup.proofs.Verdict.{decides-err, documents-are-read}
+
+-- past the limit nothing is read
+is-less : (m n : ℕ) → m < n → nat_lt m n ≡ true
+is-less m n h = grind (arith, nat_tests)
+
+cut-same : (m : ℕ) (bytes more : List ℕ) → m < length bytes → nat_lt m (length (bytes ++ more)) ≡ nat_lt m (length bytes)
+cut-same m bytes more h =
+    is-less m (length (bytes ++ more)) (omega (arith, h, length-append bytes more)) ∙ sym (is-less m (length bytes) h)
+
+abbrev read_so : List ℕ → Bool → Result (Unit {0}) MarkupError
+read_so within cut = answer_of cut (place (length within) (course_of within).left) (ending_of (course_of within).stop)
+
+read-same : (bytes more : List ℕ) → most_bytes < length bytes → read_of (bytes ++ more) ≡ read_of bytes
+read-same bytes more h =
+    ap (λ w. read_so w (is_cut (bytes ++ more))) (take-append-le most_bytes bytes more (omega (arith, h)))
+    ∙ ap (read_so (within_limit bytes)) (cut-same most_bytes bytes more h)
+
+refused-of : (bytes : List ℕ) (r : MarkupError) → r ≢ Mem → Decides bytes (Err r) → IsRefused bytes r
+refused-of bytes Mem differs d = absurd (differs refl)
+refused-of bytes (Bad at) differs d = d.0
+refused-of bytes (TooDeep at) differs d = d.0
+refused-of bytes TooLong differs d = d.0
+refused-of bytes Failed differs d = d.0
+
+pub stands : (bytes more : List ℕ) (r : MarkupError) → most_bytes < length bytes → r ≢ Mem → Decides bytes (Err r) → Decides (bytes ++ more) (Err r)
+stands bytes more r h differs d =
+    decides-err (bytes ++ more) r (read-same bytes more h ∙ (documents-are-read bytes).refused r (refused-of bytes r differs d) differs)
+
+pub past_limit : (bytes : List ℕ) (r : MarkupError) → most_bytes < length bytes → Decides bytes (Err r) → r ≢ Mem → IsRefusal Decides Mem bytes r
+past_limit bytes r h d differs = record { over = h; other = differs; stands = λ more. stands bytes more r h differs d }
+
+-- every cutting
+cut-so : (bytes : List ℕ) (pieces : List (List ℕ)) (result : Result Meaning MarkupError) → Gives Decides Failed Mem (Some bytes) pieces result → Decides (bytes ++ together pieces) result
+cut-so bytes [] result g = subst (λ (b : List ℕ). Decides b result) (sym (append-nil bytes)) g
+cut-so bytes (piece ∷ more) result (Ok done, now, t, g) =
+    subst (λ (b : List ℕ). Decides b result) (append_assoc bytes piece (together more))
+    (cut-so (bytes ++ piece) more result (subst (λ (s : Option (List ℕ)). Gives Decides Failed Mem s more result) t.1 g))
+cut-so bytes (piece ∷ more) result (Err e, Some kept, t, g) =
+    subst (λ (r : Result Meaning MarkupError). Decides (bytes ++ (piece ++ together more)) r) (sym (g ∙ ap Err t.0)) tt
+cut-so bytes (piece ∷ more) result (Err e, None, t, g) =
+    subst (λ (r : Result Meaning MarkupError). Decides (bytes ++ (piece ++ together more)) r) (sym g)
+    (subst (λ (b : List ℕ). Decides b (Err e)) (append_assoc bytes piece (together more)) (t.stands (together more)))
+
+pub every-cutting : EveryCutting
+every-cutting pieces result g = cut-so [] pieces result g

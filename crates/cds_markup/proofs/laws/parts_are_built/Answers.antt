@@ -1,0 +1,5 @@
+use Rattle.cds_markup.proofs.Verdict.{parts-are-built}
+use Rattle.cds_markup.proofs.laws.parts_are_built.Goals as goal
+
+pub returns : goal.returns
+returns c = parts-are-built

@@ -1,0 +1,5 @@
+use Rattle.cds_markup.proofs.AllGiven.{parts-are-given}
+use Rattle.cds_markup.proofs.laws.parts_are_given.Goals as goal
+
+pub returns : goal.returns
+returns c = parts-are-given

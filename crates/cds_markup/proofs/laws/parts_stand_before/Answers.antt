@@ -1,0 +1,5 @@
+use Rattle.cds_markup.proofs.Fronts.{parts-stand-before}
+use Rattle.cds_markup.proofs.laws.parts_stand_before.Goals as goal
+
+pub returns : goal.returns
+returns c = parts-stand-before

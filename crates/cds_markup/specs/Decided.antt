@@ -1,0 +1,26 @@
+-- What reading a document decides.
+use Rattle.std.specs.Prelude.{◌≡◌, ◌≢◌, ℕ, Result, Ok, Err, List, ⊤}
+use Rattle.cds_markup.specs.declared.error.MarkupError.{MarkupError}
+use Rattle.cds_markup.specs.declared.error.MarkupError.TheVariants.{Mem}
+use Rattle.cds_markup.specs.Document.{Meaning, Doc}
+use Rattle.cds_markup.specs.Refusal.{IsRefused}
+use Rattle.cds_markup.specs.Building.{built, nothing_yet, built_as}
+use Rattle.cds_markup.specs.Course.{parts_of}
+use Rattle.cds_markup.specs.Parts.{DocumentParts}
+
+-- An answer to bytes: the one element that they are a document of, or the one refusal that stands against them. Want of
+-- memory says nothing of them.
+abbrev pub Decides : List ℕ → Result Meaning MarkupError → Type 0
+Decides bytes (Ok element) = Doc bytes element × ((other : Meaning) → Doc bytes other → other ≡ element)
+Decides bytes (Err Mem) = ⊤
+Decides bytes (Err r) =
+    IsRefused bytes r × ((other : MarkupError) → IsRefused bytes other → other ≢ Mem → other ≡ r)
+    × ((element : Meaning) → Doc bytes element → ⊥)
+
+-- What is built of a document's parts is its element.
+abbrev pub PartsAreBuilt : Type 0
+PartsAreBuilt = (bytes : List ℕ) (element : Meaning) → Doc bytes element → built nothing_yet (parts_of bytes) ≡ built_as element
+
+-- The parts that reading a document gives are its parts, each at its place.
+abbrev pub PartsAreTold : Type 0
+PartsAreTold = (bytes : List ℕ) (element : Meaning) → Doc bytes element → DocumentParts bytes (parts_of bytes)

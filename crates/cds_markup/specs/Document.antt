@@ -1,0 +1,99 @@
+-- What a document means: the element that its bytes are (XML 1.0, Namespaces in XML).
+use Rattle.std.specs.Prelude.{◌≡◌, ◌==◌, ℕ, suc, ◌≤◌, if◌then◌else◌, Option, Some, None, List, [], ◌∷◌, ◌++◌, length, map, max, encode_utf8}
+use Rattle.cds_markup.specs.declared.name.Name.{Name}
+use Rattle.cds_markup.specs.declared.name.Attr.{Attr}
+use Rattle.cds_markup.specs.declared.tag.Declaration.{Declaration}
+use Rattle.cds_markup.specs.Grammar.{Leaf, Text, Reference, Section, Comment, Tree, Bare, Full, Content, Nothing, LeafThen, TreeThen, IsDocument}
+use Rattle.cds_markup.specs.Namespaces.{declarations, tag_says, is_empty}
+
+-- An element with its children in order: texts and elements.
+mutual
+  pub data Meaning : Type 0 where
+    Element : Name → List Attr → Meanings → Meaning
+
+  pub data Meanings : Type 0 where
+    End : Meanings
+    TextThen : List ℕ → Meanings → Meanings
+    ChildThen : Meaning → Meanings → Meanings
+
+-- The bytes without a line feed that begins them.
+abbrev pub without_feed : List ℕ → List ℕ
+without_feed [] = []
+without_feed (b ∷ rest) = if b == 10 then rest else b ∷ rest
+
+-- A carriage return and a line feed, and a lone carriage return, are one line feed each (XML 1.0 on line ends): the
+-- line feed right behind a carriage return is left out, and each carriage return is a line feed.
+abbrev pub return_before : ℕ → List ℕ → List ℕ
+return_before b rest = if b == 13 then b ∷ without_feed rest else b ∷ rest
+
+abbrev pub lone_returns : List ℕ → List ℕ
+lone_returns [] = []
+lone_returns (b ∷ rest) = return_before b (lone_returns rest)
+
+abbrev pub line_ends : List ℕ → List ℕ
+line_ends text = map (λ b. if b == 13 then 10 else b) (lone_returns text)
+
+-- What a leaf says. A comment says nothing.
+abbrev pub leaf_says : Leaf → List ℕ
+leaf_says (Text text) = line_ends text
+leaf_says (Reference c) = encode_utf8 c
+leaf_says (Section text) = line_ends text
+leaf_says Comment = []
+
+-- A text before other children: an empty one is no child, and neighbouring ones are one.
+abbrev pub joined : List ℕ → Meanings → Meanings
+joined text (TextThen more children) = TextThen (text ++ more) children
+joined text children = if is_empty text then children else TextThen text children
+
+-- The meaning of an element within scopes, where all its start tags keep the rules.
+abbrev pub and_joined : List ℕ → Option Meanings → Option Meanings
+and_joined text None = None
+and_joined text (Some children) = Some (joined text children)
+
+abbrev pub and_children : Option Meaning → Option Meanings → Option Meanings
+and_children None children = None
+and_children (Some child) None = None
+and_children (Some child) (Some children) = Some (ChildThen child children)
+
+abbrev pub of_tag : Option (Name × List Attr) → Option Meanings → Option Meaning
+of_tag None children = None
+of_tag (Some said) None = None
+of_tag (Some said) (Some children) = Some (Element said.0 said.1 children)
+
+abbrev mutual
+  pub meaning : Tree → List (List Declaration) → Option Meaning
+  meaning (Bare t) scopes = of_tag (tag_says scopes t) (Some End)
+  meaning (Full t content) scopes = of_tag (tag_says scopes t) (meanings content (declarations t.attrs ∷ scopes))
+
+  pub meanings : Content → List (List Declaration) → Option Meanings
+  meanings Nothing scopes = Some End
+  meanings (LeafThen leaf more) scopes = and_joined (leaf_says leaf) (meanings more scopes)
+  meanings (TreeThen tree more) scopes = and_children (meaning tree scopes) (meanings more scopes)
+
+-- How many elements are open at most at one place of it.
+abbrev mutual
+  pub depth : Tree → ℕ
+  depth (Bare t) = 1
+  depth (Full t content) = suc (depths content)
+
+  pub depths : Content → ℕ
+  depths Nothing = 0
+  depths (LeafThen leaf more) = depths more
+  depths (TreeThen tree more) = max (depth tree) (depths more)
+
+-- The most elements that may be open, and the most bytes that a document may have: this project's profile.
+abbrev pub most_open : ℕ
+most_open = 16
+
+abbrev pub most_bytes : ℕ
+most_bytes = 67108864
+
+-- The bytes are a document with this root as it is written, and this element is what it means.
+pub record DocOf (bytes : List ℕ) (root : Tree) (element : Meaning) : Type 0 where
+  pub document : IsDocument bytes root
+  pub means : meaning root [] ≡ Some element
+  pub within : depth root ≤ most_open
+  pub short : length bytes ≤ most_bytes
+
+abbrev pub Doc : List ℕ → Meaning → Type 0
+Doc bytes element = (root : Tree) × DocOf bytes root element

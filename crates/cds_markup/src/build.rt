@@ -1,0 +1,136 @@
+ghost use Rattle.std.specs.Prelude.{◌≡◌, IfOk, IsSome, Some};
+ghost use Rattle.cds_markup.specs.Building.{state_of, flushed, opened, closed, with_text, with_part, built, nothing_yet, first_element};
+
+use crate::{Attrs, Element, Name, Node, Nodes, Part, Parts};
+use cds_base::{Mem, Text};
+use std::alloc::Global;
+
+/// An element that is open.
+#[derive(Drop, Debug)]
+pub struct Frame {
+    /// Its name.
+    pub name: Name,
+    /// Its attributes.
+    pub attrs: Attrs,
+    /// What stands before it in the element around it.
+    pub before: Nodes,
+}
+
+/// What the parts so far say.
+#[derive(Drop, Debug)]
+pub struct Builder {
+    /// The elements that are open, the innermost first; at most sixteen.
+    pub frames: Vec<Frame>,
+    /// What stands in the innermost so far.
+    pub nodes: Nodes,
+    /// A text behind it that may go on.
+    pub text: String,
+}
+
+impl Builder {
+    /// Nothing yet.
+    pub fn new(alloc: Global) -> Self
+        ensures { state_of result ≡ nothing_yet }
+    {
+        Builder {
+            frames: Vec::new(alloc),
+            nodes: Nodes::new(alloc),
+            text: String::new(alloc),
+        }
+    }
+
+    /// Adds the text to the nodes, where there is one.
+    fn flush(&mut self, alloc: Global) -> Result<(), Mem>
+        ensures { IfOk result (λ done. state_of self.new ≡ flushed (state_of self.old)) }
+    {
+        if self.text.is_empty() {
+            return Ok(());
+        }
+        let text = std::mem::replace(&mut self.text, String::new(alloc));
+        self.nodes.push(Node::Text(Text::from(text)))
+    }
+
+    /// A start tag, where no text is left.
+    fn open(&mut self, alloc: Global, name: Name, attrs: Attrs) -> Result<(), Mem>
+        ensures { IfOk result (λ done. state_of self.new ≡ opened name attrs (flushed (state_of self.old))) }
+    {
+        self.flush(alloc)?;
+        let before = std::mem::replace(&mut self.nodes, Nodes::new(alloc));
+        let frame = Frame {
+            name,
+            attrs,
+            before,
+        };
+        if self.frames.insert(0, frame).is_err() {
+            return Err(Mem);
+        }
+        Ok(())
+    }
+
+    /// The end of the innermost element.
+    fn close(&mut self, alloc: Global) -> Result<(), Mem>
+        ensures { IfOk result (λ done. state_of self.new ≡ closed (flushed (state_of self.old))) }
+    {
+        self.flush(alloc)?;
+        if self.frames.is_empty() {
+            return Ok(());
+        }
+        let frame = self.frames.remove(0);
+        let children = std::mem::replace(&mut self.nodes, frame.before);
+        let element = Element {
+            name: frame.name,
+            attrs: frame.attrs,
+            children,
+        };
+        self.nodes.push(Node::Child(element))
+    }
+
+    /// A run of text.
+    fn run(&mut self, text: Text) -> Result<(), Mem>
+        ensures { IfOk result (λ done. state_of self.new ≡ with_text text (state_of self.old)) }
+    {
+        self.text.push_str(text.as_str())?;
+        Ok(())
+    }
+
+    /// The next part.
+    fn part(&mut self, alloc: Global, part: Part) -> Result<(), Mem>
+        ensures { IfOk result (λ done. state_of self.new ≡ with_part (state_of self.old) part) }
+    {
+        match part {
+            Part::Start { name, attrs, .. } => self.open(alloc, name, attrs),
+            Part::End { .. } => self.close(alloc),
+            Part::Run { text, .. } => self.run(text),
+        }
+    }
+
+    /// The first node, where it is an element.
+    pub fn into_element(self) -> Option<Element>
+        ensures { result ≡ first_element self.nodes }
+    {
+        self.nodes.into_first()
+    }
+}
+
+/// What these parts say.
+fn build(alloc: Global, parts: Parts) -> Result<Builder, Mem>
+    ensures { IfOk result (λ b. state_of b ≡ built nothing_yet parts) }
+{
+    let mut builder = Builder::new(alloc);
+    for part in parts.into_vec() {
+        builder.part(alloc, part)?;
+    }
+    Ok(builder)
+}
+
+/// The element that these parts are those of.
+pub fn element_of(alloc: Global, parts: Parts) -> Result<Element, Mem>
+    requires { IsSome (first_element (built nothing_yet parts).nodes) }
+    ensures { IfOk result (λ element. first_element (built nothing_yet parts).nodes ≡ Some element) }
+{
+    let builder = build(alloc, parts)?;
+    match builder.into_element() {
+        Some(element) => Ok(element),
+        None => unreachable!(),
+    }
+}

@@ -1,0 +1,71 @@
+ghost use Rattle.cds_markup.specs.declared.error.MarkupError.TheVariants.{Mem};
+ghost use Rattle.cds_markup.specs.declared.error.Stop.TheVariants.{Mem as OutOfMemory};
+ghost use Rattle.std.specs.Prelude.{◌≡◌};
+
+use std::alloc::AllocError;
+use thiserror::Error;
+
+/// Why bytes were not read as a document. Places are bytes from the start of the input, from 0.
+#[derive(Clone, Copy, Debug, PartialEq, Eq, Error)]
+pub enum MarkupError {
+    /// The byte at this place cannot stand there, or the input ends there and is no document, or the `>` or `/` there
+    /// ends a start tag that breaks a rule.
+    #[error("no document: it breaks at {at}")]
+    Bad { at: usize },
+    /// The first byte of a start tag's name where 16 elements are open.
+    #[error("too many open elements at {at}")]
+    TooDeep { at: usize },
+    /// More than 67,108,864 bytes.
+    #[error("the document is too long")]
+    TooLong,
+    /// This reader refused before.
+    #[error("the reader refused before")]
+    Failed,
+    #[error("out of memory")]
+    Mem,
+}
+
+impl From<cds_base::Mem> for MarkupError {
+    ghost from_gives = { λ _ e. e ≡ Mem };
+
+    fn from(_e: cds_base::Mem) -> Self {
+        MarkupError::Mem
+    }
+}
+
+impl From<AllocError> for MarkupError {
+    ghost from_gives = { λ _ e. e ≡ Mem };
+
+    fn from(_e: AllocError) -> Self {
+        MarkupError::Mem
+    }
+}
+
+/// Why reading stopped at the bytes that are left.
+#[derive(Clone, Copy, Debug, PartialEq, Eq)]
+pub enum Stop {
+    /// The next byte cannot stand there, or the input ended.
+    Broken,
+    /// The next byte ends a start tag that breaks a rule.
+    Unruly,
+    /// The next byte is the first of a start tag's name where 16 elements are open.
+    Deep,
+    /// Out of memory.
+    Mem,
+}
+
+impl From<cds_base::Mem> for Stop {
+    ghost from_gives = { λ _ e. e ≡ OutOfMemory };
+
+    fn from(_e: cds_base::Mem) -> Self {
+        Stop::Mem
+    }
+}
+
+impl From<AllocError> for Stop {
+    ghost from_gives = { λ _ e. e ≡ OutOfMemory };
+
+    fn from(_e: AllocError) -> Self {
+        Stop::Mem
+    }
+}

@@ -1,0 +1,127 @@
+ghost use Rattle.std.specs.Prelude.{◌≡◌, ◌++◌, length, List, ℕ, OnErr, OnOk, []};
+ghost use Rattle.cds_markup.specs.Document.{most_bytes};
+ghost use Rattle.cds_markup.specs.Course.{answer_of};
+ghost use Rattle.cds_markup.specs.Agree.{Parted, Reads};
+ghost use Rattle.cds_markup.specs.Decided.{Decides};
+ghost use Rattle.cds_markup.specs.Found.{Tells};
+
+use crate::build::element_of;
+use crate::error::Stop;
+use crate::parser::Parser;
+use crate::walk::{Walk, front};
+use crate::{Element, MarkupError, Parts};
+use cds_base::Mem;
+use std::alloc::Global;
+
+/// The most bytes that a document may have.
+pub fn byte_limit() -> usize
+    ensures { result ≡ most_bytes }
+{
+    67_108_864
+}
+
+/// Adds the parts of a document, in the order of the bytes: all of them, or those that stand before the first fault. A
+/// start tag is given once the `>` or `/` that ends it stands, whatever follows a `/`; a literal text that a fault cuts
+/// is given as far as its whole characters go; a reference, a section or an end tag that a fault cuts is not given.
+/// `Bad` is the place of the first byte that cannot stand there, or where the input ends and is no document, or of the
+/// `>` or `/` that ends a start tag which breaks a rule of namespaces; `TooDeep` the first byte of a start tag's name
+/// where 16 elements are open; `TooLong` where more than 67,108,864 bytes came without a fault before. `Mem` leaves
+/// the parts as they were.
+pub fn read_parts(alloc: Global, bytes: &[u8], out: &mut Parts) -> Result<(), MarkupError>
+    ensures read { Parted bytes.now result out.old out.new }
+    ensures told { Tells bytes.now result out.old out.new }
+{
+    add_parts(alloc, bytes, out)
+}
+
+/// The same, said by the course of the reader.
+fn add_parts(alloc: Global, bytes: &[u8], out: &mut Parts) -> Result<(), MarkupError>
+    ensures { Parted bytes.now result out.old out.new }
+{
+    let mut found = Parts::new(alloc);
+    let answer = read_new(alloc, bytes, &mut found);
+    if let Err(MarkupError::Mem) = answer {
+        return Err(MarkupError::Mem);
+    }
+    if append(alloc, out, found).is_err() {
+        return Err(MarkupError::Mem);
+    }
+    answer
+}
+
+/// Reads a document: the element that the bytes are, or why they are none, as `read_parts` says.
+pub fn read_document(alloc: Global, bytes: &[u8]) -> Result<Element, MarkupError>
+    ensures { Decides bytes.now result }
+{
+    let mut parts = Parts::new(alloc);
+    let read = read_parts(alloc, bytes, &mut parts);
+    element_read(alloc, bytes, read, parts)
+}
+
+/// What to answer where reading the parts of these bytes answered so. The bytes are named for the contract alone.
+#[tactic(auto, using(crate::proofs::Verdict::parted_err))]
+fn element_read(
+    alloc: Global,
+    _bytes: &[u8],
+    read: Result<(), MarkupError>,
+    parts: Parts,
+) -> Result<Element, MarkupError>
+    requires { Parted _bytes.now read [] parts }
+    ensures { Decides _bytes.now result }
+{
+    match read {
+        Ok(()) => (),
+        Err(refusal) => return Err(refusal),
+    }
+    match element_of(alloc, parts) {
+        Ok(element) => Ok(element),
+        Err(_) => Err(MarkupError::Mem),
+    }
+}
+
+/// The same, for a list without parts, which `Mem` leaves with some.
+fn read_new(alloc: Global, bytes: &[u8], out: &mut Parts) -> Result<(), MarkupError>
+    requires { out.old ≡ [] }
+    ensures { Reads bytes.now result out.new }
+{
+    let limit = byte_limit();
+    let within = front(bytes, limit);
+    let mut walk = Walk {
+        parser: Parser::new(within),
+        total: within.len(),
+        opens: Vec::new(alloc),
+    };
+    let done = walk.document(alloc, out);
+    let at = walk.place();
+    answer(done, at, bytes.len() > limit)
+}
+
+/// What to answer where reading came to a place, and bytes past the limit were left out.
+fn answer(done: Result<(), Stop>, at: usize, cut: bool) -> Result<(), MarkupError>
+    ensures { result ≡ answer_of cut at done }
+{
+    let refusal = match done {
+        Err(Stop::Mem) => return Err(MarkupError::Mem),
+        Ok(()) if cut => return Err(MarkupError::TooLong),
+        Ok(()) => return Ok(()),
+        Err(Stop::Deep) => MarkupError::TooDeep { at },
+        Err(_) => MarkupError::Bad { at },
+    };
+    if cut && at >= byte_limit() {
+        return Err(MarkupError::TooLong);
+    }
+    Err(refusal)
+}
+
+/// Adds all these parts, or none.
+fn append(alloc: Global, out: &mut Parts, found: Parts) -> Result<(), Mem>
+    ensures ok { OnOk result (out.new ≡ out.old ++ found) }
+    ensures err { OnErr result (out.new ≡ out.old) }
+{
+    let mut all = std::mem::replace(out, Parts::new(alloc)).into_vec();
+    let mut more = found.into_vec();
+    let done = all.append(&mut more);
+    *out = Parts::from(all);
+    done?;
+    Ok(())
+}

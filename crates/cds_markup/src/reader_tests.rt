@@ -1,0 +1,191 @@
+use crate::{MarkupError, Node, Reader, read_document, write_document};
+use std::alloc::Global;
+use std::test::Fail;
+
+/// Why these bytes are no document, read one byte at a time; `None` for a document.
+fn refusal_by_bytes(alloc: Global, bytes: &[u8]) -> Option<MarkupError> {
+    let mut reader = match Reader::new(alloc) {
+        Ok(reader) => reader,
+        Err(_) => return Some(MarkupError::Mem),
+    };
+    for byte in bytes {
+        if let Err(refusal) = reader.feed(alloc, &[*byte]) {
+            return Some(refusal);
+        }
+    }
+    reader.finish(alloc).err()
+}
+
+/// The same at once and one byte at a time. `Failed` where the two differ.
+fn refusal(alloc: Global, bytes: &[u8]) -> Option<MarkupError> {
+    let whole = read_document(alloc, bytes).err();
+    if refusal_by_bytes(alloc, bytes) == whole {
+        whole
+    } else {
+        Some(MarkupError::Failed)
+    }
+}
+
+#[test]
+fn refusals_are_the_same_in_every_cutting(rt: HostRuntime) -> Result<(), Fail> {
+    let alloc = rt.alloc();
+    let deep: &[u8] = b"<a><a><a><a><a><a><a><a><a><a><a><a><a><a><a><a><a>";
+    let cases: [(&[u8], Option<MarkupError>); 7] = [
+        (b"<a><b></a>", Some(MarkupError::Bad { at: 8 })),
+        (deep, Some(MarkupError::TooDeep { at: 49 })),
+        (b"", Some(MarkupError::Bad { at: 0 })),
+        (b"\xEF\xBB\xBF", Some(MarkupError::Bad { at: 3 })),
+        (b"<a b='1' b='2'", Some(MarkupError::Bad { at: 14 })),
+        (b"<a b='1' b='2'/", Some(MarkupError::Bad { at: 14 })),
+        (b"<a>&#10;</a>\r\n", None),
+    ];
+    for (bytes, want) in cases {
+        let answer = refusal(alloc, bytes);
+        assert!(rt; answer == want, "{want:?}: {answer:?}");
+    }
+    Ok(())
+}
+
+/// Tries a byte behind so many first bytes of a document, for each number of them. A mark says what the grammar says of
+/// it: `x` that the byte cannot stand there, `.` that it can and that the input then ends too early, `=` that a document
+/// ends with it. Gives the number of first bytes where it is otherwise.
+fn otherwise(alloc: Global, document: &[u8], byte: u8, marks: &str) -> Result<Option<usize>, Fail> {
+    let mut bytes = Vec::new(alloc);
+    for (count, mark) in marks.as_bytes().iter().enumerate() {
+        bytes.push(byte)?;
+        let answer = refusal(alloc, bytes.as_slice());
+        let want = match *mark {
+            b'x' => Some(MarkupError::Bad { at: count }),
+            b'.' => Some(MarkupError::Bad { at: bytes.len() }),
+            _ => None,
+        };
+        if answer != want {
+            return Ok(Some(count));
+        }
+        bytes.pop();
+        if let Some(next) = document.get(count) {
+            bytes.push(*next)?;
+        }
+    }
+    Ok(None)
+}
+
+#[test]
+fn each_byte_has_its_place_behind_every_beginning(rt: HostRuntime) -> Result<(), Fail> {
+    let content: &[u8] = b"<a b=\"1\">c<!--d--><![CDATA[e]]>&lt;</a>";
+    let prolog: &[u8] = b"\xEF\xBB\xBF<?xml version='1.0' standalone=\"no\"?><x:a xmlns:x='u'/>";
+    let cases: [(&[u8], u8, &str); 9] = [
+        (content, b'<', ".xxxxxxxx..xxx...x.xxxxxxxx.....xxx.xxx."),
+        (content, b'>', "xx..xx.....xxx.....xxxxxxxx.....xxx.xx=x"),
+        (content, b' ', ".x.........xxx...x.xxxxxxxx.....xxx.xx.="),
+        (content, b'-', "xx.x.x..x..x.......x.xxxxxx.....xxx.xxxx"),
+        (content, b']', "xxxxxx..x..xxx...x.xxxxxxxx.....xxx.xxxx"),
+        (content, b'\x01', "xxxxxxxxxxxxxxxxxxxxxxxxxxxxxxxxxxxxxxxx"),
+        (
+            prolog,
+            b'\x01',
+            "xxxxxxxxxxxxxxxxxxxxxxxxxxxxxxxxxxxxxxxxxxxxxxxxxxxxxxxxxxx",
+        ),
+        (
+            prolog,
+            b'?',
+            "xxxx.xxxxxxxxxxxxxxxxx..xxxxxxxxxxxxxx.xxxxxxxxxxxxxxx..xxx",
+        ),
+        (
+            prolog,
+            b'\xC3',
+            "xxxx.xxxxxxxxxxxxxxxxxxxxxxxxxxxxxxxxxxxx............x..xxx",
+        ),
+    ];
+    for (document, byte, marks) in cases {
+        let place = otherwise(rt.alloc(), document, byte, marks)?;
+        assert!(rt; place.is_none(), "{byte} behind {place:?}");
+    }
+    Ok(())
+}
+
+/// So many blanks.
+fn blanks(alloc: Global, count: usize) -> Result<Vec<u8>, Fail> {
+    let all = vec![in alloc; b' '; count]?;
+    Ok(all)
+}
+
+#[test]
+fn an_early_fault_is_the_answer_past_the_limit(rt: HostRuntime) -> Result<(), Fail> {
+    let alloc = rt.alloc();
+    let blanks = blanks(alloc, 1_048_576)?;
+    let mut reader = Reader::new(alloc)?;
+    reader.feed(alloc, b"<a>&bad;")?;
+    for _ in 0..63 {
+        reader.feed(alloc, blanks.as_slice())?;
+    }
+    assert!(rt;
+        reader.feed(alloc, blanks.as_slice()) == Err(MarkupError::Bad { at: 4 }),
+        "past the limit"
+    );
+    assert!(rt;
+        reader.feed(alloc, b"") == Err(MarkupError::Failed),
+        "behind it"
+    );
+    assert!(rt;
+        reader.finish(alloc).err() == Some(MarkupError::Failed),
+        "at the end"
+    );
+    Ok(())
+}
+
+#[test]
+fn an_event_is_read_from_its_pieces(rt: HostRuntime) -> Result<(), Fail> {
+    let alloc = rt.alloc();
+    let bytes: &[u8] =
+        b"<StateEvent xmlns=\"urn:schemas-upnp-org:av:cds-event\"><objAdd objID=\"1\" updateID=\"1\" stUpdate=\"1\" objParentID=\"0\" objClass=\"object.container\"></objAdd><stDone objID=\"1\" updateID=\"2\"></stDone></StateEvent>";
+    let mut reader = Reader::new(alloc)?;
+    for byte in bytes {
+        reader.feed(alloc, &[*byte])?;
+    }
+    let element = reader.finish(alloc)?;
+    assert_eq!(rt; element.children.len(), 2);
+    let first = match element.children.get(0) {
+        Some(Node::Child(child)) => child.name.local.as_str(),
+        _ => "",
+    };
+    assert_eq!(rt; first, "objAdd");
+    let mut out = Vec::new(alloc);
+    write_document(&element, &mut out)?;
+    assert_eq!(rt; out.as_slice(), bytes);
+    Ok(())
+}
+
+/// A piece, once more where memory was refused.
+fn fed(reader: &mut Reader, alloc: Global, piece: &[u8]) -> Result<(), MarkupError> {
+    match reader.feed(alloc, piece) {
+        Err(MarkupError::Mem) => reader.feed(alloc, piece),
+        answer => answer,
+    }
+}
+
+/// Where one allocation fails, whichever it is, what is tried once more gives the same.
+#[test]
+fn one_refused_allocation_changes_no_answer(rt: HostRuntime) -> Result<(), Fail> {
+    let alloc = rt.alloc();
+    let bytes: &[u8] = b"<a xmlns='u' b='1&#10;2'>x<![CDATA[<]]>y<!-- z --><c d=\"e\"/>f</a>";
+    let mut reader = match Reader::new(alloc) {
+        Ok(reader) => reader,
+        Err(_) => Reader::new(alloc)?,
+    };
+    for byte in bytes {
+        fed(&mut reader, alloc, &[*byte])?;
+    }
+    let element = match reader.finish(alloc) {
+        Err(MarkupError::Mem) => read_document(alloc, bytes)?,
+        answer => answer?,
+    };
+    let mut out = Vec::new(alloc);
+    if write_document(&element, &mut out).is_err() {
+        assert!(rt; out.is_empty(), "as it was");
+        write_document(&element, &mut out)?;
+    }
+    let want: &[u8] = b"<a xmlns=\"u\" b=\"1&#10;2\">x&lt;y<c d=\"e\"></c>f</a>";
+    assert_eq!(rt; out.as_slice(), want);
+    Ok(())
+}

@@ -1,0 +1,272 @@
+ghost use Rattle.std.specs.Prelude.{◌≡◌, ◌∷◌, ◌++◌, length, List, ℕ, IfOk, IfNone};
+ghost use Rattle.std.specs.List.{list_all, list_any};
+ghost use Rattle.cds_markup.specs.Namespaces.{declares_default, declares_prefix, is_declaration, declaration, declarations, is_sound, declared, declared_in, space_of, element_name, attr_name, named_attrs, same_qname, same_name, no_attr_twice, no_name_twice, keeps_rules, tag_says};
+ghost use Rattle.cds_markup.specs.Course.{scopes_in};
+
+use crate::tag::{Declaration, Open, QName, Tag, TagAttr};
+use crate::{Attr, Attrs, Name};
+use cds_base::{Mem, Sequence, Text};
+use std::alloc::Global;
+
+/// The namespace of the prefix `xml` (Namespaces in XML).
+pub const XML_SPACE: &str = "http://www.w3.org/XML/1998/namespace";
+
+/// Whether the name is that of an attribute that declares the namespace of names without a prefix.
+fn declares_default(name: &QName) -> bool
+    ensures { result ≡ declares_default name.now }
+{
+    name.prefix.len() == 0 && name.local.as_str() == "xmlns"
+}
+
+/// Whether the name is that of an attribute that declares a prefix.
+fn declares_prefix(name: &QName) -> bool
+    ensures { result ≡ declares_prefix name.now }
+{
+    name.prefix.as_str() == "xmlns"
+}
+
+/// Whether the attribute declares a namespace.
+fn is_declaration(attr: &TagAttr) -> bool
+    ensures { result ≡ is_declaration attr.now }
+{
+    declares_default(&attr.name) || declares_prefix(&attr.name)
+}
+
+/// What the attribute declares.
+fn declaration(alloc: Global, attr: &TagAttr) -> Result<Declaration, Mem>
+    ensures { IfOk result (λ d. d ≡ declaration attr.now) }
+{
+    let prefix = if declares_default(&attr.name) {
+        Text::from(String::new(alloc))
+    } else {
+        attr.name.local.copy(alloc)?
+    };
+    let space = attr.value.copy(alloc)?;
+    Ok(Declaration { prefix, space })
+}
+
+/// What these attributes declare.
+pub fn declarations(alloc: Global, attrs: &[TagAttr]) -> Result<Sequence<Declaration>, Mem>
+    ensures { IfOk result (λ found. found ≡ declarations attrs.now) }
+{
+    let mut found = Sequence::new(alloc);
+    for attr in attrs {
+        if is_declaration(attr) {
+            let one = declaration(alloc, attr)?;
+            found.push(one)?;
+        }
+    }
+    Ok(found)
+}
+
+/// Whether the declaration may be made: neither of `xml` nor of `xmlns`, nor of a prefix as empty.
+fn is_sound(declared: &Declaration) -> bool
+    ensures { result ≡ is_sound declared.now }
+{
+    declared.prefix.as_str() != "xml"
+        && declared.prefix.as_str() != "xmlns"
+        && (declared.prefix.len() == 0 || declared.space.len() != 0)
+}
+
+/// Whether all these declarations may be made.
+fn are_sound(found: &[Declaration]) -> bool
+    ensures { result ≡ list_all is_sound found.now }
+{
+    found.iter().all(|d| is_sound(d))
+}
+
+/// Whether two names are written alike.
+fn same_qname(one: &QName, other: &QName) -> bool
+    ensures { result ≡ same_qname one.now other.now }
+{
+    one.prefix.as_str() == other.prefix.as_str() && one.local.as_str() == other.local.as_str()
+}
+
+/// Whether two names are the same.
+fn same_name(one: &Name, other: &Name) -> bool
+    ensures { result ≡ same_name one.now other.now }
+{
+    one.space.as_str() == other.space.as_str() && one.local.as_str() == other.local.as_str()
+}
+
+/// Whether an attribute is among these by its qualified name.
+fn has_qname(attr: &TagAttr, others: &[TagAttr]) -> bool
+    ensures { result ≡ list_any (λ b. same_qname attr.now.name b.name) others.now }
+{
+    others
+        .iter()
+        .any(|other| same_qname(&attr.name, &other.name))
+}
+
+/// Whether no qualified name comes twice.
+fn no_attr_twice(attrs: &[TagAttr]) -> bool
+    ensures { result ≡ no_attr_twice attrs.now }
+{
+    let mut left = attrs;
+    while let Some((first, rest)) = left.split_first() {
+        if has_qname(first, rest) {
+            return false;
+        }
+        left = rest;
+    }
+    true
+}
+
+/// Whether an attribute is among these by its name.
+fn has_name(attr: &Attr, others: &[Attr]) -> bool
+    ensures { result ≡ list_any (λ b. same_name attr.now.name b.name) others.now }
+{
+    others
+        .iter()
+        .any(|other| same_name(&attr.name, &other.name))
+}
+
+/// Whether no name comes twice.
+fn no_name_twice(attrs: &[Attr]) -> bool
+    ensures { result ≡ no_name_twice attrs.now }
+{
+    let mut left = attrs;
+    while let Some((first, rest)) = left.split_first() {
+        if has_name(first, rest) {
+            return false;
+        }
+        left = rest;
+    }
+    true
+}
+
+/// What these declarations say of a prefix.
+fn declared(alloc: Global, found: &[Declaration], prefix: &str) -> Result<Option<Text>, Mem>
+    ensures { IfOk result (λ space. space ≡ declared found.now prefix.now) }
+{
+    for one in found {
+        if one.prefix.as_str() == prefix {
+            let space = one.space.copy(alloc)?;
+            return Ok(Some(space));
+        }
+    }
+    Ok(None)
+}
+
+/// What the innermost open element that speaks of a prefix says of it.
+fn declared_in(alloc: Global, opens: &[Open], prefix: &str) -> Result<Option<Text>, Mem>
+    ensures { IfOk result (λ space. space ≡ declared_in (scopes_in opens.now) prefix.now) }
+{
+    for open in opens {
+        let found = declared(alloc, open.declared.as_slice(), prefix)?;
+        if found.is_some() {
+            return Ok(found);
+        }
+    }
+    Ok(None)
+}
+
+/// The namespace of a prefix, `None` where it is not declared.
+fn space_of(
+    alloc: Global,
+    opens: &[Open],
+    inner: &[Declaration],
+    prefix: &str,
+) -> Result<Option<Text>, Mem>
+    ensures { IfOk result (λ space. space ≡ space_of (inner.now ∷ scopes_in opens.now) prefix.now) }
+{
+    if prefix == "xml" {
+        let space = Text::read(alloc, XML_SPACE)?;
+        return Ok(Some(space));
+    }
+    let found = declared(alloc, inner, prefix)?;
+    if found.is_some() {
+        return Ok(found);
+    }
+    let found = declared_in(alloc, opens, prefix)?;
+    if found.is_some() {
+        return Ok(found);
+    }
+    if prefix.is_empty() {
+        Ok(Some(Text::from(String::new(alloc))))
+    } else {
+        Ok(None)
+    }
+}
+
+/// The name of an element, `None` where its prefix is not declared.
+fn element_name(
+    alloc: Global,
+    opens: &[Open],
+    inner: &[Declaration],
+    name: &QName,
+) -> Result<Option<Name>, Mem>
+    ensures { IfOk result (λ found. found ≡ element_name (inner.now ∷ scopes_in opens.now) name.now) }
+{
+    let Some(space) = space_of(alloc, opens, inner, name.prefix.as_str())? else {
+        return Ok(None);
+    };
+    let local = name.local.copy(alloc)?;
+    Ok(Some(Name { space, local }))
+}
+
+/// The name of an attribute, `None` where its prefix is not declared.
+fn attr_name(
+    alloc: Global,
+    opens: &[Open],
+    inner: &[Declaration],
+    name: &QName,
+) -> Result<Option<Name>, Mem>
+    ensures { IfOk result (λ found. found ≡ attr_name (inner.now ∷ scopes_in opens.now) name.now) }
+{
+    if name.prefix.len() != 0 {
+        return element_name(alloc, opens, inner, name);
+    }
+    let space = Text::from(String::new(alloc));
+    let local = name.local.copy(alloc)?;
+    Ok(Some(Name { space, local }))
+}
+
+/// The attributes without those that declare namespaces, `None` where a prefix is not declared.
+fn named_attrs(
+    alloc: Global,
+    opens: &[Open],
+    inner: &[Declaration],
+    attrs: &[TagAttr],
+) -> Result<Option<Attrs>, Mem>
+    ensures { IfOk result (λ found. found ≡ named_attrs (inner.now ∷ scopes_in opens.now) attrs.now) }
+{
+    let mut found = Attrs::new(alloc);
+    for attr in attrs {
+        if is_declaration(attr) {
+            continue;
+        }
+        let Some(name) = attr_name(alloc, opens, inner, &attr.name)? else {
+            return Ok(None);
+        };
+        let value = attr.value.copy(alloc)?;
+        found.push(Attr { name, value })?;
+    }
+    Ok(Some(found))
+}
+
+/// What a start tag says where these elements are open and it declares this: the element's name and its attributes.
+/// `None` where it breaks a rule (Namespaces in XML).
+pub fn tag_says(
+    alloc: Global,
+    opens: &[Open],
+    inner: &[Declaration],
+    tag: &Tag,
+) -> Result<Option<(Name, Attrs)>, Mem>
+    requires { inner.now ≡ declarations tag.now.attrs }
+    ensures { IfOk result (λ said. said ≡ tag_says (scopes_in opens.now) tag.now) }
+{
+    if !are_sound(inner) || !no_attr_twice(tag.attrs.as_slice()) {
+        return Ok(None);
+    }
+    let Some(name) = element_name(alloc, opens, inner, &tag.name)? else {
+        return Ok(None);
+    };
+    let Some(attrs) = named_attrs(alloc, opens, inner, tag.attrs.as_slice())? else {
+        return Ok(None);
+    };
+    if !no_name_twice(attrs.as_slice()) {
+        return Ok(None);
+    }
+    Ok(Some((name, attrs)))
+}

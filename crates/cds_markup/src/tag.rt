@@ -1,0 +1,46 @@
+use cds_base::{Sequence, Text};
+
+/// A qualified name as it is written (Namespaces in XML).
+#[derive(Drop, Debug)]
+pub struct QName {
+    /// The prefix, empty for none.
+    pub prefix: Text,
+    /// What stands behind it.
+    pub local: Text,
+}
+
+/// An attribute as a tag has it.
+#[derive(Drop, Debug)]
+pub struct TagAttr {
+    /// Its name.
+    pub name: QName,
+    /// What its value says.
+    pub value: Text,
+}
+
+/// What stands in a start tag.
+#[derive(Drop, Debug)]
+pub struct Tag {
+    /// The element's name.
+    pub name: QName,
+    /// Its attributes in order, those that declare namespaces too.
+    pub attrs: Sequence<TagAttr>,
+}
+
+/// A namespace that a tag declares.
+#[derive(Drop, Debug)]
+pub struct Declaration {
+    /// The prefix, empty for names without one.
+    pub prefix: Text,
+    /// The namespace, empty for none.
+    pub space: Text,
+}
+
+/// An element that is open.
+#[derive(Drop, Debug)]
+pub struct Open {
+    /// Its name, which its end tag repeats.
+    pub name: QName,
+    /// The namespaces that its tag declares.
+    pub declared: Sequence<Declaration>,
+}
