@@ -1,20 +1,25 @@
 -- Which words are a command's, and the texts of those that write one (this project's profile).
-use Rattle.std.specs.Prelude.{ℕ, cond, List, [], ◌∷◌, ◌++◌, Option, Some, None, codes}
+use Rattle.std.specs.Prelude.{◌≡◌, ◌⊎◌, ℕ, cond, List, [], ◌∷◌, ◌++◌, Option, Some, None, codes}
 use Rattle.cds_object.specs.Content.{same_text}
 use Rattle.cds_cli.specs.declared.command.Command.{Command}
-use Rattle.cds_cli.specs.declared.command.Command.TheVariants.{Replay, Help, Version}
+use Rattle.cds_cli.specs.declared.command.Command.TheVariants.{Replay, Check, Help, Version}
 
 abbrev pub command_named : List ℕ → Option Command
 command_named word =
     cond (same_text word (codes "replay")) (Some Replay)
+    (cond (same_text word (codes "check")) (Some Check)
     (cond (same_text word (codes "--help")) (Some Help)
-    (cond (same_text word (codes "--version")) (Some Version) None))
+    (cond (same_text word (codes "--version")) (Some Version) None)))
 
 -- a command is one word alone
 abbrev pub command_of : List (List ℕ) → Option Command
 command_of [] = None
 command_of (word ∷ []) = command_named word
 command_of (word ∷ next ∷ words) = None
+
+-- the commands that take what the source gives
+abbrev pub TakesInput : Option Command → Type 0
+TakesInput command = (command ≡ Some Replay) ⊎ (command ≡ Some Check)
 
 -- what is written where the words are no command's
 abbrev pub usage_text : List ℕ
@@ -30,6 +35,7 @@ help_text =
     codes "usage: cds COMMAND\n\n"
     ++ codes "Commands:\n"
     ++ codes "  replay     play the script on standard input and write its report\n"
+    ++ codes "  check      read a StateEvent on standard input and write its one written form\n"
     ++ codes "  --help     write this page\n"
     ++ codes "  --version  write the version\n\n"
     ++ codes "Exit status:\n"
@@ -39,4 +45,5 @@ help_text =
     ++ codes "  3  standard output could not be written\n"
     ++ codes "  4  memory ran out\n"
     ++ codes "  5  the words are no command\n"
-    ++ codes "  6  the script or a line of it is too long\n"
+    ++ codes "  6  the input, or a line of a script, is too long\n"
+    ++ codes "  8  the input of check is no StateEvent\n"

@@ -11,6 +11,8 @@ use cds_base::Text;
 pub enum Command {
     /// Plays the script on standard input and writes its report.
     Replay,
+    /// Reads the StateEvent on standard input and writes its one written form.
+    Check,
     /// Writes a page on the commands and the exit statuses.
     Help,
     /// Writes the version.
@@ -33,6 +35,8 @@ fn named(word: &Text) -> Option<Command>
 {
     if is_text(word, "replay") {
         Some(Command::Replay)
+    } else if is_text(word, "check") {
+        Some(Command::Check)
     } else if is_text(word, "--help") {
         Some(Command::Help)
     } else if is_text(word, "--version") {

@@ -1,6 +1,9 @@
-//! `cds`: a ContentDirectory:4 server and its replica, played from scripts.
+//! `cds`: a ContentDirectory:4 server and its replica, played from scripts, and the reader of StateEvents.
 #![tactic(auto)]
 
+#[cfg(test)]
+mod check_tests;
+mod checking;
 mod command;
 #[cfg(test)]
 mod notes_tests;
@@ -8,6 +11,7 @@ mod run;
 mod streams;
 #[cfg(test)]
 mod tests;
+mod written;
 
 use cds_base::{Mem, Text, Words};
 use run::run;

@@ -7,12 +7,15 @@ ghost use Rattle.cds_script.specs.LoadBounds.{BoundsLoads};
 ghost use Rattle.cds_script.specs.Played.{script_turns, script_stop, report_of, IsReportOf};
 ghost use Rattle.cds_script.specs.Report.{script_ending};
 ghost use Rattle.cds_script.specs.ScriptGiven.{StandsAtScanEnds};
-ghost use Rattle.cds_cli.specs.Command.{command_of, help_text, version_text, usage_text};
+ghost use Rattle.cds_cli.specs.Check.{EndsCheck, WritesCheck};
+ghost use Rattle.cds_cli.specs.Command.{command_of, TakesInput, help_text, version_text, usage_text};
 ghost use Rattle.cds_cli.specs.Run.{Ends, Writes, EndsText, WritesText};
-ghost use Rattle.cds_cli.specs.declared.command.Command.TheVariants.{Replay, Help, Version};
+ghost use Rattle.cds_cli.specs.declared.command.Command.TheVariants.{Replay, Check, Help, Version};
 
+use crate::checking::check;
 use crate::command::{Command, read_command};
-use cds_base::{Sink, Source, Words, write_all};
+use crate::written::write_text;
+use cds_base::{Sink, Source, Words};
 use cds_replay::{ReplayError, replay};
 use std::alloc::Global;
 
@@ -27,6 +30,7 @@ pub const HELP: &str = "usage: cds COMMAND
 
 Commands:
   replay     play the script on standard input and write its report
+  check      read a StateEvent on standard input and write its one written form
   --help     write this page
   --version  write the version
 
@@ -37,21 +41,9 @@ Exit status:
   3  standard output could not be written
   4  memory ran out
   5  the words are no command
-  6  the script or a line of it is too long
+  6  the input, or a line of a script, is too long
+  8  the input of check is no StateEvent
 ";
-
-/// Writes a text, and answers the status, or 3 where it could not be written.
-fn write_text<K: Sink>(sink: &mut K, text: &str, status: u8) -> u8
-    requires { status ≢ 3 }
-    ensures ends { EndsText result status }
-    ensures writes { WhereTold (K.holds sink.old) (λ before. WritesText result text.now before (K.holds sink.new)) }
-    ensures write_fault { result ≡ 3 → Rose (K.faults sink.old) (K.faults sink.new) }
-{
-    match write_all(sink, text.as_bytes()) {
-        Ok(()) => status,
-        Err(_) => 3,
-    }
-}
 
 /// Plays the script on the source.
 fn play<S: Source, K: Sink>(alloc: Global, source: &mut S, sink: &mut K) -> u8
@@ -82,20 +74,23 @@ fn play<S: Source, K: Sink>(alloc: Global, source: &mut S, sink: &mut K) -> u8
 /// Runs the program on the words after its name, and answers its exit status.
 ///
 /// `replay` plays the script on the source and writes its report to the sink (status 0, or 1 where a line is outside the
-/// grammar, or 6 where the script or a line of it is too long). `--help` and `--version`, each alone, write their text
-/// (status 0). Other words are no command's: the usage is written (status 5). A source that could not be read is status 2,
+/// grammar, or 6 where the script or a line of it is too long). `check` reads the StateEvent on the source and writes its
+/// one written form and LF (status 0), or `refused AT` with the place of the first fault, in bytes from 0 (8), or `error
+/// limit` where it has more than 67,108,864 bytes (6). `--help` and `--version`, each alone, write their text (status 0).
+/// Other words are no command's: the usage is written (status 5). A source that could not be read is status 2,
 /// a sink that could not be written 3, and 4 is that memory ran out.
 pub fn run<S: Source, K: Sink>(alloc: Global, words: &Words, source: &mut S, sink: &mut K) -> u8
     // What was written is exactly the report of the script, up to its end, its broken line or its limit.
     ensures report { command_of words.now ≡ Some Replay → WhereTold (S.left source.old) (λ bytes. WhereTold (K.holds sink.old) (λ before. Writes result (script_ending bytes).text before (K.holds sink.new))) }
     ensures status { command_of words.now ≡ Some Replay → WhereTold (S.left source.old) (λ bytes. Ends result (script_ending bytes).status) }
-    ensures read_to_its_end { command_of words.now ≡ Some Replay → WhereTold (S.left source.old) (λ bytes. result ≡ 0 → S.left source.new ≡ Some []) }
+    ensures read_to_its_end { TakesInput (command_of words.now) → WhereTold (S.left source.old) (λ bytes. result ≡ 0 → S.left source.new ≡ Some []) }
 
-    // The script's limit, by the number of bytes that the source moved: however the program ends, it took at most one byte
-    // more than a script may have.
-    ensures within_limit { command_of words.now ≡ Some Replay → result ≡ 0 → S.moved source.new ≤ raised (S.moved source.old) 67108864 }
+    // The limit of an input, by the number of bytes that the source moved: however the program ends, it took at most one byte
+    // more than an input may have.
+    ensures within_limit { TakesInput (command_of words.now) → result ≡ 0 → S.moved source.new ≤ raised (S.moved source.old) 67108864 }
     ensures taken { S.moved source.new ≤ S.moved source.old + 67108865 }
     ensures past_limit { result ≡ 6 → raised (S.moved source.old) 4097 ≤ S.moved source.new }
+    ensures past_check_limit { command_of words.now ≡ Some Check → result ≡ 6 → raised (S.moved source.old) 67108865 ≤ S.moved source.new }
 
     // What was written is what the script's turns write, one after the other, and then its last line. Each ask of these
     // turns that writes `behind load` comes before any load was begun, or after fewer reads than a load of the catalog takes,
@@ -109,9 +104,13 @@ pub fn run<S: Source, K: Sink>(alloc: Global, words: &Words, source: &mut S, sin
 
     // The answer is complete: an ask of these turns writes the server's number and the catalog after all scans where a load
     // was begun, the subscription that was accepted last lives, each note that was sent to it was delivered and none of them
-    // answered `full`, no change waits for its release, and a read wrote `read none` since the last load, acceptance and
-    // delivery.
+    // answered `full`, no change waits for its release, and a read wrote `read none` since the last load, acceptance and delivery.
     ensures complete { command_of words.now ≡ Some Replay → WhereTold (S.left source.old) (λ bytes. AnswersAreComplete (script_turns bytes)) }
+
+    // What `check` wrote is the one written form of the events that the input is and LF, where it is a StateEvent; else the place
+    // of its first fault, or that it is too long.
+    ensures check { command_of words.now ≡ Some Check → WhereTold (S.left source.old) (λ bytes. WhereTold (K.holds sink.old) (λ before. WritesCheck bytes result before (K.holds sink.new))) }
+    ensures check_status { command_of words.now ≡ Some Check → WhereTold (S.left source.old) (λ bytes. EndsCheck bytes result) }
 
     // Faults of the outside come only where their count rose.
     ensures read_fault { result ≡ 2 → Rose (S.faults source.old) (S.faults source.new) }
@@ -121,17 +120,20 @@ pub fn run<S: Source, K: Sink>(alloc: Global, words: &Words, source: &mut S, sin
     ensures help { command_of words.now ≡ Some Help → EndsText result 0 × WhereTold (K.holds sink.old) (λ before. WritesText result help_text before (K.holds sink.new)) }
     ensures version { command_of words.now ≡ Some Version → EndsText result 0 × WhereTold (K.holds sink.old) (λ before. WritesText result version_text before (K.holds sink.new)) }
     ensures usage { command_of words.now ≡ None → EndsText result 5 × WhereTold (K.holds sink.old) (λ before. WritesText result usage_text before (K.holds sink.new)) }
-    ensures untouched { (command_of words.now ≡ Some Replay → ⊥) → source.new ≡ source.old }
+    ensures untouched { (TakesInput (command_of words.now) → ⊥) → source.new ≡ source.old }
 
     // No other status comes.
     ensures only_usage { result ≡ 5 → command_of words.now ≡ None }
-    ensures only_replay { (result ≡ 1) ⊎ ((result ≡ 2) ⊎ ((result ≡ 4) ⊎ (result ≡ 6))) → command_of words.now ≡ Some Replay }
-    ensures known { result ≤ 6 }
+    ensures only_replay { result ≡ 1 → command_of words.now ≡ Some Replay }
+    ensures only_check { result ≡ 8 → command_of words.now ≡ Some Check }
+    ensures only_input { (result ≡ 2) ⊎ ((result ≡ 4) ⊎ (result ≡ 6)) → TakesInput (command_of words.now) }
+    ensures known { (result ≤ 6) ⊎ (result ≡ 8) }
 {
     match read_command(words.as_slice()) {
         Some(Command::Replay) => play(alloc, source, sink),
-        Some(Command::Help) => write_text(sink, HELP, 0),
-        Some(Command::Version) => write_text(sink, VERSION, 0),
-        None => write_text(sink, USAGE, 5),
+        Some(Command::Check) => check(alloc, source, sink),
+        Some(Command::Help) => write_text(sink, HELP.as_bytes(), 0),
+        Some(Command::Version) => write_text(sink, VERSION.as_bytes(), 0),
+        None => write_text(sink, USAGE.as_bytes(), 5),
     }
 }
