@@ -1,14 +1,16 @@
 -- How a reader of StateEvents is fed piece by piece.
-use Rattle.std.proofs.Common.{◌≡◌, ℕ, ◌+◌, ◌-◌, ◌<◌, ◌≤◌, ◌^◌, min, List, [], ◌++◌, length, take, drop, Option, Some, None, Result, Ok, Err, IsSome, ap, sym, subst, true≢false, ◌∙◌, append_assoc, length-append, arith, ◌⊎◌, inl, inr}
+use Rattle.std.proofs.Common.{◌≡◌, ℕ, ◌+◌, ◌-◌, ◌<◌, ◌≤◌, ◌^◌, min, List, [], ◌++◌, length, take, drop, Option, Some, None, Result, Ok, Err, IsSome, Bool, true, false, ap, sym, subst, true≢false, ◌∙◌, append_assoc, length-append, arith, refl, ◌⊎◌, inl, inr}
 use Rattle.std.proofs.lemmas.List.{take-append-drop, append-nil}
 use Rattle.std.proofs.Math.Seq.{drop-nil}
+use Rattle.std.proofs.lemmas.Option.{same_Some}
 use Rattle.cds_base.specs.Outside.{raised}
 use Rattle.cds_markup.specs.Document.{most_bytes}
 use Rattle.cds_lastchange.specs.declared.error.StateError.{StateError}
 use Rattle.cds_lastchange.specs.declared.error.StateError.TheVariants.{Bad, NotStateEvent, TooLong, Failed, Mem}
 use Rattle.cds_event.specs.declared.Event.{Event}
 use Rattle.cds_model.specs.Report.{Ending}
-use Rattle.cds_lastchange.specs.Feeding.{Feeds, Finishes}
+use Rattle.cds_markup.specs.Pieces.{IsRefusal}
+use Rattle.cds_lastchange.specs.Feeding.{Fed, Finished}
 use Rattle.cds_lastchange.specs.Refusal.{Decides}
 use Rattle.cds_cli.specs.Check.{IsCause, IsOwed, EndsCheck, WritesCheck, OnLimit, cause_of}
 use Rattle.cds_cli.specs.Run.{Ends, Writes, EndsText, WritesText}
@@ -18,9 +20,14 @@ use Rattle.cds_cli.specs.declared.checking.CheckError.TheVariants.{Refused, Limi
 -- ---- one piece
 
 -- a reader that has not refused does not answer that it has
-pub not-failed : (before : Option (List ℕ)) (piece : List ℕ) (e : StateError) (after : Option (List ℕ)) → IsSome before → Feeds before piece (Err e) after → e ≡ Failed → ⊥
-not-failed (Some bytes) piece e after some feeds is = ((subst (λ r. Feeds (Some bytes) piece (Err r) after) is feeds).2 []).0
-not-failed None piece e after some feeds is = true≢false (sym some)
+abbrev is_failed : StateError → Bool
+is_failed Failed = true
+is_failed other = false
+
+pub not-failed : (before : Option (List ℕ)) (piece : List ℕ) (e : StateError) (after : Option (List ℕ)) → IsSome before → Fed before piece (Err e) after → e ≡ Failed → ⊥
+not-failed (Some bytes) piece e None some fed is = ((subst (λ r. IsRefusal Decides Mem (bytes ++ piece) r) is fed).stands []).0
+not-failed (Some bytes) piece e (Some kept) some fed is = true≢false (ap is_failed (sym is ∙ fed.0))
+not-failed None piece e after some fed is = true≢false (sym some)
 
 -- ---- counts
 
@@ -39,7 +46,7 @@ raised-twice moved one two = twice moved one two (2 ^ 64 - 1)
 -- ---- all pieces
 
 -- a reader that was fed what came so far, with so much left up to the limit
-pub record Fed (left : ℕ) (reader : Option (List ℕ)) : Type 0 where
+pub record SoFar (left : ℕ) (reader : Option (List ℕ)) : Type 0 where
   pub bytes : List ℕ
   pub is : reader ≡ Some bytes
   pub within : length bytes + left ≡ most_bytes
@@ -93,7 +100,7 @@ piece-past bytes piece left n within size more = omega (arith, length-append byt
 pub piece-within : (bytes piece : List ℕ) (left n : ℕ) → length bytes + left ≡ most_bytes → length piece ≡ n → length (bytes ++ piece) ≤ most_bytes → n ≤ left
 piece-within bytes piece left n within size few = omega (arith, length-append bytes piece, within, size, few)
 
-pub fed-on : (left n : ℕ) (reader after : Option (List ℕ)) (piece : List ℕ) (f : Fed left reader) → length piece ≡ n → n ≤ left → after ≡ Some (f.bytes ++ piece) → Fed (left - n) after
+pub fed-on : (left n : ℕ) (reader after : Option (List ℕ)) (piece : List ℕ) (f : SoFar left reader) → length piece ≡ n → n ≤ left → after ≡ Some (f.bytes ++ piece) → SoFar (left - n) after
 fed-on left n reader after piece f size few is = record { bytes = f.bytes ++ piece; is = is; within = room f.bytes piece left n f.within size few }
   where
     room : (bytes piece : List ℕ) (left n : ℕ) → length bytes + left ≡ most_bytes → length piece ≡ n → n ≤ left → length (bytes ++ piece) + (left - n) ≡ most_bytes
@@ -117,10 +124,45 @@ decided-cause bytes Failed decides = tt
 decided-cause bytes Mem decides = tt
 
 pub finish-cause : (reader : Option (List ℕ)) (bytes : List ℕ) (result : Result (List Event) StateError) (e : StateError) (cause : CheckError) →
-    reader ≡ Some bytes → Finishes reader result → result ≡ Err e → cause ≡ cause_of e → IsCause bytes cause
+    reader ≡ Some bytes → Finished reader result → result ≡ Err e → cause ≡ cause_of e → IsCause bytes cause
 finish-cause reader bytes result e cause fed finishes is by =
     subst (IsCause bytes) (sym by)
-    (decided-cause bytes e (subst (λ r. Decides bytes r) is (subst (λ r. Finishes r result) fed finishes)))
+    (decided-cause bytes e (subst (λ r. Decides bytes r) is (subst (λ r. Finished r result) fed finishes)))
+
+-- and what `feed` refuses, whatever follows
+fed-cases : (bytes piece more : List ℕ) (e : StateError) (after : Option (List ℕ)) → Fed (Some bytes) piece (Err e) after → IsCause ((bytes ++ piece) ++ more) (cause_of e)
+fed-cases bytes piece more e None fed = decided-cause ((bytes ++ piece) ++ more) e (fed.stands more)
+fed-cases bytes piece more e (Some kept) fed = subst (λ r. IsCause ((bytes ++ piece) ++ more) (cause_of r)) (sym fed.0) tt
+
+pub fed-cause : (before : Option (List ℕ)) (piece : List ℕ) (e : StateError) (after : Option (List ℕ)) (cause : CheckError) (bytes more : List ℕ) →
+    Fed before piece (Err e) after → cause ≡ cause_of e → before ≡ Some bytes → IsCause ((bytes ++ piece) ++ more) cause
+fed-cause before piece e after cause bytes more fed by is =
+    subst (IsCause ((bytes ++ piece) ++ more)) (sym by) (fed-cases bytes piece more e after (subst (λ b. Fed b piece (Err e) after) is fed))
+
+-- `finish` does not find too many
+few-bytes : (bytes : List ℕ) (e : StateError) (P : Type 0) → length bytes ≤ most_bytes → Decides bytes (Err e) → OnLimit (cause_of e) P
+few-bytes bytes (Bad at) P short decides = tt
+few-bytes bytes (NotStateEvent at) P short decides = tt
+few-bytes bytes TooLong P short decides = absurd (more short decides.0.0.0)
+  where
+    more : length bytes ≤ most_bytes → most_bytes < length bytes → ⊥
+    more few many = omega (arith, few, many)
+few-bytes bytes Failed P short decides = tt
+few-bytes bytes Mem P short decides = tt
+
+pub finish-long : (reader : Option (List ℕ)) (result : Result (List Event) StateError) (e : StateError) (cause : CheckError) (P : Type 0) →
+    IsSome reader → ((bytes : List ℕ) → reader ≡ Some bytes → length bytes ≤ most_bytes) →
+    Finished reader result → result ≡ Err e → cause ≡ cause_of e → OnLimit cause P
+finish-long (Some bytes) result e cause P some short finishes is by =
+    subst (λ c. OnLimit c P) (sym by) (few-bytes bytes e P (short bytes refl) (subst (λ r. Decides bytes r) is finishes))
+finish-long None result e cause P some short finishes is by = absurd (true≢false (sym some))
+
+-- what so far was fed is short
+pub so-far-short : (left : ℕ) (reader : Option (List ℕ)) (bytes : List ℕ) → SoFar left reader → reader ≡ Some bytes → length bytes ≤ most_bytes
+so-far-short left reader bytes f is = subst (λ b. length b ≤ most_bytes) (same_Some f.bytes bytes (sym f.is ∙ is)) (few f.bytes left f.within)
+  where
+    few : (bytes : List ℕ) (left : ℕ) → length bytes + left ≡ most_bytes → length bytes ≤ most_bytes
+    few bytes left within = omega (arith, within)
 
 pub ends-owed : (bytes : List ℕ) (ending : Ending) (status : ℕ) → IsOwed bytes ending → Ends status ending.status → EndsCheck bytes status
 ends-owed bytes ending status owed (inl is) = inl (ending, owed, is)

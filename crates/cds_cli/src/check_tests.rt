@@ -103,16 +103,8 @@ const REFUSED: [Case; 13] = [
         8,
         "refused 98\n",
     ),
-    (
-        "<StateEvent/>",
-        8,
-        "refused 0\n",
-    ),
-    (
-        "﻿",
-        8,
-        "refused 3\n",
-    ),
+    ("<StateEvent/>", 8, "refused 0\n"),
+    ("﻿", 8, "refused 3\n"),
     (
         "<StateEvent xmlns=\"urn:schemas-upnp-org:av:cds-event\"><a:b/>",
         8,

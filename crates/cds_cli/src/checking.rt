@@ -97,6 +97,7 @@ fn feed_all<S: Source>(
     ensures cause { IfErr result (λ e. WhereTold (S.left source.old) (λ bytes. IsCause bytes e)) }
     ensures whole { OnOk result (WhereTold (S.left source.old) (λ bytes. S.left source.new ≡ Some [])) }
     ensures stays { OnOk result (IsSome reader.new) }
+    ensures short { OnOk result ((bytes : List ℕ) → reader.new ≡ Some bytes → length bytes ≤ most_bytes) }
     ensures within { OnOk result (S.moved source.new ≤ raised (S.moved source.old) 67108864) }
     ensures taken { S.moved source.new ≤ S.moved source.old + 67108865 }
     ensures long { IfErr result (λ e. OnLimit e (raised (S.moved source.old) 67108865 ≤ S.moved source.new)) }

@@ -1,5 +1,9 @@
-use Rattle.cds_cli.proofs.Feeding.{not-failed}
+use Rattle.cds_cli.proofs.Feeding.{not-failed, fed-cause}
 use Rattle.cds_cli.proofs.checking.feed.Goals as goal
 
 pub cause_of-requires : goal.cause_of-requires
 cause_of-requires c = not-failed _ _ c.in-Err.error _ c.requires (rw c.in-Err.is at c.feed.ensures)
+
+pub returns-in-Err-clause-cause : goal.returns-in-Err-clause-cause
+returns-in-Err-clause-cause c = λ bytes is more.
+    fed-cause _ _ c.in-Err.error _ c.cause_of.result bytes more (rw c.in-Err.is at c.feed.ensures) c.cause_of.ensures is

@@ -3,7 +3,7 @@ use Rattle.std.proofs.Common.{◌≡◌, ℕ, ◌+◌, ◌-◌, ◌≤◌, Some,
 use Rattle.std.proofs.lemmas.Result.{err_from_is_err_and}
 use Rattle.cds_base.specs.Outside.{raised}
 use Rattle.cds_markup.specs.Document.{most_bytes}
-use Rattle.cds_cli.proofs.Feeding.{Fed, Coming, goes-on, stops-at, on-limit, moved-by, raised-twice, moved-past, piece-past, piece-within, fed-on, all-fed, none-left}
+use Rattle.cds_cli.proofs.Feeding.{SoFar, Coming, goes-on, stops-at, on-limit, moved-by, raised-twice, moved-past, piece-past, piece-within, fed-on, all-fed, none-left}
 use Rattle.cds_cli.proofs.checking.feed_all.Goals as goal
 
 pub returns-in-Ok-eq0-clause-fed : goal.returns-in-Ok-eq0-clause-fed

@@ -2,12 +2,12 @@
 use Rattle.std.proofs.Common.{◌≡◌, ℕ, ◌+◌, ◌-◌, ◌≤◌, List, Some}
 use Rattle.cds_base.specs.Outside.{raised}
 use Rattle.cds_markup.specs.Document.{most_bytes}
-use Rattle.cds_cli.proofs.Feeding.{Fed, Coming}
+use Rattle.cds_cli.proofs.Feeding.{SoFar, Coming}
 use Rattle.cds_cli.proofs.checking.feed_all.Given as goal
 
 abbrev pub invariant-loop-count : goal.invariant-loop-count
 invariant-loop-count g l =
-    Fed l.left l.reader
+    SoFar l.left l.reader
     × ((bytes : List ℕ) → g.S.Source.left l.initial.source ≡ Some bytes → Coming l.reader (g.S.Source.left l.source) bytes)
     × ((n : ℕ) → raised (g.S.Source.moved l.source) n ≡ raised (g.S.Source.moved l.initial.source) ((most_bytes - l.left) + n))
     × (g.S.Source.faults l.initial.source ≤ g.S.Source.faults l.source)
