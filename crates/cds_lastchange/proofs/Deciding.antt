@@ -1,5 +1,5 @@
 -- The answer that is made of a document's parts is the one that stands against its bytes.
-use Rattle.std.proofs.Common.{◌≡◌, ◌≢◌, ℕ, suc, ◌+◌, ◌<◌, ◌≤◌, nat_le, Bool, true, false, ◌&&◌, cond, ◌⊎◌, inl, inr, Option, Some, None, Result, Ok, Err, List, [], ◌∷◌, ◌++◌, codes, length, refl, sym, ap, subst, ◌∙◌, arith, append_assoc, length-append}
+use Rattle.std.proofs.Common.{◌≡◌, ◌≢◌, ℕ, ◌+◌, ◌<◌, ◌≤◌, nat_le, Bool, true, false, ◌&&◌, cond, ◌⊎◌, inl, inr, Result, Ok, Err, List, [], ◌∷◌, ◌++◌, codes, length, refl, sym, ap, subst, ◌∙◌, arith, append_assoc, length-append}
 use Rattle.std.specs.List.{list_all}
 use Rattle.std.proofs.lemmas.Bool.{cases_lt}
 use Rattle.std.proofs.lemmas.Bool.Decides.{nat_tests}
@@ -16,25 +16,25 @@ use Rattle.cds_markup.specs.Grammar.{Tree, IsTag, IsStartTag, IsDocument}
 use Rattle.cds_markup.specs.Document.{most_bytes, most_open, DocOf}
 use Rattle.cds_markup.specs.Course.{read_of, parts_of}
 use Rattle.cds_markup.specs.Agree.{Parted}
-use Rattle.cds_markup.specs.Parts.{DocumentParts, TreeParts}
-use Rattle.cds_markup.specs.Refusal.{Opens, TagEnds, IsTooDeep, Refuses, IsFirst}
+use Rattle.cds_markup.specs.Parts.{TreeParts}
+use Rattle.cds_markup.specs.Refusal.{Opens, TagEnds, Refuses}
 use Rattle.cds_markup.proofs.ContentForm.{tree-is}
 use Rattle.cds_markup.proofs.Complete.{tree-first}
 use Rattle.cds_markup.proofs.AllGiven.{parts-are-given}
 use Rattle.cds_markup.proofs.Fronts.{parts-stand-before, leaves-have-one-end, parts-are-of-roots}
 use Rattle.cds_markup.proofs.Verdict.{Answered, answered, documents-are-read, parts-are-told}
-use Rattle.cds_markup.specs.Found.{Clear, Given}
+use Rattle.cds_markup.specs.Found.{Clear}
 use Rattle.cds_lastchange.specs.declared.error.StateError.{StateError}
 use Rattle.cds_lastchange.specs.declared.error.StateError.TheVariants.{Bad, NotStateEvent, TooLong, Failed, Mem}
 use Rattle.cds_lastchange.specs.declared.judge.Judge.{Judge}
-use Rattle.cds_lastchange.specs.StateEvent.{root_events, IsDocumentOf, IsEmpty, IsStateEvent}
+use Rattle.cds_lastchange.specs.StateEvent.{IsDocumentOf, IsEmpty, IsStateEvent}
 use Rattle.cds_lastchange.specs.Refusal.{may_stand, Shows, IsBadEvent, IsNoStateEvent, IsRefused, Decides}
-use Rattle.cds_lastchange.specs.Judged.{and_judged, part_judged, parts_judged, nothing_said, read_says, answer_of, is_empty, answer, Answers}
+use Rattle.cds_lastchange.specs.Judged.{parts_judged, nothing_said, answer_of, is_empty, answer, Answers}
 use Rattle.cds_lastchange.proofs.Spaces.{and-first, and-second}
 use Rattle.cds_lastchange.proofs.Judging.{outside, root-are, root-keeps}
-use Rattle.cds_lastchange.proofs.Levels.{level_of, strange-start, FirstFault, first-fault}
+use Rattle.cds_lastchange.proofs.Levels.{strange-start, FirstFault, first-fault}
 use Rattle.cds_lastchange.proofs.Meanings.{root-means}
-use Rattle.cds_lastchange.proofs.Finding.{leaf-begins, indirect-no-text, caught, Caught, falls-front, none-caught, shown-within, FirstShown, first-shown, nothing-before}
+use Rattle.cds_lastchange.proofs.Finding.{leaf-begins, indirect-no-text, caught, falls-front, none-caught, shown-within, FirstShown, first-shown, nothing-before}
 
 abbrev Judged : Type 0
 Judged = Result Judge ℕ

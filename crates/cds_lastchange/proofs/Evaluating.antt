@@ -1,5 +1,5 @@
 -- Answers that are computed stand against their bytes.
-use Rattle.std.proofs.Common.{◌≡◌, ◌≢◌, ℕ, true, false, Result, Ok, Err, List, [], ◌∷◌, ◌++◌, codes, refl, sym, subst}
+use Rattle.std.proofs.Common.{◌≡◌, ℕ, false, Ok, Err, List, [], ◌∷◌, ◌++◌, codes, refl, subst}
 use Rattle.std.specs.Fmt.{digits}
 use Rattle.cds_event.specs.declared.Event.{Event}
 use Rattle.cds_event.specs.declared.Event.TheVariants.{ObjDel}
@@ -8,7 +8,7 @@ use Rattle.cds_markup.specs.Step.{count_at, many_at, while_at}
 use Rattle.cds_markup.specs.Reading.{any_at, attr_at, attrs_at, behind_at, behind_encoding, behind_version, character_at, declaration_at, enclosed_at, encoding_at, encoding_value_at, end_at, equals_at, inside_at, misc_at, name_at, name_characters_at, name_rest_at, number_at, prolog_at, qname_at, reference_at, remark_at, space_at, standalone_at, standalone_value_at, tag_at, text_behind, value_at, value_piece_at, version_at, version_value_at, yes_or_no_at, utf_8_at}
 use Rattle.cds_markup.specs.Course.{content_at, course_of, root_course, start_moves}
 use Rattle.cds_lastchange.specs.declared.error.StateError.{StateError}
-use Rattle.cds_lastchange.specs.declared.error.StateError.TheVariants.{Bad, NotStateEvent, Mem}
+use Rattle.cds_lastchange.specs.declared.error.StateError.TheVariants.{Bad, NotStateEvent}
 use Rattle.cds_lastchange.specs.Spelled.{class_text, change_text, flagged_text, added_text}
 use Rattle.cds_lastchange.specs.Attributes.{flag_of, class_of, added, modified, deleted, done, event_of, is_state_event}
 use Rattle.cds_lastchange.specs.StateEvent.{IsStateEvent}

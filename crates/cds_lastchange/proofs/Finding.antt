@@ -1,22 +1,19 @@
 -- What shows first in a document is what its first part that does not stand says.
-use Rattle.std.proofs.Common.{◌≡◌, ◌≢◌, ℕ, suc, ◌+◌, ◌<◌, ◌≤◌, Bool, true, false, ◌⊎◌, inl, inr, Option, Some, None, Result, Ok, Err, List, [], ◌∷◌, ◌++◌, codes, length, refl, sym, ap, subst, ◌∙◌, arith, append_assoc, length-append, encode_utf8}
-use Rattle.cds_base.specs.Reference.{IsReference}
+use Rattle.std.proofs.Common.{◌≡◌, ℕ, ◌<◌, ◌≤◌, true, false, ◌⊎◌, inl, inr, Option, Some, None, Ok, Err, List, [], ◌∷◌, ◌++◌, codes, length, refl, sym, ap, subst, ◌∙◌, arith, append_assoc, length-append, encode_utf8}
 use Rattle.cds_markup.specs.declared.name.Name.{Name}
 use Rattle.cds_markup.specs.declared.name.Attr.{Attr}
 use Rattle.cds_markup.specs.declared.part.Part.{Part}
 use Rattle.cds_markup.specs.declared.part.Part.TheVariants.{Start, End, Run}
 use Rattle.cds_markup.specs.declared.tag.Tag.{Tag}
-use Rattle.cds_markup.specs.Grammar.{Leaf, Text, Reference, Section, Comment, is_text, IsLeaf, IsSection, IsComment}
-use Rattle.cds_markup.specs.Namespaces.{tag_says}
-use Rattle.cds_markup.specs.Document.{line_ends, most_bytes}
-use Rattle.cds_markup.specs.Course.{parts_of}
+use Rattle.cds_markup.specs.Grammar.{Leaf, Text, Reference, Section, Comment, is_text, IsLeaf}
+use Rattle.cds_markup.specs.Document.{line_ends}
 use Rattle.cds_markup.specs.Parts.{leaf_parts, OpensParts}
-use Rattle.cds_markup.specs.Refusal.{scopes_of, TagEnds, LeafEnds, TextByte, Refuses}
-use Rattle.cds_markup.specs.Found.{Clear, StartStands, LeafStands, TextStands, Stands, TagGiven, PartsGiven, TextGiven, Given, PartsStandBefore, LeavesHaveOneEnd}
+use Rattle.cds_markup.specs.Refusal.{TagEnds, LeafEnds, TextByte}
+use Rattle.cds_markup.specs.Found.{Clear, StartStands, Stands, PartsGiven, Given, PartsStandBefore, LeavesHaveOneEnd}
 use Rattle.cds_lastchange.specs.declared.judge.Judge.{Judge}
-use Rattle.cds_lastchange.specs.Refusal.{may_stand, IsMisplaced, is_indirect, IsIndirect, IsStray, Shows}
-use Rattle.cds_lastchange.specs.Judged.{part_judged, and_judged, parts_judged, nothing_said}
-use Rattle.cds_lastchange.proofs.Judging.{Answer, ok-err, judged-append}
+use Rattle.cds_lastchange.specs.Refusal.{may_stand, IsMisplaced, is_indirect, IsStray, Shows}
+use Rattle.cds_lastchange.specs.Judged.{part_judged, parts_judged, nothing_said}
+use Rattle.cds_lastchange.proofs.Judging.{Answer, ok-err}
 use Rattle.cds_lastchange.proofs.Levels.{level_of, and-ok, judged-front, stands-level, strange-start, start-strange, FirstFault}
 
 -- bytes at one place

@@ -1,7 +1,5 @@
 -- The parts of a document are judged as its grammar says: which events it has, if it has any.
-use Rattle.std.proofs.Common.{◌≡◌, ℕ, ◌+◌, Bool, true, false, ◌&&◌, cond, Option, Some, None, Result, Ok, Err, List, [], ◌∷◌, ◌++◌, length, refl, sym, ap, ◌∙◌, append_assoc, append-nil, encode_utf8}
-use Rattle.std.specs.List.{list_all}
-use Rattle.cds_base.specs.Characters.{is_blank}
+use Rattle.std.proofs.Common.{◌≡◌, ℕ, ◌+◌, Bool, true, false, ◌&&◌, cond, Option, Some, None, Result, Ok, Err, List, [], ◌∷◌, ◌++◌, length, refl, sym, ap, ◌∙◌, append_assoc, append-nil}
 use Rattle.cds_event.specs.declared.Event.{Event}
 use Rattle.cds_markup.specs.declared.name.Name.{Name}
 use Rattle.cds_markup.specs.declared.name.Attr.{Attr}
@@ -13,12 +11,11 @@ use Rattle.cds_markup.specs.Grammar.{Leaf, Text, Reference, Section, Comment, Tr
 use Rattle.cds_markup.specs.Namespaces.{declarations, tag_says}
 use Rattle.cds_markup.specs.Document.{line_ends}
 use Rattle.cds_markup.specs.Parts.{first_odd, leaf_parts, TreeParts, ContentParts}
-use Rattle.cds_lastchange.specs.declared.judge.Level.{Level}
 use Rattle.cds_lastchange.specs.declared.judge.Level.TheVariants.{Outside, InRoot, InEvent}
 use Rattle.cds_lastchange.specs.declared.judge.Judge.{Judge}
 use Rattle.cds_lastchange.specs.Attributes.{event_of, is_state_event}
 use Rattle.cds_lastchange.specs.StateEvent.{is_space, has_only_space, event_said, event_in, and_more, events_in, is_root, root_events}
-use Rattle.cds_lastchange.specs.Judged.{event_judged, start_judged, outer, part_judged, and_judged, parts_judged, nothing_said}
+use Rattle.cds_lastchange.specs.Judged.{event_judged, part_judged, and_judged, parts_judged, nothing_said}
 use Rattle.cds_lastchange.proofs.Spaces.{odd-none, none-odd, and-first, and-second}
 
 abbrev pub Answer : Type 0

@@ -1,15 +1,14 @@
 -- A document of events has an element, and no more than two elements are open in it.
-use Rattle.std.proofs.Common.{◌≡◌, ℕ, zero, suc, ◌≤◌, max, Bool, true, false, ◌&&◌, Option, Some, None, List, [], ◌∷◌, refl, sym, ap, ◌∙◌, arith}
+use Rattle.std.proofs.Common.{◌≡◌, ℕ, suc, ◌≤◌, max, true, false, Option, Some, None, List, [], ◌∷◌, refl, ap, ◌∙◌, arith}
 use Rattle.cds_event.specs.declared.Event.{Event}
 use Rattle.cds_markup.specs.declared.name.Name.{Name}
 use Rattle.cds_markup.specs.declared.name.Attr.{Attr}
 use Rattle.cds_markup.specs.declared.tag.Declaration.{Declaration}
-use Rattle.cds_markup.specs.declared.tag.Tag.{Tag}
-use Rattle.cds_markup.specs.Grammar.{Leaf, Tree, Bare, Full, Content, Nothing, LeafThen, TreeThen}
+use Rattle.cds_markup.specs.Grammar.{Tree, Bare, Full, Content, Nothing, LeafThen, TreeThen}
 use Rattle.cds_markup.specs.Namespaces.{declarations, tag_says}
 use Rattle.cds_markup.specs.Document.{Meaning, Meanings, Element, End, ChildThen, joined, leaf_says, and_joined, and_children, of_tag, meaning, meanings, depth, depths}
-use Rattle.cds_lastchange.specs.StateEvent.{is_space, has_only_space, event_said, event_in, and_more, events_in, is_root, root_events}
-use Rattle.cds_lastchange.proofs.Spaces.{and-first, and-second}
+use Rattle.cds_lastchange.specs.StateEvent.{is_space, has_only_space, event_said, event_in, events_in, is_root, root_events}
+use Rattle.cds_lastchange.proofs.Spaces.{and-second}
 use Rattle.cds_lastchange.proofs.Judging.{where-space, some-more, where-some}
 
 space-means : (content : Content) (scopes : List (List Declaration)) → has_only_space content ≡ true → (ms : Meanings) × (meanings content scopes ≡ Some ms) × (depths content ≡ 0)

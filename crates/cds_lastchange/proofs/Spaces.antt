@@ -1,5 +1,5 @@
 -- White space in the parts of a document.
-use Rattle.std.proofs.Common.{◌≡◌, ℕ, ◌+◌, Bool, true, false, ◌&&◌, cond, Option, Some, None, List, [], ◌∷◌, refl, ap, sym, ◌∙◌}
+use Rattle.std.proofs.Common.{◌≡◌, ℕ, ◌+◌, Bool, true, false, ◌&&◌, cond, Option, Some, None, List, [], ◌∷◌, refl}
 use Rattle.std.specs.List.{list_all}
 use Rattle.cds_base.specs.Characters.{is_blank}
 use Rattle.cds_markup.specs.Parts.{first_odd}

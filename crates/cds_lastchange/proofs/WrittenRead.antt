@@ -14,15 +14,15 @@ use Rattle.cds_markup.specs.declared.name.Attr.{Attr}
 use Rattle.cds_markup.specs.declared.tag.Declaration.{Declaration}
 use Rattle.cds_markup.specs.declared.tag.TagAttr.{TagAttr}
 use Rattle.cds_markup.specs.declared.tag.Tag.{Tag}
-use Rattle.cds_markup.specs.Grammar.{written_name, Tree, Bare, Full, Content, Nothing, TreeThen, IsName, IsBareTag, IsStartTag, IsEndTag, IsContent, IsTree, IsProlog, IsDocument}
+use Rattle.cds_markup.specs.Grammar.{written_name, Bare, Full, Content, Nothing, TreeThen, IsName, IsBareTag, IsStartTag, IsContent, IsProlog}
 use Rattle.cds_markup.specs.Namespaces.{declarations, tag_says}
 use Rattle.cds_markup.specs.Document.{most_bytes}
-use Rattle.cds_markup.specs.Written.{written_attr, written_attrs, written_start, written_end}
+use Rattle.cds_markup.specs.Written.{written_attr, written_attrs, written_start}
 use Rattle.cds_markup.proofs.PrologRows.{no-misc}
 use Rattle.cds_markup.proofs.WrittenTags.{small-name, without-prefix, Stands, TagStands, start-of, end-of}
-use Rattle.cds_lastchange.specs.Spelled.{event_space, attribute, change_text, flag_text, flagged_text, container_class, track_class, class_text, added_text, event_text, opening, closing, spelled, IsNumbered}
-use Rattle.cds_lastchange.specs.Attributes.{number_of, flag_said, flag_of, class_said, class_of, added, modified, deleted, done, event_named, event_of, is_state_event}
-use Rattle.cds_lastchange.specs.StateEvent.{event_said, event_in, and_more, events_in, is_root, root_events, IsStateEvent}
+use Rattle.cds_lastchange.specs.Spelled.{event_space, attribute, change_text, flag_text, flagged_text, class_text, added_text, event_text, opening, closing, spelled, IsNumbered}
+use Rattle.cds_lastchange.specs.Attributes.{flag_said, flag_of, class_said, class_of, added, modified, deleted, done, event_of, is_state_event}
+use Rattle.cds_lastchange.specs.StateEvent.{event_said, event_in, and_more, events_in, is_root, IsStateEvent}
 use Rattle.cds_lastchange.proofs.PlainValues.{ArePlain, escaped-plain, allowed-plain, decimal-digits, decimal-read}
 use Rattle.cds_lastchange.proofs.Tags.{bare-of}
 

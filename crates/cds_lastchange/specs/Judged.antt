@@ -1,5 +1,5 @@
 -- How the parts of a document are judged, one by one. It is proved that this answers what the bytes are.
-use Rattle.std.specs.Prelude.{◌≡◌, ℕ, ◌≤◌, nat_le, Bool, true, false, ◌&&◌, if◌then◌else◌, Option, Some, None, Result, Ok, Err, List, [], ◌∷◌, ◌++◌, length, ⊤}
+use Rattle.std.specs.Prelude.{◌≡◌, ℕ, nat_le, Bool, ◌&&◌, if◌then◌else◌, Option, Some, None, Result, Ok, Err, List, [], ◌∷◌, ◌++◌, length, ⊤}
 use Rattle.std.specs.List.{list_all}
 use Rattle.cds_base.specs.Characters.{is_blank}
 use Rattle.cds_event.specs.declared.Event.{Event}

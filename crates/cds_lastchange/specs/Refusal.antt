@@ -1,5 +1,5 @@
 -- Why bytes are no StateEvent: each refusal at its place, and the first in reading order (this project's profile).
-use Rattle.std.specs.Prelude.{◌≡◌, ◌≢◌, ℕ, ◌<◌, ◌≤◌, Bool, true, false, ◌⊎◌, Option, Some, None, Result, Ok, Err, is_some, List, [], ◌∷◌, length, ⊤}
+use Rattle.std.specs.Prelude.{◌≡◌, ◌≢◌, ℕ, ◌<◌, Bool, true, false, ◌⊎◌, Some, Result, Ok, Err, is_some, List, [], ◌∷◌, length, ⊤}
 use Rattle.std.specs.List.{list_all}
 use Rattle.cds_base.specs.Characters.{is_blank}
 use Rattle.cds_event.specs.declared.Event.{Event}

@@ -6,7 +6,6 @@ use Rattle.cds_event.specs.declared.Event.{Event}
 use Rattle.cds_markup.specs.declared.name.Name.{Name}
 use Rattle.cds_markup.specs.declared.name.Attr.{Attr}
 use Rattle.cds_markup.specs.declared.tag.Declaration.{Declaration}
-use Rattle.cds_markup.specs.declared.tag.Tag.{Tag}
 use Rattle.cds_markup.specs.Grammar.{Leaf, Text, Reference, Section, Comment, Tree, Bare, Full, Content, Nothing, LeafThen, TreeThen, IsDocument}
 use Rattle.cds_markup.specs.Namespaces.{declarations, tag_says}
 use Rattle.cds_markup.specs.Document.{most_bytes}
