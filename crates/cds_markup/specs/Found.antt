@@ -95,8 +95,8 @@ IsPlain bytes = Without (codes "]]>") is_in_text bytes bytes
 abbrev pub IsBegun : List ℕ → Type 0
 IsBegun bytes = (more : List ℕ) × (c : ℕ) × (more ≢ []) × Character is_in_text (bytes ++ more) c
 
--- A literal text from its beginning, as far as its whole characters go. The first character that is no blank, which may be one that a fault
--- cuts behind the text, is found at its first byte.
+-- A literal text from its beginning, as far as its whole characters go. The first character that is no blank, which may
+-- be one that a fault cuts behind the text, is found at its first byte.
 pub record TextStands (bytes : List ℕ) (earlier : List Part) (begin : ℕ) (odd : Option ℕ) (text : List ℕ) : Type 0 where
   pub tags : List Tag
   pub before : List ℕ
