@@ -46,20 +46,25 @@ fn refusals_are_the_same_in_every_cutting(rt: HostRuntime) -> Result<(), Fail> {
     Ok(())
 }
 
-/// Tries a byte behind so many first bytes of a document, for each number of them. A mark says what the grammar says of
-/// it: `x` that the byte cannot stand there, `.` that it can and that the input then ends too early, `=` that a document
-/// ends with it. Gives the number of first bytes where it is otherwise.
+/// What a mark says of a byte at a place: `x` that it cannot stand there, `.` that it can and that the input then ends
+/// too early, `=` that a document ends with it.
+fn marked(mark: u8, at: usize, end: usize) -> Option<MarkupError> {
+    match mark {
+        b'x' => Some(MarkupError::Bad { at }),
+        b'.' => Some(MarkupError::Bad { at: end }),
+        _ => None,
+    }
+}
+
+/// Tries a byte behind so many first bytes of a document, for each number of them. Gives the number of first bytes where
+/// the answer is not what the mark there says.
 fn otherwise(alloc: Global, document: &[u8], byte: u8, marks: &str) -> Result<Option<usize>, Fail> {
     let mut bytes = Vec::new(alloc);
-    for (count, mark) in marks.as_bytes().iter().enumerate() {
+    for mark in marks.as_bytes() {
+        let count = bytes.len();
         bytes.push(byte)?;
         let answer = refusal(alloc, bytes.as_slice());
-        let want = match *mark {
-            b'x' => Some(MarkupError::Bad { at: count }),
-            b'.' => Some(MarkupError::Bad { at: bytes.len() }),
-            _ => None,
-        };
-        if answer != want {
+        if answer != marked(*mark, count, bytes.len()) {
             return Ok(Some(count));
         }
         bytes.pop();
@@ -71,33 +76,43 @@ fn otherwise(alloc: Global, document: &[u8], byte: u8, marks: &str) -> Result<Op
 }
 
 #[test]
-fn each_byte_has_its_place_behind_every_beginning(rt: HostRuntime) -> Result<(), Fail> {
-    let content: &[u8] = b"<a b=\"1\">c<!--d--><![CDATA[e]]>&lt;</a>";
-    let prolog: &[u8] = b"\xEF\xBB\xBF<?xml version='1.0' standalone=\"no\"?><x:a xmlns:x='u'/>";
-    let cases: [(&[u8], u8, &str); 9] = [
-        (content, b'<', ".xxxxxxxx..xxx...x.xxxxxxxx.....xxx.xxx."),
-        (content, b'>', "xx..xx.....xxx.....xxxxxxxx.....xxx.xx=x"),
-        (content, b' ', ".x.........xxx...x.xxxxxxxx.....xxx.xx.="),
-        (content, b'-', "xx.x.x..x..x.......x.xxxxxx.....xxx.xxxx"),
-        (content, b']', "xxxxxx..x..xxx...x.xxxxxxxx.....xxx.xxxx"),
-        (content, b'\x01', "xxxxxxxxxxxxxxxxxxxxxxxxxxxxxxxxxxxxxxxx"),
+fn each_byte_has_its_place_behind_the_beginnings_of_an_element(
+    rt: HostRuntime,
+) -> Result<(), Fail> {
+    let element = b"<a b=\"1\">c<!--d--><![CDATA[e]]>&lt;</a>";
+    let cases: [(u8, &str); 6] = [
+        (b'<', ".xxxxxxxx..xxx...x.xxxxxxxx.....xxx.xxx."),
+        (b'>', "xx..xx.....xxx.....xxxxxxxx.....xxx.xx=x"),
+        (b' ', ".x.........xxx...x.xxxxxxxx.....xxx.xx.="),
+        (b'-', "xx.x.x..x..x.......x.xxxxxx.....xxx.xxxx"),
+        (b']', "xxxxxx..x..xxx...x.xxxxxxxx.....xxx.xxxx"),
+        (b'\x01', "xxxxxxxxxxxxxxxxxxxxxxxxxxxxxxxxxxxxxxxx"),
+    ];
+    for (byte, marks) in cases {
+        let place = otherwise(rt.alloc(), element, byte, marks)?;
+        assert!(rt; place.is_none(), "{byte} behind {place:?}");
+    }
+    Ok(())
+}
+
+#[test]
+fn each_byte_has_its_place_behind_the_beginnings_of_a_prolog(rt: HostRuntime) -> Result<(), Fail> {
+    let document = b"\xEF\xBB\xBF<?xml version='1.0' standalone=\"no\"?><x:a xmlns:x='u'/>";
+    let cases: [(u8, &str); 3] = [
         (
-            prolog,
             b'\x01',
             "xxxxxxxxxxxxxxxxxxxxxxxxxxxxxxxxxxxxxxxxxxxxxxxxxxxxxxxxxxx",
         ),
         (
-            prolog,
             b'?',
             "xxxx.xxxxxxxxxxxxxxxxx..xxxxxxxxxxxxxx.xxxxxxxxxxxxxxx..xxx",
         ),
         (
-            prolog,
             b'\xC3',
             "xxxx.xxxxxxxxxxxxxxxxxxxxxxxxxxxxxxxxxxxx............x..xxx",
         ),
     ];
-    for (document, byte, marks) in cases {
+    for (byte, marks) in cases {
         let place = otherwise(rt.alloc(), document, byte, marks)?;
         assert!(rt; place.is_none(), "{byte} behind {place:?}");
     }
