@@ -447,7 +447,3 @@ decided_so bytes (Err TooManyBytes) parts result none p a = parted-so bytes (Err
 decided_so bytes (Err FailedBefore) parts result none p a = parted-so bytes (Err FailedBefore) parts result none p.0 p.1 a
 decided_so bytes (Err OutOfMemory) parts result none p a =
     mem-so bytes result (subst (λ ps. Answers (answer_of (Err OutOfMemory) (parts_judged nothing_said ps)) result) p a)
-
--- longer input is refused
-pub long_refused : (bytes : List ℕ) (events : List Event) → Decides bytes (Ok events) → most_bytes < length bytes → ⊥
-long_refused bytes events d h = omega (arith, h, d.0.short)

@@ -43,9 +43,11 @@ unfolding count_at many_at while_at any_at attr_at attrs_at behind_at behind_enc
 are-refused = (
   is-refused cut (Bad 111) refl,
   is-refused (start ++ codes "<objNew/>" ++ end) (NotStateEvent 54) refl,
+  is-refused (start ++ codes "<objNew/x") (NotStateEvent 54) refl,
   is-refused (start ++ codes "<objDel objID=\"7\" stUpdate=\"0\"/>" ++ end) (NotStateEvent 54) refl,
   is-refused (start ++ codes "<objDel objID=\"7\" updateID=\"+5\" stUpdate=\"0\"/>" ++ end) (NotStateEvent 54) refl,
   is-refused (start ++ codes "<objDel objID=\"7\" updateID=\"4294967296\" stUpdate=\"0\"/>" ++ end) (NotStateEvent 54) refl,
+  is-refused (start ++ codes "<stDone objID='1' updateID='2'><a>") (NotStateEvent 85) refl,
   is-refused (codes "<StateEvent xmlns=\"urn:schemas-upnp-org:av:cds-event\"/>x") (Bad 55) refl,
 )
 

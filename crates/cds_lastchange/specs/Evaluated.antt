@@ -35,18 +35,22 @@ forms_are_read =
     × IsStateEvent [] []
     × IsStateEvent (32 ∷ 9 ∷ 13 ∷ 10 ∷ []) []
 
--- What is refused, and where: a deletion that is cut off, an element that is no event, a deletion without its number,
--- with a sign before it and with one of 33 bits, and what stands behind the root.
+-- The deletion without its last byte.
 abbrev pub cut : List ℕ
 cut = start ++ codes "<objDel objID=\"7\" updateID=\"9\" stUpdate=\"0\"/></StateEvent"
 
+-- What is refused, and where: a deletion that is cut off, an element that is no event, also where only the `/` of its tag
+-- has come, a deletion without its number, with a sign before it and with one of 33 bits, an element within an event, and
+-- what stands behind the root.
 abbrev pub others_are_refused : Type 0
 others_are_refused =
     IsRefused cut (Bad 111)
     × IsRefused (start ++ codes "<objNew/>" ++ end) (NotStateEvent 54)
+    × IsRefused (start ++ codes "<objNew/x") (NotStateEvent 54)
     × IsRefused (start ++ codes "<objDel objID=\"7\" stUpdate=\"0\"/>" ++ end) (NotStateEvent 54)
     × IsRefused (start ++ codes "<objDel objID=\"7\" updateID=\"+5\" stUpdate=\"0\"/>" ++ end) (NotStateEvent 54)
     × IsRefused (start ++ codes "<objDel objID=\"7\" updateID=\"4294967296\" stUpdate=\"0\"/>" ++ end) (NotStateEvent 54)
+    × IsRefused (start ++ codes "<stDone objID='1' updateID='2'><a>") (NotStateEvent 85)
     × IsRefused (codes "<StateEvent xmlns=\"urn:schemas-upnp-org:av:cds-event\"/>x") (Bad 55)
 
 -- What stands between tags: a letter before a fault, the first byte of a character that is cut off or broken, a byte that
