@@ -25,8 +25,11 @@ is_failed Failed = true
 is_failed other = false
 
 pub not-failed : (before : Option (List ℕ)) (piece : List ℕ) (e : StateError) (after : Option (List ℕ)) → IsSome before → Fed before piece (Err e) after → e ≡ Failed → ⊥
-not-failed (Some bytes) piece e None some fed is = ((subst (λ r. IsRefusal Decides Mem (bytes ++ piece) r) is fed).stands []).0
-not-failed (Some bytes) piece e (Some kept) some fed is = true≢false (ap is_failed (sym is ∙ fed.0))
+not-failed (Some bytes) piece e after some fed is = by fed.1
+  where
+    by : (e ≡ Mem) ⊎ IsRefusal Decides Mem (bytes ++ piece) e → ⊥
+    by (inl memory) = true≢false (ap is_failed (sym is ∙ memory))
+    by (inr refusal) = ((subst (λ r. IsRefusal Decides Mem (bytes ++ piece) r) is refusal).stands []).0
 not-failed None piece e after some fed is = true≢false (sym some)
 
 -- ---- counts
@@ -130,14 +133,32 @@ finish-cause reader bytes result e cause fed finishes is by =
     (decided-cause bytes e (subst (λ r. Decides bytes r) is (subst (λ r. Finished r result) fed finishes)))
 
 -- and what `feed` refuses, whatever follows
-fed-cases : (bytes piece more : List ℕ) (e : StateError) (after : Option (List ℕ)) → Fed (Some bytes) piece (Err e) after → IsCause ((bytes ++ piece) ++ more) (cause_of e)
-fed-cases bytes piece more e None fed = decided-cause ((bytes ++ piece) ++ more) e (fed.stands more)
-fed-cases bytes piece more e (Some kept) fed = subst (λ r. IsCause ((bytes ++ piece) ++ more) (cause_of r)) (sym fed.0) tt
+fed-cases : (bytes piece more : List ℕ) (e : StateError) → (e ≡ Mem) ⊎ IsRefusal Decides Mem (bytes ++ piece) e → IsCause ((bytes ++ piece) ++ more) (cause_of e)
+fed-cases bytes piece more e (inl memory) = subst (λ r. IsCause ((bytes ++ piece) ++ more) (cause_of r)) (sym memory) tt
+fed-cases bytes piece more e (inr refusal) = decided-cause ((bytes ++ piece) ++ more) e (refusal.stands more)
 
 pub fed-cause : (before : Option (List ℕ)) (piece : List ℕ) (e : StateError) (after : Option (List ℕ)) (cause : CheckError) (bytes more : List ℕ) →
     Fed before piece (Err e) after → cause ≡ cause_of e → before ≡ Some bytes → IsCause ((bytes ++ piece) ++ more) cause
 fed-cause before piece e after cause bytes more fed by is =
-    subst (IsCause ((bytes ++ piece) ++ more)) (sym by) (fed-cases bytes piece more e after (subst (λ b. Fed b piece (Err e) after) is fed))
+    subst (IsCause ((bytes ++ piece) ++ more)) (sym by) (fed-cases bytes piece more e (subst (λ b. Fed b piece (Err e) after) is fed).1)
+
+-- `feed` finds too many where there are
+any-limit : (e : StateError) (P : Type 0) → P → OnLimit (cause_of e) P
+any-limit (Bad at) P h = tt
+any-limit (NotStateEvent at) P h = tt
+any-limit TooLong P h = h
+any-limit Failed P h = tt
+any-limit Mem P h = tt
+
+long-cases : (bytes piece : List ℕ) (e : StateError) → (e ≡ Mem) ⊎ IsRefusal Decides Mem (bytes ++ piece) e → OnLimit (cause_of e) (most_bytes < length (bytes ++ piece))
+long-cases bytes piece e (inl memory) = subst (λ r. OnLimit (cause_of r) (most_bytes < length (bytes ++ piece))) (sym memory) tt
+long-cases bytes piece e (inr refusal) = any-limit e (most_bytes < length (bytes ++ piece)) refusal.over
+
+pub fed-long : (before : Option (List ℕ)) (piece : List ℕ) (e : StateError) (after : Option (List ℕ)) (cause : CheckError) (bytes : List ℕ) →
+    Fed before piece (Err e) after → cause ≡ cause_of e → before ≡ Some bytes → OnLimit cause (most_bytes < length (bytes ++ piece))
+fed-long before piece e after cause bytes fed by is =
+    subst (λ c. OnLimit c (most_bytes < length (bytes ++ piece))) (sym by)
+    (long-cases bytes piece e (subst (λ b. Fed b piece (Err e) after) is fed).1)
 
 -- `finish` does not find too many
 few-bytes : (bytes : List ℕ) (e : StateError) (P : Type 0) → length bytes ≤ most_bytes → Decides bytes (Err e) → OnLimit (cause_of e) P

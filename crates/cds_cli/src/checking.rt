@@ -24,7 +24,7 @@ const INPUT_LIMIT: usize = 67_108_864;
 pub enum CheckError {
     /// The input is no StateEvent: its first fault stands at this place, in bytes from 0.
     Refused { at: usize },
-    /// More than 67,108,864 bytes came.
+    /// More than 67,108,864 bytes came without a fault before.
     Limit,
     /// The source could not be read.
     ReadFault,

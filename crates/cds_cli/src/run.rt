@@ -76,9 +76,9 @@ fn play<S: Source, K: Sink>(alloc: Global, source: &mut S, sink: &mut K) -> u8
 /// `replay` plays the script on the source and writes its report to the sink (status 0, or 1 where a line is outside the
 /// grammar, or 6 where the script or a line of it is too long). `check` reads the StateEvent on the source and writes its
 /// one written form and LF (status 0), or `refused AT` with the place of the first fault, in bytes from 0 (8), or `error
-/// limit` where it has more than 67,108,864 bytes (6). `--help` and `--version`, each alone, write their text (status 0).
-/// Other words are no command's: the usage is written (status 5). A source that could not be read is status 2,
-/// a sink that could not be written 3, and 4 is that memory ran out.
+/// limit` where it has more than 67,108,864 bytes without a fault before (6). `--help` and `--version`, each alone, write
+/// their text (status 0). Other words are no command's: the usage is written (status 5). A source that could not be read
+/// is status 2, a sink that could not be written 3, and 4 is that memory ran out.
 pub fn run<S: Source, K: Sink>(alloc: Global, words: &Words, source: &mut S, sink: &mut K) -> u8
     // What was written is exactly the report of the script, up to its end, its broken line or its limit.
     ensures report { command_of words.now ≡ Some Replay → WhereTold (S.left source.old) (λ bytes. WhereTold (K.holds sink.old) (λ before. Writes result (script_ending bytes).text before (K.holds sink.new))) }

@@ -1,5 +1,5 @@
 -- Bytes in pieces: a refusal of more bytes than may be stands whatever comes behind, and cutting changes no answer.
-use Rattle.std.proofs.Common.{◌≡◌, ◌≢◌, ℕ, ◌<◌, nat_lt, nat_le, Bool, true, false, ◌&&◌, cond, Option, Some, None, Result, Ok, Err, List, [], ◌∷◌, ◌++◌, length, refl, sym, ap, subst, ◌∙◌, arith, append_assoc, append-nil, length-append}
+use Rattle.std.proofs.Common.{◌≡◌, ◌≢◌, ℕ, ◌<◌, nat_lt, nat_le, Bool, true, false, true≢false, ◌&&◌, cond, Option, Some, None, Result, Ok, Err, List, [], ◌∷◌, ◌++◌, length, refl, sym, ap, subst, ◌∙◌, arith, append_assoc, append-nil, length-append, ◌⊎◌, inl, inr}
 use Rattle.std.specs.List.{list_all}
 use Rattle.std.proofs.lemmas.Bool.Decides.{nat_tests}
 use Rattle.std.proofs.lemmas.List.{take-append-le}
@@ -72,20 +72,36 @@ stands : (bytes more : List ℕ) (r : StateError) → most_bytes < length bytes 
 stands bytes more r h differs d =
     subst (Decides (bytes ++ more)) (answer-same bytes more h ∙ complete-err bytes r (refused-of bytes r differs d) differs) (decides (bytes ++ more))
 
-pub past_limit : (bytes : List ℕ) (r : StateError) → most_bytes < length bytes → Decides bytes (Err r) → r ≢ Mem → IsRefusal Decides Mem bytes r
-past_limit bytes r h d differs = record { over = h; other = differs; stands = λ more. stands bytes more r h differs d }
+refused-past : (bytes : List ℕ) (r : StateError) → most_bytes < length bytes → Decides bytes (Err r) → r ≢ Mem → IsRefusal Decides Mem bytes r
+refused-past bytes r h d differs = record { over = h; other = differs; stands = λ more. stands bytes more r h differs d }
+
+abbrev is_memory : StateError → Bool
+is_memory Mem = true
+is_memory other = false
+
+not-memory : (r : StateError) → is_memory r ≡ false → r ≢ Mem
+not-memory r none is = true≢false (sym (ap is_memory is) ∙ none)
+
+pub past_limit : (bytes : List ℕ) (r : StateError) → most_bytes < length bytes → Decides bytes (Err r) → (r ≡ Mem) ⊎ IsRefusal Decides Mem bytes r
+past_limit bytes Mem h d = inl refl
+past_limit bytes (Bad at) h d = inr (refused-past bytes (Bad at) h d (not-memory (Bad at) refl))
+past_limit bytes (NotStateEvent at) h d = inr (refused-past bytes (NotStateEvent at) h d (not-memory (NotStateEvent at) refl))
+past_limit bytes TooLong h d = inr (refused-past bytes TooLong h d (not-memory TooLong refl))
+past_limit bytes Failed h d = inr (refused-past bytes Failed h d (not-memory Failed refl))
 
 -- every cutting
+cut-refused : (bytes piece rest : List ℕ) (e : StateError) → (e ≡ Mem) ⊎ IsRefusal Decides Mem (bytes ++ piece) e → Decides (bytes ++ (piece ++ rest)) (Err e)
+cut-refused bytes piece rest e (inl memory) = subst (λ (r : StateError). Decides (bytes ++ (piece ++ rest)) (Err r)) (sym memory) tt
+cut-refused bytes piece rest e (inr refusal) =
+    subst (λ (b : List ℕ). Decides b (Err e)) (append_assoc bytes piece rest) (refusal.stands rest)
+
 cut-so : (bytes : List ℕ) (pieces : List (List ℕ)) (result : Result (List Event) StateError) → Gives Decides Failed Mem (Some bytes) pieces result → Decides (bytes ++ together pieces) result
 cut-so bytes [] result g = subst (λ (b : List ℕ). Decides b result) (sym (append-nil bytes)) g
 cut-so bytes (piece ∷ more) result (Ok done, now, t, g) =
     subst (λ (b : List ℕ). Decides b result) (append_assoc bytes piece (together more))
     (cut-so (bytes ++ piece) more result (subst (λ (s : Option (List ℕ)). Gives Decides Failed Mem s more result) t.1 g))
-cut-so bytes (piece ∷ more) result (Err e, Some kept, t, g) =
-    subst (λ (r : Result (List Event) StateError). Decides (bytes ++ (piece ++ together more)) r) (sym (g ∙ ap Err t.0)) tt
-cut-so bytes (piece ∷ more) result (Err e, None, t, g) =
-    subst (λ (r : Result (List Event) StateError). Decides (bytes ++ (piece ++ together more)) r) (sym g)
-    (subst (λ (b : List ℕ). Decides b (Err e)) (append_assoc bytes piece (together more)) (t.stands (together more)))
+cut-so bytes (piece ∷ more) result (Err e, now, t, g) =
+    subst (λ (r : Result (List Event) StateError). Decides (bytes ++ (piece ++ together more)) r) (sym g) (cut-refused bytes piece (together more) e t.1)
 
 pub every-cutting : EveryCutting
 every-cutting pieces result g = cut-so [] pieces result g

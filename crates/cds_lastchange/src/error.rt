@@ -13,8 +13,8 @@ pub enum StateError {
     /// `/` there ends a start tag that breaks a rule of namespaces.
     #[error("no document: it breaks at {at}")]
     Bad { at: usize },
-    /// The document is no StateEvent: at this place begins a start tag of another element than may stand there, a
-    /// reference or a CDATA section, or a character that is no white space.
+    /// The document is no StateEvent: at this place begins a start tag of another element than may stand there, or of
+    /// one that lacks what it needs, a reference or a CDATA section, or a character that is no white space.
     #[error("no StateEvent: it breaks at {at}")]
     NotStateEvent { at: usize },
     /// More than 67,108,864 bytes.

@@ -1,6 +1,6 @@
 //! Reading StateEvents, which come in pieces.
 
-ghost use Rattle.std.specs.Prelude.{◌≡◌, ◌≢◌, ◌<◌, length, [], Ok, Err, Some};
+ghost use Rattle.std.specs.Prelude.{◌≡◌, ◌⊎◌, ◌<◌, length, [], Ok, Err, Some};
 ghost use Rattle.cds_markup.specs.Document.{most_bytes};
 ghost use Rattle.cds_lastchange.specs.declared.error.StateError.TheVariants.{Mem as OutOfMemory};
 ghost use Rattle.std.specs.List.{list_all};
@@ -66,7 +66,8 @@ fn decided(alloc: Global, bytes: &[u8]) -> Result<Events, StateError>
     answer_of(alloc, read, parts.as_slice())
 }
 
-/// Reads a StateEvent that comes in pieces. Contracts see the bytes that came, or `None` from a refusal of them on.
+/// Reads a StateEvent that comes in pieces. Contracts see the bytes that came, or `None` from a refusal on, want of
+/// memory included.
 #[derive(Drop, Debug)]
 pub struct StateReader {
     came: Option<Sequence<u8>>,
@@ -92,7 +93,7 @@ impl StateReader {
 
     /// The next piece. Pieces are collected: up to 67,108,864 bytes in all they are accepted, and the byte behind those
     /// is refused by what the bytes so far are refused for, whatever comes behind: `TooLong`, or the `Bad` or
-    /// `NotStateEvent` of an earlier fault. From then on each call answers `Failed`. `Mem` leaves the reader as it was.
+    /// `NotStateEvent` of an earlier fault. From a refusal on, and from `Mem` on, each call answers `Failed`.
     pub fn feed(&mut self, alloc: Global, piece: &[u8]) -> Result<(), StateError>
         ensures { Fed self.old piece.now result self.new }
     {
@@ -106,9 +107,9 @@ impl StateReader {
     }
 
     /// The end: the events, or why the bytes that came are none. `Bad` has the place where they break as a document;
-    /// `NotStateEvent` that of the `<` of an element that may not stand there, of a reference or a CDATA section, or of
-    /// a character that is no white space. The fault that shows first in reading order is the answer, and a document's
-    /// where one byte shows both. `Failed` only where a piece was refused.
+    /// `NotStateEvent` that of the `<` of an element that may not stand there or lacks what it needs, of a reference or
+    /// a CDATA section, or of a character that is no white space. The fault that shows first in reading order is the
+    /// answer, and a document's where one byte shows both. `Failed` only where a piece was refused or memory ran out.
     pub fn finish(self, alloc: Global) -> Result<Events, StateError>
         ensures { Finished self result }
     {
@@ -128,27 +129,21 @@ fn fed(
     ensures { Fed (Some before.items) piece.now result.1 result.0 }
 {
     let mut bytes = before;
-    let count = bytes.len();
     if bytes.extend_from_slice(piece).is_err() {
-        return (Some(Sequence::from(bytes)), Err(StateError::Mem));
+        return (None, Err(StateError::Mem));
     }
     if bytes.len() <= byte_limit() {
         return (Some(Sequence::from(bytes)), Ok(()));
     }
-    match refusal_past_limit(alloc, bytes.as_slice()) {
-        StateError::Mem => {
-            bytes.truncate(count);
-            (Some(Sequence::from(bytes)), Err(StateError::Mem))
-        }
-        refusal => (None, Err(refusal)),
-    }
+    let refusal = refusal_past_limit(alloc, bytes.as_slice());
+    (None, Err(refusal))
 }
 
 /// Why more bytes than may be are no StateEvent, whatever comes behind.
 #[tactic(auto, using(crate::proofs::PiecesForm::past_limit))]
 fn refusal_past_limit(alloc: Global, bytes: &[u8]) -> StateError
     requires { most_bytes < length bytes.now }
-    ensures { result ≢ OutOfMemory → IsRefusal Decides OutOfMemory bytes.now result }
+    ensures { (result ≡ OutOfMemory) ⊎ IsRefusal Decides OutOfMemory bytes.now result }
 {
     match decided(alloc, bytes) {
         Err(refusal) => refusal,

@@ -303,12 +303,18 @@ fn an_early_fault_is_the_answer_past_the_limit(rt: HostRuntime) -> Result<(), Fa
     Ok(())
 }
 
-/// A piece, once more where memory was refused.
-fn fed(reader: &mut StateReader, alloc: Global, piece: &[u8]) -> Result<(), StateError> {
-    match reader.feed(alloc, piece) {
-        Err(StateError::Mem) => reader.feed(alloc, piece),
-        answer => answer,
+/// The events, read one byte at a time. A reader that a refusal came from has failed.
+fn read_by_bytes(alloc: Global, bytes: &[u8]) -> Result<Events, StateError> {
+    let mut reader = StateReader::new(alloc)?;
+    for byte in bytes {
+        if let Err(refusal) = reader.feed(alloc, &[*byte]) {
+            return match reader.feed(alloc, b"") {
+                Err(StateError::Failed) => Err(refusal),
+                _ => Err(StateError::TooLong),
+            };
+        }
     }
+    reader.finish(alloc)
 }
 
 /// Where one allocation fails, whichever it is, what is tried once more gives the same.
@@ -317,15 +323,8 @@ fn one_refused_allocation_changes_no_answer(rt: HostRuntime) -> Result<(), Fail>
     let alloc = rt.alloc();
     let bytes: &[u8] =
         b"<StateEvent xmlns=\"urn:schemas-upnp-org:av:cds-event\"><objMod objID=\"1\" updateID=\"2\" stUpdate=\"1\"/></StateEvent>";
-    let mut reader = match StateReader::new(alloc) {
-        Ok(reader) => reader,
-        Err(_) => StateReader::new(alloc)?,
-    };
-    for byte in bytes {
-        fed(&mut reader, alloc, &[*byte])?;
-    }
-    let events = match reader.finish(alloc) {
-        Err(StateError::Mem) => read(alloc, bytes, 4096)?,
+    let events = match read_by_bytes(alloc, bytes) {
+        Err(StateError::Mem) => read_by_bytes(alloc, bytes)?,
         answer => answer?,
     };
     let mut out = Vec::new(alloc);

@@ -124,4 +124,4 @@ parted_tells bytes (Err Failed) before parts p = tells-err bytes Failed before p
 parted_tells bytes (Ok done) before parts p =
     let d = (documents-are-read bytes).document (sym p.0) in
     let w = parts-are-of-roots bytes d.1.0 d.0 d.1.1 in
-    (parts_of bytes, p.1, parts-are-given bytes, d.0, d.1, w.0)
+    (parts_of bytes, p.1, parts-are-given bytes, d.0, d.1, w.0, ((documents-are-read bytes).whole d.0 d.1).1)

@@ -1,5 +1,5 @@
 -- Each part of what is open stands at its place.
-use Rattle.std.proofs.Common.{◌≡◌, ◌≢◌, ℕ, suc, ◌+◌, ◌<◌, ◌≤◌, max, true, false, ◌&&◌, Option, Some, List, [], ◌∷◌, ◌++◌, length, take, refl, sym, ap, subst, ◌∙◌, arith, append_assoc, append-nil, length-append, codes, ◌⊎◌, inl, inr}
+use Rattle.std.proofs.Common.{◌≡◌, ◌≢◌, ℕ, zero, suc, ◌+◌, ◌<◌, ◌≤◌, max, true, false, ◌&&◌, Option, Some, List, [], ◌∷◌, ◌++◌, length, take, refl, sym, ap, subst, ◌∙◌, arith, append_assoc, append-nil, length-append, codes, ◌⊎◌, inl, inr}
 use Rattle.cds_markup.specs.declared.name.Name.{Name}
 use Rattle.cds_markup.specs.declared.name.Attr.{Attr}
 use Rattle.cds_markup.specs.declared.part.Part.{Part}
@@ -154,6 +154,15 @@ module _ (bytes : List ℕ) (limit : ℕ) (clear : (at : ℕ) → at < limit →
         let found = letter bytes t outer before o apart (front ++ begun) rest (e ∙ ap (λ xs. before ++ xs) (sym (append_assoc front begun rest))) at odd (can (at + 1) less) in
         (found.0, found.1, clear at (omega (arith, less)))
 
+    -- it ends within the limit
+    within-limit : (n : ℕ) → n ≡ length before + length front → n ≤ most_bytes
+    within-limit zero d = omega arith
+    within-limit (suc n) d = by (clear n (omega (arith, d, fits))).short
+      where
+        by : (n < most_bytes) ⊎ (length bytes ≤ most_bytes) → suc n ≤ most_bytes
+        by (inl less) = less
+        by (inr short) = omega (arith, d, short, ap length e, length-append before (front ++ (begun ++ rest)), length-append front (begun ++ rest))
+
     pub text-stands : front ++ begun ≢ [] → ((more back : List ℕ) → begun ++ rest ≡ more ++ back → length before + length front + length more ≤ most_bytes → TextFrom 0 (front ++ more) tt → more ≡ []) → TextStands bytes earlier (length before) (first_odd (length before) (front ++ begun)) (line_ends front)
     text-stands some most = record {
       tags = t ∷ outer;
@@ -168,6 +177,7 @@ module _ (bytes : List ℕ) (limit : ℕ) (clear : (at : ℕ) → at < limit →
       whole = apart;
       plain = plain-of front text;
       cut = cut;
+      within = within-limit (length before + length front) refl;
       some = some;
       says = refl;
       is_odd = refl;

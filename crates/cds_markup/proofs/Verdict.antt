@@ -465,6 +465,13 @@ ok-err r e = cc
 err-same : (r s : MarkupError) → ◌≡◌ {A = Result (Unit {0}) MarkupError} (Err r) (Err s) → r ≡ s
 err-same r s e = cc
 
+pub all-answered : (bytes : List ℕ) → ((element : Meaning) × Doc bytes element) ⊎ ((r : MarkupError) × IsRefused bytes r × (r ≢ Mem))
+all-answered bytes = by (answered bytes)
+  where
+    by : Answered bytes → ((element : Meaning) × Doc bytes element) ⊎ ((r : MarkupError) × IsRefused bytes r × (r ≢ Mem))
+    by (inl a) = inl a.1
+    by (inr (r, d, i, n)) = inr (r, i, n)
+
 pub documents-are-read : (bytes : List ℕ) → ReadAs bytes
 documents-are-read bytes = record {
   whole = λ element d. whole-read bytes element d;

@@ -15,7 +15,7 @@ use Rattle.cds_markup.specs.Namespaces.{tag_says}
 use Rattle.cds_markup.specs.Document.{Meaning, DocOf, Doc, line_ends, most_open, most_bytes}
 use Rattle.cds_markup.specs.Refusal.{Opens, scopes_of, TagEnds, LeafEnds, TextByte, Refuses, IsRefused}
 use Rattle.cds_markup.specs.Course.{parts_of}
-use Rattle.cds_markup.specs.Parts.{first_odd, leaf_parts, OpensParts, DocumentParts}
+use Rattle.cds_markup.specs.Parts.{first_odd, leaf_parts, OpensParts, DocumentParts, Says}
 
 -- Nothing refuses the bytes up to this place, nor with the byte there, which is within the limit.
 pub record Clear (bytes : List ℕ) (at : ℕ) : Type 0 where
@@ -110,6 +110,7 @@ pub record TextStands (bytes : List ℕ) (earlier : List Part) (begin : ℕ) (od
   pub whole : BehindNoText tags before earlier parts
   pub plain : IsPlain front
   pub cut : IsBegun begun
+  pub within : length before + length front ≤ most_bytes
   pub some : front ++ begun ≢ []
   pub says : text ≡ line_ends front
   pub is_odd : odd ≡ first_odd begin (front ++ begun)
@@ -189,13 +190,13 @@ pub record Given (bytes : List ℕ) (parts : List Part) : Type 0 where
 abbrev pub PartsAreGiven : Type 0
 PartsAreGiven = (bytes : List ℕ) → Given bytes (parts_of bytes)
 
--- What reading the parts of bytes answers, and the parts that it adds to those before. Want of memory says nothing of the
--- bytes and adds none.
+-- What reading the parts of bytes answers, and the parts that it adds to those before: of a document those of its root,
+-- which nested are its element. Want of memory says nothing of the bytes and adds none.
 abbrev pub Tells : List ℕ → Result (Unit {0}) MarkupError → List Part → List Part → Type 0
 Tells bytes (Err Mem) before parts = parts ≡ before
 Tells bytes (Err refusal) before parts = (found : List Part) × (parts ≡ before ++ found) × Given bytes found × IsRefused bytes refusal
 Tells bytes (Ok done) before parts =
-    (found : List Part) × (parts ≡ before ++ found) × Given bytes found × (element : Meaning) × Doc bytes element × DocumentParts bytes found
+    (found : List Part) × (parts ≡ before ++ found) × Given bytes found × (element : Meaning) × Doc bytes element × DocumentParts bytes found × Says found element
 
 -- What is open at a place that is free of refusals: each part before it stands there, found before the place.
 abbrev pub PartsStandBefore : Type 0

@@ -1,6 +1,6 @@
 -- What it is for a step to read a form of the grammar: what it takes is in the form, what is in the form it takes, and
 -- where it stops the bytes up to there begin a word of the form, and whatever follows the byte there it stops as well.
-use Rattle.std.specs.Prelude.{◌≡◌, ◌≢◌, ℕ, Bool, true, not, Ok, Err, List, [], ◌∷◌, ◌++◌}
+use Rattle.std.specs.Prelude.{◌≡◌, ◌≢◌, ◌⊎◌, ℕ, Bool, true, not, Ok, Err, List, [], ◌∷◌, ◌++◌}
 use Rattle.cds_base.specs.Characters.{is_in_name}
 use Rattle.cds_markup.specs.declared.error.MarkupError.{MarkupError}
 use Rattle.cds_markup.specs.declared.error.MarkupError.TheVariants.{Mem}
@@ -69,6 +69,10 @@ DocumentsAreRead = (bytes : List ℕ) → ReadAs bytes
 -- A document is one of one element.
 abbrev pub OneElement : Type 0
 OneElement = (bytes : List ℕ) (one other : Meaning) → Doc bytes one → Doc bytes other → one ≡ other
+
+-- There is an answer to all bytes: they are a document, or they are refused.
+abbrev pub AllAreAnswered : Type 0
+AllAreAnswered = (bytes : List ℕ) → ((element : Meaning) × Doc bytes element) ⊎ ((r : MarkupError) × IsRefused bytes r × (r ≢ Mem))
 
 -- Bytes are a document, or they are refused in one way, and not both.
 abbrev pub OneAnswer : Type 0

@@ -1,6 +1,6 @@
 ghost use Rattle.cds_markup.specs.Decided.{PartsAreBuilt, PartsAreTold};
 ghost use Rattle.cds_markup.specs.Found.{LeavesHaveOneEnd, PartsAreGiven, PartsAreOfRoots, PartsStandBefore};
-ghost use Rattle.cds_markup.specs.Law.{CharactersAreRead, DocumentsAreRead, NamesAreRead, OneAnswer, OneElement};
+ghost use Rattle.cds_markup.specs.Law.{AllAreAnswered, CharactersAreRead, DocumentsAreRead, NamesAreRead, OneAnswer, OneElement};
 
 /// What reading takes for a character is one, every allowed character is taken, and where it stops the bytes before
 /// begin an allowed character and with the byte there none does.
@@ -22,6 +22,11 @@ pub fn documents_are_read()
 /// Bytes are a document of one element at most.
 pub fn one_element()
     ensures { OneElement }
+{}
+
+/// There is an answer to all bytes: they are a document, or they are refused.
+pub fn all_are_answered()
+    ensures { AllAreAnswered }
 {}
 
 /// Bytes are a document, or they are refused in one way, and not both.

@@ -1,6 +1,6 @@
 //! Documents that come in pieces.
 
-ghost use Rattle.std.specs.Prelude.{◌≡◌, ◌≢◌, ◌<◌, length, [], Ok, Err, Some};
+ghost use Rattle.std.specs.Prelude.{◌≡◌, ◌⊎◌, ◌<◌, length, [], Ok, Err, Some};
 ghost use Rattle.cds_markup.specs.Document.{most_bytes};
 ghost use Rattle.cds_markup.specs.declared.error.MarkupError.TheVariants.{Mem as OutOfMemory};
 ghost use Rattle.cds_markup.specs.Decided.{Decides};
@@ -13,7 +13,8 @@ use cds_base::{Mem, Sequence};
 use std::alloc::Global;
 use std::marker::Model;
 
-/// Reads a document that comes in pieces. Contracts see the bytes that came, or `None` from a refusal of them on.
+/// Reads a document that comes in pieces. Contracts see the bytes that came, or `None` from a refusal on, want of
+/// memory included.
 #[derive(Drop, Debug)]
 pub struct Reader {
     came: Option<Sequence<u8>>,
@@ -39,7 +40,7 @@ impl Reader {
 
     /// The next piece. Pieces are collected: up to 67,108,864 bytes in all they are accepted, and the byte behind those
     /// is refused by what `read_document` answers to the bytes so far, whatever comes behind: `TooLong`, or the `Bad`
-    /// or `TooDeep` of an earlier fault. From then on each call answers `Failed`. `Mem` leaves the reader as it was.
+    /// or `TooDeep` of an earlier fault. From a refusal on, and from `Mem` on, each call answers `Failed`.
     pub fn feed(&mut self, alloc: Global, piece: &[u8]) -> Result<(), MarkupError>
         ensures { Fed self.old piece.now result self.new }
     {
@@ -52,7 +53,7 @@ impl Reader {
         answer
     }
 
-    /// The end: what `read_document` answers to the bytes that came. `Failed` only where a piece was refused.
+    /// The end: what `read_document` answers to the bytes that came. `Failed` only where a piece was refused or memory ran out.
     pub fn finish(self, alloc: Global) -> Result<Element, MarkupError>
         ensures { Finished self result }
     {
@@ -72,27 +73,21 @@ fn fed(
     ensures { Fed (Some before.items) piece.now result.1 result.0 }
 {
     let mut bytes = before;
-    let count = bytes.len();
     if bytes.extend_from_slice(piece).is_err() {
-        return (Some(Sequence::from(bytes)), Err(MarkupError::Mem));
+        return (None, Err(MarkupError::Mem));
     }
     if bytes.len() <= byte_limit() {
         return (Some(Sequence::from(bytes)), Ok(()));
     }
-    match refusal_past_limit(alloc, bytes.as_slice()) {
-        MarkupError::Mem => {
-            bytes.truncate(count);
-            (Some(Sequence::from(bytes)), Err(MarkupError::Mem))
-        }
-        refusal => (None, Err(refusal)),
-    }
+    let refusal = refusal_past_limit(alloc, bytes.as_slice());
+    (None, Err(refusal))
 }
 
 /// Why more bytes than may be are no document, whatever comes behind.
 #[tactic(auto, using(crate::proofs::PiecesForm::past_limit))]
 fn refusal_past_limit(alloc: Global, bytes: &[u8]) -> MarkupError
     requires { most_bytes < length bytes.now }
-    ensures { result ≢ OutOfMemory → IsRefusal Decides OutOfMemory bytes.now result }
+    ensures { (result ≡ OutOfMemory) ⊎ IsRefusal Decides OutOfMemory bytes.now result }
 {
     match read_document(alloc, bytes) {
         Err(refusal) => refusal,

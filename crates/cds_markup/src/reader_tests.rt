@@ -1,4 +1,4 @@
-use crate::{MarkupError, Node, Reader, read_document, write_document};
+use crate::{Element, MarkupError, Node, Reader, read_document, write_document};
 use std::alloc::Global;
 use std::test::Fail;
 
@@ -171,12 +171,18 @@ fn an_event_is_read_from_its_pieces(rt: HostRuntime) -> Result<(), Fail> {
     Ok(())
 }
 
-/// A piece, once more where memory was refused.
-fn fed(reader: &mut Reader, alloc: Global, piece: &[u8]) -> Result<(), MarkupError> {
-    match reader.feed(alloc, piece) {
-        Err(MarkupError::Mem) => reader.feed(alloc, piece),
-        answer => answer,
+/// The element, read one byte at a time. A reader that a refusal came from has failed.
+fn read_by_bytes(alloc: Global, bytes: &[u8]) -> Result<Element, MarkupError> {
+    let mut reader = Reader::new(alloc)?;
+    for byte in bytes {
+        if let Err(refusal) = reader.feed(alloc, &[*byte]) {
+            return match reader.feed(alloc, b"") {
+                Err(MarkupError::Failed) => Err(refusal),
+                _ => Err(MarkupError::TooLong),
+            };
+        }
     }
+    reader.finish(alloc)
 }
 
 /// Where one allocation fails, whichever it is, what is tried once more gives the same.
@@ -184,15 +190,8 @@ fn fed(reader: &mut Reader, alloc: Global, piece: &[u8]) -> Result<(), MarkupErr
 fn one_refused_allocation_changes_no_answer(rt: HostRuntime) -> Result<(), Fail> {
     let alloc = rt.alloc();
     let bytes: &[u8] = b"<a xmlns='u' b='1&#10;2'>x<![CDATA[<]]>y<!-- z --><c d=\"e\"/>f</a>";
-    let mut reader = match Reader::new(alloc) {
-        Ok(reader) => reader,
-        Err(_) => Reader::new(alloc)?,
-    };
-    for byte in bytes {
-        fed(&mut reader, alloc, &[*byte])?;
-    }
-    let element = match reader.finish(alloc) {
-        Err(MarkupError::Mem) => read_document(alloc, bytes)?,
+    let element = match read_by_bytes(alloc, bytes) {
+        Err(MarkupError::Mem) => read_by_bytes(alloc, bytes)?,
         answer => answer?,
     };
     let mut out = Vec::new(alloc);

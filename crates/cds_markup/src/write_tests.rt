@@ -15,9 +15,57 @@ fn attr(alloc: Global, space: &str, local: &str, value: &str) -> Result<Attr, Me
     Ok(Attr { name, value })
 }
 
-fn element(alloc: Global, space: &str, local: &str, children: Nodes) -> Result<Element, Mem> {
-    let name = name(alloc, space, local)?;
+fn written(alloc: Global, element: &Element) -> Result<Vec<u8>, Mem> {
+    let mut out = Vec::new(alloc);
+    write_document(element, &mut out)?;
+    Ok(out)
+}
+
+fn text(alloc: Global, text: &str) -> Result<Node, Mem> {
+    let text = Text::read(alloc, text)?;
+    Ok(Node::Text(text))
+}
+
+/// An element without a namespace, in which a text stands.
+fn child(alloc: Global) -> Result<Node, Mem> {
+    let mut children = Nodes::new(alloc);
+    children.push(text(alloc, "x<y>\r\n")?)?;
+    let name = name(alloc, "", "c")?;
     let attrs = Attrs::new(alloc);
+    Ok(Node::Child(Element {
+        name,
+        attrs,
+        children,
+    }))
+}
+
+/// A text and an element.
+fn children(alloc: Global) -> Result<Nodes, Mem> {
+    let mut children = Nodes::new(alloc);
+    children.push(text(alloc, "]]>")?)?;
+    children.push(child(alloc)?)?;
+    Ok(children)
+}
+
+/// Attributes of every kind.
+fn attrs(alloc: Global) -> Result<Attrs, Mem> {
+    let mut attrs = Attrs::new(alloc);
+    for (space, local, value) in [
+        ("", "b", "\"1\"\t"),
+        ("urn:u", "b", "2"),
+        ("http://www.w3.org/XML/1998/namespace", "lang", "en"),
+        ("urn:&", "b", "3"),
+    ] {
+        attrs.push(attr(alloc, space, local, value)?)?;
+    }
+    Ok(attrs)
+}
+
+/// An element with attributes of every kind, a text and a child of another namespace.
+fn sample(alloc: Global) -> Result<Element, Mem> {
+    let name = name(alloc, "urn:u", "a")?;
+    let attrs = attrs(alloc)?;
+    let children = children(alloc)?;
     Ok(Element {
         name,
         attrs,
@@ -25,54 +73,33 @@ fn element(alloc: Global, space: &str, local: &str, children: Nodes) -> Result<E
     })
 }
 
-fn written(alloc: Global, element: &Element) -> Result<Vec<u8>, Mem> {
-    let mut out = Vec::new(alloc);
-    write_document(element, &mut out)?;
-    Ok(out)
+fn empty(alloc: Global) -> Result<Element, Mem> {
+    let name = name(alloc, "urn:schemas-upnp-org:av:cds-event", "StateEvent")?;
+    Ok(Element {
+        name,
+        attrs: Attrs::new(alloc),
+        children: Nodes::new(alloc),
+    })
 }
 
-/// An element with attributes of every kind, a text and a child of another namespace.
-fn sample(alloc: Global) -> Result<Element, Mem> {
-    let mut inner = Nodes::new(alloc);
-    inner.push(Node::Text(Text::read(alloc, "x<y>\r\n")?))?;
-    let child = element(alloc, "", "c", inner)?;
-    let mut children = Nodes::new(alloc);
-    children.push(Node::Text(Text::read(alloc, "]]>")?))?;
-    children.push(Node::Child(child))?;
-    let mut all = element(alloc, "urn:u", "a", children)?;
-    all.attrs.push(attr(alloc, "", "b", "\"1\"\t")?)?;
-    all.attrs.push(attr(alloc, "urn:u", "b", "2")?)?;
-    all.attrs.push(attr(alloc, "http://www.w3.org/XML/1998/namespace", "lang", "en")?)?;
-    all.attrs.push(attr(alloc, "urn:&", "b", "3")?)?;
-    Ok(all)
+/// Whether this is written of an element, and is a document.
+fn is_written(alloc: Global, element: &Element, want: &str) -> Result<bool, Mem> {
+    let bytes = written(alloc, element)?;
+    let mut parts = Parts::new(alloc);
+    let read = read_parts(alloc, bytes.as_slice(), &mut parts);
+    Ok(bytes.as_slice() == want.as_bytes() && read.is_ok())
 }
 
 #[test]
 fn elements_have_one_written_form(rt: HostRuntime) -> Result<(), Fail> {
     let alloc = rt.alloc();
-    let root = element(
-        alloc,
-        "urn:schemas-upnp-org:av:cds-event",
-        "StateEvent",
-        Nodes::new(alloc),
-    )?;
-    let cases: [(Element, &str); 2] = [
-        (
-            root,
-            "<StateEvent xmlns=\"urn:schemas-upnp-org:av:cds-event\"></StateEvent>",
-        ),
-        (
-            sample(alloc)?,
-            "<a xmlns=\"urn:u\" b=\"&quot;1&quot;&#9;\" xmlns:a1=\"urn:u\" a1:b=\"2\" xml:lang=\"en\" xmlns:a3=\"urn:&amp;\" a3:b=\"3\">]]&gt;<c xmlns=\"\">x&lt;y&gt;&#13;&#10;</c></a>",
-        ),
-    ];
-    for (element, want) in &cases {
-        let bytes = written(alloc, element)?;
-        assert_eq!(rt; bytes.as_slice(), want.as_bytes(), "{want}");
-        let mut parts = Parts::new(alloc);
-        let read = read_parts(alloc, bytes.as_slice(), &mut parts);
-        assert!(rt; read.is_ok(), "{want}");
-    }
+    let root = empty(alloc)?;
+    let want = "<StateEvent xmlns=\"urn:schemas-upnp-org:av:cds-event\"></StateEvent>";
+    assert!(rt; is_written(alloc, &root, want)?, "{want}");
+    let all = sample(alloc)?;
+    let want =
+        "<a xmlns=\"urn:u\" b=\"&quot;1&quot;&#9;\" xmlns:a1=\"urn:u\" a1:b=\"2\" xml:lang=\"en\" xmlns:a3=\"urn:&amp;\" a3:b=\"3\">]]&gt;<c xmlns=\"\">x&lt;y&gt;&#13;&#10;</c></a>";
+    assert!(rt; is_written(alloc, &all, want)?, "{want}");
     Ok(())
 }
 
