@@ -12,6 +12,7 @@ mod runs;
 mod sequence;
 mod text;
 mod unescaping;
+mod writing;
 
 pub use escaping::escape;
 pub use mem::Mem;
@@ -22,6 +23,7 @@ pub use runs::{first_forbidden, plain_run};
 pub use sequence::Sequence;
 pub use text::Text;
 pub use unescaping::{TextError, is_allowed, unescape};
+pub use writing::{put, put_number};
 
 /// A list of bytes.
 pub type Bytes = Sequence<u8>;

@@ -1,6 +1,6 @@
 use crate::{
     Bytes, Failed, Mem, MemSink, MemSource, Numbers, Sink, Source, Text, TextError, Words, escape,
-    first_forbidden, plain_run, read_plain, read_u32, unescape, write_all,
+    first_forbidden, plain_run, put, put_number, read_plain, read_u32, unescape, write_all,
 };
 use std::alloc::Global;
 use std::convert::From;
@@ -18,6 +18,16 @@ fn escapes_the_eight_bytes(rt: HostRuntime) -> Result<(), Fail> {
         escape(text, &mut out)?;
         assert_eq!(rt; out.as_str(), want, "{text}");
     }
+    Ok(())
+}
+
+#[test]
+fn pieces_are_put_at_the_end(rt: HostRuntime) -> Result<(), Fail> {
+    let mut out = String::from_str(rt.alloc(), "=")?;
+    put(&mut out, "a\u{e9}")?;
+    put_number(&mut out, 0)?;
+    put_number(&mut out, u64::MAX)?;
+    assert_eq!(rt; out.as_str(), "=a\u{e9}018446744073709551615");
     Ok(())
 }
 
