@@ -10,8 +10,9 @@ program=$top/crates/cds_cli/out/cds_cli
 work=$(mktemp -d)
 trap 'rm -rf "$work"' EXIT
 
-python3 - "$work" "$program" <<'PY'
-import os, subprocess, sys, time
+PYTHONPATH=$top/bench python3 -B - "$work" "$program" <<'PY'
+import os, sys
+from measure import measured
 work, program = sys.argv[1:]
 
 # Events of all four kinds, in turn.
@@ -29,36 +30,14 @@ for count in sizes:
     with open(f"{work}/events{count}", "w") as file:
         file.write('<StateEvent xmlns="urn:schemas-upnp-org:av:cds-event">' + "".join(map(event, range(count))) + "</StateEvent>")
 
-def once(command, name):
-    pid = os.fork()
-    if pid == 0:
-        source = os.open(f"{work}/{name}", os.O_RDONLY)
-        sink = os.open(os.devnull, os.O_WRONLY)
-        os.dup2(source, 0)
-        os.dup2(sink, 1)
-        os.execvp(command[0], command)
-    _, status, usage = os.wait4(pid, 0)
-    if status != 0:
-        sys.exit(f"{name} ended with {status}")
-    return usage.ru_utime
-
-def memory(command, name):
-    with open(f"{work}/{name}", "rb") as source:
-        command = ["/usr/bin/time", "-f", "%M", *command]
-        done = subprocess.run(command, stdin=source, stdout=subprocess.DEVNULL, stderr=subprocess.PIPE, check=True)
-    return int(done.stderr.split()[-1]) * 1024
-
-# The user time on average of the runs, and the least peak memory.
-def measured(command, name, runs=10):
-    return sum(once(command, name) for _ in range(runs)) / runs, min(memory(command, name) for _ in range(3))
-
 before = None
 for count in sizes:
-    now = measured([program, "check"], f"events{count}")
-    size = os.path.getsize(f"{work}/events{count}")
-    grown = "" if before is None else f", {now[0] / before[0]:.2f} times in user time"
-    print(f"{count} events, {size / 1e6:.1f} MB: {now[0] * 1000:.0f} ms user, {now[1] / 1e6:.1f} MB at most, {now[1] / size:.1f} times the input{grown}")
-    before = now
-other = measured(["xmllint", "--noout", "-"], f"events{sizes[-1]}")
-print(f"xmllint --noout on {sizes[-1]} events: {other[0] * 1000:.0f} ms user, {other[1] / 1e6:.1f} MB; cds check takes {before[0] / other[0]:.2f} times its user time")
+    path = f"{work}/events{count}"
+    _, user, most = measured([program, "check"], path, 10)
+    size = os.path.getsize(path)
+    grown = "" if before is None else f", {user / before:.2f} times in user time"
+    print(f"{count} events, {size / 1e6:.1f} MB: {user * 1000:.0f} ms user, {most / 1e6:.1f} MB at most, {most / size:.1f} times the input{grown}")
+    before = user
+_, user, most = measured(["xmllint", "--noout", "-"], path, 10)
+print(f"xmllint --noout on {sizes[-1]} events: {user * 1000:.0f} ms user, {most / 1e6:.1f} MB; cds check takes {before / user:.2f} times its user time")
 PY

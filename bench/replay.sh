@@ -67,55 +67,34 @@ for scans in (0, 10, 90, 100):
     write(f"followed{scans}", followed(1000, scans))
 PY
 
-python3 - "$work" "$program" <<'PY'
-import os, resource, subprocess, sys, time
+PYTHONPATH=$top/bench python3 -B - "$work" "$program" <<'PY'
+import sys
+from measure import measured
 work, program = sys.argv[1:]
 
-def memory(command, name):
-    with open(f"{work}/{name}", "rb") as source:
-        command = ["/usr/bin/time", "-f", "%M", *command]
-        done = subprocess.run(command, stdin=source, stdout=subprocess.DEVNULL, stderr=subprocess.PIPE, check=True)
-    return int(done.stderr.split()[-1]) / 1024
-
-def once(command, name):
-    started = time.perf_counter()
-    pid = os.fork()
-    if pid == 0:
-        source = os.open(f"{work}/{name}", os.O_RDONLY)
-        sink = os.open(os.devnull, os.O_WRONLY)
-        os.dup2(source, 0)
-        os.dup2(sink, 1)
-        os.execvp(command[0], command)
-    _, status, usage = os.wait4(pid, 0)
-    if status != 0:
-        sys.exit(f"{name} ended with {status}")
-    return time.perf_counter() - started, usage.ru_utime
-
-# The least wall time of the runs, their user time on average, and the least peak memory. A run's own user time is told in
-# ticks, so short runs are many.
-def measured(command, name, runs=25):
-    times = [once(command, name) for _ in range(runs)]
-    return min(t[0] for t in times), sum(t[1] for t in times) / runs, min(memory(command, name) for _ in range(3))
+def timed(command, name, runs=25):
+    wall, user, most = measured(command, f"{work}/{name}", runs)
+    return wall, user, most / (1024 * 1024)
 
 play = [program, "replay"]
-comments, lines = measured(play, "comments"), measured(["wc", "-l"], "comments")
+comments, lines = timed(play, "comments"), timed(["wc", "-l"], "comments")
 print(f"20 MB of comments: {comments[0] * 1000:.0f} ms, wc -l {lines[0] * 1000:.0f} ms, {comments[0] / lines[0]:.1f} times")
 before = None
 for count in (500, 1000, 2000, 4000):
-    now = measured(play, f"load{count}")
+    now = timed(play, f"load{count}")
     grown = "" if before is None else f", {now[0] / before[0]:.2f} times in time and {now[2] / before[2]:.2f} in memory"
     print(f"{count} tracks: {now[0] * 1000:.1f} ms ({now[1] * 1000:.1f} ms user), {now[2]:.2f} MB{grown}")
     before = now
 before = None
 for count in (500, 1000, 2000, 4000):
-    now = measured(play, f"changed{count}", 10)
+    now = timed(play, f"changed{count}", 10)
     grown = "" if before is None else f", {now[0] / before[0]:.2f} times in time and {now[2] / before[2]:.2f} in memory"
     print(f"ten scans of {count} tracks, 2 % changed in each: {now[0] * 1000:.1f} ms, {now[2]:.2f} MB{grown}")
     before = now
 for many, one in (("scans40", "scans1"), ("loads20", "loads1"), ("asks20", "loads1")):
-    a, b = measured(play, many, 3), measured(play, one, 3)
+    a, b = timed(play, many, 3), timed(play, one, 3)
     print(f"{many} against {one}: {a[2]:.2f} MB and {b[2]:.2f} MB, {a[2] / b[2]:.2f} times; {a[0] * 1000:.0f} ms and {b[0] * 1000:.0f} ms")
-user = {scans: measured(play, f"followed{scans}", 10) for scans in (0, 10, 90, 100)}
+user = {scans: timed(play, f"followed{scans}", 10) for scans in (0, 10, 90, 100)}
 first, last = user[10][1] - user[0][1], user[100][1] - user[90][1]
 print(f"100 scans followed by notes: {user[100][0] * 1000:.0f} ms, {user[100][2]:.2f} MB; the first ten {first * 1000:.0f} ms user, the last ten {last * 1000:.0f} ms, {last / first:.2f} times")
 PY
