@@ -2,7 +2,7 @@
 
 ghost use Rattle.cds_catalog.specs.Laws as laws;
 
-/// What no record spoils is a folder map, with as many places as records.
+/// Records of which none is refused make a folder map, with one place for each record.
 pub fn accepted_records_are_a_library()
     ensures { laws.accepted_records_are_a_library }
 {}

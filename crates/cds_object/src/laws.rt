@@ -2,7 +2,7 @@
 
 ghost use Rattle.cds_object.specs.Laws as laws;
 
-/// A path's text is refused at the first byte of its first name that cannot stand in a path, and nowhere else.
+/// A path's text is refused exactly where its first name begins that cannot stand in a path.
 pub fn bad_names_have_their_place()
     ensures { laws.bad_names_have_their_place }
 {}
