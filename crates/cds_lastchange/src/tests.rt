@@ -106,41 +106,43 @@ fn count(alloc: Global, bytes: &[u8]) -> Result<usize, StateError> {
     })
 }
 
+/// Other forms of StateEvents, each with the number of its events.
+const OTHER_FORMS: [(&'static [u8], usize); 9] = [
+    (b"", 0),
+    (b" \t\r\n", 0),
+    (
+        b"<StateEvent xmlns='urn:schemas-upnp-org:av:cds-event'/>",
+        0,
+    ),
+    (
+        b"<e:StateEvent xmlns:e=\"urn:schemas-upnp-org:av:cds-event\"></e:StateEvent>",
+        0,
+    ),
+    (
+        b"<StateEvent xmlns='urn:schemas-upnp-org:av:cds-event' xmlns:xsi='x' xsi:schemaLocation='a b'/>",
+        0,
+    ),
+    (
+        b"<!-- x --><StateEvent xmlns='urn:schemas-upnp-org:av:cds-event'> <!-- y -->\n</StateEvent> ",
+        0,
+    ),
+    (
+        b"<StateEvent xmlns='urn:schemas-upnp-org:av:cds-event'><stDone updateID='007' objID='&#49;'> </stDone></StateEvent>",
+        1,
+    ),
+    (
+        b"<e:StateEvent xmlns:e='urn:schemas-upnp-org:av:cds-event'><e:objMod x='' stUpdate='true' objID='1' updateID='2'><!--z--></e:objMod>\n<e:objDel objID='1' updateID='3' stUpdate='false' e:objID='x'/></e:StateEvent>",
+        2,
+    ),
+    (
+        b"\xEF\xBB\xBF<?xml version='1.0'?><StateEvent xmlns='urn:schemas-upnp-org:av:cds-event'><objAdd objClass='object.container' objID='1' objParentID='0' stUpdate='0' updateID='4294967295'/></StateEvent>",
+        1,
+    ),
+];
+
 #[test]
 fn other_forms_are_read(rt: HostRuntime) -> Result<(), Fail> {
-    let cases: [(&[u8], usize); 9] = [
-        (b"", 0),
-        (b" \t\r\n", 0),
-        (
-            b"<StateEvent xmlns='urn:schemas-upnp-org:av:cds-event'/>",
-            0,
-        ),
-        (
-            b"<e:StateEvent xmlns:e=\"urn:schemas-upnp-org:av:cds-event\"></e:StateEvent>",
-            0,
-        ),
-        (
-            b"<StateEvent xmlns='urn:schemas-upnp-org:av:cds-event' xmlns:xsi='x' xsi:schemaLocation='a b'/>",
-            0,
-        ),
-        (
-            b"<!-- x --><StateEvent xmlns='urn:schemas-upnp-org:av:cds-event'> <!-- y -->\n</StateEvent> ",
-            0,
-        ),
-        (
-            b"<StateEvent xmlns='urn:schemas-upnp-org:av:cds-event'><stDone updateID='007' objID='&#49;'> </stDone></StateEvent>",
-            1,
-        ),
-        (
-            b"<e:StateEvent xmlns:e='urn:schemas-upnp-org:av:cds-event'><e:objMod x='' stUpdate='true' objID='1' updateID='2'><!--z--></e:objMod>\n<e:objDel objID='1' updateID='3' stUpdate='false' e:objID='x'/></e:StateEvent>",
-            2,
-        ),
-        (
-            b"\xEF\xBB\xBF<?xml version='1.0'?><StateEvent xmlns='urn:schemas-upnp-org:av:cds-event'><objAdd objClass='object.container' objID='1' objParentID='0' stUpdate='0' updateID='4294967295'/></StateEvent>",
-            1,
-        ),
-    ];
-    for (bytes, wanted) in cases {
+    for (bytes, wanted) in OTHER_FORMS {
         let found = count(rt.alloc(), bytes)?;
         assert_eq!(rt; found, wanted);
     }
@@ -164,85 +166,87 @@ fn place_of(answer: Result<Events, StateError>) -> Result<(usize, bool), StateEr
     }
 }
 
+/// What makes a StateEvent that is begun none: the place of its first fault, and whether it is no document either.
+const NO_EVENTS: [(&'static [u8], usize, bool); 30] = [
+    (b"<objNew/></StateEvent>", 54, false),
+    (
+        b"<objDel objID=\"7\" stUpdate=\"0\"/></StateEvent>",
+        54,
+        false,
+    ),
+    (
+        b"<objDel objID=\"7\" updateID=\"+5\" stUpdate=\"0\"/></StateEvent>",
+        54,
+        false,
+    ),
+    (
+        b"<objDel objID=\"7\" updateID=\"4294967296\" stUpdate=\"0\"/></StateEvent>",
+        54,
+        false,
+    ),
+    (
+        b"<objDel objID=\"7\" updateID=\"9\"/></StateEvent>",
+        54,
+        false,
+    ),
+    (
+        b"<objDel objID=\"7\" updateID=\"9\" stUpdate=\"TRUE\"/></StateEvent>",
+        54,
+        false,
+    ),
+    (
+        b"<objDel objID=\"\" updateID=\"9\" stUpdate=\"0\"/></StateEvent>",
+        54,
+        false,
+    ),
+    (
+        b"<objDel xmlns=\"\" objID=\"7\" updateID=\"9\" stUpdate=\"0\"/></StateEvent>",
+        54,
+        false,
+    ),
+    (b"<stDone objID=\"1\"/></StateEvent>", 54, false),
+    (
+        b"<stDone xmlns:x=\"y\" x:objID=\"1\" updateID=\"2\"/></StateEvent>",
+        54,
+        false,
+    ),
+    (b"<StateEvent/></StateEvent>", 54, false),
+    (
+        b"<objAdd objID='1' updateID='1' stUpdate='1' objParentID='0' objClass='object.item'/>",
+        54,
+        false,
+    ),
+    (b"<objNew", 61, true),
+    (b"<objNew/", 54, false),
+    (b"<objNew/x", 54, false),
+    (b"<objNew a='1' a='2'/></StateEvent>", 73, true),
+    (
+        b"<stDone objID='1' updateID='2'><a></a></stDone></StateEvent>",
+        85,
+        false,
+    ),
+    (
+        b"<stDone objID='1' updateID='2'>x</stDone></StateEvent>",
+        85,
+        false,
+    ),
+    (b"x&bad", 54, false),
+    (b" \n&#32;</StateEvent>", 56, false),
+    (b"&#32", 58, true),
+    (b"&bad;", 55, true),
+    (b"<![CDATA[]]></StateEvent>", 54, false),
+    (b"<![CDATA[]]", 65, true),
+    (b"<!-- ", 59, true),
+    (b"]]></StateEvent>", 54, false),
+    (b" \xC3", 55, false),
+    (b"\xED\xA0\x80", 54, false),
+    (b"\xC1\x80", 54, true),
+    (b"</StateEven", 65, true),
+];
+
 #[test]
 fn what_is_no_event_is_refused(rt: HostRuntime) -> Result<(), Fail> {
-    let cases: [(&[u8], usize, bool); 30] = [
-        (b"<objNew/></StateEvent>", 54, false),
-        (
-            b"<objDel objID=\"7\" stUpdate=\"0\"/></StateEvent>",
-            54,
-            false,
-        ),
-        (
-            b"<objDel objID=\"7\" updateID=\"+5\" stUpdate=\"0\"/></StateEvent>",
-            54,
-            false,
-        ),
-        (
-            b"<objDel objID=\"7\" updateID=\"4294967296\" stUpdate=\"0\"/></StateEvent>",
-            54,
-            false,
-        ),
-        (
-            b"<objDel objID=\"7\" updateID=\"9\"/></StateEvent>",
-            54,
-            false,
-        ),
-        (
-            b"<objDel objID=\"7\" updateID=\"9\" stUpdate=\"TRUE\"/></StateEvent>",
-            54,
-            false,
-        ),
-        (
-            b"<objDel objID=\"\" updateID=\"9\" stUpdate=\"0\"/></StateEvent>",
-            54,
-            false,
-        ),
-        (
-            b"<objDel xmlns=\"\" objID=\"7\" updateID=\"9\" stUpdate=\"0\"/></StateEvent>",
-            54,
-            false,
-        ),
-        (b"<stDone objID=\"1\"/></StateEvent>", 54, false),
-        (
-            b"<stDone xmlns:x=\"y\" x:objID=\"1\" updateID=\"2\"/></StateEvent>",
-            54,
-            false,
-        ),
-        (b"<StateEvent/></StateEvent>", 54, false),
-        (
-            b"<objAdd objID='1' updateID='1' stUpdate='1' objParentID='0' objClass='object.item'/>",
-            54,
-            false,
-        ),
-        (b"<objNew", 61, true),
-        (b"<objNew/", 54, false),
-        (b"<objNew/x", 54, false),
-        (b"<objNew a='1' a='2'/></StateEvent>", 73, true),
-        (
-            b"<stDone objID='1' updateID='2'><a></a></stDone></StateEvent>",
-            85,
-            false,
-        ),
-        (
-            b"<stDone objID='1' updateID='2'>x</stDone></StateEvent>",
-            85,
-            false,
-        ),
-        (b"x&bad", 54, false),
-        (b" \n&#32;</StateEvent>", 56, false),
-        (b"&#32", 58, true),
-        (b"&bad;", 55, true),
-        (b"<![CDATA[]]></StateEvent>", 54, false),
-        (b"<![CDATA[]]", 65, true),
-        (b"<!-- ", 59, true),
-        (b"]]></StateEvent>", 54, false),
-        (b" \xC3", 55, false),
-        (b"\xED\xA0\x80", 54, false),
-        (b"\xC1\x80", 54, true),
-        (b"</StateEven", 65, true),
-    ];
-    for (rest, at, bad) in cases {
+    for (rest, at, bad) in NO_EVENTS {
         let bytes = begun(rt.alloc(), rest)?;
         let found = places(rt.alloc(), bytes.as_slice())?;
         assert_eq!(rt; found, (at, at, bad));

@@ -75,46 +75,115 @@ fn otherwise(alloc: Global, document: &[u8], byte: u8, marks: &str) -> Result<Op
     Ok(None)
 }
 
-#[test]
-fn each_byte_has_its_place_behind_the_beginnings_of_an_element(
-    rt: HostRuntime,
-) -> Result<(), Fail> {
-    let element = b"<a b=\"1\">c<!--d--><![CDATA[e]]>&lt;</a>";
-    let cases: [(u8, &str); 6] = [
-        (b'<', ".xxxxxxxx..xxx...x.xxxxxxxx.....xxx.xxx."),
-        (b'>', "xx..xx.....xxx.....xxxxxxxx.....xxx.xx=x"),
-        (b' ', ".x.........xxx...x.xxxxxxxx.....xxx.xx.="),
-        (b'-', "xx.x.x..x..x.......x.xxxxxx.....xxx.xxxx"),
-        (b']', "xxxxxx..x..xxx...x.xxxxxxxx.....xxx.xxxx"),
-        (b'\x01', "xxxxxxxxxxxxxxxxxxxxxxxxxxxxxxxxxxxxxxxx"),
-    ];
-    for (byte, marks) in cases {
-        let place = otherwise(rt.alloc(), element, byte, marks)?;
-        assert!(rt; place.is_none(), "{byte} behind {place:?}");
-    }
-    Ok(())
+/// A document, and for some bytes the marks behind each number of its first bytes.
+#[derive(Clone, Copy)]
+struct Cut {
+    document: &'static [u8],
+    marks: &'static [(u8, &'static str)],
 }
 
+/// Every construct of documents. The marks come from the grammar's table by a program apart from this one.
+const CUTS: [Cut; 6] = [
+    Cut {
+        document: b"<a b=\"1\">c<!--d--><![CDATA[e]]>&lt;</a>",
+        marks: &[
+            (b'<', ".xxxxxxxx..xxx...x.xxxxxxxx.....xxx.xxx."),
+            (b'>', "xx..xx.....xxx.....xxxxxxxx.....xxx.xx=x"),
+            (b' ', ".x.........xxx...x.xxxxxxxx.....xxx.xx.="),
+            (b'-', "xx.x.x..x..x.......x.xxxxxx.....xxx.xxxx"),
+            (b']', "xxxxxx..x..xxx...x.xxxxxxxx.....xxx.xxxx"),
+            (b'\x01', "xxxxxxxxxxxxxxxxxxxxxxxxxxxxxxxxxxxxxxxx"),
+        ],
+    },
+    Cut {
+        document: b"\xEF\xBB\xBF<?xml version='1.0' standalone=\"no\"?><x:a xmlns:x='u'/>",
+        marks: &[
+            (
+                b'\x01',
+                "xxxxxxxxxxxxxxxxxxxxxxxxxxxxxxxxxxxxxxxxxxxxxxxxxxxxxxxxxxx",
+            ),
+            (
+                b'?',
+                "xxxx.xxxxxxxxxxxxxxxxx..xxxxxxxxxxxxxx.xxxxxxxxxxxxxxx..xxx",
+            ),
+            (
+                b'\xC3',
+                "xxxx.xxxxxxxxxxxxxxxxxxxxxxxxxxxxxxxxxxxx............x..xxx",
+            ),
+        ],
+    },
+    Cut {
+        document: b"<?xml version = \"1.0\" encoding='Utf-8' ?><!--a--> <b />\n<!-- c -->",
+        marks: &[
+            (
+                b'\'',
+                "xxxxxxxxxxxxxxx..xxxxxxxxxxxxxx.xxxxx.xxxxxxx...xxxxxxxxxxxx.....xx",
+            ),
+            (
+                b'"',
+                "xxxxxxxxxxxxxxx..xxx.xxxxxxxxxx.xxxxxxxxxxxxx...xxxxxxxxxxxx.....xx",
+            ),
+            (
+                b'-',
+                "xxxxxxxxxxxxxxxxxxxxxxxxxxxxxxxxxxx.xxxxxxx......xxx.xxxxx........x",
+            ),
+            (
+                b'>',
+                "xxxxxxxxxxxxxxxxxxxxxxxxxxxxxxxxxxxxxxxx.xxxx....xxx..=xxxxx.....=x",
+            ),
+            (
+                b'8',
+                "xxxxxxxxxxxxxxxxxxxxxxxxxxxxxxxxxxxx.xxxxxxxx...xxxx.xxxxxxx.....xx",
+            ),
+            (
+                b' ',
+                ".xxxx..xxxxxx....xxxx..xxxxxxx..xxxxxx..x.xxx...x..x..x==xxx.....x=",
+            ),
+        ],
+    },
+    Cut {
+        document: b"<a b='&#38;\"&quot;'>&#9;&#x4E;&apos;&gt;&amp;]]</a>",
+        marks: &[
+            (b';', "xxxxxx.xxx...xxxx..x.xx..xxxx..xxxx..xx..xxx....xxxx"),
+            (b'9', "xx.x.x.x.....xxxxx.x.x...x.....xxxxx.xxx.xxxx...xxxx"),
+            (b'x', "x....x.x.xx..xxxxx.x.x.x.x.xxx.xxxxx.xxx.xxxx....xxx"),
+            (b'E', "x....x.xxxx..xxxxx.x.xxx.xx....xxxxx.xxx.xxxx....xxx"),
+            (b'&', "xxxxxx.xxxx..xxxxx.x.xxx.xxxxx.xxxxx.xxx.xxxx...xxxx"),
+            (
+                b'\'',
+                "xxxxx..xxxx..xxxxx.x.xxx.xxxxx.xxxxx.xxx.xxxx...xxxx",
+            ),
+        ],
+    },
+    Cut {
+        document: b"<a><\xC3\xA9.1 \xE2\x82\xAC=''/></a >",
+        marks: &[
+            (b'\xC3', "x....x....xx.x.xx..xxxx"),
+            (b'\xBF', "xxxxx.xxxx..xxxxxxxxxxx"),
+            (b'<', ".xx.xxxxxxxxxxxxx.xxxx."),
+            (b'=', "xxx.xxxxxxxx.x.xx.xxxxx"),
+            (b'/', "xx...x....xxxx..x..xxxx"),
+        ],
+    },
+    Cut {
+        document: b"<a>&#x10FFFF;&#xD7FF;&#1114111;&#57344;</a>",
+        marks: &[
+            (b'0', "xx..x.......x.x.......x.......x.x.......xxxx"),
+            (b';', "xxx.xxxxx.....xxx.....xxxx......xxx.....xxxx"),
+            (b'F', "x...xx......x.xx......xxxxxxxxx.xxxxxxx..xxx"),
+            (b'f', "x...xx......x.xx......xxxxxxxxx.xxxxxxx..xxx"),
+            (b'8', "xx..x.......x.x.......x......xx.x.......xxxx"),
+        ],
+    },
+];
+
 #[test]
-fn each_byte_has_its_place_behind_the_beginnings_of_a_prolog(rt: HostRuntime) -> Result<(), Fail> {
-    let document = b"\xEF\xBB\xBF<?xml version='1.0' standalone=\"no\"?><x:a xmlns:x='u'/>";
-    let cases: [(u8, &str); 3] = [
-        (
-            b'\x01',
-            "xxxxxxxxxxxxxxxxxxxxxxxxxxxxxxxxxxxxxxxxxxxxxxxxxxxxxxxxxxx",
-        ),
-        (
-            b'?',
-            "xxxx.xxxxxxxxxxxxxxxxx..xxxxxxxxxxxxxx.xxxxxxxxxxxxxxx..xxx",
-        ),
-        (
-            b'\xC3',
-            "xxxx.xxxxxxxxxxxxxxxxxxxxxxxxxxxxxxxxxxxx............x..xxx",
-        ),
-    ];
-    for (byte, marks) in cases {
-        let place = otherwise(rt.alloc(), document, byte, marks)?;
-        assert!(rt; place.is_none(), "{byte} behind {place:?}");
+fn each_byte_has_its_place_behind_every_beginning(rt: HostRuntime) -> Result<(), Fail> {
+    for cut in CUTS {
+        for (byte, marks) in cut.marks {
+            let place = otherwise(rt.alloc(), cut.document, *byte, marks)?;
+            assert!(rt; place.is_none(), "{byte} behind {place:?}");
+        }
     }
     Ok(())
 }
