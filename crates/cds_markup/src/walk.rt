@@ -68,8 +68,12 @@ impl<'a> Walk<'a> {
         ensures step { Moves S.took out.old (ruled_moves self.old.total at self.old.opens.items tag (tag_says (scopes_in self.old.opens.items) tag) self.old.parser) result (record { out = out.new; opens = self.new.opens.items; left = self.new.parser }) }
         ensures total { self.new.total ≡ self.old.total }
     {
-        let declared = declarations(alloc, tag.attrs.as_slice())?;
-        match tag_says(alloc, self.opens.as_slice(), declared.as_slice(), &tag)? {
+        let Tag { name, attrs } = tag;
+        let declared = declarations(alloc, attrs.as_slice())?;
+        let scope = self.opens.as_slice();
+        let said = tag_says(alloc, scope, declared.as_slice(), &name, attrs)?;
+        let element = Open { name, declared };
+        match said {
             Some((name, attrs)) => {
                 let end = self.place();
                 let part = Part::Start {
@@ -77,10 +81,6 @@ impl<'a> Walk<'a> {
                     end,
                     name,
                     attrs,
-                };
-                let element = Open {
-                    name: tag.name,
-                    declared,
                 };
                 self.tag_end(end, part, element, out)
             }
