@@ -2,10 +2,11 @@ ghost use Rattle.std.specs.Prelude.{◌≡◌, ◌++◌, length, List, ℕ, OnEr
 ghost use Rattle.cds_markup.specs.Document.{most_bytes};
 ghost use Rattle.cds_markup.specs.Course.{answer_of};
 ghost use Rattle.cds_markup.specs.Agree.{Gives, Parted};
-ghost use Rattle.cds_markup.specs.Decided.{Decides};
+ghost use Rattle.cds_markup.specs.Building.{state_of};
+ghost use Rattle.cds_markup.specs.Decided.{Decides, IsBuilt};
 ghost use Rattle.cds_markup.specs.Found.{Tells, TellsTo};
 
-use crate::build::element_of;
+use crate::build::Builder;
 use crate::error::Stop;
 use crate::parser::Parser;
 use crate::walk::{Walk, front};
@@ -57,33 +58,32 @@ fn add_parts(alloc: Global, bytes: &[u8], out: &mut Parts) -> Result<(), MarkupE
     answer
 }
 
-/// Reads a document: the element that the bytes are, or why they are none, as `read_parts` says.
+/// Reads a document: the element that the bytes are, or why they are none, as `give_parts` says.
 pub fn read_document(alloc: Global, bytes: &[u8]) -> Result<Element, MarkupError>
     ensures { Decides bytes.now result }
 {
-    let mut parts = Parts::new(alloc);
-    let read = read_parts(alloc, bytes, &mut parts);
-    element_read(alloc, bytes, read, parts)
+    let mut builder = Builder::new(alloc);
+    let read = give_parts(alloc, bytes, &mut builder);
+    element_read(bytes, read, builder)
 }
 
-/// What to answer where reading the parts of these bytes answered so. The bytes are named for the contract alone.
-#[tactic(auto, using(crate::proofs::Verdict::parted_err))]
+/// What to answer where reading these bytes answered so and built this. The bytes are named for the contract alone.
+#[tactic(auto, using(crate::proofs::Verdict::built_err))]
 fn element_read(
-    alloc: Global,
     _bytes: &[u8],
     read: Result<(), MarkupError>,
-    parts: Parts,
+    builder: Builder,
 ) -> Result<Element, MarkupError>
-    requires { Parted _bytes.now read [] parts }
+    requires { IsBuilt _bytes.now read (state_of builder) }
     ensures { Decides _bytes.now result }
 {
     match read {
         Ok(()) => (),
         Err(refusal) => return Err(refusal),
     }
-    match element_of(alloc, parts) {
-        Ok(element) => Ok(element),
-        Err(_) => Err(MarkupError::Mem),
+    match builder.into_element() {
+        Some(element) => Ok(element),
+        None => unreachable!(),
     }
 }
 
