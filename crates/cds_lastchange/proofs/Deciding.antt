@@ -15,7 +15,7 @@ use Rattle.cds_markup.specs.declared.error.MarkupError.TheVariants.{Bad as BadAt
 use Rattle.cds_markup.specs.Grammar.{Tree, IsTag, IsStartTag, IsDocument}
 use Rattle.cds_markup.specs.Document.{most_bytes, most_open, DocOf}
 use Rattle.cds_markup.specs.Course.{read_of, parts_of}
-use Rattle.cds_markup.specs.Agree.{Parted}
+use Rattle.cds_markup.specs.Agree.{Gives}
 use Rattle.cds_markup.specs.Parts.{TreeParts}
 use Rattle.cds_markup.specs.Refusal.{Opens, TagEnds, Refuses}
 use Rattle.cds_markup.proofs.ContentForm.{tree-is}
@@ -29,7 +29,8 @@ use Rattle.cds_lastchange.specs.declared.error.StateError.TheVariants.{Bad, NotS
 use Rattle.cds_lastchange.specs.declared.judge.Judge.{Judge}
 use Rattle.cds_lastchange.specs.StateEvent.{IsDocumentOf, IsEmpty, IsStateEvent}
 use Rattle.cds_lastchange.specs.Refusal.{may_stand, Shows, IsBadEvent, IsNoStateEvent, IsRefused, Decides}
-use Rattle.cds_lastchange.specs.Judged.{parts_judged, nothing_said, answer_of, is_empty, answer, Answers}
+use Rattle.cds_lastchange.specs.Judged.{parts_judged, nothing_said, answer_of, answer_read, is_empty, answer}
+use Rattle.cds_lastchange.specs.Taken.{judged_on}
 use Rattle.cds_lastchange.proofs.Spaces.{and-first, and-second}
 use Rattle.cds_lastchange.proofs.Judging.{outside, root-are, root-keeps}
 use Rattle.cds_lastchange.proofs.Levels.{strange-start, FirstFault, first-fault}
@@ -417,33 +418,14 @@ decides bytes = by (answer bytes) (stands bytes) where
   by (Ok events) s = decided-ok bytes events s
   by (Err r) s = decided-err bytes r s.0 s.1
 
-pub decides_so : (bytes : List ℕ) (result : Result (List Event) StateError) → Answers (answer bytes) result → Decides bytes result
-decides_so bytes (Ok events) a = subst (Decides bytes) (sym a) (decides bytes)
-decides_so bytes (Err (Bad at)) a = subst (Decides bytes) (sym a) (decides bytes)
-decides_so bytes (Err (NotStateEvent at)) a = subst (Decides bytes) (sym a) (decides bytes)
-decides_so bytes (Err TooLong) a = subst (Decides bytes) (sym a) (decides bytes)
-decides_so bytes (Err Failed) a = subst (Decides bytes) (sym a) (decides bytes)
-decides_so bytes (Err Mem) a = tt
+-- what is answered where the parts were judged as reading gave them
+answered-so : (bytes : List ℕ) (read : Result (Unit {0}) MarkupError) (said : Result Judge ℕ) → is_empty bytes ≡ false → read ≡ read_of bytes → said ≡ judged bytes → Decides bytes (answer_of read said)
+answered-so bytes read said none e d = subst (Decides bytes) (answer-is bytes read said none (sym e) (sym d)) (decides bytes)
 
--- what is answered of the parts that reading gave
-parted-so : (bytes : List ℕ) (read : Result (Unit {0}) MarkupError) (parts : List Part) (result : Result (List Event) StateError) → is_empty bytes ≡ false → read ≡ read_of bytes → parts ≡ parts_of bytes → Answers (answer_of read (parts_judged nothing_said parts)) result → Decides bytes result
-parted-so bytes read parts result none e d a =
-    decides_so bytes result
-    (subst (λ x. Answers x result) (ap (λ ps. answer_of read (parts_judged nothing_said ps)) d ∙ sym (answer-is bytes read (judged bytes) none (sym e) refl)) a)
-
-mem-so : (bytes : List ℕ) (result : Result (List Event) StateError) → Answers (Err Mem) result → Decides bytes result
-mem-so bytes (Ok events) a = let no : ◌≡◌ {A = Result (List Event) StateError} (Ok events) (Err Mem) = a in absurd (cc)
-mem-so bytes (Err (Bad at)) a = let no : ◌≡◌ {A = Result (List Event) StateError} (Err (Bad at)) (Err Mem) = a in absurd (cc)
-mem-so bytes (Err (NotStateEvent at)) a = let no : ◌≡◌ {A = Result (List Event) StateError} (Err (NotStateEvent at)) (Err Mem) = a in absurd (cc)
-mem-so bytes (Err TooLong) a = let no : ◌≡◌ {A = Result (List Event) StateError} (Err TooLong) (Err Mem) = a in absurd (cc)
-mem-so bytes (Err Failed) a = let no : ◌≡◌ {A = Result (List Event) StateError} (Err Failed) (Err Mem) = a in absurd (cc)
-mem-so bytes (Err Mem) a = tt
-
-pub decided_so : (bytes : List ℕ) (read : Result (Unit {0}) MarkupError) (parts : List Part) (result : Result (List Event) StateError) → is_empty bytes ≡ false → Parted bytes read [] parts → Answers (answer_of read (parts_judged nothing_said parts)) result → Decides bytes result
-decided_so bytes (Ok done) parts result none p a = parted-so bytes (Ok done) parts result none p.0 p.1 a
-decided_so bytes (Err (BadAt at)) parts result none p a = parted-so bytes (Err (BadAt at)) parts result none p.0 p.1 a
-decided_so bytes (Err (TooDeep at)) parts result none p a = parted-so bytes (Err (TooDeep at)) parts result none p.0 p.1 a
-decided_so bytes (Err TooManyBytes) parts result none p a = parted-so bytes (Err TooManyBytes) parts result none p.0 p.1 a
-decided_so bytes (Err FailedBefore) parts result none p a = parted-so bytes (Err FailedBefore) parts result none p.0 p.1 a
-decided_so bytes (Err OutOfMemory) parts result none p a =
-    mem-so bytes result (subst (λ ps. Answers (answer_of (Err OutOfMemory) (parts_judged nothing_said ps)) result) p a)
+pub decided_so : (bytes : List ℕ) (read : Result (Unit {0}) MarkupError) (said : Result Judge ℕ) → is_empty bytes ≡ false → Gives judged_on bytes read (Ok nothing_said) said → Decides bytes (answer_read read said)
+decided_so bytes (Ok done) said none g = answered-so bytes (Ok done) said none g.0 g.1
+decided_so bytes (Err (BadAt at)) said none g = answered-so bytes (Err (BadAt at)) said none g.0 g.1
+decided_so bytes (Err (TooDeep at)) said none g = answered-so bytes (Err (TooDeep at)) said none g.0 g.1
+decided_so bytes (Err TooManyBytes) said none g = answered-so bytes (Err TooManyBytes) said none g.0 g.1
+decided_so bytes (Err FailedBefore) said none g = answered-so bytes (Err FailedBefore) said none g.0 g.1
+decided_so bytes (Err OutOfMemory) said none g = tt

@@ -33,14 +33,6 @@ in_root events = record { level = InRoot; events = events }
 abbrev pub in_event : List Event → Judge
 in_event events = record { level = InEvent; events = events }
 
--- parts behind parts
-pub judged-append : (j : Judge) (ps qs : List Part) → parts_judged j (ps ++ qs) ≡ and_judged (parts_judged j ps) (λ k. parts_judged k qs)
-judged-append j [] qs = refl
-judged-append j (p ∷ ps) qs = by (part_judged j p) (λ k. judged-append k ps qs) where
-  by : (r : Answer) → ((k : Judge) → parts_judged k (ps ++ qs) ≡ and_judged (parts_judged k ps) (λ k. parts_judged k qs)) → and_judged r (λ k. parts_judged k (ps ++ qs)) ≡ and_judged (and_judged r (λ k. parts_judged k ps)) (λ k. parts_judged k qs)
-  by (Err at) go = refl
-  by (Ok k) go = go k
-
 -- a leaf
 run-judged : (j : Judge) (at : ℕ) (odd : Option ℕ) (text : List ℕ) → odd ≡ None → (rest : List Part) → parts_judged j (Run at odd text ∷ rest) ≡ parts_judged j rest
 run-judged j at odd text e rest = ap (λ o. parts_judged j (Run at o text ∷ rest)) e

@@ -16,7 +16,8 @@ use Rattle.cds_lastchange.specs.declared.judge.Judge.{Judge}
 use Rattle.cds_lastchange.specs.Attributes.{event_of, is_state_event}
 use Rattle.cds_lastchange.specs.Refusal.{may_stand}
 use Rattle.cds_lastchange.specs.Judged.{event_judged, start_judged, part_judged, and_judged, parts_judged, nothing_said}
-use Rattle.cds_lastchange.proofs.Judging.{Answer, ok-err, same-ok, in_root, in_event, judged-append, events-keep, events-are, space-keeps, space-is}
+use Rattle.cds_lastchange.specs.Taken.{judged_append}
+use Rattle.cds_lastchange.proofs.Judging.{Answer, ok-err, same-ok, in_root, in_event, events-keep, events-are, space-keeps, space-is}
 
 abbrev pub level_of : List Tag → Level
 level_of [] = Outside
@@ -28,7 +29,7 @@ and-ok (Ok j) next k e = (j, refl, e)
 and-ok (Err at) next k e = absurd (ok-err k at e)
 
 pub judged-front : (i k : Judge) (ps qs : List Part) → parts_judged i (ps ++ qs) ≡ Ok k → (j : Judge) × (parts_judged i ps ≡ Ok j) × (parts_judged j qs ≡ Ok k)
-judged-front i k ps qs e = and-ok (parts_judged i ps) (λ j. parts_judged j qs) k (sym (judged-append i ps qs) ∙ e)
+judged-front i k ps qs e = and-ok (parts_judged i ps) (λ j. parts_judged j qs) k (sym (judged_append i ps qs) ∙ e)
 
 -- content stays where it is
 root-level : (content : Content) (at : ℕ) (scopes : List (List Declaration)) (bytes : List ℕ) (parts : List Part) → ContentParts content at scopes bytes parts → (events : List Event) (k : Judge) → parts_judged (in_root events) parts ≡ Ok k → k.level ≡ InRoot
@@ -128,7 +129,7 @@ fault-behind (p ∷ ps) before j place s e = by (part_judged j p) refl e (λ k d
   by : (r : Answer) → part_judged j p ≡ r → and_judged r (Next ps) ≡ Err place → ((k : Judge) → parts_judged nothing_said (before ++ p ∷ []) ≡ Ok k → parts_judged k ps ≡ Err place → FirstFault ((before ++ p ∷ []) ++ ps) place) → FirstFault (before ++ p ∷ ps) place
   by (Err at) d f go = record { earlier = before; part = p; later = ps; judge = j; is = refl; stand = s; falls = d ∙ f }
   by (Ok k) d f go =
-      let more = go k (judged-append nothing_said before (p ∷ []) ∙ ap (λ r. and_judged r (Next (p ∷ []))) s ∙ ap (λ r. and_judged r (Next [])) d) f in
+      let more = go k (judged_append nothing_said before (p ∷ []) ∙ ap (λ r. and_judged r (Next (p ∷ []))) s ∙ ap (λ r. and_judged r (Next [])) d) f in
       record { earlier = more.earlier; part = more.part; later = more.later; judge = more.judge; is = sym (regroup before p ps) ∙ more.is; stand = more.stand; falls = more.falls }
 
 pub first-fault : (parts : List Part) (place : ℕ) → parts_judged nothing_said parts ≡ Err place → FirstFault parts place

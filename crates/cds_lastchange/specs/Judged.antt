@@ -34,7 +34,7 @@ outer Outside = Outside
 outer InRoot = Outside
 outer InEvent = InRoot
 
--- What is said up to a part, or the place that is answered where it does not stand.
+-- What is said up to a part, or the place that is answer_read where it does not stand.
 abbrev pub part_judged : Judge → Part → Result Judge ℕ
 part_judged j (Start at end name attrs) = start_judged j.level j.events at name attrs
 part_judged j (End at) = Ok record { level = outer j.level; events = j.events }
@@ -52,7 +52,7 @@ parts_judged j (part ∷ rest) = and_judged (part_judged j part) (λ k. parts_ju
 abbrev pub nothing_said : Judge
 nothing_said = record { level = Outside; events = [] }
 
--- What is answered of the parts and of what reading them answered. A place in the parts comes before the fault at which
+-- What is answer_read of the parts and of what reading them answer_read. A place in the parts comes before the fault at which
 -- they end. No document of two open elements at most is too deep.
 abbrev pub as_refusal : MarkupError → StateError
 as_refusal (BadAt at) = Bad at
@@ -69,6 +69,11 @@ abbrev pub answer_of : Result (Unit {0}) MarkupError → Result Judge ℕ → Re
 answer_of read (Err at) = Err (NotStateEvent at)
 answer_of read (Ok j) = read_says read j.events
 
+-- The same where reading may end for want of memory, which says nothing of the parts.
+abbrev pub answer_read : Result (Unit {0}) MarkupError → Result Judge ℕ → Result (List Event) StateError
+answer_read (Err OutOfMemory) said = Err Mem
+answer_read read said = answer_of read said
+
 -- Whether there is nothing but white space, of which there may be as much as a document may have.
 abbrev pub is_empty : List ℕ → Bool
 is_empty bytes = list_all is_blank bytes && nat_le (length bytes) most_bytes
@@ -82,7 +87,3 @@ Judges judged (Err Mem) now = ⊤
 Judges (Ok j) (Ok done) now = now ≡ j
 Judges (Err at) (Err (NotStateEvent place)) now = place ≡ at
 Judges judged result now = ⊥
-
-abbrev pub Answers : Result (List Event) StateError → Result (List Event) StateError → Type 0
-Answers answer (Err Mem) = ⊤
-Answers answer result = result ≡ answer

@@ -1,7 +1,7 @@
 //! What the parts of a document say of a catalog's changes.
 
 ghost use Rattle.std.specs.Prelude.{◌≡◌, ◌∷◌, [], Ok, Err, Some};
-ghost use Rattle.cds_lastchange.specs.Judged.{event_judged, start_judged, part_judged, parts_judged, nothing_said, Judges};
+ghost use Rattle.cds_lastchange.specs.Judged.{event_judged, start_judged, part_judged, nothing_said, Judges};
 
 use crate::attributes::{event_of, is_state_event};
 use crate::{Event, Events, StateError};
@@ -87,7 +87,7 @@ impl Judge {
     }
 
     /// The next part.
-    fn part(&mut self, part: &Part) -> Result<(), StateError>
+    pub fn part(&mut self, part: &Part) -> Result<(), StateError>
         ensures { Judges (part_judged self.old part.now) result self.new }
     {
         match part {
@@ -104,15 +104,5 @@ impl Judge {
             Part::Run { odd: None, .. } => Ok(()),
             Part::Run { odd: Some(odd), .. } => Err(StateError::NotStateEvent { at: *odd }),
         }
-    }
-
-    /// These parts.
-    pub fn parts(&mut self, parts: &[Part]) -> Result<(), StateError>
-        ensures { Judges (parts_judged self.old parts.now) result self.new }
-    {
-        for part in parts {
-            self.part(part)?;
-        }
-        Ok(())
     }
 }

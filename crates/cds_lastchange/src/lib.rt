@@ -8,6 +8,7 @@ mod evaluated;
 mod judge;
 mod laws;
 mod reader;
+mod sink;
 mod write;
 
 pub use cds_event::{Class, Event, Events};

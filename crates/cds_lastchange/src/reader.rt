@@ -5,15 +5,16 @@ ghost use Rattle.cds_markup.specs.Document.{most_bytes};
 ghost use Rattle.cds_lastchange.specs.declared.error.StateError.TheVariants.{Mem as OutOfMemory};
 ghost use Rattle.std.specs.List.{list_all};
 ghost use Rattle.cds_base.specs.Characters.{is_blank};
-ghost use Rattle.cds_lastchange.specs.Judged.{answer_of, is_empty, parts_judged, nothing_said, Answers};
+ghost use Rattle.cds_lastchange.specs.Judged.{answer_read, is_empty};
 ghost use Rattle.cds_lastchange.specs.Refusal.{Decides};
 ghost use Rattle.cds_markup.specs.Pieces.{IsRefusal};
 ghost use Rattle.cds_lastchange.specs.Feeding.{EveryCutting, Fed, Finished};
 
 use crate::judge::Judge;
+use crate::sink::Judging;
 use crate::{Events, StateError};
 use cds_base::{Mem, Sequence};
-use cds_markup::{MarkupError, Part, Parts, read_parts};
+use cds_markup::{MarkupError, give_parts};
 use std::alloc::Global;
 use std::marker::Model;
 
@@ -38,16 +39,20 @@ fn is_blank(bytes: &[u8]) -> bool
     bytes.iter().all(|b| *b == b' ' || *b == b'\t' || *b == b'\n' || *b == b'\r')
 }
 
-/// What to answer where reading the parts answered so.
+/// What to answer where reading the parts answer_read so and they say this.
 fn answer_of(
-    alloc: Global,
     read: Result<(), MarkupError>,
-    parts: &[Part],
+    said: Result<Judge, usize>,
 ) -> Result<Events, StateError>
-    ensures { Answers (answer_of read (parts_judged nothing_said parts.now)) result }
+    ensures { result ≡ answer_read read said }
 {
-    let mut judge = Judge::new(alloc);
-    judge.parts(parts)?;
+    if let Err(MarkupError::Mem) = read {
+        return Err(StateError::Mem);
+    }
+    let judge = match said {
+        Ok(judge) => judge,
+        Err(at) => return Err(StateError::NotStateEvent { at }),
+    };
     match read {
         Ok(()) => Ok(judge.events),
         Err(refusal) => Err(StateError::from(refusal)),
@@ -61,9 +66,9 @@ fn decided(alloc: Global, bytes: &[u8]) -> Result<Events, StateError>
     if is_empty(bytes) {
         return Ok(Events::new(alloc));
     }
-    let mut parts = Parts::new(alloc);
-    let read = read_parts(alloc, bytes, &mut parts);
-    answer_of(alloc, read, parts.as_slice())
+    let mut judging = Judging::new(alloc);
+    let read = give_parts(alloc, bytes, &mut judging);
+    answer_of(read, judging.into_said())
 }
 
 /// Reads a StateEvent that comes in pieces. Contracts see the bytes that came, or `None` from a refusal on, want of

@@ -8,25 +8,8 @@ ghost use Rattle.cds_lastchange.specs.Spelled.{attribute, change_text, flag_text
 ghost use Rattle.cds_lastchange.specs.StateEvent.{IsStateEvent};
 
 use crate::{Class, Event};
-use cds_base::Mem;
+use cds_base::{Mem, put, put_number};
 use std::alloc::Global;
-use std::fmt::Write;
-
-/// Puts a text at the end.
-fn put(out: &mut String, text: &str) -> Result<(), Mem>
-    ensures { OnOk result (string_bytes out.new ≡ string_bytes out.old ++ text.now) }
-{
-    out.push_str(text)?;
-    Ok(())
-}
-
-/// Puts a number at the end in decimal.
-fn put_number(out: &mut String, number: u32) -> Result<(), Mem>
-    ensures { OnOk result (string_bytes out.new ≡ string_bytes out.old ++ decimal number) }
-{
-    write!(out, "{number}")?;
-    Ok(())
-}
 
 /// Puts an attribute with a text.
 fn put_attr(out: &mut String, name: &str, value: &str) -> Result<(), Mem>
@@ -47,7 +30,7 @@ fn put_number_attr(out: &mut String, name: &str, number: u32) -> Result<(), Mem>
     put(out, " ")?;
     put(out, name)?;
     put(out, "=\"")?;
-    put_number(out, number)?;
+    put_number(out, u64::from(number))?;
     put(out, "\"")?;
     Ok(())
 }

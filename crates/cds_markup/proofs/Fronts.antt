@@ -9,10 +9,10 @@ use Rattle.cds_markup.specs.declared.error.MarkupError.TheVariants.{Bad, TooDeep
 use Rattle.cds_markup.specs.Grammar.{Leaf, Tree, Nothing, is_text}
 use Rattle.cds_markup.specs.Document.{Meaning, DocOf, most_bytes}
 use Rattle.cds_markup.specs.Refusal.{CanGoOn, Opens, LeafEnds, Refuses, IsRefused}
-use Rattle.cds_markup.specs.Agree.{Parted}
+use Rattle.cds_markup.specs.Agree.{Gives, Parted}
 use Rattle.cds_markup.specs.Course.{Moved, Halted, place, piece_moves, course_of, read_of, parts_of}
 use Rattle.cds_markup.specs.Parts.{OpensParts, DocumentParts, leaf_parts}
-use Rattle.cds_markup.specs.Found.{Clear, Stands, Given, Tells}
+use Rattle.cds_markup.specs.Found.{Clear, Stands, Given, Tells, TellsTo}
 use Rattle.cds_markup.proofs.ContentForm.{ends_with_text}
 use Rattle.cds_markup.proofs.Closing.{go-same, stands-opens, close-content}
 use Rattle.cds_markup.proofs.Within.{front-of, rule-more, deep-more}
@@ -125,3 +125,15 @@ parted_tells bytes (Ok done) before parts p =
     let d = (documents-are-read bytes).document (sym p.0) in
     let w = parts-are-of-roots bytes d.1.0 d.0 d.1.1 in
     (parts_of bytes, p.1, parts-are-given bytes, d.0, d.1, w.0, ((documents-are-read bytes).whole d.0 d.1).1)
+
+-- and what reading them to something that takes them tells
+given-so : {S : Type 0} (took : S → List Part → S → Type 0) (bytes : List ℕ) (result : Result (Unit {0}) MarkupError) (before now : S) → Parted bytes result [] (parts_of bytes) → took before (parts_of bytes) now → (parts : List Part) × took before parts now × Tells bytes result [] parts
+given-so took bytes result before now p t = (parts_of bytes, t, parted_tells bytes result [] (parts_of bytes) p)
+
+pub gives_tells : {S : Type 0} (took : S → List Part → S → Type 0) (bytes : List ℕ) (result : Result (Unit {0}) MarkupError) (before now : S) → Gives took bytes result before now → TellsTo took bytes result before now
+gives_tells took bytes (Err Mem) before now g = tt
+gives_tells took bytes (Err (Bad at)) before now g = given-so took bytes (Err (Bad at)) before now (g.0, refl) g.1
+gives_tells took bytes (Err (TooDeep at)) before now g = given-so took bytes (Err (TooDeep at)) before now (g.0, refl) g.1
+gives_tells took bytes (Err TooLong) before now g = given-so took bytes (Err TooLong) before now (g.0, refl) g.1
+gives_tells took bytes (Err Failed) before now g = given-so took bytes (Err Failed) before now (g.0, refl) g.1
+gives_tells took bytes (Ok done) before now g = given-so took bytes (Ok done) before now (g.0, refl) g.1

@@ -17,10 +17,12 @@ use Rattle.cds_markup.specs.Document as document
 use Rattle.cds_markup.specs.Refusal.{CanGoOn, BreaksRule, IsTooDeep, IsBad, Refuses, IsFirst, IsRefused}
 use Rattle.cds_markup.specs.Course.{Course, may_begin_name, place, course_of, answer_of, past_limit, refusal, ending_of, within_limit, is_cut, read_of, parts_of}
 use Rattle.cds_markup.specs.Parts.{DocumentParts, nested, Says}
-use Rattle.cds_markup.specs.Building.{State, built, nothing_yet, built_as, first_element}
+use Rattle.cds_markup.specs.Building.{State, state_of, built, nothing_yet, built_as, first_element}
 use Rattle.cds_markup.specs.Law.{ReadAs}
-use Rattle.cds_markup.specs.Decided.{Decides}
-use Rattle.cds_markup.specs.Agree.{Parted}
+use Rattle.cds_markup.specs.Decided.{Decides, IsBuilt}
+use Rattle.cds_markup.specs.Agree.{Gives}
+use Rattle.cds_markup.specs.Taken.{builds}
+use Rattle.cds_markup.specs.declared.build.Builder.{Builder}
 use Rattle.cds_markup.proofs.ContentForm.{tree-means, tree-is}
 use Rattle.cds_markup.proofs.Closing.{go-front, go-same}
 use Rattle.cds_markup.proofs.Starts.{SameStart, same-here, place-is}
@@ -526,22 +528,33 @@ decides-ok bytes s o e b f =
     let whole = parts-are-built bytes d.0 d.1 in
     (d.0, f ∙ ap (λ s. first_element s.nodes) (b ∙ whole), decides-doc bytes d.0 d.1)
 
--- what reading the parts answers, and what is made of them
-pub parted_err : (bytes : List ℕ) (r : MarkupError) (parts : List Part) → Parted bytes (Err r) [] parts → Decides bytes (Err r)
-parted_err bytes Mem parts p = tt
-parted_err bytes (Bad at) parts p = decides-err bytes (Bad at) (sym p.0)
-parted_err bytes (TooDeep at) parts p = decides-err bytes (TooDeep at) (sym p.0)
-parted_err bytes TooLong parts p = decides-err bytes TooLong (sym p.0)
-parted_err bytes Failed parts p = decides-err bytes Failed (sym p.0)
+-- what reading the parts answers, and what is built of them
+gives-built : (bytes : List ℕ) (result : Result (Unit {0}) MarkupError) (before now : Builder) → state_of before ≡ nothing_yet → result ≡ read_of bytes → builds before (parts_of bytes) now → (result ≡ read_of bytes) × (state_of now ≡ built nothing_yet (parts_of bytes))
+gives-built bytes result before now none e b = (e, b ∙ ap (λ s. built s (parts_of bytes)) none)
 
-pub parted_some : (bytes : List ℕ) (parts : List Part) → Parted bytes (Ok tt) [] parts → IsSome (first_element (built nothing_yet parts).nodes)
-parted_some bytes parts p =
-    let d = decides-ok bytes (built nothing_yet parts) (first_element (built nothing_yet parts).nodes) (sym p.0) (ap (built nothing_yet) p.1) refl in
-    subst (λ o. IsSome o) (sym d.1) refl
+pub is_built : (bytes : List ℕ) (result : Result (Unit {0}) MarkupError) (before now : Builder) → state_of before ≡ nothing_yet → Gives builds bytes result before now → IsBuilt bytes result (state_of now)
+is_built bytes (Err Mem) before now none g = tt
+is_built bytes (Err (Bad at)) before now none g = gives-built bytes (Err (Bad at)) before now none g.0 g.1
+is_built bytes (Err (TooDeep at)) before now none g = gives-built bytes (Err (TooDeep at)) before now none g.0 g.1
+is_built bytes (Err TooLong) before now none g = gives-built bytes (Err TooLong) before now none g.0 g.1
+is_built bytes (Err Failed) before now none g = gives-built bytes (Err Failed) before now none g.0 g.1
+is_built bytes (Ok done) before now none g = gives-built bytes (Ok done) before now none g.0 g.1
 
-pub parted_ok : (bytes : List ℕ) (parts : List Part) (element : Meaning) → Parted bytes (Ok tt) [] parts → first_element (built nothing_yet parts).nodes ≡ Some element → Decides bytes (Ok element)
-parted_ok bytes parts element p e =
-    let d = decides-ok bytes (built nothing_yet parts) (first_element (built nothing_yet parts).nodes) (sym p.0) (ap (built nothing_yet) p.1) refl in
+pub built_err : (bytes : List ℕ) (r : MarkupError) (s : State) → IsBuilt bytes (Err r) s → Decides bytes (Err r)
+built_err bytes Mem s b = tt
+built_err bytes (Bad at) s b = decides-err bytes (Bad at) (sym b.0)
+built_err bytes (TooDeep at) s b = decides-err bytes (TooDeep at) (sym b.0)
+built_err bytes TooLong s b = decides-err bytes TooLong (sym b.0)
+built_err bytes Failed s b = decides-err bytes Failed (sym b.0)
+
+pub built_none : (bytes : List ℕ) (s : State) (o : Option Meaning) → IsBuilt bytes (Ok tt) s → o ≡ first_element s.nodes → o ≡ None → ⊥
+built_none bytes s o b e n =
+    let d = decides-ok bytes s o (sym b.0) b.1 e in
+    let no : ◌≡◌ {A = Option Meaning} None (Some d.0) = sym n ∙ d.1 in cc
+
+pub built_ok : (bytes : List ℕ) (s : State) (o : Option Meaning) (element : Meaning) → IsBuilt bytes (Ok tt) s → o ≡ first_element s.nodes → o ≡ Some element → Decides bytes (Ok element)
+built_ok bytes s o element b f e =
+    let d = decides-ok bytes s o (sym b.0) b.1 f in
     subst (λ x. Decides bytes (Ok x)) (same d.0 element (sym d.1 ∙ e)) d.2
   where
     same : (m n : Meaning) → ◌≡◌ {A = Option Meaning} (Some m) (Some n) → m ≡ n

@@ -4,8 +4,8 @@ use Rattle.cds_markup.specs.declared.error.MarkupError.{MarkupError}
 use Rattle.cds_markup.specs.declared.error.MarkupError.TheVariants.{Mem}
 use Rattle.cds_markup.specs.Document.{Meaning, Doc}
 use Rattle.cds_markup.specs.Refusal.{IsRefused}
-use Rattle.cds_markup.specs.Building.{built, nothing_yet, built_as}
-use Rattle.cds_markup.specs.Course.{parts_of}
+use Rattle.cds_markup.specs.Building.{State, built, nothing_yet, built_as}
+use Rattle.cds_markup.specs.Course.{read_of, parts_of}
 use Rattle.cds_markup.specs.Parts.{DocumentParts}
 
 -- An answer to bytes: the one element that they are a document of, or the one refusal that stands against them. Want of
@@ -16,6 +16,11 @@ Decides bytes (Err Mem) = ⊤
 Decides bytes (Err r) =
     IsRefused bytes r × ((other : MarkupError) → IsRefused bytes other → other ≢ Mem → other ≡ r)
     × ((element : Meaning) → Doc bytes element → ⊥)
+
+-- What reading a document answers, and what is built of its parts. Want of memory says nothing.
+abbrev pub IsBuilt : List ℕ → Result (Unit {0}) MarkupError → State → Type 0
+IsBuilt bytes (Err Mem) state = ⊤
+IsBuilt bytes result state = (result ≡ read_of bytes) × (state ≡ built nothing_yet (parts_of bytes))
 
 -- What is built of a document's parts is its element.
 abbrev pub PartsAreBuilt : Type 0

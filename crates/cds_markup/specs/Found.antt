@@ -198,6 +198,12 @@ Tells bytes (Err refusal) before parts = (found : List Part) × (parts ≡ befor
 Tells bytes (Ok done) before parts =
     (found : List Part) × (parts ≡ before ++ found) × Given bytes found × (element : Meaning) × Doc bytes element × DocumentParts bytes found × Says found element
 
+-- The same where something takes the parts one by one: it is told in this relation what they make of it. Want of memory
+-- says nothing.
+abbrev pub TellsTo : {S : Type 0} → (S → List Part → S → Type 0) → List ℕ → Result (Unit {0}) MarkupError → S → S → Type 0
+TellsTo took bytes (Err Mem) before now = ⊤
+TellsTo took bytes result before now = (parts : List Part) × took before parts now × Tells bytes result [] parts
+
 -- What is open at a place that is free of refusals: each part before it stands there, found before the place.
 abbrev pub PartsStandBefore : Type 0
 PartsStandBefore =

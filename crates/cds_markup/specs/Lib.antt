@@ -20,3 +20,4 @@ pub mod WrittenRows
 pub mod Pieces
 pub mod Reader
 pub mod Found
+pub mod Taken

@@ -1,7 +1,7 @@
-ghost use Rattle.std.specs.Prelude.{◌≡◌, IfOk, IsSome, Some};
-ghost use Rattle.cds_markup.specs.Building.{state_of, flushed, opened, closed, with_text, with_part, built, nothing_yet, first_element};
+ghost use Rattle.std.specs.Prelude.{◌≡◌, IfOk};
+ghost use Rattle.cds_markup.specs.Building.{state_of, flushed, opened, closed, with_text, nothing_yet, first_element};
 
-use crate::{Attrs, Element, Name, Node, Nodes, Part, Parts};
+use crate::{Attrs, Element, Name, Node, Nodes, Part, PartSink};
 use cds_base::{Mem, Text};
 use std::alloc::Global;
 
@@ -93,17 +93,6 @@ impl Builder {
         Ok(())
     }
 
-    /// The next part.
-    fn part(&mut self, alloc: Global, part: Part) -> Result<(), Mem>
-        ensures { IfOk result (λ done. state_of self.new ≡ with_part (state_of self.old) part) }
-    {
-        match part {
-            Part::Start { name, attrs, .. } => self.open(alloc, name, attrs),
-            Part::End { .. } => self.close(alloc),
-            Part::Run { text, .. } => self.run(text),
-        }
-    }
-
     /// The first node, where it is an element.
     pub fn into_element(self) -> Option<Element>
         ensures { result ≡ first_element self.nodes }
@@ -112,25 +101,21 @@ impl Builder {
     }
 }
 
-/// What these parts say.
-fn build(alloc: Global, parts: Parts) -> Result<Builder, Mem>
-    ensures { IfOk result (λ b. state_of b ≡ built nothing_yet parts) }
-{
-    let mut builder = Builder::new(alloc);
-    for part in parts.into_vec() {
-        builder.part(alloc, part)?;
-    }
-    Ok(builder)
-}
+impl PartSink for Builder {
+    ghost use Rattle.cds_markup.specs.Taken.{builds, builds_none, builds_more};
 
-/// The element that these parts are those of.
-pub fn element_of(alloc: Global, parts: Parts) -> Result<Element, Mem>
-    requires { IsSome (first_element (built nothing_yet parts).nodes) }
-    ensures { IfOk result (λ element. first_element (built nothing_yet parts).nodes ≡ Some element) }
-{
-    let builder = build(alloc, parts)?;
-    match builder.into_element() {
-        Some(element) => Ok(element),
-        None => unreachable!(),
+    ghost took = { builds };
+
+    fn take(&mut self, part: Part) -> Result<(), Mem> {
+        let alloc = *self.text.allocator();
+        match part {
+            Part::Start { name, attrs, .. } => self.open(alloc, name, attrs),
+            Part::End { .. } => self.close(alloc),
+            Part::Run { text, .. } => self.run(text),
+        }
     }
+
+    ghost took_none = { builds_none };
+
+    ghost took_more = { builds_more };
 }

@@ -13,6 +13,7 @@ mod prolog;
 mod read;
 mod reader;
 mod scope;
+mod sink;
 mod tag;
 mod tags;
 mod texts;
@@ -29,8 +30,9 @@ pub use laws::{
 };
 pub use name::{Attr, Attrs, Name};
 pub use part::{Part, Parts};
-pub use read::{read_document, read_parts};
+pub use read::{give_parts, read_document, read_parts};
 pub use reader::{Reader, every_cutting};
+pub use sink::PartSink;
 pub use write::{write_document, written_is_read, written_rows};
 
 #[cfg(test)]

@@ -1,15 +1,16 @@
 ghost use Rattle.std.specs.Prelude.{◌≡◌, ◌++◌, length, List, ℕ, OnErr, OnOk, []};
 ghost use Rattle.cds_markup.specs.Document.{most_bytes};
 ghost use Rattle.cds_markup.specs.Course.{answer_of};
-ghost use Rattle.cds_markup.specs.Agree.{Parted, Reads};
-ghost use Rattle.cds_markup.specs.Decided.{Decides};
-ghost use Rattle.cds_markup.specs.Found.{Tells};
+ghost use Rattle.cds_markup.specs.Agree.{Gives, Parted};
+ghost use Rattle.cds_markup.specs.Building.{state_of};
+ghost use Rattle.cds_markup.specs.Decided.{Decides, IsBuilt};
+ghost use Rattle.cds_markup.specs.Found.{Tells, TellsTo};
 
-use crate::build::element_of;
+use crate::build::Builder;
 use crate::error::Stop;
 use crate::parser::Parser;
 use crate::walk::{Walk, front};
-use crate::{Element, MarkupError, Parts};
+use crate::{Element, MarkupError, PartSink, Parts};
 use cds_base::Mem;
 use std::alloc::Global;
 
@@ -20,13 +21,21 @@ pub fn byte_limit() -> usize
     67_108_864
 }
 
-/// Adds the parts of a document, in the order of the bytes: all of them, or those that stand before the first fault. A
-/// start tag is given once the `>` or `/` that ends it stands, whatever follows a `/`; a literal text that a fault cuts
-/// is given as far as its whole characters go; a reference, a section or an end tag that a fault cuts is not given.
-/// `Bad` is the place of the first byte that cannot stand there, or where the input ends and is no document, or of the
-/// `>` or `/` that ends a start tag which breaks a rule of namespaces; `TooDeep` the first byte of a start tag's name
-/// where 16 elements are open; `TooLong` where more than 67,108,864 bytes came without a fault before. `Mem` leaves
-/// the parts as they were.
+/// Gives the parts of a document one by one, in the order of the bytes: all of them, or those that stand before the
+/// first fault. A start tag is given once the `>` or `/` that ends it stands, whatever follows a `/`; a literal text that
+/// a fault cuts is given as far as its whole characters go; a reference, a section or an end tag that a fault cuts is not
+/// given. `Bad` is the place of the first byte that cannot stand there, or where the input ends and is no document, or of
+/// the `>` or `/` that ends a start tag which breaks a rule of namespaces; `TooDeep` the first byte of a start tag's name
+/// where 16 elements are open; `TooLong` where more than 67,108,864 bytes came without a fault before. `Mem` says nothing
+/// of the bytes, nor of what was given.
+pub fn give_parts<S: PartSink>(alloc: Global, bytes: &[u8], to: &mut S) -> Result<(), MarkupError>
+    ensures read { Gives S.took bytes.now result to.old to.new }
+    ensures told { TellsTo S.took bytes.now result to.old to.new }
+{
+    give(alloc, bytes, to)
+}
+
+/// Adds the parts of a document, as `give_parts` gives them. `Mem` leaves the parts as they were.
 pub fn read_parts(alloc: Global, bytes: &[u8], out: &mut Parts) -> Result<(), MarkupError>
     ensures read { Parted bytes.now result out.old out.new }
     ensures told { Tells bytes.now result out.old out.new }
@@ -39,7 +48,7 @@ fn add_parts(alloc: Global, bytes: &[u8], out: &mut Parts) -> Result<(), MarkupE
     ensures { Parted bytes.now result out.old out.new }
 {
     let mut found = Parts::new(alloc);
-    let answer = read_new(alloc, bytes, &mut found);
+    let answer = give_parts(alloc, bytes, &mut found);
     if let Err(MarkupError::Mem) = answer {
         return Err(MarkupError::Mem);
     }
@@ -49,40 +58,38 @@ fn add_parts(alloc: Global, bytes: &[u8], out: &mut Parts) -> Result<(), MarkupE
     answer
 }
 
-/// Reads a document: the element that the bytes are, or why they are none, as `read_parts` says.
+/// Reads a document: the element that the bytes are, or why they are none, as `give_parts` says.
 pub fn read_document(alloc: Global, bytes: &[u8]) -> Result<Element, MarkupError>
     ensures { Decides bytes.now result }
 {
-    let mut parts = Parts::new(alloc);
-    let read = read_parts(alloc, bytes, &mut parts);
-    element_read(alloc, bytes, read, parts)
+    let mut builder = Builder::new(alloc);
+    let read = give_parts(alloc, bytes, &mut builder);
+    element_read(bytes, read, builder)
 }
 
-/// What to answer where reading the parts of these bytes answered so. The bytes are named for the contract alone.
-#[tactic(auto, using(crate::proofs::Verdict::parted_err))]
+/// What to answer where reading these bytes answered so and built this. The bytes are named for the contract alone.
+#[tactic(auto, using(crate::proofs::Verdict::built_err))]
 fn element_read(
-    alloc: Global,
     _bytes: &[u8],
     read: Result<(), MarkupError>,
-    parts: Parts,
+    builder: Builder,
 ) -> Result<Element, MarkupError>
-    requires { Parted _bytes.now read [] parts }
+    requires { IsBuilt _bytes.now read (state_of builder) }
     ensures { Decides _bytes.now result }
 {
     match read {
         Ok(()) => (),
         Err(refusal) => return Err(refusal),
     }
-    match element_of(alloc, parts) {
-        Ok(element) => Ok(element),
-        Err(_) => Err(MarkupError::Mem),
+    match builder.into_element() {
+        Some(element) => Ok(element),
+        None => unreachable!(),
     }
 }
 
-/// The same, for a list without parts, which `Mem` leaves with some.
-fn read_new(alloc: Global, bytes: &[u8], out: &mut Parts) -> Result<(), MarkupError>
-    requires { out.old ≡ [] }
-    ensures { Reads bytes.now result out.new }
+/// Gives the parts, said by the course of the reader.
+fn give<S: PartSink>(alloc: Global, bytes: &[u8], to: &mut S) -> Result<(), MarkupError>
+    ensures { Gives S.took bytes.now result to.old to.new }
 {
     let limit = byte_limit();
     let within = front(bytes, limit);
@@ -91,7 +98,7 @@ fn read_new(alloc: Global, bytes: &[u8], out: &mut Parts) -> Result<(), MarkupEr
         total: within.len(),
         opens: Vec::new(alloc),
     };
-    let done = walk.document(alloc, out);
+    let done = walk.document(alloc, to);
     let at = walk.place();
     answer(done, at, bytes.len() > limit)
 }
@@ -118,6 +125,10 @@ fn append(alloc: Global, out: &mut Parts, found: Parts) -> Result<(), Mem>
     ensures ok { OnOk result (out.new ≡ out.old ++ found) }
     ensures err { OnErr result (out.new ≡ out.old) }
 {
+    if out.is_empty() {
+        *out = found;
+        return Ok(());
+    }
     let mut all = std::mem::replace(out, Parts::new(alloc)).into_vec();
     let mut more = found.into_vec();
     let done = all.append(&mut more);

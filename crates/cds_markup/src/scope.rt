@@ -1,9 +1,9 @@
 ghost use Rattle.std.specs.Prelude.{◌≡◌, ◌∷◌, ◌++◌, length, List, ℕ, IfOk, IfNone};
 ghost use Rattle.std.specs.List.{list_all, list_any};
-ghost use Rattle.cds_markup.specs.Namespaces.{declares_default, declares_prefix, is_declaration, declaration, declarations, is_sound, declared, declared_in, space_of, element_name, attr_name, named_attrs, same_qname, same_name, no_attr_twice, no_name_twice, keeps_rules, tag_says};
+ghost use Rattle.cds_markup.specs.Namespaces.{declares_default, declares_prefix, is_declaration, declaration, declarations, is_sound, declared, declared_in, space_of, in_space, element_name, attr_name, with_value, named_attrs, same_qname, same_name, no_attr_twice, no_name_twice, keeps_rules, tag_says};
 ghost use Rattle.cds_markup.specs.Course.{scopes_in};
 
-use crate::tag::{Declaration, Open, QName, Tag, TagAttr};
+use crate::tag::{Declaration, Open, QName, TagAttr};
 use crate::{Attr, Attrs, Name};
 use cds_base::{Mem, Sequence, Text};
 use std::alloc::Global;
@@ -189,6 +189,22 @@ fn space_of(
     }
 }
 
+/// The name with this prefix and local name, `None` where the prefix is not declared.
+fn name_in(
+    alloc: Global,
+    opens: &[Open],
+    inner: &[Declaration],
+    prefix: &str,
+    local: Text,
+) -> Result<Option<Name>, Mem>
+    ensures { IfOk result (λ found. found ≡ in_space local (space_of (inner.now ∷ scopes_in opens.now) prefix.now)) }
+{
+    let Some(space) = space_of(alloc, opens, inner, prefix)? else {
+        return Ok(None);
+    };
+    Ok(Some(Name { space, local }))
+}
+
 /// The name of an element, `None` where its prefix is not declared.
 fn element_name(
     alloc: Global,
@@ -198,11 +214,8 @@ fn element_name(
 ) -> Result<Option<Name>, Mem>
     ensures { IfOk result (λ found. found ≡ element_name (inner.now ∷ scopes_in opens.now) name.now) }
 {
-    let Some(space) = space_of(alloc, opens, inner, name.prefix.as_str())? else {
-        return Ok(None);
-    };
     let local = name.local.copy(alloc)?;
-    Ok(Some(Name { space, local }))
+    name_in(alloc, opens, inner, name.prefix.as_str(), local)
 }
 
 /// The name of an attribute, `None` where its prefix is not declared.
@@ -210,16 +223,37 @@ fn attr_name(
     alloc: Global,
     opens: &[Open],
     inner: &[Declaration],
-    name: &QName,
+    name: QName,
 ) -> Result<Option<Name>, Mem>
-    ensures { IfOk result (λ found. found ≡ attr_name (inner.now ∷ scopes_in opens.now) name.now) }
+    ensures { IfOk result (λ found. found ≡ attr_name (inner.now ∷ scopes_in opens.now) name) }
 {
     if name.prefix.len() != 0 {
-        return element_name(alloc, opens, inner, name);
+        let local = name.local;
+        return name_in(alloc, opens, inner, name.prefix.as_str(), local);
     }
     let space = Text::from(String::new(alloc));
-    let local = name.local.copy(alloc)?;
-    Ok(Some(Name { space, local }))
+    Ok(Some(Name {
+        space,
+        local: name.local,
+    }))
+}
+
+/// An attribute with its name, `None` where its prefix is not declared.
+fn named_attr(
+    alloc: Global,
+    opens: &[Open],
+    inner: &[Declaration],
+    attr: TagAttr,
+) -> Result<Option<Attr>, Mem>
+    ensures { IfOk result (λ found. found ≡ with_value attr.value (attr_name (inner.now ∷ scopes_in opens.now) attr.name)) }
+{
+    let Some(name) = attr_name(alloc, opens, inner, attr.name)? else {
+        return Ok(None);
+    };
+    Ok(Some(Attr {
+        name,
+        value: attr.value,
+    }))
 }
 
 /// The attributes without those that declare namespaces, `None` where a prefix is not declared.
@@ -227,42 +261,42 @@ fn named_attrs(
     alloc: Global,
     opens: &[Open],
     inner: &[Declaration],
-    attrs: &[TagAttr],
+    attrs: Sequence<TagAttr>,
 ) -> Result<Option<Attrs>, Mem>
-    ensures { IfOk result (λ found. found ≡ named_attrs (inner.now ∷ scopes_in opens.now) attrs.now) }
+    ensures { IfOk result (λ found. found ≡ named_attrs (inner.now ∷ scopes_in opens.now) attrs) }
 {
     let mut found = Attrs::new(alloc);
-    for attr in attrs {
-        if is_declaration(attr) {
+    for attr in attrs.into_vec() {
+        if is_declaration(&attr) {
             continue;
         }
-        let Some(name) = attr_name(alloc, opens, inner, &attr.name)? else {
+        let Some(named) = named_attr(alloc, opens, inner, attr)? else {
             return Ok(None);
         };
-        let value = attr.value.copy(alloc)?;
-        found.push(Attr { name, value })?;
+        found.push(named)?;
     }
     Ok(Some(found))
 }
 
-/// What a start tag says where these elements are open and it declares this: the element's name and its attributes.
-/// `None` where it breaks a rule (Namespaces in XML).
+/// What a start tag of this name with these attributes says, where these elements are open and it declares this: the
+/// element's name and its attributes. `None` where it breaks a rule (Namespaces in XML).
 pub fn tag_says(
     alloc: Global,
     opens: &[Open],
     inner: &[Declaration],
-    tag: &Tag,
+    name: &QName,
+    attrs: Sequence<TagAttr>,
 ) -> Result<Option<(Name, Attrs)>, Mem>
-    requires { inner.now ≡ declarations tag.now.attrs }
-    ensures { IfOk result (λ said. said ≡ tag_says (scopes_in opens.now) tag.now) }
+    requires { inner.now ≡ declarations attrs }
+    ensures { IfOk result (λ said. said ≡ tag_says (scopes_in opens.now) (record { name = name.now; attrs = attrs })) }
 {
-    if !are_sound(inner) || !no_attr_twice(tag.attrs.as_slice()) {
+    if !are_sound(inner) || !no_attr_twice(attrs.as_slice()) {
         return Ok(None);
     }
-    let Some(name) = element_name(alloc, opens, inner, &tag.name)? else {
+    let Some(name) = element_name(alloc, opens, inner, name)? else {
         return Ok(None);
     };
-    let Some(attrs) = named_attrs(alloc, opens, inner, tag.attrs.as_slice())? else {
+    let Some(attrs) = named_attrs(alloc, opens, inner, attrs)? else {
         return Ok(None);
     };
     if !no_name_twice(attrs.as_slice()) {

@@ -11,7 +11,7 @@ use crate::scope::{declarations, tag_says};
 use crate::tag::{Open, Tag};
 use crate::texts::text_lines;
 use crate::values::push_code;
-use crate::{Part, Parts};
+use crate::{Part, PartSink};
 use cds_base::Text;
 use std::alloc::Global;
 
@@ -46,8 +46,8 @@ impl<'a> Walk<'a> {
 
     /// A start tag at this place, behind its `<`.
     #[tactic(auto, unfolding(crate::specs::Course::start_moves))]
-    fn start(&mut self, alloc: Global, at: usize, out: &mut Parts) -> Result<(), Stop>
-        ensures step { Moves out.old (start_moves self.old.total at self.old.opens.items self.old.parser) result (record { parts = out.new; opens = self.new.opens.items; left = self.new.parser }) }
+    fn start<S: PartSink>(&mut self, alloc: Global, at: usize, out: &mut S) -> Result<(), Stop>
+        ensures step { Moves S.took out.old (start_moves self.old.total at self.old.opens.items self.old.parser) result (record { out = out.new; opens = self.new.opens.items; left = self.new.parser }) }
         ensures total { self.new.total ≡ self.old.total }
     {
         if self.is_too_deep() {
@@ -58,12 +58,22 @@ impl<'a> Walk<'a> {
     }
 
     /// What the tag at this place says, up to its end, and then the end.
-    fn ruled(&mut self, alloc: Global, at: usize, tag: Tag, out: &mut Parts) -> Result<(), Stop>
-        ensures step { Moves out.old (ruled_moves self.old.total at self.old.opens.items tag (tag_says (scopes_in self.old.opens.items) tag) self.old.parser) result (record { parts = out.new; opens = self.new.opens.items; left = self.new.parser }) }
+    fn ruled<S: PartSink>(
+        &mut self,
+        alloc: Global,
+        at: usize,
+        tag: Tag,
+        out: &mut S,
+    ) -> Result<(), Stop>
+        ensures step { Moves S.took out.old (ruled_moves self.old.total at self.old.opens.items tag (tag_says (scopes_in self.old.opens.items) tag) self.old.parser) result (record { out = out.new; opens = self.new.opens.items; left = self.new.parser }) }
         ensures total { self.new.total ≡ self.old.total }
     {
-        let declared = declarations(alloc, tag.attrs.as_slice())?;
-        match tag_says(alloc, self.opens.as_slice(), declared.as_slice(), &tag)? {
+        let Tag { name, attrs } = tag;
+        let declared = declarations(alloc, attrs.as_slice())?;
+        let scope = self.opens.as_slice();
+        let said = tag_says(alloc, scope, declared.as_slice(), &name, attrs)?;
+        let element = Open { name, declared };
+        match said {
             Some((name, attrs)) => {
                 let end = self.place();
                 let part = Part::Start {
@@ -72,10 +82,6 @@ impl<'a> Walk<'a> {
                     name,
                     attrs,
                 };
-                let element = Open {
-                    name: tag.name,
-                    declared,
-                };
                 self.tag_end(end, part, element, out)
             }
             None => Err(Stop::Unruly),
@@ -83,19 +89,19 @@ impl<'a> Walk<'a> {
     }
 
     /// The end of a start tag, at this place.
-    fn tag_end(
+    fn tag_end<S: PartSink>(
         &mut self,
         end: usize,
         part: Part,
         element: Open,
-        out: &mut Parts,
+        out: &mut S,
     ) -> Result<(), Stop>
-        ensures step { Moves out.old (tag_ends end part element self.old.opens.items self.old.parser) result (record { parts = out.new; opens = self.new.opens.items; left = self.new.parser }) }
+        ensures step { Moves S.took out.old (tag_ends end part element self.old.opens.items self.old.parser) result (record { out = out.new; opens = self.new.opens.items; left = self.new.parser }) }
         ensures total { self.new.total ≡ self.old.total }
     {
         if self.parser.at(b'>') {
             self.parser.advance();
-            out.push(part)?;
+            out.take(part)?;
             if self.opens.insert(0, element).is_err() {
                 return Err(Stop::Mem);
             }
@@ -105,34 +111,34 @@ impl<'a> Walk<'a> {
     }
 
     /// The end of an empty element's tag, at this place. The tag is found at its `/`, whatever follows.
-    fn bare_end(&mut self, end: usize, part: Part, out: &mut Parts) -> Result<(), Stop>
-        ensures step { Moves out.old (bare_moves part end self.old.opens.items (word_at (codes "/>") self.old.parser)) result (record { parts = out.new; opens = self.new.opens.items; left = self.new.parser }) }
+    fn bare_end<S: PartSink>(&mut self, end: usize, part: Part, out: &mut S) -> Result<(), Stop>
+        ensures step { Moves S.took out.old (bare_moves part end self.old.opens.items (word_at (codes "/>") self.old.parser)) result (record { out = out.new; opens = self.new.opens.items; left = self.new.parser }) }
         ensures total { self.new.total ≡ self.old.total }
     {
         let closed = self.parser.word(b"/>");
-        out.push(part)?;
+        out.take(part)?;
         closed?;
-        out.push(Part::End { at: end })?;
+        out.take(Part::End { at: end })?;
         Ok(())
     }
 }
 
 impl<'a> Walk<'a> {
     /// The end tag at this place, of the innermost element, behind its `</`.
-    fn end(&mut self, at: usize, out: &mut Parts) -> Result<(), Stop>
+    fn end<S: PartSink>(&mut self, at: usize, out: &mut S) -> Result<(), Stop>
         requires { 0 < length self.old.opens.items }
-        ensures step { MatchInner self.old.opens.items (λ innermost outer. Moves out.old (end_moves at outer (end_at innermost.name self.old.parser)) result (record { parts = out.new; opens = self.new.opens.items; left = self.new.parser })) }
+        ensures step { MatchInner self.old.opens.items (λ innermost outer. Moves S.took out.old (end_moves at outer (end_at innermost.name self.old.parser)) result (record { out = out.new; opens = self.new.opens.items; left = self.new.parser })) }
         ensures total { self.new.total ≡ self.old.total }
     {
         self.parser.end(&self.opens[0].name)?;
-        out.push(Part::End { at })?;
+        out.take(Part::End { at })?;
         self.opens.remove(0);
         Ok(())
     }
 
     /// A comment behind its `<`.
-    fn remark(&mut self, out: &mut Parts) -> Result<(), Stop>
-        ensures step { Moves out.old (remark_moves self.old.opens.items (remark_at self.old.parser)) result (record { parts = out.new; opens = self.new.opens.items; left = self.new.parser }) }
+    fn remark<S: PartSink>(&mut self, out: &mut S) -> Result<(), Stop>
+        ensures step { Moves S.took out.old (remark_moves self.old.opens.items (remark_at self.old.parser)) result (record { out = out.new; opens = self.new.opens.items; left = self.new.parser }) }
         ensures total { self.new.total ≡ self.old.total }
     {
         self.parser.remark()?;
@@ -140,12 +146,12 @@ impl<'a> Walk<'a> {
     }
 
     /// A CDATA section at this place, behind its `<!`.
-    fn section(&mut self, alloc: Global, at: usize, out: &mut Parts) -> Result<(), Stop>
-        ensures step { Moves out.old (section_moves at self.old.opens.items (section_text_at self.old.parser)) result (record { parts = out.new; opens = self.new.opens.items; left = self.new.parser }) }
+    fn section<S: PartSink>(&mut self, alloc: Global, at: usize, out: &mut S) -> Result<(), Stop>
+        ensures step { Moves S.took out.old (section_moves at self.old.opens.items (section_text_at self.old.parser)) result (record { out = out.new; opens = self.new.opens.items; left = self.new.parser }) }
         ensures total { self.new.total ≡ self.old.total }
     {
         let text = self.parser.enclosed(alloc)?;
-        out.push(Part::Run {
+        out.take(Part::Run {
             at,
             odd: Some(at),
             text,
@@ -154,13 +160,13 @@ impl<'a> Walk<'a> {
     }
 
     /// A reference at this place.
-    fn reference(&mut self, alloc: Global, at: usize, out: &mut Parts) -> Result<(), Stop>
-        ensures step { Moves out.old (reference_moves at self.old.opens.items (reference_at self.old.parser)) result (record { parts = out.new; opens = self.new.opens.items; left = self.new.parser }) }
+    fn reference<S: PartSink>(&mut self, alloc: Global, at: usize, out: &mut S) -> Result<(), Stop>
+        ensures step { Moves S.took out.old (reference_moves at self.old.opens.items (reference_at self.old.parser)) result (record { out = out.new; opens = self.new.opens.items; left = self.new.parser }) }
         ensures total { self.new.total ≡ self.old.total }
     {
         let code = self.parser.reference()?;
         let text = text_of_code(alloc, code)?;
-        out.push(Part::Run {
+        out.take(Part::Run {
             at,
             odd: Some(at),
             text,
@@ -169,8 +175,8 @@ impl<'a> Walk<'a> {
     }
 
     /// A comment or a CDATA section at this place, behind the `<`.
-    fn bang(&mut self, alloc: Global, at: usize, out: &mut Parts) -> Result<(), Stop>
-        ensures step { Moves out.old (bang_moves at self.old.opens.items self.old.parser) result (record { parts = out.new; opens = self.new.opens.items; left = self.new.parser }) }
+    fn bang<S: PartSink>(&mut self, alloc: Global, at: usize, out: &mut S) -> Result<(), Stop>
+        ensures step { Moves S.took out.old (bang_moves at self.old.opens.items self.old.parser) result (record { out = out.new; opens = self.new.opens.items; left = self.new.parser }) }
         ensures total { self.new.total ≡ self.old.total }
     {
         if !self.parser.begins_section() {
@@ -181,9 +187,9 @@ impl<'a> Walk<'a> {
     }
 
     /// What begins with `<` at this place inside an element, behind it.
-    fn markup(&mut self, alloc: Global, at: usize, out: &mut Parts) -> Result<(), Stop>
+    fn markup<S: PartSink>(&mut self, alloc: Global, at: usize, out: &mut S) -> Result<(), Stop>
         requires { 0 < length self.old.opens.items }
-        ensures step { MatchInner self.old.opens.items (λ innermost outer. Moves out.old (markup_moves self.old.total at innermost.name outer self.old.opens.items self.old.parser) result (record { parts = out.new; opens = self.new.opens.items; left = self.new.parser })) }
+        ensures step { MatchInner self.old.opens.items (λ innermost outer. Moves S.took out.old (markup_moves self.old.total at innermost.name outer self.old.opens.items self.old.parser) result (record { out = out.new; opens = self.new.opens.items; left = self.new.parser })) }
         ensures total { self.new.total ≡ self.old.total }
     {
         if self.parser.at(b'/') {
@@ -197,9 +203,9 @@ impl<'a> Walk<'a> {
     }
 
     /// A literal text at this place.
-    fn text(&mut self, alloc: Global, at: usize, out: &mut Parts) -> Result<(), Stop>
+    fn text<S: PartSink>(&mut self, alloc: Global, at: usize, out: &mut S) -> Result<(), Stop>
         requires { at + length self.old.parser < 2 ^ 64 }
-        ensures step { Moves out.old (text_moves at self.old.opens.items self.old.parser (text_behind 0 self.old.parser)) result (record { parts = out.new; opens = self.new.opens.items; left = self.new.parser }) }
+        ensures step { Moves S.took out.old (text_moves at self.old.opens.items self.old.parser (text_behind 0 self.old.parser)) result (record { out = out.new; opens = self.new.opens.items; left = self.new.parser }) }
         ensures total { self.new.total ≡ self.old.total }
     {
         let start = self.parser.left();
@@ -213,10 +219,10 @@ impl<'a> Walk<'a> {
     }
 
     /// The next piece inside the innermost element.
-    fn piece(&mut self, alloc: Global, out: &mut Parts) -> Result<(), Stop>
+    fn piece<S: PartSink>(&mut self, alloc: Global, out: &mut S) -> Result<(), Stop>
         requires inside { 0 < length self.old.opens.items }
         requires small { self.old.total < 2 ^ 63 }
-        ensures step { MatchInner self.old.opens.items (λ innermost outer. Moves out.old (piece_moves self.old.total innermost.name outer self.old.opens.items self.old.parser) result (record { parts = out.new; opens = self.new.opens.items; left = self.new.parser })) }
+        ensures step { MatchInner self.old.opens.items (λ innermost outer. Moves S.took out.old (piece_moves self.old.total innermost.name outer self.old.opens.items self.old.parser) result (record { out = out.new; opens = self.new.opens.items; left = self.new.parser })) }
         ensures total { self.new.total ≡ self.old.total }
     {
         let at = self.place();
@@ -243,9 +249,9 @@ impl<'a> Walk<'a> {
     }
 
     /// What stands inside the open elements, up to the end of the root.
-    fn content(&mut self, alloc: Global, out: &mut Parts) -> Result<(), Stop>
+    fn content<S: PartSink>(&mut self, alloc: Global, out: &mut S) -> Result<(), Stop>
         requires { self.old.total < 2 ^ 63 }
-        ensures step { Runs out.old (content_at self.old.total self.old.opens.items self.old.parser) result out.new self.new.parser }
+        ensures step { Runs S.took out.old (content_at self.old.total self.old.opens.items self.old.parser) result out.new self.new.parser }
         ensures total { self.new.total ≡ self.old.total }
     {
         while self.is_inside() {
@@ -257,10 +263,10 @@ impl<'a> Walk<'a> {
     }
 
     /// The root from behind its tag's `<`, and what stands behind it.
-    fn root(&mut self, alloc: Global, out: &mut Parts) -> Result<(), Stop>
+    fn root<S: PartSink>(&mut self, alloc: Global, out: &mut S) -> Result<(), Stop>
         requires small { self.old.total < 2 ^ 63 }
         requires none { self.old.opens.items ≡ [] }
-        ensures step { Runs out.old (root_course self.old.total self.old.parser) result out.new self.new.parser }
+        ensures step { Runs S.took out.old (root_course self.old.total self.old.parser) result out.new self.new.parser }
         ensures total { self.new.total ≡ self.old.total }
     {
         let at = self.place().saturating_sub(1);
@@ -274,11 +280,11 @@ impl<'a> Walk<'a> {
     }
 
     /// A whole document.
-    pub fn document(&mut self, alloc: Global, out: &mut Parts) -> Result<(), Stop>
+    pub fn document<S: PartSink>(&mut self, alloc: Global, out: &mut S) -> Result<(), Stop>
         requires small { self.old.total < 2 ^ 63 }
         requires none { self.old.opens.items ≡ [] }
         requires whole { self.old.total ≡ length self.old.parser }
-        ensures step { Runs out.old (course_of self.old.parser) result out.new self.new.parser }
+        ensures step { Runs S.took out.old (course_of self.old.parser) result out.new self.new.parser }
         ensures total { self.new.total ≡ self.old.total }
     {
         if let Err(stop) = self.parser.prolog() {
@@ -333,22 +339,22 @@ fn odd_of(at: usize, text: &[u8], begun: bool) -> Option<usize>
 }
 
 /// Adds the run of a literal text at this place, where it has a character or one began behind it.
-fn push_text(
+fn push_text<S: PartSink>(
     alloc: Global,
     at: usize,
     text: &[u8],
     begun: bool,
-    out: &mut Parts,
+    out: &mut S,
 ) -> Result<(), Stop>
     requires { at + length text.now < 2 ^ 64 }
-    ensures { Pushes result out.old (text_parts at text.now begun) out.new }
+    ensures { Pushes S.took result out.old (text_parts at text.now begun) out.new }
 {
     if text.is_empty() && !begun {
         return Ok(());
     }
     let odd = odd_of(at, text, begun);
     let text = text_lines(alloc, text)?;
-    out.push(Part::Run { at, odd, text })?;
+    out.take(Part::Run { at, odd, text })?;
     Ok(())
 }
 

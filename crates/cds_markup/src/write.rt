@@ -10,24 +10,7 @@ ghost use Rattle.cds_markup.specs.WrittenRows.{WrittenRows};
 
 use crate::scope::XML_SPACE;
 use crate::{Attr, Element, Name, Node};
-use cds_base::{Mem, escape};
-use std::fmt::Write;
-
-/// Puts a text at the end.
-fn put(out: &mut String, text: &str) -> Result<(), Mem>
-    ensures { OnOk result (string_bytes out.new ≡ string_bytes out.old ++ text.now) }
-{
-    out.push_str(text)?;
-    Ok(())
-}
-
-/// Puts a number at the end in decimal.
-fn put_number(out: &mut String, number: u64) -> Result<(), Mem>
-    ensures { OnOk result (string_bytes out.new ≡ string_bytes out.old ++ decimal number) }
-{
-    write!(out, "{number}")?;
-    Ok(())
-}
+use cds_base::{Mem, escape, put, put_number};
 
 /// Puts a text at the end as it stands in XML.
 fn put_escaped(out: &mut String, text: &str) -> Result<(), Mem>

@@ -1,12 +1,19 @@
 -- What is answered of the parts decides the bytes.
-use Rattle.std.proofs.Common.{sym, ◌∙◌, subst}
-use Rattle.cds_markup.specs.Agree.{Parted}
-use Rattle.cds_lastchange.specs.Judged.{answer_of, parts_judged, nothing_said, Answers}
+use Rattle.std.proofs.Common.{◌≡◌, ℕ, Result, Ok, List, sym, ◌∙◌, subst}
+use Rattle.cds_event.specs.declared.Event.{Event}
+use Rattle.cds_markup.specs.declared.error.MarkupError.{MarkupError}
+use Rattle.cds_markup.specs.Agree.{Gives}
+use Rattle.cds_lastchange.specs.declared.judge.Judge.{Judge}
+use Rattle.cds_lastchange.specs.declared.error.StateError.{StateError}
+use Rattle.cds_lastchange.specs.Judged.{is_empty, nothing_said, answer_read}
+use Rattle.cds_lastchange.specs.Taken.{judged_on}
+use Rattle.cds_lastchange.specs.Refusal.{Decides}
 use Rattle.cds_lastchange.proofs.Deciding.{decided_so}
 use Rattle.cds_lastchange.proofs.reader.decided.Goals as goal
 
 pub returns : goal.returns
 returns c =
-    decided_so c.args.bytes.now c.read_parts-read.result c.read_parts-read.new.out c.answer_of.result (sym c.is_empty.ensures ∙ c.if-is_empty.false)
-    (subst (λ before. Parted c.args.bytes.now c.read_parts-read.result before c.read_parts-read.new.out) c.new-parts.ensures c.read_parts-read.ensures.read)
-    (subst (λ parts. Answers (answer_of c.read_parts-read.result (parts_judged nothing_said parts)) c.answer_of.result) c.as_slice.ensures c.answer_of.ensures)
+    subst (λ r. Decides c.args.bytes.now r) (sym c.answer_of.ensures)
+    (subst (λ said. Decides c.args.bytes.now (answer_read c.give_parts-read.result said)) (sym c.into_said.ensures)
+    (decided_so c.args.bytes.now c.give_parts-read.result c.give_parts-read.new.to (sym c.is_empty.ensures ∙ c.if-is_empty.false)
+    (subst (λ before. Gives judged_on c.args.bytes.now c.give_parts-read.result before c.give_parts-read.new.to) c.new-judging.ensures c.give_parts-read.ensures.read)))

@@ -1,12 +1,13 @@
-use Rattle.std.proofs.Common.{[], subst}
-use Rattle.cds_markup.specs.Agree.{Parted}
-use Rattle.cds_markup.proofs.Verdict.{parted_some, parted_ok}
+use Rattle.std.proofs.Common.{subst}
+use Rattle.cds_markup.specs.Building.{state_of}
+use Rattle.cds_markup.specs.Decided.{IsBuilt}
+use Rattle.cds_markup.proofs.Verdict.{built_none, built_ok}
 use Rattle.cds_markup.proofs.read.element_read.Goals as goal
 
-pub element_of-requires : goal.element_of-requires
-element_of-requires c =
-    parted_some c.args._bytes.now c.args.parts (subst (λ r. Parted c.args._bytes.now r [] c.args.parts) c.in-Ok.is c.requires)
+pub unreachable-requires : goal.unreachable-requires
+unreachable-requires c =
+    built_none c.args._bytes.now (state_of c.args.builder) c.into_element.result (subst (λ r. IsBuilt c.args._bytes.now r (state_of c.args.builder)) c.in-Ok.is c.requires) c.into_element.ensures c.in-None.is
 
-pub returns-in-Ok-element_of : goal.returns-in-Ok-element_of
-returns-in-Ok-element_of c =
-    parted_ok c.args._bytes.now c.args.parts c.in-Ok-element_of.element (subst (λ r. Parted c.args._bytes.now r [] c.args.parts) c.in-Ok.is c.requires) c.in-Ok-element_of.ensures
+pub returns : goal.returns
+returns c =
+    built_ok c.args._bytes.now (state_of c.args.builder) c.into_element.result c.in-Some.element (subst (λ r. IsBuilt c.args._bytes.now r (state_of c.args.builder)) c.in-Ok.is c.requires) c.into_element.ensures c.in-Some.is

@@ -1,0 +1,76 @@
+//! Parts that are judged one by one as they come.
+
+ghost use Rattle.std.specs.Prelude.{◌≡◌, ◌∷◌, [], Ok, IfOk};
+ghost use Rattle.cds_lastchange.specs.Judged.{part_judged, nothing_said};
+
+use crate::StateError;
+use crate::judge::Judge;
+use cds_base::Mem;
+use cds_markup::{Part, PartSink};
+use std::alloc::Global;
+use std::marker::Model;
+
+/// What takes the parts of a document and keeps none. Contracts see what they say, or the place of the first that does
+/// not stand.
+#[derive(Drop, Debug)]
+pub struct Judging {
+    said: Result<Judge, usize>,
+}
+
+impl Model for Judging {
+    ghost use Rattle.std.specs.Prelude.{ℕ, Result};
+    ghost use Rattle.cds_lastchange.specs.declared.judge.Judge.{Judge};
+
+    ghost Value = { Result Judge ℕ };
+
+    ghost view = { λ j. j.said };
+}
+
+impl Judging {
+    /// No part yet.
+    pub fn new(alloc: Global) -> Self
+        ensures { result ≡ Ok nothing_said }
+    {
+        Judging {
+            said: Ok(Judge::new(alloc)),
+        }
+    }
+
+    /// What the parts say, or the place of the first that does not stand.
+    pub fn into_said(self) -> Result<Judge, usize>
+        ensures { result ≡ self }
+    {
+        self.said
+    }
+}
+
+impl PartSink for Judging {
+    ghost use Rattle.cds_lastchange.specs.Taken.{judged_on, judged_none, judged_more};
+
+    ghost took = { judged_on };
+
+    fn take(&mut self, part: Part) -> Result<(), Mem> {
+        let before = std::mem::replace(&mut self.said, Err(0));
+        self.said = match before {
+            Ok(judge) => judged(judge, &part)?,
+            Err(at) => Err(at),
+        };
+        Ok(())
+    }
+
+    ghost took_none = { judged_none };
+
+    ghost took_more = { judged_more };
+}
+
+/// What is said up to a part, or the place that is answered where it does not stand.
+fn judged(judge: Judge, part: &Part) -> Result<Result<Judge, usize>, Mem>
+    ensures { IfOk result (λ said. said ≡ part_judged judge part.now) }
+{
+    let mut judge = judge;
+    match judge.part(part) {
+        Ok(()) => Ok(Ok(judge)),
+        Err(StateError::NotStateEvent { at }) => Ok(Err(at)),
+        Err(_) => Err(Mem),
+    }
+}
