@@ -3,6 +3,7 @@ pub mod Judging
 pub mod Levels
 pub mod Finding
 pub mod Meanings
+pub mod Documents
 pub mod Deciding
 pub mod PiecesForm
 pub mod PlainValues

@@ -34,7 +34,7 @@ outer Outside = Outside
 outer InRoot = Outside
 outer InEvent = InRoot
 
--- What is said up to a part, or the place that is answer_read where it does not stand.
+-- What is said up to a part, or the place that is answered where it does not stand.
 abbrev pub part_judged : Judge → Part → Result Judge ℕ
 part_judged j (Start at end name attrs) = start_judged j.level j.events at name attrs
 part_judged j (End at) = Ok record { level = outer j.level; events = j.events }
@@ -52,7 +52,7 @@ parts_judged j (part ∷ rest) = and_judged (part_judged j part) (λ k. parts_ju
 abbrev pub nothing_said : Judge
 nothing_said = record { level = Outside; events = [] }
 
--- What is answer_read of the parts and of what reading them answer_read. A place in the parts comes before the fault at which
+-- What is answered of the parts and of what reading them answered. A place in the parts comes before the fault at which
 -- they end. No document of two open elements at most is too deep.
 abbrev pub as_refusal : MarkupError → StateError
 as_refusal (BadAt at) = Bad at

@@ -2,11 +2,11 @@
 use Rattle.std.specs.Prelude.{◌≡◌, ◌≢◌, ℕ, ◌≤◌, ◌⊎◌, List, length}
 use Rattle.std.specs.List.{AllByRecursion}
 use Rattle.cds_event.specs.declared.Event.{Event}
-use Rattle.cds_markup.specs.Document.{most_bytes}
+use Rattle.cds_markup.specs.Document.{Meaning, Doc, most_bytes}
 use Rattle.cds_lastchange.specs.declared.error.StateError.{StateError}
 use Rattle.cds_lastchange.specs.declared.error.StateError.TheVariants.{Mem}
 use Rattle.cds_lastchange.specs.Spelled.{spelled, IsNumbered}
-use Rattle.cds_lastchange.specs.StateEvent.{IsStateEvent}
+use Rattle.cds_lastchange.specs.StateEvent.{IsEmpty, IsStateEvent}
 use Rattle.cds_lastchange.specs.Refusal.{IsRefused}
 
 -- What is written of events is read as these events, where it is no longer than may be.
@@ -27,3 +27,9 @@ OneAnswer =
 abbrev pub AllAreAnswered : Type 0
 AllAreAnswered =
     (bytes : List ℕ) → ((events : List Event) × IsStateEvent bytes events) ⊎ ((r : StateError) × IsRefused bytes r × (r ≢ Mem))
+
+-- Bytes that are events are white space, which has no event, or a document with an element: their start tags keep the
+-- rules, and no more elements are open than may be.
+abbrev pub StateEventsAreDocuments : Type 0
+StateEventsAreDocuments =
+    (bytes : List ℕ) (events : List Event) → IsStateEvent bytes events → IsEmpty bytes events ⊎ ((element : Meaning) × Doc bytes element)

@@ -9,8 +9,8 @@ use thiserror::Error;
 /// Why bytes were not read as a StateEvent. Places are bytes from the start of the input, from 0.
 #[derive(Clone, Copy, Debug, PartialEq, Eq, Error)]
 pub enum StateError {
-    /// The bytes are no document: the byte at this place cannot stand there, or the input ends there, or the `>` or
-    /// `/` there ends a start tag that breaks a rule of namespaces.
+    /// The bytes are no document: the byte at this place cannot stand there, or the input ends there and is none, or the `>`
+    /// or `/` there ends a start tag that breaks a rule of namespaces.
     #[error("no document: it breaks at {at}")]
     Bad { at: usize },
     /// The document is no StateEvent: at this place begins a start tag of another element than may stand there, or of
@@ -43,6 +43,8 @@ impl From<AllocError> for StateError {
     }
 }
 
+/// A third open element is refused before the place where a document would be too deep, so `TooDeep` never comes of a
+/// StateEvent's reader.
 impl From<MarkupError> for StateError {
     ghost from_gives = { λ refusal e. e ≡ as_refusal refusal };
 

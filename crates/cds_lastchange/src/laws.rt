@@ -1,6 +1,6 @@
 //! What is proved of the definitions themselves: calling a function gives its law.
 
-ghost use Rattle.cds_lastchange.specs.Laws.{WrittenIsRead, OneList, OneAnswer, AllAreAnswered};
+ghost use Rattle.cds_lastchange.specs.Laws.{WrittenIsRead, OneList, OneAnswer, AllAreAnswered, StateEventsAreDocuments};
 
 /// What is written of events is read as these events, where it has at most 67,108,864 bytes.
 pub fn written_is_read()
@@ -20,4 +20,9 @@ pub fn one_answer()
 /// There is an answer to all bytes.
 pub fn all_are_answered()
     ensures { AllAreAnswered }
+{}
+
+/// Bytes that are events are white space or a document.
+pub fn state_events_are_documents()
+    ensures { StateEventsAreDocuments }
 {}

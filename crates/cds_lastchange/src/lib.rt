@@ -16,7 +16,9 @@ pub use error::StateError;
 pub use evaluated::{
     events_are_written, forms_are_read, others_are_refused, text_between_is_refused,
 };
-pub use laws::{all_are_answered, one_answer, one_list, written_is_read};
+pub use laws::{
+    all_are_answered, one_answer, one_list, state_events_are_documents, written_is_read,
+};
 pub use reader::{StateReader, every_cutting};
 pub use write::write_state_event;
 

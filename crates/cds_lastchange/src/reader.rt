@@ -39,7 +39,7 @@ fn is_blank(bytes: &[u8]) -> bool
     bytes.iter().all(|b| *b == b' ' || *b == b'\t' || *b == b'\n' || *b == b'\r')
 }
 
-/// What to answer where reading the parts answer_read so and they say this.
+/// What to answer where reading the parts answered so and they say this.
 fn answer_of(
     read: Result<(), MarkupError>,
     said: Result<Judge, usize>,

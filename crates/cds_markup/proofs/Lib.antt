@@ -50,6 +50,9 @@ pub mod Halting
 pub mod TextSplit
 pub mod AllGiven
 pub mod Fronts
+pub mod Places
+pub mod OpenClear
+pub mod OneList
 pub mod NumberSteps
 pub mod Shorter
 pub mod ValueSteps

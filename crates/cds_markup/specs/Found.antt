@@ -219,3 +219,7 @@ LeavesHaveOneEnd =
 -- The parts of a document are those of whichever root its bytes are.
 abbrev pub PartsAreOfRoots : Type 0
 PartsAreOfRoots = (bytes : List ℕ) (root : Tree) (element : Meaning) → DocOf bytes root element → (d : DocumentParts bytes (parts_of bytes)) × (d.root ≡ root)
+
+-- The parts of bytes are one list: what stands at its place by the grammar is told by the bytes alone.
+abbrev pub PartsAreOne : Type 0
+PartsAreOne = (bytes : List ℕ) (one other : List Part) → Given bytes one → Given bytes other → one ≡ other

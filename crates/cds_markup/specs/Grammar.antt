@@ -1,6 +1,6 @@
 -- The grammar of documents, which is this project's profile of XML 1.0: in UTF-8, without document types, processing
--- instructions and entities of one's own, and with every allowed character from U+0080 on in names. Each definition is
--- one row of it.
+-- instructions and entities of one's own, with every allowed character from U+0080 on in names, and with comments
+-- that may end in a dash. Each definition is one row of it.
 use Rattle.std.specs.Prelude.{◌≡◌, ◌≢◌, ◌==◌, ℕ, ◌+◌, nat_le, Bool, true, false, not, ◌&&◌, ◌||◌, if◌then◌else◌, ◌⊎◌, Option, Some, None, List, [], ◌∷◌, ◌++◌, codes, map, encode_utf8}
 use Rattle.std.specs.List.{starts_with, flat_map}
 use Rattle.cds_markup.specs.declared.tag.QName.{QName}

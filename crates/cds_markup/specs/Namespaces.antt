@@ -1,4 +1,5 @@
--- Names with their namespaces (Namespaces in XML), and the rules that a start tag keeps.
+-- Names with their namespaces (Namespaces in XML), and the rules that a start tag keeps. In this project's profile `xml` is
+-- not declared, not even with its own name, and other prefixes may be declared with any name that is not empty.
 use Rattle.std.specs.Prelude.{◌==◌, ℕ, Bool, true, not, ◌&&◌, ◌||◌, if◌then◌else◌, Option, Some, None, List, [], ◌∷◌, codes, map, filter, find, length}
 use Rattle.std.specs.List.{list_all, list_any}
 use Rattle.std.specs.Str.{bytes_eq}

@@ -43,7 +43,7 @@ impl Model for Element {
 #[derive(Drop, Debug)]
 #[cycle(element)]
 pub enum Node {
-    /// A text that is not empty.
+    /// A text. In an element that was read none is empty or stands beside another.
     Text(Text),
     /// An element.
     Child(Element),

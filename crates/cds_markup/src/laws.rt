@@ -1,5 +1,5 @@
 ghost use Rattle.cds_markup.specs.Decided.{PartsAreBuilt, PartsAreTold};
-ghost use Rattle.cds_markup.specs.Found.{LeavesHaveOneEnd, PartsAreGiven, PartsAreOfRoots, PartsStandBefore};
+ghost use Rattle.cds_markup.specs.Found.{LeavesHaveOneEnd, PartsAreGiven, PartsAreOfRoots, PartsAreOne, PartsStandBefore};
 ghost use Rattle.cds_markup.specs.Law.{AllAreAnswered, CharactersAreRead, DocumentsAreRead, NamesAreRead, OneAnswer, OneElement};
 
 /// What reading takes for a character is one, every allowed character is taken, and where it stops the bytes before
@@ -63,4 +63,9 @@ pub fn leaves_have_one_end()
 /// The parts of a document are those of its root as it is written, whichever way it is read.
 pub fn parts_are_of_roots()
     ensures { PartsAreOfRoots }
+{}
+
+/// The parts of bytes are one list: what stands at its place by the grammar is told by the bytes alone.
+pub fn parts_are_one()
+    ensures { PartsAreOne }
 {}

@@ -25,8 +25,8 @@ pub use element::{Element, Node, Nodes};
 pub use error::MarkupError;
 pub use laws::{
     all_are_answered, characters_are_read, documents_are_read, leaves_have_one_end, names_are_read,
-    one_answer, one_element, parts_are_built, parts_are_given, parts_are_of_roots, parts_are_told,
-    parts_stand_before,
+    one_answer, one_element, parts_are_built, parts_are_given, parts_are_of_roots, parts_are_one,
+    parts_are_told, parts_stand_before,
 };
 pub use name::{Attr, Attrs, Name};
 pub use part::{Part, Parts};

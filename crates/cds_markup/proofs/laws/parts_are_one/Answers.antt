@@ -1,0 +1,5 @@
+use Rattle.cds_markup.proofs.OneList.{parts-are-one}
+use Rattle.cds_markup.proofs.laws.parts_are_one.Goals as goal
+
+pub returns : goal.returns
+returns c = parts-are-one
