@@ -4,7 +4,7 @@
 ghost use Rattle.std.specs.Prelude.{◌≡◌, ◌+◌, ◌&&◌, ◌<◌, ◌≤◌, ◌^◌, true, not, nat_eq, nat_lt, map, filter, length, OnOk};
 ghost use Rattle.std.specs.Bool.{MatchBool};
 ghost use Rattle.std.specs.List.{All, list_any};
-ghost use Rattle.cds_notes.specs.Commands.{subscription_limit};
+ghost use Rattle.cds_notes.specs.Commands.{granted_time, subscription_limit};
 ghost use Rattle.cds_replay.specs.Serving.{alive, expired, has_next, holds_alive, nothing_granted, notified, raised, with_grant, without};
 
 use cds_base::Mem;
@@ -137,7 +137,7 @@ impl Book {
     pub fn grant(&mut self, now: u64)
         requires room { 1 ≤ self.old.room }
         requires names { self.old.subscribed.granted + 1 < 2 ^ 32 }
-        requires moments { now + 1800000 < 2 ^ 64 }
+        requires moments { now + granted_time < 2 ^ 64 }
         ensures { self.new.subscribed ≡ with_grant now self.old.subscribed }
     {
         self.granted += 1;

@@ -4,8 +4,7 @@ ghost use Rattle.std.specs.Prelude.{◌≡◌, ◌++◌, ◌/◌, ◌%◌, ◌<�
 ghost use Rattle.std.specs.Option.{option_map};
 ghost use Rattle.cds_object.specs.Fragment.{fragment, container_text, item_text, object_attributes, parent_text, text_element, number_element, two_digits, three_digits, duration_text, seconds_text, duration_attribute, number_attribute, rate_attribute, sound_attributes, resource_attributes, resource_text, work_text, item_front, container_front, trackers_text, if_there};
 
-use crate::put::{put, put_escaped, put_number};
-use cds_base::{Mem, Text};
+use cds_base::{Mem, Text, escape, put, put_number};
 use cds_object::{Content, Row, TrackContent, Trackers};
 
 /// Puts an element without attributes round a text.
@@ -14,7 +13,7 @@ fn put_text_element(out: &mut String, name: &str, text: &str) -> Result<(), Mem>
     ensures { OnOk result (string_bytes out.new ≡ string_bytes out.old ++ text_element name.now text.now) }
 {
     put_start(out, name)?;
-    put_escaped(out, text)?;
+    escape(text, out)?;
     put_end(out, name)?;
     Ok(())
 }

@@ -6,7 +6,6 @@ mod fragment;
 mod input;
 mod laws;
 mod play;
-mod put;
 mod releases;
 mod reply;
 mod report;

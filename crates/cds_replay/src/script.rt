@@ -11,9 +11,8 @@ ghost use Rattle.cds_script.specs.Report.{script_ending};
 ghost use Rattle.cds_replay.specs.Session.{IsAfter, IsPlayed, IsBounded, Grows};
 ghost use Rattle.cds_replay.specs.Script.{stop_text, left_in, Sound, GoesOn, Fed, Finished, WhileGoing, AtLimit, LineRead};
 
-use crate::put::{put, put_number};
 use crate::session::Session;
-use cds_base::Mem;
+use cds_base::{Mem, put, put_number};
 use cds_script::{Meaning, Turn, read_line};
 use memchr::memchr;
 use std::alloc::Global;

@@ -1,7 +1,7 @@
 //! The private server of a script: its store, its subscriptions, its releases and the notes that it sent.
 
 ghost use Rattle.std.specs.Prelude.{◌≡◌, ◌+◌, ◌<◌, ◌≤◌, ◌^◌, ℕ, List, [], ◌∷◌, length, Some, slice_get, option_map, IfOk, OnErr, OnOk};
-ghost use Rattle.cds_notes.specs.Commands.{Command, Ticks};
+ghost use Rattle.cds_notes.specs.Commands.{Command, Ticks, granted_time};
 ghost use Rattle.cds_script.specs.Report.{sent_note};
 ghost use Rattle.cds_replay.specs.Sending.{head_of};
 ghost use Rattle.cds_replay.specs.Serving.{Ended, Granted, Scanned, Serves, next_release};
@@ -103,7 +103,7 @@ impl Server {
     /// no room. Want of memory leaves the server as it was.
     pub fn subscribe(&mut self, now: u64) -> Result<Option<u32>, Mem>
         requires names { self.old.subscribed.granted + 1 < 2 ^ 32 }
-        requires moments { now + 1800000 < 2 ^ 64 }
+        requires moments { now + granted_time < 2 ^ 64 }
         ensures after { (first : ℕ) (commands : List Command) → Serves self.old first commands → IfOk result (λ name. Granted first now commands name self.old self.new) }
         ensures granted { OnOk result (self.new.subscribed.granted ≤ self.old.subscribed.granted + 1) }
         ensures kept { OnErr result (self.new ≡ self.old) }

@@ -158,68 +158,71 @@ fn written(alloc: Global, first: u32, steps: &str) -> Result<String, Fail> {
     Ok(text)
 }
 
+/// What servers answer, one case each.
+const CASES: [Case; 10] = [
+    // two tracks that come one after another; one that goes; one that changes
+    Case {
+        first: 0,
+        steps: "grant 1 0|scan a|at 200|scan a b|at 400|tell 1|tell 2|tell 3|tell 4|tell 0",
+        written: "granted 1|scan 1|note 2 seq 1 at 1, |scan 2|note 3 seq 2 at 2, |1 0 0:|1 1 1: add 1@1<0|1 2 2: add 2@2<0|none|none|",
+    },
+    Case {
+        first: 0,
+        steps: "grant 1 0|scan a|at 200|scan|at 400|tell 3",
+        written: "granted 1|scan 1|note 2 seq 1 at 1, |scan 2|note 3 seq 2 at 2, |1 2 2: del 1@2|",
+    },
+    Case {
+        first: 0,
+        steps: "grant 1 0|scan a|at 200|scan a=11|at 400|tell 3",
+        written: "granted 1|scan 1|note 2 seq 1 at 1, |scan 2|note 3 seq 2 at 2, |1 2 2: mod 1@2|",
+    },
+    // there are no numbers left
+    Case {
+        first: 4_294_967_293,
+        steps: "scan a b c|scan b c",
+        written: "spent 3|scan 4294967295|",
+    },
+    // the first release comes at once, the next one 200 milliseconds later, with both scans
+    Case {
+        first: 0,
+        steps: "grant 1 0|scan a|at 0|at 1000|scan a b|at 1001|scan|at 1002|tell 3",
+        written: "granted 1|scan 1|note 2 seq 1 at 1, ||scan 2|note 3 seq 2 at 2, |scan 4||1 2 2: add 2@2<0|",
+    },
+    Case {
+        first: 0,
+        steps: "grant 1 0|scan a|at 1000|scan a b|at 1100|scan a b c|at 1199|at 1200|tell 3",
+        written: "granted 1|scan 1|note 2 seq 1 at 1, |scan 2||scan 3||note 3 seq 2 at 3, |1 2 3: add 2@2<0 add 3@3<0|",
+    },
+    // 64 live at most, and they end at their time
+    Case {
+        first: 0,
+        steps: "grant 65 0|grant 1 1799999|grant 1 1800000|at 1800000|end 64 1800000|end 65 1800000|tell 65",
+        written: "granted 64|granted 0|granted 1||false|true|65 0 0:|",
+    },
+    // a note of a release goes to each that lives
+    Case {
+        first: 0,
+        steps: "grant 2 0|end 1 0|scan a|at 5|tell 3|end 1 5|grant 1 200|tell 4|end 2 1799999|end 3 1800199",
+        written: "granted 2|true|scan 1|note 3 seq 1 at 1, |2 1 1: add 1@1<0|false|granted 1|3 0 1:|true|true|",
+    },
+    Case {
+        first: 0,
+        steps: "grant 1 0|grant 1 1|scan a|at 1800000|tell 3",
+        written: "granted 1|granted 1|scan 1|note 3 seq 1 at 1, |2 1 1: add 1@1<0|",
+    },
+    // what came and went before a subscription is told to it, too
+    Case {
+        first: 0,
+        steps: "scan a|scan|grant 1 0|at 200|tell 2",
+        written: "scan 1|scan 2|granted 1|note 2 seq 1 at 2, |1 1 2: add 1@1<0 del 1@2|",
+    },
+];
+
+/// Servers that take some steps.
 #[test]
 fn servers(rt: HostRuntime) -> Result<(), Fail> {
     let alloc = rt.alloc();
-    let cases = [
-        // two tracks that come one after another; one that goes; one that changes
-        Case {
-            first: 0,
-            steps: "grant 1 0|scan a|at 200|scan a b|at 400|tell 1|tell 2|tell 3|tell 4|tell 0",
-            written: "granted 1|scan 1|note 2 seq 1 at 1, |scan 2|note 3 seq 2 at 2, |1 0 0:|1 1 1: add 1@1<0|1 2 2: add 2@2<0|none|none|",
-        },
-        Case {
-            first: 0,
-            steps: "grant 1 0|scan a|at 200|scan|at 400|tell 3",
-            written: "granted 1|scan 1|note 2 seq 1 at 1, |scan 2|note 3 seq 2 at 2, |1 2 2: del 1@2|",
-        },
-        Case {
-            first: 0,
-            steps: "grant 1 0|scan a|at 200|scan a=11|at 400|tell 3",
-            written: "granted 1|scan 1|note 2 seq 1 at 1, |scan 2|note 3 seq 2 at 2, |1 2 2: mod 1@2|",
-        },
-        // there are no numbers left
-        Case {
-            first: 4_294_967_293,
-            steps: "scan a b c|scan b c",
-            written: "spent 3|scan 4294967295|",
-        },
-        // the first release comes at once, the next one 200 milliseconds later, with both scans
-        Case {
-            first: 0,
-            steps: "grant 1 0|scan a|at 0|at 1000|scan a b|at 1001|scan|at 1002|tell 3",
-            written: "granted 1|scan 1|note 2 seq 1 at 1, ||scan 2|note 3 seq 2 at 2, |scan 4||1 2 2: add 2@2<0|",
-        },
-        Case {
-            first: 0,
-            steps: "grant 1 0|scan a|at 1000|scan a b|at 1100|scan a b c|at 1199|at 1200|tell 3",
-            written: "granted 1|scan 1|note 2 seq 1 at 1, |scan 2||scan 3||note 3 seq 2 at 3, |1 2 3: add 2@2<0 add 3@3<0|",
-        },
-        // 64 live at most, and they end at their time
-        Case {
-            first: 0,
-            steps: "grant 65 0|grant 1 1799999|grant 1 1800000|at 1800000|end 64 1800000|end 65 1800000|tell 65",
-            written: "granted 64|granted 0|granted 1||false|true|65 0 0:|",
-        },
-        // a note of a release goes to each that lives
-        Case {
-            first: 0,
-            steps: "grant 2 0|end 1 0|scan a|at 5|tell 3|end 1 5|grant 1 200|tell 4|end 2 1799999|end 3 1800199",
-            written: "granted 2|true|scan 1|note 3 seq 1 at 1, |2 1 1: add 1@1<0|false|granted 1|3 0 1:|true|true|",
-        },
-        Case {
-            first: 0,
-            steps: "grant 1 0|grant 1 1|scan a|at 1800000|tell 3",
-            written: "granted 1|granted 1|scan 1|note 3 seq 1 at 1, |2 1 1: add 1@1<0|",
-        },
-        // what came and went before a subscription is told to it, too
-        Case {
-            first: 0,
-            steps: "scan a|scan|grant 1 0|at 200|tell 2",
-            written: "scan 1|scan 2|granted 1|note 2 seq 1 at 2, |1 1 2: add 1@1<0 del 1@2|",
-        },
-    ];
-    for case in cases {
+    for case in CASES.iter() {
         let text = written(alloc, case.first, case.steps)?;
         assert_eq!(rt; text.as_str(), case.written);
     }

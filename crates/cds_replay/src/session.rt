@@ -1,6 +1,7 @@
 //! A script's server and replica, which take its turns one by one.
 
 ghost use Rattle.std.specs.Prelude.{◌≡◌, ◌+◌, ◌<◌, ◌≤◌, ◌++◌, ◌^◌, ◌&&◌, [], ◌∷◌, List, true, nat_lt, nat_le, length, codes, IfOk, OnOk, string_bytes};
+ghost use Rattle.cds_notes.specs.Commands.{granted_time};
 ghost use Rattle.cds_script.specs.declared.turn.Turn.{Turn as TurnValue};
 ghost use Rattle.cds_script.specs.declared.turn.Turn.TheVariants.{Scan, Load, Read, Ask, Subscribe, Accept, Unsubscribe, ReadFault, First, At, Deliver};
 ghost use Rattle.cds_script.specs.Script.{IsInRange, moment_limit};
@@ -8,13 +9,12 @@ ghost use Rattle.cds_script.specs.Report.{may_stand, written_by};
 ghost use Rattle.cds_model.specs.Report.{folder_record};
 ghost use Rattle.cds_replay.specs.Session.{IsAfter, IsPlayed, IsBounded, Grows, with_record};
 
-use crate::put::put;
 use crate::reply::reply;
 use crate::report::{
     put_delivered, put_ended, put_known, put_notes, put_read, put_scan, was_answered, was_noticed,
 };
 use crate::server::Server;
-use cds_base::{Mem, Sequence, Text};
+use cds_base::{Mem, Sequence, Text, put};
 use cds_object::{Content, Path, Record, Records};
 use cds_replica::{AnswerError, NotifyError, Replica, Sid};
 use cds_script::Turn;
@@ -214,7 +214,7 @@ impl Session {
     /// A subscribe request of the replica goes out; the server answers it, and the reply is held back.
     fn subscribe(&mut self, alloc: Global, out: &mut String) -> Result<(), Mem>
         requires granted { self.old.server.subscribed.granted + 1 < 2 ^ 32 }
-        requires moment { self.old.clock + 1800000 < 2 ^ 64 }
+        requires moment { self.old.clock + granted_time < 2 ^ 64 }
         ensures after { (turns : List TurnValue) → IsAfter self.old turns → OnOk result (IsAfter self.new (Subscribe ∷ turns)) }
         ensures written { (turns : List TurnValue) → IsAfter self.old turns → OnOk result (string_bytes out.new ≡ string_bytes out.old ++ written_by turns Subscribe) }
         ensures grows { OnOk result (Grows self.old self.new) }

@@ -15,4 +15,4 @@ returns c =
     ∙ ap (λ n. string_bytes c.put_work.new.out ++ number_element (codes "upnp:objectUpdateID") n) (c.from.ensures ∙ ap (λ (r : ObjectRow). r.object_update) c.row.view_is))
     (c.in_ok-put_resource.ensures
     ∙ ap (λ n. string_bytes c.put_number_element.new.out ++ resource_text n track) (ap (λ (r : ObjectRow). r.id) c.row.view_is))
-    c.in_ok-put.ensures
+    c.in_ok-put.ensures.ok

@@ -7,4 +7,4 @@ pub returns : goal.returns
 unfolding duration_attribute
 returns c =
     three _ _ _ _ (codes " duration=\"") (duration_text c.args.milliseconds) (codes "\"")
-    c.in_ok-put.ensures c.in_ok-put_duration.ensures c.in_ok-put-2.ensures
+    c.in_ok-put.ensures.ok c.in_ok-put_duration.ensures c.in_ok-put-2.ensures.ok

@@ -9,5 +9,5 @@ returns c =
     let track = c.args.track.now in
     five _ _ _ _ _ _ (codes " protocolInfo=\"http-get:*:audio/flac:*\"") (number_attribute (codes "size") track.size)
     (if_there duration_attribute track.duration) (rate_attribute track.rate) (sound_attributes track)
-    c.in_ok-put.ensures c.in_ok-put_number_attribute.ensures c.in_ok-put_duration_attribute.ensures
+    c.in_ok-put.ensures.ok c.in_ok-put_number_attribute.ensures c.in_ok-put_duration_attribute.ensures
     c.in_ok-put_rate_attribute.ensures c.in_ok-put_sound_attributes.ensures

@@ -52,7 +52,7 @@ returns-in-Some-None-clause-written c = λ turns after.
     let old : IsAfter (record { server = c.self.inside.server; replica = c.self.inside.replica; records = c.self.inside.records; clock = c.self.inside.clock; reply = c.self.inside.reply; fresh = c.self.inside.fresh }) turns = subst (λ p. IsAfter p turns) (sym c.self.view_is) after in
     let reply : (played turns).reply ≡ Some None =
     sym old.reply ∙ sym c.take.ensures.value ∙ c.in-Some-None.is ∙ ap Some c.in-Some-None.field-0-is in
-    on_ok_weaker c.put-in-Some-None.result (λ written. written ∙ sym (ap (λ r. string_bytes c.args.out.now ++ accept_text r) reply)) c.put-in-Some-None.ensures
+    on_ok_weaker c.put-in-Some-None.result (λ written. written ∙ sym (ap (λ r. string_bytes c.args.out.now ++ accept_text r) reply)) c.put-in-Some-None.ensures.ok
 
 pub returns-after-subscribed-clause-after : goal.returns-after-subscribed-clause-after
 returns-after-subscribed-clause-after c = λ turns after.
