@@ -1,5 +1,5 @@
 -- What reading answers where the course of the bytes ends.
-use Rattle.std.proofs.Common.{◌≡◌, ℕ, Result, Ok, Err, List, [], ◌++◌, length, sym, ap, subst, ◌∙◌}
+use Rattle.std.proofs.Common.{◌≡◌, ℕ, Result, Ok, Err, List, length, sym, ap, subst, ◌∙◌}
 use Rattle.cds_markup.specs.declared.part.Part.{Part}
 use Rattle.cds_markup.specs.declared.error.Stop.{Stop}
 use Rattle.cds_markup.specs.declared.error.Stop.TheVariants.{Broken, Unruly, Deep, Mem as OutOfMemory}

@@ -1,5 +1,5 @@
 -- An attribute is named behind those before it.
-use Rattle.std.proofs.Common.{◌≡◌, cond, false, Option, Some, List, [], ◌∷◌, ◌++◌, refl, sym, ap, ◌∙◌}
+use Rattle.std.proofs.Common.{◌≡◌, cond, false, Some, List, [], ◌∷◌, ◌++◌, sym, ap, ◌∙◌}
 use Rattle.cds_markup.specs.declared.name.Attr.{Attr}
 use Rattle.cds_markup.specs.declared.tag.TagAttr.{TagAttr}
 use Rattle.cds_markup.specs.declared.tag.Declaration.{Declaration}

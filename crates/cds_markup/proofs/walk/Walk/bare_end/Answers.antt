@@ -1,8 +1,6 @@
-use Rattle.std.proofs.Common.{◌≡◌, ℕ, Result, Ok, Err, List, [], ◌∷◌, ◌++◌, refl, codes}
+use Rattle.std.proofs.Common.{ℕ, Ok, Err, List, [], ◌∷◌, ◌++◌, refl, codes}
 use Rattle.cds_markup.specs.declared.part.Part.{Part}
 use Rattle.cds_markup.specs.declared.part.Part.TheVariants.{End}
-use Rattle.cds_markup.specs.declared.tag.Open.{Open}
-use Rattle.cds_markup.specs.declared.error.Stop.{Stop}
 use Rattle.cds_markup.specs.Step.{Step, Agrees, word_at}
 use Rattle.cds_markup.specs.Course.{bare_moves}
 use Rattle.cds_markup.specs.Agree.{Moves, After}
