@@ -7,7 +7,6 @@ use Rattle.cds_base.specs.Characters.{is_blank}
 use Rattle.cds_event.specs.declared.Event.{Event}
 use Rattle.cds_markup.specs.declared.name.Name.{Name}
 use Rattle.cds_markup.specs.declared.name.Attr.{Attr}
-use Rattle.cds_markup.specs.declared.part.Part.{Part}
 use Rattle.cds_markup.specs.declared.part.Part.TheVariants.{Start}
 use Rattle.cds_markup.specs.declared.tag.Tag.{Tag}
 use Rattle.cds_markup.specs.declared.error.MarkupError.{MarkupError}

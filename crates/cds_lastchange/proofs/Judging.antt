@@ -15,7 +15,7 @@ use Rattle.cds_lastchange.specs.declared.judge.Level.TheVariants.{Outside, InRoo
 use Rattle.cds_lastchange.specs.declared.judge.Judge.{Judge}
 use Rattle.cds_lastchange.specs.Attributes.{event_of, is_state_event}
 use Rattle.cds_lastchange.specs.StateEvent.{is_space, has_only_space, event_said, event_in, and_more, events_in, is_root, root_events}
-use Rattle.cds_lastchange.specs.Judged.{event_judged, part_judged, and_judged, parts_judged, nothing_said}
+use Rattle.cds_lastchange.specs.Judged.{event_judged, and_judged, parts_judged, nothing_said}
 use Rattle.cds_lastchange.proofs.Spaces.{odd-none, none-odd, and-first, and-second}
 
 abbrev pub Answer : Type 0

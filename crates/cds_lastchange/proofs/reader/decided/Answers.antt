@@ -1,11 +1,7 @@
 -- What is answered of the parts decides the bytes.
-use Rattle.std.proofs.Common.{◌≡◌, ℕ, Result, Ok, List, sym, ◌∙◌, subst}
-use Rattle.cds_event.specs.declared.Event.{Event}
-use Rattle.cds_markup.specs.declared.error.MarkupError.{MarkupError}
+use Rattle.std.proofs.Common.{sym, ◌∙◌, subst}
 use Rattle.cds_markup.specs.Agree.{Gives}
-use Rattle.cds_lastchange.specs.declared.judge.Judge.{Judge}
-use Rattle.cds_lastchange.specs.declared.error.StateError.{StateError}
-use Rattle.cds_lastchange.specs.Judged.{is_empty, nothing_said, answer_read}
+use Rattle.cds_lastchange.specs.Judged.{answer_read}
 use Rattle.cds_lastchange.specs.Taken.{judged_on}
 use Rattle.cds_lastchange.specs.Refusal.{Decides}
 use Rattle.cds_lastchange.proofs.Deciding.{decided_so}
