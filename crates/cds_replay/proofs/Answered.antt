@@ -1,16 +1,14 @@
 -- What a session's replica and server answer is what its turns write, and nothing is refused.
-use Rattle.std.proofs.Common.{◌≡◌, ℕ, List, ◌++◌, Bool, true, false, cond, Option, Some, Result, Ok, Err, refl, ap, sym, subst, ◌∙◌}
+use Rattle.std.proofs.Common.{◌≡◌, ℕ, List, ◌++◌, Bool, true, false, cond, Some, Result, Ok, Err, refl, ap, sym, subst, ◌∙◌}
 use Rattle.std.specs.Prelude.{codes, OnOk}
 use Rattle.std.specs.Fmt.{decimal}
 use Rattle.cds_object.specs.Object.{ObjectRow}
-use Rattle.cds_object.specs.Fragment.{full_text}
 use Rattle.cds_model.specs.Server.{reply_to}
 use Rattle.cds_model.specs.declared.exchange.Ask.{Ask as Asked}
 use Rattle.cds_model.specs.declared.exchange.Shown.{Shown}
 use Rattle.cds_notes.specs.Commands.{Note, Command, scans_of, notes_of}
-use Rattle.cds_notes.specs.Inbox.{Accepts, Delivers, taken_by, is_out, Arrival, IsUnknown, IsRepeat, IsTooMany, IsEarly, IsHeld, IsNext, arrival}
+use Rattle.cds_notes.specs.Inbox.{Delivers, taken_by, is_out, Arrival, arrival}
 use Rattle.cds_notes.specs.Follow.{Known, Outcome, Knows, CannotBeRead, Jumps, Tears, known_by, next_ask, with_reply, with_notes, says, copied}
-use Rattle.cds_notes.specs.Given.{moment_after}
 use Rattle.cds_notes.specs.declared.says.Says.{Says}
 use Rattle.cds_notes.specs.declared.says.Says.TheVariants.{Gap, BehindLoad, BehindRead, BehindVersion, Stands}
 use Rattle.cds_replica.specs.Called.{IsAnswer, IsAcceptance, IsNotice}
@@ -23,12 +21,12 @@ use Rattle.cds_replica.specs.declared.error.AnswerError.{AnswerError}
 use Rattle.cds_replica.specs.declared.error.AnswerError.TheVariants.{Unreadable, Jump as AnswerJump, Torn as AnswerTorn, Mem as AnswerMem}
 use Rattle.cds_script.specs.declared.turn.Turn.{Turn}
 use Rattle.cds_script.specs.declared.turn.Turn.TheVariants.{Ask}
-use Rattle.cds_script.specs.Report.{first_of, clock_of, history_of, answer_text, arrival_text, deliver_text, unsubscribe_text, written_by, played, sent_note}
+use Rattle.cds_script.specs.Report.{first_of, history_of, answer_text, arrival_text, deliver_text, unsubscribe_text, written_by, played, sent_note}
 use Rattle.cds_script.specs.Played.{MayBe}
 use Rattle.cds_script.proofs.Given.{Waits, turns-kept}
 use Rattle.cds_script.proofs.Stood.{turns-taken, stands-at}
 use Rattle.cds_replay.specs.Lines.{known_text, taken_text, delivered_line, ended_text, was_noticed}
-use Rattle.cds_replay.specs.Serving.{Serving, Ended, Serves}
+use Rattle.cds_replay.specs.Serving.{Serving, Ended}
 use Rattle.cds_replay.specs.Session.{Playing, IsAfter, moment_in}
 use Rattle.cds_replay.proofs.Turns.{moment-is}
 

@@ -1,5 +1,5 @@
 -- A subscription lives where it was granted, has not run out and has a SEQ left.
-use Rattle.std.proofs.Common.{◌≡◌, ◌⊎◌, inl, inr, ◌+◌, ◌<◌, ◌≤◌, ℕ, Bool, true, false, cond, ◌&&◌, ◌||◌, nat_eq, nat_lt, List, [], ◌∷◌, filter, Option, Some, None, is_some, refl, sym, ap, ◌∙◌, arith, true≢false, eqb-true, eq-eqb}
+use Rattle.std.proofs.Common.{◌≡◌, ◌⊎◌, inl, inr, ◌+◌, ◌≤◌, ℕ, Bool, true, false, cond, ◌&&◌, ◌||◌, nat_eq, nat_lt, List, [], ◌∷◌, filter, Option, Some, None, is_some, refl, sym, ap, ◌∙◌, arith, true≢false, eqb-true, eq-eqb}
 use Rattle.std.specs.List.{list_any, range_with_len}
 use Rattle.cds_notes.specs.Commands.{Command, Scans, Grants, Ends, Ticks, granted, granted_time, unless_past, runs_until, is_alive, next_seq_of, seq_limit, notes_of}
 use Rattle.cds_notes.proofs.Among.{Among, among-filter, among-row, filter-among}

@@ -1,14 +1,10 @@
 -- A session that stands for turns stands for them and one more: what each turn makes of the server and of the replica.
-use Rattle.std.proofs.Common.{◌≡◌, ℕ, ◌+◌, ◌≤◌, List, [], ◌∷◌, ◌++◌, length, drop, Bool, true, false, cond, nat_lt, nat_le, not, ◌&&◌, Option, Some, None, Result, Ok, Err, refl, ap, sym, subst, ◌∙◌, arith}
+use Rattle.std.proofs.Common.{◌≡◌, ℕ, ◌+◌, ◌≤◌, List, [], ◌∷◌, ◌++◌, Bool, true, false, cond, nat_le, Option, Some, None, Result, Ok, Err, refl, ap, sym, subst, ◌∙◌}
 use Rattle.std.proofs.lemmas.Bool.{le-leb}
 use Rattle.cds_object.specs.declared.content.Content.{Content}
 use Rattle.cds_object.specs.declared.record.Record.{Record}
-use Rattle.cds_catalog.specs.Library.{map_of}
-use Rattle.cds_catalog.specs.History.{History, end_of}
-use Rattle.cds_catalog.specs.Scans.{ScanAnswer, Accepted, BadRecord, TooMany, NoNumbers, scan_answer}
+use Rattle.cds_catalog.specs.Scans.{scan_answer}
 use Rattle.cds_catalog.specs.Steps.{Standing}
-use Rattle.cds_store.specs.Applied.{IsRefusal}
-use Rattle.cds_store.specs.Stands.{Stored}
 use Rattle.cds_store.specs.declared.span.Span.{Span}
 use Rattle.cds_store.specs.declared.error.ApplyError.{ApplyError}
 use Rattle.cds_store.specs.declared.error.ApplyError.TheVariants.{BadRecords, Full, Spent, Mem as NoMemory}
@@ -16,19 +12,19 @@ use Rattle.cds_model.specs.Report.{folder_record}
 use Rattle.cds_model.specs.Server.{reply_to}
 use Rattle.cds_model.specs.declared.exchange.Ask.{Ask as Asked}
 use Rattle.cds_model.specs.declared.exchange.Shown.{Shown}
-use Rattle.cds_notes.specs.Commands.{Command, Scans, Grants, Ends, Ticks, Note, scans_of, granted, has_room, notes_of}
-use Rattle.cds_notes.specs.Inbox.{ReplicaTurn, Begins, Shows, Requests, Accepts, Refuses, Delivers, accepted}
-use Rattle.cds_notes.specs.Follow.{Known, Outcome, Knows, known_by, next_ask, and_turn}
+use Rattle.cds_notes.specs.Commands.{Command, Grants, Ends, Ticks, Note, scans_of, granted, has_room, notes_of}
+use Rattle.cds_notes.specs.Inbox.{Begins, Shows, Requests, Accepts, Refuses, Delivers, accepted}
+use Rattle.cds_notes.specs.Follow.{known_by, next_ask, and_turn}
 use Rattle.cds_notes.specs.Given.{moment_after, asked_at}
 use Rattle.cds_replica.specs.Called.{GoesOn, TakesTurn}
 use Rattle.cds_replica.specs.Kept.{Kept, StandsFor}
 use Rattle.cds_script.specs.declared.turn.Turn.{Turn}
 use Rattle.cds_script.specs.declared.turn.Turn.TheVariants.{Folder, Track, Scan, Load, Read, Ask, First, At, Subscribe, Accept, Unsubscribe, Deliver, ReadFault}
-use Rattle.cds_script.specs.Report.{first_of, clock_of, records_since, may_stand, scanned, after_reply, after_note, sent_note, given_up, Played, played}
+use Rattle.cds_script.specs.Report.{first_of, clock_of, may_stand, scanned, after_reply, after_note, sent_note, given_up, Played, played}
 use Rattle.cds_replay.specs.Lines.{was_answered}
 use Rattle.cds_replay.specs.Serving.{Serving, Scanned, Granted, Ended, Serves}
 use Rattle.cds_replay.specs.Session.{Playing, IsAfter, moment_in, with_record}
-use Rattle.cds_replay.proofs.Turned.{some-turns, first-more, turned}
+use Rattle.cds_replay.proofs.Turned.{some-turns, turned}
 
 -- a load
 pub load-after : (was : Playing) (replica : Kept) (turns : List Turn) → IsAfter was turns → GoesOn was.replica Begins replica →

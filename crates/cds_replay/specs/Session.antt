@@ -8,7 +8,7 @@ use Rattle.cds_model.specs.Report.{script_token}
 use Rattle.cds_replica.specs.Kept.{Kept, StandsFor}
 use Rattle.cds_script.specs.declared.turn.Turn.{Turn}
 use Rattle.cds_script.specs.Script.{moment_limit}
-use Rattle.cds_script.specs.Report.{Played, played, first_of, clock_of, records_since}
+use Rattle.cds_script.specs.Report.{played, first_of, clock_of, records_since}
 use Rattle.cds_script.specs.Played.{MayBe}
 use Rattle.cds_replay.specs.Serving.{Serving, Serves}
 

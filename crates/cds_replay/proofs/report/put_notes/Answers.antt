@@ -1,4 +1,4 @@
-use Rattle.std.proofs.Common.{◌≡◌, ◌⊎◌, inr, ◌+◌, ◌++◌, drop, Some, None, sym, ap, ◌∙◌, arith, string_bytes, append_assoc}
+use Rattle.std.proofs.Common.{inr, ◌+◌, ◌++◌, drop, sym, ap, ◌∙◌, arith, string_bytes, append_assoc}
 use Rattle.cds_script.specs.Report.{notes_text}
 use Rattle.cds_replay.specs.Lines.{note_line}
 use Rattle.cds_replay.proofs.Noticed.{next-line-one, no-line-one}
