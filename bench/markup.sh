@@ -12,7 +12,7 @@ trap 'rm -rf "$work"' EXIT
 
 PYTHONPATH=$top/bench python3 -B - "$work" "$program" <<'PY'
 import os, sys
-from measure import measured
+from measure import memory, once
 work, program = sys.argv[1:]
 
 # Events of all four kinds, in turn.
@@ -30,14 +30,22 @@ for count in sizes:
     with open(f"{work}/events{count}", "w") as file:
         file.write('<StateEvent xmlns="urn:schemas-upnp-org:av:cds-event">' + "".join(map(event, range(count))) + "</StateEvent>")
 
+# In turn, so that a machine whose pace changes is the same for all of them.
+paths = {count: f"{work}/events{count}" for count in sizes}
+commands = [([program, "check"], count) for count in sizes] + [(["xmllint", "--noout", "-"], sizes[-1])]
+times = [[] for _ in commands]
+for _ in range(40):
+    for (command, count), taken in zip(commands, times):
+        taken.append(once(command, paths[count])[1])
+users = [sum(taken) / len(taken) for taken in times]
+
 before = None
-for count in sizes:
-    path = f"{work}/events{count}"
-    _, user, most = measured([program, "check"], path, 10)
-    size = os.path.getsize(path)
+for (command, count), user in zip(commands[:-1], users):
+    size, most = os.path.getsize(paths[count]), min(memory(command, paths[count]) for _ in range(3))
     grown = "" if before is None else f", {user / before:.2f} times in user time"
     print(f"{count} events, {size / 1e6:.1f} MB: {user * 1000:.0f} ms user, {most / 1e6:.1f} MB at most, {most / size:.1f} times the input{grown}")
     before = user
-_, user, most = measured(["xmllint", "--noout", "-"], path, 10)
-print(f"xmllint --noout on {sizes[-1]} events: {user * 1000:.0f} ms user, {most / 1e6:.1f} MB; cds check takes {before / user:.2f} times its user time")
+command, count = commands[-1]
+most = min(memory(command, paths[count]) for _ in range(3))
+print(f"xmllint --noout on {count} events: {users[-1] * 1000:.0f} ms user, {most / 1e6:.1f} MB; cds check takes {before / users[-1]:.2f} times its user time")
 PY
