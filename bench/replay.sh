@@ -83,18 +83,18 @@ before = None
 for count in (500, 1000, 2000, 4000):
     now = timed(play, f"load{count}")
     grown = "" if before is None else f", {now[0] / before[0]:.2f} times in time and {now[2] / before[2]:.2f} in memory"
-    print(f"{count} tracks: {now[0] * 1000:.1f} ms ({now[1] * 1000:.1f} ms user), {now[2]:.2f} MB{grown}")
+    print(f"{count} tracks: {now[0] * 1000:.1f} ms ({now[1] * 1000:.1f} ms user), {now[2]:.2f} MiB{grown}")
     before = now
 before = None
 for count in (500, 1000, 2000, 4000):
     now = timed(play, f"changed{count}", 10)
     grown = "" if before is None else f", {now[0] / before[0]:.2f} times in time and {now[2] / before[2]:.2f} in memory"
-    print(f"ten scans of {count} tracks, 2 % changed in each: {now[0] * 1000:.1f} ms, {now[2]:.2f} MB{grown}")
+    print(f"ten scans of {count} tracks, 2 % changed in each: {now[0] * 1000:.1f} ms, {now[2]:.2f} MiB{grown}")
     before = now
 for many, one in (("scans40", "scans1"), ("loads20", "loads1"), ("asks20", "loads1")):
     a, b = timed(play, many, 3), timed(play, one, 3)
-    print(f"{many} against {one}: {a[2]:.2f} MB and {b[2]:.2f} MB, {a[2] / b[2]:.2f} times; {a[0] * 1000:.0f} ms and {b[0] * 1000:.0f} ms")
+    print(f"{many} against {one}: {a[2]:.2f} MiB and {b[2]:.2f} MiB, {a[2] / b[2]:.2f} times; {a[0] * 1000:.0f} ms and {b[0] * 1000:.0f} ms")
 user = {scans: timed(play, f"followed{scans}", 10) for scans in (0, 10, 90, 100)}
 first, last = user[10][1] - user[0][1], user[100][1] - user[90][1]
-print(f"100 scans followed by notes: {user[100][0] * 1000:.0f} ms, {user[100][2]:.2f} MB; the first ten {first * 1000:.0f} ms user, the last ten {last * 1000:.0f} ms, {last / first:.2f} times")
+print(f"100 scans followed by notes: {user[100][0] * 1000:.0f} ms, {user[100][2]:.2f} MiB; the first ten {first * 1000:.0f} ms user, the last ten {last * 1000:.0f} ms, {last / first:.2f} times")
 PY
