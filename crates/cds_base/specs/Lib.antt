@@ -5,3 +5,4 @@ pub mod Number
 pub mod Outside
 pub mod Reference
 pub mod Unescape
+pub mod Writing

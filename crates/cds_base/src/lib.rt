@@ -3,11 +3,13 @@
 #![tactic(auto)]
 
 mod escaping;
+mod limits;
 mod mem;
 mod memory;
 mod number;
 mod order;
 mod outside;
+mod reading;
 mod runs;
 mod sequence;
 mod text;
@@ -15,15 +17,19 @@ mod unescaping;
 mod writing;
 
 pub use escaping::escape;
+pub use limits::INPUT_LIMIT;
 pub use mem::Mem;
 pub use memory::{MemSink, MemSource};
-pub use number::{read_plain, read_u32};
+pub use number::{read_plain, read_u32, read_u64};
 pub use outside::{Failed, Sink, Source, write_all};
+pub use reading::{empty_piece, read_piece};
 pub use runs::{first_forbidden, plain_run};
 pub use sequence::Sequence;
 pub use text::Text;
 pub use unescaping::{TextError, is_allowed, unescape};
-pub use writing::{put, put_number};
+pub use writing::{
+    put, put_attribute, put_number, put_number_attribute, put_number_element, put_text_element,
+};
 
 /// A list of bytes.
 pub type Bytes = Sequence<u8>;

@@ -12,6 +12,14 @@ pub fn read_u32(digits: &[u8]) -> Option<u32>
     }
 }
 
+/// The value of a run of ASCII digits, leading zeros accepted. `None` exactly where a byte is no digit, there is none,
+/// or the value passes `u64::MAX`.
+pub fn read_u64(digits: &[u8]) -> Option<u64>
+    ensures { result ≡ number_below (2 ^ 64) digits.now }
+{
+    read_digits(10, digits)
+}
+
 /// The value of a number in plain decimal: ASCII digits without a sign or a leading zero, below 2^64.
 pub fn read_plain(digits: &[u8]) -> Option<u64>
     ensures { result ≡ plain_below (2 ^ 64) digits.now }
