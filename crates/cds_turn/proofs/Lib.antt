@@ -1,0 +1,4 @@
+mod Sums
+pub mod Lists
+pub mod Standing
+pub mod Keeps

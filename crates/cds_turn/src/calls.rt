@@ -1,0 +1,109 @@
+//! What a caller does with a turn.
+ghost use Rattle.std.specs.Prelude.{◌≡◌, ◌≢◌, ◌⊎◌, ◌+◌, ◌≤◌, List, [], ◌++◌, IfOk, IfErr, IsOk};
+ghost use Rattle.cds_turn.specs.Line.{Extends, StandsBeyond};
+ghost use Rattle.cds_turn.specs.Turn.{IsSeatOf, start_of, seats_of, seen_by, passes_of, turns_of};
+
+use crate::open::Open;
+use crate::seat::Seat;
+use crate::stands::{Act, StandsFor};
+use crate::table;
+use crate::turn::Turn;
+use crate::view::Opening;
+use atomic_table::{Refused, Table};
+use cds_base::Mem;
+use std::alloc::Global;
+use std::marker::Brand;
+use std::snapshot::Snapshot;
+use std::sync::Wait;
+
+impl<V: StandsFor + Drop> Turn<V> {
+    /// A turn over the value, and its first seat, which has all passes. For want of memory there is none, and the value
+    /// is gone.
+    pub fn new(alloc: Global, value: V, seats: u32) -> Result<(Turn<V>, Seat<V>), Mem>
+        requires seats { 1 ≤ seats }
+        requires value { V.stands value (V.start value) [] }
+        ensures seat { IfOk result (λ r. IsSeatOf r.0 r.1) }
+        ensures start { IfOk result (λ r. start_of r.0 r.1 ≡ V.start value) }
+        ensures seats { IfOk result (λ r. (seats_of r.0 ≡ seats) × (passes_of r.1 ≡ seats)) }
+        ensures fresh { IfOk result (λ r. (seen_by r.1 ≡ []) × (turns_of r.1 ≡ 0)) }
+    {
+        let opening = Opening {
+            seats,
+            value: Snapshot::of(&value),
+        };
+        let mut slots = Vec::with_capacity(alloc, 1)?;
+        slots.push(Some(value))?;
+        match Table::new(alloc, &[0, 0, 0], slots, &opening) {
+            Ok((table, place)) => Ok((Turn { table }, Seat { place })),
+            Err(Refused { slots: _ }) => Err(Mem),
+        }
+    }
+
+    /// Does an act on the value once it is the caller's turn, which may take for ever. The answer is what the act gave.
+    pub fn with<A: Act<V>, R: Wait>(&self, rt: &R, seat: &mut Seat<V>, act: A) -> A::Out
+        requires { IsSeatOf self.now seat.old }
+        ensures seat { IsSeatOf self.now seat.new }
+        ensures passes { passes_of seat.new ≡ passes_of seat.old }
+        ensures turns { turns_of seat.new ≡ turns_of seat.old + 1 }
+        ensures found { (found : List V.Command) × Extends found (seen_by seat.old)
+            × A.answers act (start_of self.now seat.old) found result
+            × (seen_by seat.new ≡ A.adds act (start_of self.now seat.old) found result ++ found)
+            × ((given : V) × (left : V) × V.stands given (start_of self.now seat.old) found
+            × V.stands left (start_of self.now seat.old) (seen_by seat.new)) }
+    {
+        let lane = &self.table.shared;
+        let place = &mut seat.place;
+        let mut value = table::enter(rt, lane, place);
+        let told = Snapshot::of(&act);
+        let (answer, count) = act.act(&mut value);
+        table::add::<V, A, Brand>(lane, place, &told, &answer, count);
+        table::leave(lane, place, value);
+        answer
+    }
+
+    /// A new seat for another thread, which has seen the same and takes one of the passes.
+    pub fn split(&self, seat: &mut Seat<V>) -> Seat<V>
+        requires seat { IsSeatOf self.now seat.old }
+        requires passes { 2 ≤ passes_of seat.old }
+        ensures seat { IsSeatOf self.now seat.new }
+        ensures seen { (seen_by seat.new ≡ seen_by seat.old) × (turns_of seat.new ≡ turns_of seat.old) }
+        ensures passes { passes_of seat.new + 1 ≡ passes_of seat.old }
+        ensures new_seat { IsSeatOf self.now result }
+        ensures new_seen { seen_by result ≡ seen_by seat.old }
+        ensures new_counts { (passes_of result ≡ 1) × (turns_of result ≡ 0) }
+    {
+        let given = table::part(&self.table.shared, &mut seat.place);
+        Seat { place: given }
+    }
+
+    /// Takes in another seat of the turn: the longer of the lists that both have seen, of which one begins with the other,
+    /// its passes and its turns.
+    pub fn join(&self, into: &mut Seat<V>, other: Seat<V>)
+        requires { IsSeatOf self.now into.old × IsSeatOf self.now other }
+        ensures seat { IsSeatOf self.now into.new }
+        ensures seen { Extends (seen_by into.new) (seen_by into.old) × Extends (seen_by into.new) (seen_by other) }
+        ensures one { (seen_by into.new ≡ seen_by into.old) ⊎ (seen_by into.new ≡ seen_by other) }
+        ensures passes { passes_of into.new ≡ passes_of into.old + passes_of other }
+        ensures turns { turns_of into.new ≡ turns_of into.old + turns_of other }
+    {
+        let Seat { place } = other;
+        table::merge(&self.table.shared, &mut into.place, place);
+    }
+
+    /// The value. `Open` comes where a ticket is out, which is never so where the seat has all passes; the value is then
+    /// gone.
+    pub fn close(self, seat: Seat<V>) -> Result<V, Open>
+        requires { IsSeatOf self seat }
+        ensures value { IfOk result (λ value. StandsBeyond V.stands (start_of self seat) (seen_by seat) value) }
+        ensures open { IfErr result (λ o. o.ticket ≢ o.serving) }
+        ensures all { passes_of seat ≡ seats_of self → IsOk result }
+    {
+        let Turn { table } = self;
+        let Seat { place } = seat;
+        let (open, slot) = table::end(table, place);
+        if open.ticket != open.serving {
+            return Err(open);
+        }
+        Ok(slot.unwrap())
+    }
+}

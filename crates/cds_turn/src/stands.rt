@@ -1,0 +1,37 @@
+//! What a value has to say of itself, and what an act says that it does to it.
+ghost use Rattle.std.specs.Prelude.{◌≡◌, List, ◌++◌, length};
+
+/// A value that stands for a list of accepted commands from a start. Contracts have lists newest first: the list after
+/// a command is the command before the list, and a list begins with another where it ends with it in writing.
+pub trait StandsFor {
+    /// One accepted command.
+    type Command;
+    /// What the value was opened with, which no act changes.
+    type Start;
+
+    // The start of a value that stands for the empty list.
+    ghost start: { Self → Self.Start };
+
+    // The value stands for this list of commands from this start.
+    ghost stands: { Self → Self.Start → List Self.Command → Type 0 };
+}
+
+/// One job on the value, done in one turn: a command or a read.
+pub trait Act<V: StandsFor>: Send {
+    /// What the job answers.
+    type Out;
+
+    // The commands that it appends, newest first: of the start, the list found and the answer.
+    ghost adds: { Self → V.Start → List V.Command → Self.Out → List V.Command };
+
+    // What its answer may be, of the start and the list found. Want of memory is one of its answers, which appends
+    // nothing.
+    ghost answers: { Self → V.Start → List V.Command → Self.Out → Type 0 };
+
+    /// Does the job. The first part is its answer, the second the number of commands that it appended.
+    fn act(self, value: &mut V) -> (Self::Out, u64)
+        ensures count { (start : V.Start) (found : List V.Command) → V.stands value.old start found → result.1 ≡ length (adds self start found result.0) }
+        ensures answer { (start : V.Start) (found : List V.Command) → V.stands value.old start found → answers self start found result.0 }
+        ensures stands { (start : V.Start) (found : List V.Command) → V.stands value.old start found
+            → V.stands value.new start (adds self start found result.0 ++ found) };
+}

@@ -1,0 +1,218 @@
+//! The single steps of a turn, each on one word or on the slot.
+ghost use Rattle.std.specs.Prelude.{◌≡◌, ◌≤◌, ℕ, ◌+◌, ◌%◌, ◌^◌, List, [], ◌∷◌, ◌++◌, length, Some, None, IsSome, IfSome, true, false};
+ghost use Rattle.cds_turn.specs.Line.{Extends, StandsBeyond};
+ghost use Rattle.cds_turn.specs.Moves.{IsAt, Continues, at_rest, found_of, stays, parts, both, settled, Turns};
+
+use crate::open::Open;
+use crate::stands::{Act, StandsFor};
+use crate::view::{
+    Add, Adding, Both, Draw, Line, Look, Opening, Part, PassOn, Place, Settle, View,
+};
+use atomic_table::{Shared, Table};
+use std::alloc::Global;
+use std::marker::Brand;
+use std::snapshot::Snapshot;
+use std::sync::Wait;
+use std::thread;
+
+/// How often a waiting thread looks before it lets others run.
+const LOOKS: u32 = 64;
+
+/// The table of a turn, as all threads see it.
+pub(crate) type Lane<V> = Shared<
+    Option<V>,
+    View<<V as StandsFor>::Command, <V as StandsFor>::Start>,
+    Opening<V>,
+    Line<V>,
+>;
+
+/// The table with its memory.
+pub(crate) type Board<V> = Table<
+    Option<V>,
+    View<<V as StandsFor>::Command, <V as StandsFor>::Start>,
+    Opening<V>,
+    Line<V>,
+    Global,
+>;
+
+impl<C> Adding<C> for Brand {
+    ghost use Rattle.std.specs.Prelude.{[]};
+
+    ghost added = { λ _. [] };
+}
+
+/// Draws a ticket: the number found is it, modulo 2^64.
+fn draw<V: StandsFor>(lane: &Lane<V>, place: &mut Place<V>) -> u64
+    requires table { IsAt lane.now.table_id place.old }
+    requires rests { place.old ≡ at_rest place.old }
+    requires starts { place.old.me.0.start ≡ Some (V.start lane.now.key.value.value) }
+    ensures same { Continues place.old place.new }
+    ensures ticket { (t : ℕ) × (result ≡ t % 2 ^ 64) × (place.new.me.0.ticket ≡ Some t) }
+    ensures waits { (place.new.me.0.found ≡ None) × (place.new.me.1 ≡ []) }
+{
+    lane.fetch_add::<Draw>(place, 0, 1)
+}
+
+/// Looks at the number that is served, again and again for a moment. The seat has the turn exactly where it is the ticket.
+fn is_served<V: StandsFor>(lane: &Lane<V>, place: &mut Place<V>, ticket: u64) -> bool
+    requires table { IsAt lane.now.table_id place.old }
+    requires ticket { (t : ℕ) × (ticket ≡ t % 2 ^ 64) × (place.old.me.0.ticket ≡ Some t) }
+    requires waits { (place.old.me.0.found ≡ None) × (place.old.me.1 ≡ []) }
+    ensures table { place.new.table_id ≡ place.old.table_id }
+    ensures turn { result ≡ true → Turns V.stands place.old.me place.new.me }
+    ensures waits { result ≡ false → place.new.me ≡ place.old.me }
+{
+    for _ in 0..LOOKS {
+        if lane.load::<Look>(place, 1) == ticket {
+            return true;
+        }
+    }
+    false
+}
+
+/// Waits until the ticket is served. The seat then holds the slot with the value.
+fn await_turn<V: StandsFor, R: Wait>(rt: &R, lane: &Lane<V>, place: &mut Place<V>, ticket: u64)
+    requires table { IsAt lane.now.table_id place.old }
+    requires ticket { (t : ℕ) × (ticket ≡ t % 2 ^ 64) × (place.old.me.0.ticket ≡ Some t) }
+    requires waits { (place.old.me.0.found ≡ None) × (place.old.me.1 ≡ []) }
+    ensures table { place.new.table_id ≡ place.old.table_id }
+    ensures turn { Turns V.stands place.old.me place.new.me }
+{
+    for _ in rt.forever() {
+        if is_served(lane, place, ticket) {
+            return;
+        }
+        thread::yield_now();
+    }
+    unreachable!()
+}
+
+/// Draws a ticket, waits for its turn and takes the value, which stands for a list that begins with all that the seat
+/// had seen.
+pub(crate) fn enter<V: StandsFor, R: Wait>(rt: &R, lane: &Lane<V>, place: &mut Place<V>) -> V
+    requires table { IsAt lane.now.table_id place.old }
+    requires rests { place.old ≡ at_rest place.old }
+    requires starts { place.old.me.0.start ≡ Some (V.start lane.now.key.value.value) }
+    ensures same { Continues place.old place.new }
+    ensures turn { place.new.me.0.found ≡ Some (found_of place.new) }
+    ensures out { place.new.me.1 ≡ (0, None) ∷ [] }
+    ensures stands { V.stands result (V.start lane.now.key.value.value) (found_of place.new) }
+    ensures begun { Extends (found_of place.new) place.old.me.0.seen }
+{
+    let ticket = draw(lane, place);
+    await_turn(rt, lane, place, ticket);
+    lane.exchange(place, 0, None).unwrap()
+}
+
+/// Adds the commands of an act to the count. From here on they stand in the list.
+pub(crate) fn add<V: StandsFor, A: Act<V>, G: Adding<V::Command>>(
+    lane: &Lane<V>,
+    place: &mut Place<V>,
+    act: &Snapshot<A>,
+    answer: &A::Out,
+    count: u64,
+)
+    requires table { IsAt lane.now.table_id place.old }
+    requires turn { place.old.me.0.found ≡ Some (found_of place.old) }
+    requires count { count ≡ length (G.added (found_of place.old)) }
+    requires out { place.old.me.1 ≡ (0, None) ∷ [] }
+    ensures same { Continues place.old place.new }
+    ensures added { place.new.me.0.found ≡ Some (G.added (found_of place.old) ++ found_of place.old) }
+    ensures out { place.new.me.1 ≡ (0, None) ∷ [] }
+{
+    let _ = act;
+    let _ = answer;
+    lane.fetch_add::<Add<G>>(place, 2, count);
+}
+
+/// Puts the value back into the slot.
+fn give<V: StandsFor + Drop>(lane: &Lane<V>, place: &mut Place<V>, value: V)
+    requires table { IsAt lane.now.table_id place.old }
+    requires out { place.old.me.1 ≡ (0, None) ∷ [] }
+    ensures table { place.new.table_id ≡ place.old.table_id }
+    ensures view { place.new.me.0 ≡ place.old.me.0 }
+    ensures home { place.new.me.1 ≡ (0, Some value) ∷ [] }
+{
+    lane.exchange(place, 0, Some(value));
+}
+
+/// Passes the turn on, and the slot with it. The seat has then seen the list as the turn left it.
+fn pass_on<V: StandsFor>(lane: &Lane<V>, place: &mut Place<V>)
+    requires table { IsAt lane.now.table_id place.old }
+    requires starts { place.old.me.0.start ≡ Some (V.start lane.now.key.value.value) }
+    requires turn { place.old.me.0.found ≡ Some (found_of place.old) }
+    requires home { (value : V) × (place.old.me.1 ≡ (0, Some value) ∷ []) × V.stands value (V.start lane.now.key.value.value) (found_of place.old) }
+    ensures table { place.new.table_id ≡ place.old.table_id }
+    ensures rests { place.old.me.0.older ≡ [] → place.new ≡ at_rest place.new }
+    ensures start { place.new.me.0.start ≡ place.old.me.0.start }
+    ensures seen { place.new.me.0.seen ≡ found_of place.old }
+    ensures passes { place.new.me.0.passes ≡ place.old.me.0.passes }
+    ensures turns { place.new.me.0.turns ≡ place.old.me.0.turns + 1 }
+{
+    lane.fetch_add::<PassOn>(place, 1, 1);
+}
+
+/// Ends a turn: gives the value back and passes the turn on.
+pub(crate) fn leave<V: StandsFor + Drop>(lane: &Lane<V>, place: &mut Place<V>, value: V)
+    requires table { IsAt lane.now.table_id place.old }
+    requires starts { place.old.me.0.start ≡ Some (V.start lane.now.key.value.value) }
+    requires turn { place.old.me.0.found ≡ Some (found_of place.old) }
+    requires out { place.old.me.1 ≡ (0, None) ∷ [] }
+    requires stands { V.stands value (V.start lane.now.key.value.value) (found_of place.old) }
+    ensures table { place.new.table_id ≡ place.old.table_id }
+    ensures rests { place.old.me.0.older ≡ [] → place.new ≡ at_rest place.new }
+    ensures start { place.new.me.0.start ≡ place.old.me.0.start }
+    ensures seen { place.new.me.0.seen ≡ found_of place.old }
+    ensures passes { place.new.me.0.passes ≡ place.old.me.0.passes }
+    ensures turns { place.new.me.0.turns ≡ place.old.me.0.turns + 1 }
+{
+    give(lane, place, value);
+    pass_on(lane, place);
+}
+
+/// Gives one pass to a new seat.
+pub(crate) fn part<V: StandsFor>(lane: &Lane<V>, place: &mut Place<V>) -> Place<V>
+    requires table { IsAt lane.now.table_id place.old }
+    requires rests { place.old ≡ at_rest place.old }
+    requires starts { place.old.me.0.start ≡ Some (V.start lane.now.key.value.value) }
+    requires passes { 2 ≤ place.old.me.0.passes }
+    ensures tables { (place.new.table_id ≡ place.old.table_id) × (result.table_id ≡ place.old.table_id) }
+    ensures old { place.new.me ≡ (stays place.old.me.0, []) }
+    ensures new { result.me ≡ (parts place.old.me.0, []) }
+    ensures rests { (place.new ≡ at_rest place.new) × (result ≡ at_rest result) }
+{
+    lane.split_seat::<Part>(place)
+}
+
+/// Takes in another seat, and learns that what was seen begins with what both had seen.
+pub(crate) fn merge<V: StandsFor>(lane: &Lane<V>, place: &mut Place<V>, other: Place<V>)
+    requires table { IsAt lane.now.table_id place.old × IsAt lane.now.table_id other }
+    requires rests { (place.old ≡ at_rest place.old) × (other ≡ at_rest other) }
+    requires starts { (place.old.me.0.start ≡ Some (V.start lane.now.key.value.value)) × (other.me.0.start ≡ Some (V.start lane.now.key.value.value)) }
+    ensures table { place.new.table_id ≡ place.old.table_id }
+    ensures both { place.new.me ≡ (settled (both place.old.me.0 other.me.0), []) }
+    ensures rests { place.new ≡ at_rest place.new }
+    ensures seen { Extends place.new.me.0.seen place.old.me.0.seen × Extends place.new.me.0.seen other.me.0.seen }
+{
+    lane.join_seat::<Both>(place, other);
+    lane.load::<Settle>(place, 0);
+}
+
+/// Ends the table: both numbers and what is in the slot. With all passes in the seat the numbers are equal, and where
+/// they are the value is there.
+pub(crate) fn end<V: StandsFor + Drop>(board: Board<V>, place: Place<V>) -> (Open, Option<V>)
+    requires table { IsAt board.shared.table_id place }
+    requires rests { place ≡ at_rest place }
+    ensures home { result.0.ticket ≡ result.0.serving → IsSome result.1 }
+    ensures value { result.0.ticket ≡ result.0.serving → IfSome result.1 (StandsBeyond V.stands (V.start board.shared.key.value.value) place.me.0.seen) }
+    ensures all { place.me.0.passes ≡ board.shared.key.seats → result.0.ticket ≡ result.0.serving }
+{
+    let mut closed = board.close_with(place);
+    let open = Open {
+        ticket: closed.word(0),
+        serving: closed.word(1),
+    };
+    let slot = closed.take(0);
+    closed.free();
+    (open, slot)
+}
