@@ -1,0 +1,13 @@
+pub mod Known
+pub mod Lines
+pub mod Head
+pub mod Framing
+pub mod Chunks
+pub mod Decided
+pub mod Spelled
+pub mod Reading
+pub mod Steps
+pub mod Written
+pub mod Small
+pub mod Returned
+pub mod Laws

@@ -1,0 +1,85 @@
+-- Where a head, a trailer and a chunk line end.
+use Rattle.std.specs.Prelude.{◌≡◌, ℕ, ◌+◌, ◌<◌, ◌≤◌, ◌==◌, ◌⊎◌, List, [], ◌∷◌, ◌++◌, length, take, Option, Some, None, Result, Ok, Err, if◌then◌else◌}
+use Rattle.cds_http.specs.declared.error.HttpError.{HttpError}
+use Rattle.cds_http.specs.declared.error.HttpError.TheVariants.{Mem}
+use Rattle.cds_http.specs.declared.lines.Place.{Place}
+use Rattle.cds_http.specs.declared.lines.Place.TheVariants.{Before, Inside, Fresh, Return, InLine}
+use Rattle.cds_http.specs.declared.lines.Scan.{Scan}
+use Rattle.cds_http.specs.declared.lines.Scan.TheVariants.{Ended, Open}
+use Rattle.cds_http.specs.declared.lines.Front.{Front}
+use Rattle.cds_http.specs.declared.lines.Collected.{Collected}
+use Rattle.cds_http.specs.declared.lines.Collected.TheVariants.{Whole as WholeText, Going}
+use Rattle.cds_http.specs.Known.{Known, Refused, cut}
+
+-- Where the next byte leaves a head: behind it only empty lines so far, inside a line, at the start of a line behind one
+-- that is not empty, or behind a CR there. None where it ends the first empty line behind a line that is not. A trailer
+-- begins at the start of a line. A chunk line ends with its LF.
+abbrev pub next_place : Place → ℕ → Option Place
+next_place Before b = if b == 10 then Some Before else if b == 13 then Some Before else Some Inside
+next_place Inside b = if b == 10 then Some Fresh else Some Inside
+next_place Fresh b = if b == 10 then None else if b == 13 then Some Return else Some Inside
+next_place Return b = if b == 10 then None else Some Inside
+next_place InLine b = if b == 10 then None else Some InLine
+
+-- An end so many bytes further on.
+abbrev pub further : ℕ → Scan → Scan
+further n (Ended at) = Ended (n + at)
+further n (Open place) = Open place
+
+abbrev pub scan_step : Option Place → (Place → Scan) → Scan
+scan_step None rest = Ended 1
+scan_step (Some next) rest = further 1 (rest next)
+
+-- Where bytes behind a place end what they belong to, or where they leave it.
+abbrev pub scanned : Place → List ℕ → Scan
+scanned place [] = Open place
+scanned place (b ∷ bytes) = scan_step (next_place place b) (λ next. scanned next bytes)
+
+-- How many bytes there are up to the end, where it has come.
+abbrev pub end_of_scan : Scan → Option ℕ
+end_of_scan (Ended at) = Some at
+end_of_scan (Open place) = None
+
+-- The front of the bytes up to the end of what begins at this place.
+abbrev pub cut_at : Place → HttpError → ℕ → List ℕ → Known (List ℕ)
+cut_at start e limit bytes = cut e limit (end_of_scan (scanned start bytes)) bytes
+
+-- The text ends with its last byte.
+abbrev pub EndsThere : Place → List ℕ → Type 0
+EndsThere start text = scanned start text ≡ Ended (length text)
+
+-- What came of something that begins at this place, without its end.
+abbrev pub IsFront : Place → ℕ → Front → Type 0
+IsFront start limit f = (scanned start f.text ≡ Open f.place) × (length f.text < limit)
+
+-- A piece behind what came.
+abbrev pub Collects : Place → ℕ → HttpError → List ℕ → List ℕ → Result Collected HttpError → Type 0
+Collects start limit refusal came piece (Ok (WholeText text used)) =
+    (text ≡ came ++ take used piece) × EndsThere start text × (length text ≤ limit)
+Collects start limit refusal came piece (Ok (Going f)) = (f.text ≡ came ++ piece) × IsFront start limit f
+Collects start limit refusal came piece (Err e) =
+    (e ≡ Mem) ⊎ ((e ≡ refusal) × ((more : List ℕ) → cut_at start refusal limit ((came ++ piece) ++ more) ≡ Refused refusal))
+
+-- Some of the piece was used, and the text is not too long.
+abbrev pub UsesFront : ℕ → List ℕ → Result Collected HttpError → Type 0
+UsesFront limit piece (Ok (WholeText text used)) = (0 < used) × (used ≤ length piece) × (length text ≤ limit)
+UsesFront limit piece (Ok (Going f)) = Unit {0}
+UsesFront limit piece (Err e) = Unit {0}
+
+-- An end stands behind at least one of the bytes.
+abbrev pub IsWithin : List ℕ → Scan → Type 0
+IsWithin bytes (Ended at) = (0 < at) × (at ≤ length bytes)
+IsWithin bytes (Open place) = Unit {0}
+
+-- A text with its last bytes, and a text that goes on.
+abbrev pub EndsCollected : List ℕ → ℕ → HttpError → List ℕ → ℕ → Result Collected HttpError → Type 0
+EndsCollected came limit refusal piece used (Ok (WholeText text at)) =
+    (text ≡ came ++ take used piece) × (at ≡ used) × (length came + used ≤ limit)
+EndsCollected came limit refusal piece used (Ok (Going f)) = ⊥
+EndsCollected came limit refusal piece used (Err e) = (e ≡ Mem) ⊎ ((e ≡ refusal) × (limit < length came + used))
+
+abbrev pub KeepsCollected : List ℕ → Place → ℕ → HttpError → List ℕ → Result Collected HttpError → Type 0
+KeepsCollected came place limit refusal piece (Ok (WholeText text at)) = ⊥
+KeepsCollected came place limit refusal piece (Ok (Going f)) =
+    (f.text ≡ came ++ piece) × (f.place ≡ place) × (length came + length piece < limit)
+KeepsCollected came place limit refusal piece (Err e) = (e ≡ Mem) ⊎ ((e ≡ refusal) × (limit ≤ length came + length piece))

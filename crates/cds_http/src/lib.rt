@@ -1,0 +1,24 @@
+//! Messages of HTTP/1.1 (RFC 9112), read from pieces of any size and written.
+#![tactic(auto)]
+
+mod body;
+mod error;
+mod examples;
+mod fields;
+mod framing;
+mod head;
+pub mod laws;
+mod lines;
+mod message;
+mod reader;
+mod write;
+
+pub use error::HttpError;
+pub use examples::{bodies_are_framed, bodies_are_taken, heads_are_cut};
+pub use fields::{Field, Fields};
+pub use message::{Fed, Message, Side, Start};
+pub use reader::MessageReader;
+pub use write::{write_reply, write_request};
+
+#[cfg(test)]
+mod tests;

@@ -1,0 +1,32 @@
+use cds_base::{Bytes, Text};
+use http_header::HeaderMap;
+
+/// Which way messages go that are read.
+#[derive(Clone, Copy, Debug, PartialEq, Eq)]
+pub enum Side {
+    Request,
+    Reply,
+}
+
+/// The first line of a message.
+#[derive(Drop, Debug)]
+pub enum Start {
+    Request { method: Text, target: Text },
+    Reply { status: u16 },
+}
+
+/// A message: its first line, its fields and its body. Names of fields are in lower case, values have no white space
+/// around them, and a field that came more than once has its values in the order in which they came.
+#[derive(Drop)]
+pub struct Message {
+    pub start: Start,
+    pub fields: HeaderMap,
+    pub body: Bytes,
+}
+
+/// What a piece brought: more is needed, or the message is whole and ends so many bytes before the end of the piece.
+#[derive(Clone, Copy, Debug, PartialEq, Eq)]
+pub enum Fed {
+    More,
+    Whole { rest: usize },
+}

@@ -1,0 +1,187 @@
+//! Messages that come in pieces.
+
+ghost use Rattle.std.specs.Prelude.{◌≡◌, ◌≤◌, ℕ, List, [], length, Option, Some, Err, IsOkAnd};
+ghost use Rattle.cds_http.specs.declared.message.Side.{Side};
+ghost use Rattle.cds_http.specs.declared.lines.Place.{Place};
+ghost use Rattle.cds_http.specs.Lines.{IsFront, EndsThere};
+ghost use Rattle.cds_http.specs.Head.{head_limit};
+ghost use Rattle.cds_http.specs.Decided.{with_body};
+ghost use Rattle.cds_http.specs.Steps.{Fits};
+ghost use Rattle.cds_http.specs.Reading.{Stands, Takes, Finishes, Continues, StageTakes, StageOf};
+
+use crate::body::{Body, Part, Progress, new_body, take_body};
+use crate::framing::frame;
+use crate::head::{HEAD_LIMIT, Head, read_head};
+use crate::lines::{Collected, Front, Place, collect, new_front};
+use crate::{Fed, HttpError, Message, Side};
+use cds_base::{Bytes, Mem};
+use std::alloc::Global;
+use std::mem;
+
+/// How far reading has come: a head of which this came, a head with a body, a whole message, or a refusal.
+#[derive(Drop)]
+pub(crate) enum Stage {
+    InHead { front: Front },
+    InBody { head: Head, body: Body },
+    AtEnd { message: Message },
+    Refused,
+}
+
+/// The stage behind a piece, and the answer to it.
+#[derive(Drop)]
+pub(crate) struct Taken {
+    pub stage: Stage,
+    pub fed: Fed,
+}
+
+/// Reads one message that comes in pieces.
+#[derive(Drop)]
+pub struct MessageReader {
+    side: Side,
+    stage: Stage,
+}
+
+impl MessageReader {
+    /// A reader of a message of this side, to which nothing came yet. It takes no memory so far.
+    pub fn new(alloc: Global, side: Side) -> Result<Self, Mem>
+        ensures { IsOkAnd result (λ r. Stands side r (Some [])) }
+    {
+        Ok(MessageReader {
+            side,
+            stage: Stage::InHead {
+                front: new_front(alloc, Place::Before),
+            },
+        })
+    }
+
+    /// The next piece. `Whole` with the number of bytes of the piece that are behind the message; from then on a piece
+    /// is not looked at and the answer is `Whole` with its length. `More` where the message is not whole and no bytes
+    /// are refused. A head is judged when its first empty line has come behind a line that is not empty, a chunk line
+    /// when its LF has, and a trailer when its empty line has; so each refusal is a matter of the bytes and not of how
+    /// they were cut. From a refusal on, `Mem` among them, each call answers `Failed`.
+    pub fn feed(&mut self, alloc: Global, piece: &[u8]) -> Result<Fed, HttpError>
+        ensures { (side : Side) (came : Option (List ℕ)) → Stands side self.old came
+            → (now : Option (List ℕ)) × Stands side self.new now × Takes side came piece.now result now }
+    {
+        let stage = mem::replace(&mut self.stage, Stage::Refused);
+        match take(alloc, self.side, stage, piece) {
+            Ok(taken) => {
+                let Taken { stage, fed } = taken;
+                self.stage = stage;
+                Ok(fed)
+            }
+            Err(refusal) => Err(refusal),
+        }
+    }
+
+    /// The end of the connection: the message, with `Truncated` where it is not whole and is no reply whose body ends
+    /// with the connection. `Failed` only where a piece was refused or memory ran out.
+    pub fn finish(self) -> Result<Message, HttpError>
+        ensures { (side : Side) (came : Option (List ℕ)) → Stands side self came → Finishes side came result }
+    {
+        end_stage(self.stage)
+    }
+}
+
+/// The end of the connection at a stage.
+fn end_stage(stage: Stage) -> Result<Message, HttpError>
+    ensures ends { (side : Side) (bytes : List ℕ) → StageOf side stage bytes → Finishes side (Some bytes) result }
+    ensures failed { stage ≡ Stage.Refused → result ≡ Err HttpError.Failed }
+{
+    match stage {
+        Stage::InHead { .. } => Err(HttpError::Truncated),
+        Stage::InBody { head, body } => end_body(head, body),
+        Stage::AtEnd { message } => Ok(message),
+        Stage::Refused => Err(HttpError::Failed),
+    }
+}
+
+/// The message at the end of the connection.
+fn end_body(head: Head, body: Body) -> Result<Message, HttpError>
+    ensures { (side : Side) (bytes : List ℕ) → StageOf side (Stage.InBody head body) bytes → Finishes side (Some bytes) result }
+{
+    match body.part {
+        Part::ToEnd => Ok(with_body(head, body.bytes)),
+        _ => Err(HttpError::Truncated),
+    }
+}
+
+/// The message of a head and a body.
+fn with_body(head: Head, body: Bytes) -> Message
+    ensures { result ≡ with_body head body }
+{
+    let Head { start, fields } = head;
+    Message {
+        start,
+        fields,
+        body,
+    }
+}
+
+/// A piece at a stage.
+fn take(alloc: Global, side: Side, stage: Stage, piece: &[u8]) -> Result<Taken, HttpError>
+    ensures takes { (bytes : List ℕ) → StageOf side stage bytes → StageTakes side bytes piece.now result }
+    ensures failed { stage ≡ Stage.Refused → result ≡ Err HttpError.Failed }
+{
+    match stage {
+        Stage::InHead { front } => take_head(alloc, side, front, piece),
+        Stage::InBody { head, body } => take_rest(alloc, head, body, piece),
+        Stage::AtEnd { message } => Ok(Taken {
+            stage: Stage::AtEnd { message },
+            fed: Fed::Whole { rest: piece.len() },
+        }),
+        Stage::Refused => Err(HttpError::Failed),
+    }
+}
+
+/// A piece of a head, and of what is behind it.
+fn take_head(alloc: Global, side: Side, front: Front, piece: &[u8]) -> Result<Taken, HttpError>
+    ensures { IsFront Place.Before head_limit front → StageTakes side front.text piece.now result }
+{
+    match collect(front, HEAD_LIMIT, HttpError::HeadTooLong, piece) {
+        Ok(Collected::Whole { text, used }) => {
+            let (_, rest) = piece.split_at(used);
+            end_head(alloc, side, text.as_slice(), rest)
+        }
+        Ok(Collected::Going { front }) => Ok(Taken {
+            stage: Stage::InHead { front },
+            fed: Fed::More,
+        }),
+        Err(refusal) => Err(refusal),
+    }
+}
+
+/// A whole head, and the bytes behind it.
+fn end_head(alloc: Global, side: Side, text: &[u8], rest: &[u8]) -> Result<Taken, HttpError>
+    requires { length text.now ≤ head_limit }
+    ensures { EndsThere Place.Before text.now → StageTakes side text.now rest.now result }
+{
+    match read_head(alloc, side, text) {
+        Ok(head) => match frame(side, &head.fields) {
+            Ok(framing) => take_rest(alloc, head, new_body(alloc, framing), rest),
+            Err(refusal) => Err(refusal),
+        },
+        Err(refusal) => Err(refusal),
+    }
+}
+
+/// A piece of a body.
+fn take_rest(alloc: Global, head: Head, body: Body, piece: &[u8]) -> Result<Taken, HttpError>
+    ensures { (side : Side) (bytes : List ℕ) → Fits body → Continues side bytes head body → StageTakes side bytes piece.now result }
+{
+    match take_body(alloc, body, piece) {
+        Ok(Progress::More { body, .. }) => Ok(Taken {
+            stage: Stage::InBody { head, body },
+            fed: Fed::More,
+        }),
+        Ok(Progress::Whole { body, used }) => Ok(Taken {
+            stage: Stage::AtEnd {
+                message: with_body(head, body),
+            },
+            fed: Fed::Whole {
+                rest: piece.len() - used,
+            },
+        }),
+        Err(refusal) => Err(refusal),
+    }
+}
