@@ -7,29 +7,25 @@ use Rattle.cds_base.specs.Characters.{is_blank}
 use Rattle.cds_event.specs.declared.Event.{Event}
 use Rattle.cds_markup.specs.declared.name.Name.{Name}
 use Rattle.cds_markup.specs.declared.name.Attr.{Attr}
+use Rattle.cds_markup.specs.declared.part.Part.{Part}
 use Rattle.cds_markup.specs.declared.part.Part.TheVariants.{Start}
 use Rattle.cds_markup.specs.declared.tag.Tag.{Tag}
 use Rattle.cds_markup.specs.declared.error.MarkupError.{MarkupError}
 use Rattle.cds_markup.specs.declared.error.MarkupError.TheVariants.{Bad as BadAt, TooDeep, TooLong as TooManyBytes, Failed as FailedBefore, Mem as OutOfMemory}
 use Rattle.cds_markup.specs.Grammar.{Tree, IsTag, IsStartTag, IsDocument}
-use Rattle.cds_markup.specs.Document.{most_bytes, most_open, DocOf}
-use Rattle.cds_markup.specs.Course.{read_of, parts_of}
-use Rattle.cds_markup.specs.Agree.{Gives}
+use Rattle.cds_markup.specs.Document.{Meaning, most_bytes, most_open, Doc, DocOf}
+use Rattle.cds_markup.specs.Answer.{answer_to, parts_in}
 use Rattle.cds_markup.specs.Parts.{TreeParts}
-use Rattle.cds_markup.specs.Refusal.{Opens, TagEnds, Refuses}
-use Rattle.cds_markup.proofs.ContentForm.{tree-is}
-use Rattle.cds_markup.proofs.Complete.{tree-first}
-use Rattle.cds_markup.proofs.AllGiven.{parts-are-given}
-use Rattle.cds_markup.proofs.Fronts.{parts-stand-before, leaves-have-one-end, parts-are-of-roots}
-use Rattle.cds_markup.proofs.Verdict.{Answered, answered, documents-are-read, parts-are-told}
-use Rattle.cds_markup.specs.Found.{Clear}
+use Rattle.cds_markup.specs.Refusal.{Opens, TagEnds, Refuses, IsRefused as IsRefusedDocument}
+use Rattle.cds_markup.proofs.Public.{tree-is, start-parts, tree-first, all-answered as all-documents-answered, documents-are-read, parts-are-given, parts-are-told, parts-are-of-roots, parts-stand-before, leaves-have-one-end, one-telling}
+use Rattle.cds_markup.specs.GivenParts.{Clear, Tells, TellsTo}
 use Rattle.cds_lastchange.specs.declared.error.StateError.{StateError}
 use Rattle.cds_lastchange.specs.declared.error.StateError.TheVariants.{Bad, NotStateEvent, TooLong, Failed, Mem}
 use Rattle.cds_lastchange.specs.declared.judge.Judge.{Judge}
 use Rattle.cds_lastchange.specs.StateEvent.{IsDocumentOf, IsEmpty, IsStateEvent}
 use Rattle.cds_lastchange.specs.Refusal.{may_stand, Shows, IsBadEvent, IsNoStateEvent, IsRefused, Decides}
-use Rattle.cds_lastchange.specs.Judged.{parts_judged, nothing_said, answer_of, answer_read, is_empty, answer}
-use Rattle.cds_lastchange.specs.Taken.{judged_on}
+use Rattle.cds_lastchange.specs.Judged.{parts_judged, nothing_said, answer_of, answer_read, is_empty}
+use Rattle.cds_lastchange.specs.SinkLaws.{judged_on}
 use Rattle.cds_lastchange.proofs.Spaces.{and-first, and-second}
 use Rattle.cds_lastchange.proofs.Judging.{outside, root-are, root-keeps}
 use Rattle.cds_lastchange.proofs.Levels.{strange-start, FirstFault, first-fault}
@@ -40,7 +36,11 @@ abbrev Judged : Type 0
 Judged = Result Judge ℕ
 
 abbrev judged : List ℕ → Judged
-judged bytes = parts_judged nothing_said (parts_of bytes)
+judged bytes = parts_judged nothing_said (parts_in bytes)
+
+-- the answer to all bytes
+abbrev pub answer : List ℕ → Result (List Event) StateError
+answer bytes = cond (is_empty bytes) (Ok []) (answer_of (answer_to bytes) (judged bytes))
 
 not-both : (m n : ℕ) → m ≤ n → n < m → ⊥
 not-both m n h g = omega (arith, h, g)
@@ -67,27 +67,27 @@ clear-below bytes place earlier h c = record { none = λ k g. c.none k (omega (a
 
 -- where all parts stand, nothing shows that nothing refuses
 none-shows : (bytes : List ℕ) (k : Judge) → judged bytes ≡ Ok k → (shown at : ℕ) → Shows bytes shown at → Clear bytes shown → ⊥
-none-shows bytes k e shown at shows clear = none-caught bytes (parts_of bytes) shown at (caught bytes (parts_of bytes) (parts-are-given bytes) shown at shows clear) k e
+none-shows bytes k e shown at shows clear = none-caught bytes (parts_in bytes) shown at (caught bytes (parts_in bytes) (parts-are-given bytes) shown at shows clear) k e
 
 -- a part that does not stand
-fault : (bytes : List ℕ) (place : ℕ) → judged bytes ≡ Err place → FirstFault (parts_of bytes) place
-fault bytes place e = first-fault (parts_of bytes) place e
+fault : (bytes : List ℕ) (place : ℕ) → judged bytes ≡ Err place → FirstFault (parts_in bytes) place
+fault bytes place e = first-fault (parts_in bytes) place e
 
 module _ (bytes : List ℕ) (place : ℕ) (e : judged bytes ≡ Err place) where
   pub found : FirstShown bytes place
-  found = (first-shown bytes (parts_of bytes) (parts-are-given bytes) place (fault bytes place e)).0
+  found = (first-shown bytes (parts_in bytes) (parts-are-given bytes) place (fault bytes place e)).0
 
 pub sound-event : (bytes : List ℕ) (place : ℕ) → judged bytes ≡ Err place → IsNoStateEvent bytes place
 sound-event bytes place e =
     let f = fault bytes place e in
-    let found = first-shown bytes (parts_of bytes) (parts-are-given bytes) place f in
+    let found = first-shown bytes (parts_in bytes) (parts-are-given bytes) place f in
     let s = found.0 in
     record {
       shown = s.shown;
       shows = s.shows;
       clear = s.clear;
       first = λ earlier at h shows.
-          let b = nothing-before leaves-have-one-end parts-stand-before bytes (parts_of bytes) (parts-are-given bytes) place f found.0 found.1 earlier at shows (clear-below bytes s.shown earlier (less-equal earlier s.shown h) s.clear) in
+          let b = nothing-before leaves-have-one-end parts-stand-before bytes (parts_in bytes) (parts-are-given bytes) place f found.0 found.1 earlier at shows (clear-below bytes s.shown earlier (less-equal earlier s.shown h) s.clear) in
           absurd (not-both s.shown earlier b.0 h);
     }
 
@@ -106,7 +106,7 @@ blank-many bytes e d = not-too-many (length bytes) (by (list_all is_blank bytes)
   by : (t : Bool) → t ≡ true → (t && nat_le (length bytes) most_bytes) ≡ false → nat_le (length bytes) most_bytes ≡ false
   by t d e = sym (ap (λ t. t && nat_le (length bytes) most_bytes) d) ∙ e
 
-pub sound-bad : (bytes : List ℕ) (at : ℕ) (k : Judge) → is_empty bytes ≡ false → read_of bytes ≡ Err (BadAt at) → judged bytes ≡ Ok k → IsBadEvent bytes at
+pub sound-bad : (bytes : List ℕ) (at : ℕ) (k : Judge) → is_empty bytes ≡ false → answer_to bytes ≡ Err (BadAt at) → judged bytes ≡ Ok k → IsBadEvent bytes at
 sound-bad bytes at k none e ok =
     let r = (documents-are-read bytes).refusal (BadAt at) e in
     record {
@@ -117,7 +117,7 @@ sound-bad bytes at k none e ok =
           (clear-at bytes earlier (λ n g. r.1.none_before n (omega (arith, g, h))) (shown-within bytes earlier place shows) (within-below bytes at earlier h r.1.short));
     }
 
-pub sound-long : (bytes : List ℕ) (k : Judge) → read_of bytes ≡ Err TooManyBytes → judged bytes ≡ Ok k → IsRefused bytes TooLong
+pub sound-long : (bytes : List ℕ) (k : Judge) → answer_to bytes ≡ Err TooManyBytes → judged bytes ≡ Ok k → IsRefused bytes TooLong
 sound-long bytes k e ok =
     let r = (documents-are-read bytes).refusal TooManyBytes e in (
       r,
@@ -128,28 +128,23 @@ sound-long bytes k e ok =
 -- the start tag of an open element ends before what is open in it
 start-ends : (bytes rest b0 start inside : List ℕ) (outer : List Tag) (t : Tag) → bytes ≡ (b0 ++ (start ++ inside)) ++ rest → Opens outer b0 → IsStartTag start t → (at : ℕ) × (at < length (b0 ++ (start ++ inside))) × TagEnds bytes outer (length b0) at t
 start-ends bytes rest b0 start inside outer t e o g = (
-  length b0 + 1 + length g.second.front,
-  omega (arith, length-append b0 (start ++ inside), length-append start inside, long),
+  length b0 + 1 + length p.0,
+  omega (arith, length-append b0 (start ++ inside), length-append start inside, ap length p.1, length-append p.0 (62 ∷ [])),
   record {
     before = b0;
-    inside = g.second.front;
+    inside = p.0;
     end = 62;
     rest = inside ++ rest;
-    spelled = e ∙ append_assoc b0 (start ++ inside) rest ∙ ap (λ xs. b0 ++ xs) (append_assoc start inside rest ∙ ap (λ xs. xs ++ (inside ++ rest)) form ∙ behind g.second.front (inside ++ rest));
+    spelled = e ∙ append_assoc b0 (start ++ inside) rest ∙ ap (λ xs. b0 ++ xs) (append_assoc start inside rest ∙ ap (λ xs. xs ++ (inside ++ rest)) p.1 ∙ behind p.0 (inside ++ rest));
     begins = refl;
     place = refl;
     opens = o;
-    is_tag = subst (λ x. IsTag g.second.front x) (sym g.second.second.second.1) g.second.first;
+    is_tag = p.2;
     ends = inr refl;
   },
 ) where
-  form : start ≡ 60 ∷ (g.second.front ++ 62 ∷ [])
-  form =
-      g.spelled ∙ ap (λ xs. xs ++ g.back) g.first
-      ∙ ap (λ xs. 60 ∷ xs) (g.second.spelled ∙ ap (λ xs. g.second.front ++ xs) (g.second.second.spelled ∙ ap (λ xs. xs ++ g.second.second.back) g.second.second.first ∙ ap (λ xs. 62 ∷ xs) g.second.second.second.0))
-
-  long : length start ≡ 2 + length g.second.front
-  long = ap length form ∙ omega (arith, length-append g.second.front (62 ∷ []))
+  p : (inside : List ℕ) × (start ≡ 60 ∷ (inside ++ 62 ∷ [])) × IsTag inside t
+  p = start-parts start t g
 
   behind : (xs ys : List ℕ) → (60 ∷ (xs ++ 62 ∷ [])) ++ ys ≡ 60 ∷ (xs ++ 62 ∷ ys)
   behind xs ys = ap (λ zs. 60 ∷ zs) (append_assoc xs (62 ∷ []) ys)
@@ -169,7 +164,7 @@ deep-falls bytes rest before (t ∷ outer) k e (b0, start, inside, content, d, o
     (λ j l. (length b0, strange-start outer j (length b0) s.0 given.name given.attrs l (third-strange outer given.name given.attrs (omega (arith, many)))))
     k (sym (ap (parts_judged nothing_said) given.is) ∙ ok)
 
-none-deep : (bytes : List ℕ) (at : ℕ) (k : Judge) → read_of bytes ≡ Err (TooDeep at) → judged bytes ≡ Ok k → ⊥
+none-deep : (bytes : List ℕ) (at : ℕ) (k : Judge) → answer_to bytes ≡ Err (TooDeep at) → judged bytes ≡ Ok k → ⊥
 none-deep bytes at k e ok =
     let r = (documents-are-read bytes).refusal (TooDeep at) e in
     let d = r.0 in
@@ -178,7 +173,7 @@ none-deep bytes at k e ok =
     ok
 
 -- bytes that are events
-sound-document : (bytes : List ℕ) (k : Judge) → read_of bytes ≡ Ok tt → judged bytes ≡ Ok k → IsStateEvent bytes k.events
+sound-document : (bytes : List ℕ) (k : Judge) → answer_to bytes ≡ Ok tt → judged bytes ≡ Ok k → IsStateEvent bytes k.events
 sound-document bytes k e ok =
     let d = (documents-are-read bytes).document e in
     let p = parts-are-told bytes d.0 d.1 in
@@ -191,10 +186,10 @@ sound-document bytes k e ok =
           epilog = p.epilog;
           spelled = p.spelled;
           is_prolog = p.is_prolog;
-          is_element = tree-is p.root (length p.prolog) [] p.element (parts_of bytes) p.is_element;
+          is_element = tree-is p.root (length p.prolog) [] p.element (parts_in bytes) p.is_element;
           is_epilog = p.is_epilog;
         },
-        root-are p.root (length p.prolog) p.element (parts_of bytes) p.is_element k ok,
+        root-are p.root (length p.prolog) p.element (parts_in bytes) p.is_element k ok,
       );
       short = d.1.1.short;
     }
@@ -216,20 +211,20 @@ no-mem-event at e = cc
 no-mem-long : TooLong ≡ Mem → ⊥
 no-mem-long e = cc
 
--- reading without want of memory never answers it
-never-mem : (bytes : List ℕ) → read_of bytes ≡ Err OutOfMemory → ⊥
-never-mem bytes e = by (answered bytes) where
+-- reading that does not run out of memory never answers that it did
+never-mem : (bytes : List ℕ) → answer_to bytes ≡ Err OutOfMemory → ⊥
+never-mem bytes e = by (all-documents-answered bytes) where
   ok-mem : ◌≡◌ {A = Result (Unit {0}) MarkupError} (Ok tt) (Err OutOfMemory) → ⊥
   ok-mem d = cc
 
   same : (r : MarkupError) → ◌≡◌ {A = Result (Unit {0}) MarkupError} (Err r) (Err OutOfMemory) → r ≡ OutOfMemory
   same r d = cc
 
-  by : Answered bytes → ⊥
-  by (inl a) = ok-mem (sym a.0 ∙ e)
-  by (inr (r, d, i, n)) = n (same r (sym d ∙ e))
+  by : ((element : Meaning) × Doc bytes element) ⊎ ((r : MarkupError) × IsRefusedDocument bytes r × (r ≢ OutOfMemory)) → ⊥
+  by (inl d) = ok-mem (sym ((documents-are-read bytes).whole d.0 d.1).0 ∙ e)
+  by (inr (r, i, n)) = n (same r (sym ((documents-are-read bytes).refused r i n) ∙ e))
 
-read-stands : (bytes : List ℕ) (k : Judge) → is_empty bytes ≡ false → judged bytes ≡ Ok k → (read : Result (Unit {0}) MarkupError) → read_of bytes ≡ read → Stands bytes (answer_of read (Ok k))
+read-stands : (bytes : List ℕ) (k : Judge) → is_empty bytes ≡ false → judged bytes ≡ Ok k → (read : Result (Unit {0}) MarkupError) → answer_to bytes ≡ read → Stands bytes (answer_of read (Ok k))
 read-stands bytes k none ok (Ok done) e = sound-document bytes k (e ∙ unit done) ok where
   unit : (done : Unit {0}) → ◌≡◌ {A = Result (Unit {0}) MarkupError} (Ok done) (Ok tt)
   unit done = refl
@@ -239,20 +234,20 @@ read-stands bytes k none ok (Err TooManyBytes) e = (sound-long bytes k e ok, no-
 read-stands bytes k none ok (Err FailedBefore) e = absurd ((documents-are-read bytes).refusal FailedBefore e)
 read-stands bytes k none ok (Err OutOfMemory) e = absurd (never-mem bytes e)
 
-judged-stands : (bytes : List ℕ) → is_empty bytes ≡ false → (j : Judged) → judged bytes ≡ j → Stands bytes (answer_of (read_of bytes) j)
+judged-stands : (bytes : List ℕ) → is_empty bytes ≡ false → (j : Judged) → judged bytes ≡ j → Stands bytes (answer_of (answer_to bytes) j)
 judged-stands bytes none (Err place) e = (sound-event bytes place e, no-mem-event place)
-judged-stands bytes none (Ok k) e = read-stands bytes k none e (read_of bytes) refl
+judged-stands bytes none (Ok k) e = read-stands bytes k none e (answer_to bytes) refl
 
 pub stands : (bytes : List ℕ) → Stands bytes (answer bytes)
 stands bytes = by (is_empty bytes) refl where
-  by : (t : Bool) → is_empty bytes ≡ t → Stands bytes (cond t (Ok []) (answer_of (read_of bytes) (judged bytes)))
+  by : (t : Bool) → is_empty bytes ≡ t → Stands bytes (cond t (Ok []) (answer_of (answer_to bytes) (judged bytes)))
   by true e = let b = empty-both bytes e in record { is = inl (b.0, refl); short = b.1 }
   by false e = judged-stands bytes e (judged bytes) refl
 
 -- and it is the only one
-answer-is : (bytes : List ℕ) (read : Result (Unit {0}) MarkupError) (j : Judged) → is_empty bytes ≡ false → read_of bytes ≡ read → judged bytes ≡ j → answer bytes ≡ answer_of read j
+answer-is : (bytes : List ℕ) (read : Result (Unit {0}) MarkupError) (j : Judged) → is_empty bytes ≡ false → answer_to bytes ≡ read → judged bytes ≡ j → answer bytes ≡ answer_of read j
 answer-is bytes read j e d f =
-    ap (λ t. cond t (Ok []) (answer_of (read_of bytes) (judged bytes))) e ∙ ap (λ r. answer_of r (judged bytes)) d ∙ ap (answer_of read) f
+    ap (λ t. cond t (Ok []) (answer_of (answer_to bytes) (judged bytes))) e ∙ ap (λ r. answer_of r (judged bytes)) d ∙ ap (answer_of read) f
 
 not-empty : (bytes : List ℕ) → (is_empty bytes ≡ true → ⊥) → is_empty bytes ≡ false
 not-empty bytes h = by (is_empty bytes) h where
@@ -265,7 +260,7 @@ complete-bad bytes at b = by (judged bytes) refl where
   no : BadAt at ≡ OutOfMemory → ⊥
   no e = cc
 
-  read : read_of bytes ≡ Err (BadAt at)
+  read : answer_to bytes ≡ Err (BadAt at)
   read = (documents-are-read bytes).refused (BadAt at) b.refused no
 
   none : is_empty bytes ≡ false
@@ -288,7 +283,7 @@ complete-long bytes (refused, first) = by (judged bytes) refl where
   no : TooManyBytes ≡ OutOfMemory → ⊥
   no e = cc
 
-  read : read_of bytes ≡ Err TooManyBytes
+  read : answer_to bytes ≡ Err TooManyBytes
   read = (documents-are-read bytes).refused TooManyBytes refused no
 
   none : is_empty bytes ≡ false
@@ -332,10 +327,10 @@ complete-event bytes at n = by (judged bytes) refl where
   by (Ok k) e = absurd (none-shows bytes k e n.shown at n.shows n.clear)
   by (Err place) e =
       let f = fault bytes place e in
-      let found = first-shown bytes (parts_of bytes) (parts-are-given bytes) place f in
+      let found = first-shown bytes (parts_in bytes) (parts-are-given bytes) place f in
       let s = found.0 in
-      let b = nothing-before leaves-have-one-end parts-stand-before bytes (parts_of bytes) (parts-are-given bytes) place f found.0 found.1 n.shown at n.shows n.clear in
-      answer-is bytes (read_of bytes) (Err place) none refl e ∙ ap (λ m. Err (NotStateEvent m)) (b.1 (same s.shown b.0 (λ h. n.first s.shown place h s.shows)))
+      let b = nothing-before leaves-have-one-end parts-stand-before bytes (parts_in bytes) (parts-are-given bytes) place f found.0 found.1 n.shown at n.shows n.clear in
+      answer-is bytes (answer_to bytes) (Err place) none refl e ∙ ap (λ m. Err (NotStateEvent m)) (b.1 (same s.shown b.0 (λ h. n.first s.shown place h s.shows)))
     where
       same : (m : ℕ) → m ≤ n.shown → (m < n.shown → ⊥) → m ≡ n.shown
       same m h g = cases (cases_lt m n.shown) where
@@ -356,16 +351,16 @@ complete-document bytes events (root, d, says) short =
     let m = root-means root events says in
     let doc : DocOf bytes root m.0 = record { document = d; means = m.1; within = omega (arith, m.2); short = short } in
     let p = parts-are-of-roots bytes root m.0 doc in
-    let tree : TreeParts root (length p.0.prolog) [] p.0.element (parts_of bytes) = subst (λ r. TreeParts r (length p.0.prolog) [] p.0.element (parts_of bytes)) p.1 p.0.is_element in
+    let tree : TreeParts root (length p.0.prolog) [] p.0.element (parts_in bytes) = subst (λ r. TreeParts r (length p.0.prolog) [] p.0.element (parts_in bytes)) p.1 p.0.is_element in
     answer-is bytes (Ok tt) (Ok (outside events)) (not-empty bytes (λ e. document-letter bytes root d (empty-both bytes e).0))
     ((documents-are-read bytes).whole m.0 (root, doc)).0
-    (root-keeps root (length p.0.prolog) p.0.element (parts_of bytes) tree events says)
+    (root-keeps root (length p.0.prolog) p.0.element (parts_in bytes) tree events says)
 
 complete-ok : (bytes : List ℕ) (events : List Event) → IsStateEvent bytes events → answer bytes ≡ Ok events
 complete-ok bytes events s = by s.is where
   by : IsEmpty bytes events ⊎ IsDocumentOf bytes events → answer bytes ≡ Ok events
   by (inl (blank, none)) =
-      ap (λ t. cond t (Ok []) (answer_of (read_of bytes) (judged bytes))) (ap (λ t. t && nat_le (length bytes) most_bytes) blank ∙ le-true (length bytes) s.short) ∙ ap Ok (sym none)
+      ap (λ t. cond t (Ok []) (answer_of (answer_to bytes) (judged bytes))) (ap (λ t. t && nat_le (length bytes) most_bytes) blank ∙ le-true (length bytes) s.short) ∙ ap Ok (sym none)
   by (inr d) = complete-document bytes events d s.short
 
 pub complete-err : (bytes : List ℕ) (r : StateError) → IsRefused bytes r → r ≢ Mem → answer bytes ≡ Err r
@@ -417,14 +412,36 @@ decides bytes = by (answer bytes) (stands bytes) where
   by (Ok events) s = decided-ok bytes events s
   by (Err r) s = decided-err bytes r s.0 s.1
 
--- what is answered where the parts were judged as reading gave them
-answered-so : (bytes : List ℕ) (read : Result (Unit {0}) MarkupError) (said : Result Judge ℕ) → is_empty bytes ≡ false → read ≡ read_of bytes → said ≡ judged bytes → Decides bytes (answer_of read said)
-answered-so bytes read said none e d = subst (Decides bytes) (answer-is bytes read said none (sym e) (sym d)) (decides bytes)
+-- what is answered where the parts were judged as they were given
+told-so : (bytes : List ℕ) (read : Result (Unit {0}) MarkupError) (said : Judged) → is_empty bytes ≡ false → read ≢ Err OutOfMemory → (parts : List Part) × judged_on (Ok nothing_said) parts said × Tells bytes read [] parts → Decides bytes (answer_of read said)
+told-so bytes read said none n (parts, e, t) =
+    let o = one-telling bytes read parts t n in
+    subst (Decides bytes) (answer-is bytes read said none (sym o.0) (sym (e ∙ ap (parts_judged nothing_said) o.1))) (decides bytes)
 
-pub decided_so : (bytes : List ℕ) (read : Result (Unit {0}) MarkupError) (said : Result Judge ℕ) → is_empty bytes ≡ false → Gives judged_on bytes read (Ok nothing_said) said → Decides bytes (answer_read read said)
-decided_so bytes (Ok done) said none g = answered-so bytes (Ok done) said none g.0 g.1
-decided_so bytes (Err (BadAt at)) said none g = answered-so bytes (Err (BadAt at)) said none g.0 g.1
-decided_so bytes (Err (TooDeep at)) said none g = answered-so bytes (Err (TooDeep at)) said none g.0 g.1
-decided_so bytes (Err TooManyBytes) said none g = answered-so bytes (Err TooManyBytes) said none g.0 g.1
-decided_so bytes (Err FailedBefore) said none g = answered-so bytes (Err FailedBefore) said none g.0 g.1
-decided_so bytes (Err OutOfMemory) said none g = tt
+refused-so : (bytes : List ℕ) (r : MarkupError) (said : Judged) → is_empty bytes ≡ false → r ≢ OutOfMemory → (parts : List Part) × judged_on (Ok nothing_said) parts said × Tells bytes (Err r) [] parts → Decides bytes (answer_of (Err r) said)
+refused-so bytes r said none n t = told-so bytes (Err r) said none (λ e. n (same e)) t where
+  same : ◌≡◌ {A = Result (Unit {0}) MarkupError} (Err r) (Err OutOfMemory) → r ≡ OutOfMemory
+  same e = cc
+
+no-bad : (at : ℕ) → BadAt at ≡ OutOfMemory → ⊥
+no-bad at e = cc
+
+no-deep : (at : ℕ) → TooDeep at ≡ OutOfMemory → ⊥
+no-deep at e = cc
+
+no-long : TooManyBytes ≡ OutOfMemory → ⊥
+no-long e = cc
+
+no-failed : FailedBefore ≡ OutOfMemory → ⊥
+no-failed e = cc
+
+no-done : (done : Unit {0}) → ◌≡◌ {A = Result (Unit {0}) MarkupError} (Ok done) (Err OutOfMemory) → ⊥
+no-done done e = cc
+
+pub decided_so : (bytes : List ℕ) (read : Result (Unit {0}) MarkupError) (said : Judged) → is_empty bytes ≡ false → TellsTo judged_on bytes read (Ok nothing_said) said → Decides bytes (answer_read read said)
+decided_so bytes (Ok done) said none t = told-so bytes (Ok done) said none (no-done done) t
+decided_so bytes (Err (BadAt at)) said none t = refused-so bytes (BadAt at) said none (no-bad at) t
+decided_so bytes (Err (TooDeep at)) said none t = refused-so bytes (TooDeep at) said none (no-deep at) t
+decided_so bytes (Err TooManyBytes) said none t = refused-so bytes TooManyBytes said none no-long t
+decided_so bytes (Err FailedBefore) said none t = refused-so bytes FailedBefore said none no-failed t
+decided_so bytes (Err OutOfMemory) said none t = tt

@@ -1,21 +1,18 @@
 -- Answers that are computed stand against their bytes.
 use Rattle.std.proofs.Common.{◌≡◌, ℕ, false, Ok, Err, List, [], ◌∷◌, ◌++◌, codes, refl, subst}
 use Rattle.std.specs.Fmt.{digits}
+use Rattle.cds_base.specs.Writing.{attribute, number_attribute}
 use Rattle.cds_event.specs.declared.Event.{Event}
 use Rattle.cds_event.specs.declared.Event.TheVariants.{ObjDel}
-use lib.Utf8.{encode}
-use Rattle.cds_markup.specs.Step.{count_at, many_at, while_at}
-use Rattle.cds_markup.specs.Reading.{any_at, attr_at, attrs_at, behind_at, behind_encoding, behind_version, character_at, declaration_at, enclosed_at, encoding_at, encoding_value_at, end_at, equals_at, inside_at, misc_at, name_at, name_characters_at, name_rest_at, number_at, prolog_at, qname_at, reference_at, remark_at, space_at, standalone_at, standalone_value_at, tag_at, text_behind, value_at, value_piece_at, version_at, version_value_at, yes_or_no_at, utf_8_at}
-use Rattle.cds_markup.specs.Course.{content_at, course_of, root_course, start_moves}
+use Rattle.cds_markup.proofs.Public.{markup_on_literals}
 use Rattle.cds_lastchange.specs.declared.error.StateError.{StateError}
 use Rattle.cds_lastchange.specs.declared.error.StateError.TheVariants.{Bad, NotStateEvent}
 use Rattle.cds_lastchange.specs.Spelled.{class_text, change_text, flagged_text, added_text}
 use Rattle.cds_lastchange.specs.Attributes.{flag_of, class_of, added, modified, deleted, done, event_of, is_state_event}
 use Rattle.cds_lastchange.specs.StateEvent.{IsStateEvent}
 use Rattle.cds_lastchange.specs.Refusal.{IsRefused}
-use Rattle.cds_lastchange.specs.Judged.{answer}
 use Rattle.cds_lastchange.specs.Evaluated.{start, end, deletion, cut, events_are_written, forms_are_read, others_are_refused, text_between_is_refused}
-use Rattle.cds_lastchange.proofs.Deciding.{Stands, stands}
+use Rattle.cds_lastchange.proofs.Deciding.{answer, Stands, stands}
 
 is-event : (bytes : List ℕ) (events : List Event) → answer bytes ≡ Ok events → IsStateEvent bytes events
 is-event bytes events e = subst (Stands bytes) e (stands bytes)
@@ -24,11 +21,11 @@ is-refused : (bytes : List ℕ) (r : StateError) → answer bytes ≡ Err r → 
 is-refused bytes r e = let s : Stands bytes (Err r) = subst (Stands bytes) e (stands bytes) in s.0
 
 pub are-written : events_are_written
-unfolding digits change_text flagged_text added_text class_text
+unfolding digits attribute number_attribute change_text flagged_text added_text class_text
 are-written = (refl, refl, refl, refl)
 
 pub are-read : forms_are_read
-unfolding count_at many_at while_at any_at attr_at attrs_at behind_at behind_encoding behind_version character_at declaration_at enclosed_at encoding_at encoding_value_at end_at equals_at inside_at misc_at name_at name_characters_at name_rest_at number_at prolog_at qname_at reference_at remark_at space_at standalone_at standalone_value_at tag_at text_behind value_at value_piece_at version_at version_value_at yes_or_no_at utf_8_at content_at course_of root_course start_moves flag_of class_of added modified deleted done event_of is_state_event encode
+unfolding markup_on_literals flag_of class_of added modified deleted done event_of is_state_event
 are-read = (
   is-event deletion (ObjDel 7 9 false ∷ []) refl,
   is-event (codes "<StateEvent xmlns='urn:schemas-upnp-org:av:cds-event'/>") [] refl,
@@ -39,7 +36,7 @@ are-read = (
 )
 
 pub are-refused : others_are_refused
-unfolding count_at many_at while_at any_at attr_at attrs_at behind_at behind_encoding behind_version character_at declaration_at enclosed_at encoding_at encoding_value_at end_at equals_at inside_at misc_at name_at name_characters_at name_rest_at number_at prolog_at qname_at reference_at remark_at space_at standalone_at standalone_value_at tag_at text_behind value_at value_piece_at version_at version_value_at yes_or_no_at utf_8_at content_at course_of root_course start_moves flag_of class_of added modified deleted done event_of is_state_event encode
+unfolding markup_on_literals flag_of class_of added modified deleted done event_of is_state_event
 are-refused = (
   is-refused cut (Bad 111) refl,
   is-refused (start ++ codes "<objNew/>" ++ end) (NotStateEvent 54) refl,
@@ -52,7 +49,7 @@ are-refused = (
 )
 
 pub are-between : text_between_is_refused
-unfolding count_at many_at while_at any_at attr_at attrs_at behind_at behind_encoding behind_version character_at declaration_at enclosed_at encoding_at encoding_value_at end_at equals_at inside_at misc_at name_at name_characters_at name_rest_at number_at prolog_at qname_at reference_at remark_at space_at standalone_at standalone_value_at tag_at text_behind value_at value_piece_at version_at version_value_at yes_or_no_at utf_8_at content_at course_of root_course start_moves flag_of class_of added modified deleted done event_of is_state_event encode
+unfolding markup_on_literals flag_of class_of added modified deleted done event_of is_state_event
 are-between = (
   is-refused (start ++ codes "x&bad") (NotStateEvent 54) refl,
   is-refused (start ++ 195 ∷ []) (NotStateEvent 54) refl,

@@ -9,7 +9,8 @@ use Rattle.cds_markup.specs.Grammar.{Leaf, Text, Reference, Section, Comment, is
 use Rattle.cds_markup.specs.Document.{line_ends}
 use Rattle.cds_markup.specs.Parts.{leaf_parts, OpensParts}
 use Rattle.cds_markup.specs.Refusal.{TagEnds, LeafEnds, TextByte}
-use Rattle.cds_markup.specs.Found.{Clear, StartStands, Stands, PartsGiven, Given, PartsStandBefore, LeavesHaveOneEnd}
+use Rattle.cds_markup.specs.GivenParts.{Clear, StartStands, Stands, PartsGiven, Given}
+use Rattle.cds_markup.specs.Laws.{PartsStandBefore, LeavesHaveOneEnd}
 use Rattle.cds_lastchange.specs.declared.judge.Judge.{Judge}
 use Rattle.cds_lastchange.specs.Refusal.{may_stand, IsMisplaced, is_indirect, IsStray, Shows}
 use Rattle.cds_lastchange.specs.Judged.{part_judged, parts_judged, nothing_said}
@@ -117,30 +118,30 @@ pub record OfLeaf (bytes : List ℕ) (part : Part) (shown at : ℕ) : Type 0 whe
 
 pub record OfText (bytes : List ℕ) (part : Part) (shown at : ℕ) : Type 0 where
   pub begin : ℕ
-  pub odd : ℕ
+  pub non_blank : ℕ
   pub text : List ℕ
   pub tags : List Tag
   pub byte : ℕ
-  pub is : part ≡ Run begin (Some odd) text
-  pub behind : odd ≤ shown
+  pub is : part ≡ Run begin (Some non_blank) text
+  pub behind : non_blank ≤ shown
   pub here : shown ≡ at
-  pub letter : TextByte bytes tags odd byte
+  pub letter : TextByte bytes tags non_blank byte
 
 abbrev pub Kind : List ℕ → Part → ℕ → ℕ → Type 0
 Kind bytes part shown at = OfStart part shown at ⊎ (OfLeaf bytes part shown at ⊎ OfText bytes part shown at)
 
 -- the same where a text shows at its first letter
 abbrev pub Exact : List ℕ → Part → ℕ → ℕ → Type 0
-Exact bytes part shown at = OfStart part shown at ⊎ (OfLeaf bytes part shown at ⊎ ((t : OfText bytes part shown at) × (t.odd ≡ shown)))
+Exact bytes part shown at = OfStart part shown at ⊎ (OfLeaf bytes part shown at ⊎ ((t : OfText bytes part shown at) × (t.non_blank ≡ shown)))
 
 -- fields of equal parts
 starts-same : (a e b f : ℕ) (n m : Name) (x y : List Attr) → Start a e n x ≡ Start b f m y → (a ≡ b) × (e ≡ f)
 starts-same a e b f n m x y d = (cc, cc)
 
 runs-same : (a b o q : ℕ) (x y : List ℕ) → Run a (Some o) x ≡ Run b (Some q) y → (a ≡ b) × (o ≡ q)
-runs-same a b o q x y d = (cc, some o q odds) where
-  odds : ◌≡◌ {A = Option ℕ} (Some o) (Some q)
-  odds = cc
+runs-same a b o q x y d = (cc, some o q non_blanks) where
+  non_blanks : ◌≡◌ {A = Option ℕ} (Some o) (Some q)
+  non_blanks = cc
 
   some : (o q : ℕ) → ◌≡◌ {A = Option ℕ} (Some o) (Some q) → o ≡ q
   some o q d = cc
@@ -158,36 +159,36 @@ module _ (one : LeavesHaveOneEnd) (bytes : List ℕ) where
       let s = starts-same at shown answer other a.name b.name a.attrs b.attrs (sym a.is ∙ b.is) in
       (omega (arith, s.1), λ e. s.0)
   same-part part shown at other answer (inl a) (inr (inl b)) = absurd (start-run at shown answer a.name a.attrs (Some answer) b.text (sym a.is ∙ b.is))
-  same-part part shown at other answer (inl a) (inr (inr b)) = absurd (start-run at shown b.begin a.name a.attrs (Some b.odd) b.text (sym a.is ∙ b.is))
+  same-part part shown at other answer (inl a) (inr (inr b)) = absurd (start-run at shown b.begin a.name a.attrs (Some b.non_blank) b.text (sym a.is ∙ b.is))
   same-part part shown at other answer (inr (inl a)) (inl b) = absurd (start-run answer other at b.name b.attrs (Some at) a.text (sym b.is ∙ a.is))
-  same-part part shown at other answer (inr (inr a)) (inl b) = absurd (start-run answer other a.0.begin b.name b.attrs (Some a.0.odd) a.0.text (sym b.is ∙ a.0.is))
+  same-part part shown at other answer (inr (inr a)) (inl b) = absurd (start-run answer other a.0.begin b.name b.attrs (Some a.0.non_blank) a.0.text (sym b.is ∙ a.0.is))
   same-part part shown at other answer (inr (inl a)) (inr (inl b)) =
       let s = runs-same at answer at answer a.text b.text (sym a.is ∙ b.is) in
       let e = one bytes a.tags b.tags at shown other a.leaf b.leaf a.ends a.no_text (subst (λ n. LeafEnds bytes b.tags n other b.leaf) (sym s.0) b.ends) b.no_text in
       (omega (arith, e), λ d. s.0)
   same-part part shown at other answer (inr (inl a)) (inr (inr b)) =
-      let s = runs-same at b.begin at b.odd a.text b.text (sym a.is ∙ b.is) in
+      let s = runs-same at b.begin at b.non_blank a.text b.text (sym a.is ∙ b.is) in
       absurd (leaf-no-text bytes a.tags b.tags at shown b.byte a.leaf a.ends a.no_text (subst (λ n. TextByte bytes b.tags n b.byte) (sym s.1) b.letter))
   same-part part shown at other answer (inr (inr a)) (inr (inl b)) =
-      let s = runs-same a.0.begin answer a.0.odd answer a.0.text b.text (sym a.0.is ∙ b.is) in
+      let s = runs-same a.0.begin answer a.0.non_blank answer a.0.text b.text (sym a.0.is ∙ b.is) in
       absurd (leaf-no-text bytes b.tags a.0.tags answer other a.0.byte b.leaf b.ends b.no_text (subst (λ n. TextByte bytes a.0.tags n a.0.byte) s.1 a.0.letter))
   same-part part shown at other answer (inr (inr a)) (inr (inr b)) =
-      let s = runs-same a.0.begin b.begin a.0.odd b.odd a.0.text b.text (sym a.0.is ∙ b.is) in
+      let s = runs-same a.0.begin b.begin a.0.non_blank b.non_blank a.0.text b.text (sym a.0.is ∙ b.is) in
       (omega (arith, a.1, s.1, b.behind), λ d. sym a.0.here ∙ d ∙ b.here)
 
 -- a part before a place shows before it
-one-part : (begin at : ℕ) (leaf : Leaf) (odd : Option ℕ) (text : List ℕ) → is_text leaf ≡ false → leaf_parts begin leaf ≡ Run at odd text ∷ [] → (begin ≡ at) × (odd ≡ Some begin)
-one-part begin at (Text text) odd said plain e = let bad : true ≡ false = plain in absurd (cc)
-one-part begin at (Reference c) odd said plain e = by e where
-  by : Run begin (Some begin) (encode_utf8 c) ∷ [] ≡ Run at odd said ∷ [] → (begin ≡ at) × (odd ≡ Some begin)
+one-part : (begin at : ℕ) (leaf : Leaf) (non_blank : Option ℕ) (text : List ℕ) → is_text leaf ≡ false → leaf_parts begin leaf ≡ Run at non_blank text ∷ [] → (begin ≡ at) × (non_blank ≡ Some begin)
+one-part begin at (Text text) non_blank said plain e = let bad : true ≡ false = plain in absurd (cc)
+one-part begin at (Reference c) non_blank said plain e = by e where
+  by : Run begin (Some begin) (encode_utf8 c) ∷ [] ≡ Run at non_blank said ∷ [] → (begin ≡ at) × (non_blank ≡ Some begin)
   by d = (cc, cc)
-one-part begin at (Section text) odd said plain e = by e where
-  by : Run begin (Some begin) (line_ends text) ∷ [] ≡ Run at odd said ∷ [] → (begin ≡ at) × (odd ≡ Some begin)
+one-part begin at (Section text) non_blank said plain e = by e where
+  by : Run begin (Some begin) (line_ends text) ∷ [] ≡ Run at non_blank said ∷ [] → (begin ≡ at) × (non_blank ≡ Some begin)
   by d = (cc, cc)
-one-part begin at Comment odd said plain e = let bad : ◌≡◌ {A = List Part} [] (Run at odd said ∷ []) = e in absurd (cc)
+one-part begin at Comment non_blank said plain e = let bad : ◌≡◌ {A = List Part} [] (Run at non_blank said ∷ []) = e in absurd (cc)
 
-some-odd : (a b : ℕ) → ◌≡◌ {A = Option ℕ} (Some a) (Some b) → a ≡ b
-some-odd a b e = cc
+some-non-blank : (a b : ℕ) → ◌≡◌ {A = Option ℕ} (Some a) (Some b) → a ≡ b
+some-non-blank a b e = cc
 
 module _ (one : LeavesHaveOneEnd) (front rest : List ℕ) (earlier : List Part) where
   pub shows-before : (part : Part) (shown at : ℕ) → Exact (front ++ rest) part shown at → Stands front earlier part → shown < length front
@@ -205,13 +206,13 @@ module _ (one : LeavesHaveOneEnd) (front rest : List ℕ) (earlier : List Part) 
         let f = t.found at refl in
         absurd (text-no-leaf front rest a.tags t.tags at shown f.0 a.leaf a.ends a.no_text f.1)
   shows-before part shown at (inr (inr a)) s = by (subst (λ p. Stands front earlier p) a.0.is s) where
-    by : Stands front earlier (Run a.0.begin (Some a.0.odd) a.0.text) → shown < length front
+    by : Stands front earlier (Run a.0.begin (Some a.0.non_blank) a.0.text) → shown < length front
     by (inl l) =
-        let p = one-part l.begin a.0.begin l.leaf (Some a.0.odd) a.0.text l.no_text l.is in
-        omega (arith, a.1, some-odd a.0.odd l.begin p.1, leaf-from front l.tags l.begin l.at l.leaf l.found l.no_text, leaf-within front l.tags l.begin l.at l.leaf l.found)
+        let p = one-part l.begin a.0.begin l.leaf (Some a.0.non_blank) a.0.text l.no_text l.is in
+        omega (arith, a.1, some-non-blank a.0.non_blank l.begin p.1, leaf-from front l.tags l.begin l.at l.leaf l.found l.no_text, leaf-within front l.tags l.begin l.at l.leaf l.found)
     by (inr t) =
-        let f = t.found a.0.odd refl in
-        omega (arith, a.1, text-within front t.tags a.0.odd f.0 f.1)
+        let f = t.found a.0.non_blank refl in
+        omega (arith, a.1, text-within front t.tags a.0.non_blank f.0 f.1)
 
 -- two places in a list
 abbrev pub Apart : List Part → Part → List Part → Part → Type 0
@@ -320,7 +321,7 @@ caught-text bytes parts given shown at s clear =
     let g = given.texts s.tags at s.byte s.begins (subst (λ n. Clear bytes n) s.here clear) in
     record {
       earlier = g.earlier;
-      part = Run (length g.before) (Some g.odd) g.text;
+      part = Run (length g.before) (Some g.non_blank) g.text;
       later = g.later;
       tags = s.tags;
       before = g.before;
@@ -329,8 +330,8 @@ caught-text bytes parts given shown at s clear =
       spelled = g.spelled;
       opens = g.opens;
       near = omega (arith, g.from, g.to, s.here);
-      kind = inr (inr (record { begin = length g.before; odd = g.odd; text = g.text; tags = s.tags; byte = g.letter.0; is = refl; behind = omega (arith, g.to, s.here); here = s.here; letter = g.letter.1 }));
-      falls = λ j l. (g.odd, refl);
+      kind = inr (inr (record { begin = length g.before; non_blank = g.non_blank; text = g.text; tags = s.tags; byte = g.letter.0; is = refl; behind = omega (arith, g.to, s.here); here = s.here; letter = g.letter.1 }));
+      falls = λ j l. (g.non_blank, refl);
     }
 
 pub caught : (bytes : List ℕ) (parts : List Part) → Given bytes parts → (shown at : ℕ) → Shows bytes shown at → Clear bytes shown → Caught bytes parts shown at
@@ -375,32 +376,32 @@ shown-start bytes earlier j begin end place name attrs ok falls s =
       refl,
     )
 
-no-text-indirect : (leaf : Leaf) (begin at : ℕ) (odd : Option ℕ) (text : List ℕ) → is_text leaf ≡ false → leaf_parts begin leaf ≡ Run at odd text ∷ [] → is_indirect leaf ≡ true
-no-text-indirect (Text text) begin at odd said plain e = let bad : true ≡ false = plain in absurd (cc)
-no-text-indirect (Reference c) begin at odd said plain e = refl
-no-text-indirect (Section text) begin at odd said plain e = refl
-no-text-indirect Comment begin at odd said plain e = let bad : ◌≡◌ {A = List Part} [] (Run at odd said ∷ []) = e in absurd (cc)
+no-text-indirect : (leaf : Leaf) (begin at : ℕ) (non_blank : Option ℕ) (text : List ℕ) → is_text leaf ≡ false → leaf_parts begin leaf ≡ Run at non_blank text ∷ [] → is_indirect leaf ≡ true
+no-text-indirect (Text text) begin at non_blank said plain e = let bad : true ≡ false = plain in absurd (cc)
+no-text-indirect (Reference c) begin at non_blank said plain e = refl
+no-text-indirect (Section text) begin at non_blank said plain e = refl
+no-text-indirect Comment begin at non_blank said plain e = let bad : ◌≡◌ {A = List Part} [] (Run at non_blank said ∷ []) = e in absurd (cc)
 
-shown-run : (bytes : List ℕ) (earlier : List Part) (j : Judge) (begin odd place : ℕ) (text : List ℕ) → odd ≡ place → Stands bytes earlier (Run begin (Some odd) text) → (s : FirstShown bytes place) × (s.part ≡ Run begin (Some odd) text)
-shown-run bytes earlier j begin odd place text e (inl l) =
-    let p = one-part l.begin begin l.leaf (Some odd) text l.no_text l.is in
-    let here : l.begin ≡ place = sym (some-odd odd l.begin p.1) ∙ e in
+shown-run : (bytes : List ℕ) (earlier : List Part) (j : Judge) (begin non_blank place : ℕ) (text : List ℕ) → non_blank ≡ place → Stands bytes earlier (Run begin (Some non_blank) text) → (s : FirstShown bytes place) × (s.part ≡ Run begin (Some non_blank) text)
+shown-run bytes earlier j begin non_blank place text e (inl l) =
+    let p = one-part l.begin begin l.leaf (Some non_blank) text l.no_text l.is in
+    let here : l.begin ≡ place = sym (some-non-blank non_blank l.begin p.1) ∙ e in
     let ends : LeafEnds bytes l.tags place l.at l.leaf = subst (λ n. LeafEnds bytes l.tags n l.at l.leaf) here l.found in (
       record {
-        part = Run begin (Some odd) text;
+        part = Run begin (Some non_blank) text;
         shown = l.at;
-        exact = inr (inl (record { text = text; tags = l.tags; leaf = l.leaf; is = ap (λ n. Run n (Some odd) text) (sym p.0 ∙ here) ∙ ap (λ n. Run place (Some n) text) e; ends = ends; no_text = l.no_text }));
-        shows = inr (inl (record { tags = l.tags; leaf = l.leaf; ends = ends; indirect = no-text-indirect l.leaf l.begin begin (Some odd) text l.no_text l.is }));
+        exact = inr (inl (record { text = text; tags = l.tags; leaf = l.leaf; is = ap (λ n. Run n (Some non_blank) text) (sym p.0 ∙ here) ∙ ap (λ n. Run place (Some n) text) e; ends = ends; no_text = l.no_text }));
+        shows = inr (inl (record { tags = l.tags; leaf = l.leaf; ends = ends; indirect = no-text-indirect l.leaf l.begin begin (Some non_blank) text l.no_text l.is }));
         clear = l.clear;
       },
       refl,
     )
-shown-run bytes earlier j begin odd place text e (inr t) =
-    let f = t.found odd refl in (
+shown-run bytes earlier j begin non_blank place text e (inr t) =
+    let f = t.found non_blank refl in (
       record {
-        part = Run begin (Some odd) text;
-        shown = odd;
-        exact = inr (inr (record { begin = begin; odd = odd; text = text; tags = t.tags; byte = f.0; is = refl; behind = omega arith; here = e; letter = f.1 }, refl));
+        part = Run begin (Some non_blank) text;
+        shown = non_blank;
+        exact = inr (inr (record { begin = begin; non_blank = non_blank; text = text; tags = t.tags; byte = f.0; is = refl; behind = omega arith; here = e; letter = f.1 }, refl));
         shows = inr (inr (record { tags = t.tags; byte = f.0; begins = subst (λ n. TextByte bytes t.tags n f.0) e f.1; here = e }));
         clear = f.2;
       },
@@ -410,7 +411,7 @@ shown-run bytes earlier j begin odd place text e (inr t) =
 shown-part : (bytes : List ℕ) (earlier : List Part) (j : Judge) (place : ℕ) → parts_judged nothing_said earlier ≡ Ok j → (part : Part) → part_judged j part ≡ Err place → Stands bytes earlier part → (s : FirstShown bytes place) × (s.part ≡ part)
 shown-part bytes earlier j place ok (Start begin end name attrs) falls s = shown-start bytes earlier j begin end place name attrs ok falls s
 shown-part bytes earlier j place ok (Run begin None text) falls s = let no : ◌≡◌ {A = Answer} (Ok j) (Err place) = falls in absurd (cc)
-shown-part bytes earlier j place ok (Run begin (Some odd) text) falls s = shown-run bytes earlier j begin odd place text (same-place odd place falls) s
+shown-part bytes earlier j place ok (Run begin (Some non_blank) text) falls s = shown-run bytes earlier j begin non_blank place text (same-place non_blank place falls) s
 shown-part bytes earlier j place ok (End at) falls s = absurd (ends j falls) where
   ends : (j : Judge) → part_judged j (End at) ≡ Err place → ⊥
   ends j e = let no : part_judged j (End at) ≡ Err place = e in cc

@@ -7,16 +7,16 @@ use Rattle.cds_markup.specs.declared.part.Part.{Part}
 use Rattle.cds_markup.specs.declared.part.Part.TheVariants.{Start, End, Run}
 use Rattle.cds_markup.specs.declared.tag.Declaration.{Declaration}
 use Rattle.cds_markup.specs.declared.tag.Tag.{Tag}
-use Rattle.cds_markup.specs.Grammar.{Leaf, Text, Reference, Section, Comment, Tree, Bare, Full, Content, Nothing, LeafThen, TreeThen}
+use Rattle.cds_markup.specs.Grammar.{Leaf, Text, Reference, Section, Comment, Tree, EmptyElement, Full, Content, Nothing, LeafThen, TreeThen}
 use Rattle.cds_markup.specs.Namespaces.{declarations, tag_says}
 use Rattle.cds_markup.specs.Document.{line_ends}
-use Rattle.cds_markup.specs.Parts.{first_odd, leaf_parts, TreeParts, ContentParts}
+use Rattle.cds_markup.specs.Parts.{first_non_blank, leaf_parts, TreeParts, ContentParts}
 use Rattle.cds_lastchange.specs.declared.judge.Level.TheVariants.{Outside, InRoot, InEvent}
 use Rattle.cds_lastchange.specs.declared.judge.Judge.{Judge}
 use Rattle.cds_lastchange.specs.Attributes.{event_of, is_state_event}
 use Rattle.cds_lastchange.specs.StateEvent.{is_space, has_only_space, event_said, event_in, and_more, events_in, is_root, root_events}
 use Rattle.cds_lastchange.specs.Judged.{event_judged, and_judged, parts_judged, nothing_said}
-use Rattle.cds_lastchange.proofs.Spaces.{odd-none, none-odd, and-first, and-second}
+use Rattle.cds_lastchange.proofs.Spaces.{non-blank-none, none-non-blank, and-first, and-second}
 
 abbrev pub Answer : Type 0
 Answer = Result Judge ℕ
@@ -34,20 +34,20 @@ abbrev pub in_event : List Event → Judge
 in_event events = record { level = InEvent; events = events }
 
 -- a leaf
-run-judged : (j : Judge) (at : ℕ) (odd : Option ℕ) (text : List ℕ) → odd ≡ None → (rest : List Part) → parts_judged j (Run at odd text ∷ rest) ≡ parts_judged j rest
-run-judged j at odd text e rest = ap (λ o. parts_judged j (Run at o text ∷ rest)) e
+run-judged : (j : Judge) (at : ℕ) (non_blank : Option ℕ) (text : List ℕ) → non_blank ≡ None → (rest : List Part) → parts_judged j (Run at non_blank text ∷ rest) ≡ parts_judged j rest
+run-judged j at non_blank text e rest = ap (λ o. parts_judged j (Run at o text ∷ rest)) e
 
 pub leaf-keeps : (j : Judge) (at : ℕ) (leaf : Leaf) (rest : List Part) → is_space leaf ≡ true → parts_judged j (leaf_parts at leaf ++ rest) ≡ parts_judged j rest
-leaf-keeps j at (Text text) rest e = run-judged j at (first_odd at text) (line_ends text) (odd-none at text e) rest
+leaf-keeps j at (Text text) rest e = run-judged j at (first_non_blank at text) (line_ends text) (non-blank-none at text e) rest
 leaf-keeps j at (Reference c) rest e = let no : false ≡ true = e in cc
 leaf-keeps j at (Section text) rest e = let no : false ≡ true = e in cc
 leaf-keeps j at Comment rest e = refl
 
 pub leaf-space : (j k : Judge) (at : ℕ) (leaf : Leaf) (rest : List Part) → parts_judged j (leaf_parts at leaf ++ rest) ≡ Ok k → is_space leaf ≡ true
-leaf-space j k at (Text text) rest e = none-odd at text (by (first_odd at text) e) where
+leaf-space j k at (Text text) rest e = none-non-blank at text (by (first_non_blank at text) e) where
   by : (o : Option ℕ) → parts_judged j (Run at o (line_ends text) ∷ rest) ≡ Ok k → o ≡ None
   by None d = refl
-  by (Some odd) d = absurd (ok-err k odd d)
+  by (Some non_blank) d = absurd (ok-err k non_blank d)
 leaf-space j k at (Reference c) rest e = absurd (ok-err k at e)
 leaf-space j k at (Section text) rest e = absurd (ok-err k at e)
 leaf-space j k at Comment rest e = refl
@@ -66,14 +66,14 @@ space-keeps (LeafThen leaf more) at scopes bytes parts (front, back, behind, d, 
     ∙ space-keeps more (at + length front) scopes back behind g (and-second (is_space leaf) (has_only_space more) e) j rest
 space-keeps (TreeThen tree more) at scopes bytes parts g e j rest = let no : false ≡ true = e in cc
 
-bare-fails : (events : List Event) (k : Judge) (at end : ℕ) (name : Name) (attrs : List Attr) (rest : List Part) → parts_judged (in_event events) (Start at end name attrs ∷ rest) ≡ Ok k → ⊥
-bare-fails events k at end name attrs rest e = ok-err k at e
+empty-fails : (events : List Event) (k : Judge) (at end : ℕ) (name : Name) (attrs : List Attr) (rest : List Part) → parts_judged (in_event events) (Start at end name attrs ∷ rest) ≡ Ok k → ⊥
+empty-fails events k at end name attrs rest e = ok-err k at e
 
 tree-fails : (tree : Tree) (at : ℕ) (scopes : List (List Declaration)) (bytes : List ℕ) (parts : List Part) → TreeParts tree at scopes bytes parts → (events : List Event) (k : Judge) (rest : List Part) → parts_judged (in_event events) (parts ++ rest) ≡ Ok k → ⊥
-tree-fails (Bare t) at scopes bytes parts (name, attrs, end, is, says, place, p) events k rest e =
-    bare-fails events k at end name attrs (End end ∷ rest) (sym (ap (λ ps. parts_judged (in_event events) (ps ++ rest)) p) ∙ e)
+tree-fails (EmptyElement t) at scopes bytes parts (name, attrs, end, is, says, place, p) events k rest e =
+    empty-fails events k at end name attrs (End end ∷ rest) (sym (ap (λ ps. parts_judged (in_event events) (ps ++ rest)) p) ∙ e)
 tree-fails (Full t content) at scopes bytes parts (name, attrs, end, start, inside, closing, inner, d, is, ends, says, place, g, p) events k rest e =
-    bare-fails events k at end name attrs ((inner ++ End (at + length start + length inside) ∷ []) ++ rest) (sym (ap (λ ps. parts_judged (in_event events) (ps ++ rest)) p) ∙ e)
+    empty-fails events k at end name attrs ((inner ++ End (at + length start + length inside) ∷ []) ++ rest) (sym (ap (λ ps. parts_judged (in_event events) (ps ++ rest)) p) ∙ e)
 
 both : (s t : Bool) → s ≡ true → t ≡ true → (s && t) ≡ true
 both s t e d = ap (λ x. x && t) e ∙ d
@@ -115,7 +115,7 @@ full-parts : (at end place : ℕ) (name : Name) (attrs : List Attr) (inner rest 
 full-parts at end place name attrs inner rest = ap (λ ps. Start at end name attrs ∷ ps) (append_assoc inner (End place ∷ []) rest)
 
 pub event-keeps : (tree : Tree) (at : ℕ) (scopes : List (List Declaration)) (bytes : List ℕ) (parts : List Part) → TreeParts tree at scopes bytes parts → (event : Event) → event_in scopes tree ≡ Some event → (events : List Event) (rest : List Part) → parts_judged (in_root events) (parts ++ rest) ≡ parts_judged (in_root (with_event events event)) rest
-event-keeps (Bare t) at scopes bytes parts (name, attrs, end, is, says, place, p) event e events rest =
+event-keeps (EmptyElement t) at scopes bytes parts (name, attrs, end, is, says, place, p) event e events rest =
     ap (λ ps. parts_judged (in_root events) (ps ++ rest)) p
     ∙ event-start events at end name attrs event (End end ∷ rest) (sym (said-is scopes t name attrs says) ∙ e)
 event-keeps (Full t content) at scopes bytes parts (name, attrs, end, start, inside, closing, inner, d, is, ends, says, place, g, p) event e events rest =
@@ -126,7 +126,7 @@ event-keeps (Full t content) at scopes bytes parts (name, attrs, end, start, ins
     ∙ space-keeps content (at + length start) (declarations t.attrs ∷ scopes) inside inner g w.0 (in_event (with_event events event)) (End (at + length start + length inside) ∷ rest)
 
 pub event-is : (tree : Tree) (at : ℕ) (scopes : List (List Declaration)) (bytes : List ℕ) (parts : List Part) → TreeParts tree at scopes bytes parts → (events : List Event) (k : Judge) (rest : List Part) → parts_judged (in_root events) (parts ++ rest) ≡ Ok k → (event : Event) × (event_in scopes tree ≡ Some event)
-event-is (Bare t) at scopes bytes parts (name, attrs, end, is, says, place, p) events k rest e =
+event-is (EmptyElement t) at scopes bytes parts (name, attrs, end, is, says, place, p) events k rest e =
     let s = some-event events at (event_of name attrs) k (λ j. parts_judged j (End end ∷ rest)) (sym (ap (λ ps. parts_judged (in_root events) (ps ++ rest)) p) ∙ e) in
     (s.0, said-is scopes t name attrs says ∙ s.1)
 event-is (Full t content) at scopes bytes parts (name, attrs, end, start, inside, closing, inner, d, is, ends, says, place, g, p) events k rest e =
@@ -202,7 +202,7 @@ root-is : (t : Tag) (name : Name) (attrs : List Attr) → tag_says [] t ≡ Some
 root-is t name attrs e = ap is_root e
 
 pub root-keeps : (root : Tree) (at : ℕ) (bytes : List ℕ) (parts : List Part) → TreeParts root at [] bytes parts → (events : List Event) → root_events root ≡ Some events → parts_judged nothing_said parts ≡ Ok (outside events)
-root-keeps (Bare t) at bytes parts (name, attrs, end, is, says, place, p) events e =
+root-keeps (EmptyElement t) at bytes parts (name, attrs, end, is, says, place, p) events e =
     let w = where-some (is_root (tag_says [] t)) (Some []) events e in
     ap (parts_judged nothing_said) p
     ∙ root-start at end name attrs (End end ∷ []) (sym (root-is t name attrs says) ∙ w.0)
@@ -214,7 +214,7 @@ root-keeps (Full t content) at bytes parts (name, attrs, end, start, inside, clo
     ∙ events-keep content (at + length start) (declarations t.attrs ∷ []) inside inner g events w.1 [] (End (at + length start + length inside) ∷ [])
 
 pub root-are : (root : Tree) (at : ℕ) (bytes : List ℕ) (parts : List Part) → TreeParts root at [] bytes parts → (k : Judge) → parts_judged nothing_said parts ≡ Ok k → root_events root ≡ Some k.events
-root-are (Bare t) at bytes parts (name, attrs, end, is, says, place, p) k e =
+root-are (EmptyElement t) at bytes parts (name, attrs, end, is, says, place, p) k e =
     let s = root-starts (is_state_event name) at k (λ j. parts_judged j (End end ∷ [])) (sym (ap (parts_judged nothing_said) p) ∙ e) in
     some-where (is_root (tag_says [] t)) (Some []) k.events (root-is t name attrs says ∙ s.0) (ap (λ j. Some j.events) (same-ok (outside []) k s.1))
 root-are (Full t content) at bytes parts (name, attrs, end, start, inside, closing, inner, d, is, ends, says, place, g, p) k e =

@@ -16,7 +16,7 @@ use Rattle.cds_lastchange.specs.declared.judge.Judge.{Judge}
 use Rattle.cds_lastchange.specs.Attributes.{event_of, is_state_event}
 use Rattle.cds_lastchange.specs.Refusal.{may_stand}
 use Rattle.cds_lastchange.specs.Judged.{event_judged, start_judged, part_judged, and_judged, parts_judged, nothing_said}
-use Rattle.cds_lastchange.specs.Taken.{judged_append}
+use Rattle.cds_lastchange.specs.SinkLaws.{judged_append}
 use Rattle.cds_lastchange.proofs.Judging.{Answer, ok-err, same-ok, in_root, in_event, events-keep, events-are, space-keeps, space-is}
 
 abbrev pub level_of : List Tag → Level

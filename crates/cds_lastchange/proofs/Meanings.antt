@@ -4,7 +4,7 @@ use Rattle.cds_event.specs.declared.Event.{Event}
 use Rattle.cds_markup.specs.declared.name.Name.{Name}
 use Rattle.cds_markup.specs.declared.name.Attr.{Attr}
 use Rattle.cds_markup.specs.declared.tag.Declaration.{Declaration}
-use Rattle.cds_markup.specs.Grammar.{Tree, Bare, Full, Content, Nothing, LeafThen, TreeThen}
+use Rattle.cds_markup.specs.Grammar.{Tree, EmptyElement, Full, Content, Nothing, LeafThen, TreeThen}
 use Rattle.cds_markup.specs.Namespaces.{declarations, tag_says}
 use Rattle.cds_markup.specs.Document.{Meaning, Meanings, Element, End, ChildThen, joined, leaf_says, and_joined, and_children, of_tag, meaning, meanings, depth, depths}
 use Rattle.cds_lastchange.specs.StateEvent.{is_space, has_only_space, event_said, event_in, events_in, is_root, root_events}
@@ -26,7 +26,7 @@ said-event None event e = let no : ◌≡◌ {A = Option Event} None (Some event
 said-event (Some said) event e = (said, refl)
 
 event-means : (tree : Tree) (scopes : List (List Declaration)) (event : Event) → event_in scopes tree ≡ Some event → (m : Meaning) × (meaning tree scopes ≡ Some m) × (depth tree ≡ 1)
-event-means (Bare t) scopes event e =
+event-means (EmptyElement t) scopes event e =
     let s = said-event (tag_says scopes t) event e in
     (Element s.0.0 s.0.1 End, ap (λ o. of_tag o (Some End)) s.1, refl)
 event-means (Full t content) scopes event e =
@@ -55,7 +55,7 @@ root-said None e = let no : false ≡ true = e in absurd (cc)
 root-said (Some said) e = (said, refl)
 
 pub root-means : (root : Tree) (events : List Event) → root_events root ≡ Some events → (m : Meaning) × (meaning root [] ≡ Some m) × (depth root ≤ 2)
-root-means (Bare t) events e =
+root-means (EmptyElement t) events e =
     let w = where-some (is_root (tag_says [] t)) (Some []) events e in
     let s = root-said (tag_says [] t) w.0 in
     (Element s.0.0 s.0.1 End, ap (λ o. of_tag o (Some End)) s.1, omega arith)

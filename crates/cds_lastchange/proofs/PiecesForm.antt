@@ -1,44 +1,23 @@
 -- Bytes in pieces: a refusal of more bytes than may be stands whatever comes behind, and cutting changes no answer.
-use Rattle.std.proofs.Common.{◌≡◌, ◌≢◌, ℕ, ◌<◌, nat_lt, nat_le, Bool, true, false, true≢false, ◌&&◌, cond, Option, Some, Result, Ok, Err, List, [], ◌∷◌, ◌++◌, length, refl, sym, ap, subst, ◌∙◌, arith, append_assoc, append-nil, length-append, ◌⊎◌, inl, inr}
+use Rattle.std.proofs.Common.{◌≡◌, ◌≢◌, ℕ, ◌<◌, nat_le, Bool, true, false, true≢false, ◌&&◌, cond, Option, Some, Result, Ok, Err, List, [], ◌∷◌, ◌++◌, length, refl, sym, ap, subst, ◌∙◌, arith, append_assoc, append-nil, length-append, ◌⊎◌, inl, inr}
 use Rattle.std.specs.List.{list_all}
 use Rattle.std.proofs.lemmas.Bool.Decides.{nat_tests}
-use Rattle.std.proofs.lemmas.List.{take-append-le}
 use Rattle.cds_base.specs.Characters.{is_blank}
 use Rattle.cds_event.specs.declared.Event.{Event}
 use Rattle.cds_markup.specs.declared.error.MarkupError.{MarkupError}
 use Rattle.cds_markup.specs.declared.part.Part.{Part}
 use Rattle.cds_markup.specs.Document.{most_bytes}
-use Rattle.cds_markup.specs.Course.{course_of, place, answer_of as read_answer, ending_of, within_limit, is_cut, read_of, parts_of}
+use Rattle.cds_markup.specs.Answer.{answer_to, parts_in}
+use Rattle.cds_markup.proofs.Public.{nothing-counts-past-the-limit}
 use Rattle.cds_lastchange.specs.declared.error.StateError.{StateError}
 use Rattle.cds_lastchange.specs.declared.error.StateError.TheVariants.{Bad, NotStateEvent, TooLong, Failed, Mem}
 use Rattle.cds_lastchange.specs.Refusal.{IsRefused, Decides}
-use Rattle.cds_lastchange.specs.Judged.{parts_judged, nothing_said, answer_of, is_empty, answer}
+use Rattle.cds_lastchange.specs.Judged.{parts_judged, nothing_said, answer_of, is_empty}
 use Rattle.cds_markup.specs.Pieces.{IsRefusal, Gives, together}
 use Rattle.cds_lastchange.specs.Feeding.{EveryCutting}
-use Rattle.cds_lastchange.proofs.Deciding.{complete-err, decides}
+use Rattle.cds_lastchange.proofs.Deciding.{answer, complete-err, decides}
 
--- past the limit nothing is read
-is-less : (m n : ℕ) → m < n → nat_lt m n ≡ true
-is-less m n h = grind (arith, nat_tests)
-
-cut-same : (m : ℕ) (bytes more : List ℕ) → m < length bytes → nat_lt m (length (bytes ++ more)) ≡ nat_lt m (length bytes)
-cut-same m bytes more h =
-    is-less m (length (bytes ++ more)) (omega (arith, h, length-append bytes more)) ∙ sym (is-less m (length bytes) h)
-
-abbrev read_so : List ℕ → Bool → Result (Unit {0}) MarkupError
-read_so within cut = read_answer cut (place (length within) (course_of within).left) (ending_of (course_of within).stop)
-
-within-same : (bytes more : List ℕ) → most_bytes < length bytes → within_limit (bytes ++ more) ≡ within_limit bytes
-within-same bytes more h = take-append-le most_bytes bytes more (omega (arith, h))
-
-read-same : (bytes more : List ℕ) → most_bytes < length bytes → read_of (bytes ++ more) ≡ read_of bytes
-read-same bytes more h =
-    ap (λ w. read_so w (is_cut (bytes ++ more))) (within-same bytes more h)
-    ∙ ap (read_so (within_limit bytes)) (cut-same most_bytes bytes more h)
-
-parts-same : (bytes more : List ℕ) → most_bytes < length bytes → parts_of (bytes ++ more) ≡ parts_of bytes
-parts-same bytes more h = ap (λ w. (course_of w).parts) (within-same bytes more h)
-
+-- past the limit nothing counts
 not-below : (n : ℕ) → most_bytes < n → nat_le n most_bytes ≡ false
 not-below n h = grind (arith, nat_tests)
 
@@ -57,9 +36,10 @@ answer_so empty read parts = cond empty (Ok []) (answer_of read (parts_judged no
 
 answer-same : (bytes more : List ℕ) → most_bytes < length bytes → answer (bytes ++ more) ≡ answer bytes
 answer-same bytes more h =
-    ap (λ t. answer_so t (read_of (bytes ++ more)) (parts_of (bytes ++ more))) (some-empty (bytes ++ more) (long-more bytes more h) ∙ sym (some-empty bytes h))
-    ∙ ap (λ r. answer_so (is_empty bytes) r (parts_of (bytes ++ more))) (read-same bytes more h)
-    ∙ ap (answer_so (is_empty bytes) (read_of bytes)) (parts-same bytes more h)
+    let same = nothing-counts-past-the-limit bytes more h in
+    ap (λ t. answer_so t (answer_to (bytes ++ more)) (parts_in (bytes ++ more))) (some-empty (bytes ++ more) (long-more bytes more h) ∙ sym (some-empty bytes h))
+    ∙ ap (λ r. answer_so (is_empty bytes) r (parts_in (bytes ++ more))) same.0
+    ∙ ap (answer_so (is_empty bytes) (answer_to bytes)) same.1
 
 refused-of : (bytes : List ℕ) (r : StateError) → r ≢ Mem → Decides bytes (Err r) → IsRefused bytes r
 refused-of bytes Mem differs d = absurd (differs refl)

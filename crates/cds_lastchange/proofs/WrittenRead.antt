@@ -5,6 +5,7 @@ use Rattle.std.specs.Fmt.{decimal}
 use Rattle.std.specs.Option.{option_and_then}
 use Rattle.cds_base.specs.Escape.{escaped}
 use Rattle.cds_base.specs.Number.{number_below}
+use Rattle.cds_base.specs.Writing.{attribute, number_attribute}
 use Rattle.cds_event.specs.declared.Class.{Class}
 use Rattle.cds_event.specs.declared.Class.TheVariants.{Container, Track}
 use Rattle.cds_event.specs.declared.Event.{Event}
@@ -14,17 +15,16 @@ use Rattle.cds_markup.specs.declared.name.Attr.{Attr}
 use Rattle.cds_markup.specs.declared.tag.Declaration.{Declaration}
 use Rattle.cds_markup.specs.declared.tag.TagAttr.{TagAttr}
 use Rattle.cds_markup.specs.declared.tag.Tag.{Tag}
-use Rattle.cds_markup.specs.Grammar.{written_name, Bare, Full, Content, Nothing, TreeThen, IsName, IsBareTag, IsStartTag, IsContent, IsProlog}
+use Rattle.cds_markup.specs.Grammar.{written_name, EmptyElement, Full, Content, Nothing, TreeThen, IsName, IsEmptyTag, IsStartTag, IsContent}
 use Rattle.cds_markup.specs.Namespaces.{declarations, tag_says}
 use Rattle.cds_markup.specs.Document.{most_bytes}
 use Rattle.cds_markup.specs.Written.{written_attr, written_attrs, written_start}
-use Rattle.cds_markup.proofs.PrologRows.{no-misc}
-use Rattle.cds_markup.proofs.WrittenTags.{small-name, without-prefix, Stands, TagStands, start-of, end-of}
-use Rattle.cds_lastchange.specs.Spelled.{event_space, attribute, change_text, flag_text, flagged_text, class_text, added_text, event_text, opening, closing, spelled, IsNumbered}
+use Rattle.cds_markup.proofs.Public.{no-misc, no-prolog, small-name, without-prefix, Stands, TagStands, start-of, end-of}
+use Rattle.cds_lastchange.specs.Spelled.{event_space, change_text, flag_text, flagged_text, class_text, added_text, event_text, opening, closing, spelled, IsNumbered}
 use Rattle.cds_lastchange.specs.Attributes.{flag_said, flag_of, class_said, class_of, added, modified, deleted, done, event_of, is_state_event}
 use Rattle.cds_lastchange.specs.StateEvent.{event_said, event_in, and_more, events_in, is_root, IsStateEvent}
 use Rattle.cds_lastchange.proofs.PlainValues.{ArePlain, escaped-plain, allowed-plain, decimal-digits, decimal-read}
-use Rattle.cds_lastchange.proofs.Tags.{bare-of}
+use Rattle.cds_lastchange.proofs.Tags.{empty-of}
 
 -- the tags
 abbrev pub plain_attr : List ℕ → List ℕ → TagAttr
@@ -126,6 +126,7 @@ abbrev plain_attrs : List TagAttr → List ℕ
 plain_attrs attrs = flat_map (λ a. attribute a.name.local a.value) attrs
 
 attribute-grouped : (local value : List ℕ) → attribute local value ≡ codes " " ++ (local ++ (codes "=\"" ++ (value ++ codes "\"")))
+unfolding attribute
 attribute-grouped local value = simp append_assoc
 
 attr-written : (a : TagAttr) → PlainAttr a → attribute a.name.local a.value ≡ written_attr a
@@ -161,7 +162,7 @@ abbrev Flag : Bool → List ℕ
 Flag st = attribute (codes "stUpdate") (flag_text st)
 
 text-of : (event : Event) → event_text event ≡ 60 ∷ (Between event ++ codes "/>")
-unfolding change_text flagged_text added_text
+unfolding attribute number_attribute change_text flagged_text added_text
 text-of (ObjAdd id update st parent class) =
     five-parts (codes "<objAdd") (Id id) (Update update) (Flag st) (attribute (codes "objParentID") (decimal parent)) (attribute (codes "objClass") (class_text class)) (codes "/>")
 text-of (ObjMod id update st) = three-parts (codes "<objMod") (Id id) (Update update) (Flag st) (codes "/>")
@@ -174,10 +175,10 @@ start-text event h =
     (sym (append_assoc (event_name event) (written_attrs (event_attrs event)) (62 ∷ []))
     ∙ ap (λ xs. (event_name event ++ xs) ++ 62 ∷ []) (sym (attrs-written (event_attrs event) (event-plain event h))))
 
-event-bare : (event : Event) → IsNumbered event → IsBareTag (event_text event) (event_tag event)
-event-bare event h =
-    subst (λ xs. IsBareTag xs (event_tag event)) (sym (text-of event))
-    (bare-of (Between event) (event_tag event) (subst (λ xs. IsStartTag xs (event_tag event)) (start-text event h) (start-of (event_tag event) (event-stands event h))))
+event-empty : (event : Event) → IsNumbered event → IsEmptyTag (event_text event) (event_tag event)
+event-empty event h =
+    subst (λ xs. IsEmptyTag xs (event_tag event)) (sym (text-of event))
+    (empty-of (Between event) (event_tag event) (subst (λ xs. IsStartTag xs (event_tag event)) (start-text event h) (start-of (event_tag event) (event-stands event h))))
 
 -- what it says
 abbrev said_attr : TagAttr → Attr
@@ -240,13 +241,13 @@ event-read (StDone id update) (i, u) =
 -- all of it
 abbrev content_of : List Event → Content
 content_of [] = Nothing
-content_of (event ∷ more) = TreeThen (Bare (event_tag event)) (content_of more)
+content_of (event ∷ more) = TreeThen (EmptyElement (event_tag event)) (content_of more)
 
 content-is : (events : List Event) → AllByRecursion IsNumbered events → IsContent (content_of events) (flat_map event_text events)
 content-is [] each = refl
-content-is (event ∷ more) each = (event_text event, flat_map event_text more, refl, event-bare event each.0, content-is more each.1)
+content-is (event ∷ more) each = (event_text event, flat_map event_text more, refl, event-empty event each.0, content-is more each.1)
 
-event-said : (event : Event) → IsNumbered event → event_in Scopes (Bare (event_tag event)) ≡ Some event
+event-said : (event : Event) → IsNumbered event → event_in Scopes (EmptyElement (event_tag event)) ≡ Some event
 event-said event h = ap event_said (event-says event) ∙ event-read event h
 
 events-said : (events : List Event) → AllByRecursion IsNumbered events → events_in Scopes (content_of events) ≡ Some events
@@ -263,9 +264,6 @@ root-stands = record {
 root-says : is_root (tag_says [] root_tag) ≡ true
 unfolding is_state_event
 root-says = refl
-
-no-prolog : IsProlog [] tt
-no-prolog = record { front = []; back = []; what = None; spelled = refl; first = refl; second = record { front = []; back = []; what = None; spelled = refl; first = refl; second = no-misc } }
 
 pub written-read : (events : List Event) → AllByRecursion IsNumbered events → length (spelled events) ≤ most_bytes → IsStateEvent (spelled events) events
 written-read events each short = record {

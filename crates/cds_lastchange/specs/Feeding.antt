@@ -16,4 +16,5 @@ Finished came result = Ends Decides Failed came result
 -- However bytes are cut, what a new reader answers to the pieces and the end decides them.
 abbrev pub EveryCutting : Type 0
 EveryCutting =
-    (pieces : List (List ℕ)) (result : Result (List Event) StateError) → Gives Decides Failed Mem (Some []) pieces result → Decides (together pieces) result
+    (pieces : List (List ℕ)) (result : Result (List Event) StateError)
+    → Gives Decides Failed Mem (Some []) pieces result → Decides (together pieces) result

@@ -1,6 +1,7 @@
 -- How the parts of a document are judged, one by one. It is proved that this answers what the bytes are.
 use Rattle.std.specs.Prelude.{◌≡◌, ℕ, nat_le, Bool, ◌&&◌, if◌then◌else◌, Option, Some, None, Result, Ok, Err, List, [], ◌∷◌, ◌++◌, length, ⊤}
 use Rattle.std.specs.List.{list_all}
+use Rattle.cds_base.specs.declared.limits.TheConstants.{INPUT_LIMIT}
 use Rattle.cds_base.specs.Characters.{is_blank}
 use Rattle.cds_event.specs.declared.Event.{Event}
 use Rattle.cds_markup.specs.declared.name.Name.{Name}
@@ -9,13 +10,13 @@ use Rattle.cds_markup.specs.declared.part.Part.{Part}
 use Rattle.cds_markup.specs.declared.part.Part.TheVariants.{Start, End, Run}
 use Rattle.cds_markup.specs.declared.error.MarkupError.{MarkupError}
 use Rattle.cds_markup.specs.declared.error.MarkupError.TheVariants.{Bad as BadAt, TooDeep, TooLong as TooManyBytes, Failed as FailedBefore, Mem as OutOfMemory}
-use Rattle.cds_markup.specs.Document.{most_bytes}
-use Rattle.cds_markup.specs.Course.{read_of, parts_of}
 use Rattle.cds_lastchange.specs.declared.error.StateError.{StateError}
 use Rattle.cds_lastchange.specs.declared.error.StateError.TheVariants.{Bad, NotStateEvent, TooLong, Failed, Mem}
 use Rattle.cds_lastchange.specs.declared.judge.Level.{Level}
 use Rattle.cds_lastchange.specs.declared.judge.Level.TheVariants.{Outside, InRoot, InEvent}
 use Rattle.cds_lastchange.specs.declared.judge.Judge.{Judge}
+use Rattle.cds_lastchange.specs.declared.judge.Unfit.{Unfit}
+use Rattle.cds_lastchange.specs.declared.judge.Unfit.TheVariants.{Misplaced, Mem as NoMemory}
 use Rattle.cds_lastchange.specs.Attributes.{event_of, is_state_event}
 
 -- A start tag: the place of its `<` where its element may not stand there.
@@ -39,7 +40,7 @@ abbrev pub part_judged : Judge → Part → Result Judge ℕ
 part_judged j (Start at end name attrs) = start_judged j.level j.events at name attrs
 part_judged j (End at) = Ok record { level = outer j.level; events = j.events }
 part_judged j (Run at None text) = Ok j
-part_judged j (Run at (Some odd) text) = Err odd
+part_judged j (Run at (Some non_blank) text) = Err non_blank
 
 abbrev pub and_judged : Result Judge ℕ → (Judge → Result Judge ℕ) → Result Judge ℕ
 and_judged (Err at) next = Err at
@@ -76,14 +77,11 @@ answer_read read said = answer_of read said
 
 -- Whether there is nothing but white space, of which there may be as much as a document may have.
 abbrev pub is_empty : List ℕ → Bool
-is_empty bytes = list_all is_blank bytes && nat_le (length bytes) most_bytes
-
-abbrev pub answer : List ℕ → Result (List Event) StateError
-answer bytes = if is_empty bytes then Ok [] else answer_of (read_of bytes) (parts_judged nothing_said (parts_of bytes))
+is_empty bytes = list_all is_blank bytes && nat_le (length bytes) INPUT_LIMIT
 
 -- What a call answers, if it is not for want of memory.
-abbrev pub Judges : Result Judge ℕ → Result (Unit {0}) StateError → Judge → Type 0
-Judges judged (Err Mem) now = ⊤
+abbrev pub Judges : Result Judge ℕ → Result (Unit {0}) Unfit → Judge → Type 0
+Judges judged (Err NoMemory) now = ⊤
 Judges (Ok j) (Ok done) now = now ≡ j
-Judges (Err at) (Err (NotStateEvent place)) now = place ≡ at
+Judges (Err at) (Err (Misplaced place)) now = place ≡ at
 Judges judged result now = ⊥

@@ -1,8 +1,9 @@
 -- What holds of the definitions themselves.
 use Rattle.std.specs.Prelude.{◌≡◌, ◌≢◌, ℕ, ◌≤◌, ◌⊎◌, List, length}
 use Rattle.std.specs.List.{AllByRecursion}
+use Rattle.cds_base.specs.declared.limits.TheConstants.{INPUT_LIMIT}
 use Rattle.cds_event.specs.declared.Event.{Event}
-use Rattle.cds_markup.specs.Document.{Meaning, Doc, most_bytes}
+use Rattle.cds_markup.specs.Document.{Meaning, Doc}
 use Rattle.cds_lastchange.specs.declared.error.StateError.{StateError}
 use Rattle.cds_lastchange.specs.declared.error.StateError.TheVariants.{Mem}
 use Rattle.cds_lastchange.specs.Spelled.{spelled, IsNumbered}
@@ -11,7 +12,7 @@ use Rattle.cds_lastchange.specs.Refusal.{IsRefused}
 
 -- What is written of events is read as these events, where it is no longer than may be.
 abbrev pub WrittenIsRead : Type 0
-WrittenIsRead = (events : List Event) → AllByRecursion IsNumbered events → length (spelled events) ≤ most_bytes → IsStateEvent (spelled events) events
+WrittenIsRead = (events : List Event) → AllByRecursion IsNumbered events → length (spelled events) ≤ INPUT_LIMIT → IsStateEvent (spelled events) events
 
 -- Bytes are one list of events at most.
 abbrev pub OneList : Type 0

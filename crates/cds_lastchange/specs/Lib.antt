@@ -6,4 +6,4 @@ pub mod Judged
 pub mod Feeding
 pub mod Laws
 pub mod Evaluated
-pub mod Taken
+pub mod SinkLaws

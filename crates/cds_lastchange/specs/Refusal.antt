@@ -1,17 +1,17 @@
 -- Why bytes are no StateEvent: each refusal at its place, and the first in reading order (this project's profile).
 use Rattle.std.specs.Prelude.{◌≡◌, ◌≢◌, ℕ, ◌<◌, Bool, true, false, ◌⊎◌, Some, Result, Ok, Err, is_some, List, [], ◌∷◌, length, ⊤}
 use Rattle.std.specs.List.{list_all}
+use Rattle.cds_base.specs.declared.limits.TheConstants.{INPUT_LIMIT}
 use Rattle.cds_base.specs.Characters.{is_blank}
 use Rattle.cds_event.specs.declared.Event.{Event}
 use Rattle.cds_markup.specs.declared.name.Name.{Name}
 use Rattle.cds_markup.specs.declared.name.Attr.{Attr}
 use Rattle.cds_markup.specs.declared.tag.Tag.{Tag}
-use Rattle.cds_markup.specs.Grammar.{Leaf, Text, Reference, Section, Comment}
+use Rattle.cds_markup.specs.Grammar.{Leaf, Reference, Section}
 use Rattle.cds_markup.specs.Namespaces.{tag_says}
-use Rattle.cds_markup.specs.Document.{most_bytes}
 use Rattle.cds_markup.specs.declared.error.MarkupError.TheVariants.{Bad as BadAt, TooLong as TooManyBytes}
 use Rattle.cds_markup.specs.Refusal.{scopes_of, TagEnds, LeafEnds, TextByte, IsRefused as IsRefusedDocument}
-use Rattle.cds_markup.specs.Found.{Clear}
+use Rattle.cds_markup.specs.GivenParts.{Clear}
 use Rattle.cds_lastchange.specs.declared.error.StateError.{StateError}
 use Rattle.cds_lastchange.specs.declared.error.StateError.TheVariants.{Bad, NotStateEvent, TooLong, Failed, Mem}
 use Rattle.cds_lastchange.specs.Attributes.{event_of, is_state_event}
@@ -36,10 +36,9 @@ pub record IsMisplaced (bytes : List ℕ) (shown at : ℕ) : Type 0 where
 
 -- A reference or a CDATA section, whatever it says. It shows at its last byte.
 abbrev pub is_indirect : Leaf → Bool
-is_indirect (Text text) = false
 is_indirect (Reference c) = true
 is_indirect (Section text) = true
-is_indirect Comment = false
+is_indirect other = false
 
 pub record IsIndirect (bytes : List ℕ) (shown at : ℕ) : Type 0 where
   pub tags : List Tag
@@ -65,7 +64,7 @@ NoneShows bytes place = (earlier at : ℕ) → earlier < place → Shows bytes e
 -- The bytes are refused as a document, and that shows first. Where the same byte shows another cause, this one counts.
 -- White space alone is no document, and yet it is not refused, unless there is too much of it.
 pub record IsBadEvent (bytes : List ℕ) (at : ℕ) : Type 0 where
-  pub blank : list_all is_blank bytes ≡ true → most_bytes < length bytes
+  pub blank : list_all is_blank bytes ≡ true → INPUT_LIMIT < length bytes
   pub refused : IsRefusedDocument bytes (BadAt at)
   pub first : NoneShows bytes at
 
@@ -80,7 +79,7 @@ pub record IsNoStateEvent (bytes : List ℕ) (at : ℕ) : Type 0 where
 abbrev pub IsRefused : List ℕ → StateError → Type 0
 IsRefused bytes (Bad at) = IsBadEvent bytes at
 IsRefused bytes (NotStateEvent at) = IsNoStateEvent bytes at
-IsRefused bytes TooLong = IsRefusedDocument bytes TooManyBytes × NoneShows bytes most_bytes
+IsRefused bytes TooLong = IsRefusedDocument bytes TooManyBytes × NoneShows bytes INPUT_LIMIT
 IsRefused bytes Failed = ⊥
 IsRefused bytes Mem = ⊤
 

@@ -2,7 +2,7 @@
 -- LastChange).
 use Rattle.std.specs.Prelude.{ℕ, ◌^◌, ◌<◌, Bool, if◌then◌else◌, List, ◌++◌, codes}
 use Rattle.std.specs.List.{flat_map}
-use Rattle.std.specs.Fmt.{decimal}
+use Rattle.cds_base.specs.Writing.{attribute, number_attribute}
 use Rattle.cds_event.specs.declared.Class.{Class}
 use Rattle.cds_event.specs.declared.Class.TheVariants.{Container, Track}
 use Rattle.cds_event.specs.declared.Event.{Event}
@@ -12,13 +12,9 @@ use Rattle.cds_event.specs.declared.Event.TheVariants.{ObjAdd, ObjMod, ObjDel, S
 abbrev pub event_space : List ℕ
 event_space = codes "urn:schemas-upnp-org:av:cds-event"
 
--- An attribute with its name and value, and a space before it.
-abbrev pub attribute : List ℕ → List ℕ → List ℕ
-attribute name value = codes " " ++ name ++ codes "=\"" ++ value ++ codes "\""
-
 -- An object, and the number of a change of it.
 unfoldable pub change_text : ℕ → ℕ → List ℕ
-change_text id update = attribute (codes "objID") (decimal id) ++ attribute (codes "updateID") (decimal update)
+change_text id update = number_attribute (codes "objID") id ++ number_attribute (codes "updateID") update
 
 -- Whether the change belongs to a subtree update.
 abbrev pub flag_text : Bool → List ℕ
@@ -39,7 +35,7 @@ class_text Container = container_class
 class_text Track = track_class
 
 unfoldable pub added_text : ℕ → Class → List ℕ
-added_text parent class = attribute (codes "objParentID") (decimal parent) ++ attribute (codes "objClass") (class_text class)
+added_text parent class = number_attribute (codes "objParentID") parent ++ attribute (codes "objClass") (class_text class)
 
 -- An event, which is an empty element.
 abbrev pub event_text : Event → List ℕ

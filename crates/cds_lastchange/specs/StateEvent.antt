@@ -1,23 +1,22 @@
 -- Reading a StateEvent: which events bytes are (this project's profile of UPnP ContentDirectory:4 on LastChange).
 use Rattle.std.specs.Prelude.{◌≡◌, ℕ, ◌≤◌, Bool, true, false, ◌&&◌, if◌then◌else◌, ◌⊎◌, Option, Some, None, List, [], ◌∷◌, length}
 use Rattle.std.specs.List.{list_all}
+use Rattle.cds_base.specs.declared.limits.TheConstants.{INPUT_LIMIT}
 use Rattle.cds_base.specs.Characters.{is_blank}
 use Rattle.cds_event.specs.declared.Event.{Event}
 use Rattle.cds_markup.specs.declared.name.Name.{Name}
 use Rattle.cds_markup.specs.declared.name.Attr.{Attr}
 use Rattle.cds_markup.specs.declared.tag.Declaration.{Declaration}
-use Rattle.cds_markup.specs.Grammar.{Leaf, Text, Reference, Section, Comment, Tree, Bare, Full, Content, Nothing, LeafThen, TreeThen, IsDocument}
+use Rattle.cds_markup.specs.Grammar.{Leaf, Text, Comment, Tree, EmptyElement, Full, Content, Nothing, LeafThen, TreeThen, IsDocument}
 use Rattle.cds_markup.specs.Namespaces.{declarations, tag_says}
-use Rattle.cds_markup.specs.Document.{most_bytes}
 use Rattle.cds_lastchange.specs.Attributes.{event_of, is_state_event}
 
 -- White space, as it is written, and comments. A reference to a space is none, nor is a CDATA section without anything
 -- in it.
 abbrev pub is_space : Leaf → Bool
 is_space (Text text) = list_all is_blank text
-is_space (Reference c) = false
-is_space (Section text) = false
 is_space Comment = true
+is_space other = false
 
 abbrev pub has_only_space : Content → Bool
 has_only_space Nothing = true
@@ -31,7 +30,7 @@ event_said None = None
 event_said (Some said) = event_of said.0 said.1
 
 abbrev pub event_in : List (List Declaration) → Tree → Option Event
-event_in scopes (Bare t) = event_said (tag_says scopes t)
+event_in scopes (EmptyElement t) = event_said (tag_says scopes t)
 event_in scopes (Full t content) = if has_only_space content then event_said (tag_says scopes t) else None
 
 -- The events among the children of the root, in order, where nothing but white space and comments stands between.
@@ -51,7 +50,7 @@ is_root None = false
 is_root (Some said) = is_state_event said.0
 
 abbrev pub root_events : Tree → Option (List Event)
-root_events (Bare t) = if is_root (tag_says [] t) then Some [] else None
+root_events (EmptyElement t) = if is_root (tag_says [] t) then Some [] else None
 root_events (Full t content) = if is_root (tag_says [] t) then events_in (declarations t.attrs ∷ []) content else None
 
 -- A document of these events. No more than two elements are open anywhere in it, so the limit of open elements is kept.
@@ -65,4 +64,4 @@ IsEmpty bytes events = (list_all is_blank bytes ≡ true) × (events ≡ [])
 -- The bytes are these events. The limit of bytes is that of documents.
 pub record IsStateEvent (bytes : List ℕ) (events : List Event) : Type 0 where
   pub is : IsEmpty bytes events ⊎ IsDocumentOf bytes events
-  pub short : length bytes ≤ most_bytes
+  pub short : length bytes ≤ INPUT_LIMIT

@@ -1,10 +1,12 @@
 //! What the parts of a document say of a catalog's changes.
 
 ghost use Rattle.std.specs.Prelude.{◌≡◌, ◌∷◌, [], Ok, Err, Some};
+ghost use Rattle.cds_lastchange.specs.declared.judge.Unfit.TheVariants.{Mem as OutOfMemory};
 ghost use Rattle.cds_lastchange.specs.Judged.{event_judged, start_judged, part_judged, nothing_said, Judges};
 
 use crate::attributes::{event_of, is_state_event};
-use crate::{Event, Events, StateError};
+use crate::{Event, Events};
+use cds_base::Mem;
 use cds_markup::{Attr, Name, Part};
 use std::alloc::Global;
 
@@ -17,6 +19,23 @@ pub enum Level {
     InRoot,
     /// An event in it.
     InEvent,
+}
+
+/// Why a part is not taken.
+#[derive(Clone, Copy, Debug, PartialEq, Eq)]
+pub enum Unfit {
+    /// It makes the document no StateEvent, which is answered at this place.
+    Misplaced { at: usize },
+    /// Out of memory.
+    Mem,
+}
+
+impl From<Mem> for Unfit {
+    ghost from_gives = { λ _ e. e ≡ OutOfMemory };
+
+    fn from(_: Mem) -> Self {
+        Unfit::Mem
+    }
 }
 
 /// What the parts so far say.
@@ -40,23 +59,23 @@ impl Judge {
     }
 
     /// The root's start tag at this place.
-    fn root(&mut self, at: usize, name: &Name, attrs: &[Attr]) -> Result<(), StateError>
+    fn root(&mut self, at: usize, name: &Name, attrs: &[Attr]) -> Result<(), Unfit>
         requires { self.old.level ≡ Level.Outside }
         ensures { Judges (start_judged self.old.level self.old.events at name.now attrs.now) result self.new }
     {
         if !is_state_event(name) {
-            return Err(StateError::NotStateEvent { at });
+            return Err(Unfit::Misplaced { at });
         }
         self.level = Level::InRoot;
         Ok(())
     }
 
     /// The start tag of an event at this place.
-    fn event(&mut self, at: usize, event: Option<Event>) -> Result<(), StateError>
+    fn event(&mut self, at: usize, event: Option<Event>) -> Result<(), Unfit>
         ensures { Judges (event_judged self.old.events at event) result self.new }
     {
         match event {
-            None => Err(StateError::NotStateEvent { at }),
+            None => Err(Unfit::Misplaced { at }),
             Some(event) => {
                 self.events.push(event)?;
                 self.level = Level::InEvent;
@@ -66,13 +85,13 @@ impl Judge {
     }
 
     /// A start tag at this place.
-    fn start(&mut self, at: usize, name: &Name, attrs: &[Attr]) -> Result<(), StateError>
+    fn start(&mut self, at: usize, name: &Name, attrs: &[Attr]) -> Result<(), Unfit>
         ensures { Judges (start_judged self.old.level self.old.events at name.now attrs.now) result self.new }
     {
         match self.level {
             Level::Outside => self.root(at, name, attrs),
             Level::InRoot => self.event(at, event_of(name, attrs)),
-            Level::InEvent => Err(StateError::NotStateEvent { at }),
+            Level::InEvent => Err(Unfit::Misplaced { at }),
         }
     }
 
@@ -87,7 +106,7 @@ impl Judge {
     }
 
     /// The next part.
-    pub fn part(&mut self, part: &Part) -> Result<(), StateError>
+    pub fn part(&mut self, part: &Part) -> Result<(), Unfit>
         ensures { Judges (part_judged self.old part.now) result self.new }
     {
         match part {
@@ -101,8 +120,14 @@ impl Judge {
                 self.end();
                 Ok(())
             }
-            Part::Run { odd: None, .. } => Ok(()),
-            Part::Run { odd: Some(odd), .. } => Err(StateError::NotStateEvent { at: *odd }),
+            Part::Run {
+                non_blank: None,
+                ..
+            } => Ok(()),
+            Part::Run {
+                non_blank: Some(non_blank),
+                ..
+            } => Err(Unfit::Misplaced { at: *non_blank }),
         }
     }
 }

@@ -1,5 +1,6 @@
 //! What is proved of the definitions themselves: calling a function gives its law.
 
+ghost use Rattle.cds_lastchange.specs.Feeding.{EveryCutting};
 ghost use Rattle.cds_lastchange.specs.Laws.{WrittenIsRead, OneList, OneAnswer, AllAreAnswered, StateEventsAreDocuments};
 
 /// What is written of events is read as these events, where it has at most 67,108,864 bytes.
@@ -25,4 +26,9 @@ pub fn all_are_answered()
 /// Bytes that are events are white space or a document.
 pub fn state_events_are_documents()
     ensures { StateEventsAreDocuments }
+{}
+
+/// However bytes are cut, what a new reader answers to the pieces and the end decides them.
+pub fn every_cutting()
+    ensures { EveryCutting }
 {}

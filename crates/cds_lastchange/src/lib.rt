@@ -4,22 +4,16 @@
 
 mod attributes;
 mod error;
-mod evaluated;
+pub mod evaluated;
 mod judge;
-mod laws;
+pub mod laws;
 mod reader;
 mod sink;
 mod write;
 
 pub use cds_event::{Class, Event, Events};
 pub use error::StateError;
-pub use evaluated::{
-    events_are_written, forms_are_read, others_are_refused, text_between_is_refused,
-};
-pub use laws::{
-    all_are_answered, one_answer, one_list, state_events_are_documents, written_is_read,
-};
-pub use reader::{StateReader, every_cutting};
+pub use reader::StateReader;
 pub use write::write_state_event;
 
 #[cfg(test)]

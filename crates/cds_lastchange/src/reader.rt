@@ -1,35 +1,28 @@
 //! Reading StateEvents, which come in pieces.
 
 ghost use Rattle.std.specs.Prelude.{◌≡◌, ◌⊎◌, ◌<◌, length, [], Ok, Err, Some};
-ghost use Rattle.cds_markup.specs.Document.{most_bytes};
+ghost use Rattle.cds_base.specs.declared.limits.TheConstants.{INPUT_LIMIT};
 ghost use Rattle.cds_lastchange.specs.declared.error.StateError.TheVariants.{Mem as OutOfMemory};
 ghost use Rattle.std.specs.List.{list_all};
 ghost use Rattle.cds_base.specs.Characters.{is_blank};
 ghost use Rattle.cds_lastchange.specs.Judged.{answer_read, is_empty};
 ghost use Rattle.cds_lastchange.specs.Refusal.{Decides};
 ghost use Rattle.cds_markup.specs.Pieces.{IsRefusal};
-ghost use Rattle.cds_lastchange.specs.Feeding.{EveryCutting, Fed, Finished};
+ghost use Rattle.cds_lastchange.specs.Feeding.{Fed, Finished};
 
 use crate::judge::Judge;
 use crate::sink::Judging;
 use crate::{Events, StateError};
-use cds_base::{Mem, Sequence};
+use cds_base::{INPUT_LIMIT, Mem, Sequence};
 use cds_markup::{MarkupError, give_parts};
 use std::alloc::Global;
 use std::marker::Model;
-
-/// The most bytes that a StateEvent may have, as many as a document.
-fn byte_limit() -> usize
-    ensures { result ≡ most_bytes }
-{
-    67_108_864
-}
 
 /// Whether there is nothing but white space, and no more of it than there may be.
 fn is_empty(bytes: &[u8]) -> bool
     ensures { result ≡ is_empty bytes.now }
 {
-    is_blank(bytes) && bytes.len() <= byte_limit()
+    is_blank(bytes) && bytes.len() <= INPUT_LIMIT
 }
 
 /// Whether there is nothing but white space.
@@ -137,7 +130,7 @@ fn fed(
     if bytes.extend_from_slice(piece).is_err() {
         return (None, Err(StateError::Mem));
     }
-    if bytes.len() <= byte_limit() {
+    if bytes.len() <= INPUT_LIMIT {
         return (Some(Sequence::from(bytes)), Ok(()));
     }
     let refusal = refusal_past_limit(alloc, bytes.as_slice());
@@ -147,7 +140,7 @@ fn fed(
 /// Why more bytes than may be are no StateEvent, whatever comes behind.
 #[tactic(auto, using(crate::proofs::PiecesForm::past_limit))]
 fn refusal_past_limit(alloc: Global, bytes: &[u8]) -> StateError
-    requires { most_bytes < length bytes.now }
+    requires { INPUT_LIMIT < length bytes.now }
     ensures { (result ≡ OutOfMemory) ⊎ IsRefusal Decides OutOfMemory bytes.now result }
 {
     match decided(alloc, bytes) {
@@ -155,8 +148,3 @@ fn refusal_past_limit(alloc: Global, bytes: &[u8]) -> StateError
         Ok(_) => unreachable!(),
     }
 }
-
-/// However bytes are cut, what a new reader answers to the pieces and the end decides them.
-pub fn every_cutting()
-    ensures { EveryCutting }
-{}

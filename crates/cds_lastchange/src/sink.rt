@@ -3,8 +3,7 @@
 ghost use Rattle.std.specs.Prelude.{◌≡◌, ◌∷◌, [], Ok, IfOk};
 ghost use Rattle.cds_lastchange.specs.Judged.{part_judged, nothing_said};
 
-use crate::StateError;
-use crate::judge::Judge;
+use crate::judge::{Judge, Unfit};
 use cds_base::Mem;
 use cds_markup::{Part, PartSink};
 use std::alloc::Global;
@@ -45,7 +44,7 @@ impl Judging {
 }
 
 impl PartSink for Judging {
-    ghost use Rattle.cds_lastchange.specs.Taken.{judged_on, judged_none, judged_more};
+    ghost use Rattle.cds_lastchange.specs.SinkLaws.{judged_on, judged_none, judged_more};
 
     ghost took = { judged_on };
 
@@ -70,7 +69,7 @@ fn judged(judge: Judge, part: &Part) -> Result<Result<Judge, usize>, Mem>
     let mut judge = judge;
     match judge.part(part) {
         Ok(()) => Ok(Ok(judge)),
-        Err(StateError::NotStateEvent { at }) => Ok(Err(at)),
-        Err(_) => Err(Mem),
+        Err(Unfit::Misplaced { at }) => Ok(Err(at)),
+        Err(Unfit::Mem) => Err(Mem),
     }
 }

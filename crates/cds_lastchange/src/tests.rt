@@ -5,11 +5,16 @@ use std::test::Fail;
 /// The start tag of a StateEvent; its `>` is at 53.
 const START: &[u8] = b"<StateEvent xmlns=\"urn:schemas-upnp-org:av:cds-event\">";
 
-/// Reads these bytes in pieces of so many, at least one.
+/// Reads these bytes in pieces of so many, at least one. A reader that a refusal came from has failed.
 fn read(alloc: Global, bytes: &[u8], size: usize) -> Result<Events, StateError> {
     let mut reader = StateReader::new(alloc)?;
     for piece in bytes.chunks(size.max(1)) {
-        reader.feed(alloc, piece)?;
+        if let Err(refusal) = reader.feed(alloc, piece) {
+            return match reader.feed(alloc, b"") {
+                Err(StateError::Failed) => Err(refusal),
+                _ => Err(StateError::TooLong),
+            };
+        }
     }
     reader.finish(alloc)
 }
@@ -22,75 +27,84 @@ fn begun(alloc: Global, rest: &[u8]) -> Result<Vec<u8>, Fail> {
     Ok(bytes)
 }
 
-/// The text of these events.
+/// The text of these events. Where one allocation fails, whichever it is, nothing was added, and the next try adds it.
 fn written(alloc: Global, events: &[Event]) -> Result<Vec<u8>, Fail> {
     let mut bytes = Vec::new(alloc);
-    write_state_event(alloc, events, &mut bytes)?;
+    if write_state_event(alloc, events, &mut bytes).is_err() {
+        if !bytes.is_empty() {
+            return Ok(bytes);
+        }
+        write_state_event(alloc, events, &mut bytes)?;
+    }
     Ok(bytes)
 }
 
-#[test]
-fn events_are_written(rt: HostRuntime) -> Result<(), Fail> {
-    let events = [
-        Event::ObjAdd {
-            id: 1,
-            update: 1,
-            st: true,
-            parent: 0,
-            class: Class::Container,
-        },
-        Event::ObjAdd {
-            id: 2,
-            update: 2,
-            st: true,
-            parent: 1,
-            class: Class::Track,
-        },
-        Event::StDone { id: 1, update: 2 },
-        Event::ObjMod {
-            id: 4_294_967_295,
-            update: 10,
-            st: false,
-        },
-    ];
-    let wanted = begun(
-        rt.alloc(),
+/// The events, read in pieces of so many bytes, once more where memory ran out.
+fn read_again(alloc: Global, bytes: &[u8], size: usize) -> Result<Events, StateError> {
+    match read(alloc, bytes, size) {
+        Err(StateError::Mem) => read(alloc, bytes, size),
+        answer => answer,
+    }
+}
+
+/// Events, and what is written between the start tag and the end tag.
+const EVENTS: [(&'static [Event], &'static [u8]); 3] = [
+    (
+        &[
+            Event::ObjAdd {
+                id: 1,
+                update: 1,
+                st: true,
+                parent: 0,
+                class: Class::Container,
+            },
+            Event::ObjAdd {
+                id: 2,
+                update: 2,
+                st: true,
+                parent: 1,
+                class: Class::Track,
+            },
+            Event::StDone { id: 1, update: 2 },
+            Event::ObjMod {
+                id: 4_294_967_295,
+                update: 10,
+                st: false,
+            },
+        ],
         b"<objAdd objID=\"1\" updateID=\"1\" stUpdate=\"1\" objParentID=\"0\" objClass=\"object.container\"/>\
 <objAdd objID=\"2\" updateID=\"2\" stUpdate=\"1\" objParentID=\"1\" objClass=\"object.item.audioItem.musicTrack\"/>\
 <stDone objID=\"1\" updateID=\"2\"/>\
 <objMod objID=\"4294967295\" updateID=\"10\" stUpdate=\"0\"/></StateEvent>",
-    )?;
-    let bytes = written(rt.alloc(), &events)?;
-    assert_eq!(rt; bytes.as_slice(), wanted.as_slice());
-    for size in [1, 7, 1000] {
-        let back = read(rt.alloc(), bytes.as_slice(), size)?;
-        assert_eq!(rt; back.as_slice(), &events[..]);
-    }
-    Ok(())
-}
+    ),
+    (
+        &[Event::ObjDel {
+            id: 7,
+            update: 9,
+            st: false,
+        }],
+        b"<objDel objID=\"7\" updateID=\"9\" stUpdate=\"0\"/></StateEvent>",
+    ),
+    (
+        &[Event::ObjMod {
+            id: 1,
+            update: 2,
+            st: true,
+        }],
+        b"<objMod objID=\"1\" updateID=\"2\" stUpdate=\"1\"/></StateEvent>",
+    ),
+];
 
 #[test]
-fn a_deletion_is_read_in_every_cutting(rt: HostRuntime) -> Result<(), Fail> {
-    let bytes = begun(
-        rt.alloc(),
-        b"<objDel objID=\"7\" updateID=\"9\" stUpdate=\"0\"/></StateEvent>",
-    )?;
-    assert_eq!(rt; bytes.len(), 112);
-    let wanted = [Event::ObjDel {
-        id: 7,
-        update: 9,
-        st: false,
-    }];
-    for size in [1, 2, 54, 112] {
-        let events = read(rt.alloc(), bytes.as_slice(), size)?;
-        assert_eq!(rt; events.as_slice(), &wanted[..]);
-    }
-    let again = written(rt.alloc(), &wanted)?;
-    assert_eq!(rt; again.as_slice(), bytes.as_slice());
-    let (cut, _) = bytes.as_slice().split_at(111);
-    for size in [1, 111] {
-        let answer = read(rt.alloc(), cut, size);
-        assert!(rt; matches!(answer, Err(StateError::Bad { at: 111 })));
+fn events_are_written_and_read_in_every_cutting(rt: HostRuntime) -> Result<(), Fail> {
+    for (events, text) in EVENTS {
+        let bytes = written(rt.alloc(), events)?;
+        let wanted = begun(rt.alloc(), text)?;
+        assert_eq!(rt; bytes.as_slice(), wanted.as_slice());
+        for size in [1, 2, 7, 54, 112, 1000] {
+            let back = read_again(rt.alloc(), bytes.as_slice(), size)?;
+            assert_eq!(rt; back.as_slice(), events);
+        }
     }
     Ok(())
 }
@@ -167,7 +181,12 @@ fn place_of(answer: Result<Events, StateError>) -> Result<(usize, bool), StateEr
 }
 
 /// What makes a StateEvent that is begun none: the place of its first fault, and whether it is no document either.
-const NO_EVENTS: [(&'static [u8], usize, bool); 30] = [
+const NO_EVENTS: [(&'static [u8], usize, bool); 31] = [
+    (
+        b"<objDel objID=\"7\" updateID=\"9\" stUpdate=\"0\"/></StateEvent",
+        111,
+        true,
+    ),
     (b"<objNew/></StateEvent>", 54, false),
     (
         b"<objDel objID=\"7\" stUpdate=\"0\"/></StateEvent>",
@@ -244,38 +263,35 @@ const NO_EVENTS: [(&'static [u8], usize, bool); 30] = [
     (b"</StateEven", 65, true),
 ];
 
+/// The same of whole texts.
+const NO_STATE_EVENTS: [(&'static [u8], usize, bool); 9] = [
+    (
+        b"<StateEvent xmlns=\"urn:schemas-upnp-org:av:cds-event\"/>x",
+        55,
+        true,
+    ),
+    (b"<StateEvent/>", 0, false),
+    (b" <a xmlns='urn:schemas-upnp-org:av:cds-event'>", 1, false),
+    (
+        b"<StateEvent xmlns='urn:schemas-upnp-org:av:cds-event' xmlns:x=''>",
+        64,
+        true,
+    ),
+    (b"\xEF\xBB\xBF", 3, true),
+    (b"\xEF\xBB\xBF ", 4, true),
+    (b"x", 0, true),
+    (b" <", 2, true),
+    (b"<!-- x -->", 10, true),
+];
+
 #[test]
-fn what_is_no_event_is_refused(rt: HostRuntime) -> Result<(), Fail> {
+fn what_is_no_state_event_is_refused(rt: HostRuntime) -> Result<(), Fail> {
     for (rest, at, bad) in NO_EVENTS {
         let bytes = begun(rt.alloc(), rest)?;
         let found = places(rt.alloc(), bytes.as_slice())?;
         assert_eq!(rt; found, (at, at, bad));
     }
-    Ok(())
-}
-
-#[test]
-fn what_is_no_state_event_is_refused(rt: HostRuntime) -> Result<(), Fail> {
-    let cases: [(&[u8], usize, bool); 9] = [
-        (
-            b"<StateEvent xmlns=\"urn:schemas-upnp-org:av:cds-event\"/>x",
-            55,
-            true,
-        ),
-        (b"<StateEvent/>", 0, false),
-        (b" <a xmlns='urn:schemas-upnp-org:av:cds-event'>", 1, false),
-        (
-            b"<StateEvent xmlns='urn:schemas-upnp-org:av:cds-event' xmlns:x=''>",
-            64,
-            true,
-        ),
-        (b"\xEF\xBB\xBF", 3, true),
-        (b"\xEF\xBB\xBF ", 4, true),
-        (b"x", 0, true),
-        (b" <", 2, true),
-        (b"<!-- x -->", 10, true),
-    ];
-    for (bytes, at, bad) in cases {
+    for (bytes, at, bad) in NO_STATE_EVENTS {
         let found = places(rt.alloc(), bytes)?;
         assert_eq!(rt; found, (at, at, bad));
     }
@@ -304,38 +320,5 @@ fn an_early_fault_is_the_answer_past_the_limit(rt: HostRuntime) -> Result<(), Fa
         reader.finish(alloc).err() == Some(StateError::Failed),
         "at the end"
     );
-    Ok(())
-}
-
-/// The events, read one byte at a time. A reader that a refusal came from has failed.
-fn read_by_bytes(alloc: Global, bytes: &[u8]) -> Result<Events, StateError> {
-    let mut reader = StateReader::new(alloc)?;
-    for byte in bytes {
-        if let Err(refusal) = reader.feed(alloc, &[*byte]) {
-            return match reader.feed(alloc, b"") {
-                Err(StateError::Failed) => Err(refusal),
-                _ => Err(StateError::TooLong),
-            };
-        }
-    }
-    reader.finish(alloc)
-}
-
-/// Where one allocation fails, whichever it is, what is tried once more gives the same.
-#[test]
-fn one_refused_allocation_changes_no_answer(rt: HostRuntime) -> Result<(), Fail> {
-    let alloc = rt.alloc();
-    let bytes: &[u8] =
-        b"<StateEvent xmlns=\"urn:schemas-upnp-org:av:cds-event\"><objMod objID=\"1\" updateID=\"2\" stUpdate=\"1\"/></StateEvent>";
-    let events = match read_by_bytes(alloc, bytes) {
-        Err(StateError::Mem) => read_by_bytes(alloc, bytes)?,
-        answer => answer?,
-    };
-    let mut out = Vec::new(alloc);
-    if write_state_event(alloc, events.as_slice(), &mut out).is_err() {
-        assert!(rt; out.is_empty(), "as it was");
-        write_state_event(alloc, events.as_slice(), &mut out)?;
-    }
-    assert_eq!(rt; out.as_slice(), bytes);
     Ok(())
 }

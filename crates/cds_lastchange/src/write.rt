@@ -1,47 +1,22 @@
 //! The one written form of a StateEvent.
 
 ghost use Rattle.std.specs.Prelude.{◌≡◌, ◌≤◌, ◌++◌, OnOk, OnErr, string_bytes, length, codes};
-ghost use Rattle.std.specs.Fmt.{decimal};
 ghost use Rattle.std.specs.List.{AllByRecursion};
-ghost use Rattle.cds_markup.specs.Document.{most_bytes};
-ghost use Rattle.cds_lastchange.specs.Spelled.{attribute, change_text, flag_text, flagged_text, class_text, added_text, event_text, spelled, IsNumbered};
+ghost use Rattle.cds_base.specs.declared.limits.TheConstants.{INPUT_LIMIT};
+ghost use Rattle.cds_lastchange.specs.Spelled.{change_text, flag_text, flagged_text, class_text, added_text, event_text, spelled, IsNumbered};
 ghost use Rattle.cds_lastchange.specs.StateEvent.{IsStateEvent};
 
 use crate::{Class, Event};
-use cds_base::{Mem, put, put_number};
+use cds_base::{Mem, put, put_attribute, put_number_attribute};
 use std::alloc::Global;
-
-/// Puts an attribute with a text.
-fn put_attr(out: &mut String, name: &str, value: &str) -> Result<(), Mem>
-    ensures { OnOk result (string_bytes out.new ≡ string_bytes out.old ++ attribute name.now value.now) }
-{
-    put(out, " ")?;
-    put(out, name)?;
-    put(out, "=\"")?;
-    put(out, value)?;
-    put(out, "\"")?;
-    Ok(())
-}
-
-/// Puts an attribute with a number.
-fn put_number_attr(out: &mut String, name: &str, number: u32) -> Result<(), Mem>
-    ensures { OnOk result (string_bytes out.new ≡ string_bytes out.old ++ attribute name.now (decimal number)) }
-{
-    put(out, " ")?;
-    put(out, name)?;
-    put(out, "=\"")?;
-    put_number(out, u64::from(number))?;
-    put(out, "\"")?;
-    Ok(())
-}
 
 /// Puts an object and the number of a change of it.
 #[tactic(auto, unfolding(crate::specs::Spelled::change_text))]
 fn put_change(out: &mut String, id: u32, update: u32) -> Result<(), Mem>
     ensures { OnOk result (string_bytes out.new ≡ string_bytes out.old ++ change_text id update) }
 {
-    put_number_attr(out, "objID", id)?;
-    put_number_attr(out, "updateID", update)?;
+    put_number_attribute(out, "objID", u64::from(id))?;
+    put_number_attribute(out, "updateID", u64::from(update))?;
     Ok(())
 }
 
@@ -58,7 +33,7 @@ fn put_flagged(out: &mut String, id: u32, update: u32, st: bool) -> Result<(), M
     ensures { OnOk result (string_bytes out.new ≡ string_bytes out.old ++ flagged_text id update st) }
 {
     put_change(out, id, update)?;
-    put_attr(out, "stUpdate", flag_text(st))?;
+    put_attribute(out, "stUpdate", flag_text(st))?;
     Ok(())
 }
 
@@ -78,8 +53,8 @@ fn class_text(class: Class) -> &'static str
 fn put_added(out: &mut String, parent: u32, class: Class) -> Result<(), Mem>
     ensures { OnOk result (string_bytes out.new ≡ string_bytes out.old ++ added_text parent class) }
 {
-    put_number_attr(out, "objParentID", parent)?;
-    put_attr(out, "objClass", class_text(class))?;
+    put_number_attribute(out, "objParentID", u64::from(parent))?;
+    put_attribute(out, "objClass", class_text(class))?;
     Ok(())
 }
 
@@ -166,7 +141,7 @@ fn put_events(out: &mut String, events: &[Event]) -> Result<(), Mem>
 pub fn write_state_event(alloc: Global, events: &[Event], out: &mut Vec<u8>) -> Result<(), Mem>
     ensures ok { OnOk result (out.new.items ≡ out.old.items ++ spelled events.now) }
     ensures err { OnErr result (out.new.items ≡ out.old.items) }
-    ensures read_back { OnOk result (length (spelled events.now) ≤ most_bytes → IsStateEvent (spelled events.now) events.now) }
+    ensures read_back { OnOk result (length (spelled events.now) ≤ INPUT_LIMIT → IsStateEvent (spelled events.now) events.now) }
 {
     let mut text = String::new(alloc);
     put_events(&mut text, events)?;

@@ -10,16 +10,16 @@ use Rattle.cds_markup.specs.declared.part.Part.TheVariants.{Start, End, Run}
 use Rattle.cds_markup.specs.declared.tag.Tag.{Tag}
 use Rattle.cds_markup.specs.declared.tag.Open.{Open}
 use Rattle.cds_markup.specs.declared.error.Stop.{Stop}
-use Rattle.cds_markup.specs.declared.error.Stop.TheVariants.{Broken, Unruly, Deep}
+use Rattle.cds_markup.specs.declared.error.Stop.TheVariants.{Broken, NamespaceRule, Deep}
 use Rattle.cds_markup.specs.Grammar.{Leaf, Text, Reference, Section, Comment, is_text, IsLeaf}
 use Rattle.cds_markup.specs.Namespaces.{tag_says}
 use Rattle.cds_markup.specs.Document.{line_ends, most_bytes}
 use Rattle.cds_markup.specs.Refusal.{CanGoOn, Opens, scopes_of, TagEnds, LeafEnds, TextByte}
 use Rattle.cds_markup.specs.Step.{Step, word_at, next_is}
-use Rattle.cds_markup.specs.Reading.{TextRead, text_behind, is_greater, is_less, is_and, epilog_at}
-use Rattle.cds_markup.specs.Course.{Moved, Halted, Course, place, with_parts, goes_on, tag_ends, bare_moves, text_ends, text_moves, piece_moves, content_at, behind_root, ended, course_of, within_limit, is_cut, parts_of}
-use Rattle.cds_markup.specs.Parts.{OpensParts, first_odd, leaf_parts}
-use Rattle.cds_markup.specs.Found.{Clear, EndTag, TagGiven, PartsGiven, BareGiven, BlankGiven, TextGiven, Given}
+use Rattle.cds_markup.specs.Reading.{TextRead, text_behind, is_greater, is_less, is_ampersand, epilog_at}
+use Rattle.cds_markup.specs.Course.{Moved, Halted, Course, place, with_parts, goes_on, tag_ends, empty_moves, text_ends, text_moves, piece_moves, content_at, behind_root, ended, course_of, within_limit, is_cut, parts_of}
+use Rattle.cds_markup.specs.Parts.{OpensParts, first_non_blank, leaf_parts}
+use Rattle.cds_markup.specs.GivenParts.{Clear, EndTag, TagGiven, PartsGiven, EmptyGiven, BlankGiven, TextGiven, Given}
 use Rattle.cds_markup.proofs.ReadsForm.{Follows}
 use Rattle.cds_markup.proofs.EndRows.{is-end}
 use Rattle.cds_markup.proofs.ReferenceRows.{begins-reference}
@@ -30,7 +30,7 @@ use Rattle.cds_markup.proofs.Pieces.{at-text, text-ends}
 use Rattle.cds_markup.proofs.PieceSteps.{content-next}
 use Rattle.cds_markup.proofs.Told.{open_of, opens_of, Calm}
 use Rattle.cds_markup.proofs.StartSound.{tag-begins}
-use Rattle.cds_markup.proofs.Runs.{start-run, IsDeep, IsUnruly, Says, is-section, leaf-piece, end-piece, text-first}
+use Rattle.cds_markup.proofs.Runs.{start-run, IsDeep, IsRuleBroken, Says, is-section, leaf-piece, end-piece, text-first}
 use Rattle.cds_markup.proofs.Complete.{Doomed, begins-markup, leaf-markup}
 use Rattle.cds_markup.proofs.Reach.{Reach, reach, ends-either}
 use Rattle.cds_markup.proofs.Inner.{Inside, ReachInside, reach-inside}
@@ -38,7 +38,7 @@ use Rattle.cds_markup.proofs.Closing.{go-same}
 use Rattle.cds_markup.proofs.Within.{front-of}
 use Rattle.cds_markup.proofs.TextCut.{TextTold, text-told}
 use Rattle.cds_markup.proofs.CutParts.{cut_text, given-some}
-use Rattle.cds_markup.proofs.TextStanding.{plain-of, OddAt, odd-found}
+use Rattle.cds_markup.proofs.TextStanding.{plain-of, NonBlankAt, non-blank-found}
 use Rattle.cds_markup.proofs.Standing.{letter}
 use Rattle.cds_markup.proofs.Before.{can-front, shown-each}
 use Rattle.cds_markup.proofs.TextSplit.{OpenSplit, open-split}
@@ -58,23 +58,23 @@ root-parts ps c = by c.stop where
 -- a start tag is given whether its `>` follows its `/` or not
 tag-first : (end : ℕ) (start : Part) (inner : Open) (opens : List Open) (left : List ℕ) (next : List Open → List ℕ → Course) → (later : List Part) × ((goes_on (tag_ends end start inner opens left) next).parts ≡ start ∷ later)
 tag-first end start inner opens left next = by (next_is is_greater left) where
-  bare : (s : Step (Unit {0})) → (later : List Part) × ((goes_on (bare_moves start end opens s) next).parts ≡ start ∷ later)
+  bare : (s : Step (Unit {0})) → (later : List Part) × ((goes_on (empty_moves start end opens s) next).parts ≡ start ∷ later)
   bare (Err rest) = ([], refl)
   bare (Ok found) = (End end ∷ (next opens found.1).parts, refl)
 
-  by : (b : Bool) → (later : List Part) × ((goes_on (cond b (Ok record { parts = start ∷ []; opens = inner ∷ opens; left = drop 1 left }) (bare_moves start end opens (word_at (codes "/>") left))) next).parts ≡ start ∷ later)
+  by : (b : Bool) → (later : List Part) × ((goes_on (cond b (Ok record { parts = start ∷ []; opens = inner ∷ opens; left = drop 1 left }) (empty_moves start end opens (word_at (codes "/>") left))) next).parts ≡ start ∷ later)
   by true = ((next (inner ∷ opens) (drop 1 left)).parts, refl)
   by false = bare (word_at (codes "/>") left)
 
-bare-first : (end : ℕ) (start : Part) (inner : Open) (opens : List Open) (tail : List ℕ) (next : List Open → List ℕ → Course) → (later : List Part) × ((goes_on (tag_ends end start inner opens (47 ∷ 62 ∷ tail)) next).parts ≡ start ∷ End end ∷ later)
-bare-first end start inner opens tail next = ((next opens tail).parts, refl)
+empty-first : (end : ℕ) (start : Part) (inner : Open) (opens : List Open) (tail : List ℕ) (next : List Open → List ℕ → Course) → (later : List Part) × ((goes_on (tag_ends end start inner opens (47 ∷ 62 ∷ tail)) next).parts ≡ start ∷ End end ∷ later)
+empty-first end start inner opens tail next = ((next opens tail).parts, refl)
 
-first-odd-some : (at : ℕ) (w : List ℕ) (b : ℕ) (q : List ℕ) → is_blank b ≡ false → (odd : ℕ) × (first_odd at (w ++ b ∷ q) ≡ Some odd) × (at ≤ odd) × (odd ≤ at + length w)
-first-odd-some at [] b q dark = (at, ap (λ t. cond t (first_odd (at + 1) q) (Some at)) dark, omega arith, omega arith)
-first-odd-some at (c ∷ w) b q dark = by (is_blank c) (first-odd-some (at + 1) w b q dark) where
-  by : (s : Bool) → (odd : ℕ) × (first_odd (at + 1) (w ++ b ∷ q) ≡ Some odd) × (at + 1 ≤ odd) × (odd ≤ at + 1 + length w) → (odd : ℕ) × (cond s (first_odd (at + 1) (w ++ b ∷ q)) (Some at) ≡ Some odd) × (at ≤ odd) × (odd ≤ at + suc (length w))
-  by true (odd, e, from, to) = (odd, e, omega (arith, from), omega (arith, to))
-  by false (odd, e, from, to) = (at, refl, omega arith, omega arith)
+first-non-blank-some : (at : ℕ) (w : List ℕ) (b : ℕ) (q : List ℕ) → is_blank b ≡ false → (non_blank : ℕ) × (first_non_blank at (w ++ b ∷ q) ≡ Some non_blank) × (at ≤ non_blank) × (non_blank ≤ at + length w)
+first-non-blank-some at [] b q dark = (at, ap (λ t. cond t (first_non_blank (at + 1) q) (Some at)) dark, omega arith, omega arith)
+first-non-blank-some at (c ∷ w) b q dark = by (is_blank c) (first-non-blank-some (at + 1) w b q dark) where
+  by : (s : Bool) → (non_blank : ℕ) × (first_non_blank (at + 1) (w ++ b ∷ q) ≡ Some non_blank) × (at + 1 ≤ non_blank) × (non_blank ≤ at + 1 + length w) → (non_blank : ℕ) × (cond s (first_non_blank (at + 1) (w ++ b ∷ q)) (Some at) ≡ Some non_blank) × (at ≤ non_blank) × (non_blank ≤ at + suc (length w))
+  by true (non_blank, e, from, to) = (non_blank, e, omega (arith, from), omega (arith, to))
+  by false (non_blank, e, from, to) = (at, refl, omega arith, omega arith)
 
 -- a text that is read, whole or not, is given
 text-begins : (found : List Part) (opens : List Open) (read : TextRead) (next : List Open → List ℕ → Course) → (later : List Part) × ((goes_on (text_ends found opens read) next).parts ≡ found ++ later)
@@ -92,11 +92,11 @@ leaf-some Comment front g h = let b = is-comment front g in omega (arith, ap len
 not-less : (b : ℕ) → b ≢ 60 → is_less b ≡ false
 not-less b h = grind (arith, nat_tests)
 
-not-and : (b : ℕ) → b ≢ 38 → is_and b ≡ false
+not-and : (b : ℕ) → b ≢ 38 → is_ampersand b ≡ false
 not-and b h = grind (arith, nat_tests)
 
 no-markup : (b : ℕ) → (b ≢ 60) × (b ≢ 38) → markup b ≡ true → ⊥
-no-markup b h m = clash (is_less b) (is_and b) m (not-less b h.0) (not-and b h.1) where
+no-markup b h m = clash (is_less b) (is_ampersand b) m (not-less b h.0) (not-and b h.1) where
   clash : (s u : Bool) → (s || u) ≡ true → s ≡ false → u ≡ false → ⊥
   clash s u m e d = grind arith
 
@@ -132,8 +132,8 @@ pub record KnownText (bytes : List ℕ) (parts : List Part) (t : Tag) (outer : L
   pub rest : List ℕ
   pub goes : read ≡ text_before ++ byte ∷ more
   pub spelled : bytes ≡ front ++ (read ++ rest)
-  pub found : (odd : ℕ) → first_odd (length front) read ≡ Some odd → OddAt (length front) odd read
-  pub given : PartsGiven parts (Run (length front) (first_odd (length front) read) text ∷ []) (t ∷ outer) front
+  pub found : (non_blank : ℕ) → first_non_blank (length front) read ≡ Some non_blank → NonBlankAt (length front) non_blank read
+  pub given : PartsGiven parts (Run (length front) (first_non_blank (length front) read) text ∷ []) (t ∷ outer) front
 
 module _ (bytes : List ℕ) (h : Halts bytes) where
   abbrev I : List ℕ
@@ -216,9 +216,9 @@ module _ (bytes : List ℕ) (h : Halts bytes) where
         longer : length (t.end ∷ r) ≤ length Y
         longer = omega (arith, length-append t.inside (t.end ∷ r))
 
-        by : IsDeep tags N (length t.before) t.inside tag t.is_tag t.end r (ends-either t.end t.ends) s.deep ⊎ (IsUnruly tags N (length t.before) t.inside tag t.is_tag t.end r (ends-either t.end t.ends) s.deep ⊎ Says tags N (length t.before) t.inside tag t.is_tag t.end r (ends-either t.end t.ends) s.deep) → Known
+        by : IsDeep tags N (length t.before) t.inside tag t.is_tag t.end r (ends-either t.end t.ends) s.deep ⊎ (IsRuleBroken tags N (length t.before) t.inside tag t.is_tag t.end r (ends-either t.end t.ends) s.deep ⊎ Says tags N (length t.before) t.inside tag t.is_tag t.end r (ends-either t.end t.ends) s.deep) → Known
         by (inl d) = absurd (late (s.parts ++ []) Deep Y (ap course_of spelled ∙ s.run ∙ ap (λ m. behind_root (with_parts s.parts (goes_on m (content_at N)))) d.moves) longer)
-        by (inr (inl d)) = absurd (late (s.parts ++ []) Unruly (t.end ∷ r) (ap course_of spelled ∙ s.run ∙ ap (λ m. behind_root (with_parts s.parts (goes_on m (content_at N)))) d.moves) (omega arith))
+        by (inr (inl d)) = absurd (late (s.parts ++ []) NamespaceRule (t.end ∷ r) (ap course_of spelled ∙ s.run ∙ ap (λ m. behind_root (with_parts s.parts (goes_on m (content_at N)))) d.moves) (omega arith))
         by (inr (inr d)) =
             let step : ℕ → ℕ → Result Moved Halted = λ begin end. tag_ends end (Start begin end d.name d.attrs) (open_of tag) (opens_of tags) (t.end ∷ r) in
             let root = root-parts s.parts (goes_on (tag_ends at (Start begin at d.name d.attrs) (open_of tag) (opens_of tags) (t.end ∷ r)) (content_at N)) in
@@ -243,10 +243,10 @@ module _ (bytes : List ℕ) (h : Halts bytes) where
           record { name = k.name; attrs = k.attrs; earlier = k.earlier; later = first.0 ++ k.root; says = k.says; opens = k.opens; is = k.is ∙ ap (λ xs. k.earlier ++ (xs ++ k.root)) first.1 }
 
       -- with its `>`
-      bare-given : t.end ≡ 47 → (tail : List ℕ) → r ≡ 62 ∷ tail → BareGiven (parts_of bytes) tags begin at t.before
-      bare-given slash tail d =
+      empty-given : t.end ≡ 47 → (tail : List ℕ) → r ≡ 62 ∷ tail → EmptyGiven (parts_of bytes) tags begin at t.before
+      empty-given slash tail d =
           let k = known in
-          let first = bare-first at (Start begin at k.name k.attrs) (open_of tag) (opens_of tags) tail (content_at N) in
+          let first = empty-first at (Start begin at k.name k.attrs) (open_of tag) (opens_of tags) tail (content_at N) in
           record {
             name = k.name;
             attrs = k.attrs;
@@ -264,7 +264,7 @@ module _ (bytes : List ℕ) (h : Halts bytes) where
         let r = within head t.rest head-all (omega (arith, head-size, less)) in
         start-given r.0 r.1
 
-    bares-given : (more : List ℕ) → t.end ≡ 47 → t.rest ≡ 62 ∷ more → Clear bytes (at + 1) → BareGiven (parts_of bytes) tags begin at t.before
+    bares-given : (more : List ℕ) → t.end ≡ 47 → t.rest ≡ 62 ∷ more → Clear bytes (at + 1) → EmptyGiven (parts_of bytes) tags begin at t.before
     bares-given more slash d c2 = by r.0 r.1 r.2 where
       far : at + 1 < length I
       far = near (at + 1) c2 (omega (arith, head-size, ap length head-all, length-append head t.rest, ap length d))
@@ -272,9 +272,9 @@ module _ (bytes : List ℕ) (h : Halts bytes) where
       r : (r : List ℕ) × (I ≡ head ++ r) × (t.rest ≡ r ++ drop most_bytes bytes)
       r = front-of head t.rest I (drop most_bytes bytes) (sym head-all ∙ sym (take-append-drop most_bytes bytes)) (omega (arith, head-size, less))
 
-      by : (r : List ℕ) → I ≡ head ++ r → t.rest ≡ r ++ drop most_bytes bytes → BareGiven (parts_of bytes) tags begin at t.before
+      by : (r : List ℕ) → I ≡ head ++ r → t.rest ≡ r ++ drop most_bytes bytes → EmptyGiven (parts_of bytes) tags begin at t.before
       by [] e g = absurd (omega (arith, far, ap length e, length-append head [], head-size))
-      by (b ∷ tail) e g = bare-given (b ∷ tail) e slash tail (ap (λ b. b ∷ tail) (first-same b 62 (tail ++ drop most_bytes bytes) more (sym g ∙ d)))
+      by (b ∷ tail) e g = empty-given (b ∷ tail) e slash tail (ap (λ b. b ∷ tail) (first-same b 62 (tail ++ drop most_bytes bytes) more (sym g ∙ d)))
 
   -- a piece inside the root that is read
   module _ (t : Tag) (outer : List Tag) (before front rest : List ℕ) (o : Opens (t ∷ outer) before) (e : bytes ≡ before ++ (front ++ rest)) (at : ℕ) (c : Clear bytes at) (place-at : at + 1 ≡ length before + length front) (some : 0 < length front) (found : List Part) (calm : (r : List ℕ) → Calm o.3 (front ++ r)) (moves : (r : List ℕ) → (opens : List Open) × (piece_moves (length (before ++ (front ++ r))) t.name (opens_of outer) (opens_of (t ∷ outer)) (front ++ r) ≡ Ok record { parts = found; opens = opens; left = r })) where
@@ -380,9 +380,9 @@ module _ (bytes : List ℕ) (h : Halts bytes) where
       told = text-told 0 X
 
       -- it begins with no markup
-      plain-head : (b : ℕ) × (v : List ℕ) × (X ≡ b ∷ v) × (is_less b ≡ false) × (is_and b ≡ false)
+      plain-head : (b : ℕ) × (v : List ℕ) × (X ≡ b ∷ v) × (is_less b ≡ false) × (is_ampersand b ≡ false)
       plain-head = by s.text s.plain where
-        by : (w : List ℕ) → TextFrom 0 w tt → (b : ℕ) × (v : List ℕ) × (w ++ byte ∷ r ≡ b ∷ v) × (is_less b ≡ false) × (is_and b ≡ false)
+        by : (w : List ℕ) → TextFrom 0 w tt → (b : ℕ) × (v : List ℕ) × (w ++ byte ∷ r ≡ b ∷ v) × (is_less b ≡ false) × (is_ampersand b ≡ false)
         by [] p = (byte, r, refl, not-less byte plain.0, not-and byte plain.1)
         by (b ∷ w) p =
             let first = text-first (b ∷ w) p (some-bytes b w) in
@@ -448,12 +448,12 @@ module _ (bytes : List ℕ) (h : Halts bytes) where
         some n = omega (arith, ap length (sym n ∙ on.1), length-append s.text (byte ∷ on.0))
 
         abbrev First : Option ℕ
-        First = first_odd (length s.front) (told.front ++ told.begun)
+        First = first_non_blank (length s.front) (told.front ++ told.begun)
 
         is-given : cut_text (place K X) X ≡ Run (length s.front) First (line_ends told.front) ∷ []
         is-given =
             given-some (place K X) X (text_behind 0 X) told some
-            ∙ ap (λ n. Run n (first_odd n (told.front ++ told.begun)) (line_ends told.front) ∷ []) (place-is s.front X)
+            ∙ ap (λ n. Run n (first_non_blank n (told.front ++ told.begun)) (line_ends told.front) ∷ []) (place-is s.front X)
 
         text-run-given : PartsGiven (parts_of bytes) (Run (length s.front) First (line_ends told.front) ∷ []) (t ∷ outer) s.front
         text-run-given =
@@ -483,7 +483,7 @@ module _ (bytes : List ℕ) (h : Halts bytes) where
           rest = told.rest ++ drop most_bytes bytes;
           goes = on.1;
           spelled = all-read;
-          found = λ odd d. odd-found told.text.characters told.front told.begun told.text.each told.cut (length s.front) odd d;
+          found = λ non_blank d. non-blank-found told.text.characters told.front told.begun told.text.each told.cut (length s.front) non_blank d;
           given = text-run-given;
         }
 
@@ -504,14 +504,14 @@ module _ (bytes : List ℕ) (h : Halts bytes) where
     split-place : at ≡ length s.front + length s.text
     split-place = x.place ∙ ap length s.spelled ∙ length-append s.front s.text
 
-    module _ (odd : ℕ) (first : first_odd (length s.front) (s.text ++ byte ∷ k.more) ≡ Some odd) (from : length s.front ≤ odd) (to : odd ≤ length s.front + length s.text) where
-      first-is : first_odd (length s.front) k.read ≡ Some odd
-      first-is = ap (first_odd (length s.front)) k.goes ∙ first
+    module _ (non_blank : ℕ) (first : first_non_blank (length s.front) (s.text ++ byte ∷ k.more) ≡ Some non_blank) (from : length s.front ≤ non_blank) (to : non_blank ≤ length s.front + length s.text) where
+      first-is : first_non_blank (length s.front) k.read ≡ Some non_blank
+      first-is = ap (first_non_blank (length s.front)) k.goes ∙ first
 
-      may : CanGoOn (take (odd + 1) bytes)
+      may : CanGoOn (take (non_blank + 1) bytes)
       may =
-          go-same (take (odd + 1) (take (at + 1) bytes ++ drop (at + 1) bytes)) (take (odd + 1) bytes) (ap (take (odd + 1)) (take-append-drop (at + 1) bytes))
-          (can-front (take (at + 1) bytes) (drop (at + 1) bytes) (odd + 1) x.may_be (omega (arith, ap length front, head-long, to, split-place)))
+          go-same (take (non_blank + 1) (take (at + 1) bytes ++ drop (at + 1) bytes)) (take (non_blank + 1) bytes) (ap (take (non_blank + 1)) (take-append-drop (at + 1) bytes))
+          (can-front (take (at + 1) bytes) (drop (at + 1) bytes) (non_blank + 1) x.may_be (omega (arith, ap length front, head-long, to, split-place)))
         where
           head-long : length (x.before ++ byte ∷ []) ≡ at + 1
           head-long = length-append x.before (byte ∷ []) ∙ omega (arith, x.place)
@@ -526,7 +526,7 @@ module _ (bytes : List ℕ) (h : Halts bytes) where
         before = s.front;
         between = s.text;
         rest = byte ∷ x.rest;
-        odd = odd;
+        non_blank = non_blank;
         text = k.text;
         spelled = x.spelled ∙ ap (λ xs. xs ++ byte ∷ x.rest) s.spelled ∙ append_assoc s.front s.text (byte ∷ x.rest);
         place = split-place;
@@ -534,13 +534,13 @@ module _ (bytes : List ℕ) (h : Halts bytes) where
         opens = k.given.opens;
         from = from;
         to = omega (arith, to, split-place);
-        letter = letter bytes t outer s.front s.opens s.quiet k.read k.rest k.spelled odd (k.found odd first-is) may;
+        letter = letter bytes t outer s.front s.opens s.quiet k.read k.rest k.spelled non_blank (k.found non_blank first-is) may;
         is = k.given.is ∙ ap (λ o. k.given.earlier ++ Run (length s.front) o k.text ∷ k.given.later) first-is;
       }
 
     text-found : TextGiven bytes (parts_of bytes) (t ∷ outer) at
     text-found =
-        let first = first-odd-some (length s.front) s.text byte k.more x.no_blank in
+        let first = first-non-blank-some (length s.front) s.text byte k.more x.no_blank in
         text-is first.0 first.1 first.2 first.3
 
   texts-given : (tags : List Tag) (at byte : ℕ) → TextByte bytes tags at byte → Clear bytes at → TextGiven bytes (parts_of bytes) tags at
@@ -558,7 +558,7 @@ module _ (bytes : List ℕ) (h : Halts bytes) where
         before = s.front;
         between = s.text;
         rest = byte ∷ rest;
-        odd = first_odd (length s.front) k.read;
+        non_blank = first_non_blank (length s.front) k.read;
         text = k.text;
         spelled = e ∙ ap (λ xs. xs ++ byte ∷ rest) s.spelled ∙ append_assoc s.front s.text (byte ∷ rest);
         place = ap length s.spelled ∙ length-append s.front s.text;
@@ -584,7 +584,7 @@ parts-are-given bytes = by (halting bytes) (is_cut bytes) (limit bytes (is_cut b
     each = λ earlier later part e. shown-each bytes (within_limit bytes) l.more l.spelled (cut c l) h.used h.rest h.spelled h.clear h.can h.parts h.shown earlier later part (sym (ap (λ c. c.parts) h.is) ∙ e);
     starts = λ tags begin at tag found c. starts-given bytes h tags begin at tag found c;
     ends = λ tag outer begin at found c. ends-given bytes h tag outer begin at found c;
-    bares = λ tags begin at tag found more slash d c. bares-given bytes h tags begin at tag found (earlier-clear bytes at c) more slash d c;
+    empties = λ tags begin at tag found more slash d c. bares-given bytes h tags begin at tag found (earlier-clear bytes at c) more slash d c;
     leaves = λ tags begin at leaf found none c. leaves-given bytes h tags begin at leaf found none c;
     blanks = λ tag outer before rest byte e o blank c. blanks-given bytes h tag outer before rest byte e o blank c;
     texts = λ tags at byte found c. texts-given bytes h tags at byte found c;

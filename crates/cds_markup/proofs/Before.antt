@@ -6,8 +6,8 @@ use Rattle.cds_markup.specs.declared.part.Part.TheVariants.{Start, Run}
 use Rattle.cds_markup.specs.declared.tag.Tag.{Tag}
 use Rattle.cds_markup.specs.Document.{most_bytes, line_ends}
 use Rattle.cds_markup.specs.Refusal.{CanGoOn}
-use Rattle.cds_markup.specs.Parts.{OpensParts, first_odd}
-use Rattle.cds_markup.specs.Found.{Clear, Stands, StartStands}
+use Rattle.cds_markup.specs.Parts.{OpensParts, first_non_blank}
+use Rattle.cds_markup.specs.GivenParts.{Clear, Stands, StartStands}
 use Rattle.cds_markup.proofs.ReadsForm.{Follows}
 use Rattle.cds_markup.proofs.TextRows.{TextFrom, markup}
 use Rattle.cds_markup.proofs.ContentForm.{ends_with_text}
@@ -89,13 +89,13 @@ module _ (bytes within more : List ℕ) (e : bytes ≡ within ++ more) (cut : (m
         by false i = i
         by true i = absurd (no-markup-first c.plain c.begun rest c.text c.cut c.some (subst (λ xs. Follows markup (xs ++ rest)) c.spelled (calm i)))
 
-      text-part : (tags : List Tag) → (tags ≡ [] → ⊥) → (st : OpensParts tags o.front o.earlier) → CalmHere tags o.front o.earlier st (o.back ++ rest) → Stands bytes o.earlier (Run (length o.front) (first_odd (length o.front) (c.plain ++ c.begun)) (line_ends c.plain))
+      text-part : (tags : List Tag) → (tags ≡ [] → ⊥) → (st : OpensParts tags o.front o.earlier) → CalmHere tags o.front o.earlier st (o.back ++ rest) → Stands bytes o.earlier (Run (length o.front) (first_non_blank (length o.front) (c.plain ++ c.begun)) (line_ends c.plain))
       text-part [] inside st calm = absurd (inside refl)
       text-part (t ∷ outer) inside st calm =
           inr (text-stands bytes (length used) clear can-take t outer o.front o.earlier st (apart t outer st calm) c.plain c.begun (rest ++ more) text-all c.text c.cut (omega (arith, size, text-size)) c.some most)
 
       with-text : Standing [] parts
-      with-text = subst (λ ps. Standing [] ps) (sym c.is) (all-append bytes (length used) clear can-take [] o.earlier (Run (length o.front) (first_odd (length o.front) (c.plain ++ c.begun)) (line_ends c.plain) ∷ []) before (text-part o.tags c.inside o.stands o.calm, tt))
+      with-text = subst (λ ps. Standing [] ps) (sym c.is) (all-append bytes (length used) clear can-take [] o.earlier (Run (length o.front) (first_non_blank (length o.front) (c.plain ++ c.begun)) (line_ends c.plain) ∷ []) before (text-part o.tags c.inside o.stands o.calm, tt))
 
     -- with a start tag whose `>` does not come
     with-tag : CutTag o.tags (length o.front) o.back rest o.earlier parts → Standing [] parts

@@ -5,7 +5,7 @@ use Rattle.cds_markup.specs.declared.build.Frame.{Frame}
 use Rattle.cds_markup.specs.declared.part.Part.{Part}
 use Rattle.cds_markup.specs.declared.part.Part.TheVariants.{End}
 use Rattle.cds_markup.specs.declared.tag.Declaration.{Declaration}
-use Rattle.cds_markup.specs.Grammar.{Leaf, Text, Reference, Section, Comment, Tree, Bare, Full, Content, Nothing, LeafThen, TreeThen}
+use Rattle.cds_markup.specs.Grammar.{Leaf, Text, Reference, Section, Comment, Tree, EmptyElement, Full, Content, Nothing, LeafThen, TreeThen}
 use Rattle.cds_markup.specs.Namespaces.{declarations, is_empty}
 use Rattle.cds_markup.specs.Document.{Meaning, Element, Meanings, TextThen, ChildThen, End as Childless, joined, and_joined, and_children, of_tag, leaf_says, meaning, meanings}
 use Rattle.cds_markup.specs.Parts.{TreeParts, ContentParts, leaf_parts}
@@ -84,7 +84,7 @@ leaf-built at Comment frames nodes text rest = ap (λ xs. built (state frames no
 
 mutual
   pub tree-built : (tree : Tree) (at : ℕ) (scopes : List (List Declaration)) (w : List ℕ) (ps rest : List Part) (frames : List Frame) (nodes : Meanings) (text : List ℕ) → TreeParts tree at scopes w ps → (m : Meaning) × (meaning tree scopes ≡ Some m) × (built (state frames nodes text) (ps ++ rest) ≡ built (After frames nodes text m) rest)
-  tree-built (Bare t) at scopes w ps rest frames nodes text (name, attrs, end, is, says, place, p) =
+  tree-built (EmptyElement t) at scopes w ps rest frames nodes text (name, attrs, end, is, says, place, p) =
       (Element name attrs Childless, ap (λ o. of_tag o (Some Childless)) says, ap (λ xs. built (state frames nodes text) (xs ++ rest)) p)
   tree-built (Full t content) at scopes w ps rest frames nodes text (name, attrs, end, start, inside, closing, inner, b, is, ends, says, place, others, p) =
       let last : ℕ = at + length start + length inside in

@@ -7,7 +7,7 @@ use Rattle.cds_markup.specs.Refusal.{CanGoOn, Opens, scopes_of}
 use Rattle.cds_markup.specs.Parts.{OpensParts}
 use Rattle.cds_markup.proofs.NameRows.{no-blanks}
 use Rattle.cds_markup.proofs.ContentForm.{append, Apart, content-append, content-is, ends_with_text}
-use Rattle.cds_markup.proofs.PrologRows.{no-misc}
+use Rattle.cds_markup.proofs.TagForm.{no-misc}
 
 pub go-front : (v w : List ℕ) → CanGoOn (v ++ w) → CanGoOn v
 go-front v w (more, root, d) = (w ++ more, root, subst (λ xs. IsDocument xs root) (append_assoc v w more) d)

@@ -6,7 +6,7 @@ use lib.Pointwise.{pointwise}
 use Rattle.cds_markup.specs.Form.{Word, Byte, Character, Then, Many}
 use Rattle.cds_markup.specs.Grammar.{is_any, contains, IsComment}
 use Rattle.cds_markup.specs.Step.{Step, after, byte_at, word_at, next_is, count_at}
-use Rattle.cds_markup.specs.Reading.{any_at, is_dash, comment_goes, comment_more, comment_at, greater_at, remark_at}
+use Rattle.cds_markup.specs.Reading.{any_at, is_dash, comment_goes, comment_more, comment_rest_at, greater_at, comment_at}
 use Rattle.cds_markup.proofs.ReadsForm.{Follows, always, after_ok, after_err}
 use Rattle.cds_markup.proofs.CharacterForm.{reads-any}
 use Rattle.cds_markup.proofs.TestForm.{HasFirst, has-first}
@@ -314,20 +314,20 @@ comment-body k j h rec (suc zero) l =
     by i false = rec i 0 (omega arith)
 comment-body k j h rec (suc (suc n)) l = absurd (omega (arith, l))
 
-pub parse-comment-from : (k : ℕ) → Parses k comment_at (CommentFrom 0) Any
+pub parse-comment-from : (k : ℕ) → Parses k comment_rest_at (CommentFrom 0) Any
 parse-comment-from k = again comment_step CommentFrom Any Low comment-body k 0 (omega arith)
 
 -- a comment from behind its `<`
-abbrev pub RemarkRest : List ℕ → Unit {0} → Type 0
-RemarkRest = Then (Word (codes "!--")) (λ opening. CommentFrom 0)
+abbrev pub CommentRest : List ℕ → Unit {0} → Type 0
+CommentRest = Then (Word (codes "!--")) (λ opening. CommentFrom 0)
 
-pub parse-remark : (k : ℕ) → Parses k remark_at RemarkRest Any
-unfolding remark_at
-parse-remark k =
-    next (word_at (codes "!--")) (λ opening rest. comment_at rest) (Word (codes "!--")) (λ opening. CommentFrom 0) k Any (word k (codes "!--") Any) (λ a used g. parse-comment-from k) (λ a used g. let c = a-comment 0 in (c.0, tt, c.1))
+pub parse-comment : (k : ℕ) → Parses k comment_at CommentRest Any
+unfolding comment_at
+parse-comment k =
+    next (word_at (codes "!--")) (λ opening rest. comment_rest_at rest) (Word (codes "!--")) (λ opening. CommentFrom 0) k Any (word k (codes "!--") Any) (λ a used g. parse-comment-from k) (λ a used g. let c = a-comment 0 in (c.0, tt, c.1))
 
 -- the same as the grammar has it
-pub comment-is : (w : List ℕ) → RemarkRest w tt → IsComment (60 ∷ w) tt
+pub comment-is : (w : List ℕ) → CommentRest w tt → IsComment (60 ∷ w) tt
 comment-is w t =
     let x = t.second in
     record {
@@ -339,7 +339,7 @@ comment-is w t =
       second = record { front = x.text; back = End; what = x.text; spelled = x.spelled; first = record { says = refl; characters = x.characters; each = x.each; none = x.none }; second = refl };
     }
 
-pub is-comment : (w : List ℕ) → IsComment w tt → (rest : List ℕ) × (w ≡ 60 ∷ rest) × RemarkRest rest tt
+pub is-comment : (w : List ℕ) → IsComment w tt → (rest : List ℕ) × (w ≡ 60 ∷ rest) × CommentRest rest tt
 is-comment w t =
     let x = t.second in
     let g = x.first in (

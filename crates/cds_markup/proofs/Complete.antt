@@ -1,19 +1,20 @@
 -- What is in the grammar is read: elements and content, unless a start tag breaks a rule or too many are open.
-use Rattle.std.proofs.Common.{◌≡◌, ℕ, suc, ◌+◌, ◌<◌, ◌≤◌, max, true, false, ◌&&◌, Option, Some, None, Result, List, [], ◌∷◌, ◌++◌, length, refl, sym, ap, subst, ◌∙◌, arith, append_assoc, append-nil, length-append, ◌⊎◌, inl, inr}
+use Rattle.std.proofs.Common.{◌≡◌, ℕ, suc, ◌+◌, ◌<◌, ◌≤◌, max, true, false, ◌&&◌, Option, Some, None, Result, List, [], ◌∷◌, ◌++◌, length, refl, sym, ap, subst, ◌∙◌, arith, append_assoc, length-append, ◌⊎◌, inl, inr}
 use Rattle.cds_markup.specs.declared.part.Part.{Part}
 use Rattle.cds_markup.specs.declared.part.Part.TheVariants.{Start, End}
 use Rattle.cds_markup.specs.declared.tag.Tag.{Tag}
 use Rattle.cds_markup.specs.declared.tag.Open.{Open}
 use Rattle.cds_markup.specs.declared.error.Stop.{Stop}
-use Rattle.cds_markup.specs.declared.error.Stop.TheVariants.{Unruly, Deep}
-use Rattle.cds_markup.specs.Grammar.{Leaf, Text, Reference, Section, Comment, Tree, Bare, Full, Content, Nothing, LeafThen, TreeThen, is_text, begins_with_text, IsTree, IsContent, IsLeaf, IsTag, IsBareTag, IsStartTag, IsEndTag}
+use Rattle.cds_markup.specs.declared.error.Stop.TheVariants.{NamespaceRule, Deep}
+use Rattle.cds_markup.specs.Grammar.{Leaf, Text, Reference, Section, Comment, Tree, EmptyElement, Full, Content, Nothing, LeafThen, TreeThen, is_text, begins_with_text, IsTree, IsContent, IsLeaf, IsTag, IsEmptyTag, IsStartTag, IsEndTag}
 use Rattle.cds_markup.specs.Document.{Meaning, Meanings, meaning, meanings, depth, depths, of_tag, and_joined, and_children, leaf_says}
 use Rattle.cds_markup.specs.Document as document
 use Rattle.cds_markup.specs.Refusal.{scopes_of}
 use Rattle.cds_markup.specs.Step.{next_is}
-use Rattle.cds_markup.specs.Reading.{is_bang}
+use Rattle.cds_markup.specs.Reading.{is_exclamation}
 use Rattle.cds_markup.specs.Course.{Moved, Halted, Course, place, with_parts, goes_on, start_moves, content_at, may_begin_name, is_slash}
 use Rattle.cds_markup.specs.Parts.{TreeParts, ContentParts, leaf_parts}
+use Rattle.cds_markup.proofs.TagForm.{empty-parts, start-parts, tree-first}
 use Rattle.cds_markup.proofs.ReadsForm.{Follows}
 use Rattle.cds_markup.proofs.ReferenceRows.{begins-reference}
 use Rattle.cds_markup.proofs.EndRows.{is-end}
@@ -23,7 +24,7 @@ use Rattle.cds_markup.proofs.PieceSteps.{content-next}
 use Rattle.cds_markup.proofs.Pieces.{at-start}
 use Rattle.cds_markup.proofs.Told.{open_of, opens_of, parts-twice, Calm}
 use Rattle.cds_markup.proofs.StartSound.{tag-begins}
-use Rattle.cds_markup.proofs.Runs.{is-section, leaf-piece, end-piece, start-run, IsDeep, IsUnruly, Says, next-not, name-no-slash, name-no-bang}
+use Rattle.cds_markup.proofs.Runs.{is-section, leaf-piece, end-piece, start-run, IsDeep, IsRuleBroken, Says, next-not, name-no-slash, name-no-exclamation}
 
 -- a course that stops at a rule or the depth, before what is left of it
 pub record Doomed (course : Course) (x : List ℕ) (why : Type 0) : Type 0 where
@@ -31,7 +32,7 @@ pub record Doomed (course : Course) (x : List ℕ) (why : Type 0) : Type 0 where
   pub rest : List ℕ
   pub parts : List Part
   pub is : course ≡ record { parts = parts; stop = Some stop; left = rest }
-  pub two : (stop ≡ Unruly) ⊎ (stop ≡ Deep)
+  pub two : (stop ≡ NamespaceRule) ⊎ (stop ≡ Deep)
   pub long : length x < length rest
   pub cause : why
 
@@ -77,27 +78,8 @@ ContentResult total tags c w x = ContentRun total tags c w x ⊎ Doomed (content
 tails : (b c : ℕ) (x y : List ℕ) → b ∷ x ≡ c ∷ y → (b ≡ c) × (x ≡ y)
 tails b c x y e = (cc, cc)
 
-pub bare-parts : (w : List ℕ) (t : Tag) → IsBareTag w t → (u : List ℕ) × (w ≡ 60 ∷ (u ++ 47 ∷ 62 ∷ [])) × IsTag u t
-bare-parts w t g =
-    let s = g.second in
-    let c = s.second in
-    let end : s.back ≡ 47 ∷ 62 ∷ [] = c.spelled ∙ ap (λ xs. c.front ++ xs) c.second.0 ∙ append-nil c.front ∙ c.first in
-    (s.front, g.spelled ∙ ap (λ xs. xs ++ g.back) g.first ∙ ap (λ xs. 60 ∷ xs) (s.spelled ∙ ap (λ xs. s.front ++ xs) end), subst (λ t. IsTag s.front t) (sym c.second.1) s.first)
-
-pub start-parts : (w : List ℕ) (t : Tag) → IsStartTag w t → (u : List ℕ) × (w ≡ 60 ∷ (u ++ 62 ∷ [])) × IsTag u t
-start-parts w t g =
-    let s = g.second in
-    let c = s.second in
-    let end : s.back ≡ 62 ∷ [] = c.spelled ∙ ap (λ xs. c.front ++ xs) c.second.0 ∙ append-nil c.front ∙ c.first in
-    (s.front, g.spelled ∙ ap (λ xs. xs ++ g.back) g.first ∙ ap (λ xs. 60 ∷ xs) (s.spelled ∙ ap (λ xs. s.front ++ xs) end), subst (λ t. IsTag s.front t) (sym c.second.1) s.first)
-
-pub tree-first : (tree : Tree) (w : List ℕ) → IsTree tree w → (v : List ℕ) × (w ≡ 60 ∷ v)
-tree-first (Bare t) w g = let b = bare-parts w t g in (b.0 ++ 47 ∷ 62 ∷ [], b.1)
-tree-first (Full t content) w (start, inside, closing, e, is, others, ends) =
-    let b = start-parts start t is in ((b.0 ++ 62 ∷ []) ++ (inside ++ closing), e ∙ ap (λ xs. xs ++ (inside ++ closing)) b.1)
-
 -- an element in brief: its start tag's bytes, and what is told of it
-doomed-tag : (stop : Stop) (rest : List ℕ) (c : Course) (x : List ℕ) (why : Type 0) → c ≡ record { parts = []; stop = Some stop; left = rest } → (stop ≡ Unruly) ⊎ (stop ≡ Deep) → length x < length rest → why → Doomed c x why
+doomed-tag : (stop : Stop) (rest : List ℕ) (c : Course) (x : List ℕ) (why : Type 0) → c ≡ record { parts = []; stop = Some stop; left = rest } → (stop ≡ NamespaceRule) ⊎ (stop ≡ Deep) → length x < length rest → why → Doomed c x why
 doomed-tag stop rest c x why e two long cause = record { stop = stop; rest = rest; parts = []; is = e; two = two; long = long; cause = cause }
 
 module _ (total : ℕ) (tags : List Tag) (u : List ℕ) (t : Tag) (g : IsTag u t) (deep : length tags ≤ 16) where
@@ -105,8 +87,8 @@ module _ (total : ℕ) (tags : List Tag) (u : List ℕ) (t : Tag) (g : IsTag u t
   abbrev V : List ℕ
   V = u ++ 47 ∷ 62 ∷ []
 
-  bare-run : (x : List ℕ) → IsBareTag (60 ∷ V) t → length (60 ∷ (V ++ x)) ≤ total → TreeResult total tags (Bare t) V x
-  bare-run x bare h = by (start-run tags total (place total (60 ∷ (V ++ x))) u t g 47 (62 ∷ x) refl deep) where
+  empty-run : (x : List ℕ) → IsEmptyTag (60 ∷ V) t → length (60 ∷ (V ++ x)) ≤ total → TreeResult total tags (EmptyElement t) V x
+  empty-run x bare h = by (start-run tags total (place total (60 ∷ (V ++ x))) u t g 47 (62 ∷ x) refl deep) where
     at-course : (r : Result Moved Halted) → start_moves total (place total (60 ∷ (V ++ x))) (opens_of tags) (u ++ 47 ∷ 62 ∷ x) ≡ r → TreeCourse total tags V x ≡ goes_on r (content_at total)
     at-course r e =
         ap (λ xs. goes_on (start_moves total (place total (60 ∷ (V ++ x))) (opens_of tags) xs) (content_at total)) (append_assoc u (47 ∷ 62 ∷ []) x)
@@ -121,10 +103,10 @@ module _ (total : ℕ) (tags : List Tag) (u : List ℕ) (t : Tag) (g : IsTag u t
     place-end : place total (47 ∷ 62 ∷ x) + 2 ≡ place total (60 ∷ (V ++ x)) + length (60 ∷ V)
     place-end = omega (arith, h, length-append V x, length-append u (47 ∷ 62 ∷ []))
 
-    by : IsDeep tags total (place total (60 ∷ (V ++ x))) u t g 47 (62 ∷ x) refl deep ⊎ (IsUnruly tags total (place total (60 ∷ (V ++ x))) u t g 47 (62 ∷ x) refl deep ⊎ Says tags total (place total (60 ∷ (V ++ x))) u t g 47 (62 ∷ x) refl deep) → TreeResult total tags (Bare t) V x
-    by (inl d) = inr (doomed-tag Deep (u ++ 47 ∷ 62 ∷ x) (TreeCourse total tags V x) x (TreeWhy tags (Bare t)) (at-course _ d.moves) (inr refl) long (inr (deep-why d.full)))
+    by : IsDeep tags total (place total (60 ∷ (V ++ x))) u t g 47 (62 ∷ x) refl deep ⊎ (IsRuleBroken tags total (place total (60 ∷ (V ++ x))) u t g 47 (62 ∷ x) refl deep ⊎ Says tags total (place total (60 ∷ (V ++ x))) u t g 47 (62 ∷ x) refl deep) → TreeResult total tags (EmptyElement t) V x
+    by (inl d) = inr (doomed-tag Deep (u ++ 47 ∷ 62 ∷ x) (TreeCourse total tags V x) x (TreeWhy tags (EmptyElement t)) (at-course _ d.moves) (inr refl) long (inr (deep-why d.full)))
     by (inr (inl d)) =
-        inr (doomed-tag Unruly (47 ∷ 62 ∷ x) (TreeCourse total tags V x) x (TreeWhy tags (Bare t)) (at-course _ d.moves) (inl refl) (omega arith) (inl (ap (λ o. of_tag o (Some document.End)) d.none)))
+        inr (doomed-tag NamespaceRule (47 ∷ 62 ∷ x) (TreeCourse total tags V x) x (TreeWhy tags (EmptyElement t)) (at-course _ d.moves) (inl refl) (omega arith) (inl (ap (λ o. of_tag o (Some document.End)) d.none)))
     by (inr (inr d)) =
         inl (record {
           parts = Start (place total (60 ∷ (V ++ x))) (place total (47 ∷ 62 ∷ x)) d.name d.attrs ∷ End (place total (47 ∷ 62 ∷ x)) ∷ [];
@@ -214,16 +196,16 @@ module _ (total : ℕ) (tags : List Tag) (u : List ℕ) (t : Tag) (g : IsTag u t
           less : (n k : ℕ) → suc n + k ≤ 16 → n + suc k ≤ 16
           less n k h = omega (arith, h)
 
-      by : IsDeep tags total (place total (60 ∷ (F ++ x))) u t g 62 (Z x) refl deep ⊎ (IsUnruly tags total (place total (60 ∷ (F ++ x))) u t g 62 (Z x) refl deep ⊎ Says tags total (place total (60 ∷ (F ++ x))) u t g 62 (Z x) refl deep) → TreeResult total tags (Full t content) F x
+      by : IsDeep tags total (place total (60 ∷ (F ++ x))) u t g 62 (Z x) refl deep ⊎ (IsRuleBroken tags total (place total (60 ∷ (F ++ x))) u t g 62 (Z x) refl deep ⊎ Says tags total (place total (60 ∷ (F ++ x))) u t g 62 (Z x) refl deep) → TreeResult total tags (Full t content) F x
       by (inl d) = inr (doomed-tag Deep (u ++ 62 ∷ Z x) (TreeCourse total tags F x) x (TreeWhy tags (Full t content)) (at-course _ d.moves) (inr refl) long-u (inr (deep-why d.full)))
       by (inr (inl d)) =
-          inr (doomed-tag Unruly (62 ∷ Z x) (TreeCourse total tags F x) x (TreeWhy tags (Full t content)) (at-course _ d.moves) (inl refl) long-one (inl (ap (λ o. of_tag o (meanings content (scopes_of (t ∷ tags)))) d.none)))
+          inr (doomed-tag NamespaceRule (62 ∷ Z x) (TreeCourse total tags F x) x (TreeWhy tags (Full t content)) (at-course _ d.moves) (inl refl) long-one (inl (ap (λ o. of_tag o (meanings content (scopes_of (t ∷ tags)))) d.none)))
       by (inr (inr d)) = said d (inner d.room fits)
 
 -- content, piece by piece
 pub tree-name : (tree : Tree) (v : List ℕ) → IsTree tree (60 ∷ v) → (y : List ℕ) → next_is may_begin_name (v ++ y) ≡ true
-tree-name (Bare t) v g y =
-    let b = bare-parts (60 ∷ v) t g in
+tree-name (EmptyElement t) v g y =
+    let b = empty-parts (60 ∷ v) t g in
     let same = (tails 60 60 v (b.0 ++ 47 ∷ 62 ∷ []) b.1).1 in
     ap (next_is may_begin_name) (ap (λ xs. xs ++ y) same ∙ append_assoc b.0 (47 ∷ 62 ∷ []) y) ∙ tag-begins b.0 (47 ∷ 62 ∷ y) t b.2
 tree-name (Full t content) v (start, inside, closing, e, is, others, ends) y =
@@ -303,7 +285,7 @@ module _ (total : ℕ) (t : Tag) (outer : List Tag) (w front back x : List ℕ) 
     first =
         ap (content_at total O) there
         ∙ content-next total (open_of t) (opens_of outer) (60 ∷ (v ++ (back ++ x)))
-        ∙ ap (λ r. goes_on r (content_at total)) (at-start total t.name (opens_of outer) O (v ++ (back ++ x)) (next-not is_slash (v ++ (back ++ x)) name-no-slash (tree-name tree v g (back ++ x))) (next-not is_bang (v ++ (back ++ x)) name-no-bang (tree-name tree v g (back ++ x))))
+        ∙ ap (λ r. goes_on r (content_at total)) (at-start total t.name (opens_of outer) O (v ++ (back ++ x)) (next-not is_slash (v ++ (back ++ x)) name-no-slash (tree-name tree v g (back ++ x))) (next-not is_exclamation (v ++ (back ++ x)) name-no-exclamation (tree-name tree v g (back ++ x))))
 
     longer : length x ≤ length (back ++ x)
     longer = omega (arith, length-append back x)
@@ -346,11 +328,11 @@ no-content : (total : ℕ) (tags : List Tag) (w x : List ℕ) → length tags �
 no-content total tags w x deep e =
     inl (record { parts = []; is = (e, refl); deep = omega (arith, deep); run = ap (λ xs. content_at total (opens_of tags) (xs ++ x)) e })
 
-bare-at : (total : ℕ) (tags : List Tag) (t : Tag) (v x : List ℕ) → IsBareTag (60 ∷ v) t → length tags ≤ 16 → length (60 ∷ (v ++ x)) ≤ total → TreeResult total tags (Bare t) v x
-bare-at total tags t v x g deep h =
-    let b = bare-parts (60 ∷ v) t g in
+empty-at : (total : ℕ) (tags : List Tag) (t : Tag) (v x : List ℕ) → IsEmptyTag (60 ∷ v) t → length tags ≤ 16 → length (60 ∷ (v ++ x)) ≤ total → TreeResult total tags (EmptyElement t) v x
+empty-at total tags t v x g deep h =
+    let b = empty-parts (60 ∷ v) t g in
     let same = (tails 60 60 v (b.0 ++ 47 ∷ 62 ∷ []) b.1).1 in
-    subst (λ v. TreeResult total tags (Bare t) v x) (sym same) (bare-run total tags b.0 t b.2 deep x (subst (λ v. IsBareTag (60 ∷ v) t) same g) (subst (λ v. length (60 ∷ (v ++ x)) ≤ total) same h))
+    subst (λ v. TreeResult total tags (EmptyElement t) v x) (sym same) (empty-run total tags b.0 t b.2 deep x (subst (λ v. IsEmptyTag (60 ∷ v) t) same g) (subst (λ v. length (60 ∷ (v ++ x)) ≤ total) same h))
 
 full-at : (total : ℕ) (tags : List Tag) (t : Tag) (content : Content) (v x start inside closing : List ℕ) → 60 ∷ v ≡ start ++ (inside ++ closing) → IsStartTag start t → IsEndTag t.name closing tt → length tags ≤ 16 → length (60 ∷ (v ++ x)) ≤ total → (length tags + 1 ≤ 16 → length (inside ++ (closing ++ x)) ≤ total → ContentResult total (t ∷ tags) content inside (closing ++ x)) → TreeResult total tags (Full t content) v x
 full-at total tags t content v x start inside closing e is ends deep h inner =
@@ -363,7 +345,7 @@ suc-less n h = omega (arith, h)
 
 mutual
   pub run-tree : (tree : Tree) (total : ℕ) (tags : List Tag) (v x : List ℕ) → IsTree tree (60 ∷ v) → length tags ≤ 16 → length (60 ∷ (v ++ x)) ≤ total → TreeResult total tags tree v x
-  run-tree (Bare t) total tags v x g deep h = bare-at total tags t v x g deep h
+  run-tree (EmptyElement t) total tags v x g deep h = empty-at total tags t v x g deep h
   run-tree (Full t content) total tags v x (start, inside, closing, e, is, others, ends) deep h =
       full-at total tags t content v x start inside closing e is ends deep h
       (λ room fits. run-content content total t tags inside (closing ++ x) others (suc-less (length tags) room) (λ h. let b = is-end t.name closing ends in begins-markup closing x 60 (47 ∷ b.0) b.1 refl) fits)

@@ -2,11 +2,11 @@
 use Rattle.std.proofs.Common.{◌≡◌, ℕ, ◌+◌, max, Bool, false, ◌&&◌, Some, List, ◌∷◌, ◌++◌, length, refl, sym, ap, subst, ◌∙◌, arith, append_assoc, length-append}
 use Rattle.cds_markup.specs.declared.part.Part.{Part}
 use Rattle.cds_markup.specs.declared.tag.Declaration.{Declaration}
-use Rattle.cds_markup.specs.Grammar.{Leaf, Tree, Bare, Full, Content, Nothing, LeafThen, TreeThen, is_text, begins_with_text, IsTree, IsContent}
+use Rattle.cds_markup.specs.Grammar.{Leaf, Tree, EmptyElement, Full, Content, Nothing, LeafThen, TreeThen, is_text, begins_with_text, IsTree, IsContent}
 use Rattle.cds_markup.specs.Document.{Meaning, Meanings, End, meaning, meanings, depth, depths, and_joined, and_children, of_tag, leaf_says}
 use Rattle.cds_markup.specs.Namespaces.{declarations}
 use Rattle.cds_markup.specs.Parts.{TreeParts, ContentParts, leaf_parts}
-pub use Rattle.cds_markup.specs.Found.{ends_with_text}
+pub use Rattle.cds_markup.specs.GivenParts.{ends_with_text}
 
 abbrev pub append : Content → Content → Content
 append Nothing d = d
@@ -95,7 +95,7 @@ ends-tree (TreeThen tree more) t = ends-tree more t
 -- parts are of words of the grammar, and what has parts means something
 mutual
   pub tree-is : (tree : Tree) (at : ℕ) (scopes : List (List Declaration)) (w : List ℕ) (ps : List Part) → TreeParts tree at scopes w ps → IsTree tree w
-  tree-is (Bare t) at scopes w ps (name, attrs, end, is, says, place, p) = is
+  tree-is (EmptyElement t) at scopes w ps (name, attrs, end, is, says, place, p) = is
   tree-is (Full t content) at scopes w ps (name, attrs, end, start, inside, closing, inner, e, is, ends, says, place, others, p) =
       (start, inside, closing, e, is, content-is content (at + length start) (declarations t.attrs ∷ scopes) inside inner others, ends)
 
@@ -108,7 +108,7 @@ mutual
 
 mutual
   pub tree-means : (tree : Tree) (at : ℕ) (scopes : List (List Declaration)) (w : List ℕ) (ps : List Part) → TreeParts tree at scopes w ps → (m : Meaning) × (meaning tree scopes ≡ Some m)
-  tree-means (Bare t) at scopes w ps (name, attrs, end, is, says, place, p) = (_, ap (λ o. of_tag o (Some End)) says)
+  tree-means (EmptyElement t) at scopes w ps (name, attrs, end, is, says, place, p) = (_, ap (λ o. of_tag o (Some End)) says)
   tree-means (Full t content) at scopes w ps (name, attrs, end, start, inside, closing, inner, e, is, ends, says, place, others, p) =
       let m = content-means content (at + length start) (declarations t.attrs ∷ scopes) inside inner others in
       (_, ap (λ o. of_tag o (meanings content (declarations t.attrs ∷ scopes))) says ∙ ap (of_tag (Some (name, attrs))) m.1)

@@ -3,7 +3,7 @@ use Rattle.std.proofs.Common.{◌≡◌, ℕ, ◌-◌, ◌<◌, Option, Some, No
 use Rattle.cds_markup.specs.declared.part.Part.{Part}
 use Rattle.cds_markup.specs.declared.tag.Open.{Open}
 use Rattle.cds_markup.specs.declared.error.Stop.{Stop}
-use Rattle.cds_markup.specs.declared.error.Stop.TheVariants.{Broken, Unruly, Deep, Mem}
+use Rattle.cds_markup.specs.declared.error.Stop.TheVariants.{Broken, NamespaceRule, Deep, Mem}
 use Rattle.cds_markup.specs.Step.{Step, Agrees}
 use Rattle.cds_markup.specs.Reading.{prolog_at, epilog_at}
 use Rattle.cds_markup.specs.Course.{Moved, Halted, Course, place, piece_moves, content_at, start_moves, goes_on, halted, with_parts, behind_root, ended, root_course, from_root, course_of}
@@ -43,7 +43,7 @@ module _ (S : Type 0) (took : S → List Part → S → Type 0) (took-none : (a 
   runs-err : (before : S) (course : Course) (stop : Stop) (parts : List Part) (now : S) (left : List ℕ) → course ≡ course3 parts (Some stop) left → took before parts now → Runs took before course (Err stop) now left
   runs-err before course Mem parts now left e t = tt
   runs-err before course Broken parts now left e t = (subst (λ p. took before p now) (sym (ap (λ c. c.parts) e)) t, ap (λ c. c.stop) e, sym (ap (λ c. c.left) e))
-  runs-err before course Unruly parts now left e t = (subst (λ p. took before p now) (sym (ap (λ c. c.parts) e)) t, ap (λ c. c.stop) e, sym (ap (λ c. c.left) e))
+  runs-err before course NamespaceRule parts now left e t = (subst (λ p. took before p now) (sym (ap (λ c. c.parts) e)) t, ap (λ c. c.stop) e, sym (ap (λ c. c.left) e))
   runs-err before course Deep parts now left e t = (subst (λ p. took before p now) (sym (ap (λ c. c.parts) e)) t, ap (λ c. c.stop) e, sym (ap (λ c. c.left) e))
 
   -- parts that were taken before a course
@@ -51,7 +51,7 @@ module _ (S : Type 0) (took : S → List Part → S → Type 0) (took-none : (a 
   run-behind a b ps course (Err Mem) now left t r = tt
   run-behind a b ps course (Ok done) now left t r = (took-more a b now ps course.parts t r.0, r.1, r.2)
   run-behind a b ps course (Err Broken) now left t r = (took-more a b now ps course.parts t r.0, r.1, r.2)
-  run-behind a b ps course (Err Unruly) now left t r = (took-more a b now ps course.parts t r.0, r.1, r.2)
+  run-behind a b ps course (Err NamespaceRule) now left t r = (took-more a b now ps course.parts t r.0, r.1, r.2)
   run-behind a b ps course (Err Deep) now left t r = (took-more a b now ps course.parts t r.0, r.1, r.2)
 
   pub none-yet : (before : S) (total : ℕ) (opens : List Open) (left : List ℕ) → SoFar took before (content_at total opens left) total before opens left
@@ -81,13 +81,13 @@ module _ (S : Type 0) (took : S → List Part → S → Type 0) (took-none : (a 
   halted-err : (before : S) (course : Course) (out : S) (ps : List Part) (h : Halted) (stop : Stop) (now : After S) → took before ps out → course3 (ps ++ h.parts) (Some h.stop) h.left ≡ course → Moves took out (Err h) (Err stop) now → Runs took before course (Err stop) now.out now.left
   halted-err before course out ps h Mem now t e m = tt
   halted-err before course out ps h Broken now t e m = runs-err before course Broken (ps ++ h.parts) now.out now.left (sym e ∙ ap (λ s. course3 (ps ++ h.parts) (Some s) h.left) (sym m.1) ∙ ap (λ l. course3 (ps ++ h.parts) (Some Broken) l) (sym m.2)) (took-more before out now.out ps h.parts t m.0)
-  halted-err before course out ps h Unruly now t e m = runs-err before course Unruly (ps ++ h.parts) now.out now.left (sym e ∙ ap (λ s. course3 (ps ++ h.parts) (Some s) h.left) (sym m.1) ∙ ap (λ l. course3 (ps ++ h.parts) (Some Unruly) l) (sym m.2)) (took-more before out now.out ps h.parts t m.0)
+  halted-err before course out ps h NamespaceRule now t e m = runs-err before course NamespaceRule (ps ++ h.parts) now.out now.left (sym e ∙ ap (λ s. course3 (ps ++ h.parts) (Some s) h.left) (sym m.1) ∙ ap (λ l. course3 (ps ++ h.parts) (Some NamespaceRule) l) (sym m.2)) (took-more before out now.out ps h.parts t m.0)
   halted-err before course out ps h Deep now t e m = runs-err before course Deep (ps ++ h.parts) now.out now.left (sym e ∙ ap (λ s. course3 (ps ++ h.parts) (Some s) h.left) (sym m.1) ∙ ap (λ l. course3 (ps ++ h.parts) (Some Deep) l) (sym m.2)) (took-more before out now.out ps h.parts t m.0)
 
   moved-err : (before : S) (course : Course) (out : S) (k : Moved) (stop : Stop) (now : After S) → Moves took out (Ok k) (Err stop) now → Runs took before course (Err stop) now.out now.left
   moved-err before course out k Mem now m = tt
   moved-err before course out k Broken now m = absurd m
-  moved-err before course out k Unruly now m = absurd m
+  moved-err before course out k NamespaceRule now m = absurd m
   moved-err before course out k Deep now m = absurd m
 
   piece-err : (before : S) (course : Course) (total : ℕ) (out : S) (o : Open) (outer : List Open) (left : List ℕ) (step : Result Moved Halted) (stop : Stop) (now : After S) → SoFar took before course total out (o ∷ outer) left → piece_moves total o.name outer (o ∷ outer) left ≡ step → Moves took out step (Err stop) now → Runs took before course (Err stop) now.out now.left
@@ -115,7 +115,7 @@ module _ (S : Type 0) (took : S → List Part → S → Type 0) (took-none : (a 
   stopped-root : (before : S) (course : Course) (stop : Stop) (now : S) (left : List ℕ) → Runs took before course (Err stop) now left → Runs took before (behind_root course) (Err stop) now left
   stopped-root before course Mem now left r = tt
   stopped-root before course Broken now left r = subst (λ c. Runs took before c (Err Broken) now left) (sym (behind-stopped course Broken r.1)) r
-  stopped-root before course Unruly now left r = subst (λ c. Runs took before c (Err Unruly) now left) (sym (behind-stopped course Unruly r.1)) r
+  stopped-root before course NamespaceRule now left r = subst (λ c. Runs took before c (Err NamespaceRule) now left) (sym (behind-stopped course NamespaceRule r.1)) r
   stopped-root before course Deep now left r = subst (λ c. Runs took before c (Err Deep) now left) (sym (behind-stopped course Deep r.1)) r
 
   -- the root's tag was read, and then what stands in it
@@ -137,11 +137,11 @@ module _ (S : Type 0) (took : S → List Part → S → Type 0) (took-none : (a 
   ended-runs out step (Err Mem) left a = tt
   ended-runs out (Ok found) (Ok done) left a = (took-none out, refl, a.1)
   ended-runs out (Ok found) (Err Broken) left a = absurd a
-  ended-runs out (Ok found) (Err Unruly) left a = absurd a
+  ended-runs out (Ok found) (Err NamespaceRule) left a = absurd a
   ended-runs out (Ok found) (Err Deep) left a = absurd a
   ended-runs out (Err rest) (Ok done) left a = absurd a
   ended-runs out (Err rest) (Err Broken) left a = (took-none out, refl, a)
-  ended-runs out (Err rest) (Err Unruly) left a = absurd a
+  ended-runs out (Err rest) (Err NamespaceRule) left a = absurd a
   ended-runs out (Err rest) (Err Deep) left a = absurd a
 
   whole-root : (before : S) (course : Course) (out : S) (mid left : List ℕ) (result : Result (Unit {0}) Stop) → Runs took before course (Ok tt) out mid → Agrees (epilog_at mid) result left → Runs took before (behind_root course) result out left
@@ -162,10 +162,10 @@ module _ (S : Type 0) (took : S → List Part → S → Type 0) (took-none : (a 
     by : (step : Step (Unit {0})) (stop : Stop) → Agrees step (Err stop) left → Runs took before (from_root (length bytes) step) (Err stop) before left
     by step Mem a = tt
     by (Ok found) Broken a = absurd a
-    by (Ok found) Unruly a = absurd a
+    by (Ok found) NamespaceRule a = absurd a
     by (Ok found) Deep a = absurd a
     by (Err rest) Broken a = (took-none before, refl, a)
-    by (Err rest) Unruly a = absurd a
+    by (Err rest) NamespaceRule a = absurd a
     by (Err rest) Deep a = absurd a
 
   pub document-runs : (before : S) (bytes left : List ℕ) (total : ℕ) (result : Result (Unit {0}) Stop) (now : S) (end : List ℕ) → total ≡ length bytes → Agrees (prolog_at bytes) (Ok tt) left → Runs took before (root_course total left) result now end → Runs took before (course_of bytes) result now end

@@ -9,13 +9,13 @@ use Rattle.cds_markup.specs.declared.part.Part.TheVariants.{Run}
 use Rattle.cds_markup.specs.declared.tag.Tag.{Tag}
 use Rattle.cds_markup.specs.Document.{line_ends}
 use Rattle.cds_markup.specs.Reading.{TextRead, text_behind}
-use Rattle.cds_markup.specs.Course.{text_parts, has_begun, odd_of}
-use Rattle.cds_markup.specs.Parts.{first_odd}
-use Rattle.cds_markup.specs.Found.{IsBegun}
+use Rattle.cds_markup.specs.Course.{text_parts, has_begun, non_blank_of}
+use Rattle.cds_markup.specs.Parts.{first_non_blank}
+use Rattle.cds_markup.specs.GivenParts.{IsBegun}
 use Rattle.cds_markup.proofs.TestForm.{has-first}
 use Rattle.cds_markup.proofs.Scan.{small-or-wide}
 use Rattle.cds_markup.proofs.TextRows.{text_step}
-use Rattle.cds_markup.proofs.Pieces.{said-err, odd-is, not-over}
+use Rattle.cds_markup.proofs.Pieces.{said-err, non-blank-is, not-over}
 use Rattle.cds_markup.proofs.TextCut.{TextTold, text-told}
 use Rattle.cds_markup.proofs.ShownForm.{Cut}
 
@@ -41,9 +41,9 @@ begun-high b bs (more, c, some, g) = by (small-or-wide c) where
 pub high-no-blank : (b : ℕ) → 128 ≤ b → is_blank b ≡ false
 high-no-blank b h = grind (arith, nat_tests)
 
-odd-begun : (at : ℕ) (front : List ℕ) (b : ℕ) (bs : List ℕ) → is_blank b ≡ false → odd_of at front true ≡ first_odd at (front ++ b ∷ bs)
-odd-begun at [] b bs e = sym (ap (λ t. cond t (first_odd (at + 1) bs) (Some at)) e)
-odd-begun at (c ∷ front) b bs e = ap (λ x. cond (is_blank c) x (Some at)) (odd-begun (at + 1) front b bs e)
+non-blank-begun : (at : ℕ) (front : List ℕ) (b : ℕ) (bs : List ℕ) → is_blank b ≡ false → non_blank_of at front true ≡ first_non_blank at (front ++ b ∷ bs)
+non-blank-begun at [] b bs e = sym (ap (λ t. cond t (first_non_blank (at + 1) bs) (Some at)) e)
+non-blank-begun at (c ∷ front) b bs e = ap (λ x. cond (is_blank c) x (Some at)) (non-blank-begun (at + 1) front b bs e)
 
 no-less : (n m : ℕ) → n ≡ m → nat_lt n m ≡ false
 no-less n m e = grind (arith, nat_tests)
@@ -76,25 +76,25 @@ module _ (at : ℕ) (left : List ℕ) (read : TextRead) (t : TextTold 0 left rea
     by [] (b ∷ begun) f g e = absurd (cc)
     by (b ∷ front) begun f g e = absurd (cc)
 
-  pub given-some : t.front ++ t.begun ≢ [] → given ≡ Run at (first_odd at (t.front ++ t.begun)) (line_ends t.front) ∷ []
+  pub given-some : t.front ++ t.begun ≢ [] → given ≡ Run at (first_non_blank at (t.front ++ t.begun)) (line_ends t.front) ∷ []
   given-some some = ap (λ xs. text_parts at xs (has_begun left read)) whole ∙ by t.front t.begun refl refl some where
-    by : (front begun : List ℕ) → t.front ≡ front → t.begun ≡ begun → t.front ++ t.begun ≢ [] → text_parts at t.front (has_begun left read) ≡ Run at (first_odd at (t.front ++ t.begun)) (line_ends t.front) ∷ []
+    by : (front begun : List ℕ) → t.front ≡ front → t.begun ≡ begun → t.front ++ t.begun ≢ [] → text_parts at t.front (has_begun left read) ≡ Run at (first_non_blank at (t.front ++ t.begun)) (line_ends t.front) ∷ []
     by [] [] f g some = absurd (some (ap (λ xs. xs ++ t.begun) f ∙ g))
     by (b ∷ front) [] f g some =
         ap (text_parts at t.front) (begins [] g)
         ∙ ap (λ xs. text_parts at xs false) f
-        ∙ ap (λ t. cond (t && true) [] (Run at (odd_of at (b ∷ front) false) (line_ends (b ∷ front)) ∷ [])) (not-over (length front))
-        ∙ ap (λ o. Run at o (line_ends (b ∷ front)) ∷ []) (odd-is at (b ∷ front) ∙ ap (first_odd at) (sym (append-nil (b ∷ front))))
-        ∙ ap (λ xs. Run at (first_odd at (xs ++ [])) (line_ends xs) ∷ []) (sym f)
-        ∙ ap (λ xs. Run at (first_odd at (t.front ++ xs)) (line_ends t.front) ∷ []) (sym g)
+        ∙ ap (λ t. cond (t && true) [] (Run at (non_blank_of at (b ∷ front) false) (line_ends (b ∷ front)) ∷ [])) (not-over (length front))
+        ∙ ap (λ o. Run at o (line_ends (b ∷ front)) ∷ []) (non-blank-is at (b ∷ front) ∙ ap (first_non_blank at) (sym (append-nil (b ∷ front))))
+        ∙ ap (λ xs. Run at (first_non_blank at (xs ++ [])) (line_ends xs) ∷ []) (sym f)
+        ∙ ap (λ xs. Run at (first_non_blank at (t.front ++ xs)) (line_ends t.front) ∷ []) (sym g)
     by front (b ∷ begun) f g some =
         let high = high-no-blank b (begun-high b begun (subst IsBegun g t.cut)) in
         ap (text_parts at t.front) (begins (b ∷ begun) g ∙ ap not (not-over (length begun)))
         ∙ none (length t.front == 0)
-        ∙ ap (λ o. Run at o (line_ends t.front) ∷ []) (odd-begun at t.front b begun high)
-        ∙ ap (λ xs. Run at (first_odd at (t.front ++ xs)) (line_ends t.front) ∷ []) (sym g)
+        ∙ ap (λ o. Run at o (line_ends t.front) ∷ []) (non-blank-begun at t.front b begun high)
+        ∙ ap (λ xs. Run at (first_non_blank at (t.front ++ xs)) (line_ends t.front) ∷ []) (sym g)
       where
-        none : (s : Bool) → cond (s && false) [] (Run at (odd_of at t.front true) (line_ends t.front) ∷ []) ≡ Run at (odd_of at t.front true) (line_ends t.front) ∷ []
+        none : (s : Bool) → cond (s && false) [] (Run at (non_blank_of at t.front true) (line_ends t.front) ∷ []) ≡ Run at (non_blank_of at t.front true) (line_ends t.front) ∷ []
         none true = refl
         none false = refl
 

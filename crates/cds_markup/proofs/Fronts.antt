@@ -12,7 +12,7 @@ use Rattle.cds_markup.specs.Refusal.{CanGoOn, Opens, LeafEnds, Refuses, IsRefuse
 use Rattle.cds_markup.specs.Agree.{Gives, Parted}
 use Rattle.cds_markup.specs.Course.{Moved, Halted, place, piece_moves, course_of, read_of, parts_of}
 use Rattle.cds_markup.specs.Parts.{OpensParts, DocumentParts, leaf_parts}
-use Rattle.cds_markup.specs.Found.{Clear, Stands, Given, Tells, TellsTo}
+use Rattle.cds_markup.specs.GivenParts.{Clear, Stands, Given, Tells, TellsTo}
 use Rattle.cds_markup.proofs.ContentForm.{ends_with_text}
 use Rattle.cds_markup.proofs.Closing.{go-same, stands-opens, close-content}
 use Rattle.cds_markup.proofs.Within.{front-of, rule-more, deep-more}

@@ -3,11 +3,11 @@ use Rattle.std.proofs.Common.{◌≡◌, ℕ, ◌<◌, ◌≤◌, nat_lt, min, B
 use Rattle.std.proofs.lemmas.Bool.Decides.{nat_tests}
 use Rattle.cds_markup.specs.declared.part.Part.{Part}
 use Rattle.cds_markup.specs.declared.error.Stop.{Stop}
-use Rattle.cds_markup.specs.declared.error.Stop.TheVariants.{Broken, Unruly, Deep}
+use Rattle.cds_markup.specs.declared.error.Stop.TheVariants.{Broken, NamespaceRule, Deep}
 use Rattle.cds_markup.specs.Document.{most_bytes}
 use Rattle.cds_markup.specs.Refusal.{CanGoOn, BreaksRule, IsTooDeep, Refuses}
 use Rattle.cds_markup.specs.Course.{course_of, within_limit, is_cut}
-use Rattle.cds_markup.specs.Found.{Clear}
+use Rattle.cds_markup.specs.GivenParts.{Clear}
 use Rattle.cds_markup.proofs.Starts.{same-here}
 use Rattle.cds_markup.proofs.ShownForm.{Shown}
 use Rattle.cds_markup.proofs.Told.{Told, Whole, Broke, Stops}
@@ -84,17 +84,17 @@ module _ (bytes : List ℕ) (cut : Bool) (l : Limit bytes cut) where
         far = far-of b.used b.rest b.spelled (λ c tail e. inl (breaks-here bytes cut l b c tail e));
       }
 
-  at-rule : Stops I Unruly (BreaksRule I) → Halts bytes
+  at-rule : Stops I NamespaceRule (BreaksRule I) → Halts bytes
   at-rule s = record {
     parts = s.parts;
-    stop = Some Unruly;
+    stop = Some NamespaceRule;
     used = s.used;
     rest = s.rest;
     spelled = s.spelled;
     is = s.is;
     can = s.can;
     shown = s.shown;
-    clear = clear-of (far-stops I Unruly (BreaksRule I) s);
+    clear = clear-of (far-stops I NamespaceRule (BreaksRule I) s);
     far = far-of s.used s.rest s.spelled (λ c tail e. inl (inr (rule-more bytes I l.more l.spelled (length s.used) s.cause)));
   }
 

@@ -4,15 +4,16 @@ use Rattle.cds_markup.specs.declared.part.Part.{Part}
 use Rattle.cds_markup.specs.declared.part.Part.TheVariants.{Start}
 use Rattle.cds_markup.specs.declared.tag.Tag.{Tag}
 use Rattle.cds_markup.specs.declared.error.Stop.{Stop}
-use Rattle.cds_markup.specs.declared.error.Stop.TheVariants.{Unruly, Deep}
+use Rattle.cds_markup.specs.declared.error.Stop.TheVariants.{NamespaceRule, Deep}
 use Rattle.cds_markup.specs.Grammar.{Content, IsContent, IsTag, IsStartTag}
 use Rattle.cds_markup.specs.Refusal.{Opens, scopes_of}
 use Rattle.cds_markup.specs.Course.{Course, place, with_parts, goes_on, content_at, behind_root, course_of}
 use Rattle.cds_markup.specs.Parts.{ContentParts, OpensParts}
 use Rattle.cds_markup.proofs.Told.{opens_of, parts-twice, Calm}
 use Rattle.cds_markup.proofs.StartSound.{tag-begins}
-use Rattle.cds_markup.proofs.Runs.{start-run, IsDeep, IsUnruly, Says}
-use Rattle.cds_markup.proofs.Complete.{Doomed, doomed-more, ContentResult, start-parts, run-content, suc-less}
+use Rattle.cds_markup.proofs.Runs.{start-run, IsDeep, IsRuleBroken, Says}
+use Rattle.cds_markup.proofs.TagForm.{start-parts}
+use Rattle.cds_markup.proofs.Complete.{Doomed, doomed-more, ContentResult, run-content, suc-less}
 use Rattle.cds_markup.proofs.Reach.{Reached, Reach, reach}
 
 pub record Inside (t : Tag) (outer : List Tag) (before x : List ℕ) : Type 0 where
@@ -59,7 +60,7 @@ module _ (t : Tag) (outer : List Tag) (b0 u inside : List ℕ) (content : Conten
   place-end : place (T b0 Y) (62 ∷ Z) + 1 ≡ length b0 + length (60 ∷ (u ++ 62 ∷ []))
   place-end = omega (arith, total, long-y, start-long)
 
-  stopped : (stop : Stop) (rest : List ℕ) (ps : List Part) → (stop ≡ Unruly) ⊎ (stop ≡ Deep) → length x < length rest → course_of (b0 ++ 60 ∷ Y) ≡ record { parts = ps; stop = Some stop; left = rest } → Doomed (course_of (Before ++ x)) x (Unit {0})
+  stopped : (stop : Stop) (rest : List ℕ) (ps : List Part) → (stop ≡ NamespaceRule) ⊎ (stop ≡ Deep) → length x < length rest → course_of (b0 ++ 60 ∷ Y) ≡ record { parts = ps; stop = Some stop; left = rest } → Doomed (course_of (Before ++ x)) x (Unit {0})
   stopped stop rest ps two long e = record { stop = stop; rest = rest; parts = ps; is = ap course_of whole ∙ e; two = two; long = long; cause = tt }
 
   long-one : length x < suc (length Z)
@@ -97,9 +98,9 @@ module _ (t : Tag) (outer : List Tag) (b0 u inside : List ℕ) (content : Conten
     fits : length Z ≤ T b0 Y
     fits = omega (arith, total, long-y)
 
-    by : IsDeep outer (T b0 Y) (length b0) u t g 62 Z refl r.deep ⊎ (IsUnruly outer (T b0 Y) (length b0) u t g 62 Z refl r.deep ⊎ Says outer (T b0 Y) (length b0) u t g 62 Z refl r.deep) → ReachInside t outer Before x
+    by : IsDeep outer (T b0 Y) (length b0) u t g 62 Z refl r.deep ⊎ (IsRuleBroken outer (T b0 Y) (length b0) u t g 62 Z refl r.deep ⊎ Says outer (T b0 Y) (length b0) u t g 62 Z refl r.deep) → ReachInside t outer Before x
     by (inl d) = inr (stopped Deep Y (r.parts ++ []) (inr refl) long-two (r.run ∙ ap (λ m. behind_root (with_parts r.parts (goes_on m (content_at (T b0 Y))))) d.moves))
-    by (inr (inl d)) = inr (stopped Unruly (62 ∷ Z) (r.parts ++ []) (inl refl) long-one (r.run ∙ ap (λ m. behind_root (with_parts r.parts (goes_on m (content_at (T b0 Y))))) d.moves))
+    by (inr (inl d)) = inr (stopped NamespaceRule (62 ∷ Z) (r.parts ++ []) (inl refl) long-one (r.run ∙ ap (λ m. behind_root (with_parts r.parts (goes_on m (content_at (T b0 Y))))) d.moves))
     by (inr (inr d)) = said r d (run-content content (T b0 Y) t outer inside x others (suc-less (length outer) d.room) calm fits)
 
 pub reach-inside : (t : Tag) (outer : List Tag) (before : List ℕ) → (o : Opens (t ∷ outer) before) → (x : List ℕ) → Calm o.3 x → ReachInside t outer before x

@@ -35,6 +35,7 @@ pub mod NameBytes
 pub mod StartSound
 pub mod Sound
 pub mod Runs
+pub mod TagForm
 pub mod Complete
 pub mod Reach
 pub mod Inner
@@ -65,6 +66,7 @@ pub mod PieceSteps
 pub mod CourseSteps
 pub mod ReadSteps
 pub mod WrittenTexts
+pub mod WholeCharacters
 pub mod WrittenTags
 pub mod WrittenScopes
 pub mod WrittenOnce
@@ -72,4 +74,6 @@ pub mod WrittenContent
 pub mod WrittenDocument
 pub mod WrittenElement
 pub mod WrittenNames
+pub mod Answering
 pub mod PiecesForm
+pub mod Public

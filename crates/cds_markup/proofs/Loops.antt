@@ -1,7 +1,7 @@
 -- Loops that read one form again and again.
 use Rattle.std.proofs.Common.{◌≡◌, ℕ, ◌<◌, Bool, true, false, Ok, Err, List, ◌∷◌, length, refl, sym, ap, subst, ◌∙◌}
 use Rattle.cds_markup.specs.declared.error.Stop.{Stop}
-use Rattle.cds_markup.specs.declared.error.Stop.TheVariants.{Broken, Unruly, Deep, Mem}
+use Rattle.cds_markup.specs.declared.error.Stop.TheVariants.{Broken, NamespaceRule, Deep, Mem}
 use Rattle.cds_markup.specs.Step.{Step, after, next_is, many_at, pass, Agrees}
 use Rattle.cds_markup.proofs.Repeats.{many_more, many_stop, many_break}
 
@@ -21,9 +21,9 @@ was-agrees {A} step value left e = let same : A × List ℕ = (value, left) in s
 pub agrees-err : {A B : Type 0} (step : Step A) (first : Step B) (stop : Stop) (left : List ℕ) → ((rest : List ℕ) → first ≡ Err rest → step ≡ Err rest) → Agrees first (Err stop) left → Agrees step (Err stop) left
 agrees-err step first Mem left h a = tt
 agrees-err step (Ok found) Broken left h a = absurd a
-agrees-err step (Ok found) Unruly left h a = absurd a
+agrees-err step (Ok found) NamespaceRule left h a = absurd a
 agrees-err step (Ok found) Deep left h a = absurd a
-agrees-err step (Err rest) Unruly left h a = absurd a
+agrees-err step (Err rest) NamespaceRule left h a = absurd a
 agrees-err step (Err rest) Deep left h a = absurd a
 agrees-err {A} step (Err rest) Broken left h a = subst (λ s. Agrees s (Err Broken) left) (sym (h rest refl)) a
 
@@ -41,8 +41,8 @@ module _ {A : Type 0} (test : ℕ → Bool) (r : List ℕ → Step A) (shorter :
 pub agrees-broke : {A : Type 0} (step : Step A) (stop : Stop) (left : List ℕ) → Agrees step (Err stop) left → (stop ≡ Mem → ⊥) → step ≡ Err left
 agrees-broke step Mem left a no-mem = absurd (no-mem refl)
 agrees-broke (Ok found) Broken left a no-mem = absurd a
-agrees-broke (Ok found) Unruly left a no-mem = absurd a
+agrees-broke (Ok found) NamespaceRule left a no-mem = absurd a
 agrees-broke (Ok found) Deep left a no-mem = absurd a
-agrees-broke (Err rest) Unruly left a no-mem = absurd a
+agrees-broke (Err rest) NamespaceRule left a no-mem = absurd a
 agrees-broke (Err rest) Deep left a no-mem = absurd a
 agrees-broke (Err rest) Broken left a no-mem = ap Err (sym a)

@@ -3,10 +3,10 @@ use Rattle.std.proofs.Common.{◌≡◌, ℕ, ◌+◌, Some, List, [], ◌∷◌
 use Rattle.cds_markup.specs.declared.part.Part.{Part}
 use Rattle.cds_markup.specs.declared.part.Part.TheVariants.{Start, End, Run}
 use Rattle.cds_markup.specs.declared.tag.Declaration.{Declaration}
-use Rattle.cds_markup.specs.Grammar.{Leaf, Text, Reference, Section, Comment, Tree, Bare, Full, Content, Nothing, LeafThen, TreeThen}
+use Rattle.cds_markup.specs.Grammar.{Leaf, Text, Reference, Section, Comment, Tree, EmptyElement, Full, Content, Nothing, LeafThen, TreeThen}
 use Rattle.cds_markup.specs.Namespaces.{declarations}
 use Rattle.cds_markup.specs.Document.{Meaning, Element, Meanings, TextThen, ChildThen, End as Childless, joined, and_joined, and_children, of_tag, leaf_says, meaning, meanings}
-use Rattle.cds_markup.specs.Parts.{TreeParts, ContentParts, leaf_parts, first_odd, nested, add_part}
+use Rattle.cds_markup.specs.Parts.{TreeParts, ContentParts, leaf_parts, first_non_blank, nested, add_part}
 
 joined-none : (children : Meanings) → joined [] children ≡ children
 joined-none Childless = refl
@@ -14,14 +14,14 @@ joined-none (TextThen more children) = refl
 joined-none (ChildThen child children) = refl
 
 leaf-nested : (at : ℕ) (leaf : Leaf) (rest : List Part) (children : Meanings) (outer : List Meanings) → nested rest ≡ children ∷ outer → nested (leaf_parts at leaf ++ rest) ≡ joined (leaf_says leaf) children ∷ outer
-leaf-nested at (Text text) rest children outer e = ap (add_part (Run at (first_odd at text) (leaf_says (Text text)))) e
+leaf-nested at (Text text) rest children outer e = ap (add_part (Run at (first_non_blank at text) (leaf_says (Text text)))) e
 leaf-nested at (Reference c) rest children outer e = ap (add_part (Run at (Some at) (leaf_says (Reference c)))) e
 leaf-nested at (Section text) rest children outer e = ap (add_part (Run at (Some at) (leaf_says (Section text)))) e
 leaf-nested at Comment rest children outer e = e ∙ ap (λ xs. xs ∷ outer) (sym (joined-none children))
 
 mutual
   pub tree-nested : (tree : Tree) (at : ℕ) (scopes : List (List Declaration)) (w : List ℕ) (ps rest : List Part) (siblings : Meanings) (outer : List Meanings) → TreeParts tree at scopes w ps → nested rest ≡ siblings ∷ outer → (m : Meaning) × (meaning tree scopes ≡ Some m) × (nested (ps ++ rest) ≡ ChildThen m siblings ∷ outer)
-  tree-nested (Bare t) at scopes w ps rest siblings outer (name, attrs, end, is, says, place, p) e = (
+  tree-nested (EmptyElement t) at scopes w ps rest siblings outer (name, attrs, end, is, says, place, p) e = (
     Element name attrs Childless,
     ap (λ o. of_tag o (Some Childless)) says,
     ap (λ xs. nested (xs ++ rest)) p ∙ ap (λ xs. add_part (Start at end name attrs) (add_part (End end) xs)) e,

@@ -11,9 +11,9 @@ use Rattle.cds_markup.specs.declared.tag.Tag.{Tag}
 use Rattle.cds_markup.specs.Grammar.{Leaf, Text, Reference, Section, Comment, Nothing, LeafThen, is_text, is_in_text, IsText}
 use Rattle.cds_markup.specs.Document.{line_ends, most_bytes}
 use Rattle.cds_markup.specs.Refusal.{TextByte, scopes_of}
-use Rattle.cds_markup.specs.Reading.{is_less, is_and}
-use Rattle.cds_markup.specs.Parts.{OpensParts, first_odd, leaf_parts}
-use Rattle.cds_markup.specs.Found.{Clear, StartStands, EndStands, BareStands, LeafStands, TextStands, BehindNoText, IsPlain, IsBegun, Stands, Given, PartsGiven, TextGiven}
+use Rattle.cds_markup.specs.Reading.{is_less, is_ampersand}
+use Rattle.cds_markup.specs.Parts.{OpensParts, first_non_blank, leaf_parts}
+use Rattle.cds_markup.specs.GivenParts.{Clear, StartStands, EndStands, EmptyStands, LeafStands, TextStands, BehindNoText, IsPlain, IsBegun, Stands, Given, PartsGiven, TextGiven}
 use Rattle.cds_markup.proofs.TextRows.{TextFrom, markup}
 use Rattle.cds_markup.proofs.Scan.{clean}
 use Rattle.cds_markup.proofs.Closing.{stands-opens}
@@ -21,7 +21,7 @@ use Rattle.cds_markup.proofs.Told.{stands-deep, stands-more, leaf-content}
 use Rattle.cds_markup.proofs.Sound.{text-is-text}
 use Rattle.cds_markup.proofs.CutParts.{begun-high, high-no-blank}
 use Rattle.cds_markup.proofs.Within.{front-of}
-use Rattle.cds_markup.proofs.TextStanding.{of-plain, plain-of, plain-first, OddAt, odd-found}
+use Rattle.cds_markup.proofs.TextStanding.{of-plain, plain-of, plain-first, NonBlankAt, non-blank-found}
 use Rattle.cds_markup.proofs.Places.{place_of, MarkedFrom, leaf-begins, parts-before, marked-behind, none-within}
 use Rattle.cds_markup.proofs.OpenClear.{clear-open}
 
@@ -69,11 +69,11 @@ settle tags others before front c e l rest p o u here there d none = by (meets e
 some-said : (name other : Name) (attrs more : List Attr) → ◌≡◌ {A = Option (Name × List Attr)} (Some (name, attrs)) (Some (other, more)) → (name ≡ other) × (attrs ≡ more)
 some-said name other attrs more e = let same : ◌≡◌ {A = Name × List Attr} (name, attrs) (other, more) = cc in (ap (λ x. x.0) same, ap (λ x. x.1) same)
 
-leaf-place : (at : ℕ) (leaf : Leaf) (begin : ℕ) (odd : Option ℕ) (text : List ℕ) → leaf_parts at leaf ≡ Run begin odd text ∷ [] → at ≡ begin
-leaf-place at (Text text) begin odd said e = ap place_of (part-tails (Run at (first_odd at text) (line_ends text)) (Run begin odd said) [] [] e).0
-leaf-place at (Reference c) begin odd said e = ap place_of (part-tails (Run at (Some at) (encode_utf8 c)) (Run begin odd said) [] [] e).0
-leaf-place at (Section text) begin odd said e = ap place_of (part-tails (Run at (Some at) (line_ends text)) (Run begin odd said) [] [] e).0
-leaf-place at Comment begin odd said e = absurd (cc)
+leaf-place : (at : ℕ) (leaf : Leaf) (begin : ℕ) (non_blank : Option ℕ) (text : List ℕ) → leaf_parts at leaf ≡ Run begin non_blank text ∷ [] → at ≡ begin
+leaf-place at (Text text) begin non_blank said e = ap place_of (part-tails (Run at (first_non_blank at text) (line_ends text)) (Run begin non_blank said) [] [] e).0
+leaf-place at (Reference c) begin non_blank said e = ap place_of (part-tails (Run at (Some at) (encode_utf8 c)) (Run begin non_blank said) [] [] e).0
+leaf-place at (Section text) begin non_blank said e = ap place_of (part-tails (Run at (Some at) (line_ends text)) (Run begin non_blank said) [] [] e).0
+leaf-place at Comment begin non_blank said e = absurd (cc)
 
 module _ (bytes : List ℕ) (ps : List Part) (g : Given bytes ps) (c rest : List Part) (d : ps ≡ c ++ rest) where
   next-start : (begin end : ℕ) (name : Name) (attrs : List Attr) → StartStands bytes c begin end name attrs → NotBefore begin rest → First (Start begin end name attrs) rest
@@ -90,26 +90,26 @@ module _ (bytes : List ℕ) (ps : List Part) (g : Given bytes ps) (c rest : List
       let f = g.ends s.tag s.outer begin s.at s.found s.clear in
       (f.later, settle (s.tag ∷ s.outer) (s.tag ∷ s.outer) s.found.before s.found.before c f.earlier f.later rest (End begin) s.parts f.opens (sym s.found.begins) (sym s.found.begins) (sym f.is ∙ d) none)
 
-  next-bare : (at : ℕ) → BareStands bytes c at → First (End at) rest
-  next-bare at s =
-      let f = g.bares s.start.tags s.begin at s.start.tag s.start.found s.more s.slash s.closes s.clear in
+  next-empty : (at : ℕ) → EmptyStands bytes c at → First (End at) rest
+  next-empty at s =
+      let f = g.empties s.start.tags s.begin at s.start.tag s.start.found s.more s.slash s.closes s.clear in
       let whole : ps ≡ s.front ++ Start s.begin at s.name s.attrs ∷ rest = d ∙ ap (λ xs. xs ++ rest) s.is ∙ append_assoc s.front (Start s.begin at s.name s.attrs ∷ []) rest in
       let same = settle s.start.tags s.start.tags s.start.found.before s.start.found.before s.front f.given.earlier (End at ∷ f.given.later) (Start s.begin at s.name s.attrs ∷ rest) (Start s.begin at f.name f.attrs) s.start.parts f.given.opens (sym s.start.found.begins) (sym s.start.found.begins) (sym f.given.is ∙ whole)
       (λ q more e. omega (arith, ap place_of (part-tails (Start s.begin at s.name s.attrs) q rest more e).0)) in
       (f.given.later, (part-tails (Start s.begin at s.name s.attrs) (Start s.begin at f.name f.attrs) rest (End at ∷ f.given.later) same).1)
 
-  next-leaf : (begin : ℕ) (odd : Option ℕ) (text : List ℕ) → LeafStands bytes c (Run begin odd text) → NotBefore begin rest → First (Run begin odd text) rest
-  next-leaf begin odd text s none =
+  next-leaf : (begin : ℕ) (non_blank : Option ℕ) (text : List ℕ) → LeafStands bytes c (Run begin non_blank text) → NotBefore begin rest → First (Run begin non_blank text) rest
+  next-leaf begin non_blank text s none =
       let f = g.leaves s.tags s.begin s.at s.leaf s.found s.no_text s.clear in
-      let place = leaf-place s.begin s.leaf begin odd text s.is in
-      (f.later, settle s.tags s.tags s.found.before s.found.before c f.earlier f.later rest (Run begin odd text) s.parts f.opens (sym s.found.begins ∙ place) (sym s.found.begins ∙ place) (sym (f.is ∙ ap (λ xs. f.earlier ++ (xs ++ f.later)) s.is) ∙ d) none)
+      let place = leaf-place s.begin s.leaf begin non_blank text s.is in
+      (f.later, settle s.tags s.tags s.found.before s.found.before c f.earlier f.later rest (Run begin non_blank text) s.parts f.opens (sym s.found.begins ∙ place) (sym s.found.begins ∙ place) (sym (f.is ∙ ap (λ xs. f.earlier ++ (xs ++ f.later)) s.is) ∙ d) none)
 
 -- a text is no reference and no section
 clash : (s u : Bool) → (s || u) ≡ true → s ≡ false → u ≡ false → ⊥
 clash s u h e d = grind arith
 
-module _ (bytes : List ℕ) (c : List Part) (begin : ℕ) (odd : Option ℕ) (text : List ℕ) (s : TextStands bytes c begin odd text) where
-  first : (b : ℕ) × (v : List ℕ) × (s.front ++ s.begun ≡ b ∷ v) × (is_less b ≡ false) × (is_and b ≡ false)
+module _ (bytes : List ℕ) (c : List Part) (begin : ℕ) (non_blank : Option ℕ) (text : List ℕ) (s : TextStands bytes c begin non_blank text) where
+  first : (b : ℕ) × (v : List ℕ) × (s.front ++ s.begun ≡ b ∷ v) × (is_less b ≡ false) × (is_ampersand b ≡ false)
   first = plain-first s.front s.begun (of-plain s.front s.plain) s.cut s.some
 
   spelled-first : bytes ≡ s.before ++ first.0 ∷ (first.1 ++ s.rest)
@@ -129,16 +129,16 @@ same-behind bytes a x b y e d h =
 byte-tails : (b c : ℕ) (x y : List ℕ) → b ∷ x ≡ c ∷ y → (b ≡ c) × (x ≡ y)
 byte-tails b c x y e = (cc, cc)
 
-no-leaf-here : (bytes before x : List ℕ) (b : ℕ) (e : List Part) (begin : ℕ) (odd : Option ℕ) (text : List ℕ) → bytes ≡ before ++ b ∷ x → length before ≡ begin → is_less b ≡ false → is_and b ≡ false → LeafStands bytes e (Run begin odd text) → ⊥
-no-leaf-here bytes before x b e begin odd text spelled here no-less no-and l =
-    let place = leaf-place l.begin l.leaf begin odd text l.is in
+no-leaf-here : (bytes before x : List ℕ) (b : ℕ) (e : List Part) (begin : ℕ) (non_blank : Option ℕ) (text : List ℕ) → bytes ≡ before ++ b ∷ x → length before ≡ begin → is_less b ≡ false → is_ampersand b ≡ false → LeafStands bytes e (Run begin non_blank text) → ⊥
+no-leaf-here bytes before x b e begin non_blank text spelled here no-less no-and l =
+    let place = leaf-place l.begin l.leaf begin non_blank text l.is in
     let m = leaf-begins l.leaf l.found.front l.found.is_leaf l.no_text in
     let same = same-behind bytes before (b ∷ x) l.found.before (l.found.front ++ l.found.rest) spelled l.found.spelled (omega (arith, here, place, l.found.begins)) in
     let heads = byte-tails b m.first x (m.rest ++ l.found.rest) (same.1 ∙ ap (λ xs. xs ++ l.found.rest) m.spelled) in
-    clash (is_less b) (is_and b) (subst (λ b. markup b ≡ true) (sym heads.0) m.marks) no-less no-and
+    clash (is_less b) (is_ampersand b) (subst (λ b. markup b ≡ true) (sym heads.0) m.marks) no-less no-and
 
 -- two texts at one place
-module _ (bytes : List ℕ) (c e : List Part) (begin : ℕ) (odd other : Option ℕ) (text said : List ℕ) (s : TextStands bytes c begin odd text) (r : TextStands bytes e begin other said) where
+module _ (bytes : List ℕ) (c e : List Part) (begin : ℕ) (non_blank other : Option ℕ) (text said : List ℕ) (s : TextStands bytes c begin non_blank text) (r : TextStands bytes e begin other said) where
   same-rest : s.front ++ (s.begun ++ s.rest) ≡ r.front ++ (r.begun ++ r.rest)
   same-rest = (same-behind bytes s.before (s.front ++ (s.begun ++ s.rest)) r.before (r.front ++ (r.begun ++ r.rest)) s.spelled r.spelled (sym s.begins ∙ r.begins)).1
 
@@ -154,51 +154,51 @@ le-is m n e = grind (arith, nat_tests)
 le-not : (m n : ℕ) → nat_le m n ≡ false → n ≤ m
 le-not m n e = grind (arith, nat_tests)
 
-module _ (bytes : List ℕ) (c e : List Part) (begin : ℕ) (odd other : Option ℕ) (text said : List ℕ) (s : TextStands bytes c begin odd text) (r : TextStands bytes e begin other said) where
+module _ (bytes : List ℕ) (c e : List Part) (begin : ℕ) (non_blank other : Option ℕ) (text said : List ℕ) (s : TextStands bytes c begin non_blank text) (r : TextStands bytes e begin other said) where
   same-front : r.front ≡ s.front
   same-front = by (nat_le (length s.front) (length r.front)) refl where
     by : (t : Bool) → nat_le (length s.front) (length r.front) ≡ t → r.front ≡ s.front
-    by true h = not-longer bytes c e begin odd other text said s r (le-is (length s.front) (length r.front) h)
-    by false h = sym (not-longer bytes e c begin other odd said text r s (le-not (length s.front) (length r.front) h))
+    by true h = not-longer bytes c e begin non_blank other text said s r (le-is (length s.front) (length r.front) h)
+    by false h = sym (not-longer bytes e c begin other non_blank said text r s (le-not (length s.front) (length r.front) h))
 
   same-text : said ≡ text
   same-text = r.says ∙ ap line_ends same-front ∙ sym s.says
 
 -- the first character that is no blank
-odd-more : (at odd : ℕ) (v w : List ℕ) → first_odd at v ≡ Some odd → first_odd at (v ++ w) ≡ Some odd
-odd-more at odd [] w e = absurd (cc)
-odd-more at odd (b ∷ v) w e = by (is_blank b) e (λ d. odd-more (at + 1) odd v w d) where
-  by : (t : Bool) → cond t (first_odd (at + 1) v) (Some at) ≡ Some odd → (first_odd (at + 1) v ≡ Some odd → first_odd (at + 1) (v ++ w) ≡ Some odd) → cond t (first_odd (at + 1) (v ++ w)) (Some at) ≡ Some odd
+non-blank-more : (at non_blank : ℕ) (v w : List ℕ) → first_non_blank at v ≡ Some non_blank → first_non_blank at (v ++ w) ≡ Some non_blank
+non-blank-more at non_blank [] w e = absurd (cc)
+non-blank-more at non_blank (b ∷ v) w e = by (is_blank b) e (λ d. non-blank-more (at + 1) non_blank v w d) where
+  by : (t : Bool) → cond t (first_non_blank (at + 1) v) (Some at) ≡ Some non_blank → (first_non_blank (at + 1) v ≡ Some non_blank → first_non_blank (at + 1) (v ++ w) ≡ Some non_blank) → cond t (first_non_blank (at + 1) (v ++ w)) (Some at) ≡ Some non_blank
   by true d go = go d
   by false d go = d
 
-some-odd : (m n : ℕ) → ◌≡◌ {A = Option ℕ} (Some m) (Some n) → m ≡ n
-some-odd m n e = cc
+some-non-blank : (m n : ℕ) → ◌≡◌ {A = Option ℕ} (Some m) (Some n) → m ≡ n
+some-non-blank m n e = cc
 
-same-odd : (at m n : ℕ) (v w x y z : List ℕ) → v ++ x ≡ z → w ++ y ≡ z → first_odd at v ≡ Some m → first_odd at w ≡ Some n → m ≡ n
-same-odd at m n v w x y z e d f h = some-odd m n (sym (ap (first_odd at) (sym e) ∙ odd-more at m v x f) ∙ (ap (first_odd at) (sym d) ∙ odd-more at n w y h))
+same-non-blank : (at m n : ℕ) (v w x y z : List ℕ) → v ++ x ≡ z → w ++ y ≡ z → first_non_blank at v ≡ Some m → first_non_blank at w ≡ Some n → m ≡ n
+same-non-blank at m n v w x y z e d f h = some-non-blank m n (sym (ap (first_non_blank at) (sym e) ∙ non-blank-more at m v x f) ∙ (ap (first_non_blank at) (sym d) ∙ non-blank-more at n w y h))
 
-abbrev odd_said : Part → Option ℕ
-odd_said (Start at end name attrs) = None
-odd_said (End at) = None
-odd_said (Run at odd text) = odd
+abbrev non_blank_said : Part → Option ℕ
+non_blank_said (Start at end name attrs) = None
+non_blank_said (End at) = None
+non_blank_said (Run at non_blank text) = non_blank
 
-leaf-odd : (at : ℕ) (leaf : Leaf) (begin odd : ℕ) (text : List ℕ) → leaf_parts at leaf ≡ Run begin (Some odd) text ∷ [] → is_text leaf ≡ false → at ≡ odd
-leaf-odd at (Text text) begin odd said e h = absurd (cc)
-leaf-odd at (Reference c) begin odd said e h = some-odd at odd (ap odd_said (part-tails (Run at (Some at) (encode_utf8 c)) (Run begin (Some odd) said) [] [] e).0)
-leaf-odd at (Section text) begin odd said e h = some-odd at odd (ap odd_said (part-tails (Run at (Some at) (line_ends text)) (Run begin (Some odd) said) [] [] e).0)
-leaf-odd at Comment begin odd said e h = absurd (cc)
+leaf-non-blank : (at : ℕ) (leaf : Leaf) (begin non_blank : ℕ) (text : List ℕ) → leaf_parts at leaf ≡ Run begin (Some non_blank) text ∷ [] → is_text leaf ≡ false → at ≡ non_blank
+leaf-non-blank at (Text text) begin non_blank said e h = absurd (cc)
+leaf-non-blank at (Reference c) begin non_blank said e h = some-non-blank at non_blank (ap non_blank_said (part-tails (Run at (Some at) (encode_utf8 c)) (Run begin (Some non_blank) said) [] [] e).0)
+leaf-non-blank at (Section text) begin non_blank said e h = some-non-blank at non_blank (ap non_blank_said (part-tails (Run at (Some at) (line_ends text)) (Run begin (Some non_blank) said) [] [] e).0)
+leaf-non-blank at Comment begin non_blank said e h = absurd (cc)
 
 not-less : (b : ℕ) → b ≢ 60 → is_less b ≡ false
 not-less b h = grind (arith, nat_tests)
 
-not-and : (b : ℕ) → b ≢ 38 → is_and b ≡ false
+not-and : (b : ℕ) → b ≢ 38 → is_ampersand b ≡ false
 not-and b h = grind (arith, nat_tests)
 
 -- a text with a first character that is no blank is not given without it
 module _ (bytes : List ℕ) (ps : List Part) (g : Given bytes ps) (c rest : List Part) (begin at : ℕ) (text said : List ℕ) (d : ps ≡ c ++ Run begin None said ∷ rest) (s : TextStands bytes c begin (Some at) text) where
-  odd-at : OddAt begin at (s.front ++ s.begun)
-  odd-at = odd-found s.plain.characters s.front s.begun s.plain.each s.cut begin at (sym s.is_odd)
+  non-blank-at : NonBlankAt begin at (s.front ++ s.begun)
+  non-blank-at = non-blank-found s.plain.characters s.front s.begun s.plain.each s.cut begin at (sym s.is_non_blank)
 
   f : (byte : ℕ) × TextByte bytes s.tags at byte × Clear bytes at
   f = s.found at refl
@@ -206,39 +206,39 @@ module _ (bytes : List ℕ) (ps : List Part) (g : Given bytes ps) (c rest : List
   x : TextGiven bytes ps s.tags at
   x = g.texts s.tags at f.0 f.1 f.2
 
-  in-front : (later : List Part) → c ≡ x.earlier ++ Run (length x.before) (Some x.odd) x.text ∷ later → ⊥
+  in-front : (later : List Part) → c ≡ x.earlier ++ Run (length x.before) (Some x.non_blank) x.text ∷ later → ⊥
   in-front later a =
-      none-within bytes x.before x.between x.rest s.before (s.front ++ (s.begun ++ s.rest)) x.spelled x.plain s.spelled (marked-behind s.tags s.before c s.parts s.whole x.earlier later (Run (length x.before) (Some x.odd) x.text) a).1
-      (omega (arith, x.place, s.begins, odd-at.place))
+      none-within bytes x.before x.between x.rest s.before (s.front ++ (s.begun ++ s.rest)) x.spelled x.plain s.spelled (marked-behind s.tags s.before c s.parts s.whole x.earlier later (Run (length x.before) (Some x.non_blank) x.text) a).1
+      (omega (arith, x.place, s.begins, non-blank-at.place))
 
-  letter-leaf : LeafStands bytes x.earlier (Run (length x.before) (Some x.odd) x.text) → ⊥
+  letter-leaf : LeafStands bytes x.earlier (Run (length x.before) (Some x.non_blank) x.text) → ⊥
   letter-leaf l =
       let byte = x.letter.0 in
       let t = x.letter.1 in
-      no-leaf-here bytes t.before t.rest byte x.earlier (length x.before) (Some x.odd) x.text t.spelled
-      (sym t.place ∙ sym (leaf-odd l.begin l.leaf (length x.before) x.odd x.text l.is l.no_text) ∙ leaf-place l.begin l.leaf (length x.before) (Some x.odd) x.text l.is)
+      no-leaf-here bytes t.before t.rest byte x.earlier (length x.before) (Some x.non_blank) x.text t.spelled
+      (sym t.place ∙ sym (leaf-non-blank l.begin l.leaf (length x.before) x.non_blank x.text l.is l.no_text) ∙ leaf-place l.begin l.leaf (length x.before) (Some x.non_blank) x.text l.is)
       (not-less byte t.no_markup.0) (not-and byte t.no_markup.1) l
 
-  blanks-spelled : bytes ≡ s.before ++ (odd-at.blanks ++ ((odd-at.byte ∷ odd-at.rest) ++ s.rest))
+  blanks-spelled : bytes ≡ s.before ++ (non-blank-at.blanks ++ ((non-blank-at.byte ∷ non-blank-at.rest) ++ s.rest))
   blanks-spelled =
-      s.spelled ∙ ap (λ xs. s.before ++ xs) (sym (append_assoc s.front s.begun s.rest) ∙ ap (λ xs. xs ++ s.rest) odd-at.spelled ∙ append_assoc odd-at.blanks (odd-at.byte ∷ odd-at.rest) s.rest)
+      s.spelled ∙ ap (λ xs. s.before ++ xs) (sym (append_assoc s.front s.begun s.rest) ∙ ap (λ xs. xs ++ s.rest) non-blank-at.spelled ∙ append_assoc non-blank-at.blanks (non-blank-at.byte ∷ non-blank-at.rest) s.rest)
 
-  behind-it : (between : List Part) → x.earlier ≡ c ++ Run begin None said ∷ between → TextStands bytes x.earlier (length x.before) (Some x.odd) x.text → ⊥
+  behind-it : (between : List Part) → x.earlier ≡ c ++ Run begin None said ∷ between → TextStands bytes x.earlier (length x.before) (Some x.non_blank) x.text → ⊥
   behind-it between a t =
       let m = (marked-behind t.tags t.before x.earlier t.parts t.whole c between (Run begin None said) a).1 in
-      none-within bytes s.before odd-at.blanks ((odd-at.byte ∷ odd-at.rest) ++ s.rest) t.before (t.front ++ (t.begun ++ t.rest)) blanks-spelled (plain-of odd-at.blanks (odd-at.text 0)) t.spelled (subst (MarkedFrom t.before) s.begins m)
-      (omega (arith, x.place, s.begins, t.begins, odd-at.place))
+      none-within bytes s.before non-blank-at.blanks ((non-blank-at.byte ∷ non-blank-at.rest) ++ s.rest) t.before (t.front ++ (t.begun ++ t.rest)) blanks-spelled (plain-of non-blank-at.blanks (non-blank-at.text 0)) t.spelled (subst (MarkedFrom t.before) s.begins m)
+      (omega (arith, x.place, s.begins, t.begins, non-blank-at.place))
 
-  odd-given : ⊥
-  odd-given = by (meets x.earlier c x.later (Run begin None said ∷ rest) (Run (length x.before) (Some x.odd) x.text) (sym x.is ∙ d)) where
-    same-run : (p q : Part) → p ≡ q → odd_said p ≡ None → odd_said q ≡ Some x.odd → ⊥
-    same-run p q e a b = let no : ◌≡◌ {A = Option ℕ} None (Some x.odd) = sym a ∙ ap odd_said e ∙ b in absurd (cc)
+  non-blank-given : ⊥
+  non-blank-given = by (meets x.earlier c x.later (Run begin None said ∷ rest) (Run (length x.before) (Some x.non_blank) x.text) (sym x.is ∙ d)) where
+    same-run : (p q : Part) → p ≡ q → non_blank_said p ≡ None → non_blank_said q ≡ Some x.non_blank → ⊥
+    same-run p q e a b = let no : ◌≡◌ {A = Option ℕ} None (Some x.non_blank) = sym a ∙ ap non_blank_said e ∙ b in absurd (cc)
 
-    by : Before x.earlier (Run (length x.before) (Some x.odd) x.text) c ⊎ (Same x.earlier c (Run (length x.before) (Some x.odd) x.text) x.later (Run begin None said ∷ rest) ⊎ Behind x.earlier c (Run begin None said ∷ rest)) → ⊥
+    by : Before x.earlier (Run (length x.before) (Some x.non_blank) x.text) c ⊎ (Same x.earlier c (Run (length x.before) (Some x.non_blank) x.text) x.later (Run begin None said ∷ rest) ⊎ Behind x.earlier c (Run begin None said ∷ rest)) → ⊥
     by (inl (later, a)) = in-front later a
-    by (inr (inl (a, b))) = same-run (Run begin None said) (Run (length x.before) (Some x.odd) x.text) (part-tails (Run begin None said) (Run (length x.before) (Some x.odd) x.text) rest x.later b).0 refl refl
-    by (inr (inr (q, more, between, a, b))) = stands (g.each x.earlier x.later (Run (length x.before) (Some x.odd) x.text) x.is) where
-      stands : LeafStands bytes x.earlier (Run (length x.before) (Some x.odd) x.text) ⊎ TextStands bytes x.earlier (length x.before) (Some x.odd) x.text → ⊥
+    by (inr (inl (a, b))) = same-run (Run begin None said) (Run (length x.before) (Some x.non_blank) x.text) (part-tails (Run begin None said) (Run (length x.before) (Some x.non_blank) x.text) rest x.later b).0 refl refl
+    by (inr (inr (q, more, between, a, b))) = stands (g.each x.earlier x.later (Run (length x.before) (Some x.non_blank) x.text) x.is) where
+      stands : LeafStands bytes x.earlier (Run (length x.before) (Some x.non_blank) x.text) ⊎ TextStands bytes x.earlier (length x.before) (Some x.non_blank) x.text → ⊥
       stands (inl l) = letter-leaf l
       stands (inr t) = behind-it between (b ∙ ap (λ p. c ++ p ∷ between) (sym (part-tails (Run begin None said) q rest more a).0)) t
 
@@ -273,12 +273,12 @@ pub record Near (bytes : List ℕ) (ps : List Part) (at : ℕ) : Type 0 where
   pub front : List ℕ
   pub between : List ℕ
   pub rest : List ℕ
-  pub odd : Option ℕ
+  pub non_blank : Option ℕ
   pub text : List ℕ
   pub spelled : bytes ≡ front ++ (between ++ rest)
   pub place : at ≡ length front + length between
   pub plain : IsPlain between
-  pub given : PartsGiven ps (Run (length front) odd text ∷ []) tags front
+  pub given : PartsGiven ps (Run (length front) non_blank text ∷ []) tags front
 
 front-long : (front begun : List ℕ) (b : ℕ) (v : List ℕ) → IsBegun begun → front ++ begun ≡ b ∷ v → is_blank b ≡ true → 1 ≤ length front
 front-long [] [] b v cut e h = absurd (cc)
@@ -288,30 +288,30 @@ front-long [] (d ∷ begun) b v cut e h =
     absurd (cc)
 front-long (d ∷ front) begun b v cut e h = omega arith
 
-module _ (bytes : List ℕ) (c : List Part) (begin : ℕ) (odd : Option ℕ) (text : List ℕ) (s : TextStands bytes c begin odd text) where
+module _ (bytes : List ℕ) (c : List Part) (begin : ℕ) (non_blank : Option ℕ) (text : List ℕ) (s : TextStands bytes c begin non_blank text) where
   abbrev head : ℕ
-  head = (first bytes c begin odd text s).0
+  head = (first bytes c begin non_blank text s).0
 
   abbrev others : List ℕ
-  others = (first bytes c begin odd text s).1
+  others = (first bytes c begin non_blank text s).1
 
   from-head : s.front ++ s.begun ≡ head ∷ others
-  from-head = (first bytes c begin odd text s).2
+  from-head = (first bytes c begin non_blank text s).2
 
   module _ (ps : List Part) (g : Given bytes ps) where
     near-blank : is_blank head ≡ true → (tags : List Tag) → tags ≢ [] → (st : OpensParts tags s.before c) → BehindNoText tags s.before c st → Near bytes ps begin
     near-blank blank [] inside st quiet = absurd (inside refl)
     near-blank blank (t ∷ outer) inside st quiet =
-        let spelled = spelled-first bytes c begin odd text s in
+        let spelled = spelled-first bytes c begin non_blank text s in
         let fits : length s.before + 1 ≤ most_bytes = omega (arith, s.within, front-long s.front s.begun head others s.cut from-head blank) in
         let n = g.blanks t outer s.before (others ++ s.rest) head spelled (stands-opens (t ∷ outer) s.before c st) blank (blank-clear bytes c s.before (others ++ s.rest) head spelled blank fits t outer st quiet) in
-        record { tags = t ∷ outer; front = n.before; between = n.between; rest = n.rest; odd = n.odd; text = n.text; spelled = n.spelled; place = s.begins ∙ n.place; plain = n.plain; given = n.given }
+        record { tags = t ∷ outer; front = n.before; between = n.between; rest = n.rest; non_blank = n.non_blank; text = n.text; spelled = n.spelled; place = s.begins ∙ n.place; plain = n.plain; given = n.given }
 
     near-letter : is_blank head ≡ false → Near bytes ps begin
     near-letter dark =
-        let f = s.found begin (s.is_odd ∙ ap (first_odd begin) from-head ∙ ap (λ t. cond t (first_odd (begin + 1) others) (Some begin)) dark) in
+        let f = s.found begin (s.is_non_blank ∙ ap (first_non_blank begin) from-head ∙ ap (λ t. cond t (first_non_blank (begin + 1) others) (Some begin)) dark) in
         let n = g.texts s.tags begin f.0 f.1 f.2 in
-        record { tags = s.tags; front = n.before; between = n.between; rest = n.rest; odd = Some n.odd; text = n.text; spelled = n.spelled; place = n.place; plain = n.plain; given = record { earlier = n.earlier; later = n.later; opens = n.opens; is = n.is } }
+        record { tags = s.tags; front = n.before; between = n.between; rest = n.rest; non_blank = Some n.non_blank; text = n.text; spelled = n.spelled; place = n.place; plain = n.plain; given = record { earlier = n.earlier; later = n.later; opens = n.opens; is = n.is } }
 
     near : Near bytes ps begin
     near = by (is_blank head) refl where
@@ -321,57 +321,57 @@ module _ (bytes : List ℕ) (c : List Part) (begin : ℕ) (odd : Option ℕ) (te
 
 -- a text is told in each list that is given behind the same parts
 module _ (bytes : List ℕ) (ps own : List Part) (g : Given bytes ps) (h : Given bytes own) (c rest : List Part) (d : ps ≡ c ++ rest) where
-  odds : (begin : ℕ) (one other : Option ℕ) (text said : List ℕ) (mine later : List Part) → TextStands bytes c begin one text → TextStands bytes c begin other said → own ≡ c ++ Run begin one text ∷ mine → ps ≡ c ++ Run begin other said ∷ later → other ≡ one
-  odds begin None None text said mine later s r a b = refl
-  odds begin (Some m) None text said mine later s r a b = absurd (odd-given bytes ps g c later begin m text said b s)
-  odds begin None (Some n) text said mine later s r a b = absurd (odd-given bytes own h c mine begin n said text a r)
-  odds begin (Some m) (Some n) text said mine later s r a b =
-      ap (λ k. Some k) (same-odd begin n m (r.front ++ r.begun) (s.front ++ s.begun) r.rest s.rest (s.front ++ (s.begun ++ s.rest))
-      (append_assoc r.front r.begun r.rest ∙ sym (same-rest bytes c c begin (Some m) (Some n) text said s r)) (append_assoc s.front s.begun s.rest) (sym r.is_odd) (sym s.is_odd))
+  non_blanks : (begin : ℕ) (one other : Option ℕ) (text said : List ℕ) (mine later : List Part) → TextStands bytes c begin one text → TextStands bytes c begin other said → own ≡ c ++ Run begin one text ∷ mine → ps ≡ c ++ Run begin other said ∷ later → other ≡ one
+  non_blanks begin None None text said mine later s r a b = refl
+  non_blanks begin (Some m) None text said mine later s r a b = absurd (non-blank-given bytes ps g c later begin m text said b s)
+  non_blanks begin None (Some n) text said mine later s r a b = absurd (non-blank-given bytes own h c mine begin n said text a r)
+  non_blanks begin (Some m) (Some n) text said mine later s r a b =
+      ap (λ k. Some k) (same-non-blank begin n m (r.front ++ r.begun) (s.front ++ s.begun) r.rest s.rest (s.front ++ (s.begun ++ s.rest))
+      (append_assoc r.front r.begun r.rest ∙ sym (same-rest bytes c c begin (Some m) (Some n) text said s r)) (append_assoc s.front s.begun s.rest) (sym r.is_non_blank) (sym s.is_non_blank))
 
-  module _ (begin : ℕ) (odd : Option ℕ) (text : List ℕ) (mine : List Part) (k : own ≡ c ++ Run begin odd text ∷ mine) (s : TextStands bytes c begin odd text) (none : NotBefore begin rest) where
+  module _ (begin : ℕ) (non_blank : Option ℕ) (text : List ℕ) (mine : List Part) (k : own ≡ c ++ Run begin non_blank text ∷ mine) (s : TextStands bytes c begin non_blank text) (none : NotBefore begin rest) where
     n : Near bytes ps begin
-    n = near bytes c begin odd text s ps g
+    n = near bytes c begin non_blank text s ps g
 
     abbrev run : Part
-    run = Run (length n.front) n.odd n.text
+    run = Run (length n.front) n.non_blank n.text
 
     in-run : (later : List Part) → c ≡ n.given.earlier ++ run ∷ later → ⊥
     in-run later a =
         none-within bytes n.front n.between n.rest s.before (s.front ++ (s.begun ++ s.rest)) n.spelled n.plain s.spelled (marked-behind s.tags s.before c s.parts s.whole n.given.earlier later run a).1
         (omega (arith, n.place, s.begins))
 
-    told : rest ≡ Run begin n.odd n.text ∷ n.given.later → First (Run begin odd text) rest
-    told e = by (g.each c n.given.later (Run begin n.odd n.text) whole) where
-      whole : ps ≡ c ++ Run begin n.odd n.text ∷ n.given.later
+    told : rest ≡ Run begin n.non_blank n.text ∷ n.given.later → First (Run begin non_blank text) rest
+    told e = by (g.each c n.given.later (Run begin n.non_blank n.text) whole) where
+      whole : ps ≡ c ++ Run begin n.non_blank n.text ∷ n.given.later
       whole = d ∙ ap (λ xs. c ++ xs) e
 
-      by : LeafStands bytes c (Run begin n.odd n.text) ⊎ TextStands bytes c begin n.odd n.text → First (Run begin odd text) rest
+      by : LeafStands bytes c (Run begin n.non_blank n.text) ⊎ TextStands bytes c begin n.non_blank n.text → First (Run begin non_blank text) rest
       by (inl l) =
-          let b = first bytes c begin odd text s in
-          absurd (no-leaf-here bytes s.before (b.1 ++ s.rest) b.0 c begin n.odd n.text (spelled-first bytes c begin odd text s) (sym s.begins) b.3 b.4 l)
+          let b = first bytes c begin non_blank text s in
+          absurd (no-leaf-here bytes s.before (b.1 ++ s.rest) b.0 c begin n.non_blank n.text (spelled-first bytes c begin non_blank text s) (sym s.begins) b.3 b.4 l)
       by (inr r) = (
         n.given.later,
         e
-            ∙ ap (λ o. Run begin o n.text ∷ n.given.later) (odds begin odd n.odd text n.text mine n.given.later s r k whole)
-            ∙ ap (λ w. Run begin odd w ∷ n.given.later) (same-text bytes c c begin odd n.odd text n.text s r),
+            ∙ ap (λ o. Run begin o n.text ∷ n.given.later) (non_blanks begin non_blank n.non_blank text n.text mine n.given.later s r k whole)
+            ∙ ap (λ w. Run begin non_blank w ∷ n.given.later) (same-text bytes c c begin non_blank n.non_blank text n.text s r),
       )
 
-    next-text : First (Run begin odd text) rest
+    next-text : First (Run begin non_blank text) rest
     next-text = by (meets n.given.earlier c n.given.later rest run (sym n.given.is ∙ d)) where
-      by : Before n.given.earlier run c ⊎ (Same n.given.earlier c run n.given.later rest ⊎ Behind n.given.earlier c rest) → First (Run begin odd text) rest
+      by : Before n.given.earlier run c ⊎ (Same n.given.earlier c run n.given.later rest ⊎ Behind n.given.earlier c rest) → First (Run begin non_blank text) rest
       by (inl (later, a)) = absurd (in-run later a)
       by (inr (inl (a, b))) =
           let here : length n.front ≡ begin = omega (arith, none run n.given.later b, n.place) in
-          told (b ∙ ap (λ at. Run at n.odd n.text ∷ n.given.later) here)
+          told (b ∙ ap (λ at. Run at n.non_blank n.text ∷ n.given.later) here)
       by (inr (inr (q, more, between, a, b))) = absurd (omega (arith, parts-before n.tags n.front n.given.earlier n.given.opens c between q b, none q more a, n.place))
 
   next : (p : Part) (mine : List Part) → own ≡ c ++ p ∷ mine → Stands bytes c p → NotBefore (place_of p) rest → First p rest
   next (Start begin end name attrs) mine k s none = next-start bytes ps g c rest d begin end name attrs s none
   next (End at) mine k (inl s) none = next-end bytes ps g c rest d at s none
-  next (End at) mine k (inr s) none = next-bare bytes ps g c rest d at s
-  next (Run begin odd text) mine k (inl s) none = next-leaf bytes ps g c rest d begin odd text s none
-  next (Run begin odd text) mine k (inr s) none = next-text begin odd text mine k s none
+  next (End at) mine k (inr s) none = next-empty bytes ps g c rest d at s
+  next (Run begin non_blank text) mine k (inl s) none = next-leaf bytes ps g c rest d begin non_blank text s none
+  next (Run begin non_blank text) mine k (inr s) none = next-text begin non_blank text mine k s none
 
 -- both lists go on alike
 module _ (bytes : List ℕ) (one other : List Part) (g : Given bytes one) (h : Given bytes other) where

@@ -9,11 +9,11 @@ use Rattle.cds_markup.specs.Document.{Meaning, End as Childless, meaning, depth,
 use Rattle.cds_markup.specs.Refusal.{CanGoOn, BreaksRule, IsTooDeep, scopes_of}
 use Rattle.cds_markup.specs.Course.{course_of}
 use Rattle.cds_markup.specs.Parts.{TreeParts, OpensParts}
-use Rattle.cds_markup.specs.Found.{Clear}
+use Rattle.cds_markup.specs.GivenParts.{Clear}
 use Rattle.cds_markup.proofs.ContentForm.{ends_with_text, tree-is}
 use Rattle.cds_markup.proofs.Closing.{an-end}
 use Rattle.cds_markup.proofs.Told.{stands-more, tree-content}
-use Rattle.cds_markup.proofs.PrologRows.{no-misc}
+use Rattle.cds_markup.proofs.TagForm.{no-misc}
 use Rattle.cds_markup.proofs.NestedForm.{tree-nested}
 use Rattle.cds_markup.proofs.Complete.{Doomed, TreeWhy}
 use Rattle.cds_markup.proofs.Reach.{ReadWhole, StopsBy, rule-stops, deep-stops, document-run}

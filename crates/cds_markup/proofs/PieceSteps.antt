@@ -12,10 +12,10 @@ use Rattle.cds_markup.specs.declared.name.Attr.{Attr}
 use Rattle.cds_markup.specs.Step.{Step, after, next_is, byte_at, word_at, count_from, count_at, raw_at, taken}
 use Rattle.cds_markup.specs.Namespaces.{tag_says}
 use Rattle.cds_markup.specs.Document.{line_ends}
-use Rattle.cds_markup.specs.Reading.{any_at, attrs_from, attrs_at, attr_begins, attr_or_end, attr_at, qname_at, tag_end_at, ends_tag, tag_at, same_name_at, end_at, blanks_at, reference_at, remark_at, enclosed_at, section_text_at, section_at, section_goes, section_more, greater_at, is_greater, without_end, TextRead, text_goes_on, text_from, text_behind, is_in_run, closes_section, brackets_before, is_bang}
-use Rattle.cds_markup.specs.Course.{Moved, Halted, halts, bare_moves, tag_ends, ruled_moves, read_moves, start_moves, scopes_in, end_moves, remark_moves, section_moves, reference_moves, bang_moves, text_parts, has_begun, text_moves, is_slash, markup_moves, piece_moves, place, Course, with_parts, goes_on, content_from, content_at}
+use Rattle.cds_markup.specs.Reading.{any_at, attrs_from, attrs_at, attr_begins, attr_or_end, attr_at, qname_at, tag_end_at, ends_tag, tag_at, same_name_at, end_at, blanks_at, reference_at, comment_at, enclosed_at, section_text_at, section_at, section_goes, section_more, greater_at, is_greater, without_end, TextRead, text_goes_on, text_from, text_behind, is_in_run, closes_section, brackets_before, is_exclamation}
+use Rattle.cds_markup.specs.Course.{Moved, Halted, halts, empty_moves, tag_ends, said_moves, read_moves, start_moves, scopes_in, end_moves, comment_moves, section_moves, reference_moves, comment_or_section_moves, text_parts, has_begun, text_moves, is_slash, markup_moves, piece_moves, place, Course, with_parts, goes_on, content_from, content_at}
 use Rattle.cds_markup.proofs.Shorter.{Falls, falls-ok, falls-err, falls-after, falls-if, falls-byte, falls-word, falls-blanks, falls-qname, falls-attr, falls-reference}
-use Rattle.cds_markup.proofs.PrologSteps.{falls-remark, falls-greater}
+use Rattle.cds_markup.proofs.PrologSteps.{falls-comment, falls-greater}
 use Rattle.cds_markup.proofs.TextSteps.{section-less, any-less}
 
 -- a piece leaves at most so much
@@ -93,13 +93,13 @@ drops-tag-end end start inner opens n left h =
     drops-if n (next_is is_greater left) _ _
     (drops-ok n _ (drop-one n left h))
     (by (word_at (codes "/>") left) (falls-word (codes "/>") n left h)) where
-      by : (step : Step (Unit {0})) → Falls n step → Drops n (bare_moves start end opens step)
+      by : (step : Step (Unit {0})) → Falls n step → Drops n (empty_moves start end opens step)
       by (Err rest) f = drops-err n _
       by (Ok found) f = drops-ok n _ (f.falls found.0 found.1 refl)
 
-drops-ruled : (total at : ℕ) (opens : List Open) (t : Tag) (said : Option (Name × List Attr)) (n : ℕ) (left : List ℕ) → length left ≤ n → Drops n (ruled_moves total at opens t said left)
-drops-ruled total at opens t None n left h = drops-err n _
-drops-ruled total at opens t (Some said) n left h = drops-tag-end _ _ _ opens n left h
+drops-said : (total at : ℕ) (opens : List Open) (t : Tag) (said : Option (Name × List Attr)) (n : ℕ) (left : List ℕ) → length left ≤ n → Drops n (said_moves total at opens t said left)
+drops-said total at opens t None n left h = drops-err n _
+drops-said total at opens t (Some said) n left h = drops-tag-end _ _ _ opens n left h
 
 drops-start : (total at : ℕ) (opens : List Open) (n : ℕ) (left : List ℕ) → length left ≤ n → Drops n (start_moves total at opens left)
 unfolding start_moves
@@ -107,15 +107,15 @@ drops-start total at opens n left h =
     drops-if n _ _ _ (drops-err n _) (by (tag_at left) (falls-tag n left h)) where
       by : (step : Step Tag) → Falls n step → Drops n (read_moves total at opens step)
       by (Err rest) f = drops-err n _
-      by (Ok found) f = drops-ruled total at opens found.0 (tag_says (scopes_in opens) found.0) n found.1 (f.falls found.0 found.1 refl)
+      by (Ok found) f = drops-said total at opens found.0 (tag_says (scopes_in opens) found.0) n found.1 (f.falls found.0 found.1 refl)
 
 drops-end : (at : ℕ) (outer : List Open) (n : ℕ) (step : Step (Unit {0})) → Falls n step → Drops n (end_moves at outer step)
 drops-end at outer n (Err rest) f = drops-err n _
 drops-end at outer n (Ok found) f = drops-ok n _ (f.falls found.0 found.1 refl)
 
-drops-remark : (opens : List Open) (n : ℕ) (step : Step (Unit {0})) → Falls n step → Drops n (remark_moves opens step)
-drops-remark opens n (Err rest) f = drops-err n _
-drops-remark opens n (Ok found) f = drops-ok n _ (f.falls found.0 found.1 refl)
+drops-comment : (opens : List Open) (n : ℕ) (step : Step (Unit {0})) → Falls n step → Drops n (comment_moves opens step)
+drops-comment opens n (Err rest) f = drops-err n _
+drops-comment opens n (Ok found) f = drops-ok n _ (f.falls found.0 found.1 refl)
 
 drops-section : (at : ℕ) (opens : List Open) (n : ℕ) (step : Step (List ℕ)) → Falls n step → Drops n (section_moves at opens step)
 drops-section at opens n (Err rest) f = drops-err n _
@@ -164,17 +164,17 @@ drops-text at opens b left e f =
     ends-by (text_parts at (take read.whole (b ∷ left)) (has_begun (b ∷ left) read)) opens read read.broken (length left) refl
     (λ broken. let less = text-less (b ∷ left) (in-run b e f) broken in omega (arith, less))
 
-drops-bang : (at : ℕ) (opens : List Open) (n : ℕ) (left : List ℕ) → length left ≤ n → Drops n (bang_moves at opens left)
-drops-bang at opens n left h =
+drops-comment-or-section : (at : ℕ) (opens : List Open) (n : ℕ) (left : List ℕ) → length left ≤ n → Drops n (comment_or_section_moves at opens left)
+drops-comment-or-section at opens n left h =
     drops-if n (next_is (λ b. b == 91) (drop 1 left)) _ _
     (drops-section at opens n (section_text_at (drop 1 left)) (falls-section n (drop 1 left) (drop-one n left h)))
-    (drops-remark opens n (remark_at left) (falls-remark n left h))
+    (drops-comment opens n (comment_at left) (falls-comment n left h))
 
 drops-markup : (total at : ℕ) (name : QName) (outer opens : List Open) (n : ℕ) (left : List ℕ) → length left ≤ n → Drops n (markup_moves total at name outer opens left)
 drops-markup total at name outer opens n left h =
     drops-if n (next_is is_slash left) _ _
     (drops-end at outer n (end_at name (drop 1 left)) (falls-end name n (drop 1 left) (drop-one n left h)))
-    (drops-if n (next_is is_bang left) _ _ (drops-bang at opens n left h) (drops-start total at opens n left h))
+    (drops-if n (next_is is_exclamation left) _ _ (drops-comment-or-section at opens n left h) (drops-start total at opens n left h))
 
 drops-piece : (total : ℕ) (name : QName) (outer opens : List Open) (b : ℕ) (left : List ℕ) → Drops (length left) (piece_moves total name outer opens (b ∷ left))
 drops-piece total name outer opens b left =

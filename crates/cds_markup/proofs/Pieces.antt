@@ -10,9 +10,9 @@ use Rattle.cds_markup.specs.declared.error.Stop.TheVariants.{Broken}
 use Rattle.cds_markup.specs.Document.{line_ends}
 use Rattle.cds_markup.specs.Grammar.{Text, Section}
 use Rattle.cds_markup.specs.Step.{Step, next_is}
-use Rattle.cds_markup.specs.Reading.{TextRead, text_behind, any_at, is_in_run, closes_section, brackets_before, end_at, reference_at, remark_at, enclosed_at, section_text_at, is_less, is_bang, is_and}
-use Rattle.cds_markup.specs.Course.{Moved, Halted, place, halts, end_moves, section_moves, remark_moves, reference_moves, start_moves, bang_moves, text_moves, text_parts, has_begun, odd_of, markup_moves, piece_moves, is_slash}
-use Rattle.cds_markup.specs.Parts.{first_odd, leaf_parts}
+use Rattle.cds_markup.specs.Reading.{TextRead, text_behind, any_at, is_in_run, closes_section, brackets_before, end_at, reference_at, comment_at, enclosed_at, section_text_at, is_less, is_exclamation, is_ampersand}
+use Rattle.cds_markup.specs.Course.{Moved, Halted, place, halts, end_moves, section_moves, comment_moves, reference_moves, start_moves, comment_or_section_moves, text_moves, text_parts, has_begun, non_blank_of, markup_moves, piece_moves, is_slash}
+use Rattle.cds_markup.specs.Parts.{first_non_blank, leaf_parts}
 use Rattle.cds_markup.proofs.ReadsForm.{Follows, ok_same, err_same, after_ok, after_err}
 use Rattle.cds_markup.proofs.TextSteps.{text-more, text-break, text-stop, any-less}
 use Rattle.cds_markup.proofs.TextRows.{text_step, text_said, markup}
@@ -20,7 +20,7 @@ use Rattle.cds_markup.proofs.TextRows.{text_step, text_said, markup}
 abbrev piece_on : ℕ → QName → List Open → List Open → List ℕ → Result Moved Halted
 piece_on total name outer opens left =
     cond (next_is is_less left) (markup_moves total (place total left) name outer opens (drop 1 left))
-    (cond (next_is is_and left) (reference_moves (place total left) opens (reference_at left)) (text_moves (place total left) opens left (text_behind 0 left)))
+    (cond (next_is is_ampersand left) (reference_moves (place total left) opens (reference_at left)) (text_moves (place total left) opens left (text_behind 0 left)))
 
 pub not-over : (n : ℕ) → (suc n == 0) ≡ false
 not-over n = grind (arith, nat_tests)
@@ -37,26 +37,26 @@ at-end total name outer opens l = piece-on total name outer opens 60 (47 ∷ l)
 pub at-section : (total : ℕ) (name : QName) (outer opens : List Open) (l : List ℕ) → next_is (λ b. b == 91) l ≡ true → piece_moves total name outer opens (60 ∷ 33 ∷ l) ≡ section_moves (place total (60 ∷ 33 ∷ l)) opens (section_text_at l)
 at-section total name outer opens l e =
     piece-on total name outer opens 60 (33 ∷ l)
-    ∙ ap (λ t. cond t (section_moves (place total (60 ∷ 33 ∷ l)) opens (section_text_at l)) (remark_moves opens (remark_at (33 ∷ l)))) e
+    ∙ ap (λ t. cond t (section_moves (place total (60 ∷ 33 ∷ l)) opens (section_text_at l)) (comment_moves opens (comment_at (33 ∷ l)))) e
 
-pub at-remark : (total : ℕ) (name : QName) (outer opens : List Open) (l : List ℕ) → next_is (λ b. b == 91) l ≡ false → piece_moves total name outer opens (60 ∷ 33 ∷ l) ≡ remark_moves opens (remark_at (33 ∷ l))
-at-remark total name outer opens l e =
+pub at-comment : (total : ℕ) (name : QName) (outer opens : List Open) (l : List ℕ) → next_is (λ b. b == 91) l ≡ false → piece_moves total name outer opens (60 ∷ 33 ∷ l) ≡ comment_moves opens (comment_at (33 ∷ l))
+at-comment total name outer opens l e =
     piece-on total name outer opens 60 (33 ∷ l)
-    ∙ ap (λ t. cond t (section_moves (place total (60 ∷ 33 ∷ l)) opens (section_text_at l)) (remark_moves opens (remark_at (33 ∷ l)))) e
+    ∙ ap (λ t. cond t (section_moves (place total (60 ∷ 33 ∷ l)) opens (section_text_at l)) (comment_moves opens (comment_at (33 ∷ l)))) e
 
-pub at-start : (total : ℕ) (name : QName) (outer opens : List Open) (l : List ℕ) → next_is is_slash l ≡ false → next_is is_bang l ≡ false → piece_moves total name outer opens (60 ∷ l) ≡ start_moves total (place total (60 ∷ l)) opens l
+pub at-start : (total : ℕ) (name : QName) (outer opens : List Open) (l : List ℕ) → next_is is_slash l ≡ false → next_is is_exclamation l ≡ false → piece_moves total name outer opens (60 ∷ l) ≡ start_moves total (place total (60 ∷ l)) opens l
 at-start total name outer opens l e d =
     piece-on total name outer opens 60 l
-    ∙ ap (λ s. cond s (end_moves (place total (60 ∷ l)) outer (end_at name (drop 1 l))) (cond (next_is is_bang l) (bang_moves (place total (60 ∷ l)) opens l) (start_moves total (place total (60 ∷ l)) opens l))) e
-    ∙ ap (λ s. cond s (bang_moves (place total (60 ∷ l)) opens l) (start_moves total (place total (60 ∷ l)) opens l)) d
+    ∙ ap (λ s. cond s (end_moves (place total (60 ∷ l)) outer (end_at name (drop 1 l))) (cond (next_is is_exclamation l) (comment_or_section_moves (place total (60 ∷ l)) opens l) (start_moves total (place total (60 ∷ l)) opens l))) e
+    ∙ ap (λ s. cond s (comment_or_section_moves (place total (60 ∷ l)) opens l) (start_moves total (place total (60 ∷ l)) opens l)) d
 
 pub at-reference : (total : ℕ) (name : QName) (outer opens : List Open) (l : List ℕ) → piece_moves total name outer opens (38 ∷ l) ≡ reference_moves (place total (38 ∷ l)) opens (reference_at (38 ∷ l))
 at-reference total name outer opens l = piece-on total name outer opens 38 l
 
-pub at-text : (total : ℕ) (name : QName) (outer opens : List Open) (b : ℕ) (l : List ℕ) → is_less b ≡ false → is_and b ≡ false → piece_moves total name outer opens (b ∷ l) ≡ text_moves (place total (b ∷ l)) opens (b ∷ l) (text_behind 0 (b ∷ l))
+pub at-text : (total : ℕ) (name : QName) (outer opens : List Open) (b : ℕ) (l : List ℕ) → is_less b ≡ false → is_ampersand b ≡ false → piece_moves total name outer opens (b ∷ l) ≡ text_moves (place total (b ∷ l)) opens (b ∷ l) (text_behind 0 (b ∷ l))
 at-text total name outer opens b l e d =
     piece-on total name outer opens b l
-    ∙ ap (λ t. cond t (markup_moves total (place total (b ∷ l)) name outer opens l) (cond (is_and b) (reference_moves (place total (b ∷ l)) opens (reference_at (b ∷ l))) (text_moves (place total (b ∷ l)) opens (b ∷ l) (text_behind 0 (b ∷ l))))) e
+    ∙ ap (λ t. cond t (markup_moves total (place total (b ∷ l)) name outer opens l) (cond (is_ampersand b) (reference_moves (place total (b ∷ l)) opens (reference_at (b ∷ l))) (text_moves (place total (b ∷ l)) opens (b ∷ l) (text_behind 0 (b ∷ l))))) e
     ∙ ap (λ t. cond t (reference_moves (place total (b ∷ l)) opens (reference_at (b ∷ l))) (text_moves (place total (b ∷ l)) opens (b ∷ l) (text_behind 0 (b ∷ l)))) d
 
 -- a section with its line ends
@@ -101,9 +101,9 @@ whole-from : (k n : ℕ) (left : List ℕ) → length left ≤ k → Whole left 
 whole-from zero n left h = whole-step n left (λ m rest less. absurd (omega (arith, h, less)))
 whole-from (suc k) n left h = whole-step n left (λ m rest less. whole-from k m rest (omega (arith, h, less)))
 
-pub odd-is : (at : ℕ) (text : List ℕ) → odd_of at text false ≡ first_odd at text
-odd-is at [] = refl
-odd-is at (b ∷ text) = ap (λ x. cond (is_blank b) x (Some at)) (odd-is (at + 1) text)
+pub non-blank-is : (at : ℕ) (text : List ℕ) → non_blank_of at text false ≡ first_non_blank at text
+non-blank-is at [] = refl
+non-blank-is at (b ∷ text) = ap (λ x. cond (is_blank b) x (Some at)) (non-blank-is (at + 1) text)
 
 no-less : (n m : ℕ) → n ≡ m → nat_lt n m ≡ false
 no-less n m e = grind (arith, nat_tests)
@@ -111,8 +111,8 @@ no-less n m e = grind (arith, nat_tests)
 pub some-parts : (at : ℕ) (used : List ℕ) → used ≢ [] → text_parts at used false ≡ leaf_parts at (Text used)
 some-parts at [] some = absurd (some refl)
 some-parts at (b ∷ used) some =
-    ap (λ t. cond (t && true) [] (Run at (odd_of at (b ∷ used) false) (line_ends (b ∷ used)) ∷ [])) (not-over (length used))
-    ∙ ap (λ o. Run at o (line_ends (b ∷ used)) ∷ []) (odd-is at (b ∷ used))
+    ap (λ t. cond (t && true) [] (Run at (non_blank_of at (b ∷ used) false) (line_ends (b ∷ used)) ∷ [])) (not-over (length used))
+    ∙ ap (λ o. Run at o (line_ends (b ∷ used)) ∷ []) (non-blank-is at (b ∷ used))
 
 pub text-ok : (at : ℕ) (opens : List Open) (left used rest : List ℕ) → text_step 0 left ≡ Ok (tt, rest) → left ≡ used ++ rest → used ≢ [] → text_moves at opens left (text_behind 0 left) ≡ Ok record { parts = leaf_parts at (Text used); opens = opens; left = rest }
 text-ok at opens left used rest e d some =

@@ -1,32 +1,14 @@
 -- Bytes in pieces: a refusal of more bytes than may be stands whatever comes behind, and cutting changes no answer.
-use Rattle.std.proofs.Common.{◌≡◌, ◌≢◌, ℕ, ◌<◌, nat_lt, Bool, true, false, true≢false, Option, Some, Result, Ok, Err, List, [], ◌∷◌, ◌++◌, length, refl, sym, ap, subst, ◌∙◌, arith, append_assoc, append-nil, length-append, ◌⊎◌, inl, inr}
-use Rattle.std.proofs.lemmas.Bool.Decides.{nat_tests}
-use Rattle.std.proofs.lemmas.List.{take-append-le}
+use Rattle.std.proofs.Common.{◌≡◌, ◌≢◌, ℕ, ◌<◌, Bool, true, false, true≢false, Option, Some, Result, Ok, Err, List, [], ◌∷◌, ◌++◌, length, refl, sym, ap, subst, ◌∙◌, append_assoc, append-nil, ◌⊎◌, inl, inr}
 use Rattle.cds_markup.specs.declared.error.MarkupError.{MarkupError}
 use Rattle.cds_markup.specs.declared.error.MarkupError.TheVariants.{Bad, TooDeep, TooLong, Failed, Mem}
 use Rattle.cds_markup.specs.Document.{Meaning, most_bytes}
 use Rattle.cds_markup.specs.Refusal.{IsRefused}
-use Rattle.cds_markup.specs.Course.{course_of, place, answer_of, ending_of, within_limit, is_cut, read_of}
 use Rattle.cds_markup.specs.Decided.{Decides}
 use Rattle.cds_markup.specs.Pieces.{IsRefusal, Gives, together}
 use Rattle.cds_markup.specs.Reader.{EveryCutting}
 use Rattle.cds_markup.proofs.Verdict.{decides-err, documents-are-read}
-
--- past the limit nothing is read
-is-less : (m n : ℕ) → m < n → nat_lt m n ≡ true
-is-less m n h = grind (arith, nat_tests)
-
-cut-same : (m : ℕ) (bytes more : List ℕ) → m < length bytes → nat_lt m (length (bytes ++ more)) ≡ nat_lt m (length bytes)
-cut-same m bytes more h =
-    is-less m (length (bytes ++ more)) (omega (arith, h, length-append bytes more)) ∙ sym (is-less m (length bytes) h)
-
-abbrev read_so : List ℕ → Bool → Result (Unit {0}) MarkupError
-read_so within cut = answer_of cut (place (length within) (course_of within).left) (ending_of (course_of within).stop)
-
-read-same : (bytes more : List ℕ) → most_bytes < length bytes → read_of (bytes ++ more) ≡ read_of bytes
-read-same bytes more h =
-    ap (λ w. read_so w (is_cut (bytes ++ more))) (take-append-le most_bytes bytes more (omega (arith, h)))
-    ∙ ap (read_so (within_limit bytes)) (cut-same most_bytes bytes more h)
+use Rattle.cds_markup.proofs.Answering.{read-same}
 
 refused-of : (bytes : List ℕ) (r : MarkupError) → r ≢ Mem → Decides bytes (Err r) → IsRefused bytes r
 refused-of bytes Mem differs d = absurd (differs refl)

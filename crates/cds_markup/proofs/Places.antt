@@ -8,11 +8,11 @@ use Rattle.cds_markup.specs.declared.part.Part.TheVariants.{Start, End, Run}
 use Rattle.cds_markup.specs.declared.tag.Tag.{Tag}
 use Rattle.cds_markup.specs.declared.tag.Declaration.{Declaration}
 use Rattle.cds_markup.specs.Form.{Character, Many}
-use Rattle.cds_markup.specs.Grammar.{Leaf, Text, Reference, Section, Comment, Tree, Bare, Full, Content, Nothing, LeafThen, TreeThen, is_text, is_in_text, begins_with_text, IsLeaf, IsContent, IsStartTag}
+use Rattle.cds_markup.specs.Grammar.{Leaf, Text, Reference, Section, Comment, Tree, EmptyElement, Full, Content, Nothing, LeafThen, TreeThen, is_text, is_in_text, begins_with_text, IsLeaf, IsContent, IsStartTag}
 use Rattle.cds_markup.specs.Refusal.{scopes_of}
 use Rattle.cds_markup.specs.Namespaces.{declarations}
 use Rattle.cds_markup.specs.Parts.{TreeParts, ContentParts, OpensParts, leaf_parts}
-use Rattle.cds_markup.specs.Found.{IsPlain, BehindNoText, ends_with_text}
+use Rattle.cds_markup.specs.GivenParts.{IsPlain, BehindNoText, ends_with_text}
 use Rattle.cds_markup.proofs.ReferenceRows.{begins-reference}
 use Rattle.cds_markup.proofs.CommentRows.{is-comment}
 use Rattle.cds_markup.proofs.EndRows.{is-end}
@@ -20,13 +20,13 @@ use Rattle.cds_markup.proofs.TextRows.{markup}
 use Rattle.cds_markup.proofs.Scan.{small-or-wide, bytes-wide}
 use Rattle.cds_markup.proofs.ContentForm.{content-is}
 use Rattle.cds_markup.proofs.Runs.{is-section}
-use Rattle.cds_markup.proofs.Complete.{bare-parts, start-parts, tree-first}
+use Rattle.cds_markup.proofs.TagForm.{empty-parts, start-parts, tree-first}
 use Rattle.cds_markup.proofs.Within.{front-of}
 
 abbrev pub place_of : Part → ℕ
 place_of (Start at end name attrs) = at
 place_of (End at) = at
-place_of (Run at odd text) = at
+place_of (Run at non_blank text) = at
 
 -- bytes that begin with markup
 pub record Begins (x : List ℕ) : Type 0 where
@@ -61,7 +61,7 @@ module _ (bytes : List ℕ) (n : ℕ) where
   abbrev pub Fits : Part → Type 0
   Fits (Start at end name attrs) = at < n
   Fits (End at) = at < n
-  Fits (Run at odd text) = (at < n) × MarkedFrom bytes at
+  Fits (Run at non_blank text) = (at < n) × MarkedFrom bytes at
 
   abbrev pub AllFit : List Part → Type 0
   AllFit [] = Unit {0}
@@ -78,7 +78,7 @@ module _ (bytes : List ℕ) (n : ℕ) where
   pub fit-place : (p : Part) → Fits p → place_of p < n
   fit-place (Start at end name attrs) f = f
   fit-place (End at) f = f
-  fit-place (Run at odd text) f = f.0
+  fit-place (Run at non_blank text) f = f.0
 
   marked : (before w x : List ℕ) → bytes ≡ before ++ (w ++ x) → Begins x → (at : ℕ) → at ≤ length before + length w → MarkedFrom bytes at
   marked before w x e b at h = record {
@@ -123,8 +123,8 @@ module _ (bytes : List ℕ) (n : ℕ) where
 
   mutual
     tree-fit : (tree : Tree) (before : List ℕ) (scopes : List (List Declaration)) (w x : List ℕ) (ps : List Part) → TreeParts tree (length before) scopes w ps → bytes ≡ before ++ (w ++ x) → length before + length w ≤ n → AllFit ps
-    tree-fit (Bare t) before scopes w x ps (name, attrs, end, is, says, place, p) e h =
-        let b = bare-parts w t is in
+    tree-fit (EmptyElement t) before scopes w x ps (name, attrs, end, is, says, place, p) e h =
+        let b = empty-parts w t is in
         let long : 3 ≤ length w = omega (arith, ap length b.1, length-append b.0 (47 ∷ 62 ∷ [])) in
         subst AllFit (sym p) (omega (arith, h, long), (omega (arith, h, place, long), tt))
     tree-fit (Full t content) before scopes w x ps (name, attrs, end, start, inside, closing, inner, d, is, ends, says, place, others, p) e h =

@@ -3,16 +3,17 @@ use Rattle.std.proofs.Common.{◌≡◌, ◌==◌, ℕ, zero, suc, ◌<◌, ◌�
 use Rattle.std.proofs.lemmas.Bool.Decides.{nat_tests}
 use Rattle.cds_base.specs.Characters.{is_blank}
 use Rattle.cds_markup.specs.Form.{Word, Byte, Then, Many, Maybe}
-use Rattle.cds_markup.specs.Grammar.{IsSpace, IsBlanks, IsComment, IsMisc, IsMiscPiece, MiscPiece, Blank, Remark, IsDeclaration, IsProlog, byte_order_mark}
+use Rattle.cds_markup.specs.Grammar.{IsSpace, IsBlanks, IsComment, IsMisc, IsMiscPiece, MiscPiece, Blank, MiscComment, IsDeclaration, IsProlog, byte_order_mark}
 use Rattle.cds_markup.specs.Step.{Step, after, byte_at, word_at, next_is, while_at}
-use Rattle.cds_markup.specs.Reading.{blanks_at, space_at, remark_at, declaration_at, is_less, is_bang, behind_less, misc_at, root_at, mark, is_mark, first_markup, prolog_at, more_behind, behind_at, epilog_at}
+use Rattle.cds_markup.specs.Reading.{blanks_at, space_at, comment_at, declaration_at, is_less, is_exclamation, behind_less, misc_at, root_at, begins_mark, first_markup, prolog_at, more_behind, behind_at, epilog_at}
+use Rattle.cds_markup.proofs.TagForm.{no-misc}
 use Rattle.cds_markup.proofs.ReadsForm.{Follows, after_was, ok_same}
 use Rattle.cds_markup.proofs.Shorter.{falls-byte, falls-blanks}
 use Rattle.cds_markup.proofs.CountSteps.{while-more, while-stop, while-break}
-use Rattle.cds_markup.proofs.PrologSteps.{misc-less, behind-less, falls-remark}
+use Rattle.cds_markup.proofs.PrologSteps.{misc-less, behind-less, falls-comment}
 use Rattle.cds_markup.proofs.NameRows.{is-byte, follows-byte, follows-none, blanks-first, no-blanks, parse-space, parse-blanks, no_blank, begins-space}
 use Rattle.cds_markup.proofs.TagRows.{space-blanks, blanks-space}
-use Rattle.cds_markup.proofs.CommentRows.{RemarkRest, parse-remark, comment-is, is-comment}
+use Rattle.cds_markup.proofs.CommentRows.{CommentRest, parse-comment, comment-is, is-comment}
 use Rattle.cds_markup.proofs.DeclarationRows.{DeclRest, parse-declaration, declaration-is, is-declaration}
 use Rattle.cds_markup.proofs.SectionRows.{many-append}
 use Rattle.cds_markup.proofs.Parses.{Parses, Any, Either, Nought, choose, Shrinks, equal, alike, says, byte, word, then, next, behind, either, again}
@@ -39,15 +40,15 @@ while-next step shorter left = by (step left) refl where
 
 -- before the root: what follows the `<`
 abbrev less_more : List ℕ → Step (Unit {0})
-less_more left = choose is_bang (λ left. after (remark_at left) (λ done rest. root_at rest)) (λ left. Ok (tt, left)) left
+less_more left = choose is_exclamation (λ left. after (comment_at left) (λ done rest. root_at rest)) (λ left. Ok (tt, left)) left
 
 abbrev open_less : List ℕ → Step (Unit {0})
 open_less left = after (byte_at is_less left) (λ less rest. less_more rest)
 
 more-is : (left : List ℕ) → after (behind_less left) (λ more rest. cond more (root_at rest) (Ok (tt, rest))) ≡ less_more left
-more-is left = by (next_is is_bang left) where
-  by : (t : Bool) → after (cond t (after (remark_at left) (λ done rest. Ok (true, rest))) (Ok (false, left))) (λ more rest. cond more (root_at rest) (Ok (tt, rest))) ≡ cond t (after (remark_at left) (λ done rest. root_at rest)) (Ok (tt, left))
-  by true = after-after (remark_at left) (λ done rest. Ok (true, rest)) (λ more rest. cond more (root_at rest) (Ok (tt, rest)))
+more-is left = by (next_is is_exclamation left) where
+  by : (t : Bool) → after (cond t (after (comment_at left) (λ done rest. Ok (true, rest))) (Ok (false, left))) (λ more rest. cond more (root_at rest) (Ok (tt, rest))) ≡ cond t (after (comment_at left) (λ done rest. root_at rest)) (Ok (tt, left))
+  by true = after-after (comment_at left) (λ done rest. Ok (true, rest)) (λ more rest. cond more (root_at rest) (Ok (tt, rest)))
   by false = refl
 
 root-is : (left : List ℕ) → root_at left ≡ after (blanks_at left) (λ blanks rest. open_less rest)
@@ -65,16 +66,13 @@ abbrev pub MiscOpen : List ℕ → Unit {0} → Type 0
 MiscOpen = Then IsMisc (λ misc. Word (codes "<"))
 
 abbrev LessMore : List ℕ → Unit {0} → Type 0
-LessMore = Either (Then RemarkRest (λ remark. MiscOpen)) Nought
+LessMore = Either (Then CommentRest (λ comment. MiscOpen)) Nought
 
 abbrev OpenLess : List ℕ → Unit {0} → Type 0
 OpenLess = Then (Byte is_less) (λ less. LessMore)
 
 abbrev OneMisc : List ℕ → Unit {0} → Type 0
 OneMisc = Then IsBlanks (λ blanks. OpenLess)
-
-pub no-misc : IsMisc [] tt
-no-misc = record { front = []; back = []; what = []; spelled = refl; first = refl; second = (refl, refl) }
 
 misc-whole : (w : List ℕ) → (m : IsMisc w tt) → w ≡ m.front
 misc-whole w m = m.spelled ∙ ap (λ xs. m.front ++ xs) m.second.0 ∙ append-nil m.front
@@ -100,8 +98,8 @@ blanks-misc w g =
     let ps = blanks-pieces g.front g.what g.first in
     to-misc-of w ps.0 (subst (λ xs. Many IsMiscPiece xs ps.0) (sym whole) ps.1)
 
-pub remark-misc : (w : List ℕ) → IsComment w tt → IsMisc w tt
-remark-misc w g = to-misc-of w (Remark ∷ []) (w, [], sym (append-nil w), g, refl)
+pub comment-misc : (w : List ℕ) → IsComment w tt → IsMisc w tt
+comment-misc w g = to-misc-of w (MiscComment ∷ []) (w, [], sym (append-nil w), g, refl)
 
 open-of : (w bl back : List ℕ) (v : Unit {0}) → IsBlanks bl tt → w ≡ bl ++ 60 ∷ back → LessMore back v → MiscOpen w v
 open-of w bl back v g e (inr n) = record { front = bl; back = 60 ∷ []; what = tt; spelled = e ∙ ap (λ xs. bl ++ 60 ∷ xs) n.0; first = blanks-misc bl g; second = refl }
@@ -114,7 +112,7 @@ open-of w bl back v g e (inl r) =
       back = m.back;
       what = tt;
       spelled = whole ∙ sym (append_assoc first m.front m.back);
-      first = misc-append first m.front (misc-append bl (60 ∷ r.front) (blanks-misc bl g) (remark-misc (60 ∷ r.front) (comment-is r.front r.first))) m.first;
+      first = misc-append first m.front (misc-append bl (60 ∷ r.front) (blanks-misc bl g) (comment-misc (60 ∷ r.front) (comment-is r.front r.first))) m.first;
       second = m.second;
     }
 
@@ -141,7 +139,7 @@ from-pieces (Blank ∷ ps) front w (f, b, d, (v, g), others) e =
       first = space-blanks (f ++ o.front) (record { front = f; back = o.front; what = v; spelled = refl; first = g; second = o.first });
       second = o.second;
     }
-from-pieces (Remark ∷ ps) front w (f, b, d, g, others) e =
+from-pieces (MiscComment ∷ ps) front w (f, b, d, g, others) e =
     let c = is-comment f g in
     let whole : w ≡ 60 ∷ (c.0 ++ (b ++ 60 ∷ [])) = e ∙ ap (λ xs. xs ++ 60 ∷ []) d ∙ append_assoc f b (60 ∷ []) ∙ ap (λ xs. xs ++ (b ++ 60 ∷ [])) c.1 in
     record {
@@ -167,8 +165,8 @@ from-open w v t = from-pieces t.first.what t.front w (of-misc t.front t.first) (
 abbrev pub begins_root : ℕ → Bool
 begins_root b = not (b == 33) && not (b == 63)
 
-root-no-bang : (b : ℕ) → begins_root b ≡ true → is_bang b ≡ false
-root-no-bang b e = grind (arith, nat_tests)
+root-no-exclamation : (b : ℕ) → begins_root b ≡ true → is_exclamation b ≡ false
+root-no-exclamation b e = grind (arith, nat_tests)
 
 root-no-question : (b : ℕ) → begins_root b ≡ true → (b == 63) ≡ false
 root-no-question b e = grind (arith, nat_tests)
@@ -180,16 +178,16 @@ next-no test (b ∷ rest) h f = h b f
 a-misc-open : MiscOpen (60 ∷ []) tt
 a-misc-open = record { front = []; back = 60 ∷ []; what = tt; spelled = refl; first = no-misc; second = refl }
 
-remark-bang : (w rest : List ℕ) (H : Unit {0} → List ℕ → Unit {0} → Type 0) (v : Unit {0}) → Then RemarkRest H w v → next_is is_bang (w ++ rest) ≡ true
-remark-bang w rest H v t = ap (λ xs. next_is is_bang (xs ++ rest)) (t.spelled ∙ ap (λ xs. xs ++ t.back) (t.first.spelled ∙ ap (λ xs. xs ++ t.first.back) t.first.first))
+comment-exclamation : (w rest : List ℕ) (H : Unit {0} → List ℕ → Unit {0} → Type 0) (v : Unit {0}) → Then CommentRest H w v → next_is is_exclamation (w ++ rest) ≡ true
+comment-exclamation w rest H v t = ap (λ xs. next_is is_exclamation (xs ++ rest)) (t.spelled ∙ ap (λ xs. xs ++ t.back) (t.first.spelled ∙ ap (λ xs. xs ++ t.first.back) t.first.first))
 
 parse-less-more : (j : ℕ) → Parses j root_at MiscOpen (Follows begins_root) → Parses j less_more LessMore (Follows begins_root)
 parse-less-more j rec =
-    either is_bang (λ left. after (remark_at left) (λ done rest. root_at rest)) (λ left. Ok (tt, left)) (Then RemarkRest (λ remark. MiscOpen)) Nought j (Follows begins_root)
-    (next remark_at (λ done rest. root_at rest) RemarkRest (λ remark. MiscOpen) j (Follows begins_root) (parse-remark j) (λ a used g. rec) (λ a used g. (60 ∷ [], tt, a-misc-open)))
+    either is_exclamation (λ left. after (comment_at left) (λ done rest. root_at rest)) (λ left. Ok (tt, left)) (Then CommentRest (λ comment. MiscOpen)) Nought j (Follows begins_root)
+    (next comment_at (λ done rest. root_at rest) CommentRest (λ comment. MiscOpen) j (Follows begins_root) (parse-comment j) (λ a used g. rec) (λ a used g. (60 ∷ [], tt, a-misc-open)))
     (says j tt (Follows begins_root))
-    (λ w v rest t p. remark-bang w rest (λ remark. MiscOpen) v t)
-    (λ w v rest g p. ap (λ xs. next_is is_bang (xs ++ rest)) g.0 ∙ next-no is_bang rest root-no-bang p)
+    (λ w v rest t p. comment-exclamation w rest (λ comment. MiscOpen) v t)
+    (λ w v rest g p. ap (λ xs. next_is is_exclamation (xs ++ rest)) g.0 ∙ next-no is_exclamation rest root-no-exclamation p)
 
 byte-long : (test : ℕ → Bool) (w : List ℕ) (b : ℕ) → Byte test w b → 0 < length w
 byte-long test w b g = let n = ap length g.0 in omega (arith, n)
@@ -342,29 +340,29 @@ Marked = Either (Then (Word byte_order_mark) (λ done. MaybeDeclared)) MaybeDecl
 abbrev passed : Option (Unit {0}) → List ℕ → Step (Unit {0})
 passed found rest = Ok (tt, rest)
 
-prolog-is : (left : List ℕ) → prolog_at left ≡ choose is_mark (λ left. after (word_at mark left) (λ done rest. marked rest)) marked left
+prolog-is : (left : List ℕ) → prolog_at left ≡ choose begins_mark (λ left. after (word_at byte_order_mark left) (λ done rest. marked rest)) marked left
 unfolding prolog_at
-prolog-is left = by (next_is is_mark left) where
+prolog-is left = by (next_is begins_mark left) where
   inner : (s : Step (Unit {0})) → after (after (after s (λ value rest. Ok (Some value, rest))) passed) (λ done rest. marked rest) ≡ after s (λ done rest. marked rest)
   inner (Ok found) = refl
   inner (Err rest) = refl
 
-  by : (t : Bool) → after (after (cond t (after (word_at mark left) (λ value rest. Ok (Some value, rest))) (Ok (None, left))) passed) (λ done rest. marked rest) ≡ cond t (after (word_at mark left) (λ done rest. marked rest)) (marked left)
-  by true = inner (word_at mark left)
+  by : (t : Bool) → after (after (cond t (after (word_at byte_order_mark left) (λ value rest. Ok (Some value, rest))) (Ok (None, left))) passed) (λ done rest. marked rest) ≡ cond t (after (word_at byte_order_mark left) (λ done rest. marked rest)) (marked left)
+  by true = inner (word_at byte_order_mark left)
   by false = refl
 
 a-declared : MaybeDeclared (60 ∷ []) tt
 a-declared = undeclared (60 ∷ []) a-misc-open
 
-less-no-mark : (b : ℕ) → is_less b ≡ true → is_mark b ≡ false
+less-no-mark : (b : ℕ) → is_less b ≡ true → begins_mark b ≡ false
 less-no-mark b e = grind (arith, nat_tests)
 
-blank-no-mark : (b : ℕ) → is_blank b ≡ true → is_mark b ≡ false
+blank-no-mark : (b : ℕ) → is_blank b ≡ true → begins_mark b ≡ false
 blank-no-mark b e = grind (arith, nat_tests)
 
-no-mark : (w : List ℕ) (v : Unit {0}) (rest : List ℕ) → AfterMark w v → next_is is_mark (w ++ rest) ≡ false
-no-mark w v rest (inl t) = ap (λ xs. next_is is_mark (xs ++ rest)) (t.spelled ∙ ap (λ xs. xs ++ t.back) t.first.0) ∙ less-no-mark t.what t.first.1
-no-mark w v rest (inr t) = let b = begins-space t.front t.first in ap (λ xs. next_is is_mark (xs ++ rest)) (t.spelled ∙ ap (λ xs. xs ++ t.back) b.2) ∙ blank-no-mark b.0 b.3
+no-mark : (w : List ℕ) (v : Unit {0}) (rest : List ℕ) → AfterMark w v → next_is begins_mark (w ++ rest) ≡ false
+no-mark w v rest (inl t) = ap (λ xs. next_is begins_mark (xs ++ rest)) (t.spelled ∙ ap (λ xs. xs ++ t.back) t.first.0) ∙ less-no-mark t.what t.first.1
+no-mark w v rest (inr t) = let b = begins-space t.front t.first in ap (λ xs. next_is begins_mark (xs ++ rest)) (t.spelled ∙ ap (λ xs. xs ++ t.back) b.2) ∙ blank-no-mark b.0 b.3
 
 to-prolog : (w : List ℕ) (v : Unit {0}) → Marked w v → RootOpen w v
 to-prolog w v (inr t) =
@@ -411,11 +409,11 @@ from-prolog w v r = by r.first.what r.first.first where
 pub parse-prolog : (k : ℕ) → Parses k prolog_at RootOpen (Follows begins_root)
 parse-prolog k =
     alike k prolog_at Marked RootOpen (Follows begins_root) to-prolog from-prolog
-    (equal k prolog_at (choose is_mark (λ left. after (word_at mark left) (λ done rest. marked rest)) marked) Marked (Follows begins_root) prolog-is
-    (either is_mark (λ left. after (word_at mark left) (λ done rest. marked rest)) marked (Then (Word byte_order_mark) (λ done. MaybeDeclared)) MaybeDeclared k (Follows begins_root)
-    (next (word_at mark) (λ done rest. marked rest) (Word byte_order_mark) (λ done. MaybeDeclared) k (Follows begins_root) (word k mark Any) (λ a used g. parse-declared k) (λ a used g. (60 ∷ [], tt, a-declared)))
+    (equal k prolog_at (choose begins_mark (λ left. after (word_at byte_order_mark left) (λ done rest. marked rest)) marked) Marked (Follows begins_root) prolog-is
+    (either begins_mark (λ left. after (word_at byte_order_mark left) (λ done rest. marked rest)) marked (Then (Word byte_order_mark) (λ done. MaybeDeclared)) MaybeDeclared k (Follows begins_root)
+    (next (word_at byte_order_mark) (λ done rest. marked rest) (Word byte_order_mark) (λ done. MaybeDeclared) k (Follows begins_root) (word k byte_order_mark Any) (λ a used g. parse-declared k) (λ a used g. (60 ∷ [], tt, a-declared)))
     (parse-declared k)
-    (λ w v rest t p. ap (λ xs. next_is is_mark (xs ++ rest)) (t.spelled ∙ ap (λ xs. xs ++ t.back) t.first))
+    (λ w v rest t p. ap (λ xs. next_is begins_mark (xs ++ rest)) (t.spelled ∙ ap (λ xs. xs ++ t.back) t.first))
     (λ w v rest g p. no-mark w v rest (from-declared w v g))))
 
 -- behind the root, to the end
@@ -425,11 +423,11 @@ AtEnd rest = rest ≡ []
 abbrev some_byte : ℕ → Bool
 some_byte b = true
 
-abbrev remark_more : List ℕ → Step (Unit {0})
-remark_more left = after (byte_at is_less left) (λ less rest. after (remark_at rest) (λ done rest. epilog_at rest))
+abbrev comment_then_more : List ℕ → Step (Unit {0})
+comment_then_more left = after (byte_at is_less left) (λ less rest. after (comment_at rest) (λ done rest. epilog_at rest))
 
 abbrev end_more : List ℕ → Step (Unit {0})
-end_more left = choose some_byte remark_more (λ left. Ok (tt, left)) left
+end_more left = choose some_byte comment_then_more (λ left. Ok (tt, left)) left
 
 not-over : (n : ℕ) → (suc n == 0) ≡ false
 not-over n = grind (arith, nat_tests)
@@ -437,9 +435,9 @@ not-over n = grind (arith, nat_tests)
 over-is : (left : List ℕ) → after (more_behind left) (λ more rest. cond more (epilog_at rest) (Ok (tt, rest))) ≡ end_more left
 over-is [] = refl
 over-is (b ∷ left) =
-    ap (λ t. after (cond t (Ok (false, b ∷ left)) (after (byte_at is_less (b ∷ left)) (λ less rest. after (remark_at rest) (λ done rest. Ok (true, rest))))) (λ more rest. cond more (epilog_at rest) (Ok (tt, rest)))) (not-over (length left))
-    ∙ after-after (byte_at is_less (b ∷ left)) (λ less rest. after (remark_at rest) (λ done rest. Ok (true, rest))) (λ more rest. cond more (epilog_at rest) (Ok (tt, rest)))
-    ∙ after-alike (byte_at is_less (b ∷ left)) (λ c rest. after (after (remark_at rest) (λ done rest. Ok (true, rest))) (λ more rest. cond more (epilog_at rest) (Ok (tt, rest)))) (λ less rest. after (remark_at rest) (λ done rest. epilog_at rest)) (λ c rest. after-after (remark_at rest) (λ done rest. Ok (true, rest)) (λ more rest. cond more (epilog_at rest) (Ok (tt, rest))))
+    ap (λ t. after (cond t (Ok (false, b ∷ left)) (after (byte_at is_less (b ∷ left)) (λ less rest. after (comment_at rest) (λ done rest. Ok (true, rest))))) (λ more rest. cond more (epilog_at rest) (Ok (tt, rest)))) (not-over (length left))
+    ∙ after-after (byte_at is_less (b ∷ left)) (λ less rest. after (comment_at rest) (λ done rest. Ok (true, rest))) (λ more rest. cond more (epilog_at rest) (Ok (tt, rest)))
+    ∙ after-alike (byte_at is_less (b ∷ left)) (λ c rest. after (after (comment_at rest) (λ done rest. Ok (true, rest))) (λ more rest. cond more (epilog_at rest) (Ok (tt, rest)))) (λ less rest. after (comment_at rest) (λ done rest. epilog_at rest)) (λ c rest. after-after (comment_at rest) (λ done rest. Ok (true, rest)) (λ more rest. cond more (epilog_at rest) (Ok (tt, rest))))
 
 epilog-is : (left : List ℕ) → epilog_at left ≡ after (blanks_at left) (λ blanks rest. end_more rest)
 unfolding behind_at
@@ -448,11 +446,11 @@ epilog-is left =
     ∙ after-after (blanks_at left) (λ blanks rest. more_behind rest) (λ more rest. cond more (epilog_at rest) (Ok (tt, rest)))
     ∙ after-alike (blanks_at left) (λ a rest. after (more_behind rest) (λ more rest. cond more (epilog_at rest) (Ok (tt, rest)))) (λ blanks rest. end_more rest) (λ a rest. over-is rest)
 
-abbrev RemarkMore : List ℕ → Unit {0} → Type 0
-RemarkMore = Then (Byte is_less) (λ less. Then RemarkRest (λ done. IsMisc))
+abbrev CommentThenMore : List ℕ → Unit {0} → Type 0
+CommentThenMore = Then (Byte is_less) (λ less. Then CommentRest (λ done. IsMisc))
 
 abbrev EndMore : List ℕ → Unit {0} → Type 0
-EndMore = Either RemarkMore Nought
+EndMore = Either CommentThenMore Nought
 
 to-end : (w : List ℕ) (v : Unit {0}) → Then IsBlanks (λ blanks. EndMore) w v → IsMisc w v
 to-end w v t = by t.second where
@@ -462,7 +460,7 @@ to-end w v t = by t.second where
       let r = u.second in
       let less = less-front u.front u.back t.back u.what u.spelled u.first.0 u.first.1 in
       let whole : w ≡ t.front ++ ((60 ∷ r.front) ++ r.back) = t.spelled ∙ ap (λ xs. t.front ++ xs) (less ∙ ap (λ xs. 60 ∷ xs) r.spelled) in
-      subst (λ xs. IsMisc xs tt) (sym whole) (misc-append t.front ((60 ∷ r.front) ++ r.back) (blanks-misc t.front t.first) (misc-append (60 ∷ r.front) r.back (remark-misc (60 ∷ r.front) (comment-is r.front r.first)) r.second))
+      subst (λ xs. IsMisc xs tt) (sym whole) (misc-append t.front ((60 ∷ r.front) ++ r.back) (blanks-misc t.front t.first) (misc-append (60 ∷ r.front) r.back (comment-misc (60 ∷ r.front) (comment-is r.front r.first)) r.second))
 
 from-end-of : (ps : List MiscPiece) (w : List ℕ) → Many IsMiscPiece w ps → Then IsBlanks (λ blanks. EndMore) w tt
 from-end-of [] w g = record { front = []; back = w; what = tt; spelled = refl; first = no-blanks; second = inr (g, refl) }
@@ -476,7 +474,7 @@ from-end-of (Blank ∷ ps) w (f, b, d, (v, g), others) =
       first = space-blanks (f ++ o.front) (record { front = f; back = o.front; what = v; spelled = refl; first = g; second = o.first });
       second = o.second;
     }
-from-end-of (Remark ∷ ps) w (f, b, d, g, others) =
+from-end-of (MiscComment ∷ ps) w (f, b, d, g, others) =
     let c = is-comment f g in
     record {
       front = [];
@@ -508,14 +506,14 @@ epilog-body k j h rec =
     (then blanks_at (λ blanks rest. end_more rest) IsBlanks (λ blanks. EndMore) k (Follows no_blank) AtEnd
     (parse-blanks k)
     (λ a used g.
-    either some_byte remark_more (λ left. Ok (tt, left)) RemarkMore Nought k AtEnd
-    (behind (byte_at is_less) (λ less rest. after (remark_at rest) (λ done rest. epilog_at rest)) (Byte is_less) (λ less. Then RemarkRest (λ done. IsMisc)) k j Any AtEnd
+    either some_byte comment_then_more (λ left. Ok (tt, left)) CommentThenMore Nought k AtEnd
+    (behind (byte_at is_less) (λ less rest. after (comment_at rest) (λ done rest. epilog_at rest)) (Byte is_less) (λ less. Then CommentRest (λ done. IsMisc)) k j Any AtEnd
     (λ w v n g i. let l = byte-long is_less w v g in h n (omega (arith, l, i)))
     (byte k is_less 60 Any refl)
     (λ b used g i.
     let l = byte-long is_less used b g in
-    next remark_at (λ done rest. epilog_at rest) RemarkRest (λ done. IsMisc) j AtEnd (parse-remark j) (λ c used h. rec (omega (arith, l, i))) (λ c used h. ([], tt, no-misc)))
-    (λ b used g. (codes "!---->", tt, a-remark))
+    next comment_at (λ done rest. epilog_at rest) CommentRest (λ done. IsMisc) j AtEnd (parse-comment j) (λ c used h. rec (omega (arith, l, i))) (λ c used h. ([], tt, no-misc)))
+    (λ b used g. (codes "!---->", tt, a-whole-comment))
     (λ b w v rest g p. tt))
     (says k tt AtEnd)
     (λ w v rest u p. ap (λ xs. next_is some_byte (xs ++ rest)) (less-front u.front u.back w u.what u.spelled u.first.0 u.first.1))
@@ -523,8 +521,8 @@ epilog-body k j h rec =
     (λ a used g. ([], tt, inr (refl, refl)))
     (λ a w v rest g p. end-blank w v rest g p)))
   where
-    a-remark : Then RemarkRest (λ done. IsMisc) (codes "!---->") tt
-    a-remark = record {
+    a-whole-comment : Then CommentRest (λ done. IsMisc) (codes "!---->") tt
+    a-whole-comment = record {
       front = codes "!---->";
       back = [];
       what = tt;
@@ -546,17 +544,17 @@ over-step left again rest e =
     let was = after_was (blanks_at left) (λ blanks rest. end_more rest) tt rest (sym (epilog-is left) ∙ e) in
     by was.1 (over-blanks left was.0 was.1 was.2) was.3
   where
-    remark : (b : ℕ) (mid : List ℕ) → length (b ∷ mid) ≤ length left → remark_more (b ∷ mid) ≡ Ok (tt, rest) → rest ≡ []
-    remark b mid h d =
-        let one = after_was (byte_at is_less (b ∷ mid)) (λ less rest. after (remark_at rest) (λ done rest. epilog_at rest)) tt rest d in
-        let two = after_was (remark_at one.1) (λ done rest. epilog_at rest) tt rest one.3 in
+    comment : (b : ℕ) (mid : List ℕ) → length (b ∷ mid) ≤ length left → comment_then_more (b ∷ mid) ≡ Ok (tt, rest) → rest ≡ []
+    comment b mid h d =
+        let one = after_was (byte_at is_less (b ∷ mid)) (λ less rest. after (comment_at rest) (λ done rest. epilog_at rest)) tt rest d in
+        let two = after_was (comment_at one.1) (λ done rest. epilog_at rest) tt rest one.3 in
         let m = (falls-byte is_less (length mid) (b ∷ mid) (omega arith)).falls one.0 one.1 one.2 in
-        let n = (falls-remark (length one.1) one.1 (omega arith)).falls two.0 two.1 two.2 in
+        let n = (falls-comment (length one.1) one.1 (omega arith)).falls two.0 two.1 two.2 in
         again two.1 rest (omega (arith, h, m, n)) two.3
 
     by : (mid : List ℕ) → length mid ≤ length left → end_more mid ≡ Ok (tt, rest) → rest ≡ []
     by [] h d = sym (ok_same tt tt [] rest d).1
-    by (b ∷ mid) h d = remark b mid h d
+    by (b ∷ mid) h d = comment b mid h d
 
 over-from : (k : ℕ) (left rest : List ℕ) → length left ≤ k → epilog_at left ≡ Ok (tt, rest) → rest ≡ []
 over-from zero left rest h e = over-step left (λ mid end less. absurd (omega (arith, h, less))) rest e

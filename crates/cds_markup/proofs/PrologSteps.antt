@@ -1,7 +1,7 @@
 -- What stands before the root and behind it, comment by comment.
 use Rattle.std.proofs.Common.{◌≡◌, ℕ, zero, suc, ◌<◌, ◌≤◌, Bool, true, false, cond, Ok, List, [], ◌∷◌, length, arith, codes}
 use Rattle.cds_markup.specs.Step.{after, next_is, byte_at, word_at, count_from, count_at}
-use Rattle.cds_markup.specs.Reading.{blanks_at, is_less, is_bang, remark_at, comment_at, comment_goes, comment_more, greater_at, is_greater, behind_less, misc_at, more_behind, behind_at, is_over}
+use Rattle.cds_markup.specs.Reading.{blanks_at, is_less, is_exclamation, comment_at, comment_rest_at, comment_goes, comment_more, greater_at, is_greater, behind_less, misc_at, more_behind, behind_at, is_over}
 use Rattle.cds_markup.proofs.ReadsForm.{after_was, ok_same}
 use Rattle.cds_markup.proofs.Shorter.{Falls, falls-ok, falls-err, falls-after, falls-if, falls-byte, falls-word, falls-blanks}
 use Rattle.cds_markup.proofs.TextSteps.{comment-less}
@@ -18,16 +18,16 @@ falls-comment-from (suc k) dashes n left h =
     (λ m mid g. falls-comment-from k m n mid g))
     (falls-greater n left h)
 
-pub falls-remark : (n : ℕ) (left : List ℕ) → length left ≤ n → Falls n (remark_at left)
-unfolding remark_at count_at
-falls-remark n left h =
-    falls-after n n (word_at (codes "!--") left) (λ opening rest. comment_at rest) (falls-word (codes "!--") n left h)
+pub falls-comment : (n : ℕ) (left : List ℕ) → length left ≤ n → Falls n (comment_at left)
+unfolding comment_at count_at
+falls-comment n left h =
+    falls-after n n (word_at (codes "!--") left) (λ opening rest. comment_rest_at rest) (falls-word (codes "!--") n left h)
     (λ a mid g. falls-comment-from (suc (length mid)) 0 n mid g)
 
 falls-less : (n : ℕ) (left : List ℕ) → length left ≤ n → Falls n (behind_less left)
 falls-less n left h =
-    falls-if n (next_is is_bang left) (after (remark_at left) (λ done rest. Ok (true, rest))) (Ok (false, left))
-    (falls-after n n (remark_at left) (λ done rest. Ok (true, rest)) (falls-remark n left h) (λ a mid g. falls-ok n true mid g))
+    falls-if n (next_is is_exclamation left) (after (comment_at left) (λ done rest. Ok (true, rest))) (Ok (false, left))
+    (falls-after n n (comment_at left) (λ done rest. Ok (true, rest)) (falls-comment n left h) (λ a mid g. falls-ok n true mid g))
     (falls-ok n false left h)
 
 falls-misc : (n : ℕ) (left : List ℕ) → length left ≤ suc n → Falls n (misc_at left)
@@ -47,11 +47,11 @@ misc-less (b ∷ left) rest e =
     omega (arith, less)
 
 -- behind the root
-more-by : (mid : List ℕ) (t : Bool) (rest : List ℕ) → cond t (Ok (false, mid)) (after (byte_at is_less mid) (λ less rest. after (remark_at rest) (λ done rest. Ok (true, rest)))) ≡ Ok (true, rest) → length rest < length mid
+more-by : (mid : List ℕ) (t : Bool) (rest : List ℕ) → cond t (Ok (false, mid)) (after (byte_at is_less mid) (λ less rest. after (comment_at rest) (λ done rest. Ok (true, rest)))) ≡ Ok (true, rest) → length rest < length mid
 more-by mid true rest e = let same = (ok_same false true mid rest e).0 in absurd (cc)
 more-by [] false rest e = absurd (cc)
 more-by (b ∷ mid) false rest e =
-    let less = (falls-after (length mid) (length mid) (byte_at is_less (b ∷ mid)) (λ less rest. after (remark_at rest) (λ done rest. Ok (true, rest))) (falls-byte is_less (length mid) (b ∷ mid) (omega arith)) (λ a mid' g. falls-after (length mid) (length mid) (remark_at mid') (λ done rest. Ok (true, rest)) (falls-remark (length mid) mid' g) (λ a mid'' g. falls-ok (length mid) true mid'' g))).falls true rest e in
+    let less = (falls-after (length mid) (length mid) (byte_at is_less (b ∷ mid)) (λ less rest. after (comment_at rest) (λ done rest. Ok (true, rest))) (falls-byte is_less (length mid) (b ∷ mid) (omega arith)) (λ a mid' g. falls-after (length mid) (length mid) (comment_at mid') (λ done rest. Ok (true, rest)) (falls-comment (length mid) mid' g) (λ a mid'' g. falls-ok (length mid) true mid'' g))).falls true rest e in
     omega (arith, less)
 
 pub behind-less : (left rest : List ℕ) → behind_at left ≡ Ok (true, rest) → length rest < length left

@@ -6,12 +6,12 @@ use Rattle.cds_markup.specs.declared.part.Part.{Part}
 use Rattle.cds_markup.specs.declared.part.Part.TheVariants.{Start}
 use Rattle.cds_markup.specs.declared.tag.Tag.{Tag}
 use Rattle.cds_markup.specs.declared.error.Stop.{Stop}
-use Rattle.cds_markup.specs.declared.error.Stop.TheVariants.{Unruly, Deep}
+use Rattle.cds_markup.specs.declared.error.Stop.TheVariants.{NamespaceRule, Deep}
 use Rattle.cds_markup.specs.Grammar.{Tree, Content, IsTree, IsContent, IsTag, IsStartTag, IsDocument, IsProlog, IsMisc}
 use Rattle.cds_markup.specs.Document.{depth, most_open}
 use Rattle.cds_markup.specs.Refusal.{Opens, scopes_of, BreaksRule, IsTooDeep}
 use Rattle.cds_markup.specs.Step.{next_is}
-use Rattle.cds_markup.specs.Reading.{tag_at, epilog_at, is_bang, ends_tag}
+use Rattle.cds_markup.specs.Reading.{tag_at, epilog_at, is_exclamation, ends_tag}
 use Rattle.cds_markup.specs.Course.{Moved, Halted, Course, place, halts, with_parts, goes_on, start_moves, read_moves, content_at, behind_root, ended, course_of, may_begin_name, is_slash, is_full}
 use Rattle.cds_markup.specs.Parts.{TreeParts, ContentParts, OpensParts}
 use Rattle.cds_markup.proofs.ReadsForm.{Follows}
@@ -24,8 +24,9 @@ use Rattle.cds_markup.proofs.Starts.{place-is}
 use Rattle.cds_markup.proofs.Told.{open_of, opens_of, opens-many, parts-twice}
 use Rattle.cds_markup.proofs.StartSound.{tag-begins}
 use Rattle.cds_markup.proofs.Sound.{course-root}
-use Rattle.cds_markup.proofs.Runs.{start-run, IsDeep, IsUnruly, Says, next-not, name-no-slash, name-no-bang, name-no-question}
-use Rattle.cds_markup.proofs.Complete.{Doomed, doomed-more, TreeCourse, TreeWhy, TreeResult, ContentResult, start-parts, tree-first, tree-name, run-tree, run-content, suc-less}
+use Rattle.cds_markup.proofs.Runs.{start-run, IsDeep, IsRuleBroken, Says, next-not, name-no-slash, name-no-exclamation, name-no-question}
+use Rattle.cds_markup.proofs.TagForm.{start-parts, tree-first}
+use Rattle.cds_markup.proofs.Complete.{Doomed, doomed-more, TreeCourse, TreeWhy, TreeResult, ContentResult, tree-name, run-tree, run-content, suc-less}
 
 -- the reader comes to the `<` of a start tag
 abbrev T : List ℕ → List ℕ → ℕ
@@ -42,7 +43,7 @@ Reach tags before y = Reached tags before y ⊎ Doomed (course_of (before ++ 60 
 
 begins-root : (y : List ℕ) → next_is may_begin_name y ≡ true → Follows begins_root y
 begins-root [] e = absurd (cc)
-begins-root (b ∷ y) e = and-both (not (b == 33)) (not (b == 63)) (ap not (name-no-bang b e)) (ap not (name-no-question b e))
+begins-root (b ∷ y) e = and-both (not (b == 33)) (not (b == 63)) (ap not (name-no-exclamation b e)) (ap not (name-no-question b e))
 
 root-reached : (before y : List ℕ) → IsProlog before tt → next_is may_begin_name y ≡ true → Reached [] before y
 root-reached before y g e =
@@ -89,7 +90,7 @@ module _ (t : Tag) (outer : List Tag) (b0 u inside : List ℕ) (content : Conten
   place-here : place (T b0 Y) (60 ∷ y) ≡ length Before
   place-here = omega (arith, total, long-y, start-long, before-long, length-append inside (60 ∷ y))
 
-  stopped : (stop : Stop) (rest : List ℕ) (ps : List Part) → (stop ≡ Unruly) ⊎ (stop ≡ Deep) → length (60 ∷ y) < length rest → course_of (b0 ++ 60 ∷ Y) ≡ record { parts = ps; stop = Some stop; left = rest } → Doomed (course_of (Before ++ 60 ∷ y)) (60 ∷ y) (Unit {0})
+  stopped : (stop : Stop) (rest : List ℕ) (ps : List Part) → (stop ≡ NamespaceRule) ⊎ (stop ≡ Deep) → length (60 ∷ y) < length rest → course_of (b0 ++ 60 ∷ Y) ≡ record { parts = ps; stop = Some stop; left = rest } → Doomed (course_of (Before ++ 60 ∷ y)) (60 ∷ y) (Unit {0})
   stopped stop rest ps two long e = record { stop = stop; rest = rest; parts = ps; is = ap course_of whole ∙ e; two = two; long = long; cause = tt }
 
   goes : Reached outer b0 Y → (r : Result Moved Halted) → start_moves (T b0 Y) (length b0) (opens_of outer) Y ≡ r → (ps : List Part) × (course_of (b0 ++ 60 ∷ Y) ≡ behind_root (with_parts ps (goes_on r (content_at (T b0 Y)))))
@@ -124,7 +125,7 @@ module _ (t : Tag) (outer : List Tag) (b0 u inside : List ℕ) (content : Conten
       next : content_at (T b0 Y) (opens_of (t ∷ outer)) (60 ∷ y) ≡ goes_on (start_moves (T b0 Y) (length Before) (opens_of (t ∷ outer)) y) (content_at (T b0 Y))
       next =
           content-next (T b0 Y) (open_of t) (opens_of outer) (60 ∷ y)
-          ∙ ap (λ m. goes_on m (content_at (T b0 Y))) (at-start (T b0 Y) t.name (opens_of outer) (opens_of (t ∷ outer)) y (next-not is_slash y name-no-slash named) (next-not is_bang y name-no-bang named))
+          ∙ ap (λ m. goes_on m (content_at (T b0 Y))) (at-start (T b0 Y) t.name (opens_of outer) (opens_of (t ∷ outer)) y (next-not is_slash y name-no-slash named) (next-not is_exclamation y name-no-exclamation named))
           ∙ ap (λ n. goes_on (start_moves (T b0 Y) n (opens_of (t ∷ outer)) y) (content_at (T b0 Y))) place-here
 
   reach-in : Reach outer b0 Y → Reach (t ∷ outer) Before y
@@ -137,9 +138,9 @@ module _ (t : Tag) (outer : List Tag) (b0 u inside : List ℕ) (content : Conten
     fits : length Z ≤ T b0 Y
     fits = omega (arith, total, long-y)
 
-    by : IsDeep outer (T b0 Y) (length b0) u t g 62 Z refl r.deep ⊎ (IsUnruly outer (T b0 Y) (length b0) u t g 62 Z refl r.deep ⊎ Says outer (T b0 Y) (length b0) u t g 62 Z refl r.deep) → Reach (t ∷ outer) Before y
+    by : IsDeep outer (T b0 Y) (length b0) u t g 62 Z refl r.deep ⊎ (IsRuleBroken outer (T b0 Y) (length b0) u t g 62 Z refl r.deep ⊎ Says outer (T b0 Y) (length b0) u t g 62 Z refl r.deep) → Reach (t ∷ outer) Before y
     by (inl d) = inr (stopped Deep Y (r.parts ++ []) (inr refl) long-two (r.run ∙ ap (λ m. behind_root (with_parts r.parts (goes_on m (content_at (T b0 Y))))) d.moves))
-    by (inr (inl d)) = inr (stopped Unruly (62 ∷ Z) (r.parts ++ []) (inl refl) long-one (r.run ∙ ap (λ m. behind_root (with_parts r.parts (goes_on m (content_at (T b0 Y))))) d.moves))
+    by (inr (inl d)) = inr (stopped NamespaceRule (62 ∷ Z) (r.parts ++ []) (inl refl) long-one (r.run ∙ ap (λ m. behind_root (with_parts r.parts (goes_on m (content_at (T b0 Y))))) d.moves))
     by (inr (inr d)) = said r d (run-content content (T b0 Y) t outer inside (60 ∷ y) others (suc-less (length outer) d.room) (λ h. refl) fits)
 
 pub reach : (tags : List Tag) (before : List ℕ) → Opens tags before → (y : List ℕ) → next_is may_begin_name y ≡ true → Reach tags before y
@@ -157,7 +158,7 @@ pub record StopsBy (bytes : List ℕ) (at : ℕ) : Type 0 where
   pub rest : List ℕ
   pub parts : List Part
   pub is : course_of bytes ≡ record { parts = parts; stop = Some stop; left = rest }
-  pub two : (stop ≡ Unruly) ⊎ (stop ≡ Deep)
+  pub two : (stop ≡ NamespaceRule) ⊎ (stop ≡ Deep)
   pub there : length bytes ≤ at + length rest
 
 stops-by : (bytes x : List ℕ) (at : ℕ) → length bytes ≤ at + 1 + length x → Doomed (course_of bytes) x (Unit {0}) → StopsBy bytes at
@@ -181,9 +182,9 @@ rule-stops bytes at (tags, begin, tag, ends, none) = subst (λ xs. StopsBy xs at
   by : Reach tags ends.before (ends.inside ++ ends.end ∷ ends.rest) → StopsBy (ends.before ++ 60 ∷ (ends.inside ++ ends.end ∷ ends.rest)) at
   by (inr d) = stops-by (ends.before ++ 60 ∷ (ends.inside ++ ends.end ∷ ends.rest)) (60 ∷ (ends.inside ++ ends.end ∷ ends.rest)) at size-doomed d
   by (inl r) = go (start-run tags (T ends.before (ends.inside ++ ends.end ∷ ends.rest)) (length ends.before) ends.inside tag ends.is_tag ends.end ends.rest (ends-either ends.end ends.ends) r.deep) where
-    go : IsDeep tags (T ends.before (ends.inside ++ ends.end ∷ ends.rest)) (length ends.before) ends.inside tag ends.is_tag ends.end ends.rest (ends-either ends.end ends.ends) r.deep ⊎ (IsUnruly tags (T ends.before (ends.inside ++ ends.end ∷ ends.rest)) (length ends.before) ends.inside tag ends.is_tag ends.end ends.rest (ends-either ends.end ends.ends) r.deep ⊎ Says tags (T ends.before (ends.inside ++ ends.end ∷ ends.rest)) (length ends.before) ends.inside tag ends.is_tag ends.end ends.rest (ends-either ends.end ends.ends) r.deep) → StopsBy (ends.before ++ 60 ∷ (ends.inside ++ ends.end ∷ ends.rest)) at
+    go : IsDeep tags (T ends.before (ends.inside ++ ends.end ∷ ends.rest)) (length ends.before) ends.inside tag ends.is_tag ends.end ends.rest (ends-either ends.end ends.ends) r.deep ⊎ (IsRuleBroken tags (T ends.before (ends.inside ++ ends.end ∷ ends.rest)) (length ends.before) ends.inside tag ends.is_tag ends.end ends.rest (ends-either ends.end ends.ends) r.deep ⊎ Says tags (T ends.before (ends.inside ++ ends.end ∷ ends.rest)) (length ends.before) ends.inside tag ends.is_tag ends.end ends.rest (ends-either ends.end ends.ends) r.deep) → StopsBy (ends.before ++ 60 ∷ (ends.inside ++ ends.end ∷ ends.rest)) at
     go (inl d) = record { stop = Deep; rest = ends.inside ++ ends.end ∷ ends.rest; parts = r.parts ++ []; is = r.run ∙ ap (λ m. behind_root (with_parts r.parts (goes_on m (content_at (T ends.before (ends.inside ++ ends.end ∷ ends.rest)))))) d.moves; two = inr refl; there = size-in }
-    go (inr (inl d)) = record { stop = Unruly; rest = ends.end ∷ ends.rest; parts = r.parts ++ []; is = r.run ∙ ap (λ m. behind_root (with_parts r.parts (goes_on m (content_at (T ends.before (ends.inside ++ ends.end ∷ ends.rest)))))) d.moves; two = inl refl; there = omega (arith, size) }
+    go (inr (inl d)) = record { stop = NamespaceRule; rest = ends.end ∷ ends.rest; parts = r.parts ++ []; is = r.run ∙ ap (λ m. behind_root (with_parts r.parts (goes_on m (content_at (T ends.before (ends.inside ++ ends.end ∷ ends.rest)))))) d.moves; two = inl refl; there = omega (arith, size) }
     go (inr (inr d)) = let both : ◌≡◌ {A = Option (Name × List Attr)} None (Some (d.name, d.attrs)) = sym none ∙ d.says in absurd (cc)
 
 start-full : (tags : List Tag) (total at : ℕ) (y : List ℕ) → length tags ≡ 16 → next_is may_begin_name y ≡ true → start_moves total at (opens_of tags) y ≡ halts Deep y

@@ -2,7 +2,7 @@
 use Rattle.std.proofs.Common.{◌≡◌, ℕ, Result, Ok, Err, List, length, sym, ap, subst, ◌∙◌}
 use Rattle.cds_markup.specs.declared.part.Part.{Part}
 use Rattle.cds_markup.specs.declared.error.Stop.{Stop}
-use Rattle.cds_markup.specs.declared.error.Stop.TheVariants.{Broken, Unruly, Deep, Mem as OutOfMemory}
+use Rattle.cds_markup.specs.declared.error.Stop.TheVariants.{Broken, NamespaceRule, Deep, Mem as OutOfMemory}
 use Rattle.cds_markup.specs.declared.error.MarkupError.{MarkupError}
 use Rattle.cds_markup.specs.declared.error.MarkupError.TheVariants.{Bad, TooDeep, TooLong, Failed, Mem}
 use Rattle.cds_markup.specs.Course.{course_of, place, answer_of, ending_of, within_limit, is_cut, read_of, parts_of}
@@ -33,5 +33,5 @@ module _ (S : Type 0) (took : S → List Part → S → Type 0) (bytes : List �
   gives-so (Ok done) left answer r a = ended-so (Ok tt) left answer r.0 (ap ending_of r.1) r.2 a
   gives-so (Err OutOfMemory) left answer r a = out-of-memory answer a
   gives-so (Err Broken) left answer r a = ended-so (Err Broken) left answer r.0 (ap ending_of r.1) r.2 a
-  gives-so (Err Unruly) left answer r a = ended-so (Err Unruly) left answer r.0 (ap ending_of r.1) r.2 a
+  gives-so (Err NamespaceRule) left answer r a = ended-so (Err NamespaceRule) left answer r.0 (ap ending_of r.1) r.2 a
   gives-so (Err Deep) left answer r a = ended-so (Err Deep) left answer r.0 (ap ending_of r.1) r.2 a

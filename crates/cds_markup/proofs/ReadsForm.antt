@@ -2,7 +2,7 @@
 -- the bytes up to there begin a word of the form, and whatever follows the byte there it stops as well.
 use Rattle.std.proofs.Common.{◌≡◌, ℕ, Bool, true, Ok, Err, List, [], ◌∷◌, ◌++◌, refl, sym, ap, ◌∙◌, append_assoc, ◌⊎◌, inl, inr}
 use Rattle.cds_markup.specs.Form.{Then, Says}
-pub use Rattle.cds_markup.specs.Law.{Follows, Found, Stopped, Reads}
+pub use Rattle.cds_markup.specs.StepLaw.{Follows, Found, Stopped, Reads}
 use Rattle.cds_markup.specs.Step.{Step, after}
 
 abbrev pub always : ℕ → Bool

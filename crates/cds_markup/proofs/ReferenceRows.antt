@@ -11,7 +11,7 @@ use Rattle.cds_base.specs.Number.{value_in, is_number_in, number_in}
 use Rattle.cds_base.specs.Reference.{IsReference, number_after_sign, numbered, code_of, where_allowed, named}
 use Rattle.cds_markup.specs.Form.{Word, Byte, Then, Says}
 use Rattle.cds_markup.specs.Step.{Step, after, byte_at, word_at, next_is}
-use Rattle.cds_markup.specs.Reading.{is_x, is_and, numeric_at, numeric_from, number_at, saying, entity_a, referred, behind_and, reference_at}
+use Rattle.cds_markup.specs.Reading.{is_x, is_ampersand, numeric_at, numeric_from, number_at, saying, entity_a, referred, behind_ampersand, reference_at}
 use Rattle.cds_markup.proofs.ReadsForm.{Follows}
 use Rattle.cds_markup.proofs.Repeats.{ends}
 use Rattle.cds_markup.proofs.Parses.{Parses, Any, Either, choose, equal, alike, says, byte, word, next, either}
@@ -362,7 +362,7 @@ referred-not b rest e = by (b == 35) (b == 97) (b == 103) (b == 108) (b == 113) 
   by false false false false true h = absurd (cc)
   by false false false false false h = refl
 
-behind-is : (left : List ℕ) → behind_and left ≡ after (byte_at begins_entity left) referred
+behind-is : (left : List ℕ) → behind_ampersand left ≡ after (byte_at begins_entity left) referred
 behind-is [] = refl
 behind-is (b ∷ rest) = by (begins_entity b) refl where
   by : (t : Bool) → begins_entity b ≡ t → referred b rest ≡ after (cond t (Ok (b, rest)) (Err (b ∷ rest))) referred
@@ -382,25 +382,25 @@ from-named (b ∷ w) c n =
     let g = to-by b w c n in
     record { front = b ∷ []; back = w; what = b; spelled = refl; first = (refl, by-first b w c g); second = g }
 
-parse-named : (k : ℕ) → Parses k behind_and Named Any
+parse-named : (k : ℕ) → Parses k behind_ampersand Named Any
 parse-named k =
-    alike k behind_and (Then (Byte begins_entity) By) Named Any to-named from-named
-    (equal k behind_and (λ left. after (byte_at begins_entity left) referred) (Then (Byte begins_entity) By) Any behind-is
+    alike k behind_ampersand (Then (Byte begins_entity) By) Named Any to-named from-named
+    (equal k behind_ampersand (λ left. after (byte_at begins_entity left) referred) (Then (Byte begins_entity) By) Any behind-is
     (next (byte_at begins_entity) referred (Byte begins_entity) By k Any (byte k begins_entity 35 Any refl) (λ b used g. parse-referred k b (first-is b g.1)) (λ b used g. referred-some b (first-is b g.1))))
 
-to-reference : (w : List ℕ) (c : ℕ) → Then (Byte is_and) (λ sign. Named) w c → IsReference w c
+to-reference : (w : List ℕ) (c : ℕ) → Then (Byte is_ampersand) (λ sign. Named) w c → IsReference w c
 to-reference w c t =
     let n = t.second in
     record { name = n.name; form = t.spelled ∙ ap (λ xs. xs ++ t.back) t.first.0 ∙ ap (λ x. x ∷ t.back) (is-byte t.what 38 t.first.1) ∙ ap (λ xs. 38 ∷ xs) n.spelled; names = n.names }
 
-from-reference : (w : List ℕ) (c : ℕ) → IsReference w c → Then (Byte is_and) (λ sign. Named) w c
+from-reference : (w : List ℕ) (c : ℕ) → IsReference w c → Then (Byte is_ampersand) (λ sign. Named) w c
 from-reference w c r = record { front = 38 ∷ []; back = r.name ++ 59 ∷ []; what = 38; spelled = r.form; first = (refl, refl); second = record { name = r.name; spelled = refl; names = r.names } }
 
 pub parse-reference : (k : ℕ) → Parses k reference_at IsReference Any
 unfolding reference_at
 parse-reference k =
-    alike k reference_at (Then (Byte is_and) (λ sign. Named)) IsReference Any to-reference from-reference
-    (next (byte_at is_and) (λ sign rest. behind_and rest) (Byte is_and) (λ sign. Named) k Any (byte k is_and 38 Any refl) (λ a used g. parse-named k) (λ a used g. (codes "lt;", 60, record { name = codes "lt"; spelled = refl; names = refl })))
+    alike k reference_at (Then (Byte is_ampersand) (λ sign. Named)) IsReference Any to-reference from-reference
+    (next (byte_at is_ampersand) (λ sign rest. behind_ampersand rest) (Byte is_ampersand) (λ sign. Named) k Any (byte k is_ampersand 38 Any refl) (λ a used g. parse-named k) (λ a used g. (codes "lt;", 60, record { name = codes "lt"; spelled = refl; names = refl })))
 
 pub begins-reference : (w : List ℕ) (c : ℕ) → IsReference w c → (t : List ℕ) × (w ≡ 38 ∷ t)
 begins-reference w c r = (r.name ++ 59 ∷ [], r.form)

@@ -8,14 +8,14 @@ use Rattle.cds_markup.specs.declared.part.Part.TheVariants.{Start, End}
 use Rattle.cds_markup.specs.declared.tag.Tag.{Tag}
 use Rattle.cds_markup.specs.declared.tag.Open.{Open}
 use Rattle.cds_markup.specs.declared.tag.QName.{QName}
-use Rattle.cds_markup.specs.declared.error.Stop.TheVariants.{Unruly, Deep}
+use Rattle.cds_markup.specs.declared.error.Stop.TheVariants.{NamespaceRule, Deep}
 use Rattle.cds_markup.specs.Form.{Many, Character}
 use Rattle.cds_markup.specs.Grammar.{Leaf, Text, Reference, Section, Comment, is_text, is_in_text, IsText, IsLeaf, IsSection, IsTag, IsEndTag}
 use Rattle.cds_markup.specs.Namespaces.{tag_says}
 use Rattle.cds_markup.specs.Refusal.{scopes_of}
 use Rattle.cds_markup.specs.Step.{next_is}
-use Rattle.cds_markup.specs.Reading.{reference_at, remark_at, tag_at, is_less, is_bang, is_and, ends_tag}
-use Rattle.cds_markup.specs.Course.{place, halts, piece_moves, end_moves, remark_moves, reference_moves, start_moves, read_moves, ruled_moves, tag_ends, may_begin_name, is_full, is_slash}
+use Rattle.cds_markup.specs.Reading.{reference_at, comment_at, tag_at, is_less, is_exclamation, is_ampersand, ends_tag}
+use Rattle.cds_markup.specs.Course.{place, halts, piece_moves, end_moves, comment_moves, reference_moves, start_moves, read_moves, said_moves, tag_ends, may_begin_name, is_full, is_slash}
 use Rattle.cds_markup.specs.Parts.{leaf_parts}
 use Rattle.cds_markup.proofs.ReadsForm.{Follows}
 use Rattle.cds_markup.proofs.TestForm.{HasFirst, has-first}
@@ -25,8 +25,8 @@ use Rattle.cds_markup.proofs.TagRows.{parse-tag}
 use Rattle.cds_markup.proofs.EndRows.{parse-end-rest, is-end}
 use Rattle.cds_markup.proofs.TextRows.{parse-text, text_step, TextFrom, markup}
 use Rattle.cds_markup.proofs.SectionRows.{SectionRest, parse-section, was-clean}
-use Rattle.cds_markup.proofs.CommentRows.{parse-remark, is-comment}
-use Rattle.cds_markup.proofs.Pieces.{at-end, at-section, at-remark, at-reference, at-text, section-ok, text-ok}
+use Rattle.cds_markup.proofs.CommentRows.{parse-comment, is-comment}
+use Rattle.cds_markup.proofs.Pieces.{at-end, at-section, at-comment, at-reference, at-text, section-ok, text-ok}
 use Rattle.cds_markup.proofs.Told.{open_of, opens_of, scopes-same, opens-many}
 use Rattle.cds_markup.proofs.StartSound.{tag-begins}
 
@@ -38,21 +38,21 @@ pub text-from : (w text : List ℕ) → IsText w text → TextFrom 0 w tt
 text-from w text t = record { characters = t.characters.characters; each = t.characters.each; open_ = was-clean w t.characters.none }
 
 -- the first byte of a text is no markup
-first-plain : (c : ℕ) → is_in_text c ≡ true → (first : HasFirst c) → (is_less first.head ≡ false) × (is_and first.head ≡ false)
+first-plain : (c : ℕ) → is_in_text c ≡ true → (first : HasFirst c) → (is_less first.head ≡ false) × (is_ampersand first.head ≡ false)
 first-plain c e first = by (small-or-wide c) where
-  low : (b : ℕ) → is_in_text b ≡ true → (is_less b ≡ false) × (is_and b ≡ false)
+  low : (b : ℕ) → is_in_text b ≡ true → (is_less b ≡ false) × (is_ampersand b ≡ false)
   low b h = (grind (arith, nat_tests), grind (arith, nat_tests))
 
-  high : (b : ℕ) → 128 ≤ b → (is_less b ≡ false) × (is_and b ≡ false)
+  high : (b : ℕ) → 128 ≤ b → (is_less b ≡ false) × (is_ampersand b ≡ false)
   high b h = (grind (arith, nat_tests), grind (arith, nat_tests))
 
-  by : (c < 128) ⊎ (128 ≤ c) → (is_less first.head ≡ false) × (is_and first.head ≡ false)
+  by : (c < 128) ⊎ (128 ≤ c) → (is_less first.head ≡ false) × (is_ampersand first.head ≡ false)
   by (inl small) = low first.head (ap is_in_text (first.small small) ∙ e)
   by (inr wide) = high first.head (first.wide wide)
 
-pub text-first : (w : List ℕ) → TextFrom 0 w tt → w ≢ [] → (b : ℕ) × (v : List ℕ) × (w ≡ b ∷ v) × (is_less b ≡ false) × (is_and b ≡ false)
+pub text-first : (w : List ℕ) → TextFrom 0 w tt → w ≢ [] → (b : ℕ) × (v : List ℕ) × (w ≡ b ∷ v) × (is_less b ≡ false) × (is_ampersand b ≡ false)
 text-first w t some = by t.characters t.each where
-  by : (cs : List ℕ) → Many (Character is_in_text) w cs → (b : ℕ) × (v : List ℕ) × (w ≡ b ∷ v) × (is_less b ≡ false) × (is_and b ≡ false)
+  by : (cs : List ℕ) → Many (Character is_in_text) w cs → (b : ℕ) × (v : List ℕ) × (w ≡ b ∷ v) × (is_less b ≡ false) × (is_ampersand b ≡ false)
   by [] e = absurd (some e)
   by (c ∷ cs) (front, back, e, g, others) =
       let first = has-first c in
@@ -63,7 +63,7 @@ module _ (total : ℕ) (name : QName) (outer opens : List Open) where
   abbrev Leafed : List ℕ → List ℕ → Leaf → Type 0
   Leafed u x leaf = piece_moves total name outer opens (u ++ x) ≡ Ok record { parts = leaf_parts (place total (u ++ x)) leaf; opens = opens; left = x }
 
-  text-piece : (u x : List ℕ) → TextFrom 0 u tt → (some : u ≢ []) → (b : ℕ) (v : List ℕ) → u ≡ b ∷ v → is_less b ≡ false → is_and b ≡ false → Follows markup x → Leafed u x (Text u)
+  text-piece : (u x : List ℕ) → TextFrom 0 u tt → (some : u ≢ []) → (b : ℕ) (v : List ℕ) → u ≡ b ∷ v → is_less b ≡ false → is_ampersand b ≡ false → Follows markup x → Leafed u x (Text u)
   text-piece u x t some b v e no-less no-and f =
       ap (λ xs. piece_moves total name outer opens (xs ++ x)) e
       ∙ at-text total name outer opens b (v ++ x) no-less no-and
@@ -93,9 +93,9 @@ module _ (total : ℕ) (name : QName) (outer opens : List Open) where
       let r = b.2 in
       let whole : b.0 ≡ 33 ∷ 45 ∷ 45 ∷ r.back = r.spelled ∙ ap (λ xs. xs ++ r.back) r.first in
       ap (λ xs. piece_moves total name outer opens (xs ++ x)) (b.1 ∙ ap (λ xs. 60 ∷ xs) whole)
-      ∙ at-remark total name outer opens (45 ∷ 45 ∷ (r.back ++ x)) refl
-      ∙ ap (λ xs. remark_moves opens (remark_at (xs ++ x))) (sym whole)
-      ∙ ap (remark_moves opens) ((parse-remark (length b.0)).gives b.0 tt x (omega arith) b.2 tt)
+      ∙ at-comment total name outer opens (45 ∷ 45 ∷ (r.back ++ x)) refl
+      ∙ ap (λ xs. comment_moves opens (comment_at (xs ++ x))) (sym whole)
+      ∙ ap (comment_moves opens) ((parse-comment (length b.0)).gives b.0 tt x (omega arith) b.2 tt)
 
   pub end-piece : (u x : List ℕ) → IsEndTag name u tt → piece_moves total name outer opens (u ++ x) ≡ Ok record { parts = End (place total (u ++ x)) ∷ []; opens = outer; left = x }
   end-piece u x g =
@@ -118,15 +118,15 @@ name-no-slash b e = by (nat_lt b 128) refl where
   by true h = low h (sym (ap (λ t. cond t (begins_name b) (nat_le 194 b && nat_le b 244)) h) ∙ e)
   by false h = high h
 
-pub name-no-bang : (b : ℕ) → may_begin_name b ≡ true → is_bang b ≡ false
-name-no-bang b e = by (nat_lt b 128) refl where
-  low : nat_lt b 128 ≡ true → begins_name b ≡ true → is_bang b ≡ false
+pub name-no-exclamation : (b : ℕ) → may_begin_name b ≡ true → is_exclamation b ≡ false
+name-no-exclamation b e = by (nat_lt b 128) refl where
+  low : nat_lt b 128 ≡ true → begins_name b ≡ true → is_exclamation b ≡ false
   low h g = grind (arith, nat_tests)
 
-  high : nat_lt b 128 ≡ false → is_bang b ≡ false
+  high : nat_lt b 128 ≡ false → is_exclamation b ≡ false
   high h = grind (arith, nat_tests)
 
-  by : (t : Bool) → nat_lt b 128 ≡ t → is_bang b ≡ false
+  by : (t : Bool) → nat_lt b 128 ≡ t → is_exclamation b ≡ false
   by true h = low h (sym (ap (λ t. cond t (begins_name b) (nat_le 194 b && nat_le b 244)) h) ∙ e)
   by false h = high h
 
@@ -155,9 +155,9 @@ module _ (tags : List Tag) (total at : ℕ) (u : List ℕ) (t : Tag) (g : IsTag 
     pub full : length tags ≡ 16
     pub moves : start_moves total at (opens_of tags) Left ≡ halts Deep Left
 
-  pub record IsUnruly : Type 0 where
+  pub record IsRuleBroken : Type 0 where
     pub none : tag_says (scopes_of tags) t ≡ None
-    pub moves : start_moves total at (opens_of tags) Left ≡ halts Unruly (end ∷ y)
+    pub moves : start_moves total at (opens_of tags) Left ≡ halts NamespaceRule (end ∷ y)
 
   pub record Says : Type 0 where
     pub name : Name
@@ -172,18 +172,18 @@ module _ (tags : List Tag) (total at : ℕ) (u : List ℕ) (t : Tag) (g : IsTag 
   read : tag_at Left ≡ Ok (t, end ∷ y)
   read = (parse-tag (length u)).gives u t (end ∷ y) (omega arith) g (end, y, refl, ends)
 
-  by-full : (s : Bool) → is_full (opens_of tags) ≡ s → start_moves total at (opens_of tags) Left ≡ cond s (halts Deep Left) (ruled_moves total at (opens_of tags) t (tag_says (scopes_of tags) t) (end ∷ y))
+  by-full : (s : Bool) → is_full (opens_of tags) ≡ s → start_moves total at (opens_of tags) Left ≡ cond s (halts Deep Left) (said_moves total at (opens_of tags) t (tag_says (scopes_of tags) t) (end ∷ y))
   unfolding start_moves
   by-full s is =
       ap (λ t0. cond (t0 && next_is may_begin_name Left) (halts Deep Left) (read_moves total at (opens_of tags) (tag_at Left))) is
       ∙ ap (λ t0. cond (s && t0) (halts Deep Left) (read_moves total at (opens_of tags) (tag_at Left))) named
       ∙ inner s
     where
-      inner : (s : Bool) → cond (s && true) (halts Deep Left) (read_moves total at (opens_of tags) (tag_at Left)) ≡ cond s (halts Deep Left) (ruled_moves total at (opens_of tags) t (tag_says (scopes_of tags) t) (end ∷ y))
+      inner : (s : Bool) → cond (s && true) (halts Deep Left) (read_moves total at (opens_of tags) (tag_at Left)) ≡ cond s (halts Deep Left) (said_moves total at (opens_of tags) t (tag_says (scopes_of tags) t) (end ∷ y))
       inner true = refl
-      inner false = ap (read_moves total at (opens_of tags)) read ∙ ap (λ s. ruled_moves total at (opens_of tags) t (tag_says s t) (end ∷ y)) (scopes-same tags)
+      inner false = ap (read_moves total at (opens_of tags)) read ∙ ap (λ s. said_moves total at (opens_of tags) t (tag_says s t) (end ∷ y)) (scopes-same tags)
 
-  pub start-run : IsDeep ⊎ (IsUnruly ⊎ Says)
+  pub start-run : IsDeep ⊎ (IsRuleBroken ⊎ Says)
   start-run = by (is_full (opens_of tags)) refl where
     is-full : is_full (opens_of tags) ≡ true → length tags ≡ 16
     is-full h = sym (opens-many tags) ∙ same (length (opens_of tags)) h where
@@ -195,10 +195,10 @@ module _ (tags : List Tag) (total at : ℕ) (u : List ℕ) (t : Tag) (g : IsTag 
       less : (n : ℕ) → (n == 16) ≡ false → n ≤ 16 → n + 1 ≤ 16
       less n h g = grind (arith, nat_tests)
 
-    by-says : (o : Option (Name × List Attr)) → tag_says (scopes_of tags) t ≡ o → is_full (opens_of tags) ≡ false → IsDeep ⊎ (IsUnruly ⊎ Says)
-    by-says None e i = inr (inl (record { none = e; moves = by-full false i ∙ ap (λ o. ruled_moves total at (opens_of tags) t o (end ∷ y)) e }))
-    by-says (Some (name, attrs)) e i = inr (inr (record { name = name; attrs = attrs; says = e; room = not-full i; moves = by-full false i ∙ ap (λ o. ruled_moves total at (opens_of tags) t o (end ∷ y)) e }))
+    by-says : (o : Option (Name × List Attr)) → tag_says (scopes_of tags) t ≡ o → is_full (opens_of tags) ≡ false → IsDeep ⊎ (IsRuleBroken ⊎ Says)
+    by-says None e i = inr (inl (record { none = e; moves = by-full false i ∙ ap (λ o. said_moves total at (opens_of tags) t o (end ∷ y)) e }))
+    by-says (Some (name, attrs)) e i = inr (inr (record { name = name; attrs = attrs; says = e; room = not-full i; moves = by-full false i ∙ ap (λ o. said_moves total at (opens_of tags) t o (end ∷ y)) e }))
 
-    by : (s : Bool) → is_full (opens_of tags) ≡ s → IsDeep ⊎ (IsUnruly ⊎ Says)
+    by : (s : Bool) → is_full (opens_of tags) ≡ s → IsDeep ⊎ (IsRuleBroken ⊎ Says)
     by true i = inl (record { full = is-full i; moves = by-full true i })
     by false i = by-says (tag_says (scopes_of tags) t) refl i

@@ -6,7 +6,7 @@ use Rattle.cds_markup.specs.declared.values.ValuePiece.TheVariants.{Literal, Ref
 use Rattle.cds_base.specs.Characters.{is_allowed, is_blank, begins_name, is_in_name}
 use Rattle.cds_markup.specs.Step.{Step, after, next_is, byte_at, word_at, maybe_at, times_at, many_at, pass, taken}
 use Rattle.cds_markup.specs.Grammar.{is_in_value, is_quote, qualified, value_says}
-use Rattle.cds_markup.specs.Reading.{any_at, character_at, may_be, digit_at, number_end, number_from, number_at, numeric_at, numeric_from, is_x, is_end, is_and, saying, entity_a, referred, behind_and, reference_at, literal_at, referred_at, value_piece_at, name_at, name_characters_at, name_rest_at, qname_at, is_colon, local_at, blanks_at, equals_at, value_at, inside_at, before_quote, attr_at}
+use Rattle.cds_markup.specs.Reading.{any_at, character_at, may_be, digit_at, number_end, number_from, number_at, numeric_at, numeric_from, is_x, is_end, is_ampersand, saying, entity_a, referred, behind_ampersand, reference_at, literal_at, referred_at, value_piece_at, name_at, name_characters_at, name_rest_at, qname_at, is_colon, local_at, blanks_at, equals_at, value_at, inside_at, before_quote, attr_at}
 use Rattle.cds_markup.proofs.ReadsForm.{after_was, ok_same}
 use Rattle.cds_markup.proofs.CharacterForm.{reads-any}
 use Rattle.cds_markup.proofs.TestForm.{has-first}
@@ -89,8 +89,8 @@ falls-referred b n left h =
 pub falls-reference : (n : ℕ) (left : List ℕ) → length left ≤ suc n → Falls n (reference_at left)
 unfolding reference_at
 falls-reference n left h =
-    falls-after n n (byte_at is_and left) (λ sign rest. behind_and rest) (falls-byte is_and n left h) (λ a mid g. falls-behind mid g) where
-      falls-behind : (mid : List ℕ) → length mid ≤ n → Falls n (behind_and mid)
+    falls-after n n (byte_at is_ampersand left) (λ sign rest. behind_ampersand rest) (falls-byte is_ampersand n left h) (λ a mid g. falls-behind mid g) where
+      falls-behind : (mid : List ℕ) → length mid ≤ n → Falls n (behind_ampersand mid)
       falls-behind [] g = falls-err n []
       falls-behind (b ∷ mid) g = falls-referred b n mid (omega arith)
 
@@ -112,7 +112,7 @@ falls-character test n left h =
 pub falls-piece : (quote n : ℕ) (left : List ℕ) → length left ≤ suc n → Falls n (value_piece_at quote left)
 unfolding value_piece_at
 falls-piece quote n left h =
-    falls-if n (next_is is_and left) (referred_at left) (literal_at quote left)
+    falls-if n (next_is is_ampersand left) (referred_at left) (literal_at quote left)
     (falls-after n n (reference_at left) (λ c rest. Ok (Referred c, rest)) (falls-reference n left h) (λ a mid g. falls-ok n (Referred a) mid g))
     (falls-after n n (character_at (is_in_value quote) left) (λ c rest. Ok (Literal c, rest)) (falls-character (is_in_value quote) n left h) (λ a mid g. falls-ok n (Literal a) mid g))
 

@@ -9,8 +9,8 @@ use Rattle.cds_markup.specs.Grammar.{Tree, Content, IsTag, IsProlog}
 use Rattle.cds_markup.specs.Namespaces.{tag_says}
 use Rattle.cds_markup.specs.Document.{depth, line_ends, most_open}
 use Rattle.cds_markup.specs.Refusal.{scopes_of}
-use Rattle.cds_markup.specs.Parts.{TreeParts, OpensParts, first_odd}
-use Rattle.cds_markup.specs.Found.{IsBegun}
+use Rattle.cds_markup.specs.Parts.{TreeParts, OpensParts, first_non_blank}
+use Rattle.cds_markup.specs.GivenParts.{IsBegun}
 use Rattle.cds_markup.proofs.ReadsForm.{Follows}
 use Rattle.cds_markup.proofs.TextRows.{TextFrom, markup}
 use Rattle.cds_markup.proofs.ContentForm.{ends_with_text}
@@ -37,7 +37,7 @@ pub record CutText (tags : List Tag) (at : ℕ) (back rest : List ℕ) (earlier 
   pub cut : IsBegun begun
   pub some : plain ++ begun ≢ []
   pub most : (more behind : List ℕ) → begun ++ rest ≡ more ++ behind → TextFrom 0 (plain ++ more) tt → more ≡ []
-  pub is : parts ≡ earlier ++ Run at (first_odd at (plain ++ begun)) (line_ends plain) ∷ []
+  pub is : parts ≡ earlier ++ Run at (first_non_blank at (plain ++ begun)) (line_ends plain) ∷ []
 
 pub record CutTag (tags : List Tag) (at : ℕ) (back rest : List ℕ) (earlier parts : List Part) : Type 0 where
   pub tag : Tag

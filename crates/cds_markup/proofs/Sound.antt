@@ -1,15 +1,15 @@
 -- What is told of any bytes: a whole document, or why reading stops where it stops.
-use Rattle.std.proofs.Common.{◌≡◌, ◌≢◌, ◌==◌, ℕ, zero, suc, ◌+◌, ◌-◌, ◌<◌, ◌≤◌, Bool, true, false, not, ◌&&◌, ◌||◌, Some, None, Ok, Err, List, [], ◌∷◌, ◌++◌, length, refl, sym, ap, subst, ◌∙◌, arith, append_assoc, append-nil, length-append, codes, inl, inr}
+use Rattle.std.proofs.Common.{◌≡◌, ◌≢◌, ◌==◌, ℕ, zero, suc, ◌+◌, ◌-◌, ◌<◌, ◌≤◌, Bool, true, false, not, ◌&&◌, ◌||◌, Some, Ok, Err, List, [], ◌∷◌, ◌++◌, length, refl, sym, ap, subst, ◌∙◌, arith, append_assoc, append-nil, length-append, codes, inl, inr}
 use Rattle.cds_base.specs.Reference.{IsReference}
 use Rattle.cds_markup.specs.declared.part.Part.{Part}
 use Rattle.cds_markup.specs.declared.part.Part.TheVariants.{Start, End}
 use Rattle.cds_markup.specs.declared.tag.Tag.{Tag}
 use Rattle.cds_markup.specs.declared.error.Stop.TheVariants.{Broken}
-use Rattle.cds_markup.specs.Grammar.{Leaf, Text, Reference, Section, Comment, Full, Nothing, LeafThen, is_text, IsText, IsLeaf, IsSection, IsTag, IsProlog}
+use Rattle.cds_markup.specs.Grammar.{Leaf, Text, Reference, Section, Comment, Full, Nothing, LeafThen, is_text, IsText, IsLeaf, IsSection, IsTag}
 use Rattle.cds_markup.specs.Refusal.{CanGoOn, Opens, scopes_of}
 use Rattle.cds_markup.specs.Step.{Step, next_is}
-use Rattle.cds_markup.specs.Reading.{text_behind, end_at, reference_at, remark_at, enclosed_at, section_text_at, prolog_at, is_less, is_bang, is_and, is_in_run}
-use Rattle.cds_markup.specs.Course.{place, with_parts, goes_on, piece_moves, end_moves, remark_moves, reference_moves, section_moves, start_moves, text_moves, content_at, behind_root, root_course, from_root, course_of, is_slash}
+use Rattle.cds_markup.specs.Reading.{text_behind, end_at, reference_at, comment_at, enclosed_at, section_text_at, prolog_at, is_less, is_exclamation, is_ampersand, is_in_run}
+use Rattle.cds_markup.specs.Course.{place, with_parts, goes_on, piece_moves, end_moves, comment_moves, reference_moves, section_moves, start_moves, text_moves, content_at, behind_root, root_course, from_root, course_of, is_slash}
 use Rattle.cds_markup.specs.Parts.{OpensParts, leaf_parts}
 use Rattle.cds_markup.proofs.ReadsForm.{Follows, Found}
 use Rattle.cds_markup.proofs.NameRows.{is-byte, a-qname, no-blanks}
@@ -19,14 +19,15 @@ use Rattle.cds_markup.proofs.EndRows.{parse-end-rest, end-is}
 use Rattle.cds_markup.proofs.Scan.{contains-clean}
 use Rattle.cds_markup.proofs.TextRows.{parse-text, text_step, TextFrom, markup}
 use Rattle.cds_markup.proofs.SectionRows.{SectionRest, parse-section}
-use Rattle.cds_markup.proofs.CommentRows.{RemarkRest, parse-remark, comment-is}
-use Rattle.cds_markup.proofs.PrologRows.{parse-prolog, RootOpen, no-misc}
+use Rattle.cds_markup.proofs.CommentRows.{CommentRest, parse-comment, comment-is}
+use Rattle.cds_markup.proofs.PrologRows.{parse-prolog, RootOpen}
+use Rattle.cds_markup.proofs.TagForm.{no-prolog}
 use Rattle.cds_markup.proofs.ContentForm.{Apart, ends_with_text, content-is}
 use Rattle.cds_markup.proofs.Closing.{close-content, close-end, go-front, go-same, stands-opens}
 use Rattle.cds_markup.proofs.ShownForm.{no-cut}
 use Rattle.cds_markup.proofs.CutParts.{cut_text, text-cut}
 use Rattle.cds_markup.proofs.Starts.{SameStart, same-here, same-behind, same-next, alike-ok, alike-err, place-is}
-use Rattle.cds_markup.proofs.Pieces.{at-nothing, at-end, at-section, at-remark, at-start, at-reference, at-text, section-ok, section-err, text-ok, text-err, text-ends, text-some}
+use Rattle.cds_markup.proofs.Pieces.{at-nothing, at-end, at-section, at-comment, at-start, at-reference, at-text, section-ok, section-err, text-ok, text-err, text-ends, text-some}
 use Rattle.cds_markup.proofs.PieceSteps.{content-next}
 use Rattle.cds_markup.proofs.Told.{open_of, opens_of, Told, Rec, Calm, Arrives, Piece, arrives-on, told-broke, told-leaf, told-tree, stands-deep}
 use Rattle.cds_markup.proofs.StartSound.{can-tag, told-start}
@@ -158,58 +159,58 @@ module _ (n : ℕ) (bytes : List ℕ) (rec : Rec n bytes) (t : Tag) (outer : Lis
         (no-cut (t ∷ outer) (length before) (60 ∷ 33 ∷ f.used) rest parts)
 
   -- a comment
-  at-remark-tag : (l : List ℕ) → left ≡ 60 ∷ 33 ∷ l → next_is (λ b. b == 91) l ≡ false → Told bytes
-  at-remark-tag l d isn = by (remark_at (33 ∷ l)) refl where
-    on : (v rest x : List ℕ) → l ≡ v ++ rest → SameStart rest x → Piece t outer before (60 ∷ 33 ∷ v) x ≡ remark_moves (opens_of (t ∷ outer)) (remark_at (33 ∷ (v ++ x)))
+  at-comment-tag : (l : List ℕ) → left ≡ 60 ∷ 33 ∷ l → next_is (λ b. b == 91) l ≡ false → Told bytes
+  at-comment-tag l d isn = by (comment_at (33 ∷ l)) refl where
+    on : (v rest x : List ℕ) → l ≡ v ++ rest → SameStart rest x → Piece t outer before (60 ∷ 33 ∷ v) x ≡ comment_moves (opens_of (t ∷ outer)) (comment_at (33 ∷ (v ++ x)))
     on v rest x c s =
-        at-remark (T (60 ∷ 33 ∷ v) x) t.name (opens_of outer) (opens_of (t ∷ outer)) (v ++ x)
+        at-comment (T (60 ∷ 33 ∷ v) x) t.name (opens_of outer) (opens_of (t ∷ outer)) (v ++ x)
         (sym (same-next (λ b. b == 91) (v ++ rest) (v ++ x) (same-behind v rest x s)) ∙ sym (ap (next_is (λ b. b == 91)) c) ∙ isn)
 
     heads : (b c : ℕ) (x y : List ℕ) → b ∷ x ≡ c ∷ y → (b ≡ c) × (x ≡ y)
     heads b c x y e = (cc, cc)
 
-    ok : (used rest : List ℕ) → 33 ∷ l ≡ used ++ rest → RemarkRest used tt → ((x : List ℕ) → SameStart rest x → remark_at (used ++ x) ≡ Ok (tt, x)) → Told bytes
+    ok : (used rest : List ℕ) → 33 ∷ l ≡ used ++ rest → CommentRest used tt → ((x : List ℕ) → SameStart rest x → comment_at (used ++ x) ≡ Ok (tt, x)) → Told bytes
     ok [] rest c g read = absurd (none g.front g.back g.spelled g.first) where
       none : (front back : List ℕ) → [] ≡ front ++ back → front ≡ codes "!--" → ⊥
       none [] back e f = let no : [] ≡ codes "!--" = f in absurd (cc)
       none (b ∷ front) back e f = cc
     ok (b ∷ v) rest c g read =
         let same = heads 33 b l (v ++ rest) c in
-        leaf-ok (60 ∷ 33 ∷ v) rest 60 (33 ∷ v) refl (d ∙ ap (λ xs. 60 ∷ 33 ∷ xs) same.1) Comment (comment-is (33 ∷ v) (subst (λ b. RemarkRest (b ∷ v) tt) (sym same.0) g)) (and-none (ends_with_text st.6)) (λ isy. no-text-leaf Comment refl isy rest)
-        (λ x s. on v rest x same.1 s ∙ ap (remark_moves (opens_of (t ∷ outer))) (ap (λ b. remark_at (b ∷ (v ++ x))) same.0 ∙ read x s))
+        leaf-ok (60 ∷ 33 ∷ v) rest 60 (33 ∷ v) refl (d ∙ ap (λ xs. 60 ∷ 33 ∷ xs) same.1) Comment (comment-is (33 ∷ v) (subst (λ b. CommentRest (b ∷ v) tt) (sym same.0) g)) (and-none (ends_with_text st.6)) (λ isy. no-text-leaf Comment refl isy rest)
+        (λ x s. on v rest x same.1 s ∙ ap (comment_moves (opens_of (t ∷ outer))) (ap (λ b. comment_at (b ∷ (v ++ x))) same.0 ∙ read x s))
 
     -- the exclamation mark itself never breaks it
-    err : (used more rest : List ℕ) → 33 ∷ l ≡ used ++ rest → RemarkRest (used ++ more) tt → ((x : List ℕ) → SameStart rest x → remark_at (used ++ x) ≡ Err x) → Told bytes
+    err : (used more rest : List ℕ) → 33 ∷ l ≡ used ++ rest → CommentRest (used ++ more) tt → ((x : List ℕ) → SameStart rest x → comment_at (used ++ x) ≡ Err x) → Told bytes
     err [] more rest c g read = absurd (no-break (codes "---->") (read (codes "!---->") (subst (λ xs. SameStart xs (codes "!---->")) c refl))) where
-      no-break : (x : List ℕ) → remark_at (codes "!---->") ≡ Err (codes "!---->") → ⊥
+      no-break : (x : List ℕ) → comment_at (codes "!---->") ≡ Err (codes "!---->") → ⊥
       no-break x h =
-          let good = (parse-remark 6).gives (codes "!---->") tt [] (omega arith) (record { front = codes "!--"; back = codes "-->"; what = tt; spelled = refl; first = refl; second = record { text = []; characters = []; spelled = refl; each = refl; none = refl } }) tt in
+          let good = (parse-comment 6).gives (codes "!---->") tt [] (omega arith) (record { front = codes "!--"; back = codes "-->"; what = tt; spelled = refl; first = refl; second = record { text = []; characters = []; spelled = refl; each = refl; none = refl } }) tt in
           let no : ◌≡◌ {A = Step (Unit {0})} (Ok (tt, [])) (Err (codes "!---->")) = sym good ∙ h in
           cc
     err (b ∷ v) more rest c g read =
         let same = heads 33 b l (v ++ rest) c in
         told-broke t outer before left parts arr (60 ∷ 33 ∷ v) rest (d ∙ ap (λ xs. 60 ∷ 33 ∷ xs) same.1) bytes e
-        (can-leaf (60 ∷ 33 ∷ v) more Comment (comment-is (33 ∷ (v ++ more)) (subst (λ b. RemarkRest (b ∷ (v ++ more)) tt) (sym same.0) g)) (and-none (ends_with_text st.6)))
+        (can-leaf (60 ∷ 33 ∷ v) more Comment (comment-is (33 ∷ (v ++ more)) (subst (λ b. CommentRest (b ∷ (v ++ more)) tt) (sym same.0) g)) (and-none (ends_with_text st.6)))
         st calm
-        (λ x s. ([], on v rest x same.1 s ∙ ap (remark_moves (opens_of (t ∷ outer))) (ap (λ b. remark_at (b ∷ (v ++ x))) same.0 ∙ read x s)))
+        (λ x s. ([], on v rest x same.1 s ∙ ap (comment_moves (opens_of (t ∷ outer))) (ap (λ b. comment_at (b ∷ (v ++ x))) same.0 ∙ read x s)))
         (no-cut (t ∷ outer) (length before) (60 ∷ 33 ∷ v) rest parts)
 
-    by : (s : Step (Unit {0})) → remark_at (33 ∷ l) ≡ s → Told bytes
+    by : (s : Step (Unit {0})) → comment_at (33 ∷ l) ≡ s → Told bytes
     by (Ok found) h =
-        let f = (parse-remark (length (33 ∷ l))).found (33 ∷ l) tt found.1 (omega arith) h in
-        ok f.used found.1 f.spelled f.is (alike-ok remark_at RemarkRest (33 ∷ l) tt found.1 f h)
+        let f = (parse-comment (length (33 ∷ l))).found (33 ∷ l) tt found.1 (omega arith) h in
+        ok f.used found.1 f.spelled f.is (alike-ok comment_at CommentRest (33 ∷ l) tt found.1 f h)
     by (Err rest) h =
-        let f = (parse-remark (length (33 ∷ l))).stops (33 ∷ l) rest (omega arith) h in
-        err f.used f.more rest f.spelled f.viable (alike-err remark_at RemarkRest (33 ∷ l) rest f h)
+        let f = (parse-comment (length (33 ∷ l))).stops (33 ∷ l) rest (omega arith) h in
+        err f.used f.more rest f.spelled f.viable (alike-err comment_at CommentRest (33 ∷ l) rest f h)
 
   -- a start tag
-  at-start-tag : (l : List ℕ) → left ≡ 60 ∷ l → next_is is_slash l ≡ false → next_is is_bang l ≡ false → Told bytes
-  at-start-tag l d no-slash no-bang =
+  at-start-tag : (l : List ℕ) → left ≡ 60 ∷ l → next_is is_slash l ≡ false → next_is is_exclamation l ≡ false → Told bytes
+  at-start-tag l d no-slash no-exclamation =
       told-start n bytes rec (t ∷ outer) before parts st (stands-deep t outer before parts st) l (e ∙ ap (λ xs. before ++ xs) d) (less (ap length d))
       (λ x s.
       arr (60 ∷ x) (subst (λ xs. SameStart xs (60 ∷ x)) (sym d) refl)
       ∙ ap (λ c. behind_root (with_parts parts c)) (content-next (length (before ++ 60 ∷ x)) (open_of t) (opens_of outer) (60 ∷ x))
-      ∙ ap (λ r. behind_root (with_parts parts (goes_on r (content_at (length (before ++ 60 ∷ x)))))) (at-start (length (before ++ 60 ∷ x)) t.name (opens_of outer) (opens_of (t ∷ outer)) x (sym (same-next is_slash l x s) ∙ no-slash) (sym (same-next is_bang l x s) ∙ no-bang))
+      ∙ ap (λ r. behind_root (with_parts parts (goes_on r (content_at (length (before ++ 60 ∷ x)))))) (at-start (length (before ++ 60 ∷ x)) t.name (opens_of outer) (opens_of (t ∷ outer)) x (sym (same-next is_slash l x s) ∙ no-slash) (sym (same-next is_exclamation l x s) ∙ no-exclamation))
       ∙ ap (λ n. behind_root (with_parts parts (goes_on (start_moves (length (before ++ 60 ∷ x)) n (opens_of (t ∷ outer)) x) (content_at (length (before ++ 60 ∷ x)))))) (place-is before (60 ∷ x)))
     where
       less : length left ≡ suc (length l) → length l ≤ n
@@ -257,13 +258,13 @@ module _ (n : ℕ) (bytes : List ℕ) (rec : Rec n bytes) (t : Tag) (outer : Lis
         err f.used f.more rest f.value f.spelled f.viable (alike-err reference_at IsReference (38 ∷ l) rest f h)
 
   -- a text
-  at-plain : (b : ℕ) (l : List ℕ) → left ≡ b ∷ l → is_less b ≡ false → is_and b ≡ false → Told bytes
+  at-plain : (b : ℕ) (l : List ℕ) → left ≡ b ∷ l → is_less b ≡ false → is_ampersand b ≡ false → Told bytes
   at-plain b l d no-less no-and = by (text_step 0 (b ∷ l)) refl where
     heads : (b c : ℕ) (x y : List ℕ) → b ∷ x ≡ c ∷ y → (b ≡ c) × (x ≡ y)
     heads b c x y e = (cc, cc)
 
     run : is_in_run 0 b ≡ true
-    run = by (is_less b) (is_and b) no-less no-and where
+    run = by (is_less b) (is_ampersand b) no-less no-and where
       third : (s : Bool) → not (s && false) ≡ true
       third s = grind arith
 
@@ -273,7 +274,7 @@ module _ (n : ℕ) (bytes : List ℕ) (rec : Rec n bytes) (t : Tag) (outer : Lis
     quiet : (leaf : Leaf) → is_text leaf ≡ true → Apart st.6 (LeafThen leaf Nothing)
     quiet leaf isy = inner (ends_with_text st.6) refl where
       no-markup : markup b ≡ true → ⊥
-      no-markup h = clash (is_less b) (is_and b) h no-less no-and where
+      no-markup h = clash (is_less b) (is_ampersand b) h no-less no-and where
         clash : (s t : Bool) → (s || t) ≡ true → s ≡ false → t ≡ false → ⊥
         clash s t h e d = grind arith
 
@@ -315,7 +316,7 @@ module _ (n : ℕ) (bytes : List ℕ) (rec : Rec n bytes) (t : Tag) (outer : Lis
         broke-here : (x : List ℕ) → SameStart (b ∷ l) x → text_step 0 x ≡ Err x → Piece t outer before [] x ≡ Err record { parts = cut_text (place (T [] x) x) x; stop = Broken; left = x }
         broke-here [] s h = absurd s
         broke-here (c ∷ x) s h =
-            at-text (T [] (c ∷ x)) t.name (opens_of outer) (opens_of (t ∷ outer)) c x (ap is_less (sym s) ∙ no-less) (ap is_and (sym s) ∙ no-and)
+            at-text (T [] (c ∷ x)) t.name (opens_of outer) (opens_of (t ∷ outer)) c x (ap is_less (sym s) ∙ no-less) (ap is_ampersand (sym s) ∙ no-and)
             ∙ text-err (place (T [] (c ∷ x)) (c ∷ x)) (opens_of (t ∷ outer)) (c ∷ x) (c ∷ x) h
     err (c ∷ v) more rest i g read =
         let same = heads b c l (v ++ rest) i in
@@ -334,31 +335,31 @@ module _ (n : ℕ) (bytes : List ℕ) (rec : Rec n bytes) (t : Tag) (outer : Lis
         err f.used f.more rest f.spelled f.viable (alike-err (text_step 0) (TextFrom 0) (b ∷ l) rest f h)
 
   -- by what is left
-  at-bang : (l : List ℕ) → left ≡ 60 ∷ 33 ∷ l → Told bytes
-  at-bang l d = by (next_is (λ b. b == 91) l) refl where
+  at-exclamation : (l : List ℕ) → left ≡ 60 ∷ 33 ∷ l → Told bytes
+  at-exclamation l d = by (next_is (λ b. b == 91) l) refl where
     by : (s : Bool) → next_is (λ b. b == 91) l ≡ s → Told bytes
     by true i = at-section-tag l d i
-    by false i = at-remark-tag l d i
+    by false i = at-comment-tag l d i
 
   at-less : (l : List ℕ) → left ≡ 60 ∷ l → Told bytes
-  at-less l d = by l d (next_is is_slash l) (next_is is_bang l) refl refl where
-    by : (l : List ℕ) → left ≡ 60 ∷ l → (s u : Bool) → next_is is_slash l ≡ s → next_is is_bang l ≡ u → Told bytes
+  at-less l d = by l d (next_is is_slash l) (next_is is_exclamation l) refl refl where
+    by : (l : List ℕ) → left ≡ 60 ∷ l → (s u : Bool) → next_is is_slash l ≡ s → next_is is_exclamation l ≡ u → Told bytes
     by [] d true u i j = absurd (cc)
     by (b ∷ l) d true u i j = at-end-tag l (d ∙ ap (λ b. 60 ∷ b ∷ l) (is-byte b 47 i))
     by [] d false true i j = absurd (cc)
-    by (b ∷ l) d false true i j = at-bang l (d ∙ ap (λ b. 60 ∷ b ∷ l) (is-byte b 33 j))
+    by (b ∷ l) d false true i j = at-exclamation l (d ∙ ap (λ b. 60 ∷ b ∷ l) (is-byte b 33 j))
     by l d false false i j = at-start-tag l d i j
 
   pub told-here : Told bytes
   told-here = by left refl where
-    byte-by : (b : ℕ) (l : List ℕ) → left ≡ b ∷ l → (s u : Bool) → is_less b ≡ s → is_and b ≡ u → Told bytes
+    byte-by : (b : ℕ) (l : List ℕ) → left ≡ b ∷ l → (s u : Bool) → is_less b ≡ s → is_ampersand b ≡ u → Told bytes
     byte-by b l d true u i j = at-less l (d ∙ ap (λ b. b ∷ l) (is-byte b 60 i))
     byte-by b l d false true i j = at-reference-sign l (d ∙ ap (λ b. b ∷ l) (is-byte b 38 j))
     byte-by b l d false false i j = at-plain b l d i j
 
     by : (xs : List ℕ) → left ≡ xs → Told bytes
     by [] d = at-none d
-    by (b ∷ l) d = byte-by b l d (is_less b) (is_and b) refl refl
+    by (b ∷ l) d = byte-by b l d (is_less b) (is_ampersand b) refl refl
 
 -- from any place inside the root
 told-content : (n : ℕ) (bytes : List ℕ) → Rec n bytes
@@ -377,10 +378,6 @@ course-root used x h prolog d =
 course-broke : (bytes x : List ℕ) → prolog_at bytes ≡ Err x → course_of bytes ≡ record { parts = []; stop = Some Broken; left = x }
 unfolding course_of
 course-broke bytes x h = ap (from_root (length bytes)) h
-
--- nothing stands before the beginning
-no-prolog : IsProlog [] tt
-no-prolog = record { front = []; back = []; what = None; spelled = refl; first = refl; second = record { front = []; back = []; what = None; spelled = refl; first = refl; second = no-misc } }
 
 pub told : (bytes : List ℕ) → Told bytes
 told bytes = by (prolog_at bytes) refl where

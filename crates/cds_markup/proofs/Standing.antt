@@ -5,13 +5,13 @@ use Rattle.cds_markup.specs.declared.name.Attr.{Attr}
 use Rattle.cds_markup.specs.declared.part.Part.{Part}
 use Rattle.cds_markup.specs.declared.part.Part.TheVariants.{Start, End}
 use Rattle.cds_markup.specs.declared.tag.Tag.{Tag}
-use Rattle.cds_markup.specs.Grammar.{Leaf, Text, Reference, Section, Comment, Tree, Bare, Full, Content, Nothing, LeafThen, TreeThen, is_text, begins_with_text, IsLeaf, IsText, IsContent, IsTag, IsBareTag, IsStartTag, IsEndTag}
+use Rattle.cds_markup.specs.Grammar.{Leaf, Text, Reference, Section, Comment, Tree, EmptyElement, Full, Content, Nothing, LeafThen, TreeThen, is_text, begins_with_text, IsLeaf, IsText, IsContent, IsTag, IsEmptyTag, IsStartTag, IsEndTag}
 use Rattle.cds_markup.specs.Namespaces.{tag_says}
 use Rattle.cds_markup.specs.Document.{line_ends, depth, depths, most_bytes}
 use Rattle.cds_markup.specs.Refusal.{CanGoOn, Opens, TextByte, scopes_of}
-use Rattle.cds_markup.specs.Reading.{is_less, is_and}
-use Rattle.cds_markup.specs.Parts.{TreeParts, ContentParts, OpensParts, first_odd, leaf_parts}
-use Rattle.cds_markup.specs.Found.{Clear, StartStands, BareStands, LeafStands, TextStands, Stands, IsBegun}
+use Rattle.cds_markup.specs.Reading.{is_less, is_ampersand}
+use Rattle.cds_markup.specs.Parts.{TreeParts, ContentParts, OpensParts, first_non_blank, leaf_parts}
+use Rattle.cds_markup.specs.GivenParts.{Clear, StartStands, EmptyStands, LeafStands, TextStands, Stands, IsBegun}
 use Rattle.cds_markup.proofs.ReadsForm.{Follows}
 use Rattle.cds_markup.proofs.ReferenceRows.{begins-reference}
 use Rattle.cds_markup.proofs.EndRows.{is-end}
@@ -21,9 +21,10 @@ use Rattle.cds_markup.proofs.Closing.{stands-opens}
 use Rattle.cds_markup.proofs.Told.{stands-more, leaf-content, tree-content}
 use Rattle.cds_markup.proofs.Sound.{text-is-text}
 use Rattle.cds_markup.proofs.Runs.{is-section, text-from}
-use Rattle.cds_markup.proofs.Complete.{bare-parts, start-parts, tree-first, begins-markup, leaf-markup}
+use Rattle.cds_markup.proofs.TagForm.{empty-parts, start-parts, tree-first}
+use Rattle.cds_markup.proofs.Complete.{begins-markup, leaf-markup}
 use Rattle.cds_markup.proofs.TextCut.{nothing-begun}
-use Rattle.cds_markup.proofs.TextStanding.{plain-of, of-plain, most-plain, OddAt, odd-found}
+use Rattle.cds_markup.proofs.TextStanding.{plain-of, of-plain, most-plain, NonBlankAt, non-blank-found}
 
 -- where a text ends markup follows, or the limit comes
 abbrev pub Quiet : ℕ → List ℕ → Type 0
@@ -76,30 +77,30 @@ open-text t outer before (b0, start, inside, content, e, o, is, others) apart (b
 some-open : (t : Tag) (outer : List Tag) → ◌≡◌ {A = List Tag} (t ∷ outer) [] → ⊥
 some-open t outer e = cc
 
-not-byte : (b : ℕ) → is_less b ≡ false → is_and b ≡ false → (b ≢ 60) × (b ≢ 38)
+not-byte : (b : ℕ) → is_less b ≡ false → is_ampersand b ≡ false → (b ≢ 60) × (b ≢ 38)
 not-byte b h g = (λ e. no-less e, λ e. no-and e) where
   no-less : b ≡ 60 → ⊥
   no-less e = let both : true ≡ false = sym (ap is_less e) ∙ h in cc
 
   no-and : b ≡ 38 → ⊥
-  no-and e = let both : true ≡ false = sym (ap is_and e) ∙ g in cc
+  no-and e = let both : true ≡ false = sym (ap is_ampersand e) ∙ g in cc
 
 -- the first character of a text that is no blank is found at its first byte
-pub odd-long : (at odd : ℕ) (v : List ℕ) → OddAt at odd v → odd + 1 ≤ at + length v
-odd-long at odd v o = omega (arith, o.place, ap length o.spelled, length-append o.blanks (o.byte ∷ o.rest))
+pub non-blank-long : (at non_blank : ℕ) (v : List ℕ) → NonBlankAt at non_blank v → non_blank + 1 ≤ at + length v
+non-blank-long at non_blank v o = omega (arith, o.place, ap length o.spelled, length-append o.blanks (o.byte ∷ o.rest))
 
-pub letter : (bytes : List ℕ) (t : Tag) (outer : List Tag) (before : List ℕ) → (o : Opens (t ∷ outer) before) → ends_with_text o.3 ≡ false → (v rest : List ℕ) → bytes ≡ before ++ (v ++ rest) → (at : ℕ) → OddAt (length before) at v → CanGoOn (take (at + 1) bytes) → (byte : ℕ) × TextByte bytes (t ∷ outer) at byte
-letter bytes t outer before o apart v rest e at odd may = (
-  odd.byte,
+pub letter : (bytes : List ℕ) (t : Tag) (outer : List Tag) (before : List ℕ) → (o : Opens (t ∷ outer) before) → ends_with_text o.3 ≡ false → (v rest : List ℕ) → bytes ≡ before ++ (v ++ rest) → (at : ℕ) → NonBlankAt (length before) at v → CanGoOn (take (at + 1) bytes) → (byte : ℕ) × TextByte bytes (t ∷ outer) at byte
+letter bytes t outer before o apart v rest e at non_blank may = (
+  non_blank.byte,
   record {
-    before = before ++ odd.blanks;
-    rest = odd.rest ++ rest;
-    spelled = e ∙ ap (λ xs. before ++ xs) (ap (λ xs. xs ++ rest) odd.spelled ∙ append_assoc odd.blanks (odd.byte ∷ odd.rest) rest) ∙ sym (append_assoc before odd.blanks (odd.byte ∷ (odd.rest ++ rest)));
-    place = odd.place ∙ sym (length-append before odd.blanks);
-    opens = open-text t outer before o apart odd.blanks odd.text;
+    before = before ++ non_blank.blanks;
+    rest = non_blank.rest ++ rest;
+    spelled = e ∙ ap (λ xs. before ++ xs) (ap (λ xs. xs ++ rest) non_blank.spelled ∙ append_assoc non_blank.blanks (non_blank.byte ∷ non_blank.rest) rest) ∙ sym (append_assoc before non_blank.blanks (non_blank.byte ∷ (non_blank.rest ++ rest)));
+    place = non_blank.place ∙ sym (length-append before non_blank.blanks);
+    opens = open-text t outer before o apart non_blank.blanks non_blank.text;
     inside = some-open t outer;
-    no_blank = odd.no_blank;
-    no_markup = not-byte odd.byte odd.no_less odd.no_and;
+    no_blank = non_blank.no_blank;
+    no_markup = not-byte non_blank.byte non_blank.no_less non_blank.no_and;
     may_be = may;
   },
 )
@@ -146,12 +147,12 @@ module _ (bytes : List ℕ) (limit : ℕ) (clear : (at : ℕ) → at < limit →
     abbrev o : Opens (t ∷ outer) before
     o = (st.3, st.4, st.5, st.6, st.9, stands-opens outer st.3 st.7 st.10, st.11, content-is st.6 (length st.3 + length st.4) (scopes_of (t ∷ outer)) st.5 st.8 st.14)
 
-    found-at : (at : ℕ) → first_odd (length before) (front ++ begun) ≡ Some at → (byte : ℕ) × TextByte bytes (t ∷ outer) at byte × Clear bytes at
+    found-at : (at : ℕ) → first_non_blank (length before) (front ++ begun) ≡ Some at → (byte : ℕ) × TextByte bytes (t ∷ outer) at byte × Clear bytes at
     found-at at d =
-        let odd = odd-found text.characters front begun text.each cut (length before) at d in
-        let long = odd-long (length before) at (front ++ begun) odd in
+        let non_blank = non-blank-found text.characters front begun text.each cut (length before) at d in
+        let long = non-blank-long (length before) at (front ++ begun) non_blank in
         let less : at + 1 ≤ limit = omega (arith, long, length-append front begun, fits) in
-        let found = letter bytes t outer before o apart (front ++ begun) rest (e ∙ ap (λ xs. before ++ xs) (sym (append_assoc front begun rest))) at odd (can (at + 1) less) in
+        let found = letter bytes t outer before o apart (front ++ begun) rest (e ∙ ap (λ xs. before ++ xs) (sym (append_assoc front begun rest))) at non_blank (can (at + 1) less) in
         (found.0, found.1, clear at (omega (arith, less)))
 
     -- it ends within the limit
@@ -163,7 +164,7 @@ module _ (bytes : List ℕ) (limit : ℕ) (clear : (at : ℕ) → at < limit →
         by (inl less) = less
         by (inr short) = omega (arith, d, short, ap length e, length-append before (front ++ (begun ++ rest)), length-append front (begun ++ rest))
 
-    pub text-stands : front ++ begun ≢ [] → ((more back : List ℕ) → begun ++ rest ≡ more ++ back → length before + length front + length more ≤ most_bytes → TextFrom 0 (front ++ more) tt → more ≡ []) → TextStands bytes earlier (length before) (first_odd (length before) (front ++ begun)) (line_ends front)
+    pub text-stands : front ++ begun ≢ [] → ((more back : List ℕ) → begun ++ rest ≡ more ++ back → length before + length front + length more ≤ most_bytes → TextFrom 0 (front ++ more) tt → more ≡ []) → TextStands bytes earlier (length before) (first_non_blank (length before) (front ++ begun)) (line_ends front)
     text-stands some most = record {
       tags = t ∷ outer;
       before = before;
@@ -180,7 +181,7 @@ module _ (bytes : List ℕ) (limit : ℕ) (clear : (at : ℕ) → at < limit →
       within = within-limit (length before + length front) refl;
       some = some;
       says = refl;
-      is_odd = refl;
+      is_non_blank = refl;
       found = λ at d. found-at at d;
       longest = λ more back d h p. most more back d h (of-plain (front ++ more) p);
     }
@@ -192,9 +193,9 @@ module _ (bytes : List ℕ) (limit : ℕ) (clear : (at : ℕ) → at < limit →
 
     whole-text : ends_with_text st.6 ≡ false → (text : List ℕ) → IsText front text → Quiet (length before + length front) rest → AllStand earlier (leaf_parts (length before) (Text text))
     whole-text apart text g quiet =
-        let stands : TextStands bytes earlier (length before) (first_odd (length before) (front ++ [])) (line_ends front) =
+        let stands : TextStands bytes earlier (length before) (first_non_blank (length before) (front ++ [])) (line_ends front) =
         text-stands t outer before earlier st apart front [] rest e (text-from front text g) nothing-begun (omega (arith, fits)) some (λ more back d h p. most quiet more back d h p) in
-        (inr (subst (λ xs. TextStands bytes earlier (length before) (first_odd (length before) xs) (line_ends text)) (append-nil front ∙ sym g.characters.says) (subst (λ xs. TextStands bytes earlier (length before) (first_odd (length before) (front ++ [])) (line_ends xs)) (sym g.characters.says) stands)), tt)
+        (inr (subst (λ xs. TextStands bytes earlier (length before) (first_non_blank (length before) xs) (line_ends text)) (append-nil front ∙ sym g.characters.says) (subst (λ xs. TextStands bytes earlier (length before) (first_non_blank (length before) (front ++ [])) (line_ends xs)) (sym g.characters.says) stands)), tt)
       where
         some : front ++ [] ≡ [] → ⊥
         some d = g.some (g.characters.says ∙ sym (append-nil front) ∙ d)
@@ -241,22 +242,22 @@ module _ (bytes : List ℕ) (limit : ℕ) (clear : (at : ℕ) → at < limit →
   -- an empty element
   module _ (t : Tag) (tags : List Tag) (before : List ℕ) (earlier : List Part) (st : OpensParts tags before earlier) (w x : List ℕ) (name : Name) (attrs : List Attr) (end : ℕ) (says : tag_says (scopes_of tags) t ≡ Some (name, attrs)) (place : end + 2 ≡ length before + length w) (room : length tags + 1 ≤ 16) (e : bytes ≡ before ++ (w ++ x)) (fits : length before + length w ≤ limit) where
     module _ (u : List ℕ) (d : w ≡ 60 ∷ (u ++ 47 ∷ 62 ∷ [])) (g : IsTag u t) where
-      bare-whole : bytes ≡ before ++ 60 ∷ (u ++ 47 ∷ (62 ∷ x))
-      bare-whole = e ∙ ap (λ xs. before ++ (xs ++ x)) d ∙ ap (λ xs. before ++ 60 ∷ xs) (append_assoc u (47 ∷ 62 ∷ []) x)
+      empty-whole : bytes ≡ before ++ 60 ∷ (u ++ 47 ∷ (62 ∷ x))
+      empty-whole = e ∙ ap (λ xs. before ++ (xs ++ x)) d ∙ ap (λ xs. before ++ 60 ∷ xs) (append_assoc u (47 ∷ 62 ∷ []) x)
 
-      bare-long : length w ≡ length u + 3
-      bare-long = ap length d ∙ omega (arith, length-append u (47 ∷ 62 ∷ []))
+      empty-long : length w ≡ length u + 3
+      empty-long = ap length d ∙ omega (arith, length-append u (47 ∷ 62 ∷ []))
 
-      abbrev bare-start : StartStands bytes earlier (length before) end name attrs
-      bare-start = start-stands tags before earlier st t u 47 (62 ∷ x) g (inl refl) bare-whole name attrs says room end (omega (arith, place, bare-long)) (omega (arith, place, fits))
+      abbrev empty-start : StartStands bytes earlier (length before) end name attrs
+      empty-start = start-stands tags before earlier st t u 47 (62 ∷ x) g (inl refl) empty-whole name attrs says room end (omega (arith, place, empty-long)) (omega (arith, place, fits))
 
-      bare-ends : BareStands bytes (earlier ++ Start (length before) end name attrs ∷ []) end
-      bare-ends = record { front = earlier; begin = length before; name = name; attrs = attrs; start = bare-start; is = refl; more = x; slash = refl; closes = refl; clear = clear (end + 1) (omega (arith, place, fits)) }
+      empty-ends : EmptyStands bytes (earlier ++ Start (length before) end name attrs ∷ []) end
+      empty-ends = record { front = earlier; begin = length before; name = name; attrs = attrs; start = empty-start; is = refl; more = x; slash = refl; closes = refl; clear = clear (end + 1) (omega (arith, place, fits)) }
 
-    bare-stands : IsBareTag w t → AllStand earlier (Start (length before) end name attrs ∷ End end ∷ [])
-    bare-stands is = by (bare-parts w t is) where
+    empty-stands : IsEmptyTag w t → AllStand earlier (Start (length before) end name attrs ∷ End end ∷ [])
+    empty-stands is = by (empty-parts w t is) where
       by : (u : List ℕ) × (w ≡ 60 ∷ (u ++ 47 ∷ 62 ∷ [])) × IsTag u t → AllStand earlier (Start (length before) end name attrs ∷ End end ∷ [])
-      by (u, d, g) = (bare-start u d g, (inr (bare-ends u d g), tt))
+      by (u, d, g) = (empty-start u d g, (inr (empty-ends u d g), tt))
 
   -- a start tag with its `>`
   pub whole-start : (t : Tag) (tags : List Tag) (before : List ℕ) (earlier : List Part) → OpensParts tags before earlier → (start x : List ℕ) (name : Name) (attrs : List Attr) (end : ℕ) → IsStartTag start t → tag_says (scopes_of tags) t ≡ Some (name, attrs) → end + 1 ≡ length before + length start → length tags + 1 ≤ 16 → bytes ≡ before ++ (start ++ x) → length before + length start ≤ limit → StartStands bytes earlier (length before) end name attrs
@@ -340,8 +341,8 @@ module _ (bytes : List ℕ) (limit : ℕ) (clear : (at : ℕ) → at < limit →
 
   mutual
     pub stand-tree : (tree : Tree) (tags : List Tag) (before : List ℕ) (earlier : List Part) → OpensParts tags before earlier → (w x : List ℕ) (ps : List Part) → TreeParts tree (length before) (scopes_of tags) w ps → length tags + depth tree ≤ 16 → bytes ≡ before ++ (w ++ x) → length before + length w ≤ limit → AllStand earlier ps
-    stand-tree (Bare t) tags before earlier st w x ps (name, attrs, end, is, says, place, p) deep e fits =
-        subst (λ qs. AllStand earlier qs) (sym p) (bare-stands t tags before earlier st w x name attrs end says place deep e fits is)
+    stand-tree (EmptyElement t) tags before earlier st w x ps (name, attrs, end, is, says, place, p) deep e fits =
+        subst (λ qs. AllStand earlier qs) (sym p) (empty-stands t tags before earlier st w x name attrs end says place deep e fits is)
     stand-tree (Full t content) tags before earlier st w x ps (name, attrs, end, start, inside, closing, inner, d, is, ends, says, place, others, p) deep e fits =
         let deeper : length (t ∷ tags) + depths content ≤ 16 = omega (arith, deep) in
         let whole : bytes ≡ before ++ ((start ++ (inside ++ closing)) ++ x) = e ∙ ap (λ xs. before ++ (xs ++ x)) d in

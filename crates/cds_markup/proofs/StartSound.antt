@@ -10,13 +10,13 @@ use Rattle.cds_markup.specs.declared.tag.Tag.{Tag}
 use Rattle.cds_markup.specs.declared.tag.Open.{Open}
 use Rattle.cds_markup.specs.declared.error.Stop.TheVariants.{Deep}
 use Rattle.cds_markup.specs.Form.{Word}
-use Rattle.cds_markup.specs.Grammar.{Bare, Nothing, IsTag, IsBareTag, IsStartTag}
+use Rattle.cds_markup.specs.Grammar.{EmptyElement, Nothing, IsTag, IsEmptyTag, IsStartTag}
 use Rattle.cds_markup.specs.Namespaces.{tag_says}
 use Rattle.cds_markup.specs.Document.{most_open}
 use Rattle.cds_markup.specs.Refusal.{CanGoOn, Opens, scopes_of}
 use Rattle.cds_markup.specs.Step.{Step, word_at, next_is}
 use Rattle.cds_markup.specs.Reading.{tag_at, is_greater, ends_tag}
-use Rattle.cds_markup.specs.Course.{Moved, Halted, Course, place, halts, with_parts, goes_on, start_moves, read_moves, ruled_moves, tag_ends, bare_moves, content_at, behind_root, course_of, scopes_in, may_begin_name, is_full}
+use Rattle.cds_markup.specs.Course.{Moved, Halted, Course, place, halts, with_parts, goes_on, start_moves, read_moves, said_moves, tag_ends, empty_moves, content_at, behind_root, course_of, scopes_in, may_begin_name, is_full}
 use Rattle.cds_markup.specs.Parts.{OpensParts}
 use Rattle.cds_markup.proofs.ReadsForm.{Found, err_same}
 use Rattle.cds_markup.proofs.NameRows.{is-byte, a-qname, no-blanks}
@@ -35,8 +35,8 @@ AtStart tags before left parts =
     (x : List ℕ) → SameStart left x → course_of (before ++ 60 ∷ x) ≡ behind_root (with_parts parts (goes_on (start_moves (length (before ++ 60 ∷ x)) (length before) (opens_of tags) x) (content_at (length (before ++ 60 ∷ x)))))
 
 -- a tag for an empty element
-pub bare-of : (u : List ℕ) (t : Tag) → IsTag u t → IsBareTag (60 ∷ (u ++ 47 ∷ 62 ∷ [])) t
-bare-of u t g = record {
+pub empty-of : (u : List ℕ) (t : Tag) → IsTag u t → IsEmptyTag (60 ∷ (u ++ 47 ∷ 62 ∷ [])) t
+empty-of u t g = record {
   front = 60 ∷ [];
   back = u ++ 47 ∷ 62 ∷ [];
   what = tt;
@@ -58,7 +58,7 @@ start-of u t g = record {
 -- the bytes of a tag, whole or in part, can go on
 pub can-tag : (tags : List Tag) (before : List ℕ) → Opens tags before → (u more : List ℕ) (t : Tag) → IsTag (u ++ more) t → CanGoOn (before ++ 60 ∷ u)
 can-tag tags before o u more t g =
-    let all = close-tree tags before o (Bare t) (60 ∷ ((u ++ more) ++ 47 ∷ 62 ∷ [])) (bare-of (u ++ more) t g) in
+    let all = close-tree tags before o (EmptyElement t) (60 ∷ ((u ++ more) ++ 47 ∷ 62 ∷ [])) (empty-of (u ++ more) t g) in
     let same : before ++ 60 ∷ ((u ++ more) ++ 47 ∷ 62 ∷ []) ≡ (before ++ 60 ∷ u) ++ (more ++ 47 ∷ 62 ∷ []) = ap (λ xs. before ++ 60 ∷ xs) (append_assoc u more (47 ∷ 62 ∷ [])) ∙ sym (append_assoc before (60 ∷ u) (more ++ 47 ∷ 62 ∷ [])) in
     go-front (before ++ 60 ∷ u) (more ++ 47 ∷ 62 ∷ []) (go-same (before ++ 60 ∷ ((u ++ more) ++ 47 ∷ 62 ∷ [])) ((before ++ 60 ∷ u) ++ (more ++ 47 ∷ 62 ∷ [])) same all)
 
@@ -197,7 +197,7 @@ module _ (n : ℕ) (bytes : List ℕ) (rec : Rec n bytes) (tags : List Tag) (bef
       room : length tags + 1 ≤ 16
       room = not-full (length tags) (next_is may_begin_name left) (ap (λ n. (n == 16) && next_is may_begin_name left) (sym (opens-many tags)) ∙ open_) name-next deep
 
-      tag-on : (x : List ℕ) → SameStart rest x → course_of ((before ++ 60 ∷ u) ++ x) ≡ Go (u ++ x) (ruled_moves (T (u ++ x)) (length before) (opens_of tags) t (tag_says (scopes_in (opens_of tags)) t) x)
+      tag-on : (x : List ℕ) → SameStart rest x → course_of ((before ++ 60 ∷ u) ++ x) ≡ Go (u ++ x) (said_moves (T (u ++ x)) (length before) (opens_of tags) t (tag_says (scopes_in (opens_of tags)) t) x)
       tag-on x s =
           ap course_of (append_assoc before (60 ∷ u) x)
           ∙ reads-on (u ++ x) (subst (λ xs. SameStart xs (u ++ x)) (sym spelled) (same-behind u rest x s))
@@ -218,8 +218,8 @@ module _ (n : ℕ) (bytes : List ℕ) (rec : Rec n bytes) (tags : List Tag) (bef
         by true i = inl (is-byte b 47 i)
         by false i = inr (is-byte b 62 (or-second (b == 47) (b == 62) h i))
 
-      unruly : tag_says (scopes_of tags) t ≡ None → Told bytes
-      unruly none =
+      broken-rule : tag_says (scopes_of tags) t ≡ None → Told bytes
+      broken-rule none =
           let said : tag_says (scopes_in (opens_of tags)) t ≡ None = ap (λ s. tag_says s t) (scopes-same tags) ∙ none in
           inr (inr (inl (record {
             used = before ++ 60 ∷ u;
@@ -228,7 +228,7 @@ module _ (n : ℕ) (bytes : List ℕ) (rec : Rec n bytes) (tags : List Tag) (bef
             spelled = all;
             can = can-tag tags before opens u [] t (subst (λ xs. IsTag xs t) (sym (append-nil u)) is);
             cause = (tags, length before, t, (record { before = before; inside = u; end = ends.0; rest = ends.1; spelled = e ∙ ap (λ xs. before ++ 60 ∷ xs) (spelled ∙ ap (λ xs. u ++ xs) ends.2); begins = refl; place = longer u; opens = opens; is_tag = is; ends = end-byte ends.0 ends.3 }), none);
-            is = ap course_of all ∙ tag-on rest (same-here rest) ∙ ap (λ s. Go (u ++ rest) (ruled_moves (T (u ++ rest)) (length before) (opens_of tags) t s rest)) said;
+            is = ap course_of all ∙ tag-on rest (same-here rest) ∙ ap (λ s. Go (u ++ rest) (said_moves (T (u ++ rest)) (length before) (opens_of tags) t s rest)) said;
             shown = shown-here (60 ∷ u) rest refl;
           })))
 
@@ -236,10 +236,10 @@ module _ (n : ℕ) (bytes : List ℕ) (rec : Rec n bytes) (tags : List Tag) (bef
         abbrev First : Part
         First = Start (length before) At name attrs
 
-        ruled-on : (x : List ℕ) → SameStart rest x → course_of ((before ++ 60 ∷ u) ++ x) ≡ Go (u ++ x) (tag_ends At First (open_of t) (opens_of tags) x)
-        ruled-on x s =
+        said-on : (x : List ℕ) → SameStart rest x → course_of ((before ++ 60 ∷ u) ++ x) ≡ Go (u ++ x) (tag_ends At First (open_of t) (opens_of tags) x)
+        said-on x s =
             tag-on x s
-            ∙ ap (λ s. Go (u ++ x) (ruled_moves (T (u ++ x)) (length before) (opens_of tags) t s x)) (ap (λ s. tag_says s t) (scopes-same tags) ∙ says)
+            ∙ ap (λ s. Go (u ++ x) (said_moves (T (u ++ x)) (length before) (opens_of tags) t s x)) (ap (λ s. tag_says s t) (scopes-same tags) ∙ says)
             ∙ ap (λ n. Go (u ++ x) (tag_ends n (Start (length before) n name attrs) (open_of t) (opens_of tags) x)) (place-on x)
 
         -- a start tag
@@ -272,15 +272,15 @@ module _ (n : ℕ) (bytes : List ℕ) (rec : Rec n bytes) (tags : List Tag) (bef
             arrives : Arrives (t ∷ tags) ((before ++ 60 ∷ u) ++ 62 ∷ []) tail (parts ++ First ∷ [])
             arrives y s =
                 ap course_of (append_assoc (before ++ 60 ∷ u) (62 ∷ []) y)
-                ∙ ruled-on (62 ∷ y) (subst (λ xs. SameStart xs (62 ∷ y)) (sym d) refl)
+                ∙ said-on (62 ∷ y) (subst (λ xs. SameStart xs (62 ∷ y)) (sym d) refl)
                 ∙ ap behind_root (parts-twice parts (First ∷ []) (content_at (T (u ++ 62 ∷ y)) (opens_of (t ∷ tags)) y))
                 ∙ ap (λ n. behind_root (with_parts (parts ++ First ∷ []) (content_at n (opens_of (t ∷ tags)) y))) (ap length (sym (append_assoc before (60 ∷ u) (62 ∷ y)) ∙ sym (append_assoc (before ++ 60 ∷ u) (62 ∷ []) y)))
 
         -- an empty element
-        bare-on : next_is is_greater rest ≡ false → (x : List ℕ) → SameStart rest x → course_of ((before ++ 60 ∷ u) ++ x) ≡ Go (u ++ x) (bare_moves First At (opens_of tags) (word_at (codes "/>") x))
-        bare-on no-greater x s =
-            ruled-on x s
-            ∙ ap (λ t0. Go (u ++ x) (cond t0 (Ok record { parts = First ∷ []; opens = open_of t ∷ opens_of tags; left = drop 1 x }) (bare_moves First At (opens_of tags) (word_at (codes "/>") x)))) (sym (same-next is_greater rest x s) ∙ no-greater)
+        empty-on : next_is is_greater rest ≡ false → (x : List ℕ) → SameStart rest x → course_of ((before ++ 60 ∷ u) ++ x) ≡ Go (u ++ x) (empty_moves First At (opens_of tags) (word_at (codes "/>") x))
+        empty-on no-greater x s =
+            said-on x s
+            ∙ ap (λ t0. Go (u ++ x) (cond t0 (Ok record { parts = First ∷ []; opens = open_of t ∷ opens_of tags; left = drop 1 x }) (empty_moves First At (opens_of tags) (word_at (codes "/>") x)))) (sym (same-next is_greater rest x s) ∙ no-greater)
 
         -- its `/` stands, and no `>` behind it
         shown-slash : next_is is_greater rest ≡ false → (used end : List ℕ) → rest ≡ used ++ end → word_at (codes "/>") rest ≡ Err end → Shown ((before ++ 60 ∷ u) ++ used) end (parts ++ First ∷ [])
@@ -310,8 +310,8 @@ module _ (n : ℕ) (bytes : List ℕ) (rec : Rec n bytes) (tags : List Tag) (bef
         unclosed : next_is is_greater rest ≡ false → (end : List ℕ) → word_at (codes "/>") rest ≡ Err end → Told bytes
         unclosed no-greater end d =
             let f = (word (length rest) (codes "/>") Any).stops rest end (omega arith) d in
-            let bare : IsBareTag (60 ∷ (u ++ (f.used ++ f.more))) t = subst (λ xs. IsBareTag (60 ∷ (u ++ xs)) t) (sym f.viable) (bare-of u t is) in
-            let tree = close-tree tags before opens (Bare t) (60 ∷ (u ++ (f.used ++ f.more))) bare in
+            let bare : IsEmptyTag (60 ∷ (u ++ (f.used ++ f.more))) t = subst (λ xs. IsEmptyTag (60 ∷ (u ++ xs)) t) (sym f.viable) (empty-of u t is) in
+            let tree = close-tree tags before opens (EmptyElement t) (60 ∷ (u ++ (f.used ++ f.more))) bare in
             let same : before ++ 60 ∷ (u ++ (f.used ++ f.more)) ≡ ((before ++ 60 ∷ u) ++ f.used) ++ f.more = sym (append_assoc before (60 ∷ u) (f.used ++ f.more)) ∙ sym (append_assoc (before ++ 60 ∷ u) f.used f.more) in
             inr (inl (record {
               used = (before ++ 60 ∷ u) ++ f.used;
@@ -320,14 +320,14 @@ module _ (n : ℕ) (bytes : List ℕ) (rec : Rec n bytes) (tags : List Tag) (bef
               can = go-front ((before ++ 60 ∷ u) ++ f.used) f.more (go-same (before ++ 60 ∷ (u ++ (f.used ++ f.more))) (((before ++ 60 ∷ u) ++ f.used) ++ f.more) same tree);
               local = λ x s. (
                 parts ++ First ∷ [],
-                ap course_of (append_assoc (before ++ 60 ∷ u) f.used x) ∙ bare-on no-greater (f.used ++ x) (subst (λ xs. SameStart xs (f.used ++ x)) (sym f.spelled) (same-behind f.used end x s)) ∙ ap (λ r. Go (u ++ (f.used ++ x)) (bare_moves First At (opens_of tags) r)) (alike-err (word_at (codes "/>")) (Word (codes "/>")) rest end f d x s),
+                ap course_of (append_assoc (before ++ 60 ∷ u) f.used x) ∙ empty-on no-greater (f.used ++ x) (subst (λ xs. SameStart xs (f.used ++ x)) (sym f.spelled) (same-behind f.used end x s)) ∙ ap (λ r. Go (u ++ (f.used ++ x)) (empty_moves First At (opens_of tags) r)) (alike-err (word_at (codes "/>")) (Word (codes "/>")) rest end f d x s),
               );
               shown = shown-slash no-greater f.used end f.spelled d;
             }))
 
         closed : next_is is_greater rest ≡ false → (end : List ℕ) → word_at (codes "/>") rest ≡ Ok (tt, end) → Told bytes
         closed no-greater end d =
-            told-tree n bytes rec tags before parts st (Bare t) (60 ∷ (u ++ codes "/>")) (First ∷ End At ∷ []) (name, attrs, At, bare-of u t is, says, place, refl) (omega (arith, room)) end
+            told-tree n bytes rec tags before parts st (EmptyElement t) (60 ∷ (u ++ codes "/>")) (First ∷ End At ∷ []) (name, attrs, At, empty-of u t is, says, place, refl) (omega (arith, room)) end
             (all ∙ ap (λ xs. (before ++ 60 ∷ u) ++ xs) whole ∙ sym (append_assoc (before ++ 60 ∷ u) (codes "/>") end) ∙ ap (λ xs. xs ++ end) (append_assoc before (60 ∷ u) (codes "/>"))) less arrives
           where
             f : Found (word_at (codes "/>")) (Word (codes "/>")) rest tt end
@@ -349,7 +349,7 @@ module _ (n : ℕ) (bytes : List ℕ) (rec : Rec n bytes) (tags : List Tag) (bef
             arrives y s =
                 ap (λ xs. course_of (xs ++ y)) (sym (append_assoc before (60 ∷ u) (codes "/>")))
                 ∙ ap course_of (append_assoc (before ++ 60 ∷ u) (codes "/>") y)
-                ∙ bare-on no-greater (47 ∷ 62 ∷ y) (subst (λ xs. SameStart xs (47 ∷ 62 ∷ y)) (sym whole) refl)
+                ∙ empty-on no-greater (47 ∷ 62 ∷ y) (subst (λ xs. SameStart xs (47 ∷ 62 ∷ y)) (sym whole) refl)
                 ∙ ap behind_root (parts-twice parts (First ∷ End At ∷ []) (content_at (T (u ++ 47 ∷ 62 ∷ y)) (opens_of tags) y))
                 ∙ ap (λ n. behind_root (with_parts (parts ++ First ∷ End At ∷ []) (content_at n (opens_of tags) y))) (ap length (sym (append_assoc before (60 ∷ u) (47 ∷ 62 ∷ y)) ∙ sym (append_assoc (before ++ 60 ∷ u) (codes "/>") y) ∙ ap (λ xs. xs ++ y) (append_assoc before (60 ∷ u) (codes "/>"))))
 
@@ -363,16 +363,16 @@ module _ (n : ℕ) (bytes : List ℕ) (rec : Rec n bytes) (tags : List Tag) (bef
           by true i = let b = begins-with is_greater rest i in opened b.1 (b.2 ∙ ap (λ x. x ∷ b.1) (is-byte b.0 62 b.3))
           by false i = by-word i (word_at (codes "/>") rest) refl
 
-      ruled : Told bytes
-      ruled = by (tag_says (scopes_of tags) t) refl where
+      said_start : Told bytes
+      said_start = by (tag_says (scopes_of tags) t) refl where
         by : (o : Option (Name × List Attr)) → tag_says (scopes_of tags) t ≡ o → Told bytes
-        by None i = unruly i
+        by None i = broken-rule i
         by (Some (name, attrs)) i = said name attrs i
 
     a-tag-read : (t : Tag) (rest : List ℕ) → tag_at left ≡ Ok (t, rest) → Told bytes
     a-tag-read t rest d =
         let f = (parse-tag (length left)).found left t rest (omega arith) d in
-        ruled t f.used rest f.spelled f.is (alike-ok tag_at IsTag left t rest f d) (tag-ends left t rest d)
+        said_start t f.used rest f.spelled f.is (alike-ok tag_at IsTag left t rest f d) (tag-ends left t rest d)
 
     tag-or-not : Told bytes
     tag-or-not = by (tag_at left) refl where

@@ -4,7 +4,7 @@ use Rattle.std.proofs.lemmas.Bool.Decides.{nat_tests}
 use Rattle.std.proofs.lemmas.List.{append_cancel_left}
 use Rattle.std.proofs.lemmas.Str.{encode_ascii}
 use Rattle.cds_markup.specs.Form.{Character}
-use Rattle.cds_markup.specs.Found.{IsBegun}
+use Rattle.cds_markup.specs.GivenParts.{IsBegun}
 use Rattle.cds_markup.specs.Step.{Step, next_is}
 use Rattle.cds_markup.specs.Reading.{any_at, character_at, brackets_with, closes_section, is_in_run, TextRead, longer, text_behind}
 use Rattle.cds_markup.proofs.ReadsForm.{Follows, always, ok_same}

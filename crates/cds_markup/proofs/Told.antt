@@ -6,7 +6,7 @@ use Rattle.cds_markup.specs.declared.tag.Tag.{Tag}
 use Rattle.cds_markup.specs.declared.tag.Open.{Open}
 use Rattle.cds_markup.specs.declared.tag.Declaration.{Declaration}
 use Rattle.cds_markup.specs.declared.error.Stop.{Stop}
-use Rattle.cds_markup.specs.declared.error.Stop.TheVariants.{Broken, Unruly, Deep}
+use Rattle.cds_markup.specs.declared.error.Stop.TheVariants.{Broken, NamespaceRule, Deep}
 use Rattle.cds_markup.specs.Grammar.{Leaf, Tree, Content, Nothing, LeafThen, TreeThen, is_text, IsLeaf, IsProlog, IsMisc}
 use Rattle.cds_markup.specs.Namespaces.{declarations}
 use Rattle.cds_markup.specs.Document.{depth, depths, most_open}
@@ -78,7 +78,7 @@ pub record Stops (bytes : List ℕ) (stop : Stop) (why : ℕ → Type 0) : Type 
   pub shown : Shown used rest parts
 
 abbrev pub Told : List ℕ → Type 0
-Told bytes = Whole bytes ⊎ (Broke bytes ⊎ (Stops bytes Unruly (BreaksRule bytes) ⊎ Stops bytes Deep (IsTooDeep bytes)))
+Told bytes = Whole bytes ⊎ (Broke bytes ⊎ (Stops bytes NamespaceRule (BreaksRule bytes) ⊎ Stops bytes Deep (IsTooDeep bytes)))
 
 -- parts behind parts
 pub parts-twice : (ps qs : List Part) (c : Course) → with_parts ps (with_parts qs c) ≡ with_parts (ps ++ qs) c

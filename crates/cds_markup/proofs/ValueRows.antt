@@ -10,7 +10,7 @@ use Rattle.cds_base.specs.Reference.{IsReference}
 use Rattle.cds_markup.specs.Form.{Byte, Character, Then, Says, Many}
 use Rattle.cds_markup.specs.Grammar.{is_in_value, IsValuePiece, is_quote, value_says, IsInside, IsValue, IsQName, IsEquals, IsTagAttr}
 use Rattle.cds_markup.specs.Step.{after, byte_at, next_is, many_at}
-use Rattle.cds_markup.specs.Reading.{may_be, character_at, is_and, reference_at, referred_at, literal_at, value_piece_at, before_quote, inside_at, value_at, qname_at, equals_at, attr_at}
+use Rattle.cds_markup.specs.Reading.{may_be, character_at, is_ampersand, reference_at, referred_at, literal_at, value_piece_at, before_quote, inside_at, value_at, qname_at, equals_at, attr_at}
 use Rattle.cds_markup.proofs.ReadsForm.{Follows, always, Reads}
 use Rattle.cds_markup.proofs.Repeats.{Begins, ends, reads-many}
 use Rattle.cds_markup.proofs.TestForm.{reads-character, begins-may}
@@ -53,23 +53,23 @@ from-piece : (quote : ℕ) (w : List ℕ) (v : ValuePiece) → IsValuePiece quot
 from-piece quote w (Literal c) g = inr (record { front = w; back = []; what = c; spelled = sym (append-nil w); first = g; second = (refl, refl) })
 from-piece quote w (Referred c) g = inl (record { front = w; back = []; what = c; spelled = sym (append-nil w); first = g; second = (refl, refl) })
 
-next-no-and : (quote b : ℕ) → Quote quote → may_be (is_in_value quote) b ≡ true → is_and b ≡ false
+next-no-and : (quote b : ℕ) → Quote quote → may_be (is_in_value quote) b ≡ true → is_ampersand b ≡ false
 next-no-and quote b q e = grind (arith, nat_tests)
 
 pub parse-piece : (k quote : ℕ) → Quote quote → Parses k (value_piece_at quote) (IsValuePiece quote) Any
 unfolding value_piece_at
 parse-piece k quote q =
     alike k (value_piece_at quote) (Either ReferredPiece (LiteralPiece quote)) (IsValuePiece quote) Any (to-piece quote) (from-piece quote)
-    (either is_and referred_at (literal_at quote) ReferredPiece (LiteralPiece quote) k Any
+    (either is_ampersand referred_at (literal_at quote) ReferredPiece (LiteralPiece quote) k Any
     (next reference_at (λ c rest. Ok (Referred c, rest)) IsReference (λ c. Says (Referred c)) k Any (parse-reference k) (λ c used g. says k (Referred c) Any) (λ c used g. ([], Referred c, (refl, refl))))
     (next (character_at (is_in_value quote)) (λ c rest. Ok (Literal c, rest)) (Character (is_in_value quote)) (λ c. Says (Literal c)) k Any
     (before k (character_at (is_in_value quote)) (Character (is_in_value quote)) (Follows always) Any (parses k (character_at (is_in_value quote)) (Character (is_in_value quote)) always (reads-literal quote q always)) (λ rest p. always-follows rest))
     (λ c used g. says k (Literal c) Any)
     (λ c used g. ([], Literal c, (refl, refl))))
-    (λ w v rest t p. let b = begins-reference t.front t.what t.first in ap (λ xs. next_is is_and (xs ++ rest)) (t.spelled ∙ ap (λ xs. xs ++ t.back) b.1))
+    (λ w v rest t p. let b = begins-reference t.front t.what t.first in ap (λ xs. next_is is_ampersand (xs ++ rest)) (t.spelled ∙ ap (λ xs. xs ++ t.back) b.1))
     (λ w v rest t p.
     let b = begins-literal quote q t.front t.what t.first in
-    ap (λ xs. next_is is_and (xs ++ rest)) (t.spelled ∙ ap (λ xs. xs ++ t.back) b.2) ∙ next-no-and quote b.0 q b.3))
+    ap (λ xs. next_is is_ampersand (xs ++ rest)) (t.spelled ∙ ap (λ xs. xs ++ t.back) b.2) ∙ next-no-and quote b.0 q b.3))
   where
     always-follows : (rest : List ℕ) → Follows always rest
     always-follows [] = tt

@@ -6,7 +6,7 @@ use Rattle.cds_markup.specs.declared.values.ValuePiece.{ValuePiece}
 use Rattle.cds_markup.specs.declared.values.ValuePiece.TheVariants.{Literal, Referred}
 use Rattle.cds_markup.specs.Grammar.{piece_says, and_behind, with_line_ends, value_says}
 use Rattle.cds_markup.specs.Step.{Step, after, next_is, many_at}
-use Rattle.cds_markup.specs.Reading.{value_piece_at, before_quote, inside_at, says_behind, is_return, all_say}
+use Rattle.cds_markup.specs.Reading.{value_piece_at, before_quote, inside_at, says_behind, is_return}
 use Rattle.cds_markup.proofs.ReadsForm.{after_err}
 use Rattle.cds_markup.proofs.Repeats.{many_more, many_stop, many_break}
 use Rattle.cds_markup.proofs.Shorter.{piece-less}
@@ -56,6 +56,11 @@ one-says false c more = by (c == 10) where
   by : (t : Bool) → piece_says (Literal c) ++ says more ≡ cond (t && false) [] (cond (is_blank c) (32 ∷ []) (encode_utf8 c)) ++ says more
   by true = refl
   by false = refl
+
+-- what pieces say one behind another
+abbrev pub all_say : Bool → List ValuePiece → List ℕ
+all_say behind [] = []
+all_say behind (piece ∷ more) = says_behind behind piece ++ all_say (is_return piece) more
 
 pub all-say-is : (behind : Bool) (pieces : List ValuePiece) → says (after_flag behind (with_line_ends pieces)) ≡ all_say behind pieces
 all-say-is true [] = refl

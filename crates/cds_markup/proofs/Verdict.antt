@@ -4,7 +4,7 @@ use Rattle.std.proofs.lemmas.Bool.Decides.{nat_tests}
 use Rattle.std.proofs.lemmas.List.{take-append-drop, take_at, drop_all}
 use Rattle.cds_markup.specs.declared.part.Part.{Part}
 use Rattle.cds_markup.specs.declared.error.Stop.{Stop}
-use Rattle.cds_markup.specs.declared.error.Stop.TheVariants.{Broken, Unruly, Deep}
+use Rattle.cds_markup.specs.declared.error.Stop.TheVariants.{Broken, NamespaceRule, Deep}
 use Rattle.cds_markup.specs.declared.error.MarkupError.{MarkupError}
 use Rattle.cds_markup.specs.declared.error.MarkupError.TheVariants.{Bad, TooDeep, TooLong, Failed, Mem}
 use Rattle.cds_markup.specs.declared.tag.Tag.{Tag}
@@ -17,10 +17,9 @@ use Rattle.cds_markup.specs.Refusal.{CanGoOn, BreaksRule, IsTooDeep, IsBad, Refu
 use Rattle.cds_markup.specs.Course.{Course, may_begin_name, place, course_of, answer_of, past_limit, refusal, ending_of, within_limit, is_cut, read_of, parts_of}
 use Rattle.cds_markup.specs.Parts.{DocumentParts, nested, Says}
 use Rattle.cds_markup.specs.Building.{State, state_of, built, nothing_yet, built_as, first_element}
-use Rattle.cds_markup.specs.Law.{ReadAs}
 use Rattle.cds_markup.specs.Decided.{Decides, IsBuilt}
 use Rattle.cds_markup.specs.Agree.{Gives}
-use Rattle.cds_markup.specs.Taken.{builds}
+use Rattle.cds_markup.specs.SinkLaws.{builds}
 use Rattle.cds_markup.specs.declared.build.Builder.{Builder}
 use Rattle.cds_markup.proofs.ContentForm.{tree-means, tree-is}
 use Rattle.cds_markup.proofs.Closing.{go-front, go-same}
@@ -44,8 +43,8 @@ stop-is c ps qs s t x y e d =
 pub no-stop : (s : Stop) → ◌≡◌ {A = Option Stop} None (Some s) → ⊥
 no-stop s e = cc
 
-pub no-broken : (s : Stop) → (s ≡ Unruly) ⊎ (s ≡ Deep) → ◌≡◌ {A = Option Stop} (Some Broken) (Some s) → ⊥
-no-broken s (inl d) e = let no : ◌≡◌ {A = Option Stop} (Some Broken) (Some Unruly) = e ∙ ap Some d in cc
+pub no-broken : (s : Stop) → (s ≡ NamespaceRule) ⊎ (s ≡ Deep) → ◌≡◌ {A = Option Stop} (Some Broken) (Some s) → ⊥
+no-broken s (inl d) e = let no : ◌≡◌ {A = Option Stop} (Some Broken) (Some NamespaceRule) = e ∙ ap Some d in cc
 no-broken s (inr d) e = let no : ◌≡◌ {A = Option Stop} (Some Broken) (Some Deep) = e ∙ ap Some d in cc
 
 pub stops-either : (bytes : List ℕ) (at : ℕ) → BreaksRule bytes at ⊎ IsTooDeep bytes at → StopsBy bytes at
@@ -271,9 +270,9 @@ module _ (bytes : List ℕ) (cut : Bool) (l : Limit bytes cut) where
       bad past [] e = ends-here b e (whole-cut cut refl past e)
       bad past (c ∷ tail) e = breaks-here b c tail e
 
-  at-rule : Stops I Unruly (BreaksRule I) → Answered bytes
+  at-rule : Stops I NamespaceRule (BreaksRule I) → Answered bytes
   at-rule s =
-      conclude (far-stops I Unruly (BreaksRule I) s) Unruly s.parts s.is (Bad (length s.used)) (λ c a. refl) refl no-mem
+      conclude (far-stops I NamespaceRule (BreaksRule I) s) NamespaceRule s.parts s.is (Bad (length s.used)) (λ c a. refl) refl no-mem
       (λ past is_first. (inr (rule-more bytes I l.more l.spelled (length s.used) s.cause), is_first))
     where
       no-mem : Bad (length s.used) ≡ Mem → ⊥
@@ -473,7 +472,14 @@ all-answered bytes = by (answered bytes)
     by (inl a) = inl a.1
     by (inr (r, d, i, n)) = inr (r, i, n)
 
-pub documents-are-read : (bytes : List ℕ) → ReadAs bytes
+-- the reader's course answers what the grammar says
+pub record ReadSo (bytes : List ℕ) : Type 0 where
+  pub whole : (element : Meaning) → Doc bytes element → (read_of bytes ≡ Ok tt) × Says (parts_of bytes) element
+  pub document : read_of bytes ≡ Ok tt → (element : Meaning) × Doc bytes element
+  pub refused : (r : MarkupError) → IsRefused bytes r → r ≢ Mem → read_of bytes ≡ Err r
+  pub refusal : (r : MarkupError) → read_of bytes ≡ Err r → IsRefused bytes r
+
+pub documents-are-read : (bytes : List ℕ) → ReadSo bytes
 documents-are-read bytes = record {
   whole = λ element d. whole-read bytes element d;
   document = λ e. document (answered bytes) e;

@@ -1,15 +1,16 @@
 -- What is written of an element is a document that means it.
-use Rattle.std.proofs.Common.{◌≡◌, ℕ, suc, ◌^◌, ◌<◌, ◌≤◌, false, List, [], ◌∷◌, ◌++◌, length, max, refl, sym, ap, subst, ◌∙◌, arith, append-nil, length-append, codes, cond, None, Some}
+use Rattle.std.proofs.Common.{◌≡◌, ℕ, suc, ◌^◌, ◌<◌, ◌≤◌, false, List, [], ◌∷◌, ◌++◌, length, max, refl, sym, ap, subst, ◌∙◌, arith, append-nil, length-append, codes, cond, Some}
 use Rattle.cds_base.specs.Escape.{escaped}
 use Rattle.cds_base.specs.Unescape.{AreAllowed}
 use Rattle.cds_markup.specs.declared.name.Name.{Name}
 use Rattle.cds_markup.specs.declared.name.Attr.{Attr}
 use Rattle.cds_markup.specs.declared.tag.TagAttr.{TagAttr}
 use Rattle.cds_markup.specs.declared.tag.Declaration.{Declaration}
-use Rattle.cds_markup.specs.Grammar.{Tree, Full, Nothing, TreeThen, IsTree, IsProlog, IsMisc, name_bytes}
+use Rattle.cds_markup.specs.Grammar.{Tree, Full, Nothing, TreeThen, IsTree, name_bytes}
 use Rattle.cds_markup.specs.Namespaces.{is_empty, declarations, space_of}
 use Rattle.cds_markup.specs.Document.{Meaning, Meanings, Element, End, TextThen, ChildThen, joined, of_tag, and_children, meaning, meanings, depth, depths, most_open}
 use Rattle.cds_markup.specs.Written.{tag_attrs, default_declared, tag_of, written_attr, written_attrs, written_start, written_end, written_in, written_inside, written, begins_with_text, CanBeTag, CanBe, CanBeInside, element_depth, inside_depth, WrittenIsRead}
+use Rattle.cds_markup.proofs.TagForm.{no-misc, no-prolog}
 use Rattle.cds_markup.proofs.WrittenTags.{start-of, end-of}
 use Rattle.cds_markup.proofs.WrittenScopes.{each-attr}
 use Rattle.cds_markup.proofs.WrittenOnce.{Keeps, keeps, tag-stands, tag-says}
@@ -110,20 +111,6 @@ mutual
       child-means scopes (written_in space child) (written_inside space more) child more
       (element-means child space scopes can.0 (front-short (written_in space child) (written_inside space more) short) is)
       (inside-means more space scopes can.1 (back-short (written_in space child) (written_inside space more) short) is)
-
--- nothing stands before the root and behind it
-no-misc : IsMisc [] tt
-no-misc = record { front = []; back = []; what = []; spelled = refl; first = refl; second = (refl, refl) }
-
-no-prolog : IsProlog [] tt
-no-prolog = record {
-  front = [];
-  back = [];
-  what = None;
-  spelled = refl;
-  first = refl;
-  second = record { front = []; back = []; what = None; spelled = refl; first = refl; second = no-misc };
-}
 
 pub written-is-read : WrittenIsRead
 written-is-read element can =

@@ -47,7 +47,7 @@ with_text text s = state s.frames s.nodes (s.text ++ text)
 abbrev pub with_part : State → Part → State
 with_part s (Start at end name attrs) = opened name attrs (flushed s)
 with_part s (End at) = closed (flushed s)
-with_part s (Run at odd text) = with_text text s
+with_part s (Run at non_blank text) = with_text text s
 
 abbrev pub built : State → List Part → State
 built s [] = s

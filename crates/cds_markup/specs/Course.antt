@@ -1,5 +1,6 @@
 -- The parts of a document in order, up to its end or to where reading stops.
 use Rattle.std.specs.Prelude.{◌==◌, ℕ, zero, suc, ◌+◌, ◌-◌, nat_lt, nat_le, Bool, not, ◌&&◌, if◌then◌else◌, Option, Some, None, Result, Ok, Err, List, [], ◌∷◌, ◌++◌, codes, length, take, drop, map, encode_utf8}
+use Rattle.cds_base.specs.declared.limits.TheConstants.{INPUT_LIMIT}
 use Rattle.cds_base.specs.Characters.{is_blank, begins_name}
 use Rattle.cds_markup.specs.declared.name.Name.{Name}
 use Rattle.cds_markup.specs.declared.name.Attr.{Attr}
@@ -10,13 +11,13 @@ use Rattle.cds_markup.specs.declared.tag.Open.{Open}
 use Rattle.cds_markup.specs.declared.tag.Declaration.{Declaration}
 use Rattle.cds_markup.specs.declared.tag.QName.{QName}
 use Rattle.cds_markup.specs.declared.error.Stop.{Stop}
-use Rattle.cds_markup.specs.declared.error.Stop.TheVariants.{Broken, Unruly, Deep, Mem as OutOfMemory}
+use Rattle.cds_markup.specs.declared.error.Stop.TheVariants.{Broken, NamespaceRule, Deep, Mem as OutOfMemory}
 use Rattle.cds_markup.specs.declared.error.MarkupError.{MarkupError}
 use Rattle.cds_markup.specs.declared.error.MarkupError.TheVariants.{Bad, TooDeep, TooLong, Mem}
 use Rattle.cds_markup.specs.Namespaces.{declarations, tag_says, is_empty}
-use Rattle.cds_markup.specs.Document.{line_ends, most_open, most_bytes}
+use Rattle.cds_markup.specs.Document.{line_ends, most_open}
 use Rattle.cds_markup.specs.Step.{Step, word_at, next_is}
-use Rattle.cds_markup.specs.Reading.{TextRead, text_behind, is_greater, tag_at, end_at, reference_at, remark_at, section_text_at, prolog_at, epilog_at, is_within, is_less, is_bang, is_and}
+use Rattle.cds_markup.specs.Reading.{TextRead, text_behind, is_greater, tag_at, end_at, reference_at, comment_at, section_text_at, prolog_at, epilog_at, is_within, is_less, is_exclamation, is_ampersand}
 
 -- The place of what is left, where there are so many bytes in all.
 abbrev pub place : ℕ → List ℕ → ℕ
@@ -39,29 +40,29 @@ halts stop left = Err record { parts = []; stop = stop; left = left }
 
 -- A start tag at a place, which says this, and what is left from its end on. That of an empty element is found at its
 -- `/`, whether a `>` follows or not.
-abbrev pub bare_moves : Part → ℕ → List Open → Step (Unit {0}) → Result Moved Halted
-bare_moves start end opens (Err left) = Err record { parts = start ∷ []; stop = Broken; left = left }
-bare_moves start end opens (Ok found) = Ok record { parts = start ∷ End end ∷ []; opens = opens; left = found.1 }
+abbrev pub empty_moves : Part → ℕ → List Open → Step (Unit {0}) → Result Moved Halted
+empty_moves start end opens (Err left) = Err record { parts = start ∷ []; stop = Broken; left = left }
+empty_moves start end opens (Ok found) = Ok record { parts = start ∷ End end ∷ []; opens = opens; left = found.1 }
 
 abbrev pub tag_ends : ℕ → Part → Open → List Open → List ℕ → Result Moved Halted
 tag_ends end start inner opens left =
     if next_is is_greater left then Ok record { parts = start ∷ []; opens = inner ∷ opens; left = drop 1 left }
-    else bare_moves start end opens (word_at (codes "/>") left)
+    else empty_moves start end opens (word_at (codes "/>") left)
 
 abbrev pub tag_moves : ℕ → ℕ → List Open → Tag → Name × List Attr → List ℕ → Result Moved Halted
 tag_moves total at opens t said left =
     tag_ends (place total left) (Start at (place total left) said.0 said.1) (record { name = t.name; declared = declarations t.attrs }) opens left
 
-abbrev pub ruled_moves : ℕ → ℕ → List Open → Tag → Option (Name × List Attr) → List ℕ → Result Moved Halted
-ruled_moves total at opens t None left = halts Unruly left
-ruled_moves total at opens t (Some said) left = tag_moves total at opens t said left
+abbrev pub said_moves : ℕ → ℕ → List Open → Tag → Option (Name × List Attr) → List ℕ → Result Moved Halted
+said_moves total at opens t None left = halts NamespaceRule left
+said_moves total at opens t (Some said) left = tag_moves total at opens t said left
 
 abbrev pub scopes_in : List Open → List (List Declaration)
 scopes_in opens = map (λ o. o.declared) opens
 
 abbrev pub read_moves : ℕ → ℕ → List Open → Step Tag → Result Moved Halted
 read_moves total at opens (Err left) = halts Broken left
-read_moves total at opens (Ok found) = ruled_moves total at opens found.0 (tag_says (scopes_in opens) found.0) found.1
+read_moves total at opens (Ok found) = said_moves total at opens found.0 (tag_says (scopes_in opens) found.0) found.1
 
 -- Where as many elements are open as may be, the first byte of a name stops it.
 abbrev pub may_begin_name : ℕ → Bool
@@ -80,9 +81,9 @@ end_moves at outer (Err left) = halts Broken left
 end_moves at outer (Ok found) = Ok record { parts = End at ∷ []; opens = outer; left = found.1 }
 
 -- A comment, a section or a reference at a place.
-abbrev pub remark_moves : List Open → Step (Unit {0}) → Result Moved Halted
-remark_moves opens (Err left) = halts Broken left
-remark_moves opens (Ok found) = Ok record { parts = []; opens = opens; left = found.1 }
+abbrev pub comment_moves : List Open → Step (Unit {0}) → Result Moved Halted
+comment_moves opens (Err left) = halts Broken left
+comment_moves opens (Ok found) = Ok record { parts = []; opens = opens; left = found.1 }
 
 abbrev pub section_moves : ℕ → List Open → Step (List ℕ) → Result Moved Halted
 section_moves at opens (Err left) = halts Broken left
@@ -93,14 +94,14 @@ reference_moves at opens (Err left) = halts Broken left
 reference_moves at opens (Ok found) = Ok record { parts = Run at (Some at) (encode_utf8 found.0) ∷ []; opens = opens; left = found.1 }
 
 -- The place of the first character of a text that is no blank; one that broke off behind the text counts.
-abbrev pub odd_of : ℕ → List ℕ → Bool → Option ℕ
-odd_of at [] begun = if begun then Some at else None
-odd_of at (b ∷ rest) begun = if is_blank b then odd_of (at + 1) rest begun else Some at
+abbrev pub non_blank_of : ℕ → List ℕ → Bool → Option ℕ
+non_blank_of at [] begun = if begun then Some at else None
+non_blank_of at (b ∷ rest) begun = if is_blank b then non_blank_of (at + 1) rest begun else Some at
 
 -- The run of a literal text at a place. One without a character is given only where one broke off.
 abbrev pub text_parts : ℕ → List ℕ → Bool → List Part
 text_parts at text begun =
-    if is_empty text && not begun then [] else Run at (odd_of at text begun) (line_ends text) ∷ []
+    if is_empty text && not begun then [] else Run at (non_blank_of at text begun) (line_ends text) ∷ []
 
 -- Whether a character began behind the whole ones.
 abbrev pub has_begun : List ℕ → TextRead → Bool
@@ -115,10 +116,10 @@ abbrev pub text_moves : ℕ → List Open → List ℕ → TextRead → Result M
 text_moves at opens left read = text_ends (text_parts at (take read.whole left) (has_begun left read)) opens read
 
 -- What begins with `<` inside an element.
-abbrev pub bang_moves : ℕ → List Open → List ℕ → Result Moved Halted
-bang_moves at opens left =
+abbrev pub comment_or_section_moves : ℕ → List Open → List ℕ → Result Moved Halted
+comment_or_section_moves at opens left =
     if next_is (λ b. b == 91) (drop 1 left) then section_moves at opens (section_text_at (drop 1 left))
-    else remark_moves opens (remark_at left)
+    else comment_moves opens (comment_at left)
 
 abbrev pub is_slash : ℕ → Bool
 is_slash b = b == 47
@@ -126,7 +127,7 @@ is_slash b = b == 47
 abbrev pub markup_moves : ℕ → ℕ → QName → List Open → List Open → List ℕ → Result Moved Halted
 markup_moves total at name outer opens left =
     if next_is is_slash left then end_moves at outer (end_at name (drop 1 left))
-    else if next_is is_bang left then bang_moves at opens left
+    else if next_is is_exclamation left then comment_or_section_moves at opens left
     else start_moves total at opens left
 
 -- The next piece inside the innermost element.
@@ -134,7 +135,7 @@ abbrev pub piece_moves : ℕ → QName → List Open → List Open → List ℕ 
 piece_moves total name outer opens left =
     if length left == 0 then halts Broken left
     else if next_is is_less left then markup_moves total (place total left) name outer opens (drop 1 left)
-    else if next_is is_and left then reference_moves (place total left) opens (reference_at left)
+    else if next_is is_ampersand left then reference_moves (place total left) opens (reference_at left)
     else text_moves (place total left) opens left (text_behind 0 left)
 
 -- Parts and what then stops it, if anything does.
@@ -191,7 +192,7 @@ refusal OutOfMemory at = Mem
 refusal stop at = Bad at
 
 abbrev pub past_limit : Bool → ℕ → Bool
-past_limit cut at = cut && nat_le most_bytes at
+past_limit cut at = cut && nat_le INPUT_LIMIT at
 
 abbrev pub stopped_of : Bool → ℕ → Stop → Result (Unit {0}) MarkupError
 stopped_of cut at OutOfMemory = Err Mem
@@ -207,10 +208,10 @@ ending_of None = Ok tt
 ending_of (Some stop) = Err stop
 
 abbrev pub within_limit : List ℕ → List ℕ
-within_limit bytes = take most_bytes bytes
+within_limit bytes = take INPUT_LIMIT bytes
 
 abbrev pub is_cut : List ℕ → Bool
-is_cut bytes = nat_lt most_bytes (length bytes)
+is_cut bytes = nat_lt INPUT_LIMIT (length bytes)
 
 abbrev pub read_of : List ℕ → Result (Unit {0}) MarkupError
 read_of bytes =

@@ -4,9 +4,8 @@ use Rattle.cds_markup.specs.declared.error.MarkupError.{MarkupError}
 use Rattle.cds_markup.specs.declared.error.MarkupError.TheVariants.{Mem}
 use Rattle.cds_markup.specs.Document.{Meaning, Doc}
 use Rattle.cds_markup.specs.Refusal.{IsRefused}
-use Rattle.cds_markup.specs.Building.{State, built, nothing_yet, built_as}
+use Rattle.cds_markup.specs.Building.{State, built, nothing_yet}
 use Rattle.cds_markup.specs.Course.{read_of, parts_of}
-use Rattle.cds_markup.specs.Parts.{DocumentParts}
 
 -- An answer to bytes: the one element that they are a document of, or the one refusal that stands against them. Want of
 -- memory says nothing of them.
@@ -21,11 +20,3 @@ Decides bytes (Err r) =
 abbrev pub IsBuilt : List ℕ → Result (Unit {0}) MarkupError → State → Type 0
 IsBuilt bytes (Err Mem) state = ⊤
 IsBuilt bytes result state = (result ≡ read_of bytes) × (state ≡ built nothing_yet (parts_of bytes))
-
--- What is built of a document's parts is its element.
-abbrev pub PartsAreBuilt : Type 0
-PartsAreBuilt = (bytes : List ℕ) (element : Meaning) → Doc bytes element → built nothing_yet (parts_of bytes) ≡ built_as element
-
--- The parts that reading a document gives are its parts, each at its place.
-abbrev pub PartsAreTold : Type 0
-PartsAreTold = (bytes : List ℕ) (element : Meaning) → Doc bytes element → DocumentParts bytes (parts_of bytes)

@@ -1,9 +1,10 @@
 -- What a document means: the element that its bytes are (XML 1.0, Namespaces in XML).
 use Rattle.std.specs.Prelude.{◌≡◌, ◌==◌, ℕ, suc, ◌≤◌, if◌then◌else◌, Option, Some, None, List, [], ◌∷◌, ◌++◌, length, map, max, encode_utf8}
+use Rattle.cds_base.specs.declared.limits.TheConstants.{INPUT_LIMIT}
 use Rattle.cds_markup.specs.declared.name.Name.{Name}
 use Rattle.cds_markup.specs.declared.name.Attr.{Attr}
 use Rattle.cds_markup.specs.declared.tag.Declaration.{Declaration}
-use Rattle.cds_markup.specs.Grammar.{Leaf, Text, Reference, Section, Comment, Tree, Bare, Full, Content, Nothing, LeafThen, TreeThen, IsDocument}
+use Rattle.cds_markup.specs.Grammar.{Leaf, Text, Reference, Section, Comment, Tree, EmptyElement, Full, Content, Nothing, LeafThen, TreeThen, IsDocument}
 use Rattle.cds_markup.specs.Namespaces.{declarations, tag_says, is_empty}
 
 -- An element with its children in order: texts and elements.
@@ -62,7 +63,7 @@ of_tag (Some said) (Some children) = Some (Element said.0 said.1 children)
 
 abbrev mutual
   pub meaning : Tree → List (List Declaration) → Option Meaning
-  meaning (Bare t) scopes = of_tag (tag_says scopes t) (Some End)
+  meaning (EmptyElement t) scopes = of_tag (tag_says scopes t) (Some End)
   meaning (Full t content) scopes = of_tag (tag_says scopes t) (meanings content (declarations t.attrs ∷ scopes))
 
   pub meanings : Content → List (List Declaration) → Option Meanings
@@ -73,7 +74,7 @@ abbrev mutual
 -- How many elements are open at most at one place of it.
 abbrev mutual
   pub depth : Tree → ℕ
-  depth (Bare t) = 1
+  depth (EmptyElement t) = 1
   depth (Full t content) = suc (depths content)
 
   pub depths : Content → ℕ
@@ -81,19 +82,20 @@ abbrev mutual
   depths (LeafThen leaf more) = depths more
   depths (TreeThen tree more) = max (depth tree) (depths more)
 
--- The most elements that may be open, and the most bytes that a document may have: this project's profile.
+-- The most elements that may be open: this project's profile. The most bytes that a document may have are `INPUT_LIMIT`,
+-- for which proofs say `most_bytes`.
 abbrev pub most_open : ℕ
 most_open = 16
 
 abbrev pub most_bytes : ℕ
-most_bytes = 67108864
+most_bytes = INPUT_LIMIT
 
 -- The bytes are a document with this root as it is written, and this element is what it means.
 pub record DocOf (bytes : List ℕ) (root : Tree) (element : Meaning) : Type 0 where
   pub document : IsDocument bytes root
   pub means : meaning root [] ≡ Some element
   pub within : depth root ≤ most_open
-  pub short : length bytes ≤ most_bytes
+  pub short : length bytes ≤ INPUT_LIMIT
 
 abbrev pub Doc : List ℕ → Meaning → Type 0
 Doc bytes element = (root : Tree) × DocOf bytes root element

@@ -151,7 +151,7 @@ IsLeaf bytes Comment = IsComment bytes tt
 -- An element as it is written, and the content of one: leaves and elements in order.
 mutual
   pub data Tree : Type 0 where
-    Bare : Tag → Tree
+    EmptyElement : Tag → Tree
     Full : Tag → Content → Tree
 
   pub data Content : Type 0 where
@@ -169,8 +169,8 @@ begins_with_text (LeafThen leaf more) = is_text leaf
 begins_with_text other = false
 
 -- The tags of an element. White space may end an end tag.
-abbrev pub IsBareTag : List ℕ → Tag → Type 0
-IsBareTag = Then (Word (codes "<")) (λ opening. Then IsTag (λ t. Then (Word (codes "/>")) (λ closing. Says t)))
+abbrev pub IsEmptyTag : List ℕ → Tag → Type 0
+IsEmptyTag = Then (Word (codes "<")) (λ opening. Then IsTag (λ t. Then (Word (codes "/>")) (λ closing. Says t)))
 
 abbrev pub IsStartTag : List ℕ → Tag → Type 0
 IsStartTag = Then (Word (codes "<")) (λ opening. Then IsTag (λ t. Then (Word (codes ">")) (λ closing. Says t)))
@@ -182,7 +182,7 @@ IsEndTag name =
 
 abbrev mutual
   pub IsTree : Tree → List ℕ → Type 0
-  IsTree (Bare t) bytes = IsBareTag bytes t
+  IsTree (EmptyElement t) bytes = IsEmptyTag bytes t
   IsTree (Full t content) bytes =
       (start : List ℕ) × (inside : List ℕ) × (end : List ℕ) × (bytes ≡ start ++ (inside ++ end))
       × IsStartTag start t × IsContent content inside × IsEndTag t.name end tt
@@ -198,11 +198,11 @@ abbrev mutual
 -- White space and comments.
 pub data MiscPiece : Type 0 where
   Blank : MiscPiece
-  Remark : MiscPiece
+  MiscComment : MiscPiece
 
 abbrev pub IsMiscPiece : List ℕ → MiscPiece → Type 0
 IsMiscPiece bytes Blank = (b : ℕ) × Byte is_blank bytes b
-IsMiscPiece bytes Remark = IsComment bytes tt
+IsMiscPiece bytes MiscComment = IsComment bytes tt
 
 abbrev pub IsMisc : List ℕ → Unit {0} → Type 0
 IsMisc = Then (Many IsMiscPiece) (λ pieces. Says tt)

@@ -13,11 +13,13 @@ pub mod MeaningCode
 pub mod Elements
 pub mod NodesFall
 pub mod Building
-pub mod Law
+pub mod StepLaw
+pub mod Answer
+pub mod Laws
 pub mod Decided
 pub mod Written
 pub mod WrittenRows
 pub mod Pieces
 pub mod Reader
-pub mod Found
-pub mod Taken
+pub mod GivenParts
+pub mod SinkLaws

@@ -8,19 +8,19 @@ use Rattle.cds_markup.specs.declared.part.Part.{Part}
 use Rattle.cds_markup.specs.declared.part.Part.TheVariants.{Start, End, Run}
 use Rattle.cds_markup.specs.declared.tag.Tag.{Tag}
 use Rattle.cds_markup.specs.declared.tag.Declaration.{Declaration}
-use Rattle.cds_markup.specs.Grammar.{Leaf, Text, Reference, Section, Comment, Tree, Bare, Full, Content, Nothing, LeafThen, TreeThen, is_text, begins_with_text, IsLeaf, IsBareTag, IsStartTag, IsEndTag, IsProlog, IsMisc}
+use Rattle.cds_markup.specs.Grammar.{Leaf, Text, Reference, Section, Comment, Tree, EmptyElement, Full, Content, Nothing, LeafThen, TreeThen, is_text, begins_with_text, IsLeaf, IsEmptyTag, IsStartTag, IsEndTag, IsProlog, IsMisc}
 use Rattle.cds_markup.specs.Namespaces.{declarations, tag_says}
 use Rattle.cds_markup.specs.Document.{Meaning, Element, Meanings, ChildThen, End as Childless, joined, line_ends, most_open, depths}
 use Rattle.cds_markup.specs.Refusal.{scopes_of}
 
 -- The place of the first character of a text that is no blank.
-abbrev pub first_odd : ℕ → List ℕ → Option ℕ
-first_odd at [] = None
-first_odd at (b ∷ rest) = if is_blank b then first_odd (at + 1) rest else Some at
+abbrev pub first_non_blank : ℕ → List ℕ → Option ℕ
+first_non_blank at [] = None
+first_non_blank at (b ∷ rest) = if is_blank b then first_non_blank (at + 1) rest else Some at
 
 -- The part that a leaf at a place is. A comment is none.
 abbrev pub leaf_parts : ℕ → Leaf → List Part
-leaf_parts at (Text text) = Run at (first_odd at text) (line_ends text) ∷ []
+leaf_parts at (Text text) = Run at (first_non_blank at text) (line_ends text) ∷ []
 leaf_parts at (Reference c) = Run at (Some at) (encode_utf8 c) ∷ []
 leaf_parts at (Section text) = Run at (Some at) (line_ends text) ∷ []
 leaf_parts at Comment = []
@@ -28,8 +28,8 @@ leaf_parts at Comment = []
 -- The parts of an element and of content at a place, within scopes, where all start tags keep the rules.
 abbrev mutual
   pub TreeParts : Tree → ℕ → List (List Declaration) → List ℕ → List Part → Type 0
-  TreeParts (Bare t) at scopes bytes parts =
-      (name : Name) × (attrs : List Attr) × (end : ℕ) × IsBareTag bytes t × (tag_says scopes t ≡ Some (name, attrs))
+  TreeParts (EmptyElement t) at scopes bytes parts =
+      (name : Name) × (attrs : List Attr) × (end : ℕ) × IsEmptyTag bytes t × (tag_says scopes t ≡ Some (name, attrs))
       × (end + 2 ≡ at + length bytes) × (parts ≡ Start at end name attrs ∷ End end ∷ [])
   TreeParts (Full t content) at scopes bytes parts =
       (name : Name) × (attrs : List Attr) × (end : ℕ) × (start : List ℕ) × (inside : List ℕ) × (closing : List ℕ) × (inner : List Part)
@@ -65,8 +65,8 @@ OpensParts (t ∷ outer) bytes parts =
 -- Parts that do not nest say nothing.
 abbrev pub add_part : Part → List Meanings → List Meanings
 add_part (End at) open_ = Childless ∷ open_
-add_part (Run at odd text) [] = []
-add_part (Run at odd text) (children ∷ outer) = joined text children ∷ outer
+add_part (Run at non_blank text) [] = []
+add_part (Run at non_blank text) (children ∷ outer) = joined text children ∷ outer
 add_part (Start at end name attrs) (children ∷ siblings ∷ outer) = ChildThen (Element name attrs children) siblings ∷ outer
 add_part (Start at end name attrs) other = []
 

@@ -1,5 +1,5 @@
 -- How a document is read in order, step by step. It is proved that the steps read exactly what the grammar says.
-use Rattle.std.specs.Prelude.{◌==◌, ℕ, zero, suc, ◌+◌, ◌-◌, ◌*◌, nat_lt, nat_le, Bool, true, false, not, ◌&&◌, ◌||◌, if◌then◌else◌, Option, Some, None, Ok, Err, List, [], ◌∷◌, ◌++◌, codes, length, take, drop, encode_utf8}
+use Rattle.std.specs.Prelude.{◌==◌, ℕ, zero, suc, ◌+◌, ◌-◌, ◌*◌, nat_lt, nat_le, Bool, true, false, not, ◌&&◌, ◌||◌, if◌then◌else◌, Option, Some, None, Ok, Err, List, [], ◌∷◌, codes, length, take, drop, encode_utf8}
 use Rattle.std.specs.Char.{is_digit, digit_value}
 use Rattle.cds_markup.specs.declared.tag.QName.{QName}
 use Rattle.cds_markup.specs.declared.tag.TagAttr.{TagAttr}
@@ -7,7 +7,7 @@ use Rattle.cds_markup.specs.declared.tag.Tag.{Tag}
 use Rattle.cds_markup.specs.declared.values.ValuePiece.{ValuePiece}
 use Rattle.cds_markup.specs.declared.values.ValuePiece.TheVariants.{Literal, Referred}
 use Rattle.cds_base.specs.Characters.{is_allowed, is_blank, begins_name, is_in_name}
-use Rattle.cds_markup.specs.Grammar.{value_says, qualified, is_quote, is_in_value, lower_case}
+use Rattle.cds_markup.specs.Grammar.{value_says, qualified, byte_order_mark, is_quote, is_in_value, lower_case}
 use Rattle.cds_markup.specs.Document.{line_ends}
 use Rattle.cds_markup.specs.Step.{Step, after, byte_at, word_at, next_is, many_at, while_at, count_at, pass, maybe_at, raw_at}
 
@@ -148,17 +148,21 @@ referred b rest =
     else if b == 113 then saying 34 (word_at (codes "uot;") rest)
     else Err (b ∷ rest)
 
-abbrev pub behind_and : List ℕ → Step ℕ
-behind_and [] = Err []
-behind_and (b ∷ rest) = referred b rest
+abbrev pub behind_ampersand : List ℕ → Step ℕ
+behind_ampersand [] = Err []
+behind_ampersand (b ∷ rest) = referred b rest
 
-abbrev pub is_and : ℕ → Bool
-is_and b = b == 38
+abbrev pub is_ampersand : ℕ → Bool
+is_ampersand b = b == 38
 
 unfoldable pub reference_at : List ℕ → Step ℕ
-reference_at left = after (byte_at is_and left) (λ sign rest. behind_and rest)
+reference_at left = after (byte_at is_ampersand left) (λ sign rest. behind_ampersand rest)
 
 -- Values of attributes.
+abbrev pub piece_code : ValuePiece → ℕ
+piece_code (Literal c) = c
+piece_code (Referred c) = c
+
 abbrev pub literal_at : ℕ → List ℕ → Step ValuePiece
 literal_at quote left = after (character_at (is_in_value quote) left) (λ c rest. Ok (Literal c, rest))
 
@@ -166,7 +170,7 @@ abbrev pub referred_at : List ℕ → Step ValuePiece
 referred_at left = after (reference_at left) (λ c rest. Ok (Referred c, rest))
 
 unfoldable pub value_piece_at : ℕ → List ℕ → Step ValuePiece
-value_piece_at quote left = if next_is is_and left then referred_at left else literal_at quote left
+value_piece_at quote left = if next_is is_ampersand left then referred_at left else literal_at quote left
 
 abbrev pub before_quote : ℕ → ℕ → Bool
 before_quote quote b = not (b == quote)
@@ -188,10 +192,6 @@ says_behind behind (Referred c) = encode_utf8 c
 abbrev pub is_return : ValuePiece → Bool
 is_return (Literal c) = c == 13
 is_return (Referred c) = false
-
-abbrev pub all_say : Bool → List ValuePiece → List ℕ
-all_say behind [] = []
-all_say behind (piece ∷ more) = says_behind behind piece ++ all_say (is_return piece) more
 
 -- Tags, from behind their `<` up to the `/` or `>` that ends them.
 unfoldable pub attr_at : List ℕ → Step TagAttr
@@ -307,8 +307,8 @@ abbrev pub comment_more : ℕ → List ℕ → Step ℕ
 comment_more dashes left =
     if next_is is_dash left then Ok (dashes + 1, drop 1 left) else after (any_at left) (λ c rest. Ok (0, rest))
 
-abbrev pub comment_at : List ℕ → Step (Unit {0})
-comment_at left = count_at comment_goes comment_more greater_at 0 left
+abbrev pub comment_rest_at : List ℕ → Step (Unit {0})
+comment_rest_at left = count_at comment_goes comment_more greater_at 0 left
 
 -- A declaration from behind its `<`.
 abbrev pub quoted_at : (List ℕ → Step (Unit {0})) → List ℕ → Step (Unit {0})
@@ -380,8 +380,8 @@ declaration_at left =
     after (space_at rest) (λ space rest. after (version_at rest) (λ version rest. behind_version rest)))
 
 -- A comment from behind its `<`, and a section from behind its `<!`.
-unfoldable pub remark_at : List ℕ → Step (Unit {0})
-remark_at left = after (word_at (codes "!--") left) (λ opening rest. comment_at rest)
+unfoldable pub comment_at : List ℕ → Step (Unit {0})
+comment_at left = after (word_at (codes "!--") left) (λ opening rest. comment_rest_at rest)
 
 abbrev pub without_end : List ℕ → List ℕ
 without_end raw = take (length raw - 3) raw
@@ -399,12 +399,12 @@ section_text_at left = after (enclosed_at left) (λ text rest. Ok (line_ends tex
 abbrev pub is_less : ℕ → Bool
 is_less b = b == 60
 
-abbrev pub is_bang : ℕ → Bool
-is_bang b = b == 33
+abbrev pub is_exclamation : ℕ → Bool
+is_exclamation b = b == 33
 
 -- Whether a comment stood there, from behind the `<`; and the same with white space and the `<`.
 abbrev pub behind_less : List ℕ → Step Bool
-behind_less left = if next_is is_bang left then after (remark_at left) (λ done rest. Ok (true, rest)) else Ok (false, left)
+behind_less left = if next_is is_exclamation left then after (comment_at left) (λ done rest. Ok (true, rest)) else Ok (false, left)
 
 unfoldable pub misc_at : List ℕ → Step Bool
 misc_at left = after (blanks_at left) (λ blanks rest. after (byte_at is_less rest) (λ less rest. behind_less rest))
@@ -412,23 +412,20 @@ misc_at left = after (blanks_at left) (λ blanks rest. after (byte_at is_less re
 abbrev pub root_at : List ℕ → Step (Unit {0})
 root_at left = while_at misc_at left
 
-abbrev pub mark : List ℕ
-mark = 239 ∷ 187 ∷ 191 ∷ []
-
-abbrev pub is_mark : ℕ → Bool
-is_mark b = b == 239
+abbrev pub begins_mark : ℕ → Bool
+begins_mark b = b == 239
 
 abbrev pub first_markup : List ℕ → Step (Unit {0})
 first_markup left =
     if next_is (λ b. b == 63) left then after (declaration_at left) (λ done rest. root_at rest)
     else after (behind_less left) (λ more rest. if more then root_at rest else Ok (tt, rest))
 
-abbrev pub mark_at : List ℕ → Step (Unit {0})
-mark_at left = after (maybe_at is_mark (word_at mark) left) (λ found rest. Ok (tt, rest))
+abbrev pub byte_order_mark_at : List ℕ → Step (Unit {0})
+byte_order_mark_at left = after (maybe_at begins_mark (word_at byte_order_mark) left) (λ found rest. Ok (tt, rest))
 
 unfoldable pub prolog_at : List ℕ → Step (Unit {0})
 prolog_at left =
-    after (mark_at left) (λ done rest.
+    after (byte_order_mark_at left) (λ done rest.
     if next_is is_less rest then after (byte_at is_less rest) (λ less rest. first_markup rest) else root_at rest)
 
 -- What stands behind the root, to the end.
@@ -438,7 +435,7 @@ is_over left = length left == 0
 abbrev pub more_behind : List ℕ → Step Bool
 more_behind left =
     if is_over left then Ok (false, left)
-    else after (byte_at is_less left) (λ less rest. after (remark_at rest) (λ done rest. Ok (true, rest)))
+    else after (byte_at is_less left) (λ less rest. after (comment_at rest) (λ done rest. Ok (true, rest)))
 
 unfoldable pub behind_at : List ℕ → Step Bool
 behind_at left = after (blanks_at left) (λ blanks rest. more_behind rest)

@@ -1,6 +1,7 @@
 -- Why bytes are no document: each refusal at its place, and the first in reading order. Places and limits are this
 -- project's profile.
 use Rattle.std.specs.Prelude.{◌≡◌, ◌≢◌, ℕ, ◌+◌, ◌<◌, ◌≤◌, false, ◌⊎◌, None, List, [], ◌∷◌, ◌++◌, length, take, codes, map, ⊤}
+use Rattle.cds_base.specs.declared.limits.TheConstants.{INPUT_LIMIT}
 use Rattle.cds_markup.specs.declared.error.MarkupError.{MarkupError}
 use Rattle.cds_markup.specs.declared.error.MarkupError.TheVariants.{Bad, TooDeep, TooLong, Failed, Mem}
 use Rattle.cds_markup.specs.declared.tag.Tag.{Tag}
@@ -9,7 +10,7 @@ use Rattle.cds_base.specs.Characters.{begins_name, is_blank}
 use Rattle.cds_markup.specs.Form.{Character}
 use Rattle.cds_markup.specs.Grammar.{Leaf, Tree, Content, IsLeaf, IsDocument, IsProlog, IsStartTag, IsContent, IsTag}
 use Rattle.cds_markup.specs.Namespaces.{declarations, tag_says}
-use Rattle.cds_markup.specs.Document.{most_open, most_bytes}
+use Rattle.cds_markup.specs.Document.{most_open}
 
 -- The bytes are the beginning of a document by the grammar alone, whatever its depth and its namespaces.
 abbrev pub CanGoOn : List ℕ → Type 0
@@ -106,12 +107,12 @@ Refuses bytes at = IsBad bytes at ⊎ IsTooDeep bytes at
 -- No cause comes before the place, and no byte past the limit up to it.
 pub record IsFirst (bytes : List ℕ) (at : ℕ) : Type 0 where
   pub none_before : (earlier : ℕ) → earlier < at → Refuses bytes earlier → ⊥
-  pub short : (at < most_bytes) ⊎ (length bytes ≤ most_bytes)
+  pub short : (at < INPUT_LIMIT) ⊎ (length bytes ≤ INPUT_LIMIT)
 
 -- What a refusal says of the bytes: the first cause in reading order. Want of memory says nothing of them.
 abbrev pub IsRefused : List ℕ → MarkupError → Type 0
 IsRefused bytes (Bad at) = IsBad bytes at × IsFirst bytes at
 IsRefused bytes (TooDeep at) = IsTooDeep bytes at × IsFirst bytes at
-IsRefused bytes TooLong = (most_bytes < length bytes) × ((earlier : ℕ) → earlier < most_bytes → Refuses bytes earlier → ⊥)
+IsRefused bytes TooLong = (INPUT_LIMIT < length bytes) × ((earlier : ℕ) → earlier < INPUT_LIMIT → Refuses bytes earlier → ⊥)
 IsRefused bytes Failed = ⊥
 IsRefused bytes Mem = ⊤

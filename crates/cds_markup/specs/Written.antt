@@ -4,6 +4,7 @@ use Rattle.std.specs.Prelude.{◌≡◌, ℕ, suc, ◌+◌, ◌≤◌, Bool, tru
 use Rattle.std.specs.List.{flat_map, AllByRecursion}
 use Rattle.std.specs.Str.{bytes_eq}
 use Rattle.std.specs.Fmt.{decimal}
+use Rattle.cds_base.specs.declared.limits.TheConstants.{INPUT_LIMIT}
 use Rattle.cds_base.specs.Escape.{escaped}
 use Rattle.cds_base.specs.Unescape.{AreAllowed}
 use Rattle.cds_markup.specs.declared.name.Name.{Name}
@@ -12,7 +13,7 @@ use Rattle.cds_markup.specs.declared.tag.TagAttr.{TagAttr}
 use Rattle.cds_markup.specs.declared.tag.Tag.{Tag}
 use Rattle.cds_markup.specs.Grammar.{IsName, name_bytes}
 use Rattle.cds_markup.specs.Namespaces.{is_empty, xml_space, no_name_twice}
-use Rattle.cds_markup.specs.Document.{Meaning, Meanings, Element, End, TextThen, ChildThen, most_open, most_bytes, Doc}
+use Rattle.cds_markup.specs.Document.{Meaning, Meanings, Element, End, TextThen, ChildThen, most_open, Doc}
 
 -- The prefix of the attribute that has this number among those of its tag that have a namespace, counted from 1.
 abbrev pub numbered : ℕ → List ℕ
@@ -58,6 +59,13 @@ tag_of around name attrs =
 -- How tags are written.
 abbrev pub written_attr : TagAttr → List ℕ
 written_attr a = codes " " ++ (name_bytes a.name ++ (codes "=\"" ++ (escaped a.value ++ codes "\"")))
+
+abbrev pub attr_text : List ℕ → List ℕ → List ℕ → List ℕ
+attr_text prefix local value = written_attr record { name = record { prefix = prefix; local = local }; value = value }
+
+-- An attribute behind the declaration of a prefix of its own.
+abbrev pub own_text : ℕ → Attr → List ℕ
+own_text number a = written_attr (declares (numbered number) a.name.space) ++ written_attr (under (numbered number) a)
 
 abbrev pub written_attrs : List TagAttr → List ℕ
 written_attrs attrs = flat_map written_attr attrs
@@ -127,7 +135,7 @@ abbrev mutual
 pub record CanBeWritten (element : Meaning) : Type 0 where
   pub can_be : CanBe element
   pub within : element_depth element ≤ most_open
-  pub short : length (written element) ≤ most_bytes
+  pub short : length (written element) ≤ INPUT_LIMIT
 
 -- What is written of an element is a document that means it.
 abbrev pub WrittenIsRead : Type 0

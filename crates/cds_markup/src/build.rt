@@ -102,7 +102,7 @@ impl Builder {
 }
 
 impl PartSink for Builder {
-    ghost use Rattle.cds_markup.specs.Taken.{builds, builds_none, builds_more};
+    ghost use Rattle.cds_markup.specs.SinkLaws.{builds, builds_none, builds_more};
 
     ghost took = { builds };
 

@@ -47,7 +47,7 @@ pub enum Stop {
     /// The next byte cannot stand there, or the input ended.
     Broken,
     /// The next byte ends a start tag that breaks a rule.
-    Unruly,
+    NamespaceRule,
     /// The next byte is the first of a start tag's name where 16 elements are open.
     Deep,
     /// Out of memory.

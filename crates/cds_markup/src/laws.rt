@@ -1,20 +1,11 @@
-ghost use Rattle.cds_markup.specs.Decided.{PartsAreBuilt, PartsAreTold};
-ghost use Rattle.cds_markup.specs.Found.{LeavesHaveOneEnd, PartsAreGiven, PartsAreOfRoots, PartsAreOne, PartsStandBefore};
-ghost use Rattle.cds_markup.specs.Law.{AllAreAnswered, CharactersAreRead, DocumentsAreRead, NamesAreRead, OneAnswer, OneElement};
+//! What is proved of the words about documents themselves: calling a function gives its law.
 
-/// What reading takes for a character is one, every allowed character is taken, and where it stops the bytes before
-/// begin an allowed character and with the byte there none does.
-pub fn characters_are_read()
-    ensures { CharactersAreRead }
-{}
+ghost use Rattle.cds_markup.specs.Laws.{AllAreAnswered, DocumentsAreRead, LeavesHaveOneEnd, NothingCountsPastTheLimit, OneAnswer, OneElement, OneTelling, PartsAreBuilt, PartsAreGiven, PartsAreOfRoots, PartsAreOne, PartsAreTold, PartsStandBefore};
+ghost use Rattle.cds_markup.specs.Reader.{EveryCutting};
+ghost use Rattle.cds_markup.specs.Written.{WrittenIsRead};
 
-/// The same of names, where no byte follows that could go on one.
-pub fn names_are_read()
-    ensures { NamesAreRead }
-{}
-
-/// What reading answers is what the grammar says: an element exactly where bytes are a document, and that element, and
-/// each refusal exactly where it stands.
+/// What is answered to bytes is what the grammar says: that they are read exactly where they are a document, and each
+/// refusal exactly where it stands; and the parts of a document are, nested, its element.
 pub fn documents_are_read()
     ensures { DocumentsAreRead }
 {}
@@ -68,4 +59,24 @@ pub fn parts_are_of_roots()
 /// The parts of bytes are one list: what stands at its place by the grammar is told by the bytes alone.
 pub fn parts_are_one()
     ensures { PartsAreOne }
+{}
+
+/// What `give_parts` and `read_parts` tell of bytes is one answer and one list of parts, unless memory ran out.
+pub fn one_telling()
+    ensures { OneTelling }
+{}
+
+/// What comes behind more than 67,108,864 bytes changes neither the answer nor the parts.
+pub fn nothing_counts_past_the_limit()
+    ensures { NothingCountsPastTheLimit }
+{}
+
+/// However bytes are cut, what a new reader answers to the pieces and the end decides them.
+pub fn every_cutting()
+    ensures { EveryCutting }
+{}
+
+/// What is written of an element that can be written is within the limits a document that means this element.
+pub fn written_is_read()
+    ensures { WrittenIsRead }
 {}

@@ -1,4 +1,5 @@
 ghost use Rattle.std.specs.Prelude.{◌≡◌, ◌≤◌, length, List, ℕ, Ok, []};
+ghost use Rattle.std.specs.Str.{IsUtf8};
 ghost use Rattle.cds_base.specs.Characters.{is_in_name, begins_name};
 ghost use Rattle.cds_markup.specs.Grammar.{qualified};
 ghost use Rattle.cds_markup.specs.Step.{Agrees, next_is, taken};
@@ -26,6 +27,7 @@ fn may_go_on(b: u8) -> bool
 
 /// The text that these bytes of whole characters are.
 pub fn text_of(alloc: Global, bytes: &[u8]) -> Result<Text, Stop>
+    requires { IsUtf8 bytes.now }
     ensures { Agrees (Ok (bytes.now, [])) result [] }
 {
     match std::str::from_utf8(bytes) {
@@ -33,8 +35,7 @@ pub fn text_of(alloc: Global, bytes: &[u8]) -> Result<Text, Stop>
             let text = Text::read(alloc, text)?;
             Ok(text)
         }
-        // It cannot come: the bytes were read character by character.
-        Err(_) => Err(Stop::Mem),
+        Err(_) => unreachable!(),
     }
 }
 

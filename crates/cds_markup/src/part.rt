@@ -26,7 +26,7 @@ pub enum Part {
         at: usize,
         /// The place of the first character that is no blank in a literal text, or of one that a fault cuts right
         /// behind it, and `at` for the other two.
-        odd: Option<usize>,
+        non_blank: Option<usize>,
         /// What it says.
         text: Text,
     },

@@ -2,7 +2,7 @@ ghost use Rattle.std.specs.Prelude.{◌≡◌, ◌==◌, not, length, List, ℕ,
 ghost use Rattle.cds_base.specs.Characters.{is_blank};
 ghost use Rattle.cds_markup.specs.Grammar.{is_quote, lower_case};
 ghost use Rattle.cds_markup.specs.Step.{Agrees, next_is};
-ghost use Rattle.cds_markup.specs.Reading.{any_case_at, utf_8_at, yes_or_no_at, version_value_at, version_at, encoding_value_at, encoding_at, standalone_value_at, standalone_at, declaration_end_at, standalone_or_end, behind_encoding, encoding_or_more, behind_version, declaration_at, behind_less, misc_at, root_at, first_markup, prolog_at, more_behind, behind_at, epilog_at, mark_at};
+ghost use Rattle.cds_markup.specs.Reading.{any_case_at, utf_8_at, yes_or_no_at, version_value_at, version_at, encoding_value_at, encoding_at, standalone_value_at, standalone_at, declaration_end_at, standalone_or_end, behind_encoding, encoding_or_more, behind_version, declaration_at, behind_less, misc_at, root_at, first_markup, prolog_at, more_behind, behind_at, epilog_at, byte_order_mark_at};
 
 use crate::error::Stop;
 use crate::parser::Parser;
@@ -186,7 +186,7 @@ impl<'a> Parser<'a> {
         if !self.at(b'!') {
             return Ok(false);
         }
-        self.remark()?;
+        self.comment()?;
         Ok(true)
     }
 
@@ -226,8 +226,8 @@ impl<'a> Parser<'a> {
     }
 
     /// A byte order mark, where one begins.
-    fn mark(&mut self) -> Result<(), Stop>
-        ensures { Agrees (mark_at self.old) result self.new }
+    fn byte_order_mark(&mut self) -> Result<(), Stop>
+        ensures { Agrees (byte_order_mark_at self.old) result self.new }
     {
         if self.at(0xEF) {
             self.word(&[0xEF, 0xBB, 0xBF])
@@ -241,7 +241,7 @@ impl<'a> Parser<'a> {
     pub fn prolog(&mut self) -> Result<(), Stop>
         ensures { Agrees (prolog_at self.old) result self.new }
     {
-        self.mark()?;
+        self.byte_order_mark()?;
         if self.at(b'<') {
             self.advance();
             self.first_markup()
@@ -258,7 +258,7 @@ impl<'a> Parser<'a> {
             return Ok(false);
         }
         self.byte(b'<')?;
-        self.remark()?;
+        self.comment()?;
         Ok(true)
     }
 

@@ -1,25 +1,17 @@
 ghost use Rattle.std.specs.Prelude.{◌≡◌, ◌++◌, length, List, ℕ, OnErr, OnOk, []};
-ghost use Rattle.cds_markup.specs.Document.{most_bytes};
 ghost use Rattle.cds_markup.specs.Course.{answer_of};
 ghost use Rattle.cds_markup.specs.Agree.{Gives, Parted};
 ghost use Rattle.cds_markup.specs.Building.{state_of};
 ghost use Rattle.cds_markup.specs.Decided.{Decides, IsBuilt};
-ghost use Rattle.cds_markup.specs.Found.{Tells, TellsTo};
+ghost use Rattle.cds_markup.specs.GivenParts.{Tells, TellsTo};
 
 use crate::build::Builder;
 use crate::error::Stop;
 use crate::parser::Parser;
 use crate::walk::{Walk, front};
 use crate::{Element, MarkupError, PartSink, Parts};
-use cds_base::Mem;
+use cds_base::{INPUT_LIMIT, Mem};
 use std::alloc::Global;
-
-/// The most bytes that a document may have.
-pub fn byte_limit() -> usize
-    ensures { result ≡ most_bytes }
-{
-    67_108_864
-}
 
 /// Gives the parts of a document one by one, in the order of the bytes: all of them, or those that stand before the
 /// first fault. A start tag is given once the `>` or `/` that ends it stands, whatever follows a `/`; a literal text that
@@ -29,7 +21,6 @@ pub fn byte_limit() -> usize
 /// where 16 elements are open; `TooLong` where more than 67,108,864 bytes came without a fault before. `Mem` says nothing
 /// of the bytes, nor of what was given.
 pub fn give_parts<S: PartSink>(alloc: Global, bytes: &[u8], to: &mut S) -> Result<(), MarkupError>
-    ensures read { Gives S.took bytes.now result to.old to.new }
     ensures told { TellsTo S.took bytes.now result to.old to.new }
 {
     give(alloc, bytes, to)
@@ -37,7 +28,6 @@ pub fn give_parts<S: PartSink>(alloc: Global, bytes: &[u8], to: &mut S) -> Resul
 
 /// Adds the parts of a document, as `give_parts` gives them. `Mem` leaves the parts as they were.
 pub fn read_parts(alloc: Global, bytes: &[u8], out: &mut Parts) -> Result<(), MarkupError>
-    ensures read { Parted bytes.now result out.old out.new }
     ensures told { Tells bytes.now result out.old out.new }
 {
     add_parts(alloc, bytes, out)
@@ -48,7 +38,7 @@ fn add_parts(alloc: Global, bytes: &[u8], out: &mut Parts) -> Result<(), MarkupE
     ensures { Parted bytes.now result out.old out.new }
 {
     let mut found = Parts::new(alloc);
-    let answer = give_parts(alloc, bytes, &mut found);
+    let answer = give(alloc, bytes, &mut found);
     if let Err(MarkupError::Mem) = answer {
         return Err(MarkupError::Mem);
     }
@@ -63,7 +53,7 @@ pub fn read_document(alloc: Global, bytes: &[u8]) -> Result<Element, MarkupError
     ensures { Decides bytes.now result }
 {
     let mut builder = Builder::new(alloc);
-    let read = give_parts(alloc, bytes, &mut builder);
+    let read = give(alloc, bytes, &mut builder);
     element_read(bytes, read, builder)
 }
 
@@ -91,8 +81,7 @@ fn element_read(
 fn give<S: PartSink>(alloc: Global, bytes: &[u8], to: &mut S) -> Result<(), MarkupError>
     ensures { Gives S.took bytes.now result to.old to.new }
 {
-    let limit = byte_limit();
-    let within = front(bytes, limit);
+    let within = front(bytes, INPUT_LIMIT);
     let mut walk = Walk {
         parser: Parser::new(within),
         total: within.len(),
@@ -100,7 +89,7 @@ fn give<S: PartSink>(alloc: Global, bytes: &[u8], to: &mut S) -> Result<(), Mark
     };
     let done = walk.document(alloc, to);
     let at = walk.place();
-    answer(done, at, bytes.len() > limit)
+    answer(done, at, bytes.len() > INPUT_LIMIT)
 }
 
 /// What to answer where reading came to a place, and bytes past the limit were left out.
@@ -114,7 +103,7 @@ fn answer(done: Result<(), Stop>, at: usize, cut: bool) -> Result<(), MarkupErro
         Err(Stop::Deep) => MarkupError::TooDeep { at },
         Err(_) => MarkupError::Bad { at },
     };
-    if cut && at >= byte_limit() {
+    if cut && at >= INPUT_LIMIT {
         return Err(MarkupError::TooLong);
     }
     Err(refusal)

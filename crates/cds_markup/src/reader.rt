@@ -1,15 +1,14 @@
 //! Documents that come in pieces.
 
 ghost use Rattle.std.specs.Prelude.{◌≡◌, ◌⊎◌, ◌<◌, length, [], Ok, Err, Some};
-ghost use Rattle.cds_markup.specs.Document.{most_bytes};
+ghost use Rattle.cds_base.specs.declared.limits.TheConstants.{INPUT_LIMIT};
 ghost use Rattle.cds_markup.specs.declared.error.MarkupError.TheVariants.{Mem as OutOfMemory};
 ghost use Rattle.cds_markup.specs.Decided.{Decides};
 ghost use Rattle.cds_markup.specs.Pieces.{IsRefusal};
-ghost use Rattle.cds_markup.specs.Reader.{EveryCutting, Fed, Finished};
+ghost use Rattle.cds_markup.specs.Reader.{Fed, Finished};
 
-use crate::read::byte_limit;
 use crate::{Element, MarkupError, read_document};
-use cds_base::{Mem, Sequence};
+use cds_base::{INPUT_LIMIT, Mem, Sequence};
 use std::alloc::Global;
 use std::marker::Model;
 
@@ -76,7 +75,7 @@ fn fed(
     if bytes.extend_from_slice(piece).is_err() {
         return (None, Err(MarkupError::Mem));
     }
-    if bytes.len() <= byte_limit() {
+    if bytes.len() <= INPUT_LIMIT {
         return (Some(Sequence::from(bytes)), Ok(()));
     }
     let refusal = refusal_past_limit(alloc, bytes.as_slice());
@@ -86,7 +85,7 @@ fn fed(
 /// Why more bytes than may be are no document, whatever comes behind.
 #[tactic(auto, using(crate::proofs::PiecesForm::past_limit))]
 fn refusal_past_limit(alloc: Global, bytes: &[u8]) -> MarkupError
-    requires { most_bytes < length bytes.now }
+    requires { INPUT_LIMIT < length bytes.now }
     ensures { (result ≡ OutOfMemory) ⊎ IsRefusal Decides OutOfMemory bytes.now result }
 {
     match read_document(alloc, bytes) {
@@ -94,8 +93,3 @@ fn refusal_past_limit(alloc: Global, bytes: &[u8]) -> MarkupError
         Ok(_) => unreachable!(),
     }
 }
-
-/// However bytes are cut, what a new reader answers to the pieces and the end decides them.
-pub fn every_cutting()
-    ensures { EveryCutting }
-{}

@@ -1,50 +1,7 @@
-use crate::{Element, MarkupError, Node, Reader, read_document, write_document};
+use crate::tests::refusal;
+use crate::{Element, MarkupError, Reader, write_document};
 use std::alloc::Global;
 use std::test::Fail;
-
-/// Why these bytes are no document, read one byte at a time; `None` for a document.
-fn refusal_by_bytes(alloc: Global, bytes: &[u8]) -> Option<MarkupError> {
-    let mut reader = match Reader::new(alloc) {
-        Ok(reader) => reader,
-        Err(_) => return Some(MarkupError::Mem),
-    };
-    for byte in bytes {
-        if let Err(refusal) = reader.feed(alloc, &[*byte]) {
-            return Some(refusal);
-        }
-    }
-    reader.finish(alloc).err()
-}
-
-/// The same at once and one byte at a time. `Failed` where the two differ.
-fn refusal(alloc: Global, bytes: &[u8]) -> Option<MarkupError> {
-    let whole = read_document(alloc, bytes).err();
-    if refusal_by_bytes(alloc, bytes) == whole {
-        whole
-    } else {
-        Some(MarkupError::Failed)
-    }
-}
-
-#[test]
-fn refusals_are_the_same_in_every_cutting(rt: HostRuntime) -> Result<(), Fail> {
-    let alloc = rt.alloc();
-    let deep: &[u8] = b"<a><a><a><a><a><a><a><a><a><a><a><a><a><a><a><a><a>";
-    let cases: [(&[u8], Option<MarkupError>); 7] = [
-        (b"<a><b></a>", Some(MarkupError::Bad { at: 8 })),
-        (deep, Some(MarkupError::TooDeep { at: 49 })),
-        (b"", Some(MarkupError::Bad { at: 0 })),
-        (b"\xEF\xBB\xBF", Some(MarkupError::Bad { at: 3 })),
-        (b"<a b='1' b='2'", Some(MarkupError::Bad { at: 14 })),
-        (b"<a b='1' b='2'/", Some(MarkupError::Bad { at: 14 })),
-        (b"<a>&#10;</a>\r\n", None),
-    ];
-    for (bytes, want) in cases {
-        let answer = refusal(alloc, bytes);
-        assert!(rt; answer == want, "{want:?}: {answer:?}");
-    }
-    Ok(())
-}
 
 /// What a mark says of a byte at a place: `x` that it cannot stand there, `.` that it can and that the input then ends
 /// too early, `=` that a document ends with it.
@@ -218,27 +175,9 @@ fn an_early_fault_is_the_answer_past_the_limit(rt: HostRuntime) -> Result<(), Fa
     Ok(())
 }
 
-#[test]
-fn an_event_is_read_from_its_pieces(rt: HostRuntime) -> Result<(), Fail> {
-    let alloc = rt.alloc();
-    let bytes: &[u8] =
-        b"<StateEvent xmlns=\"urn:schemas-upnp-org:av:cds-event\"><objAdd objID=\"1\" updateID=\"1\" stUpdate=\"1\" objParentID=\"0\" objClass=\"object.container\"></objAdd><stDone objID=\"1\" updateID=\"2\"></stDone></StateEvent>";
-    let mut reader = Reader::new(alloc)?;
-    for byte in bytes {
-        reader.feed(alloc, &[*byte])?;
-    }
-    let element = reader.finish(alloc)?;
-    assert_eq!(rt; element.children.len(), 2);
-    let first = match element.children.get(0) {
-        Some(Node::Child(child)) => child.name.local.as_str(),
-        _ => "",
-    };
-    assert_eq!(rt; first, "objAdd");
-    let mut out = Vec::new(alloc);
-    write_document(&element, &mut out)?;
-    assert_eq!(rt; out.as_slice(), bytes);
-    Ok(())
-}
+/// A document in its written form.
+const EVENT: &[u8] =
+    b"<StateEvent xmlns=\"urn:schemas-upnp-org:av:cds-event\"><objAdd objID=\"1\" updateID=\"1\" stUpdate=\"1\" objParentID=\"0\" objClass=\"object.container\"></objAdd><stDone objID=\"1\" updateID=\"2\"></stDone></StateEvent>";
 
 /// The element, read one byte at a time. A reader that a refusal came from has failed.
 fn read_by_bytes(alloc: Global, bytes: &[u8]) -> Result<Element, MarkupError> {
@@ -254,21 +193,34 @@ fn read_by_bytes(alloc: Global, bytes: &[u8]) -> Result<Element, MarkupError> {
     reader.finish(alloc)
 }
 
+/// Documents, each with the written form of its element.
+const READ: [(&'static [u8], &'static [u8]); 3] = [
+    (
+        b"<a xmlns='u' x='1'>b&amp;<!-- c --><![CDATA[d\r\n]]><e xmlns=''/>f</a>",
+        b"<a xmlns=\"u\" x=\"1\">b&amp;d&#10;<e xmlns=\"\"></e>f</a>",
+    ),
+    (EVENT, EVENT),
+    (
+        b"<a xmlns='u' b='1&#10;2'>x<![CDATA[<]]>y<!-- z --><c d=\"e\"/>f</a>",
+        b"<a xmlns=\"u\" b=\"1&#10;2\">x&lt;y<c d=\"e\"></c>f</a>",
+    ),
+];
+
 /// Where one allocation fails, whichever it is, what is tried once more gives the same.
 #[test]
-fn one_refused_allocation_changes_no_answer(rt: HostRuntime) -> Result<(), Fail> {
+fn what_is_read_is_written(rt: HostRuntime) -> Result<(), Fail> {
     let alloc = rt.alloc();
-    let bytes: &[u8] = b"<a xmlns='u' b='1&#10;2'>x<![CDATA[<]]>y<!-- z --><c d=\"e\"/>f</a>";
-    let element = match read_by_bytes(alloc, bytes) {
-        Err(MarkupError::Mem) => read_by_bytes(alloc, bytes)?,
-        answer => answer?,
-    };
-    let mut out = Vec::new(alloc);
-    if write_document(&element, &mut out).is_err() {
-        assert!(rt; out.is_empty(), "as it was");
-        write_document(&element, &mut out)?;
+    for (bytes, want) in READ {
+        let element = match read_by_bytes(alloc, bytes) {
+            Err(MarkupError::Mem) => read_by_bytes(alloc, bytes)?,
+            answer => answer?,
+        };
+        let mut out = Vec::new(alloc);
+        if write_document(&element, &mut out).is_err() {
+            assert!(rt; out.is_empty(), "as it was");
+            write_document(&element, &mut out)?;
+        }
+        assert_eq!(rt; out.as_slice(), want);
     }
-    let want: &[u8] = b"<a xmlns=\"u\" b=\"1&#10;2\">x&lt;y<c d=\"e\"></c>f</a>";
-    assert_eq!(rt; out.as_slice(), want);
     Ok(())
 }

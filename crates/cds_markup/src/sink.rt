@@ -22,7 +22,7 @@ pub trait PartSink {
 
 impl PartSink for Parts {
     ghost use Rattle.cds_markup.specs.declared.part.Part.{Part};
-    ghost use Rattle.cds_markup.specs.Taken.{behind, behind_none, behind_more};
+    ghost use Rattle.cds_markup.specs.SinkLaws.{behind, behind_none, behind_more};
 
     ghost took = { behind };
 

@@ -1,19 +1,35 @@
-use crate::{MarkupError, Node, Part, Parts, read_document, read_parts};
+use crate::{MarkupError, Part, Parts, Reader, read_document, read_parts};
 use std::alloc::Global;
 use std::test::Fail;
 
-/// Where reading these bytes stops: its place, and `None` for a document.
-fn place_of(alloc: Global, bytes: &[u8]) -> Result<Option<usize>, MarkupError> {
+/// Why these bytes are no document, read one byte at a time; `None` for a document.
+fn refusal_by_bytes(alloc: Global, bytes: &[u8]) -> Option<MarkupError> {
+    let mut reader = match Reader::new(alloc) {
+        Ok(reader) => reader,
+        Err(_) => return Some(MarkupError::Mem),
+    };
+    for byte in bytes {
+        if let Err(refusal) = reader.feed(alloc, &[*byte]) {
+            return Some(refusal);
+        }
+    }
+    reader.finish(alloc).err()
+}
+
+/// The same at once, one byte at a time and as parts. `Failed` where two of these differ.
+pub fn refusal(alloc: Global, bytes: &[u8]) -> Option<MarkupError> {
+    let whole = read_document(alloc, bytes).err();
     let mut parts = Parts::new(alloc);
-    match read_parts(alloc, bytes, &mut parts) {
-        Ok(()) => Ok(None),
-        Err(MarkupError::Bad { at }) => Ok(Some(at)),
-        Err(refusal) => Err(refusal),
+    let told = read_parts(alloc, bytes, &mut parts).err();
+    if refusal_by_bytes(alloc, bytes) == whole && told == whole {
+        whole
+    } else {
+        Some(MarkupError::Failed)
     }
 }
 
 /// Bytes that are no document, each with the place of its first fault.
-const FAULTS: [(&'static [u8], usize); 44] = [
+const FAULTS: [(&'static [u8], usize); 47] = [
     (b"", 0),
     (b"  ", 2),
     (b"\xEF\xBB\xBF", 3),
@@ -58,92 +74,48 @@ const FAULTS: [(&'static [u8], usize); 44] = [
     (b"<a xmlns:x=\"u\" xmlns:y=\"u\" x:b=\"1\" y:b=\"2\"/>", 42),
     (b"<!-- -- --><a/>", 7),
     (b"<!DOCTYPE a><a/>", 2),
+    (b"<a x:y='1'/>", 10),
+    (b"<a b='1' b='2'", 14),
+    (b"<a b='1' b='2'/", 14),
 ];
 
+/// Documents.
+const DOCUMENTS: [&'static [u8]; 15] = [
+    b"<a/>",
+    b"<a></a>",
+    b"\xEF\xBB\xBF<?xml version='1.0' encoding=\"utf-8\" standalone='no' ?> <!-- x --> <a/> ",
+    b"<?xml version = \"1.0\"?><a/>",
+    b"<a/><!-- a --->",
+    b"<!--->--><a/>",
+    b"<a>]]</a>",
+    b"<a><![CDATA[ <&]]]]></a>",
+    b"<a>&#0000000000000000000038;&#x26;&lt;</a>",
+    b"<x:a xmlns:x='u' xml:lang='en' x:b='' b=''/>",
+    b"<a xmlns='u'><b xmlns=''/></a>",
+    b"<\xC3\xA9.1 \xE2\x82\xAC=''/>",
+    b"<a b='\"&quot;>]]>'/>",
+    b"<a ></a >",
+    b"<a>&#10;</a>\r\n",
+];
+
+/// Seventeen elements, each in the one before.
+const DEEP: &[u8] = b"<a><a><a><a><a><a><a><a><a><a><a><a><a><a><a><a><a>";
+
 #[test]
-fn faults_have_their_places(rt: HostRuntime) -> Result<(), Fail> {
+fn each_call_gives_the_same_answer(rt: HostRuntime) -> Result<(), Fail> {
     for (bytes, at) in FAULTS {
-        let place = place_of(rt.alloc(), bytes)?;
-        assert!(rt; place == Some(at), "{at}: {place:?}");
+        let answer = refusal(rt.alloc(), bytes);
+        assert!(rt; answer == Some(MarkupError::Bad { at }), "{at}: {answer:?}");
     }
-    Ok(())
-}
-
-#[test]
-fn documents_are_read(rt: HostRuntime) -> Result<(), Fail> {
-    let cases: [&[u8]; 14] = [
-        b"<a/>",
-        b"<a></a>",
-        b"\xEF\xBB\xBF<?xml version='1.0' encoding=\"utf-8\" standalone='no' ?> <!-- x --> <a/> ",
-        b"<?xml version = \"1.0\"?><a/>",
-        b"<a/><!-- a --->",
-        b"<!--->--><a/>",
-        b"<a>]]</a>",
-        b"<a><![CDATA[ <&]]]]></a>",
-        b"<a>&#0000000000000000000038;&#x26;&lt;</a>",
-        b"<x:a xmlns:x='u' xml:lang='en' x:b='' b=''/>",
-        b"<a xmlns='u'><b xmlns=''/></a>",
-        b"<\xC3\xA9.1 \xE2\x82\xAC=''/>",
-        b"<a b='\"&quot;>]]>'/>",
-        b"<a ></a >",
-    ];
-    for bytes in cases {
-        let place = place_of(rt.alloc(), bytes)?;
-        assert!(rt; place.is_none(), "{place:?}");
+    for bytes in DOCUMENTS {
+        let answer = refusal(rt.alloc(), bytes);
+        assert!(rt; answer.is_none(), "{answer:?}");
     }
-    Ok(())
-}
-
-#[test]
-fn a_document_is_its_element(rt: HostRuntime) -> Result<(), Fail> {
-    let bytes = b"<a xmlns='u' x='1'>b&amp;<!-- c --><![CDATA[d\r\n]]><e xmlns=''/>f</a>";
-    let element = read_document(rt.alloc(), bytes)?;
-    assert_eq!(rt; element.name.space.as_str(), "u");
-    assert_eq!(rt; element.name.local.as_str(), "a");
-    assert_eq!(rt; element.attrs.len(), 1);
-    let children = element.children.as_slice();
-    assert_eq!(rt; children.len(), 3);
-    let text = match children.get(0) {
-        Some(Node::Text(text)) => text.as_str(),
-        _ => "",
-    };
-    assert_eq!(rt; text, "b&d\n");
-    let name = match children.get(1) {
-        Some(Node::Child(child)) => child.name.local.as_str(),
-        _ => "",
-    };
-    assert_eq!(rt; name, "e");
-    Ok(())
-}
-
-#[test]
-fn a_refused_document_has_its_place(rt: HostRuntime) -> Result<(), Fail> {
-    let cases: [(&[u8], MarkupError); 3] = [
-        (b"<a><b></a>", MarkupError::Bad { at: 8 }),
-        (b"<a x:y='1'/>", MarkupError::Bad { at: 10 }),
-        (b"<a/>x", MarkupError::Bad { at: 4 }),
-    ];
-    for (bytes, refusal) in cases {
-        let answer = read_document(rt.alloc(), bytes).err();
-        assert!(rt; answer == Some(refusal), "{answer:?}");
-    }
-    Ok(())
-}
-
-#[test]
-fn seventeen_open_elements_are_too_many(rt: HostRuntime) -> Result<(), Fail> {
-    let alloc = rt.alloc();
-    let mut bytes = Vec::new(alloc);
-    for _ in 0..17 {
-        bytes.extend_from_slice(b"<a>")?;
-    }
-    let mut parts = Parts::new(alloc);
-    let answer = read_parts(alloc, bytes.as_slice(), &mut parts);
+    let answer = refusal(rt.alloc(), DEEP);
     assert!(rt;
-        answer == Err(MarkupError::TooDeep { at: 49 }),
+        answer == Some(MarkupError::TooDeep { at: 49 }),
         "{answer:?}"
     );
-    assert_eq!(rt; parts.len(), 16);
     Ok(())
 }
 
@@ -177,7 +149,11 @@ fn told(alloc: Global, bytes: &[u8]) -> Result<String, Fail> {
                 line
             }
             Part::End { at } => format!(in alloc; "end {at}")?,
-            Part::Run { at, odd, text } => format!(in alloc; "run {at} {odd:?} {}", text.as_str())?,
+            Part::Run {
+                at,
+                non_blank,
+                text,
+            } => format!(in alloc; "run {at} {non_blank:?} {}", text.as_str())?,
         };
         lines.push_str(line.as_str())?;
         lines.push('\n')?;
@@ -189,7 +165,7 @@ fn told(alloc: Global, bytes: &[u8]) -> Result<String, Fail> {
 
 #[test]
 fn parts_have_their_places(rt: HostRuntime) -> Result<(), Fail> {
-    let cases: [(&[u8], &str); 12] = [
+    let cases: [(&[u8], &str); 13] = [
         (
             b"<a xmlns='u' b='1\r\n2'> \r\nx\r<b/>&#13;<![CDATA[]]></a>",
             "start 0 21 u:a :b=1 2\nrun 22 Some(25)  \nx\n\nstart 27 29 u:b\nend 29\nrun 31 Some(31) \r\nrun 36 Some(36) \nend 48\nOk(())",
@@ -222,6 +198,10 @@ fn parts_have_their_places(rt: HostRuntime) -> Result<(), Fail> {
         (
             b"<a><!-- x --> <![CDATA[y]>",
             "start 0 2 :a\nrun 13 None  \nErr(Bad { at: 26 })",
+        ),
+        (
+            DEEP,
+            "start 0 2 :a\nstart 3 5 :a\nstart 6 8 :a\nstart 9 11 :a\nstart 12 14 :a\nstart 15 17 :a\nstart 18 20 :a\nstart 21 23 :a\nstart 24 26 :a\nstart 27 29 :a\nstart 30 32 :a\nstart 33 35 :a\nstart 36 38 :a\nstart 39 41 :a\nstart 42 44 :a\nstart 45 47 :a\nErr(TooDeep { at: 49 })",
         ),
     ];
     for (bytes, want) in cases {

@@ -1,7 +1,8 @@
 ghost use Rattle.std.specs.Prelude.{◌≡◌, ◌==◌, ◌≤◌, ◌<◌, ◌++◌, ◌+◌, ◌&&◌, nat_lt, not, length, List, ℕ, Ok, [], IfOk, slice_get, Some, MatchOption, ◌∷◌, drop};
+ghost use Rattle.std.specs.Str.{IsUtf8};
 ghost use Rattle.cds_markup.specs.Document.{line_ends};
 ghost use Rattle.cds_markup.specs.Step.{Agrees, next_is, count_at};
-ghost use Rattle.cds_markup.specs.Reading.{brackets_with, brackets_before, closes_section, is_in_run, text_behind, section_goes, section_more, section_at, greater_at, comment_goes, comment_more, comment_at, remark_at, is_greater, is_dash, enclosed_at, section_text_at, without_end};
+ghost use Rattle.cds_markup.specs.Reading.{brackets_with, brackets_before, closes_section, is_in_run, text_behind, section_goes, section_more, section_at, greater_at, comment_goes, comment_more, comment_rest_at, comment_at, is_greater, is_dash, enclosed_at, section_text_at, without_end};
 
 use crate::error::Stop;
 use crate::names::{taken, text_of};
@@ -137,8 +138,8 @@ impl<'a> Parser<'a> {
     }
 
     /// A comment behind its opening.
-    fn comment(&mut self) -> Result<(), Stop>
-        ensures { Agrees (comment_at self.old) result self.new }
+    fn comment_rest(&mut self) -> Result<(), Stop>
+        ensures { Agrees (comment_rest_at self.old) result self.new }
     {
         let mut dashes = 0;
         while self.in_comment(dashes) {
@@ -151,12 +152,12 @@ impl<'a> Parser<'a> {
     }
 
     /// A comment behind its `<`.
-    #[tactic(auto, unfolding(crate::specs::Reading::remark_at))]
-    pub fn remark(&mut self) -> Result<(), Stop>
-        ensures { Agrees (remark_at self.old) result self.new }
+    #[tactic(auto, unfolding(crate::specs::Reading::comment_at))]
+    pub fn comment(&mut self) -> Result<(), Stop>
+        ensures { Agrees (comment_at self.old) result self.new }
     {
         self.word(b"!--")?;
-        self.comment()
+        self.comment_rest()
     }
 
     /// The next byte, where a line end is one line feed; `None` at the end.
@@ -197,6 +198,7 @@ fn without_end(raw: &[u8]) -> &[u8]
 
 /// The text that these bytes of whole characters are, where each line end is one line feed (XML 1.0 on line ends).
 pub fn text_lines(alloc: Global, bytes: &[u8]) -> Result<Text, Stop>
+    requires { IsUtf8 bytes.now }
     ensures { Agrees (Ok (line_ends bytes.now, [])) result [] }
 {
     let mut lines = Bytes::new(alloc);

@@ -3,7 +3,7 @@ ghost use Rattle.std.specs.Char.{is_digit, digit_value};
 ghost use Rattle.cds_base.specs.Characters.{is_allowed};
 ghost use Rattle.cds_markup.specs.Grammar.{is_quote, is_in_value};
 ghost use Rattle.cds_markup.specs.Step.{Agrees, next_is, word_at, byte_at};
-ghost use Rattle.cds_markup.specs.Reading.{may_be, digit_at, number_end, number_at, numeric_at, entity_a, behind_and, reference_at, is_and, saying, literal_at, character_at, value_piece_at, before_quote, inside_at, value_at, says_behind, is_return};
+ghost use Rattle.cds_markup.specs.Reading.{may_be, digit_at, number_end, number_at, numeric_at, entity_a, behind_ampersand, reference_at, is_ampersand, saying, literal_at, character_at, value_piece_at, piece_code, before_quote, inside_at, value_at, says_behind, is_return};
 
 use crate::error::Stop;
 use crate::parser::Parser;
@@ -128,8 +128,8 @@ impl<'a> Parser<'a> {
     }
 
     /// A reference from behind its `&` (XML 1.0 on character references and predefined entities).
-    fn behind_and(&mut self) -> Result<u32, Stop>
-        ensures { Agrees (behind_and self.old) result self.new }
+    fn behind_ampersand(&mut self) -> Result<u32, Stop>
+        ensures { Agrees (behind_ampersand self.old) result self.new }
     {
         match self.peek() {
             Some(b'#') => {
@@ -162,7 +162,7 @@ impl<'a> Parser<'a> {
         ensures { Agrees (reference_at self.old) result self.new }
     {
         self.byte(b'&')?;
-        self.behind_and()
+        self.behind_ampersand()
     }
 }
 
@@ -271,6 +271,7 @@ fn is_return(piece: ValuePiece) -> bool
 
 /// Adds what a piece says, right behind a literal carriage return or not.
 fn push_piece(text: &mut String, behind_return: bool, piece: ValuePiece) -> Result<(), Mem>
+    requires { is_allowed (piece_code piece) ≡ true }
     ensures { OnOk result (string_bytes text.new ≡ string_bytes text.old ++ says_behind behind_return piece) }
 {
     match piece {
@@ -281,6 +282,7 @@ fn push_piece(text: &mut String, behind_return: bool, piece: ValuePiece) -> Resu
 
 /// Adds what a literal character says: white space is a space, and of two bytes of a line end the second is nothing.
 fn push_literal(text: &mut String, behind_return: bool, code: u32) -> Result<(), Mem>
+    requires { is_allowed code ≡ true }
     ensures { OnOk result (string_bytes text.new ≡ string_bytes text.old ++ says_behind behind_return (ValuePiece.Literal code)) }
 {
     if code == 10 && behind_return {
@@ -292,8 +294,10 @@ fn push_literal(text: &mut String, behind_return: bool, code: u32) -> Result<(),
     push_code(text, code)
 }
 
-/// Adds a character.
+/// Adds an allowed character.
+#[tactic(auto, using(crate::proofs::WholeCharacters::allowed_inside))]
 pub fn push_code(text: &mut String, code: u32) -> Result<(), Mem>
+    requires { is_allowed code ≡ true }
     ensures { OnOk result (string_bytes text.new ≡ string_bytes text.old ++ encode_utf8 code) }
 {
     match char::from_u32(code) {
@@ -301,7 +305,6 @@ pub fn push_code(text: &mut String, code: u32) -> Result<(), Mem>
             text.push(c)?;
             Ok(())
         }
-        // It cannot come: the code points are those of allowed characters.
-        None => Err(Mem),
+        None => unreachable!(),
     }
 }

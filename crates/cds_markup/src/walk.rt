@@ -1,9 +1,11 @@
-ghost use Rattle.std.specs.Prelude.{◌≡◌, ◌==◌, ◌&&◌, ◌∷◌, ◌++◌, ◌≤◌, ◌<◌, nat_lt, length, List, ℕ, ◌+◌, ◌^◌, IfOk, take, Ok, [], codes, encode_utf8};
+ghost use Rattle.std.specs.Prelude.{◌≡◌, true, ◌==◌, ◌&&◌, ◌∷◌, ◌++◌, ◌≤◌, ◌<◌, nat_lt, length, List, ℕ, ◌+◌, ◌^◌, IfOk, take, Ok, [], codes, encode_utf8};
+ghost use Rattle.std.specs.Str.{IsUtf8};
+ghost use Rattle.cds_base.specs.Characters.{is_allowed};
 ghost use Rattle.cds_markup.specs.Namespaces.{declarations, tag_says};
-ghost use Rattle.cds_markup.specs.Reading.{tag_at, end_at, text_behind, reference_at, remark_at, section_text_at};
+ghost use Rattle.cds_markup.specs.Reading.{tag_at, end_at, text_behind, reference_at, comment_at, section_text_at};
 ghost use Rattle.cds_markup.specs.Step.{next_is, word_at, Agrees};
-ghost use Rattle.cds_markup.specs.Course.{place, start_moves, read_moves, ruled_moves, tag_ends, bare_moves, scopes_in, may_begin_name, is_full, end_moves, bang_moves, section_moves, remark_moves, reference_moves, odd_of, text_parts, text_moves, markup_moves, piece_moves, content_at, root_course, course_of};
-ghost use Rattle.cds_markup.specs.Agree.{Moves, Runs, MatchInner, Pushes};
+ghost use Rattle.cds_markup.specs.Course.{place, start_moves, read_moves, said_moves, tag_ends, empty_moves, scopes_in, may_begin_name, is_full, end_moves, comment_or_section_moves, section_moves, comment_moves, reference_moves, non_blank_of, text_parts, text_moves, markup_moves, piece_moves, content_at, root_course, course_of};
+ghost use Rattle.cds_markup.specs.Agree.{Leads, LeadsInside, Runs, Pushes, end_step, markup_step, piece_step, tag_step};
 
 use crate::error::Stop;
 use crate::parser::{Parser, is_blank_byte};
@@ -47,25 +49,25 @@ impl<'a> Walk<'a> {
     /// A start tag at this place, behind its `<`.
     #[tactic(auto, unfolding(crate::specs::Course::start_moves))]
     fn start<S: PartSink>(&mut self, alloc: Global, at: usize, out: &mut S) -> Result<(), Stop>
-        ensures step { Moves S.took out.old (start_moves self.old.total at self.old.opens.items self.old.parser) result (record { out = out.new; opens = self.new.opens.items; left = self.new.parser }) }
+        ensures step { Leads S.took out.old (start_moves self.old.total at self.old.opens.items self.old.parser) result out.new self.new }
         ensures total { self.new.total ≡ self.old.total }
     {
         if self.is_too_deep() {
             return Err(Stop::Deep);
         }
         let tag = self.parser.tag(alloc)?;
-        self.ruled(alloc, at, tag, out)
+        self.said_start(alloc, at, tag, out)
     }
 
     /// What the tag at this place says, up to its end, and then the end.
-    fn ruled<S: PartSink>(
+    fn said_start<S: PartSink>(
         &mut self,
         alloc: Global,
         at: usize,
         tag: Tag,
         out: &mut S,
     ) -> Result<(), Stop>
-        ensures step { Moves S.took out.old (ruled_moves self.old.total at self.old.opens.items tag (tag_says (scopes_in self.old.opens.items) tag) self.old.parser) result (record { out = out.new; opens = self.new.opens.items; left = self.new.parser }) }
+        ensures step { Leads S.took out.old (tag_step at self.old tag) result out.new self.new }
         ensures total { self.new.total ≡ self.old.total }
     {
         let Tag { name, attrs } = tag;
@@ -84,7 +86,7 @@ impl<'a> Walk<'a> {
                 };
                 self.tag_end(end, part, element, out)
             }
-            None => Err(Stop::Unruly),
+            None => Err(Stop::NamespaceRule),
         }
     }
 
@@ -96,7 +98,7 @@ impl<'a> Walk<'a> {
         element: Open,
         out: &mut S,
     ) -> Result<(), Stop>
-        ensures step { Moves S.took out.old (tag_ends end part element self.old.opens.items self.old.parser) result (record { out = out.new; opens = self.new.opens.items; left = self.new.parser }) }
+        ensures step { Leads S.took out.old (tag_ends end part element self.old.opens.items self.old.parser) result out.new self.new }
         ensures total { self.new.total ≡ self.old.total }
     {
         if self.parser.at(b'>') {
@@ -107,12 +109,12 @@ impl<'a> Walk<'a> {
             }
             return Ok(());
         }
-        self.bare_end(end, part, out)
+        self.empty_end(end, part, out)
     }
 
     /// The end of an empty element's tag, at this place. The tag is found at its `/`, whatever follows.
-    fn bare_end<S: PartSink>(&mut self, end: usize, part: Part, out: &mut S) -> Result<(), Stop>
-        ensures step { Moves S.took out.old (bare_moves part end self.old.opens.items (word_at (codes "/>") self.old.parser)) result (record { out = out.new; opens = self.new.opens.items; left = self.new.parser }) }
+    fn empty_end<S: PartSink>(&mut self, end: usize, part: Part, out: &mut S) -> Result<(), Stop>
+        ensures step { Leads S.took out.old (empty_moves part end self.old.opens.items (word_at (codes "/>") self.old.parser)) result out.new self.new }
         ensures total { self.new.total ≡ self.old.total }
     {
         let closed = self.parser.word(b"/>");
@@ -127,7 +129,7 @@ impl<'a> Walk<'a> {
     /// The end tag at this place, of the innermost element, behind its `</`.
     fn end<S: PartSink>(&mut self, at: usize, out: &mut S) -> Result<(), Stop>
         requires { 0 < length self.old.opens.items }
-        ensures step { MatchInner self.old.opens.items (λ innermost outer. Moves S.took out.old (end_moves at outer (end_at innermost.name self.old.parser)) result (record { out = out.new; opens = self.new.opens.items; left = self.new.parser })) }
+        ensures step { LeadsInside S.took out.old self.old.opens.items (end_step at self.old) result out.new self.new }
         ensures total { self.new.total ≡ self.old.total }
     {
         self.parser.end(&self.opens[0].name)?;
@@ -137,23 +139,23 @@ impl<'a> Walk<'a> {
     }
 
     /// A comment behind its `<`.
-    fn remark<S: PartSink>(&mut self, out: &mut S) -> Result<(), Stop>
-        ensures step { Moves S.took out.old (remark_moves self.old.opens.items (remark_at self.old.parser)) result (record { out = out.new; opens = self.new.opens.items; left = self.new.parser }) }
+    fn comment<S: PartSink>(&mut self, out: &mut S) -> Result<(), Stop>
+        ensures step { Leads S.took out.old (comment_moves self.old.opens.items (comment_at self.old.parser)) result out.new self.new }
         ensures total { self.new.total ≡ self.old.total }
     {
-        self.parser.remark()?;
+        self.parser.comment()?;
         Ok(())
     }
 
     /// A CDATA section at this place, behind its `<!`.
     fn section<S: PartSink>(&mut self, alloc: Global, at: usize, out: &mut S) -> Result<(), Stop>
-        ensures step { Moves S.took out.old (section_moves at self.old.opens.items (section_text_at self.old.parser)) result (record { out = out.new; opens = self.new.opens.items; left = self.new.parser }) }
+        ensures step { Leads S.took out.old (section_moves at self.old.opens.items (section_text_at self.old.parser)) result out.new self.new }
         ensures total { self.new.total ≡ self.old.total }
     {
         let text = self.parser.enclosed(alloc)?;
         out.take(Part::Run {
             at,
-            odd: Some(at),
+            non_blank: Some(at),
             text,
         })?;
         Ok(())
@@ -161,26 +163,31 @@ impl<'a> Walk<'a> {
 
     /// A reference at this place.
     fn reference<S: PartSink>(&mut self, alloc: Global, at: usize, out: &mut S) -> Result<(), Stop>
-        ensures step { Moves S.took out.old (reference_moves at self.old.opens.items (reference_at self.old.parser)) result (record { out = out.new; opens = self.new.opens.items; left = self.new.parser }) }
+        ensures step { Leads S.took out.old (reference_moves at self.old.opens.items (reference_at self.old.parser)) result out.new self.new }
         ensures total { self.new.total ≡ self.old.total }
     {
         let code = self.parser.reference()?;
         let text = text_of_code(alloc, code)?;
         out.take(Part::Run {
             at,
-            odd: Some(at),
+            non_blank: Some(at),
             text,
         })?;
         Ok(())
     }
 
     /// A comment or a CDATA section at this place, behind the `<`.
-    fn bang<S: PartSink>(&mut self, alloc: Global, at: usize, out: &mut S) -> Result<(), Stop>
-        ensures step { Moves S.took out.old (bang_moves at self.old.opens.items self.old.parser) result (record { out = out.new; opens = self.new.opens.items; left = self.new.parser }) }
+    fn comment_or_section<S: PartSink>(
+        &mut self,
+        alloc: Global,
+        at: usize,
+        out: &mut S,
+    ) -> Result<(), Stop>
+        ensures step { Leads S.took out.old (comment_or_section_moves at self.old.opens.items self.old.parser) result out.new self.new }
         ensures total { self.new.total ≡ self.old.total }
     {
         if !self.parser.begins_section() {
-            return self.remark(out);
+            return self.comment(out);
         }
         self.parser.advance();
         self.section(alloc, at, out)
@@ -189,14 +196,14 @@ impl<'a> Walk<'a> {
     /// What begins with `<` at this place inside an element, behind it.
     fn markup<S: PartSink>(&mut self, alloc: Global, at: usize, out: &mut S) -> Result<(), Stop>
         requires { 0 < length self.old.opens.items }
-        ensures step { MatchInner self.old.opens.items (λ innermost outer. Moves S.took out.old (markup_moves self.old.total at innermost.name outer self.old.opens.items self.old.parser) result (record { out = out.new; opens = self.new.opens.items; left = self.new.parser })) }
+        ensures step { LeadsInside S.took out.old self.old.opens.items (markup_step at self.old) result out.new self.new }
         ensures total { self.new.total ≡ self.old.total }
     {
         if self.parser.at(b'/') {
             self.parser.advance();
             self.end(at, out)
         } else if self.parser.at(b'!') {
-            self.bang(alloc, at, out)
+            self.comment_or_section(alloc, at, out)
         } else {
             self.start(alloc, at, out)
         }
@@ -205,7 +212,7 @@ impl<'a> Walk<'a> {
     /// A literal text at this place.
     fn text<S: PartSink>(&mut self, alloc: Global, at: usize, out: &mut S) -> Result<(), Stop>
         requires { at + length self.old.parser < 2 ^ 64 }
-        ensures step { Moves S.took out.old (text_moves at self.old.opens.items self.old.parser (text_behind 0 self.old.parser)) result (record { out = out.new; opens = self.new.opens.items; left = self.new.parser }) }
+        ensures step { Leads S.took out.old (text_moves at self.old.opens.items self.old.parser (text_behind 0 self.old.parser)) result out.new self.new }
         ensures total { self.new.total ≡ self.old.total }
     {
         let start = self.parser.left();
@@ -222,7 +229,7 @@ impl<'a> Walk<'a> {
     fn piece<S: PartSink>(&mut self, alloc: Global, out: &mut S) -> Result<(), Stop>
         requires inside { 0 < length self.old.opens.items }
         requires small { self.old.total < 2 ^ 63 }
-        ensures step { MatchInner self.old.opens.items (λ innermost outer. Moves S.took out.old (piece_moves self.old.total innermost.name outer self.old.opens.items self.old.parser) result (record { out = out.new; opens = self.new.opens.items; left = self.new.parser })) }
+        ensures step { LeadsInside S.took out.old self.old.opens.items (piece_step self.old) result out.new self.new }
         ensures total { self.new.total ≡ self.old.total }
     {
         let at = self.place();
@@ -316,6 +323,7 @@ pub fn front(bytes: &[u8], n: usize) -> &[u8]
 
 /// The text of one character.
 fn text_of_code(alloc: Global, code: u32) -> Result<Text, Stop>
+    requires { is_allowed code ≡ true }
     ensures { Agrees (Ok (encode_utf8 code, [])) result [] }
 {
     let mut text = String::new(alloc);
@@ -324,9 +332,9 @@ fn text_of_code(alloc: Global, code: u32) -> Result<Text, Stop>
 }
 
 /// The place of the first character of the text at this place that is no blank; one that began behind it counts.
-fn odd_of(at: usize, text: &[u8], begun: bool) -> Option<usize>
+fn non_blank_of(at: usize, text: &[u8], begun: bool) -> Option<usize>
     requires { at + length text.now < 2 ^ 64 }
-    ensures { result ≡ odd_of at text.now begun }
+    ensures { result ≡ non_blank_of at text.now begun }
 {
     let mut place = at;
     for b in text {
@@ -346,15 +354,20 @@ fn push_text<S: PartSink>(
     begun: bool,
     out: &mut S,
 ) -> Result<(), Stop>
-    requires { at + length text.now < 2 ^ 64 }
+    requires small { at + length text.now < 2 ^ 64 }
+    requires whole { IsUtf8 text.now }
     ensures { Pushes S.took result out.old (text_parts at text.now begun) out.new }
 {
     if text.is_empty() && !begun {
         return Ok(());
     }
-    let odd = odd_of(at, text, begun);
+    let non_blank = non_blank_of(at, text, begun);
     let text = text_lines(alloc, text)?;
-    out.take(Part::Run { at, odd, text })?;
+    out.take(Part::Run {
+        at,
+        non_blank,
+        text,
+    })?;
     Ok(())
 }
 

@@ -5,20 +5,11 @@ ghost use Rattle.std.specs.Fmt.{decimal};
 ghost use Rattle.cds_base.specs.Escape.{escaped};
 ghost use Rattle.cds_markup.specs.Grammar.{written_name};
 ghost use Rattle.cds_markup.specs.Document.{Doc};
-ghost use Rattle.cds_markup.specs.Written.{numbered, under, declares, with_prefix, with_name, counted, tag_attrs, default_declared, tag_of, written_attr, written_attrs, written_start, written_end, written_in, written, CanBeWritten, WrittenIsRead};
-ghost use Rattle.cds_markup.specs.WrittenRows.{WrittenRows};
+ghost use Rattle.cds_markup.specs.Written.{attr_text, own_text, with_prefix, with_name, counted, tag_attrs, default_declared, tag_of, written_attr, written_attrs, written_start, written_end, written_in, written, CanBeWritten};
 
 use crate::scope::XML_SPACE;
 use crate::{Attr, Element, Name, Node};
 use cds_base::{Mem, escape, put, put_number};
-
-/// Puts a text at the end as it stands in XML.
-fn put_escaped(out: &mut String, text: &str) -> Result<(), Mem>
-    ensures { OnOk result (string_bytes out.new ≡ string_bytes out.old ++ escaped text.now) }
-{
-    escape(text, out)?;
-    Ok(())
-}
 
 /// Puts a qualified name, of which the prefix may be empty.
 #[tactic(auto, using(crate::proofs::WrittenNames::name_alone, crate::proofs::WrittenNames::name_prefixed))]
@@ -37,12 +28,12 @@ fn put_name(out: &mut String, prefix: &str, local: &str) -> Result<(), Mem>
 
 /// Puts an attribute behind a space.
 fn put_attr(out: &mut String, prefix: &str, local: &str, value: &str) -> Result<(), Mem>
-    ensures { OnOk result (string_bytes out.new ≡ string_bytes out.old ++ written_attr record { name = record { prefix = prefix.now; local = local.now }; value = value.now }) }
+    ensures { OnOk result (string_bytes out.new ≡ string_bytes out.old ++ attr_text prefix.now local.now value.now) }
 {
     put(out, " ")?;
     put_name(out, prefix, local)?;
     put(out, "=\"")?;
-    put_escaped(out, value)?;
+    escape(value, out)?;
     put(out, "\"")?;
     Ok(())
 }
@@ -59,7 +50,7 @@ fn put_default(out: &mut String, around: &str, space: &str) -> Result<(), Mem>
 
 /// Puts the declaration of an attribute's own prefix and the attribute.
 fn put_own(out: &mut String, number: u64, attr: &Attr) -> Result<(), Mem>
-    ensures { OnOk result (string_bytes out.new ≡ string_bytes out.old ++ (written_attr (declares (numbered number) attr.now.name.space) ++ written_attr (under (numbered number) attr.now))) }
+    ensures { OnOk result (string_bytes out.new ≡ string_bytes out.old ++ own_text number attr.now) }
 {
     let mut prefix = String::new(*out.allocator());
     put(&mut prefix, "a")?;
@@ -144,7 +135,7 @@ fn put_element(element: &Element, around: &str, out: &mut String) -> Result<(), 
     let nodes = element.children.as_slice();
     for node in nodes {
         match node {
-            Node::Text(text) => put_escaped(out, text.as_str())?,
+            Node::Text(text) => escape(text.as_str(), out)?,
             Node::Child(child) => put_element(child, space, out)?,
         }
     }
@@ -166,13 +157,3 @@ pub fn write_document(element: &Element, out: &mut Vec<u8>) -> Result<(), Mem>
     out.extend_from_slice(text.as_bytes())?;
     Ok(())
 }
-
-/// What is written of an element that can be written is within the limits a document that means this element.
-pub fn written_is_read()
-    ensures { WrittenIsRead }
-{}
-
-/// The written forms of some elements, which are evaluated from their definition.
-pub fn written_rows()
-    ensures { WrittenRows }
-{}

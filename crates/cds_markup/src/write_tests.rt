@@ -91,7 +91,7 @@ fn is_written(alloc: Global, element: &Element, want: &str) -> Result<bool, Mem>
 }
 
 #[test]
-fn elements_have_one_written_form(rt: HostRuntime) -> Result<(), Fail> {
+fn elements_are_written_and_nodes_listed(rt: HostRuntime) -> Result<(), Fail> {
     let alloc = rt.alloc();
     let root = empty(alloc)?;
     let want = "<StateEvent xmlns=\"urn:schemas-upnp-org:av:cds-event\"></StateEvent>";
@@ -100,13 +100,6 @@ fn elements_have_one_written_form(rt: HostRuntime) -> Result<(), Fail> {
     let want =
         "<a xmlns=\"urn:u\" b=\"&quot;1&quot;&#9;\" xmlns:a1=\"urn:u\" a1:b=\"2\" xml:lang=\"en\" xmlns:a3=\"urn:&amp;\" a3:b=\"3\">]]&gt;<c xmlns=\"\">x&lt;y&gt;&#13;&#10;</c></a>";
     assert!(rt; is_written(alloc, &all, want)?, "{want}");
-    Ok(())
-}
-
-#[test]
-fn nodes_are_listed(rt: HostRuntime) -> Result<(), Fail> {
-    let alloc = rt.alloc();
-    let all = sample(alloc)?;
     let children = &all.children;
     assert_eq!(rt; children.len(), 2);
     assert_eq!(rt; children.as_slice().len(), 2);

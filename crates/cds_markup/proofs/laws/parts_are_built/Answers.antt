@@ -1,4 +1,4 @@
-use Rattle.cds_markup.proofs.Verdict.{parts-are-built}
+use Rattle.cds_markup.proofs.Answering.{parts-are-built}
 use Rattle.cds_markup.proofs.laws.parts_are_built.Goals as goal
 
 pub returns : goal.returns

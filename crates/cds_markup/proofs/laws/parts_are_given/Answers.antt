@@ -1,4 +1,4 @@
-use Rattle.cds_markup.proofs.AllGiven.{parts-are-given}
+use Rattle.cds_markup.proofs.Answering.{parts-are-given}
 use Rattle.cds_markup.proofs.laws.parts_are_given.Goals as goal
 
 pub returns : goal.returns

@@ -1,4 +1,4 @@
-use Rattle.cds_markup.proofs.Fronts.{parts-are-of-roots}
+use Rattle.cds_markup.proofs.Answering.{parts-are-of-roots}
 use Rattle.cds_markup.proofs.laws.parts_are_of_roots.Goals as goal
 
 pub returns : goal.returns

@@ -1,4 +1,4 @@
-use Rattle.cds_markup.proofs.Verdict.{parts-are-told}
+use Rattle.cds_markup.proofs.Answering.{parts-are-told}
 use Rattle.cds_markup.proofs.laws.parts_are_told.Goals as goal
 
 pub returns : goal.returns

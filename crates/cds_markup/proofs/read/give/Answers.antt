@@ -1,7 +1,6 @@
-use Rattle.std.proofs.Common.{◌≡◌, Result, ap, ◌∙◌, subst, List, ℕ, length, take, nat_lt}
+use Rattle.std.proofs.Common.{◌≡◌, Result, ap, ◌∙◌, subst, List, ℕ, length}
 use Rattle.cds_markup.specs.declared.part.Part.{Part}
 use Rattle.cds_markup.specs.declared.error.Stop.{Stop}
-use Rattle.cds_markup.specs.Document.{most_bytes}
 use Rattle.cds_markup.specs.Course.{course_of, place, answer_of, within_limit, is_cut}
 use Rattle.cds_markup.specs.Agree.{Runs}
 use Rattle.cds_markup.proofs.ReadSteps.{gives-so}
@@ -12,10 +11,8 @@ runs-from took before bytes within done now left d r = subst (λ b. Runs took be
 
 pub returns : goal.returns
 returns g c =
-    let limit : c.byte_limit-limit.result ≡ most_bytes = c.byte_limit-limit.ensures in
-    let front : c.front-within.result.now ≡ within_limit c.args.bytes.now = c.front-within.ensures.value ∙ ap (λ n. take n c.args.bytes.now) limit in
+    let front : c.front-within.result.now ≡ within_limit c.args.bytes.now = c.front-within.ensures.value in
     gives-so g.row.S.Denot g.S.PartSink.took c.args.bytes.now c.args.to.now c.document-done.new.out c.document-done.result c.document-done.new.self.parser c.answer.result
     (runs-from g.S.PartSink.took c.args.to.now c.new.result (within_limit c.args.bytes.now) c.document-done.result c.document-done.new.out c.document-done.new.self.parser (c.new.ensures ∙ front) c.document-done.ensures.step)
     (c.answer.ensures
-    ∙ ap (λ n. answer_of (nat_lt n (length c.args.bytes.now)) c.place-at.result c.document-done.result) limit
     ∙ ap (λ n. answer_of (is_cut c.args.bytes.now) n c.document-done.result) (c.place-at.ensures ∙ ap (λ n. place n c.document-done.new.self.parser) (c.document-done.ensures.total ∙ ap length front)))

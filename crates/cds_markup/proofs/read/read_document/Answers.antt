@@ -3,4 +3,4 @@ use Rattle.cds_markup.proofs.read.read_document.Goals as goal
 
 pub element_read-requires : goal.element_read-requires
 element_read-requires c =
-    is_built c.args.bytes.now c.give_parts-read.result c.new-builder.result c.give_parts-read.new.to c.new-builder.ensures c.give_parts-read.ensures.read
+    is_built c.args.bytes.now c.give-read.result c.new-builder.result c.give-read.new.to c.new-builder.ensures c.give-read.ensures

@@ -2,11 +2,16 @@ use Rattle.std.proofs.Common.{◌≡◌, Ok, sym, ap, ◌∙◌, false, string_b
 use Rattle.cds_markup.specs.Reading.{inside_at, value_piece_at, says_behind}
 use Rattle.cds_markup.proofs.Loops.{agrees-was, agrees-err, was-agrees}
 use Rattle.cds_markup.proofs.Shorter.{piece-less}
+use Rattle.cds_markup.proofs.WholeCharacters.{piece-allowed}
 use Rattle.cds_markup.proofs.ValueSteps.{inside_from, inside-first, inside-more, inside-stop, inside-break}
 use Rattle.cds_markup.proofs.parser.Parser.inside.Goals as goal
 
 pub loop-self-init : goal.loop-self-init
 loop-self-init c = ap (λ text. inside_from c.args.quote text false c.args.self.now) c.new-text.ensures.bytes ∙ inside-first c.args.quote c.args.self.now
+
+pub push_piece-requires : goal.push_piece-requires
+push_piece-requires c =
+    piece-allowed c.args.quote c.requires c.loop-self.self c.in-Ok.piece c.value_piece.new.self (agrees-was (value_piece_at c.args.quote c.loop-self.self) c.in-Ok.piece c.value_piece.new.self c.in-Ok.ensures)
 
 pub loop-self-smaller : goal.loop-self-smaller
 loop-self-smaller c =

@@ -1,6 +1,0 @@
--- The law stands in the lemmas.
-use Rattle.cds_markup.proofs.PiecesForm.{every-cutting}
-use Rattle.cds_markup.proofs.reader.every_cutting.Goals as goal
-
-pub returns : goal.returns
-returns c = every-cutting

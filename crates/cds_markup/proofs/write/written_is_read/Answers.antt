@@ -1,6 +1,0 @@
--- The law stands in the lemmas.
-use Rattle.cds_markup.proofs.WrittenDocument.{written-is-read}
-use Rattle.cds_markup.proofs.write.written_is_read.Goals as goal
-
-pub returns : goal.returns
-returns c = written-is-read
