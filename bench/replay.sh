@@ -8,7 +8,12 @@
 # - peak memory of 20 loads against one (goal: at most 1.2 times);
 # - peak memory of 20 asks that come in one piece against one (goal: at most 1.2 times);
 # - 1,000 tracks that are followed through 100 scans with 2 % changed in each, each note delivered and each changed track
-#   read: the user time of the last ten scans against that of the first ten (goal: at most 1.2 times).
+#   read: the user time of the last ten scans against that of the first ten (goal: at most 1.2 times);
+# - one scan, a full load and an ask for libraries of 4,000, 16,000 and 64,000 objects, tracks in folders of 10, and the same
+#   flat at the root: user time and peak memory per object against those at 4,000 (goal: at most 1.4 and 1.1 times);
+# - ten scans of 64,000 objects in folders with 2 % changed in each: the user time of each after the first against the first's
+#   (goal: at most 0.7 times), and a scan of 64,000 tracks that changes one of them against one that changes none (goal: at
+#   most 1.3 times).
 # Needs bash, python3 and GNU time (/usr/bin/time), which tells the program's own peak memory.
 set -eu
 top=$(cd "$(dirname "$0")/.." && pwd)
@@ -47,6 +52,15 @@ def followed(count, scans):
         lines += [*found(scan), "scan", f"at {scan * 200}", f"deliver {scan + 1}", *["read"] * (count // 50)]
     return lines + ["ask"]
 
+# A library of so many objects: folders of ten tracks, or tracks at the root, of which one has grown.
+def library(count, flat=False, scan=0, grown=-1):
+    if flat:
+        return [f"track t{at}.flac {1000 + (at == grown)} 44100 2 16 441000" for at in range(count)]
+    return tracks(count // 11 * 10, scan)
+
+def library_reads(count, flat):
+    return 8 + 2 * -(-count // 256) if flat else reads(count // 11 * 10)
+
 def write(name, lines):
     with open(f"{work}/{name}", "w") as file:
         file.write("\n".join(lines) + "\n")
@@ -65,6 +79,14 @@ write("loads20", tracks(2000) + ["scan"] + (["load"] + ["read"] * reads(2000)) *
 write("asks20", tracks(2000) + ["scan"] + ["load"] + ["read"] * reads(2000) + ["ask"] * 20)
 for scans in (0, 10, 90, 100):
     write(f"followed{scans}", followed(1000, scans))
+for count in (4000, 16000, 64000):
+    for flat in (False, True):
+        where = "flat" if flat else "folders"
+        write(f"scan-{where}{count}", library(count, flat) + ["scan"])
+        write(f"load-{where}{count}", library(count, flat) + ["scan", "load"] + ["read"] * library_reads(count, flat) + ["ask"])
+write("ten64000", [line for scan in range(10) for line in library(64000, scan=scan) + ["scan"]])
+write("none64000", (library(64000, True) + ["scan"]) * 2)
+write("one64000", library(64000, True) + ["scan"] + library(64000, True, grown=32000) + ["scan"])
 PY
 
 PYTHONPATH=$top/bench python3 -B - "$work" "$program" <<'PY'
@@ -97,4 +119,15 @@ for many, one in (("scans40", "scans1"), ("loads20", "loads1"), ("asks20", "load
 user = {scans: timed(play, f"followed{scans}", 10) for scans in (0, 10, 90, 100)}
 first, last = user[10][1] - user[0][1], user[100][1] - user[90][1]
 print(f"100 scans followed by notes: {user[100][0] * 1000:.0f} ms, {user[100][2]:.2f} MiB; the first ten {first * 1000:.0f} ms user, the last ten {last * 1000:.0f} ms, {last / first:.2f} times")
+for where in ("folders", "flat"):
+    for part in ("scan", "load"):
+        small = timed(play, f"{part}-{where}4000", 3)
+        for count in (4000, 16000, 64000):
+            now = timed(play, f"{part}-{where}{count}", 3)
+            each, room = now[1] / small[1] * 4000 / count, now[2] / small[2] * 4000 / count
+            print(f"{part}, {count} objects, {where}: {now[1] * 1000:.0f} ms user, {now[2]:.1f} MiB, each {each:.2f} times the time and {room:.2f} the memory at 4,000")
+one, ten = timed(play, "scan-folders64000", 3), timed(play, "ten64000", 3)
+print(f"ten scans of 64,000 objects, 2 % changed in each: {ten[1] * 1000:.0f} ms user; each after the first {(ten[1] - one[1]) / 9 / one[1]:.2f} times the first")
+flat, none, some = (timed(play, name, 3) for name in ("scan-flat64000", "none64000", "one64000"))
+print(f"a scan of 64,000 tracks that changes one: {(some[1] - flat[1]) * 1000:.0f} ms user, {(some[1] - flat[1]) / (none[1] - flat[1]):.2f} times one that changes none")
 PY

@@ -3,6 +3,7 @@ pub mod Contents
 pub mod Maps
 pub mod Found
 pub mod Inserted
+pub mod Live
 pub mod Accepted
 pub mod StepsPaths
 pub mod StepsFind
@@ -18,3 +19,6 @@ pub mod Numbers
 pub mod Versions
 pub mod StepsScan
 pub mod BadLines
+pub mod Own
+pub mod Between
+pub mod FoundAt

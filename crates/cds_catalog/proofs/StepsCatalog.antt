@@ -6,7 +6,7 @@ use Rattle.cds_catalog.specs.Library.{FolderMap, content_at, found}
 use Rattle.cds_catalog.specs.Laws.{Ascends, IsLibrary, AreLibraries, steps_lead_to_the_catalog}
 use Rattle.cds_catalog.specs.History.{History, latest, changes_of, with_scan}
 use Rattle.cds_catalog.specs.Catalog.{PlacedRow, in_order, root_entry, row_at, id_of, child_count_of, placed_rows}
-use Rattle.cds_catalog.specs.Replay.{live, IsLegal}
+use Rattle.cds_catalog.specs.Replay.{IsLegal}
 use Rattle.cds_catalog.specs.Steps.{standing_of, stepped}
 use Rattle.cds_catalog.specs.declared.change.Change.{Change}
 use Rattle.cds_catalog.proofs.Paths.{same_path_Less}
@@ -19,6 +19,7 @@ use Rattle.cds_catalog.proofs.StepsLive.{shown, find_live}
 use Rattle.cds_catalog.proofs.StepsIds.{ids_rise}
 use Rattle.cds_catalog.proofs.StepsRow.{same_row, same_trackers, trackers_left}
 use Rattle.cds_catalog.proofs.StepsRows.{row_over, rows_over, standing_over, stepped_over}
+use Rattle.cds_catalog.proofs.Live.{live}
 
 find_content : (library : FolderMap) (p : Place) → find_in library p ≡ content_at library p
 find_content [] p = refl

@@ -6,13 +6,14 @@ use Rattle.cds_object.specs.declared.content.Content.{Content}
 use Rattle.cds_catalog.specs.Library.{FolderMap}
 use Rattle.cds_catalog.specs.History.{is_addition, adds, up_to}
 use Rattle.cds_catalog.specs.Catalog.{id_of, root_entry}
-use Rattle.cds_catalog.specs.Replay.{stands, live, IsLegal}
+use Rattle.cds_catalog.specs.Replay.{stands, IsLegal}
 use Rattle.cds_catalog.specs.declared.change.Change.{Change}
 use Rattle.cds_catalog.specs.declared.change.Change.TheVariants.{Deletion, Addition, Modification}
 use Rattle.cds_catalog.proofs.Paths.{same_path_is, same_path_itself}
 use Rattle.cds_catalog.proofs.StepsPaths.{Place, swapped, parent_differs}
 use Rattle.cds_catalog.proofs.StepsFind.{Entry, Rising, each-weaker, each-append, each-filter, each-both, count_by-cons, none≢some, Rising-removed, away_from_none}
 use Rattle.cds_catalog.proofs.StepsLive.{shown, rewritten, find_live, parent_not_added}
+use Rattle.cds_catalog.proofs.Live.{live}
 
 -- ---- parts of a list of changes
 

@@ -9,12 +9,13 @@ use Rattle.cds_object.specs.declared.content.Content.{Content}
 use Rattle.cds_object.specs.declared.content.Content.TheVariants.{Folder, Track}
 use Rattle.cds_catalog.specs.Library.{FolderMap}
 use Rattle.cds_catalog.specs.Catalog.{root_entry}
-use Rattle.cds_catalog.specs.Replay.{stands, live, holds_after, IsLegal}
+use Rattle.cds_catalog.specs.Replay.{stands, holds_after, IsLegal}
 use Rattle.cds_catalog.specs.declared.change.Change.{Change}
 use Rattle.cds_catalog.specs.declared.change.Change.TheVariants.{Deletion, Addition, Modification}
 use Rattle.cds_catalog.proofs.Paths.{same_path_is}
 use Rattle.cds_catalog.proofs.StepsPaths.{Place, swapped, parent_differs}
 use Rattle.cds_catalog.proofs.StepsFind.{find_in, none≢some, find_removed, away_from_none}
+use Rattle.cds_catalog.proofs.Live.{live}
 
 -- the root and all that stands
 abbrev pub shown : List Change → FolderMap

@@ -10,7 +10,7 @@ use Rattle.cds_object.specs.declared.content.Content.TheVariants.{Folder, Track}
 use Rattle.cds_catalog.specs.Library.{FolderMap}
 use Rattle.cds_catalog.specs.History.{is_addition}
 use Rattle.cds_catalog.specs.Catalog.{PlacedRow, row_at, id_of, parent_id_of, child_count_of, deleted_of, root_entry}
-use Rattle.cds_catalog.specs.Replay.{stands, live, IsLegal}
+use Rattle.cds_catalog.specs.Replay.{stands, IsLegal}
 use Rattle.cds_catalog.specs.Steps.{Standing, touched, touch, id_at, child_added, child_modified, child_deleted, modified, new_row, new_trackers, step, stepped}
 use Rattle.cds_catalog.specs.declared.change.Change.{Change}
 use Rattle.cds_catalog.specs.declared.change.Change.TheVariants.{Deletion, Addition, Modification}
@@ -20,6 +20,7 @@ use Rattle.cds_catalog.proofs.StepsFind.{Entry, find_in, Apart, removed, each-al
 use Rattle.cds_catalog.proofs.StepsLive.{shown, shown_holder, rewritten, find_live, stands_named, holds_is, parent_not_added}
 use Rattle.cds_catalog.proofs.StepsIds.{ids_rise, id_new}
 use Rattle.cds_catalog.proofs.StepsRow.{id_left, parent_left, update_left, update_set, container_left, container_set, container_new, deleted_more, deleted_new, children_pushed, children_rewritten, same_row, same_trackers, tracking, trackers_altered, trackers_left, trackers_are, for_folder, for_same_kind}
+use Rattle.cds_catalog.proofs.Live.{live}
 
 -- the rows over changes whose newest folder map is what stands after them
 abbrev pub row_over : ℕ → List Change → Entry → PlacedRow

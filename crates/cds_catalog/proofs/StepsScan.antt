@@ -11,7 +11,7 @@ use Rattle.cds_catalog.specs.Library.{FolderMap, content_at, found}
 use Rattle.cds_catalog.specs.Laws.{Ascends, IsLibrary, AreLibraries, IsWithin}
 use Rattle.cds_catalog.specs.History.{History, latest, changes_of, end_of, with_scan, is_addition}
 use Rattle.cds_catalog.specs.Catalog.{PlacedRow, trackers_of, child_count_of, placed_rows}
-use Rattle.cds_catalog.specs.Replay.{live, IsLegal}
+use Rattle.cds_catalog.specs.Replay.{IsLegal}
 use Rattle.cds_catalog.specs.Steps.{standing_of, stepped}
 use Rattle.cds_catalog.specs.declared.change.Change.{Change}
 use Rattle.cds_catalog.specs.declared.change.Change.TheVariants.{Deletion, Addition, Modification}
@@ -26,6 +26,7 @@ use Rattle.cds_catalog.proofs.StepsIds.{ids_rise}
 use Rattle.cds_catalog.proofs.StepsRows.{map_map, row_over, rows_over, standing_over, stepped_over}
 use Rattle.cds_catalog.proofs.StepsCatalog.{placed_rows_over, standing_is_over}
 use Rattle.cds_catalog.proofs.StepsWithin.{length-map, row_within}
+use Rattle.cds_catalog.proofs.Live.{live}
 
 -- ---- in the midst of a scan
 

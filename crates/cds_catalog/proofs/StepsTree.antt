@@ -10,7 +10,7 @@ use Rattle.cds_object.specs.declared.content.Content.TheVariants.{Folder, Track}
 use Rattle.cds_catalog.specs.Library.{FolderMap}
 use Rattle.cds_catalog.specs.History.{changes_of}
 use Rattle.cds_catalog.specs.Catalog.{PlacedRow, root_entry, row_at, id_of, parent_id_of, trackers_of, child_count_of}
-use Rattle.cds_catalog.specs.Replay.{stands, live, IsLegal}
+use Rattle.cds_catalog.specs.Replay.{stands, IsLegal}
 use Rattle.cds_catalog.specs.Laws.{catalogs_are_trees}
 use Rattle.cds_catalog.specs.declared.change.Change.{Change}
 use Rattle.cds_catalog.proofs.Paths.{same_path_decides, same_path_is}
@@ -21,6 +21,7 @@ use Rattle.cds_catalog.proofs.StepsLive.{shown, shown_holder, find_live, stands_
 use Rattle.cds_catalog.proofs.StepsIds.{ids_rise, id_root, parent_lower}
 use Rattle.cds_catalog.proofs.StepsRows.{map_map, row_over}
 use Rattle.cds_catalog.proofs.StepsCatalog.{placed_rows_over}
+use Rattle.cds_catalog.proofs.Live.{live}
 
 lower_differs : (a b : ℕ) → a < b → a ≡ b → ⊥
 lower_differs a b h e = omega arith

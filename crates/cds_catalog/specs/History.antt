@@ -37,20 +37,17 @@ place_of (Modification path content) = path
 
 -- whether a change is an addition, or a deletion
 abbrev pub is_addition : Change → Bool
-is_addition (Deletion path) = false
 is_addition (Addition path content) = true
-is_addition (Modification path content) = false
+is_addition other = false
 
 abbrev pub is_deletion : Change → Bool
 is_deletion (Deletion path) = true
-is_deletion (Addition path content) = false
-is_deletion (Modification path content) = false
+is_deletion other = false
 
 -- whether a change adds what stands at a place; and whether it adds it or modifies it
 abbrev pub adds : List (List ℕ) → Change → Bool
-adds path (Deletion at) = false
 adds path (Addition at content) = same_path path at
-adds path (Modification at content) = false
+adds path other = false
 
 abbrev pub sets : List (List ℕ) → Change → Bool
 sets path (Deletion at) = false
@@ -63,8 +60,7 @@ is_under path change = same_path path (parent_of (place_of change))
 
 abbrev pub deletes_under : List (List ℕ) → Change → Bool
 deletes_under path (Deletion at) = same_path path (parent_of at)
-deletes_under path (Addition at content) = false
-deletes_under path (Modification at content) = false
+deletes_under path other = false
 
 -- the changes up to and with the newest one that passes a test
 abbrev pub up_to : (Change → Bool) → List Change → List Change

@@ -1,8 +1,10 @@
 pub mod Catalog
 pub mod Evaluated
+pub mod FoundLaws
 pub mod History
 pub mod Library
 pub mod Laws
 pub mod Replay
+pub mod RowLaws
 pub mod Scans
 pub mod Steps

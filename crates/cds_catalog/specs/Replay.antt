@@ -1,5 +1,5 @@
 -- What stands after changes that are read one by one, and which changes may follow others: words of the laws.
-use Rattle.std.specs.Prelude.{◌≡◌, ℕ, Bool, true, false, cond, not, filter, map, List, [], ◌∷◌, ◌++◌, Option, Some, None}
+use Rattle.std.specs.Prelude.{◌≡◌, ℕ, Bool, true, false, cond, List, [], ◌∷◌, Option, Some, None}
 use Rattle.cds_object.specs.Path.{same_path, parent_of}
 use Rattle.cds_object.specs.Content.{same_kind}
 use Rattle.cds_object.specs.Object.{is_folder}
@@ -13,13 +13,6 @@ stands [] path = None
 stands (Deletion at ∷ older) path = cond (same_path path at) None (stands older path)
 stands (Addition at content ∷ older) path = cond (same_path path at) (Some content) (stands older path)
 stands (Modification at content ∷ older) path = cond (same_path path at) (Some content) (stands older path)
-
--- all that stands after changes, in the order of additions
-abbrev pub live : List Change → List (List (List ℕ) × Content)
-live [] = []
-live (Deletion at ∷ older) = filter (λ entry. not (same_path at entry.0)) (live older)
-live (Addition at content ∷ older) = live older ++ (at, content) ∷ []
-live (Modification at content ∷ older) = map (λ entry. cond (same_path at entry.0) (entry.0, content) entry) (live older)
 
 -- whether something that holds others stands at a place after changes; the root always does
 abbrev pub holds_after : List Change → List (List ℕ) → Bool

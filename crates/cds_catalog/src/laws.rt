@@ -1,6 +1,8 @@
 //! The laws of the catalog: each function's contract is one of them, and calling it gives the law.
 
+ghost use Rattle.cds_catalog.specs.FoundLaws as found;
 ghost use Rattle.cds_catalog.specs.Laws as laws;
+ghost use Rattle.cds_catalog.specs.RowLaws as rows;
 
 /// Records of which none is refused make a folder map, with one place for each record.
 pub fn accepted_records_are_a_library()
@@ -45,4 +47,47 @@ pub fn equal_numbers_have_equal_catalogs()
 /// Within a history an id and an objectUpdateID determine what the object says.
 pub fn versions_determine_contents()
     ensures { laws.versions_determine_contents }
+{}
+
+/// The changes of a scan, made one by one on what stood before it, lead to the catalog counted afresh after it.
+pub fn steps_lead_to_the_catalog()
+    ensures { laws.steps_lead_to_the_catalog }
+{}
+
+/// No number of a row is above the number that stands, no id above the ids that were drawn, and there is one row for
+/// the root and one for each place of the newest folder map.
+pub fn rows_are_within()
+    ensures { laws.rows_are_within }
+{}
+
+/// The rows of a catalog are a tree under the root, in ascending order of ids (UPnP ContentDirectory:4 on the
+/// hierarchy of objects).
+pub fn catalogs_are_trees()
+    ensures { laws.catalogs_are_trees }
+{}
+
+/// Each place of the newest folder map, and the root's, has exactly its own row, and no other place has one.
+pub fn places_have_their_rows()
+    ensures { rows.places_have_their_rows }
+{}
+
+/// An id names one place for the whole history.
+pub fn ids_name_one_place()
+    ensures { rows.ids_name_one_place }
+{}
+
+/// Every number of a row lies from the first number to the newest one, and the ids drawn, with the deletions that a
+/// container counts, are at most as many as the numbers given.
+pub fn numbers_lie_between()
+    ensures { rows.numbers_lie_between }
+{}
+
+/// A scan deletes, adds or modifies what stands at a place exactly where that is owed.
+pub fn scans_find_what_changed()
+    ensures { found.scans_find_what_changed }
+{}
+
+/// The deletions of a scan come first, in descending order of places, and then all else in ascending order.
+pub fn scans_find_in_order()
+    ensures { found.scans_find_in_order }
 {}

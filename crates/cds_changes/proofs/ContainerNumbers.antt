@@ -11,7 +11,7 @@ use Rattle.cds_object.specs.declared.content.Content.TheVariants.{Folder, Track}
 use Rattle.cds_catalog.specs.Library.{FolderMap}
 use Rattle.cds_catalog.specs.History.{changes_of, place_of, is_addition, adds, is_under, up_to}
 use Rattle.cds_catalog.specs.Catalog.{PlacedRow, id_of, row_at, container_update_of, root_entry}
-use Rattle.cds_catalog.specs.Replay.{stands, live, IsLegal}
+use Rattle.cds_catalog.specs.Replay.{stands, IsLegal}
 use Rattle.cds_catalog.specs.declared.change.Change.{Change}
 use Rattle.cds_catalog.specs.declared.change.Change.TheVariants.{Deletion, Addition, Modification}
 use Rattle.cds_catalog.proofs.Paths.{same_path_is, same_path_itself}
@@ -27,6 +27,7 @@ use Rattle.cds_catalog.proofs.StepsCatalog.{placed_rows_over}
 use Rattle.cds_changes.specs.Containers.{adds_container, is_in_container, deletes_id, last_touch, was_deleted, changes_to, touched_containers}
 use Rattle.cds_changes.specs.ContainerLaws.{changed_container, containers_have_their_numbers}
 use Rattle.cds_changes.proofs.Ids.{numbers-tell}
+use Rattle.cds_catalog.proofs.Live.{live}
 
 nat-swap : (a b : ℕ) → nat_eq a b ≡ nat_eq b a
 nat-swap a b = by (nat_eq b a) refl

@@ -1,9 +1,10 @@
 pub mod ContainerNumbers
 pub mod Done
 pub mod Ids
+pub mod MarkedFolders
 pub mod Marks
-pub mod NotedContainers
-pub mod NotedEvents
+pub mod ParentsContainers
+pub mod ParentsEvents
 pub mod Numbers
 pub mod Orderly
 pub mod Places

@@ -9,9 +9,10 @@ use Rattle.cds_catalog.specs.Library.{FolderMap, found}
 use Rattle.cds_catalog.specs.History.{History, latest, changes_of, end_of}
 use Rattle.cds_catalog.specs.declared.change.Change.{Change}
 use Rattle.cds_catalog.proofs.Numbers.{length_of_more}
-use Rattle.cds_changes.specs.Events.{scan_events, all_events, heads_done, is_in_subtree, change_events, update_of, events_between}
+use Rattle.cds_changes.specs.Events.{scan_events, all_events, heads_done, is_in_subtree, change_events, events_between}
 use Rattle.cds_changes.proofs.Numbers.{numbered}
 use Rattle.cds_changes.proofs.Within.{Lies, scan-lies, all-lie, done-are}
+use Rattle.cds_event.specs.Events.{update_of}
 
 -- whether an event lies in a span
 abbrev pub is_in : ℕ → ℕ → Event → Bool

@@ -7,13 +7,12 @@ use Rattle.cds_object.specs.Object.{is_folder}
 use Rattle.cds_catalog.specs.History.{History, changes_of, place_of, is_addition}
 use Rattle.cds_catalog.specs.Catalog.{id_of}
 use Rattle.cds_catalog.specs.declared.change.Change.{Change}
-use Rattle.cds_catalog.specs.declared.change.Change.TheVariants.{Deletion, Addition, Modification}
+use Rattle.cds_catalog.specs.declared.change.Change.TheVariants.{Deletion, Addition}
 
 -- whether a change, after the older ones, adds the container of an id
 abbrev pub adds_container : ℕ → List Change → Change → Bool
-adds_container id older (Deletion path) = false
 adds_container id older (Addition path content) = is_folder content && nat_eq (id_of (Addition path content ∷ older) path) id
-adds_container id older (Modification path content) = false
+adds_container id older other = false
 
 -- whether it names the container as the parent of its object
 abbrev pub is_in_container : ℕ → List Change → Change → Bool
@@ -22,8 +21,7 @@ is_in_container id older change = nat_eq (id_of older (parent_of (place_of chang
 -- whether it deletes the object of an id
 abbrev pub deletes_id : ℕ → List Change → Change → Bool
 deletes_id id older (Deletion path) = nat_eq (id_of older path) id
-deletes_id id older (Addition path content) = false
-deletes_id id older (Modification path content) = false
+deletes_id id older other = false
 
 -- the number of the last change above a number that adds a container or names it as parent, after a first number
 abbrev pub last_touch : ℕ → ℕ → ℕ → List Change → Option ℕ

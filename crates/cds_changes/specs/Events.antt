@@ -1,13 +1,10 @@
 -- What a server tells of the changes of a span: one event for each change, and one where a subtree update is done (this
 -- project's profile of UPnP ContentDirectory:4 on LastChange).
-use Rattle.std.specs.Prelude.{◌+◌, ◌&&◌, ◌||◌, ℕ, Bool, true, false, cond, not, nat_eq, nat_lt, nat_le, List, [], ◌∷◌, ◌++◌, filter, map, length}
+use Rattle.std.specs.Prelude.{◌+◌, ◌&&◌, ◌||◌, ℕ, Bool, true, false, not, nat_eq, nat_lt, nat_le, List, [], ◌∷◌, ◌++◌, filter, map, length}
 use Rattle.std.specs.List.{list_any}
 use Rattle.std.specs.Cmp.Lexicographic.{pointwise}
 use Rattle.cds_object.specs.Path.{same_path, parent_of}
-use Rattle.cds_object.specs.Object.{is_folder}
-use Rattle.cds_object.specs.declared.content.Content.{Content}
-use Rattle.cds_event.specs.declared.Class.{Class}
-use Rattle.cds_event.specs.declared.Class.TheVariants.{Container, Track as IsTrack}
+use Rattle.cds_event.specs.Events.{class_of, update_of}
 use Rattle.cds_event.specs.declared.Event.{Event}
 use Rattle.cds_event.specs.declared.Event.TheVariants.{ObjAdd, ObjMod, ObjDel, StDone}
 use Rattle.cds_catalog.specs.Library.{FolderMap, found}
@@ -26,12 +23,8 @@ is_below (name ∷ names) (next ∷ others) = pointwise nat_eq name next && is_b
 -- whether two changes are both additions or both deletions
 abbrev pub is_alike : Change → Change → Bool
 is_alike (Deletion path) (Deletion other) = true
-is_alike (Deletion path) (Addition other content) = false
-is_alike (Deletion path) (Modification other content) = false
-is_alike (Addition path content) (Deletion other) = false
 is_alike (Addition path content) (Addition other said) = true
-is_alike (Addition path content) (Modification other said) = false
-is_alike (Modification path content) change = false
+is_alike change other = false
 
 -- whether a change adds, or deletes, a folder with at least one object below it in the same scan
 abbrev pub gathers : List Change → Change → Bool
@@ -64,10 +57,6 @@ is_last_within scan head change = is_first (filter (is_within head) scan)
 abbrev pub heads_done : List Change → Change → List Change
 heads_done scan change = filter (λ head. heads scan head && is_last_within scan head change) scan
 
--- the class of an object, by what it says
-abbrev pub class_of : Content → Class
-class_of content = cond (is_folder content) Container IsTrack
-
 -- the event of a change with its number after the older ones; the last part says whether it belongs to a subtree update
 abbrev pub event_of : ℕ → List Change → Change → Bool → Event
 event_of number older (Deletion path) st = ObjDel (id_of older path) number st
@@ -96,20 +85,6 @@ abbrev pub all_events : ℕ → List FolderMap → List Event
 all_events first [] = []
 all_events first (library ∷ older) =
     all_events first older ++ scan_events first (changes_of older) (found (latest older) library) (found (latest older) library)
-
--- the number of the change that an event tells, or of the last one of the subtree update that is done
-abbrev pub update_of : Event → ℕ
-update_of (ObjAdd id update st parent class) = update
-update_of (ObjMod id update st) = update
-update_of (ObjDel id update st) = update
-update_of (StDone id update) = update
-
--- whether an event tells a change, and not that a subtree update is done
-abbrev pub is_change : Event → Bool
-is_change (ObjAdd id update st parent class) = true
-is_change (ObjMod id update st) = true
-is_change (ObjDel id update st) = true
-is_change (StDone id update) = false
 
 -- the events of the span above one scan end up to another
 abbrev pub events_between : History → ℕ → ℕ → List Event

@@ -1,13 +1,14 @@
--- Laws of spans: every change is told once, by its number; spans join; later scans change nothing of them; and what was
--- noted tells them.
+-- Laws of spans: every change is told once, by its number; spans join; later scans change nothing of them; and the
+-- events with their parents tell them.
 use Rattle.std.specs.Prelude.{◌≡◌, ◌+◌, ◌≤◌, ℕ, List, ◌++◌, map, filter, length}
 use Rattle.std.specs.List.{range_with_len}
 use Rattle.cds_catalog.specs.Library.{FolderMap}
 use Rattle.cds_catalog.specs.History.{History, changes_of, end_of}
-use Rattle.cds_changes.specs.Events.{all_events, events_between, update_of, is_change}
+use Rattle.cds_changes.specs.Events.{all_events, events_between}
 use Rattle.cds_changes.specs.Containers.{last_touch, was_deleted, changes_to}
-use Rattle.cds_changes.specs.Noted.{all_noted, last_touch_in, was_deleted_in}
-use Rattle.cds_changes.specs.declared.noted.Noted.{Noted}
+use Rattle.cds_changes.specs.EventsWithParents.{all_with_parents, last_touch_in, was_deleted_in}
+use Rattle.cds_changes.specs.declared.event_with_parent.EventWithParent.{EventWithParent}
+use Rattle.cds_event.specs.Events.{update_of, is_change}
 
 -- all events of a history tell its changes, each once and in order: their numbers are those from the one after the first
 -- number on
@@ -30,13 +31,13 @@ abbrev pub spans_stay : Type 0
 spans_stay = (first : ℕ) (newer older : List FolderMap) (from to : ℕ) → to ≤ end_of (record { first = first; maps = older }) →
     events_between (record { first = first; maps = newer ++ older }) from to ≡ events_between (record { first = first; maps = older }) from to
 
--- what is noted of a history are its events
-abbrev pub noted_are_events : Type 0
-noted_are_events = (first : ℕ) (maps : List FolderMap) → map (λ (n : Noted). n.event) (all_noted first maps) ≡ all_events first maps
+-- the events of a history with their parents are its events
+abbrev pub with_parents_are_events : Type 0
+with_parents_are_events = (first : ℕ) (maps : List FolderMap) → map (λ (n : EventWithParent). n.event) (all_with_parents first maps) ≡ all_events first maps
 
--- what is noted of a history tells, of each id, the last number in a span that touched its container, and whether the
+-- the events of a history with their parents tell, of each id, the last number in a span that touched its container, and whether the
 -- span deleted its object
-abbrev pub noted_tell_containers : Type 0
-noted_tell_containers = (history : History) (from to id : ℕ) →
-    (last_touch_in from to id (all_noted history.first history.maps) ≡ last_touch history.first from id (changes_to history.first to (changes_of history.maps)))
-    × (was_deleted_in from to id (all_noted history.first history.maps) ≡ was_deleted history.first from id (changes_to history.first to (changes_of history.maps)))
+abbrev pub with_parents_tell_containers : Type 0
+with_parents_tell_containers = (history : History) (from to id : ℕ) →
+    (last_touch_in from to id (all_with_parents history.first history.maps) ≡ last_touch history.first from id (changes_to history.first to (changes_of history.maps)))
+    × (was_deleted_in from to id (all_with_parents history.first history.maps) ≡ was_deleted history.first from id (changes_to history.first to (changes_of history.maps)))

@@ -3,5 +3,6 @@ pub mod Containers
 pub mod Evaluated
 pub mod Events
 pub mod Laws
-pub mod Noted
+pub mod MarkLaws
+pub mod EventsWithParents
 pub mod Subtrees

@@ -2,7 +2,7 @@
 use Rattle.std.proofs.Common.{◌≡◌, ℕ, ◌+◌, ◌<◌, ◌≤◌, nat_lt, true, false, cond, List, length, Ok, Err, ◌∙◌}
 use Rattle.std.specs.Str.{is_utf8}
 use Rattle.cds_flac.specs.declared.error.FlacError.TheVariants.{BadComment}
-use Rattle.cds_flac.specs.declared.info.Comment.{Comment}
+use Rattle.cds_object.specs.declared.info.Comment.{Comment}
 use Rattle.cds_flac.specs.Step.{Step, after, little_number}
 use Rattle.cds_flac.specs.Reading.{comment_block, behind_vendor, counted_comments, comments_from, field_after, text_at}
 use Rattle.cds_flac.proofs.Steps.{after-ok}

@@ -3,7 +3,7 @@ use Rattle.std.proofs.Common.{◌≡◌, ℕ, ◌+◌, ◌≤◌, nat_lt, cond, 
 use Rattle.std.specs.List.{flat_map}
 use Rattle.std.specs.Str.{is_utf8}
 use Rattle.cds_flac.specs.declared.error.FlacError.TheVariants.{BadComment}
-use Rattle.cds_flac.specs.declared.info.Comment.{Comment}
+use Rattle.cds_object.specs.declared.info.Comment.{Comment}
 use Rattle.cds_flac.specs.Numbers.{little_endian}
 use Rattle.cds_flac.specs.Step.{Step, after, little_number}
 use Rattle.cds_flac.specs.Reading.{behind_vendor, comment_block, comments_from, counted_comments, text_at, field_after}

@@ -69,12 +69,12 @@ module _ (at head : ℕ) (left : List ℕ) where
   found : ℕ → Step Header
   found n = Ok (record { last = is_last head; kind = kind_of head; length = n }, left)
 
-  pub header-too_long : (n : ℕ) → 67108864 < at + n → header_of_length at head n left ≡ Err TooLong
+  pub header-too_long : (n : ℕ) → metadata_limit < at + n → header_of_length at head n left ≡ Err TooLong
   unfolding found
   header-too_long n h =
       let refusal : Step Header = Err TooLong in taken-then (nat_lt metadata_limit (at + n)) refusal (found n) (below-true metadata_limit (at + n) h)
 
-  pub header-within : (n : ℕ) → at + n ≤ 67108864 → header_of_length at head n left ≡ Ok (record { last = is_last head; kind = kind_of head; length = n }, left)
+  pub header-within : (n : ℕ) → at + n ≤ metadata_limit → header_of_length at head n left ≡ Ok (record { last = is_last head; kind = kind_of head; length = n }, left)
   unfolding found
   header-within n h =
       let refusal : Step Header = Err TooLong in taken-else (nat_lt metadata_limit (at + n)) refusal (found n) (below-false metadata_limit (at + n) h)

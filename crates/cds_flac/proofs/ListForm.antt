@@ -2,7 +2,7 @@
 use Rattle.std.proofs.Common.{◌≡◌, ℕ, zero, suc, ◌+◌, ◌-◌, ◌<◌, ◌≤◌, Bool, true, false, cond, ◌&&◌, List, [], ◌∷◌, ◌++◌, length, Option, Some, None, MatchOption, find, Ok, refl, sym, ap, subst, ◌∙◌, ◌⊎◌, inl, inr, arith, append_assoc, length-append}
 use Rattle.std.specs.List.{flat_map}
 use Rattle.cds_flac.specs.declared.block.Header.{Header}
-use Rattle.cds_flac.specs.declared.info.Comment.{Comment}
+use Rattle.cds_object.specs.declared.info.Comment.{Comment}
 use Rattle.cds_flac.specs.Step.{Step, after}
 use Rattle.cds_flac.specs.Reading.{block_body, blocks_from, header_at, is_first_comment, is_last, kind_of}
 use Rattle.cds_flac.specs.Form.{Block, block_bytes, IsBlock, EachIsBlock, LastIsLast, is_comment_block, FirstComments, SaysComments}

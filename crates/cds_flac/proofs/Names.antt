@@ -5,7 +5,7 @@ use Rattle.std.specs.List.{list_all}
 use Rattle.std.specs.Result.{is_ok, MatchResult}
 use Rattle.std.specs.Str.{IsUtf8, is_utf8}
 use Rattle.std.proofs.lemmas.Str.{IsUtf8-from_is_utf8, is_utf8-from_IsUtf8, IsUtf8-from_ascii}
-use Rattle.cds_flac.specs.declared.info.Comment.{Comment}
+use Rattle.cds_object.specs.declared.info.Comment.{Comment}
 use Rattle.cds_flac.specs.Comment.{is_name, is_name_byte, named}
 
 -- bytes that are not UTF-8 fail the test

@@ -3,7 +3,7 @@ use Rattle.std.proofs.Common.{◌≡◌, ℕ, ◌+◌, ◌≤◌, nat_lt, nat_eq
 use Rattle.std.proofs.lemmas.Bool.Decides.{nat_tests}
 use Rattle.cds_flac.specs.declared.block.Header.{Header}
 use Rattle.cds_flac.specs.declared.error.FlacError.TheVariants.{Forbidden, TooLong}
-use Rattle.cds_flac.specs.declared.info.Comment.{Comment}
+use Rattle.cds_object.specs.declared.info.Comment.{Comment}
 use Rattle.cds_flac.specs.Numbers.{big_endian}
 use Rattle.cds_flac.specs.Step.{Step, after, taken, big_number}
 use Rattle.cds_flac.specs.Reading.{block_body, comment_block, header_at, header_of_head, header_of_length, is_first_comment, is_last, kind_of, metadata_limit}
@@ -24,7 +24,7 @@ pub record HeaderRead (at : ℕ) (left : List ℕ) (header : Header) (rest : Lis
   pub last : is_last head ≡ header.last
   pub kind : kind_of head ≡ header.kind
   pub allowed : kind_of head ≡ 127 → ⊥
-  pub within : at + header.length ≤ 67108864
+  pub within : at + header.length ≤ metadata_limit
 
 equal-false-was : (m n : ℕ) → nat_eq m n ≡ false → m ≡ n → ⊥
 equal-false-was m n h e = grind (arith, nat_tests)
@@ -57,13 +57,13 @@ header-was at left found e =
       last = ap (λ (h : Header). h.last) parts.0;
       kind = ap (λ (h : Header). h.kind) parts.0;
       allowed = equal-false-was (kind_of head) 127 kind.0;
-      within = subst (λ m. at + m ≤ 67108864) (ap (λ (h : Header). h.length) parts.0) (within-was metadata_limit (at + n) fits.0);
+      within = subst (λ m. at + m ≤ metadata_limit) (ap (λ (h : Header). h.length) parts.0) (within-was metadata_limit (at + n) fits.0);
     }
 
 head_byte : (head : ℕ) → big_endian (head ∷ []) ≡ head
 head_byte head = omega arith
 
-pub header-front : (at : ℕ) (b : Block) (rest : List ℕ) → IsBlock b → at + length b.body ≤ 67108864 → header_at at (b.head ∷ (b.size ++ rest)) ≡ Ok (record { last = is_last b.head; kind = kind_of b.head; length = length b.body }, rest)
+pub header-front : (at : ℕ) (b : Block) (rest : List ℕ) → IsBlock b → at + length b.body ≤ metadata_limit → header_at at (b.head ∷ (b.size ++ rest)) ≡ Ok (record { last = is_last b.head; kind = kind_of b.head; length = length b.body }, rest)
 header-front at b rest is within =
     let sized : ℕ → List ℕ → Step Header = λ n rest. header_of_length at b.head n rest in
     let first : big_number at 1 (b.head ∷ (b.size ++ rest)) ≡ Ok (b.head, b.size ++ rest) =

@@ -2,7 +2,7 @@
 use Rattle.std.proofs.Common.{◌≡◌, ℕ, suc, ◌+◌, ◌-◌, ◌<◌, true, false, cond, List, Option, Some, Ok, ap, ◌∙◌, arith}
 use Rattle.cds_flac.specs.declared.block.Header.{Header}
 use Rattle.cds_flac.specs.declared.error.FlacError.{FlacError}
-use Rattle.cds_flac.specs.declared.info.Comment.{Comment}
+use Rattle.cds_object.specs.declared.info.Comment.{Comment}
 use Rattle.cds_flac.specs.Step.{Step, after, taken}
 use Rattle.cds_flac.specs.Agree.{Judged}
 use Rattle.cds_flac.specs.Reading.{block_body, blocks_from, comment_block, header_at, is_first_comment}

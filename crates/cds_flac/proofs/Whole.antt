@@ -1,8 +1,8 @@
 -- The parts of a file's metadata, one after another.
 use Rattle.std.proofs.Common.{◌≡◌, ℕ, List, Option, Ok, refl, ◌∙◌}
 use Rattle.cds_flac.specs.declared.error.FlacError.{FlacError}
-use Rattle.cds_flac.specs.declared.info.Comment.{Comment}
-use Rattle.cds_flac.specs.declared.info.FlacInfo.{FlacInfo}
+use Rattle.cds_object.specs.declared.info.Comment.{Comment}
+use Rattle.cds_object.specs.declared.info.FlacInfo.{FlacInfo}
 use Rattle.cds_flac.specs.Step.{Step, after}
 use Rattle.cds_flac.specs.Agree.{Judged}
 use Rattle.cds_flac.specs.Reading.{further_blocks, info_of, is_last, marker_at, metadata, sound_at, stream_head}

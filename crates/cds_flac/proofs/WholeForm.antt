@@ -7,8 +7,8 @@ use Rattle.std.proofs.lemmas.Slice.Eq.{bytes_eq-Decides}
 use Rattle.std.proofs.lemmas.Bool.Decides.{nat_tests}
 use Rattle.cds_flac.specs.declared.error.FlacError.{FlacError}
 use Rattle.cds_flac.specs.declared.error.FlacError.TheVariants.{NotFlac, NoStreamInfo, BadStreamInfo, Forbidden, Truncated, BadComment, TooLong, ReadFault, Mem}
-use Rattle.cds_flac.specs.declared.info.Comment.{Comment}
-use Rattle.cds_flac.specs.declared.info.FlacInfo.{FlacInfo}
+use Rattle.cds_object.specs.declared.info.Comment.{Comment}
+use Rattle.cds_object.specs.declared.info.FlacInfo.{FlacInfo}
 use Rattle.cds_flac.specs.Numbers.{big_endian, sound_bits}
 use Rattle.cds_flac.specs.Step.{Step, after, taken, big_number}
 use Rattle.cds_flac.specs.Reading.{further_blocks, info_of, is_last, is_marker, kind_of, marker, marker_at, metadata, most_blocks, sound_at, stream_head, stream_of_head, stream_of_length}

@@ -2,7 +2,7 @@
 use Rattle.std.specs.Prelude.{◌==◌, ℕ, ◌+◌, nat_le, Bool, not, ◌&&◌, if◌then◌else◌, Option, Some, None, List, length, take, drop, position}
 use Rattle.std.specs.List.{list_all}
 use Rattle.std.specs.Str.{is_utf8}
-use Rattle.cds_flac.specs.declared.info.Comment.{Comment}
+use Rattle.cds_object.specs.declared.info.Comment.{Comment}
 
 -- A byte that a name may have: printable ASCII. The equals sign ends the name.
 abbrev pub is_name_byte : ℕ → Bool

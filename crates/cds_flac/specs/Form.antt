@@ -5,8 +5,8 @@ use Rattle.std.specs.List.{flat_map}
 use Rattle.std.specs.Str.{is_utf8}
 use Rattle.cds_flac.specs.declared.error.FlacError.{FlacError}
 use Rattle.cds_flac.specs.declared.error.FlacError.TheVariants.{ReadFault, Mem}
-use Rattle.cds_flac.specs.declared.info.Comment.{Comment}
-use Rattle.cds_flac.specs.declared.info.FlacInfo.{FlacInfo}
+use Rattle.cds_object.specs.declared.info.Comment.{Comment}
+use Rattle.cds_object.specs.declared.info.FlacInfo.{FlacInfo}
 use Rattle.cds_flac.specs.Numbers.{big_endian, little_endian, sound_bits}
 use Rattle.cds_flac.specs.Comment.{comment_of}
 use Rattle.cds_flac.specs.Reading.{kind_of, is_last, marker, metadata_limit, info_of}

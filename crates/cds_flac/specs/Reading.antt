@@ -3,10 +3,11 @@
 -- have come, a text when it is whole.
 use Rattle.std.specs.Prelude.{◌==◌, ℕ, suc, zero, ◌+◌, ◌-◌, ◌%◌, nat_lt, nat_le, Bool, true, false, not, ◌&&◌, if◌then◌else◌, Option, Some, None, is_none, unwrap_or, Ok, Err, List, [], ◌∷◌, length, codes}
 use Rattle.std.specs.Str.{is_utf8, bytes_eq}
+use Rattle.cds_base.specs.declared.limits.TheConstants.{INPUT_LIMIT}
 use Rattle.cds_flac.specs.declared.error.FlacError.TheVariants.{NotFlac, NoStreamInfo, BadStreamInfo, Forbidden, BadComment, TooLong}
 use Rattle.cds_flac.specs.declared.block.Header.{Header}
-use Rattle.cds_flac.specs.declared.info.Comment.{Comment}
-use Rattle.cds_flac.specs.declared.info.FlacInfo.{FlacInfo}
+use Rattle.cds_object.specs.declared.info.Comment.{Comment}
+use Rattle.cds_object.specs.declared.info.FlacInfo.{FlacInfo}
 use Rattle.cds_flac.specs.Numbers.{sound_bits, rate_of, channels_of, depth_of, samples_of}
 use Rattle.cds_flac.specs.Comment.{comment_of}
 use Rattle.cds_flac.specs.Step.{Step, after, taken, big_number, little_number}
@@ -77,7 +78,7 @@ block_body kind found at n left =
 
 -- The most that the blocks may take, their headers with them and without the marker.
 abbrev pub metadata_limit : ℕ
-metadata_limit = 67108864
+metadata_limit = INPUT_LIMIT
 
 -- The header of a block at a place. One whose block would pass the limit is refused.
 abbrev pub header_of_length : ℕ → ℕ → ℕ → List ℕ → Step Header
@@ -103,7 +104,7 @@ blocks_from (suc fewer) found at left =
 
 -- Each block takes at least four bytes, so that fewer blocks than the limit has bytes are within it.
 unfoldable pub most_blocks : ℕ
-most_blocks = 67108864
+most_blocks = INPUT_LIMIT
 
 -- The comments of the blocks after the first.
 abbrev pub further_blocks : Bool → ℕ → List ℕ → Step (Option (List Comment))

@@ -1,4 +1,5 @@
 ghost use Rattle.std.specs.Prelude.{◌≡◌, ◌==◌, ◌+◌, ◌%◌, ◌<◌, ◌≤◌, ◌^◌, nat_le, false, IfOk};
+ghost use Rattle.cds_base.specs.declared.limits.TheConstants.{INPUT_LIMIT};
 ghost use Rattle.cds_base.specs.Outside.{WhereTold};
 ghost use Rattle.cds_flac.specs.Agree.{Agrees, FaultRose};
 ghost use Rattle.cds_flac.specs.Reading.{header_at, block_body, further_blocks, is_first_comment, is_last, kind_of};
@@ -6,11 +7,8 @@ ghost use Rattle.cds_flac.specs.Reading.{header_at, block_body, further_blocks, 
 use crate::comments::read_comment_block;
 use crate::input::{pass_over, read_byte, read_length};
 use crate::{Comments, FlacError};
-use cds_base::Source;
+use cds_base::{INPUT_LIMIT, Source};
 use std::alloc::Global;
-
-/// The most bytes that the blocks may take, with their headers and without the marker.
-const METADATA_LIMIT: usize = 67_108_864;
 
 /// The type that a file may not have (RFC 9639 on metadata block types).
 const FORBIDDEN: u8 = 127;
@@ -83,7 +81,7 @@ fn read_blocks<S: Source>(alloc: Global, source: &mut S) -> Result<Option<Commen
 fn read_header<S: Source>(source: &mut S, at: usize) -> Result<Header, FlacError>
     requires { at < 2 ^ 32 }
     ensures told { WhereTold (S.left source.old) (λ bytes. Agrees (header_at at bytes) result (S.left source.new)) }
-    ensures within { IfOk result (λ header. at + header.length ≤ 67108864) }
+    ensures within { IfOk result (λ header. at + header.length ≤ INPUT_LIMIT) }
     ensures fault { FaultRose result (S.faults source.old) (S.faults source.new) }
     ensures never_falls { S.faults source.old ≤ S.faults source.new }
 {
@@ -93,7 +91,7 @@ fn read_header<S: Source>(source: &mut S, at: usize) -> Result<Header, FlacError
         return Err(FlacError::Forbidden { at });
     }
     let length = read_length(source, at + 1)?;
-    if METADATA_LIMIT < at + length {
+    if INPUT_LIMIT < at + length {
         return Err(FlacError::TooLong);
     }
     Ok(Header {

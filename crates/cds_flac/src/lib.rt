@@ -4,17 +4,12 @@
 mod block;
 mod comments;
 mod error;
-mod examples;
-mod info;
+pub mod evaluated;
 mod input;
 mod read;
 
+pub use cds_object::{Comment, Comments, FlacInfo};
 pub use error::FlacError;
-pub use examples::{
-    comment_field_faults_are_refused, cuts_are_truncated, header_faults_are_refused,
-    text_faults_are_refused, title_is_read,
-};
-pub use info::{Comment, Comments, FlacInfo};
 pub use read::read_flac;
 
 #[cfg(test)]

@@ -3,7 +3,7 @@
 use Rattle.std.specs.Prelude.{◌/◌, ◌%◌, ℕ, nat_eq, nat_lt, cond, List, [], ◌∷◌, ◌++◌, Option, Some, None, codes}
 use Rattle.std.specs.List.{flat_map}
 use Rattle.std.specs.Fmt.{decimal}
-use Rattle.cds_base.specs.Escape.{escaped}
+use Rattle.cds_base.specs.Writing.{number_attribute, text_element, number_element}
 use Rattle.cds_object.specs.declared.content.Content.{Content}
 use Rattle.cds_object.specs.declared.content.TrackContent.{TrackContent}
 use Rattle.cds_object.specs.declared.content.Content.TheVariants.{Folder, Track}
@@ -36,14 +36,6 @@ seconds_text ms = two_digits (ms / 1000 % 60) ++ codes "." ++ three_digits (ms %
 unfoldable pub duration_text : ℕ → List ℕ
 duration_text ms = decimal (ms / 3600000) ++ codes ":" ++ two_digits (ms / 60000 % 60) ++ codes ":" ++ seconds_text ms
 
--- an element without attributes round a text, which is escaped
-unfoldable pub text_element : List ℕ → List ℕ → List ℕ
-text_element name text = codes "<" ++ name ++ codes ">" ++ escaped text ++ codes "</" ++ name ++ codes ">"
-
--- an element without attributes round a number
-unfoldable pub number_element : List ℕ → ℕ → List ℕ
-number_element name n = codes "<" ++ name ++ codes ">" ++ decimal n ++ codes "</" ++ name ++ codes ">"
-
 -- the attributes that every object has
 unfoldable pub object_attributes : ObjectRow → List ℕ
 object_attributes row =
@@ -69,10 +61,6 @@ container_text row title trackers = container_front row title trackers.child_cou
 -- the attribute of a duration
 unfoldable pub duration_attribute : ℕ → List ℕ
 duration_attribute ms = codes " duration=\"" ++ duration_text ms ++ codes "\""
-
--- an attribute of a number
-unfoldable pub number_attribute : List ℕ → ℕ → List ℕ
-number_attribute name number = codes " " ++ name ++ codes "=\"" ++ decimal number ++ codes "\""
 
 -- the attribute of the samples in a second; none where they are not known
 unfoldable pub rate_attribute : ℕ → List ℕ

@@ -12,17 +12,17 @@ use Rattle.cds_catalog.specs.declared.change.Change.{Change}
 use Rattle.cds_catalog.proofs.Accepted.{accepted_map}
 use Rattle.cds_catalog.proofs.StepsWithin.{length-catalog}
 use Rattle.cds_catalog.proofs.StepsCatalog.{steps_lead_to_the_catalog-proof}
-use Rattle.cds_changes.specs.declared.noted.Noted.{Noted}
-use Rattle.cds_changes.specs.Noted.{noted_after}
+use Rattle.cds_changes.specs.declared.event_with_parent.EventWithParent.{EventWithParent}
+use Rattle.cds_changes.specs.EventsWithParents.{all_after}
 use Rattle.cds_catalog.specs.Laws.{AreLibraries}
 use Rattle.cds_catalog.proofs.Maps.{latest_is_library}
 use Rattle.cds_changes.specs.Subtrees.{IsOrderly}
 use Rattle.cds_changes.proofs.Orderly.{found-orderly}
-use Rattle.cds_store.specs.Planned.{changes_in, told_all}
-use Rattle.cds_store.specs.Kin.{AreMarked}
-use Rattle.cds_store.specs.declared.subtrees.Planned.{Planned}
-use Rattle.cds_store.proofs.Keeping.{kept-more, kept-same}
-use Rattle.cds_store.proofs.Telling.{told-scan}
+use Rattle.cds_store.specs.ChangeEvents.{changes_in, all_events_by}
+use Rattle.cds_store.specs.SubtreeIndex.{AreMarked}
+use Rattle.cds_store.specs.declared.subtrees.MarkedChange.{MarkedChange}
+use Rattle.cds_store.proofs.KeptEvents.{kept-more, kept-same}
+use Rattle.cds_store.proofs.ScanEvents.{told-scan}
 use Rattle.cds_store.specs.Stands.{Stored, IsCatalogOf, StandsFor, IsStore, IsScan}
 
 -- what an accepted scan has passed
@@ -97,10 +97,10 @@ few_rows now history records accepted stands =
     omega (arith, few, new, counted, rows, same)
 
 -- the store that keeps the events of the changes as well
-pub stored_after : (store : Stored) (now : Standing) (kept : List Noted) (history : History) (records : List Record) (changes : List Change) →
+pub stored_after : (store : Stored) (now : Standing) (kept : List EventWithParent) (history : History) (records : List Record) (changes : List Change) →
     StandsFor store history → scan_answer history records ≡ Accepted → changes ≡ found (latest history.maps) (map_of records) →
     now ≡ stepped store.standing changes →
-    kept ≡ noted_after (with_scan history (map_of records)) store.forgotten →
+    kept ≡ all_after (with_scan history (map_of records)) store.forgotten →
     StandsFor (record { standing = now; forgotten = store.forgotten; kept = kept }) (with_scan history (map_of records))
 stored_after store now kept history records changes stands accepted made is keeps =
     let after = applied_stands store.standing now history records changes (stands.0, stands.1) accepted made is in
@@ -124,10 +124,10 @@ accepted_orderly history records changes all accepted made =
     (found-orderly (latest history.maps) (map_of records) (latest_is_library history.maps all) (accepted_map records (passed history records accepted).good).0)
 
 -- the store after all changes of a scan are made, with their events
-pub scanned : (store : Stored) (history : History) (records : List Record) (changes : List Change) (plan : List Planned) (next now : Standing)
-    (told kept : List Noted) → StandsFor store history → scan_answer history records ≡ Accepted → changes ≡ found (latest history.maps) (map_of records) →
+pub scanned : (store : Stored) (history : History) (records : List Record) (changes : List Change) (plan : List MarkedChange) (next now : Standing)
+    (told kept : List EventWithParent) → StandsFor store history → scan_answer history records ≡ Accepted → changes ≡ found (latest history.maps) (map_of records) →
     changes_in plan ≡ changes → AreMarked changes plan [] → next ≡ store.standing → now ≡ stepped next (changes_in plan) →
-    told ≡ told_all next plan → kept ≡ store.kept ++ told →
+    told ≡ all_events_by next plan → kept ≡ store.kept ++ told →
     StandsFor (record { standing = now; forgotten = store.forgotten; kept = kept }) (with_scan history (map_of records))
 scanned store history records changes plan next now told kept stands accepted made planned marked copy steps tells keeps =
     let library = (accepted_map records (passed history records accepted).good).0 in

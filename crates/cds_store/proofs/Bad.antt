@@ -10,7 +10,11 @@ use Rattle.cds_object.specs.Object.{is_folder}
 use Rattle.cds_object.specs.declared.record.Record.{Record}
 use Rattle.cds_catalog.specs.Scans.{is_container, is_bad, bad_from}
 use Rattle.cds_catalog.proofs.Paths.{same_path_at, same_path_swap}
-use Rattle.cds_store.specs.Records.{is_folder_at, stands_at, holds_place}
+use Rattle.cds_store.specs.Records.{is_folder_at, holds_place}
+
+-- whether a record is that of anything at a place
+abbrev pub stands_at : List (List ℕ) → Record → Bool
+stands_at path r = same_path path r.path
 
 or_false : (b : Bool) → b || false ≡ b
 or_false true = refl

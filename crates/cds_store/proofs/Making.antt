@@ -14,7 +14,7 @@ use Rattle.cds_catalog.specs.Library.{found}
 use Rattle.cds_catalog.specs.History.{latest, changes_of, is_addition}
 use Rattle.cds_catalog.specs.Laws.{IsWithin}
 use Rattle.cds_catalog.specs.Catalog.{PlacedRow}
-use Rattle.cds_catalog.specs.Replay.{stands, live, IsLegal}
+use Rattle.cds_catalog.specs.Replay.{stands, IsLegal}
 use Rattle.cds_catalog.specs.Steps.{Standing, stepped, touch, touched, modified}
 use Rattle.cds_catalog.specs.declared.change.Change.{Change}
 use Rattle.cds_catalog.specs.declared.change.Change.TheVariants.{Deletion, Addition, Modification}
@@ -26,6 +26,7 @@ use Rattle.cds_catalog.proofs.StepsRows.{row_over, rows_over, standing_over}
 use Rattle.cds_catalog.proofs.StepsScan.{legal_within_scan, standing_within_scan, number_within_scan, rows_over_within, children_within}
 use Rattle.cds_store.specs.Rows.{HasRoom, KeepsKind, KeepsKinds, CanMake}
 use Rattle.cds_store.specs.Stands.{IsScan}
+use Rattle.cds_catalog.proofs.Live.{live}
 
 folders_alike : (before content : Content) → same_kind before content ≡ true → is_folder before ≡ is_folder content
 folders_alike (Folder a) (Folder b) h = refl

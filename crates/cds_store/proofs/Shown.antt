@@ -7,13 +7,14 @@ use Rattle.cds_catalog.specs.Library.{FolderMap}
 use Rattle.cds_catalog.specs.History.{History, latest, changes_of}
 use Rattle.cds_catalog.specs.Laws.{AreLibraries}
 use Rattle.cds_catalog.specs.Catalog.{PlacedRow, placed_rows}
-use Rattle.cds_catalog.specs.Replay.{live, IsLegal}
+use Rattle.cds_catalog.specs.Replay.{IsLegal}
 use Rattle.cds_catalog.proofs.Found.{history_is_legal}
 use Rattle.cds_catalog.proofs.StepsPaths.{swapped}
 use Rattle.cds_catalog.proofs.StepsFind.{Entry, away_from_none}
 use Rattle.cds_catalog.proofs.StepsLive.{find_live, rootless}
 use Rattle.cds_catalog.proofs.StepsScan.{with_entries, live_is_library, entry_of, entries_of_rows}
 use Rattle.cds_store.specs.Rows.{put_place, put_places}
+use Rattle.cds_catalog.proofs.Live.{live}
 
 abbrev put_entry : FolderMap → Entry → FolderMap
 put_entry library e = cond (same_path e.0 []) library (insert_entry path_cmp library e.0 e.1)

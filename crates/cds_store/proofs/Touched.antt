@@ -8,12 +8,12 @@ use Rattle.std.specs.BTreeMap.{is_at}
 use Rattle.std.proofs.lemmas.Bool.Decides.{nat_tests}
 use Rattle.cds_catalog.specs.History.{History, changes_of, is_addition}
 use Rattle.cds_catalog.specs.declared.change.Change.{Change}
-use Rattle.cds_changes.specs.declared.noted.Noted.{Noted}
+use Rattle.cds_changes.specs.declared.event_with_parent.EventWithParent.{EventWithParent}
 use Rattle.cds_changes.specs.Containers.{last_touch, was_deleted, changes_to, containers_between}
-use Rattle.cds_changes.specs.Noted.{all_noted, last_touch_in, was_deleted_in, told_containers}
-use Rattle.cds_changes.proofs.NotedContainers.{tell-containers, touch-drawn}
+use Rattle.cds_changes.specs.EventsWithParents.{all_with_parents, last_touch_in, was_deleted_in, containers_in}
+use Rattle.cds_changes.proofs.ParentsContainers.{tell-containers, touch-drawn}
 use Rattle.cds_store.specs.Stands.{Stored, StandsFor}
-use Rattle.cds_store.proofs.Keeping.{touch-after, deleted-after}
+use Rattle.cds_store.proofs.KeptEvents.{touch-after, deleted-after}
 
 abbrev pub Pairs : Type 0
 Pairs = List (ℕ × ℕ)
@@ -152,22 +152,22 @@ below-more : (es : Pairs) (n : ℕ) → AllByRecursion (λ (e : ℕ × ℕ). e.0
 below-more es n = each-more (λ e. e.0 < n) (λ e. e.0 < 0 + n) (λ e l. omega (arith, l)) es
 
 -- what is left of the entries is what is told of a span
-pub containers-told : (es : Pairs) (deleted : ℕ → Bool) (from to count : ℕ) (noted : List Noted) (found : Pairs)
+pub containers-told : (es : Pairs) (deleted : ℕ → Bool) (from to count : ℕ) (item : List EventWithParent) (found : Pairs)
     → IsStrictlySortedBy nat_cmp (map (λ (e : ℕ × ℕ). e.0) es)
-    → ((id : ℕ) → looked_up es id ≡ last_touch_in from to id noted) → ((id : ℕ) → deleted id ≡ was_deleted_in from to id noted)
-    → ((id : ℕ) → count ≤ id → last_touch_in from to id noted ≡ None)
-    → found ≡ filter (λ (e : ℕ × ℕ). not (deleted e.0)) es → found ≡ told_containers from to count noted
-containers-told es deleted from to count noted found sorted touches goes none is =
+    → ((id : ℕ) → looked_up es id ≡ last_touch_in from to id item) → ((id : ℕ) → deleted id ≡ was_deleted_in from to id item)
+    → ((id : ℕ) → count ≤ id → last_touch_in from to id item ≡ None)
+    → found ≡ filter (λ (e : ℕ × ℕ). not (deleted e.0)) es → found ≡ containers_in from to count item
+containers-told es deleted from to count item found sorted touches goes none is =
     let rising = rising-keys es sorted in
     is ∙ entries-told deleted es 0 count rising (all-from es)
     (below-more es count (entries-below es count rising (λ id l. touches id ∙ none id l)))
-    ∙ range-agree (told_by_id deleted (looked_up es)) (told_by_id (λ id. was_deleted_in from to id noted) (λ id. last_touch_in from to id noted)) 0 count
+    ∙ range-agree (told_by_id deleted (looked_up es)) (told_by_id (λ id. was_deleted_in from to id item) (λ id. last_touch_in from to id item)) 0 count
     (λ id l i. cond (goes id i) None (option_map (λ (number : ℕ). (id, number)) (touches id i)))
 
 -- what the kept events tell are the containers of the span
 pub containers-of-kept : (store : Stored) (history : History) (from to : ℕ) (out new containers : Pairs) → StandsFor store history → store.forgotten ≤ from
     → new ≡ out ++ containers
-    → ((count : ℕ) → ((id : ℕ) → count ≤ id → last_touch_in from to id store.kept ≡ None) → containers ≡ told_containers from to count store.kept)
+    → ((count : ℕ) → ((id : ℕ) → count ≤ id → last_touch_in from to id store.kept ≡ None) → containers ≡ containers_in from to count store.kept)
     → new ≡ out ++ containers_between history from to
 containers-of-kept store history from to out new containers stands low is told =
     is ∙ ap (λ (l : Pairs). out ++ l) (told count none
@@ -182,11 +182,11 @@ containers-of-kept store history from to out new containers stands low is told =
     count = count_by is_addition changes + 1
 
     touched : (id : ℕ) → last_touch_in from to id store.kept ≡ last_touch history.first from id changes
-    touched id = ap (last_touch_in from to id) stands.3 ∙ touch-after store.forgotten from to id low None (all_noted history.first history.maps)
+    touched id = ap (last_touch_in from to id) stands.3 ∙ touch-after store.forgotten from to id low None (all_with_parents history.first history.maps)
         ∙ (tell-containers history from to id).0
 
     deleted : (id : ℕ) → was_deleted_in from to id store.kept ≡ was_deleted history.first from id changes
-    deleted id = ap (was_deleted_in from to id) stands.3 ∙ deleted-after store.forgotten from to id low false (all_noted history.first history.maps)
+    deleted id = ap (was_deleted_in from to id) stands.3 ∙ deleted-after store.forgotten from to id low false (all_with_parents history.first history.maps)
         ∙ (tell-containers history from to id).1
 
     none : (id : ℕ) → count ≤ id → last_touch_in from to id store.kept ≡ None

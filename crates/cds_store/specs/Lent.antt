@@ -10,5 +10,5 @@ abbrev pub LentMap : Type 0
 LentMap = List (Bor (List (List ℕ)) × Bor Content)
 
 -- the folder map that it shows
-abbrev pub seen : LentMap → FolderMap
-seen library = map deref_pair library
+abbrev pub shown : LentMap → FolderMap
+shown library = map deref_pair library

@@ -1,7 +1,10 @@
 pub mod Applied
-pub mod Kin
+pub mod ChangeEvents
+pub mod Found
 pub mod Lent
-pub mod Planned
+pub mod Offspring
 pub mod Records
 pub mod Rows
 pub mod Stands
+pub mod SubtreeIndex
+pub mod TouchedContainers

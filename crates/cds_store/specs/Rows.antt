@@ -1,9 +1,10 @@
 -- What the parts of the store do to rows with their places, in words that their contracts share.
-use Rattle.std.specs.Prelude.{◌≡◌, ◌+◌, ◌-◌, ◌<◌, ◌^◌, ℕ, true, cond, List, [], ◌∷◌, map, MatchOption}
+use Rattle.std.specs.Prelude.{◌≡◌, ◌+◌, ◌-◌, ◌<◌, ◌^◌, ℕ, true, cond, List, [], ◌∷◌, ◌++◌, map, take, drop, MatchOption}
 use Rattle.std.specs.List.{AllByRecursion}
 use Rattle.std.specs.BTreeMap.{insert_entry}
 use Rattle.cds_object.specs.Path.{path_cmp, same_path}
 use Rattle.cds_object.specs.Object.{ObjectRow, is_folder}
+use Rattle.cds_object.specs.Tree.{children_of}
 use Rattle.cds_object.specs.declared.content.Content.{Content}
 use Rattle.cds_object.specs.declared.row.Trackers.{Trackers}
 use Rattle.cds_catalog.specs.Library.{FolderMap}
@@ -17,6 +18,10 @@ use Rattle.cds_store.specs.declared.touch.ChildEvent.TheVariants.{Added, Modifie
 -- the rows without their places
 abbrev pub rows_of : List PlacedRow → List ObjectRow
 rows_of rows = map (λ placed. placed.1) rows
+
+-- at most so many ids of an object's children from a place on, counted from 0, added to others
+abbrev pub AddsPage : ℕ → ℕ → ℕ → List PlacedRow → List ℕ → List ℕ → Type 0
+AddsPage id start count rows out now = now ≡ out ++ map (λ (r : ObjectRow). r.id) (take count (drop start (children_of id (rows_of rows))))
 
 -- what the rows say of the library, put into a folder map one by one; the root is in no map
 abbrev pub put_place : FolderMap → PlacedRow → FolderMap

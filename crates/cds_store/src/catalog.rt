@@ -4,19 +4,18 @@ ghost use Rattle.std.specs.Prelude.{◌≡◌, ◌+◌, ◌<◌, ◌^◌, [], �
 ghost use Rattle.std.specs.List.{AllByRecursion};
 ghost use Rattle.cds_object.specs.Path.{same_path, parent_of};
 ghost use Rattle.cds_catalog.specs.History.{place_of};
-ghost use Rattle.cds_changes.specs.Events.{class_of};
-ghost use Rattle.cds_store.specs.Planned.{changes_in, event_by, told_by, told_all};
+ghost use Rattle.cds_store.specs.ChangeEvents.{changes_in, event_by, events_by, all_events_by};
 ghost use Rattle.cds_object.specs.Object.{is_folder};
 ghost use Rattle.cds_catalog.specs.Steps.{step, stepped, touch, touched, modified, id_at, new_row, new_trackers};
 ghost use Rattle.cds_store.specs.Rows.{CanMake, KeepsKind};
 ghost use Rattle.cds_store.specs.Stands.{IsScan, beginning};
 
 use crate::placed::Placed;
-use crate::subtrees::{Planned, place_of};
+use crate::subtrees::{MarkedChange, place_of};
 use crate::touch::{ChildEvent, touch_parent};
 use cds_base::{Mem, Text};
 use cds_catalog::Change;
-use cds_changes::Noted;
+use cds_changes::EventWithParent;
 use cds_event::{Class, Event};
 use cds_object::{Content, ObjectId, Path, Row, Trackers};
 use std::alloc::Global;
@@ -25,9 +24,9 @@ use std::marker::Model;
 /// What stands: the number of the newest change, how many ids were drawn, and the rows in ascending order of ids.
 #[derive(Drop, Debug)]
 pub(crate) struct Catalog {
-    number: u32,
-    drawn: u32,
-    rows: Vec<Placed>,
+    pub(crate) number: u32,
+    pub(crate) drawn: u32,
+    pub(crate) rows: Vec<Placed>,
 }
 
 impl Model for Catalog {
@@ -38,7 +37,7 @@ impl Model for Catalog {
     ghost view = { λ c. record { number = c.number; drawn = c.drawn; rows = c.rows.items } };
 }
 
-fn remove_row(rows: &mut Vec<Placed>, path: &Path)
+pub(crate) fn remove_row(rows: &mut Vec<Placed>, path: &Path)
     ensures { rows.new.items ≡ filter (λ placed. not (same_path path.now placed.0)) rows.old.items }
 {
     rows.retain(|placed| !(*path == placed.path));
@@ -61,7 +60,7 @@ fn modify_placed(
     Ok(())
 }
 
-fn modify_row(row: &mut Row, content: Content, number: u32)
+pub(crate) fn modify_row(row: &mut Row, content: Content, number: u32)
     requires { is_folder row.old.content ≡ is_folder content }
     ensures { row.new ≡ modified number content row.old }
 {
@@ -109,17 +108,8 @@ fn new_trackers(number: u32, content: &Content) -> Option<Trackers>
     }
 }
 
-fn class_of(content: &Content) -> Class
-    ensures { result ≡ class_of content.now }
-{
-    match content {
-        Content::Folder { .. } => Class::Container,
-        Content::Track(_) => Class::Track,
-    }
-}
-
 /// The row of what was just added; an id that was drawn is above 0.
-fn new_row(id: u32, parent: ObjectId, number: u32, content: Content) -> Row
+pub(crate) fn new_row(id: u32, parent: ObjectId, number: u32, content: Content) -> Row
     requires { 0 < id }
     ensures { result ≡ new_row id parent.0 number content }
 {
@@ -266,7 +256,7 @@ impl Catalog {
                 update,
                 st,
                 parent,
-                class: class_of(content),
+                class: Class::of(content),
             },
             Change::Modification { path, .. } => Event::ObjMod {
                 id: id_at(self.rows.as_slice(), path).0,
@@ -277,21 +267,26 @@ impl Catalog {
     }
 
     /// Notes the events of a change that is to be made.
-    fn note(&self, alloc: Global, planned: &Planned, told: &mut Vec<Noted>) -> Result<(), Mem>
-        requires { CanMake self.now planned.now.change }
-        ensures { IfOk result (λ _. told.new.items ≡ told.old.items ++ told_by self.now planned.now) }
+    fn note(
+        &self,
+        alloc: Global,
+        marked_change: &MarkedChange,
+        told: &mut Vec<EventWithParent>,
+    ) -> Result<(), Mem>
+        requires { CanMake self.now marked_change.now.change }
+        ensures { IfOk result (λ _. told.new.items ≡ told.old.items ++ events_by self.now marked_change.now) }
     {
-        let parent = self.parent_id(alloc, &planned.change)?;
-        let event = self.event(&planned.change, planned.st, parent);
-        told.push(Noted {
+        let parent = self.parent_id(alloc, &marked_change.change)?;
+        let event = self.event(&marked_change.change, marked_change.st, parent);
+        told.push(EventWithParent {
             event,
             parent: Some(parent),
         })?;
-        if let Some(head) = &planned.done {
+        if let Some(head) = &marked_change.done {
             let id = id_at(self.rows.as_slice(), head).0;
             let update = self.number + 1;
             let event = Event::StDone { id, update };
-            told.push(Noted {
+            told.push(EventWithParent {
                 event,
                 parent: None,
             })?;
@@ -301,15 +296,19 @@ impl Catalog {
 
     /// Makes the changes of a scan, the oldest of which comes first, and answers their events. Where memory runs out,
     /// some are made.
-    pub(crate) fn make_all(&mut self, alloc: Global, plan: Vec<Planned>) -> Result<Vec<Noted>, Mem>
+    pub(crate) fn make_all(
+        &mut self,
+        alloc: Global,
+        plan: Vec<MarkedChange>,
+    ) -> Result<Vec<EventWithParent>, Mem>
         requires { IsScan self.old (changes_in (reverse plan.items)) }
         ensures made { IfOk result (λ _. self.new ≡ stepped self.old (changes_in (reverse plan.items))) }
-        ensures told { IfOk result (λ told. told.items ≡ told_all self.old (reverse plan.items)) }
+        ensures told { IfOk result (λ told. told.items ≡ all_events_by self.old (reverse plan.items)) }
     {
         let mut told = Vec::new(alloc);
-        for planned in plan {
-            self.note(alloc, &planned, &mut told)?;
-            self.make(alloc, planned.change)?;
+        for marked_change in plan {
+            self.note(alloc, &marked_change, &mut told)?;
+            self.make(alloc, marked_change.change)?;
         }
         Ok(told)
     }

@@ -1,17 +1,17 @@
 //! The containers that the changes of a span touch (UPnP ContentDirectory:4 on ContainerUpdateIDs).
 
-ghost use Rattle.std.specs.Prelude.{◌≡◌, ◌≤◌, ◌||◌, ℕ, cond, not, filter, IfOk};
+ghost use Rattle.std.specs.Prelude.{◌≡◌, ◌||◌, ℕ, not, filter, IfOk};
 ghost use Rattle.std.specs.Ordering.{nat_cmp};
 ghost use Rattle.std.specs.BTreeMap.{get, IsOrdered};
 ghost use Rattle.std.specs.BTreeSet.{contains};
-ghost use Rattle.cds_changes.specs.Events.{update_of};
-ghost use Rattle.cds_changes.specs.Noted.{touches, deletes, last_touch_in, was_deleted_in, told_containers};
+ghost use Rattle.cds_changes.specs.EventsWithParents.{deletes, last_touch_in, was_deleted_in};
+ghost use Rattle.cds_store.specs.TouchedContainers.{TakesTouch, AreContainersOf};
 
 use crate::Span;
-use crate::kept::{lies_in, update_of};
+use crate::kept::lies_in;
 use cds_base::Mem;
-use cds_changes::Noted;
-use cds_event::{Class, Event};
+use cds_changes::EventWithParent;
+use cds_event::Event;
 use std::alloc::Global;
 use std::collections::{BTreeMap, BTreeSet};
 
@@ -19,15 +19,15 @@ use std::collections::{BTreeMap, BTreeSet};
 type Touched = BTreeMap<u32, u32>;
 
 /// Takes the containers that the change of an event adds and names.
-fn touch(touched: &mut Touched, item: &Noted) -> Result<(), Mem>
-    ensures { IfOk result (λ _. (id : ℕ) → get nat_cmp touched.new id ≡ cond (touches id item.now) (Some (update_of item.now.event)) (get nat_cmp touched.old id)) }
+fn touch(touched: &mut Touched, item: &EventWithParent) -> Result<(), Mem>
+    ensures { IfOk result (λ _. TakesTouch (get nat_cmp touched.old) (get nat_cmp touched.new) item.now) }
 {
-    let number = update_of(item.event);
+    let number = item.event.update();
     if let Some(parent) = item.parent {
         touched.insert(parent, number)?;
     }
     if let Event::ObjAdd { id, class, .. } = item.event
-        && class == Class::Container
+        && class.is_container()
     {
         touched.insert(id, number)?;
     }
@@ -35,7 +35,7 @@ fn touch(touched: &mut Touched, item: &Noted) -> Result<(), Mem>
 }
 
 /// Takes the object that the change of an event deletes.
-fn strike(deleted: &mut BTreeSet<u32>, item: &Noted) -> Result<(), Mem>
+fn strike(deleted: &mut BTreeSet<u32>, item: &EventWithParent) -> Result<(), Mem>
     ensures { IfOk result (λ _. (id : ℕ) → contains nat_cmp deleted.new id ≡ (deletes id item.now.event || contains nat_cmp deleted.old id)) }
 {
     if let Event::ObjDel { id, .. } = item.event {
@@ -45,7 +45,7 @@ fn strike(deleted: &mut BTreeSet<u32>, item: &Noted) -> Result<(), Mem>
 }
 
 /// The last number of each container that the changes of a span touch.
-fn touched_within(alloc: Global, kept: &[Noted], span: Span) -> Result<Touched, Mem>
+fn touched_within(alloc: Global, kept: &[EventWithParent], span: Span) -> Result<Touched, Mem>
     ensures { IfOk result (λ touched. (id : ℕ) → get nat_cmp touched id ≡ last_touch_in span.from span.to id kept.now) }
 {
     let mut touched = BTreeMap::new(alloc);
@@ -58,7 +58,7 @@ fn touched_within(alloc: Global, kept: &[Noted], span: Span) -> Result<Touched, 
 }
 
 /// The objects that the changes of a span delete.
-fn deleted_within(alloc: Global, kept: &[Noted], span: Span) -> Result<BTreeSet<u32>, Mem>
+fn deleted_within(alloc: Global, kept: &[EventWithParent], span: Span) -> Result<BTreeSet<u32>, Mem>
     ensures { IfOk result (λ deleted. (id : ℕ) → contains nat_cmp deleted id ≡ was_deleted_in span.from span.to id kept.now) }
 {
     let mut deleted = BTreeSet::new(alloc);
@@ -91,10 +91,10 @@ fn not_deleted(
 /// The containers that a span touches and does not delete, with the last such numbers, in ascending order of ids.
 pub(crate) fn containers_within(
     alloc: Global,
-    kept: &[Noted],
+    kept: &[EventWithParent],
     span: Span,
 ) -> Result<Vec<(u32, u32)>, Mem>
-    ensures { IfOk result (λ containers. (count : ℕ) → ((id : ℕ) → count ≤ id → last_touch_in span.from span.to id kept.now ≡ None) → containers.items ≡ told_containers span.from span.to count kept.now) }
+    ensures { IfOk result (λ containers. AreContainersOf span.from span.to kept.now containers.items) }
 {
     let touched = touched_within(alloc, kept, span)?;
     let deleted = deleted_within(alloc, kept, span)?;

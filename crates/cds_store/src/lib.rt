@@ -2,12 +2,18 @@
 //! to date, and the events of the changes that are not forgotten.
 #![tactic(auto)]
 
+mod by_ids;
 mod catalog;
 mod containers;
 mod error;
+mod halving;
+mod keeping;
 mod kept;
 mod library;
+mod offspring;
 mod placed;
+mod plain;
+mod planning;
 mod records;
 mod span;
 mod store;
@@ -15,6 +21,8 @@ mod subtrees;
 mod touch;
 
 pub use error::ApplyError;
+pub use keeping::Keeping;
+pub use plain::PlainStore;
 pub use span::Span;
 pub use store::Store;
 

@@ -5,7 +5,7 @@ ghost use Rattle.std.specs.List.{filter_map};
 ghost use Rattle.std.specs.BTreeMap.{insert_entry};
 ghost use Rattle.cds_object.specs.Path.{path_cmp};
 ghost use Rattle.cds_catalog.specs.Library.{map_of, content_at, gone, come, departure, arrival, found};
-ghost use Rattle.cds_store.specs.Lent.{seen};
+ghost use Rattle.cds_store.specs.Lent.{shown};
 ghost use Rattle.cds_store.specs.Rows.{put_places};
 
 use crate::placed::Placed;
@@ -21,7 +21,7 @@ pub(crate) type Library<'a> = BTreeMap<&'a Path, &'a Content>;
 
 /// Puts what stands at a place into a folder map, in place of what stood there.
 fn put<'a>(library: &mut Library<'a>, path: &'a Path, content: &'a Content) -> Result<(), Mem>
-    ensures { IfOk result (λ _. seen library.new.entries ≡ insert_entry path_cmp (seen library.old.entries) path.now content.now) }
+    ensures { IfOk result (λ _. shown library.new.entries ≡ insert_entry path_cmp (shown library.old.entries) path.now content.now) }
 {
     library.insert(path, content)?;
     Ok(())
@@ -29,7 +29,7 @@ fn put<'a>(library: &mut Library<'a>, path: &'a Path, content: &'a Content) -> R
 
 /// The folder map of what a scan found.
 pub(crate) fn library_of(alloc: Global, records: &[Record]) -> Result<Library<'_>, Mem>
-    ensures { IfOk result (λ library. seen library.entries ≡ map_of records.now) }
+    ensures { IfOk result (λ library. shown library.entries ≡ map_of records.now) }
 {
     let mut library = BTreeMap::new(alloc);
     for found in records {
@@ -40,7 +40,7 @@ pub(crate) fn library_of(alloc: Global, records: &[Record]) -> Result<Library<'_
 
 /// The folder map that rows show.
 pub(crate) fn library_shown(alloc: Global, rows: &[Placed]) -> Result<Library<'_>, Mem>
-    ensures { IfOk result (λ library. seen library.entries ≡ put_places [] rows.now) }
+    ensures { IfOk result (λ library. shown library.entries ≡ put_places [] rows.now) }
 {
     let mut library = BTreeMap::new(alloc);
     for placed in rows {
@@ -100,14 +100,14 @@ fn arrival(
 
 /// What stands at a place.
 fn content_at<'a>(library: &Library<'a>, path: &'a Path) -> Option<&'a Content>
-    ensures { option_copied result ≡ content_at (seen library.now.entries) path.now }
+    ensures { option_copied result ≡ content_at (shown library.now.entries) path.now }
 {
     library.get(&path).copied()
 }
 
 /// The deletions, in ascending order of places.
 fn departures<'a>(alloc: Global, old: &Library<'a>, new: &Library<'a>) -> Result<Vec<Change>, Mem>
-    ensures { IfOk result (λ changes. changes.items ≡ filter_map (departure (seen new.now.entries)) (seen old.now.entries)) }
+    ensures { IfOk result (λ changes. changes.items ≡ filter_map (departure (shown new.now.entries)) (shown old.now.entries)) }
 {
     let mut changes = Vec::new(alloc);
     for (path, before) in old.iter() {
@@ -126,7 +126,7 @@ fn arrivals<'a>(
     new: &Library<'a>,
     changes: &mut Vec<Change>,
 ) -> Result<(), Mem>
-    ensures { IfOk result (λ _. changes.new.items ≡ changes.old.items ++ filter_map (arrival (seen old.now.entries)) (seen new.now.entries)) }
+    ensures { IfOk result (λ _. changes.new.items ≡ changes.old.items ++ filter_map (arrival (shown old.now.entries)) (shown new.now.entries)) }
 {
     for (path, content) in new.iter() {
         let before = content_at(old, path);
@@ -144,7 +144,7 @@ pub(crate) fn changes_between<'a>(
     old: &Library<'a>,
     new: &Library<'a>,
 ) -> Result<Vec<Change>, Mem>
-    ensures { IfOk result (λ changes. reverse changes.items ≡ found (seen old.now.entries) (seen new.now.entries)) }
+    ensures { IfOk result (λ changes. reverse changes.items ≡ found (shown old.now.entries) (shown new.now.entries)) }
 {
     let mut changes = departures(alloc, old, new)?;
     changes.reverse();

@@ -1,11 +1,11 @@
 //! Which records of a scan can stand.
 
-ghost use Rattle.std.specs.Prelude.{◌≡◌, ◌||◌, ◌<◌, ◌^◌, ℕ, List, [], length, not, IfOk};
+ghost use Rattle.std.specs.Prelude.{◌≡◌, ◌<◌, ◌^◌, ℕ, List, length, IfOk};
 ghost use Rattle.std.specs.List.{list_any};
 ghost use Rattle.std.specs.BTreeSet.{contains};
-ghost use Rattle.cds_object.specs.Path.{path_cmp, same_path, parent_of};
+ghost use Rattle.cds_object.specs.Path.{path_cmp};
 ghost use Rattle.cds_catalog.specs.Scans.{bad_record};
-ghost use Rattle.cds_store.specs.Records.{is_folder_at, holds_place};
+ghost use Rattle.cds_store.specs.Records.{is_folder_at, holds_place, cannot_stand};
 
 use cds_base::Mem;
 use cds_object::{Path, Record};
@@ -37,7 +37,7 @@ fn can_hold(folders: &Places, path: &Path) -> bool
 
 /// Whether nothing can stand at a place, where some folders stand and some places came before.
 fn is_bad(alloc: Global, folders: &Places, before: &Places, path: &Path) -> Result<bool, Mem>
-    ensures { IfOk result (λ bad. bad ≡ (same_path path.now [] || not (holds_place (contains path_cmp folders.now) (parent_of path.now)) || contains path_cmp before.now path.now)) }
+    ensures { IfOk result (λ bad. bad ≡ cannot_stand (contains path_cmp folders.now) (contains path_cmp before.now) path.now) }
 {
     let parent = path.parent(alloc)?;
     let bad = path.is_root() || !can_hold(folders, &parent) || before.contains(path);

@@ -1,5 +1,5 @@
 use crate::tests::scan_text;
-use crate::{Span, Store};
+use crate::{Keeping, PlainStore, Span, Store};
 use cds_event::{Class, Event, Events};
 use std::alloc::Global;
 use std::test::Fail;
@@ -40,7 +40,7 @@ fn star(st: bool) -> &'static str {
 }
 
 /// The events of a span, where they are not forgotten.
-fn events_text(alloc: Global, store: &Store, span: Span) -> Result<String, Fail> {
+fn events_text<K: Keeping>(alloc: Global, store: &K, span: Span) -> Result<String, Fail> {
     let mut text = String::new(alloc);
     if span.from < store.forgotten() {
         text.push_str("forgotten")?;
@@ -55,7 +55,7 @@ fn events_text(alloc: Global, store: &Store, span: Span) -> Result<String, Fail>
 }
 
 /// The containers of a span with their numbers, where they are not forgotten.
-fn containers_text(alloc: Global, store: &Store, span: Span) -> Result<String, Fail> {
+fn containers_text<K: Keeping>(alloc: Global, store: &K, span: Span) -> Result<String, Fail> {
     let mut text = String::new(alloc);
     if span.from < store.forgotten() {
         text.push_str("forgotten")?;
@@ -80,26 +80,26 @@ struct Case {
     containers: &'static str,
 }
 
-/// A store after scans.
-fn store_of(alloc: Global, first: u32, scans: &str) -> Result<Store, Fail> {
-    let mut store = Store::new(alloc, first)?;
-    for scan in scans.split("|") {
-        scan_text(alloc, &mut store, scan)?;
-    }
-    Ok(store)
-}
-
 /// Whether the span of a case tells these events and containers.
-fn is_so(alloc: Global, case: &Case) -> Result<bool, Fail> {
-    let mut store = store_of(alloc, case.first, case.scans)?;
+fn tells<K: Keeping>(alloc: Global, store: &mut K, case: &Case) -> Result<bool, Fail> {
+    for scan in case.scans.split("|") {
+        scan_text(alloc, store, scan)?;
+    }
     if case.forget <= store.system_update_id() {
         store.forget(case.forget);
     }
     let (from, to) = case.span;
     let span = Span { from, to };
-    let events = events_text(alloc, &store, span)?;
-    let containers = containers_text(alloc, &store, span)?;
+    let events = events_text(alloc, store, span)?;
+    let containers = containers_text(alloc, store, span)?;
     Ok(events.as_str() == case.events && containers.as_str() == case.containers)
+}
+
+/// Whether both bodies tell so.
+fn is_so(alloc: Global, case: &Case) -> Result<bool, Fail> {
+    let mut plain = PlainStore::new(alloc, case.first)?;
+    let mut store = Store::new(alloc, case.first)?;
+    Ok(tells(alloc, &mut plain, case)? && tells(alloc, &mut store, case)?)
 }
 
 /// Small histories: subtree updates, kinds that change, and changes that are forgotten.

@@ -1,94 +1,46 @@
-ghost use Rattle.std.specs.Prelude.{◌≡◌, ◌+◌, ◌≤◌, ◌<◌, ◌^◌, true, [], ◌∷◌, ◌++◌, map, reverse, take, drop, length, max, nat_lt, option_copied, slice_get, IfOk, OnErr, MatchResult};
+ghost use Rattle.std.specs.Prelude.{◌≡◌, ◌+◌, ◌≤◌, ◌<◌, ◌^◌, true, [], ◌∷◌, ◌++◌, map, reverse, take, drop, length, max, nat_lt, option_copied, slice_get, IfOk, IfErr, OnErr};
 ghost use Rattle.cds_object.specs.Tree.{row_of, children_of, is_container_row};
-ghost use Rattle.cds_catalog.specs.Library.{map_of, found};
 ghost use Rattle.cds_catalog.specs.History.{History};
-ghost use Rattle.cds_store.specs.Rows.{rows_of, put_places};
-ghost use Rattle.cds_changes.specs.Events.{events_between};
-ghost use Rattle.cds_changes.specs.Containers.{containers_between};
-ghost use Rattle.cds_store.specs.Stands.{StandsFor, IsStore, no_scans};
-ghost use Rattle.cds_store.specs.Applied.{Applied, IsPlan, IsRefusal};
+ghost use Rattle.cds_store.specs.Rows.{rows_of, AddsPage};
+ghost use Rattle.cds_store.specs.Stands.{StandsFor, IsStore, no_scans, AddsChanges, AddsContainers};
+ghost use Rattle.cds_store.specs.Applied.{Applied};
 
 use crate::catalog::Catalog;
 use crate::containers::containers_within;
+use crate::halving::row_by_id;
 use crate::kept::{events_within, keep, retain_after};
-use crate::library::{changes_between, library_of, library_shown};
-use crate::placed::Placed;
-use crate::records::bad_record;
-use crate::subtrees::planned_all;
+use crate::offspring::{Child, children_in, ids_of, offspring_of, page_of};
+use crate::planning::plan;
+use crate::subtrees::mark_all;
 use crate::{ApplyError, Span};
 use cds_base::Mem;
-use cds_catalog::Change;
-use cds_changes::Noted;
+use cds_changes::EventWithParent;
 use cds_event::Events;
-use cds_object::{Record, Records, Row};
+use cds_object::{Records, Row};
 use std::alloc::Global;
 use std::marker::Model;
-
-/// How many objects a library can have beside the root.
-const MAX_OBJECTS: usize = 65_535;
 
 /// The catalog of a server after all its scans, with the changes that are not forgotten. Contracts see what stands (the
 /// number of the newest change, how many ids were drawn, and the rows with their places), the number up to which changes
 /// are forgotten, and the events of those above it. It stands for a history of scans where all this is that history's.
+/// Rows and children are found by halving, and the changes of a scan are made by ids.
 #[derive(Drop, Debug)]
 pub struct Store {
     catalog: Catalog,
     forgotten: u32,
-    kept: Vec<Noted>,
+    kept: Vec<EventWithParent>,
+    offspring: Vec<Child>,
 }
 
 impl Model for Store {
-    ghost use Rattle.cds_store.specs.Stands.{Stored, IsStore};
+    ghost use Rattle.cds_store.specs.Stands.{Stored};
+    ghost use Rattle.cds_store.specs.Offspring.{IsIndexed};
 
     ghost Value = { Stored };
 
     ghost view = { λ s. record { standing = s.catalog; forgotten = s.forgotten; kept = s.kept.items } };
 
-    ghost invariant = { λ s. IsStore (record { standing = s.catalog; forgotten = s.forgotten; kept = s.kept.items }) };
-}
-
-/// The ids of the children of an object, in ascending order.
-fn child_ids(alloc: Global, rows: &[Placed], id: u32) -> Result<Vec<u32>, Mem>
-    ensures { IfOk result (λ ids. ids.items ≡ map (λ r. r.id) (children_of id (rows_of rows.now))) }
-{
-    let mut ids = Vec::new(alloc);
-    for placed in rows {
-        if let Some(parent) = placed.row.parent
-            && parent.0 == id
-        {
-            ids.push(placed.row.id.0)?;
-        }
-    }
-    Ok(ids)
-}
-
-/// At most `count` of the ids from the place `start` on.
-fn page(ids: &[u32], start: u32, count: u32) -> &[u32]
-    ensures { result.now ≡ take count (drop start ids.now) }
-{
-    let (_, rest) = ids.split_at(ids.len().min(start as usize));
-    let (page, _) = rest.split_at(rest.len().min(count as usize));
-    page
-}
-
-/// The changes from what rows show to what a scan found, the oldest first.
-fn changes_found<'a>(
-    alloc: Global,
-    rows: &'a [Placed],
-    records: &'a [Record],
-) -> Result<Vec<Change>, Mem>
-    ensures { IfOk result (λ changes. reverse changes.items ≡ found (put_places [] rows.now) (map_of records.now)) }
-{
-    let old = library_shown(alloc, rows)?;
-    let new = library_of(alloc, records)?;
-    changes_between(alloc, &old, &new)
-}
-
-/// Whether changes from a number on lead above the last number.
-fn is_spent(number: u32, needed: u32) -> bool
-    ensures { result ≡ nat_lt 4294967295 (number + needed) }
-{
-    number.checked_add(needed).is_none()
+    ghost invariant = { λ s. IsIndexed (record { standing = s.catalog; forgotten = s.forgotten; kept = s.kept.items }) s.offspring.items };
 }
 
 impl Store {
@@ -98,31 +50,13 @@ impl Store {
         ensures forgotten { IfOk result (λ store. store.forgotten ≡ first) }
     {
         let catalog = Catalog::new(alloc, first)?;
+        let offspring = offspring_of(alloc, catalog.rows())?;
         Ok(Store {
             catalog,
             forgotten: first,
             kept: Vec::new(alloc),
+            offspring,
         })
-    }
-
-    /// The changes that a scan makes, the oldest first, or why it is refused.
-    fn plan(&self, alloc: Global, records: &Records) -> Result<Vec<Change>, ApplyError>
-        requires { length records.now < 2 ^ 32 }
-        ensures { (history : History) → StandsFor self.now history → MatchResult result (λ changes. IsPlan history records.now changes.items) (λ refusal. IsRefusal history records.now refusal) }
-    {
-        if let Some(line) = bad_record(alloc, records.as_slice())? {
-            return Err(ApplyError::BadRecords { line });
-        }
-        if records.len() > MAX_OBJECTS {
-            let objects = records.len() as u32;
-            return Err(ApplyError::Full { objects });
-        }
-        let changes = changes_found(alloc, self.catalog.rows(), records.as_slice())?;
-        let needed = changes.len() as u32;
-        if is_spent(self.catalog.number(), needed) {
-            return Err(ApplyError::Spent { needed });
-        }
-        Ok(changes)
     }
 
     /// Takes what a scan found as the whole library, and answers the numbers of the changes. Deletions come first, in
@@ -132,17 +66,19 @@ impl Store {
         requires { length records.now < 2 ^ 32 }
         ensures { (history : History) → StandsFor self.old history → Applied history records.now result self.old self.new }
     {
-        let changes = self.plan(alloc, records)?;
+        let changes = plan(alloc, &self.catalog, records)?;
         let from = self.catalog.number();
         if changes.is_empty() {
             return Ok(Span { from, to: from });
         }
-        let plan = planned_all(alloc, changes)?;
+        let plan = mark_all(alloc, changes)?;
         let mut next = self.catalog.copy(alloc)?;
-        let told = next.make_all(alloc, plan)?;
+        let told = next.make_all_by_ids(alloc, plan)?;
+        let offspring = offspring_of(alloc, next.rows())?;
         keep(&mut self.kept, told.as_slice())?;
         let to = next.number();
         self.catalog = next;
+        self.offspring = offspring;
         Ok(Span { from, to })
     }
 
@@ -150,12 +86,7 @@ impl Store {
     pub fn get(&self, id: u32) -> Option<&Row>
         ensures { option_copied result ≡ row_of id (rows_of self.now.standing.rows) }
     {
-        for placed in self.catalog.rows() {
-            if placed.id() == id {
-                return Some(placed.row());
-            }
-        }
-        None
+        row_by_id(self.catalog.rows(), id)
     }
 
     /// The row at a place, counted from 0 in ascending order of ids.
@@ -198,12 +129,13 @@ impl Store {
     ) -> Result<u32, Mem>
         requires { is_container_row (row_of id (rows_of self.now.standing.rows)) ≡ true }
         ensures total { IfOk result (λ total. total ≡ length (children_of id (rows_of self.now.standing.rows))) }
-        ensures page { IfOk result (λ _. out.new.items ≡ out.old.items ++ map (λ r. r.id) (take count (drop start (children_of id (rows_of self.now.standing.rows))))) }
+        ensures page { IfOk result (λ _. AddsPage id start count self.now.standing.rows out.old.items out.new.items) }
         ensures kept { OnErr result (out.new.items ≡ out.old.items) }
     {
-        let ids = child_ids(alloc, self.catalog.rows(), id)?;
-        out.extend_from_slice(page(ids.as_slice(), start, count))?;
-        Ok(ids.len() as u32)
+        let children = children_in(self.offspring.as_slice(), id);
+        let ids = ids_of(alloc, page_of(children, start, count))?;
+        out.extend_from_slice(ids.as_slice())?;
+        Ok(children.len() as u32)
     }
 
     /// The number of the newest change, or the first number (UPnP ContentDirectory:4 on SystemUpdateID).
@@ -224,7 +156,7 @@ impl Store {
     /// to `to`. Want of memory leaves `out` as it was.
     pub fn changes_after(&self, alloc: Global, span: Span, out: &mut Events) -> Result<(), Mem>
         requires { self.now.forgotten ≤ span.from }
-        ensures told { IfOk result (λ _. (history : History) → StandsFor self.now history → out.new ≡ out.old ++ events_between history span.from span.to) }
+        ensures told { IfOk result (λ _. AddsChanges self.now span out.old out.new) }
         ensures kept { OnErr result (out.new ≡ out.old) }
     {
         let events = events_within(alloc, self.kept.as_slice(), span)?;
@@ -242,7 +174,7 @@ impl Store {
         out: &mut Vec<(u32, u32)>,
     ) -> Result<(), Mem>
         requires { self.now.forgotten ≤ span.from }
-        ensures told { IfOk result (λ _. (history : History) → StandsFor self.now history → out.new.items ≡ out.old.items ++ containers_between history span.from span.to) }
+        ensures told { IfOk result (λ _. AddsContainers self.now span out.old.items out.new.items) }
         ensures kept { OnErr result (out.new.items ≡ out.old.items) }
     {
         let containers = containers_within(alloc, self.kept.as_slice(), span)?;

@@ -3,12 +3,11 @@
 
 ghost use Rattle.std.specs.Prelude.{◌≡◌, ◌++◌, ℕ, true, false, List, [], ◌∷◌, reverse, IfOk};
 ghost use Rattle.std.specs.BTreeSet.{contains};
-ghost use Rattle.cds_object.specs.Path.{path_cmp, same_path, parent_of};
-ghost use Rattle.cds_catalog.specs.History.{place_of, is_addition, is_deletion};
-ghost use Rattle.cds_catalog.specs.declared.change.Change.{Change as ChangeOf};
-ghost use Rattle.cds_changes.specs.Subtrees.{some_of, IsClosed, IsOrderly, IsMarked};
-ghost use Rattle.cds_store.specs.Planned.{changes_in};
-ghost use Rattle.cds_store.specs.Kin.{is_kind, IsOutermost, Knows, IsHeadOf, AreMarked};
+ghost use Rattle.cds_object.specs.Path.{path_cmp, same_path};
+ghost use Rattle.cds_catalog.specs.History.{place_of};
+ghost use Rattle.cds_changes.specs.Subtrees.{some_of, IsOrderly};
+ghost use Rattle.cds_store.specs.ChangeEvents.{changes_in};
+ghost use Rattle.cds_store.specs.SubtreeIndex.{is_kind, IsOutermost, Indexes, AreMarked, holds_one, FindsHead, Marks, MarksNext};
 
 use cds_base::Mem;
 use cds_catalog::Change;
@@ -18,7 +17,7 @@ use std::collections::BTreeSet;
 
 /// A change of a scan with what its events say of subtree updates.
 #[derive(Drop, Debug)]
-pub(crate) struct Planned {
+pub(crate) struct MarkedChange {
     pub(crate) change: Change,
     /// Whether it belongs to a subtree update.
     pub(crate) st: bool,
@@ -35,7 +34,7 @@ enum Kind {
 
 /// The changes of one kind, by which their subtree updates are told apart.
 #[derive(Drop, Debug)]
-struct Kin {
+struct SubtreeIndex {
     /// Their places.
     places: BTreeSet<Path>,
     /// The places of the folders that hold one of them.
@@ -82,7 +81,7 @@ fn places_of(alloc: Global, kind: Kind, changes: &[Change]) -> Result<BTreeSet<P
 
 /// The places of the folders that hold a change of a kind.
 fn folders_of(alloc: Global, kind: Kind, changes: &[Change]) -> Result<BTreeSet<Path>, Mem>
-    ensures { IfOk result (λ folders. (path : List (List ℕ)) → contains path_cmp folders path ≡ some_of (is_kind kind) (λ place. same_path path (parent_of place)) changes.now) }
+    ensures { IfOk result (λ folders. (path : List (List ℕ)) → contains path_cmp folders path ≡ holds_one (is_kind kind) changes.now path) }
 {
     let mut folders = BTreeSet::new(alloc);
     for change in changes {
@@ -109,15 +108,15 @@ fn outermost(alloc: Global, places: &BTreeSet<Path>, path: &Path) -> Result<Path
     Ok(top)
 }
 
-impl Kin {
+impl SubtreeIndex {
     /// The changes of a kind, before any is looked at.
-    fn new(alloc: Global, kind: Kind, changes: &[Change]) -> Result<Kin, Mem>
-        ensures { IfOk result (λ kin. Knows (is_kind kind) (reverse changes.now) [] kin) }
+    fn new(alloc: Global, kind: Kind, changes: &[Change]) -> Result<SubtreeIndex, Mem>
+        ensures { IfOk result (λ index. Indexes (is_kind kind) (reverse changes.now) [] index) }
     {
         let places = places_of(alloc, kind, changes)?;
         let folders = folders_of(alloc, kind, changes)?;
         let seen = BTreeSet::new(alloc);
-        Ok(Kin {
+        Ok(SubtreeIndex {
             places,
             folders,
             seen,
@@ -127,7 +126,7 @@ impl Kin {
     /// The place of the head of the subtree update that the change at a place belongs to.
     fn head(&self, alloc: Global, path: &Path) -> Result<Option<Path>, Mem>
         requires { contains path_cmp self.now.places [] ≡ false }
-        ensures { IfOk result (λ head. (kind : Kind) (scan later : List ChangeOf) → Knows (is_kind kind) scan later self.now → IsClosed (is_kind kind) scan → some_of (is_kind kind) (same_path path.now) scan ≡ true → IsHeadOf (is_kind kind) scan path.now head) }
+        ensures { IfOk result (FindsHead self.now path.now) }
     {
         let top = outermost(alloc, &self.places, path)?;
         if self.folders.contains(&top) {
@@ -140,7 +139,7 @@ impl Kin {
     /// head of it where none of the newer ones does.
     fn look(&mut self, alloc: Global, path: &Path) -> Result<(bool, Option<Path>), Mem>
         requires { contains path_cmp self.old.places [] ≡ false }
-        ensures { IfOk result (λ found. (kind : Kind) (scan later earlier : List ChangeOf) (change : ChangeOf) → Knows (is_kind kind) scan later self.old → IsOrderly scan → scan ≡ later ++ change ∷ earlier → is_kind kind change ≡ true → path.now ≡ place_of change → Knows (is_kind kind) scan (later ++ change ∷ []) self.new × IsMarked scan change earlier found.0 found.1) }
+        ensures { IfOk result (Marks self.old self.new path.now) }
     {
         let Some(head) = self.head(alloc, path)? else {
             return Ok((false, None));
@@ -154,33 +153,38 @@ impl Kin {
 }
 
 /// A change with what its events say of subtree updates, after all newer ones were looked at.
-fn look_at(alloc: Global, gone: &mut Kin, come: &mut Kin, change: Change) -> Result<Planned, Mem>
+fn look_at(
+    alloc: Global,
+    gone: &mut SubtreeIndex,
+    come: &mut SubtreeIndex,
+    change: Change,
+) -> Result<MarkedChange, Mem>
     requires gone { contains path_cmp gone.old.places [] ≡ false }
     requires come { contains path_cmp come.old.places [] ≡ false }
-    ensures change { IfOk result (λ planned. planned.change ≡ change) }
-    ensures said { IfOk result (λ planned. (scan later earlier : List ChangeOf) → Knows is_deletion scan later gone.old → Knows is_addition scan later come.old → IsOrderly scan → scan ≡ later ++ change ∷ earlier → Knows is_deletion scan (later ++ change ∷ []) gone.new × Knows is_addition scan (later ++ change ∷ []) come.new × IsMarked scan change earlier planned.st planned.done) }
+    ensures change { IfOk result (λ marked_change. marked_change.change ≡ change) }
+    ensures said { IfOk result (MarksNext gone.old come.old gone.new come.new change) }
 {
     let (st, done) = match &change {
         Change::Deletion { path } => gone.look(alloc, path)?,
         Change::Addition { path, .. } => come.look(alloc, path)?,
         Change::Modification { .. } => (false, None),
     };
-    Ok(Planned { change, st, done })
+    Ok(MarkedChange { change, st, done })
 }
 
 /// The changes of a scan, the oldest first, with what their events say of subtree updates.
-pub(crate) fn planned_all(alloc: Global, changes: Vec<Change>) -> Result<Vec<Planned>, Mem>
+pub(crate) fn mark_all(alloc: Global, changes: Vec<Change>) -> Result<Vec<MarkedChange>, Mem>
     requires { IsOrderly (reverse changes.items) }
     ensures changes { IfOk result (λ plan. changes_in (reverse plan.items) ≡ reverse changes.items) }
     ensures marked { IfOk result (λ plan. AreMarked (reverse changes.items) (reverse plan.items) []) }
 {
-    let mut gone = Kin::new(alloc, Kind::Deleted, changes.as_slice())?;
-    let mut come = Kin::new(alloc, Kind::Added, changes.as_slice())?;
+    let mut gone = SubtreeIndex::new(alloc, Kind::Deleted, changes.as_slice())?;
+    let mut come = SubtreeIndex::new(alloc, Kind::Added, changes.as_slice())?;
     let mut left = changes;
     let mut plan = Vec::new(alloc);
     while let Some(change) = left.pop() {
-        let planned = look_at(alloc, &mut gone, &mut come, change)?;
-        plan.push(planned)?;
+        let marked_change = look_at(alloc, &mut gone, &mut come, change)?;
+        plan.push(marked_change)?;
     }
     plan.reverse();
     Ok(plan)

@@ -1,4 +1,4 @@
-use crate::{ApplyError, Span, Store};
+use crate::{ApplyError, Keeping, PlainStore, Span, Store};
 use cds_base::Text;
 use cds_object::{Content, Path, Record, Records, TrackContent};
 use std::alloc::Global;
@@ -53,7 +53,11 @@ fn answer_text(alloc: Global, answer: Result<Span, ApplyError>) -> Result<String
 }
 
 /// What a scan is answered; one of too many records, which no test has, is not tried.
-pub(crate) fn scan_text(alloc: Global, store: &mut Store, scan: &str) -> Result<String, Fail> {
+pub(crate) fn scan_text<K: Keeping>(
+    alloc: Global,
+    store: &mut K,
+    scan: &str,
+) -> Result<String, Fail> {
     let records = records_of(alloc, scan)?;
     if records.len() > 100 {
         return Ok(String::new(alloc));
@@ -63,7 +67,7 @@ pub(crate) fn scan_text(alloc: Global, store: &mut Store, scan: &str) -> Result<
 }
 
 /// Each row as `id<parent@objectUpdateID`, a folder's with `[containerUpdateID children deleted]`.
-fn rows_text(alloc: Global, store: &Store) -> Result<String, Fail> {
+fn rows_text<K: Keeping>(alloc: Global, store: &K) -> Result<String, Fail> {
     let mut text = String::new(alloc);
     for at in 0..store.len() {
         let Some(row) = store.row(at) else {
@@ -94,24 +98,26 @@ struct Case {
     rows: &'static str,
 }
 
-/// What the scans were answered, and the rows after them.
-fn outcome(alloc: Global, first: u32, scans: &str) -> Result<(String, String), Fail> {
-    let mut store = Store::new(alloc, first)?;
+/// Whether the scans of a case are answered so, and the rows are these after them.
+fn plays<K: Keeping>(alloc: Global, store: &mut K, case: &Case) -> Result<bool, Fail> {
     let mut answers = String::new(alloc);
-    for scan in scans.split("|") {
-        let answer = scan_text(alloc, &mut store, scan)?;
+    for scan in case.scans.split("|") {
+        let answer = scan_text(alloc, store, scan)?;
         answers.push_str(answer.as_str())?;
     }
-    Ok((answers, rows_text(alloc, &store)?))
-}
-
-/// Whether the scans of a case are answered so, and the rows are these after them.
-fn is_so(alloc: Global, case: &Case) -> Result<bool, Fail> {
-    let (answers, rows) = outcome(alloc, case.first, case.scans)?;
+    let rows = rows_text(alloc, store)?;
     Ok(answers.as_str() == case.answers && rows.as_str() == case.rows)
 }
 
-/// Scans from an empty library on, and scans that are refused.
+/// Whether both bodies play a case.
+fn is_so(alloc: Global, case: &Case) -> Result<bool, Fail> {
+    let mut plain = PlainStore::new(alloc, case.first)?;
+    let mut store = Store::new(alloc, case.first)?;
+    Ok(plays(alloc, &mut plain, case)? && plays(alloc, &mut store, case)?)
+}
+
+/// Scans from an empty library on, scans that are refused, scans that change what stands, and numbers that end, played by
+/// both bodies.
 #[test]
 fn scans(rt: HostRuntime) -> Result<(), Fail> {
     let alloc = rt.alloc();
@@ -134,18 +140,6 @@ fn scans(rt: HostRuntime) -> Result<(), Fail> {
             answers: "0-2 bad 1 bad 2 bad 3 bad 2 ",
             rows: "0<0@0[1 1 0] 1<0@1[2 1 0] 2<1@2 ",
         },
-    ];
-    for case in &cases {
-        assert!(rt; is_so(alloc, case)?, "{}", case.scans);
-    }
-    Ok(())
-}
-
-/// Scans that change what stands, and numbers that end.
-#[test]
-fn scans_that_change(rt: HostRuntime) -> Result<(), Fail> {
-    let alloc = rt.alloc();
-    let cases = [
         Case {
             first: 0,
             scans: "x=1 y=1 | x/ y=1",
@@ -170,6 +164,18 @@ fn scans_that_change(rt: HostRuntime) -> Result<(), Fail> {
             answers: "10-12 12-14 14-16 16-17 ",
             rows: "0<0@10[15 1 1] 3<0@15[17 1 0] 4<3@17 ",
         },
+        Case {
+            first: 0,
+            scans: "A/ A/B/ A/B/t=1 | A/",
+            answers: "0-3 3-5 ",
+            rows: "0<0@0[1 1 0] 1<0@1[5 0 1] ",
+        },
+        Case {
+            first: 0,
+            scans: "F/ F/a=1 | F/ | F/ F/a=1 F/b=1",
+            answers: "0-2 2-3 3-5 ",
+            rows: "0<0@0[1 1 0] 1<0@1[5 2 1] 3<1@4 4<1@5 ",
+        },
     ];
     for case in &cases {
         assert!(rt; is_so(alloc, case)?, "{}", case.scans);
@@ -178,9 +184,9 @@ fn scans_that_change(rt: HostRuntime) -> Result<(), Fail> {
 }
 
 /// The children of a container from a place on, at most so many, and how many there are.
-fn children_text(
+fn children_text<K: Keeping>(
     alloc: Global,
-    store: &Store,
+    store: &K,
     id: u32,
     start: u32,
     count: u32,
@@ -193,16 +199,11 @@ fn children_text(
     Ok(format!(in alloc; "{out:?} of {total}")?)
 }
 
-#[test]
-fn reads(rt: HostRuntime) -> Result<(), Fail> {
-    let alloc = rt.alloc();
-    let mut store = Store::new(alloc, 0)?;
-    let answer = scan_text(alloc, &mut store, "R/ R/a=1 R/b=2 S=3")?;
-    assert_eq!(rt; answer.as_str(), "0-4 ");
-    assert_eq!(rt; store.len(), 5);
-    assert_eq!(rt; store.system_update_id(), 4);
-    assert_eq!(rt; store.get(3).map(|row| row.id.0), Some(3));
-    assert!(rt; store.get(5).is_none());
+/// What is read of rows and children.
+fn reads_so<K: Keeping>(alloc: Global, store: &mut K) -> Result<bool, Fail> {
+    let answer = scan_text(alloc, store, "R/ R/a=1 R/b=2 S=3")?;
+    let mut good = answer.as_str() == "0-4 " && store.len() == 5 && store.system_update_id() == 4;
+    good = good && store.get(3).map(|row| row.id.0) == Some(3) && store.get(5).is_none();
     for (id, start, count, children) in [
         (0, 0, 10, "[1, 4] of 2"),
         (1, 1, 1, "[3] of 2"),
@@ -210,9 +211,19 @@ fn reads(rt: HostRuntime) -> Result<(), Fail> {
         (1, 2, 1, "[] of 2"),
         (2, 0, 1, "no container"),
     ] {
-        let text = children_text(alloc, &store, id, start, count)?;
-        assert_eq!(rt; text.as_str(), children);
+        let text = children_text(alloc, store, id, start, count)?;
+        good = good && text.as_str() == children;
     }
+    Ok(good)
+}
+
+#[test]
+fn reads(rt: HostRuntime) -> Result<(), Fail> {
+    let alloc = rt.alloc();
+    let mut plain = PlainStore::new(alloc, 0)?;
+    assert!(rt; reads_so(alloc, &mut plain)?);
+    let mut store = Store::new(alloc, 0)?;
+    assert!(rt; reads_so(alloc, &mut store)?);
     Ok(())
 }
 

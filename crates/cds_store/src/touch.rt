@@ -34,7 +34,7 @@ fn tracked(trackers: Trackers, event: ChildEvent, number: u32) -> Trackers
     }
 }
 
-fn touch_row(row: &mut Row, event: ChildEvent, number: u32)
+pub(crate) fn touch_row(row: &mut Row, event: ChildEvent, number: u32)
     requires { HasRoom row.old }
     ensures { row.new ≡ child_event event number row.old }
 {

@@ -1,6 +1,6 @@
 -- One block more, until the last.
 use Rattle.std.proofs.Common.{◌≡◌, ℕ, ◌+◌, ◌-◌, ◌<◌, ◌≤◌, List, Option, refl, ap, ◌∙◌, arith}
-use Rattle.cds_flac.specs.declared.info.Comment.{Comment}
+use Rattle.cds_object.specs.declared.info.Comment.{Comment}
 use Rattle.cds_flac.specs.Reading.{blocks_from, most_blocks}
 use Rattle.cds_flac.proofs.Walks.{walk-no_header, walk-no_body, walk-last, walk-more}
 use Rattle.cds_flac.proofs.Steps.{judged-same, agrees-exit}

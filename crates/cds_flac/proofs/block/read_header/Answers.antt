@@ -28,8 +28,8 @@ returns-in_err-length-clause-told g c = λ bytes told.
     ∙ header-allowed c.args.at c.in_ok-head.head head.0 (λ e. c.if-kind-eq-FORBIDDEN.false (c.kind_of_head-kind.ensures.value ∙ e)))
     (judged-after (big_number (c.args.at + 1) 3 head.0) _ _ (c.in_err-length.ensures.told head.0 head.2)))
 
-pub returns-then-at-length-gt-METADATA_LIMIT-clause-told : goal.returns-then-at-length-gt-METADATA_LIMIT-clause-told
-returns-then-at-length-gt-METADATA_LIMIT-clause-told g c = λ bytes told.
+pub returns-then-at-length-gt-INPUT_LIMIT-clause-told : goal.returns-then-at-length-gt-INPUT_LIMIT-clause-told
+returns-then-at-length-gt-INPUT_LIMIT-clause-told g c = λ bytes told.
     let head = c.in_ok-head.ensures.told bytes told in
     let length = c.in_ok-length.ensures.told head.0 head.2 in
     header-behind c.args.at bytes head.0 c.in_ok-head.head head.1

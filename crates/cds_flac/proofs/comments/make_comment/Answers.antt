@@ -1,6 +1,6 @@
 -- The tests on the name and the value decide.
 use Rattle.std.proofs.Common.{◌≡◌, List, ℕ, Some, ap, sym, ◌∙◌}
-use Rattle.cds_flac.specs.declared.info.Comment.{Comment}
+use Rattle.cds_object.specs.declared.info.Comment.{Comment}
 use Rattle.cds_flac.proofs.Names.{named-made, named-no_text, name-is_text}
 use Rattle.cds_flac.proofs.comments.make_comment.Goals as goal
 

@@ -1,6 +1,6 @@
 -- One comment more, or the refusal of its text.
 use Rattle.std.proofs.Common.{◌≡◌, ℕ, suc, ◌+◌, ◌-◌, ◌<◌, List, sym, ap, ◌∙◌, arith}
-use Rattle.cds_flac.specs.declared.info.Comment.{Comment}
+use Rattle.cds_object.specs.declared.info.Comment.{Comment}
 use Rattle.cds_flac.specs.Comment.{comment_of}
 use Rattle.cds_flac.specs.Reading.{comments_from, text_at}
 use Rattle.cds_flac.proofs.Fronts.{with_front, front-stops, front-refused, front-more}

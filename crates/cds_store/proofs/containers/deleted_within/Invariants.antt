@@ -1,6 +1,6 @@
 use Rattle.std.proofs.Common.{◌≡◌, ℕ, drop, nat_cmp}
 use Rattle.std.specs.BTreeSet.{contains}
-use Rattle.cds_changes.specs.Noted.{was_deleted_after, was_deleted_in}
+use Rattle.cds_changes.specs.EventsWithParents.{was_deleted_after, was_deleted_in}
 use Rattle.cds_store.proofs.containers.deleted_within.Given as goal
 
 abbrev pub invariant-loop-item : goal.invariant-loop-item

@@ -1,6 +1,6 @@
 use Rattle.std.proofs.Common.{◌≡◌, ℕ, drop, nat_cmp}
 use Rattle.std.specs.BTreeMap.{get}
-use Rattle.cds_changes.specs.Noted.{last_touch_after, last_touch_in}
+use Rattle.cds_changes.specs.EventsWithParents.{last_touch_after, last_touch_in}
 use Rattle.cds_store.proofs.containers.touched_within.Given as goal
 
 abbrev pub invariant-loop-item : goal.invariant-loop-item

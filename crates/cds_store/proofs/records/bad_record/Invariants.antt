@@ -3,8 +3,8 @@ use Rattle.std.specs.List.{list_any}
 use Rattle.std.specs.BTreeSet.{contains}
 use Rattle.cds_object.specs.Path.{path_cmp}
 use Rattle.cds_catalog.specs.Scans.{bad_from, bad_record}
-use Rattle.cds_store.specs.Records.{stands_at}
 use Rattle.cds_store.proofs.records.bad_record.Given as goal
+use Rattle.cds_store.proofs.Bad.{stands_at}
 
 abbrev pub invariant-loop-at : goal.invariant-loop-at
 invariant-loop-at l = record {

@@ -2,7 +2,7 @@ use Rattle.std.proofs.Common.{◌≡◌, ℕ, List, take}
 use Rattle.std.specs.BTreeSet.{contains}
 use Rattle.cds_object.specs.Path.{path_cmp, same_path, parent_of}
 use Rattle.cds_changes.specs.Subtrees.{some_of}
-use Rattle.cds_store.specs.Kin.{is_kind}
+use Rattle.cds_store.specs.SubtreeIndex.{is_kind}
 use Rattle.cds_store.proofs.subtrees.folders_of.Given as goal
 
 abbrev pub invariant-loop-change : goal.invariant-loop-change

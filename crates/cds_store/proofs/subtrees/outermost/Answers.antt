@@ -3,7 +3,7 @@ use Rattle.std.specs.BTreeSet.{contains}
 use Rattle.cds_object.specs.Path.{path_cmp, parent_of}
 use Rattle.cds_changes.specs.Subtrees.{is_over}
 use Rattle.cds_changes.proofs.Places.{over-itself}
-use Rattle.cds_store.proofs.Kin.{over-up, parent-named, shorter}
+use Rattle.cds_store.proofs.SubtreeIndex.{over-up, parent-named, shorter}
 use Rattle.cds_store.proofs.subtrees.outermost.Goals as goal
 
 pub loop-alloc-init : goal.loop-alloc-init

@@ -2,9 +2,9 @@ use Rattle.std.proofs.Common.{◌∙◌, ◌||◌, ap, sym}
 use Rattle.std.specs.BTreeSet.{BTreeSet, contains}
 use Rattle.cds_object.specs.Path.{path_cmp, same_path}
 use Rattle.cds_object.specs.declared.path.Path.{Path}
-use Rattle.cds_store.specs.Kin.{is_kind}
+use Rattle.cds_store.specs.SubtreeIndex.{is_kind}
 use Rattle.cds_store.proofs.Bad.{put_in}
-use Rattle.cds_store.proofs.Kin.{place-seen, other-seen}
+use Rattle.cds_store.proofs.SubtreeIndex.{place-seen, other-seen}
 use Rattle.cds_store.proofs.subtrees.places_of.Goals as goal
 use Rattle.cds_store.proofs.subtrees.places_of.Goals.{then-is_of+in_ok-place+in_ok-insert, else-is_of}
 

@@ -1,6 +1,6 @@
 use Rattle.std.proofs.Common.{◌≤◌, sym, subst}
 use Rattle.cds_store.specs.Stands.{Stored, StandsFor}
-use Rattle.cds_store.proofs.Keeping.{forgets}
+use Rattle.cds_store.proofs.KeptEvents.{forgets}
 use Rattle.cds_store.proofs.store.Store.forget.Goals as goal
 
 pub invariant_of-self : goal.invariant_of-self
@@ -8,10 +8,13 @@ invariant_of-self c =
     let before : Stored = record { standing = c.self.inside.catalog; forgotten = c.self.inside.forgotten; kept = c.self.inside.kept.items } in
     let most : c.args.to ≤ before.standing.number = subst (λ (s : Stored). c.args.to ≤ s.standing.number) (sym c.self.view_is) c.requires in
     record {
-      history = c.self.invariant.history;
-      stands = forgets before c.self.invariant.history c.args.to c.max-self-inside.result c.retain_after.new.kept.items c.self.invariant.stands most
-          c.max-self-inside.ensures c.retain_after.ensures;
-      few = c.self.invariant.few;
+      store = record {
+        history = c.self.invariant.store.history;
+        stands = forgets before c.self.invariant.store.history c.args.to c.max-self-inside.result c.retain_after.new.kept.items c.self.invariant.store.stands most
+            c.max-self-inside.ensures c.retain_after.ensures;
+        few = c.self.invariant.store.few;
+      };
+      children = c.self.invariant.children;
     }
 
 pub returns-clause-stands : goal.returns-clause-stands

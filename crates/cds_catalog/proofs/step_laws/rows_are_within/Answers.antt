@@ -1,5 +1,0 @@
-use Rattle.cds_catalog.proofs.StepsWithin.{rows_are_within-proof}
-use Rattle.cds_catalog.proofs.step_laws.rows_are_within.Goals as goal
-
-pub returns : goal.returns
-returns c = rows_are_within-proof

@@ -1,5 +1,0 @@
-use Rattle.cds_catalog.proofs.StepsCatalog.{steps_lead_to_the_catalog-proof}
-use Rattle.cds_catalog.proofs.step_laws.steps_lead_to_the_catalog.Goals as goal
-
-pub returns : goal.returns
-returns c = steps_lead_to_the_catalog-proof

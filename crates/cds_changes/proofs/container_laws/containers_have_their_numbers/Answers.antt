@@ -1,5 +1,0 @@
-use Rattle.cds_changes.proofs.ContainerNumbers.{containers-numbered}
-use Rattle.cds_changes.proofs.container_laws.containers_have_their_numbers.Goals as goal
-
-pub returns : goal.returns
-returns c = containers-numbered

@@ -1,0 +1,8 @@
+use cds_event::Event;
+
+/// An event with the id of the parent that its change names; that a subtree update is done names none.
+#[derive(Clone, Copy, Debug, PartialEq, Eq)]
+pub struct EventWithParent {
+    pub event: Event,
+    pub parent: Option<u32>,
+}

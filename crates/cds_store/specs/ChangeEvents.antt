@@ -1,0 +1,36 @@
+-- The events of a scan's changes, by the rows that stand before each.
+use Rattle.std.specs.Prelude.{◌+◌, ℕ, Bool, List, [], ◌∷◌, ◌++◌, map, Option, Some, None}
+use Rattle.cds_object.specs.Path.{parent_of}
+use Rattle.cds_event.specs.declared.Event.{Event}
+use Rattle.cds_event.specs.declared.Event.TheVariants.{ObjAdd, ObjMod, ObjDel, StDone}
+use Rattle.cds_catalog.specs.History.{place_of}
+use Rattle.cds_catalog.specs.Steps.{Standing, id_at, stepped}
+use Rattle.cds_catalog.specs.declared.change.Change.{Change}
+use Rattle.cds_catalog.specs.declared.change.Change.TheVariants.{Deletion, Addition, Modification}
+use Rattle.cds_changes.specs.declared.event_with_parent.EventWithParent.{EventWithParent}
+use Rattle.cds_store.specs.declared.subtrees.MarkedChange.{MarkedChange}
+use Rattle.cds_event.specs.Events.{class_of}
+
+-- the changes of a plan
+abbrev pub changes_in : List MarkedChange → List Change
+changes_in plan = map (λ (p : MarkedChange). p.change) plan
+
+-- the event of a change that comes next
+abbrev pub event_by : Standing → Change → Bool → Event
+event_by s (Deletion path) st = ObjDel (id_at path s.rows) (s.number + 1) st
+event_by s (Addition path content) st = ObjAdd (s.drawn + 1) (s.number + 1) st (id_at (parent_of path) s.rows) (class_of content)
+event_by s (Modification path content) st = ObjMod (id_at path s.rows) (s.number + 1) st
+
+-- that the subtree update of a head is done with it
+abbrev pub done_by : Standing → Option (List (List ℕ)) → List EventWithParent
+done_by s None = []
+done_by s (Some head) = record { event = StDone (id_at head s.rows) (s.number + 1); parent = None } ∷ []
+
+-- the events of a change that comes next
+abbrev pub events_by : Standing → MarkedChange → List EventWithParent
+events_by s p = record { event = event_by s p.change p.st; parent = Some (id_at (parent_of (place_of p.change)) s.rows) } ∷ done_by s p.done
+
+-- those of changes that come one after the other, the newest of which is the first in the list
+abbrev pub all_events_by : Standing → List MarkedChange → List EventWithParent
+all_events_by s [] = []
+all_events_by s (p ∷ older) = all_events_by s older ++ events_by (stepped s (changes_in older)) p

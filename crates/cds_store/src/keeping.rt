@@ -1,0 +1,233 @@
+//! What a server asks of whatever keeps its catalog: one contract, under which one body can stand in place of another.
+
+ghost use Rattle.std.specs.Prelude.{◌≡◌, ◌≤◌, ◌<◌, ◌^◌, true, length, max, option_copied, slice_get, take, drop, IfOk, OnErr};
+ghost use Rattle.cds_object.specs.Tree.{row_of, children_of, is_container_row};
+ghost use Rattle.cds_catalog.specs.History.{History};
+ghost use Rattle.cds_store.specs.Rows.{rows_of, AddsPage};
+ghost use Rattle.cds_store.specs.Stands.{StandsFor, IsStore, AddsChanges, AddsContainers};
+ghost use Rattle.cds_store.specs.Applied.{Applied};
+
+use crate::{ApplyError, PlainStore, Span, Store};
+use cds_base::Mem;
+use cds_event::Events;
+use cds_object::{Records, Row};
+use std::alloc::Global;
+
+/// A catalog that is kept from scan to scan, with the changes that are not forgotten. What is kept now stands for a history of
+/// scans, and what stands for a history before a scan stands for the history with it afterwards.
+pub trait Keeping {
+    ghost use Rattle.cds_store.specs.Stands.{Stored};
+
+    // What stands now, and the changes that are kept.
+    ghost stored: { Self → Stored };
+
+    /// Takes what a scan found as the whole library, and answers the numbers of the changes. Deletions come first, in
+    /// descending order of places, then additions and modifications in ascending order. A refusal, or want of memory,
+    /// leaves all as it was.
+    fn apply(&mut self, alloc: Global, records: &Records) -> Result<Span, ApplyError>
+        requires { length records.now < 2 ^ 32 }
+        ensures { (history : History) → StandsFor (stored self.old) history → Applied history records.now result (stored self.old) (stored self.new) };
+
+    /// The row of an object, `None` where no object has the id.
+    fn get(&self, id: u32) -> Option<&Row>
+        ensures { option_copied result ≡ row_of id (rows_of (stored self.now).standing.rows) };
+
+    /// The row at a place, counted from 0 in ascending order of ids.
+    fn row(&self, at: usize) -> Option<&Row>
+        ensures { option_copied result ≡ slice_get (rows_of (stored self.now).standing.rows) at };
+
+    /// Whether an object is a container.
+    fn is_container(&self, id: u32) -> bool
+        ensures { result ≡ is_container_row (row_of id (rows_of (stored self.now).standing.rows)) };
+
+    /// How many rows there are, the root's with them.
+    fn len(&self) -> usize
+        ensures exact { result ≡ length (stored self.now).standing.rows }
+        ensures few { length (stored self.now).standing.rows ≤ 65536 };
+
+    /// Adds the ids of a container's children to `out`, in ascending order: at most `count` from the place `start` on,
+    /// counted from 0. Answers how many children there are.
+    fn children(
+        &self,
+        alloc: Global,
+        id: u32,
+        start: u32,
+        count: u32,
+        out: &mut Vec<u32>,
+    ) -> Result<u32, Mem>
+        requires { is_container_row (row_of id (rows_of (stored self.now).standing.rows)) ≡ true }
+        ensures total { IfOk result (λ total. total ≡ length (children_of id (rows_of (stored self.now).standing.rows))) }
+        ensures page { IfOk result (λ _. AddsPage id start count (stored self.now).standing.rows out.old.items out.new.items) }
+        ensures kept { OnErr result (out.new.items ≡ out.old.items) };
+
+    /// The number of the newest change, or the first number (UPnP ContentDirectory:4 on SystemUpdateID).
+    fn system_update_id(&self) -> u32
+        ensures { result ≡ (stored self.now).standing.number };
+
+    /// The number up to which changes are forgotten, at first the first number.
+    fn forgotten(&self) -> u32
+        ensures { result ≡ (stored self.now).forgotten };
+
+    /// Adds the events of the changes of a span to `out` (UPnP ContentDirectory:4 on LastChange): those above `from`, up
+    /// to `to`. Want of memory leaves `out` as it was.
+    fn changes_after(&self, alloc: Global, span: Span, out: &mut Events) -> Result<(), Mem>
+        requires { (stored self.now).forgotten ≤ span.from }
+        ensures told { IfOk result (λ _. AddsChanges (stored self.now) span out.old out.new) }
+        ensures kept { OnErr result (out.new ≡ out.old) };
+
+    /// Adds the containers of a span to `out` (UPnP ContentDirectory:4 on ContainerUpdateIDs), in ascending order of
+    /// ids: each that a change above `from`, up to `to`, adds or names as parent and that none of them deletes, with
+    /// the last such number. Want of memory leaves `out` as it was.
+    fn containers_after(
+        &self,
+        alloc: Global,
+        span: Span,
+        out: &mut Vec<(u32, u32)>,
+    ) -> Result<(), Mem>
+        requires { (stored self.now).forgotten ≤ span.from }
+        ensures told { IfOk result (λ _. AddsContainers (stored self.now) span out.old.items out.new.items) }
+        ensures kept { OnErr result (out.new.items ≡ out.old.items) };
+
+    /// Forgets the changes up to `to`, which is a number that was reached. Rows stay, and no memory is taken.
+    fn forget(&mut self, to: u32)
+        requires { to ≤ (stored self.old).standing.number }
+        ensures forgotten { (stored self.new).forgotten ≡ max (stored self.old).forgotten to }
+        ensures stays { (stored self.new).standing ≡ (stored self.old).standing }
+        ensures stands { (history : History) → StandsFor (stored self.old) history → StandsFor (stored self.new) history };
+
+    /// What holds of whatever is kept, which this makes known where a proof needs it.
+    fn facts(&self)
+        ensures { IsStore (stored self.now) };
+}
+
+impl Keeping for PlainStore {
+    ghost use Rattle.cds_store.specs.Stands.{Stored};
+
+    ghost stored = { λ (s : Stored). s };
+
+    fn apply(&mut self, alloc: Global, records: &Records) -> Result<Span, ApplyError> {
+        PlainStore::apply(self, alloc, records)
+    }
+
+    fn get(&self, id: u32) -> Option<&Row> {
+        PlainStore::get(self, id)
+    }
+
+    fn row(&self, at: usize) -> Option<&Row> {
+        PlainStore::row(self, at)
+    }
+
+    fn is_container(&self, id: u32) -> bool {
+        PlainStore::is_container(self, id)
+    }
+
+    fn len(&self) -> usize {
+        PlainStore::len(self)
+    }
+
+    fn children(
+        &self,
+        alloc: Global,
+        id: u32,
+        start: u32,
+        count: u32,
+        out: &mut Vec<u32>,
+    ) -> Result<u32, Mem> {
+        PlainStore::children(self, alloc, id, start, count, out)
+    }
+
+    fn system_update_id(&self) -> u32 {
+        PlainStore::system_update_id(self)
+    }
+
+    fn forgotten(&self) -> u32 {
+        PlainStore::forgotten(self)
+    }
+
+    fn changes_after(&self, alloc: Global, span: Span, out: &mut Events) -> Result<(), Mem> {
+        PlainStore::changes_after(self, alloc, span, out)
+    }
+
+    fn containers_after(
+        &self,
+        alloc: Global,
+        span: Span,
+        out: &mut Vec<(u32, u32)>,
+    ) -> Result<(), Mem> {
+        PlainStore::containers_after(self, alloc, span, out)
+    }
+
+    fn forget(&mut self, to: u32) {
+        PlainStore::forget(self, to)
+    }
+
+    fn facts(&self) {
+        PlainStore::facts(self)
+    }
+}
+
+impl Keeping for Store {
+    ghost use Rattle.cds_store.specs.Stands.{Stored};
+
+    ghost stored = { λ (s : Stored). s };
+
+    fn apply(&mut self, alloc: Global, records: &Records) -> Result<Span, ApplyError> {
+        Store::apply(self, alloc, records)
+    }
+
+    fn get(&self, id: u32) -> Option<&Row> {
+        Store::get(self, id)
+    }
+
+    fn row(&self, at: usize) -> Option<&Row> {
+        Store::row(self, at)
+    }
+
+    fn is_container(&self, id: u32) -> bool {
+        Store::is_container(self, id)
+    }
+
+    fn len(&self) -> usize {
+        Store::len(self)
+    }
+
+    fn children(
+        &self,
+        alloc: Global,
+        id: u32,
+        start: u32,
+        count: u32,
+        out: &mut Vec<u32>,
+    ) -> Result<u32, Mem> {
+        Store::children(self, alloc, id, start, count, out)
+    }
+
+    fn system_update_id(&self) -> u32 {
+        Store::system_update_id(self)
+    }
+
+    fn forgotten(&self) -> u32 {
+        Store::forgotten(self)
+    }
+
+    fn changes_after(&self, alloc: Global, span: Span, out: &mut Events) -> Result<(), Mem> {
+        Store::changes_after(self, alloc, span, out)
+    }
+
+    fn containers_after(
+        &self,
+        alloc: Global,
+        span: Span,
+        out: &mut Vec<(u32, u32)>,
+    ) -> Result<(), Mem> {
+        Store::containers_after(self, alloc, span, out)
+    }
+
+    fn forget(&mut self, to: u32) {
+        Store::forget(self, to)
+    }
+
+    fn facts(&self) {
+        Store::facts(self)
+    }
+}

@@ -1,0 +1,71 @@
+//! The children of each object, found by halving (UPnP ContentDirectory:4 on browsing direct children).
+
+ghost use Rattle.std.specs.Prelude.{◌≡◌, filter, map, take, drop, IfOk};
+ghost use Rattle.std.specs.List.{filter_map};
+ghost use Rattle.cds_store.specs.Offspring.{AreChildren, Rises, of_parent, child_of, ids_in};
+
+use crate::placed::Placed;
+use cds_base::Mem;
+use std::alloc::Global;
+
+/// An object under its parent.
+#[derive(Clone, Copy, Debug, PartialEq, Eq)]
+pub(crate) struct Child {
+    pub(crate) parent: u32,
+    pub(crate) id: u32,
+}
+
+/// All objects but the root, each under its parent: those of one parent stand together, in ascending order of ids.
+pub(crate) fn offspring_of(alloc: Global, rows: &[Placed]) -> Result<Vec<Child>, Mem>
+    ensures { IfOk result (λ offspring. AreChildren rows.now offspring.items) }
+{
+    let mut offspring = children_among(alloc, rows)?;
+    offspring.sort_by_key(|child| child.parent)?;
+    Ok(offspring)
+}
+
+/// The objects of rows that have a parent, in the order of the rows.
+fn children_among(alloc: Global, rows: &[Placed]) -> Result<Vec<Child>, Mem>
+    ensures { IfOk result (λ children. children.items ≡ filter_map child_of rows.now) }
+{
+    let mut children = Vec::new(alloc);
+    for placed in rows {
+        if let Some(parent) = placed.row.parent {
+            let id = placed.id();
+            children.push(Child {
+                parent: parent.0,
+                id,
+            })?;
+        }
+    }
+    Ok(children)
+}
+
+/// The children of an object, where those of one parent stand together.
+pub(crate) fn children_in(offspring: &[Child], parent: u32) -> &[Child]
+    requires { Rises offspring.now }
+    ensures { result.now ≡ filter (of_parent parent) offspring.now }
+{
+    let first = offspring.partition_point(|child| child.parent < parent);
+    let (_, rest) = offspring.split_at(first);
+    let count = rest.partition_point(|child| child.parent <= parent);
+    let (found, _) = rest.split_at(count);
+    found
+}
+
+/// At most `count` of the children from the place `start` on.
+pub(crate) fn page_of(children: &[Child], start: u32, count: u32) -> &[Child]
+    ensures { result.now ≡ take count (drop start children.now) }
+{
+    let (_, rest) = children.split_at(children.len().min(start as usize));
+    let (page, _) = rest.split_at(rest.len().min(count as usize));
+    page
+}
+
+/// Their ids.
+pub(crate) fn ids_of(alloc: Global, children: &[Child]) -> Result<Vec<u32>, Mem>
+    ensures { IfOk result (λ ids. ids.items ≡ ids_in children.now) }
+{
+    let ids = children.iter().map(|child| child.id).collect(alloc)?;
+    Ok(ids)
+}
