@@ -1,16 +1,16 @@
 #!/usr/bin/env bash
-# Runs the program, and builds it first where none is built: only a proved program is built, so the first build proves
-# every crate and takes its minutes.
+# Runs the program where it is built, which it is once it is proved. Where it is not, runs the same sources unproved, and
+# says so. `./cds --prove` proves every crate and builds it, which takes its minutes.
 set -u
 top=$(cd "$(dirname "$0")" && pwd)
-program=$top/crates/cds_cli/out/cds_cli
-if [ ! -x "$program" ]; then
-  echo "cds: no program is built yet; proving and building it takes some minutes" >&2
-  if ! (cd "$top/crates/cds_cli" && rt run -- --version) >/dev/null 2>"$top/crates/cds_cli/out.log"; then
-    cat "$top/crates/cds_cli/out.log" >&2
-    rm -f "$top/crates/cds_cli/out.log"
-    exit 70
-  fi
-  rm -f "$top/crates/cds_cli/out.log"
+crate=$top/crates/cds_cli
+program=$crate/out/cds_cli
+
+if [ $# -eq 1 ] && [ "$1" = --prove ]; then
+  cd "$crate" && exec rt run -- --version
 fi
-exec "$program" "$@"
+if [ -x "$program" ]; then
+  exec "$program" "$@"
+fi
+echo "cds: running the sources unproved, by rt try; './cds --prove' proves and builds the program, which takes some minutes" >&2
+cd "$crate" && exec rt try -- "$@"

@@ -4,11 +4,11 @@ use Rattle.std.proofs.lemmas.List.{take-append-drop, append-nil}
 use Rattle.std.proofs.Math.Seq.{drop-nil}
 use Rattle.std.proofs.lemmas.Option.{same_Some}
 use Rattle.cds_base.specs.Outside.{raised}
-use Rattle.cds_markup.specs.Document.{most_bytes}
+use Rattle.cds_base.specs.declared.limits.TheConstants.{INPUT_LIMIT}
 use Rattle.cds_lastchange.specs.declared.error.StateError.{StateError}
 use Rattle.cds_lastchange.specs.declared.error.StateError.TheVariants.{Bad, NotStateEvent, TooLong, Failed, Mem}
 use Rattle.cds_event.specs.declared.Event.{Event}
-use Rattle.cds_model.specs.Report.{Ending}
+use Rattle.cds_script.specs.Report.{Ending}
 use Rattle.cds_markup.specs.Pieces.{IsRefusal}
 use Rattle.cds_lastchange.specs.Feeding.{Fed, Finished}
 use Rattle.cds_lastchange.specs.Refusal.{Decides}
@@ -52,7 +52,7 @@ raised-twice moved one two = twice moved one two (2 ^ 64 - 1)
 pub record SoFar (left : ℕ) (reader : Option (List ℕ)) : Type 0 where
   pub bytes : List ℕ
   pub is : reader ≡ Some bytes
-  pub within : length bytes + left ≡ most_bytes
+  pub within : length bytes + left ≡ INPUT_LIMIT
 
 -- what it was fed, and what the source still has, are all that the source had
 pub record Coming (reader left : Option (List ℕ)) (given : List ℕ) : Type 0 where
@@ -91,22 +91,22 @@ on-limit Limit P Q f h = f h
 on-limit ReadFault P Q f h = tt
 on-limit OutOfMemory P Q f h = tt
 
-pub moved-past : (old by now : ℕ) → 67108865 ≤ by → now ≡ raised old by → raised old 67108865 ≤ now
+pub moved-past : (old by now : ℕ) → (INPUT_LIMIT + 1) ≤ by → now ≡ raised old by → raised old (INPUT_LIMIT + 1) ≤ now
 moved-past old by now more is = past old by now (2 ^ 64 - 1) more is
   where
-    past : (old by now top : ℕ) → 67108865 ≤ by → now ≡ min (old + by) top → min (old + 67108865) top ≤ now
+    past : (old by now top : ℕ) → (INPUT_LIMIT + 1) ≤ by → now ≡ min (old + by) top → min (old + (INPUT_LIMIT + 1)) top ≤ now
     past old by now top more is = omega (arith, more, is)
 
-pub piece-past : (bytes piece : List ℕ) (left n : ℕ) → length bytes + left ≡ most_bytes → length piece ≡ n → most_bytes < length (bytes ++ piece) → 67108865 ≤ (most_bytes - left) + n
+pub piece-past : (bytes piece : List ℕ) (left n : ℕ) → length bytes + left ≡ INPUT_LIMIT → length piece ≡ n → INPUT_LIMIT < length (bytes ++ piece) → (INPUT_LIMIT + 1) ≤ (INPUT_LIMIT - left) + n
 piece-past bytes piece left n within size more = omega (arith, length-append bytes piece, within, size, more)
 
-pub piece-within : (bytes piece : List ℕ) (left n : ℕ) → length bytes + left ≡ most_bytes → length piece ≡ n → length (bytes ++ piece) ≤ most_bytes → n ≤ left
+pub piece-within : (bytes piece : List ℕ) (left n : ℕ) → length bytes + left ≡ INPUT_LIMIT → length piece ≡ n → length (bytes ++ piece) ≤ INPUT_LIMIT → n ≤ left
 piece-within bytes piece left n within size few = omega (arith, length-append bytes piece, within, size, few)
 
 pub fed-on : (left n : ℕ) (reader after : Option (List ℕ)) (piece : List ℕ) (f : SoFar left reader) → length piece ≡ n → n ≤ left → after ≡ Some (f.bytes ++ piece) → SoFar (left - n) after
 fed-on left n reader after piece f size few is = record { bytes = f.bytes ++ piece; is = is; within = room f.bytes piece left n f.within size few }
   where
-    room : (bytes piece : List ℕ) (left n : ℕ) → length bytes + left ≡ most_bytes → length piece ≡ n → n ≤ left → length (bytes ++ piece) + (left - n) ≡ most_bytes
+    room : (bytes piece : List ℕ) (left n : ℕ) → length bytes + left ≡ INPUT_LIMIT → length piece ≡ n → n ≤ left → length (bytes ++ piece) + (left - n) ≡ INPUT_LIMIT
     room bytes piece left n within size few = omega (arith, length-append bytes piece, within, size, few)
 
 -- where the source has nothing more
@@ -150,39 +150,39 @@ any-limit TooLong P h = h
 any-limit Failed P h = tt
 any-limit Mem P h = tt
 
-long-cases : (bytes piece : List ℕ) (e : StateError) → (e ≡ Mem) ⊎ IsRefusal Decides Mem (bytes ++ piece) e → OnLimit (cause_of e) (most_bytes < length (bytes ++ piece))
-long-cases bytes piece e (inl memory) = subst (λ r. OnLimit (cause_of r) (most_bytes < length (bytes ++ piece))) (sym memory) tt
-long-cases bytes piece e (inr refusal) = any-limit e (most_bytes < length (bytes ++ piece)) refusal.over
+long-cases : (bytes piece : List ℕ) (e : StateError) → (e ≡ Mem) ⊎ IsRefusal Decides Mem (bytes ++ piece) e → OnLimit (cause_of e) (INPUT_LIMIT < length (bytes ++ piece))
+long-cases bytes piece e (inl memory) = subst (λ r. OnLimit (cause_of r) (INPUT_LIMIT < length (bytes ++ piece))) (sym memory) tt
+long-cases bytes piece e (inr refusal) = any-limit e (INPUT_LIMIT < length (bytes ++ piece)) refusal.over
 
 pub fed-long : (before : Option (List ℕ)) (piece : List ℕ) (e : StateError) (after : Option (List ℕ)) (cause : CheckError) (bytes : List ℕ) →
-    Fed before piece (Err e) after → cause ≡ cause_of e → before ≡ Some bytes → OnLimit cause (most_bytes < length (bytes ++ piece))
+    Fed before piece (Err e) after → cause ≡ cause_of e → before ≡ Some bytes → OnLimit cause (INPUT_LIMIT < length (bytes ++ piece))
 fed-long before piece e after cause bytes fed by is =
-    subst (λ c. OnLimit c (most_bytes < length (bytes ++ piece))) (sym by)
+    subst (λ c. OnLimit c (INPUT_LIMIT < length (bytes ++ piece))) (sym by)
     (long-cases bytes piece e (subst (λ b. Fed b piece (Err e) after) is fed).1)
 
 -- `finish` does not find too many
-few-bytes : (bytes : List ℕ) (e : StateError) (P : Type 0) → length bytes ≤ most_bytes → Decides bytes (Err e) → OnLimit (cause_of e) P
+few-bytes : (bytes : List ℕ) (e : StateError) (P : Type 0) → length bytes ≤ INPUT_LIMIT → Decides bytes (Err e) → OnLimit (cause_of e) P
 few-bytes bytes (Bad at) P short decides = tt
 few-bytes bytes (NotStateEvent at) P short decides = tt
 few-bytes bytes TooLong P short decides = absurd (more short decides.0.0.0)
   where
-    more : length bytes ≤ most_bytes → most_bytes < length bytes → ⊥
+    more : length bytes ≤ INPUT_LIMIT → INPUT_LIMIT < length bytes → ⊥
     more few many = omega (arith, few, many)
 few-bytes bytes Failed P short decides = tt
 few-bytes bytes Mem P short decides = tt
 
 pub finish-long : (reader : Option (List ℕ)) (result : Result (List Event) StateError) (e : StateError) (cause : CheckError) (P : Type 0) →
-    IsSome reader → ((bytes : List ℕ) → reader ≡ Some bytes → length bytes ≤ most_bytes) →
+    IsSome reader → ((bytes : List ℕ) → reader ≡ Some bytes → length bytes ≤ INPUT_LIMIT) →
     Finished reader result → result ≡ Err e → cause ≡ cause_of e → OnLimit cause P
 finish-long (Some bytes) result e cause P some short finishes is by =
     subst (λ c. OnLimit c P) (sym by) (few-bytes bytes e P (short bytes refl) (subst (λ r. Decides bytes r) is finishes))
 finish-long None result e cause P some short finishes is by = absurd (true≢false (sym some))
 
 -- what so far was fed is short
-pub so-far-short : (left : ℕ) (reader : Option (List ℕ)) (bytes : List ℕ) → SoFar left reader → reader ≡ Some bytes → length bytes ≤ most_bytes
-so-far-short left reader bytes f is = subst (λ b. length b ≤ most_bytes) (same_Some f.bytes bytes (sym f.is ∙ is)) (few f.bytes left f.within)
+pub so-far-short : (left : ℕ) (reader : Option (List ℕ)) (bytes : List ℕ) → SoFar left reader → reader ≡ Some bytes → length bytes ≤ INPUT_LIMIT
+so-far-short left reader bytes f is = subst (λ b. length b ≤ INPUT_LIMIT) (same_Some f.bytes bytes (sym f.is ∙ is)) (few f.bytes left f.within)
   where
-    few : (bytes : List ℕ) (left : ℕ) → length bytes + left ≡ most_bytes → length bytes ≤ most_bytes
+    few : (bytes : List ℕ) (left : ℕ) → length bytes + left ≡ INPUT_LIMIT → length bytes ≤ INPUT_LIMIT
     few bytes left within = omega (arith, within)
 
 pub ends-owed : (bytes : List ℕ) (ending : Ending) (status : ℕ) → IsOwed bytes ending → Ends status ending.status → EndsCheck bytes status

@@ -2,7 +2,7 @@
 use Rattle.std.specs.Prelude.{◌≡◌, ◌⊎◌, ℕ, List, ◌++◌, Option, Some, codes, ⊤}
 use Rattle.std.specs.Fmt.{decimal}
 use Rattle.cds_event.specs.declared.Event.{Event}
-use Rattle.cds_model.specs.Report.{Ending, limit_ending}
+use Rattle.cds_script.specs.Report.{Ending, limit_ending}
 use Rattle.cds_lastchange.specs.declared.error.StateError.{StateError}
 use Rattle.cds_lastchange.specs.declared.error.StateError.TheVariants.{Bad, NotStateEvent, TooLong, Failed, Mem as NoMemory}
 use Rattle.cds_lastchange.specs.Refusal.{IsRefused}

@@ -1,23 +1,19 @@
 //! A StateEvent from a source, and its one written form into a sink.
 
 ghost use Rattle.std.specs.Prelude.{◌≡◌, ◌≢◌, ◌⊎◌, ℕ, ◌+◌, ◌<◌, ◌≤◌, ◌++◌, [], Some, List, length, IfOk, IfErr, OnOk, OnErr, IsSome, string_bytes};
+ghost use Rattle.cds_base.specs.declared.limits.TheConstants.{INPUT_LIMIT};
 ghost use Rattle.cds_base.specs.Outside.{raised, Rose, WhereTold};
 ghost use Rattle.cds_event.specs.declared.Event.{Event};
 ghost use Rattle.cds_lastchange.specs.StateEvent.{IsStateEvent};
-ghost use Rattle.cds_markup.specs.Document.{most_bytes};
 ghost use Rattle.cds_lastchange.specs.declared.error.StateError.TheVariants.{Failed as IsFailed};
 ghost use Rattle.cds_cli.specs.Check.{EndsCheck, WritesCheck, IsCause, OnLimit, OnReadFault, cause_of, events_ending, refused_ending};
 ghost use Rattle.cds_cli.specs.Run.{Ends, Writes};
 
 use crate::written::write_text;
-use cds_base::{Failed, Mem, Sink, Source};
+use cds_base::{Failed, INPUT_LIMIT, Mem, Sink, Source, empty_piece, read_piece};
 use cds_lastchange::{Events, StateError, StateReader, write_state_event};
-use cds_replay::{empty_piece, read_piece};
 use std::alloc::Global;
 use std::convert::From;
-
-/// The most bytes that an input may have.
-const INPUT_LIMIT: usize = 67_108_864;
 
 /// Why no events were read.
 #[derive(Clone, Copy, Debug, PartialEq, Eq)]
@@ -49,9 +45,9 @@ pub fn check<S: Source, K: Sink>(alloc: Global, source: &mut S, sink: &mut K) ->
     ensures ends { WhereTold (S.left source.old) (λ bytes. EndsCheck bytes result) }
     ensures writes { WhereTold (S.left source.old) (λ bytes. WhereTold (K.holds sink.old) (λ before. WritesCheck bytes result before (K.holds sink.new))) }
     ensures whole { WhereTold (S.left source.old) (λ bytes. result ≡ 0 → S.left source.new ≡ Some []) }
-    ensures within { result ≡ 0 → S.moved source.new ≤ raised (S.moved source.old) 67108864 }
-    ensures taken { S.moved source.new ≤ S.moved source.old + 67108865 }
-    ensures long { result ≡ 6 → raised (S.moved source.old) 67108865 ≤ S.moved source.new }
+    ensures within { result ≡ 0 → S.moved source.new ≤ raised (S.moved source.old) INPUT_LIMIT }
+    ensures taken { S.moved source.new ≤ S.moved source.old + (INPUT_LIMIT + 1) }
+    ensures long { result ≡ 6 → raised (S.moved source.old) (INPUT_LIMIT + 1) ≤ S.moved source.new }
     ensures read_fault { result ≡ 2 → Rose (S.faults source.old) (S.faults source.new) }
     ensures write_fault { result ≡ 3 → Rose (K.faults sink.old) (K.faults sink.new) }
     ensures known { (result ≡ 0) ⊎ ((result ≡ 8) ⊎ ((result ≡ 6) ⊎ ((result ≡ 2) ⊎ ((result ≡ 3) ⊎ (result ≡ 4))))) }
@@ -70,9 +66,9 @@ fn read_events<S: Source>(alloc: Global, source: &mut S) -> Result<Events, Check
     ensures events { IfOk result (λ events. WhereTold (S.left source.old) (λ bytes. IsStateEvent bytes events)) }
     ensures cause { IfErr result (λ e. WhereTold (S.left source.old) (λ bytes. IsCause bytes e)) }
     ensures whole { OnOk result (WhereTold (S.left source.old) (λ bytes. S.left source.new ≡ Some [])) }
-    ensures within { OnOk result (S.moved source.new ≤ raised (S.moved source.old) 67108864) }
-    ensures taken { S.moved source.new ≤ S.moved source.old + 67108865 }
-    ensures long { IfErr result (λ e. OnLimit e (raised (S.moved source.old) 67108865 ≤ S.moved source.new)) }
+    ensures within { OnOk result (S.moved source.new ≤ raised (S.moved source.old) INPUT_LIMIT) }
+    ensures taken { S.moved source.new ≤ S.moved source.old + (INPUT_LIMIT + 1) }
+    ensures long { IfErr result (λ e. OnLimit e (raised (S.moved source.old) (INPUT_LIMIT + 1) ≤ S.moved source.new)) }
     ensures read_fault { IfErr result (λ e. OnReadFault e (Rose (S.faults source.old) (S.faults source.new))) }
 {
     let mut reader = StateReader::new(alloc)?;
@@ -97,10 +93,10 @@ fn feed_all<S: Source>(
     ensures cause { IfErr result (λ e. WhereTold (S.left source.old) (λ bytes. IsCause bytes e)) }
     ensures whole { OnOk result (WhereTold (S.left source.old) (λ bytes. S.left source.new ≡ Some [])) }
     ensures stays { OnOk result (IsSome reader.new) }
-    ensures short { OnOk result ((bytes : List ℕ) → reader.new ≡ Some bytes → length bytes ≤ most_bytes) }
-    ensures within { OnOk result (S.moved source.new ≤ raised (S.moved source.old) 67108864) }
-    ensures taken { S.moved source.new ≤ S.moved source.old + 67108865 }
-    ensures long { IfErr result (λ e. OnLimit e (raised (S.moved source.old) 67108865 ≤ S.moved source.new)) }
+    ensures short { OnOk result ((bytes : List ℕ) → reader.new ≡ Some bytes → length bytes ≤ INPUT_LIMIT) }
+    ensures within { OnOk result (S.moved source.new ≤ raised (S.moved source.old) INPUT_LIMIT) }
+    ensures taken { S.moved source.new ≤ S.moved source.old + (INPUT_LIMIT + 1) }
+    ensures long { IfErr result (λ e. OnLimit e (raised (S.moved source.old) (INPUT_LIMIT + 1) ≤ S.moved source.new)) }
     ensures read_fault { IfErr result (λ e. OnReadFault e (Rose (S.faults source.old) (S.faults source.new))) }
 {
     let mut left = INPUT_LIMIT;
@@ -121,9 +117,9 @@ fn feed_all<S: Source>(
 fn feed(alloc: Global, reader: &mut StateReader, piece: &[u8]) -> Result<(), CheckError>
     requires { IsSome reader.old }
     ensures fed { OnOk result ((bytes : List ℕ) → reader.old ≡ Some bytes → reader.new ≡ Some (bytes ++ piece.now)) }
-    ensures within { OnOk result ((bytes : List ℕ) → reader.old ≡ Some bytes → length (bytes ++ piece.now) ≤ most_bytes) }
+    ensures within { OnOk result ((bytes : List ℕ) → reader.old ≡ Some bytes → length (bytes ++ piece.now) ≤ INPUT_LIMIT) }
     ensures cause { IfErr result (λ e. (bytes : List ℕ) → reader.old ≡ Some bytes → (more : List ℕ) → IsCause ((bytes ++ piece.now) ++ more) e) }
-    ensures long { IfErr result (λ e. (bytes : List ℕ) → reader.old ≡ Some bytes → OnLimit e (most_bytes < length (bytes ++ piece.now))) }
+    ensures long { IfErr result (λ e. (bytes : List ℕ) → reader.old ≡ Some bytes → OnLimit e (INPUT_LIMIT < length (bytes ++ piece.now))) }
     ensures no_read { IfErr result (λ e. OnReadFault e ⊥) }
 {
     match reader.feed(alloc, piece) {

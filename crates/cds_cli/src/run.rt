@@ -1,7 +1,9 @@
 //! The program from its words to its exit status.
 
 ghost use Rattle.std.specs.Prelude.{◌≡◌, ◌≢◌, ◌⊎◌, ◌≤◌, ◌<◌, ◌+◌, ◌++◌, ℕ, [], Some, None, List, OnErr, OnOk};
+ghost use Rattle.cds_base.specs.declared.limits.TheConstants.{INPUT_LIMIT};
 ghost use Rattle.cds_base.specs.Outside.{raised, Rose, WhereTold};
+ghost use Rattle.cds_script.specs.Lines.{line_limit};
 ghost use Rattle.cds_script.specs.Complete.{AnswersAreComplete};
 ghost use Rattle.cds_script.specs.LoadBounds.{BoundsLoads};
 ghost use Rattle.cds_script.specs.Played.{script_turns, script_stop, report_of, IsReportOf};
@@ -50,9 +52,9 @@ fn play<S: Source, K: Sink>(alloc: Global, source: &mut S, sink: &mut K) -> u8
     ensures ends { WhereTold (S.left source.old) (λ bytes. Ends result (script_ending bytes).status) }
     ensures writes { WhereTold (S.left source.old) (λ bytes. WhereTold (K.holds sink.old) (λ before. Writes result (script_ending bytes).text before (K.holds sink.new))) }
     ensures whole { WhereTold (S.left source.old) (λ bytes. result ≡ 0 → S.left source.new ≡ Some []) }
-    ensures within { result ≡ 0 → S.moved source.new ≤ raised (S.moved source.old) 67108864 }
-    ensures taken { S.moved source.new ≤ S.moved source.old + 67108865 }
-    ensures long { result ≡ 6 → raised (S.moved source.old) 4097 ≤ S.moved source.new }
+    ensures within { result ≡ 0 → S.moved source.new ≤ raised (S.moved source.old) INPUT_LIMIT }
+    ensures taken { S.moved source.new ≤ S.moved source.old + (INPUT_LIMIT + 1) }
+    ensures long { result ≡ 6 → raised (S.moved source.old) (line_limit + 1) ≤ S.moved source.new }
     ensures read_fault { result ≡ 2 → Rose (S.faults source.old) (S.faults source.new) }
     ensures write_fault { result ≡ 3 → Rose (K.faults sink.old) (K.faults sink.new) }
     ensures known { (result ≡ 5 → ⊥) × (result ≤ 6) }
@@ -87,10 +89,10 @@ pub fn run<S: Source, K: Sink>(alloc: Global, words: &Words, source: &mut S, sin
 
     // The limit of an input, by the number of bytes that the source moved: however the program ends, it took at most one byte
     // more than an input may have.
-    ensures within_limit { TakesInput (command_of words.now) → result ≡ 0 → S.moved source.new ≤ raised (S.moved source.old) 67108864 }
-    ensures taken { S.moved source.new ≤ S.moved source.old + 67108865 }
-    ensures past_limit { result ≡ 6 → raised (S.moved source.old) 4097 ≤ S.moved source.new }
-    ensures past_check_limit { command_of words.now ≡ Some Check → result ≡ 6 → raised (S.moved source.old) 67108865 ≤ S.moved source.new }
+    ensures within_limit { TakesInput (command_of words.now) → result ≡ 0 → S.moved source.new ≤ raised (S.moved source.old) INPUT_LIMIT }
+    ensures taken { S.moved source.new ≤ S.moved source.old + (INPUT_LIMIT + 1) }
+    ensures past_limit { result ≡ 6 → raised (S.moved source.old) (line_limit + 1) ≤ S.moved source.new }
+    ensures past_check_limit { command_of words.now ≡ Some Check → result ≡ 6 → raised (S.moved source.old) (INPUT_LIMIT + 1) ≤ S.moved source.new }
 
     // What was written is what the script's turns write, one after the other, and then its last line. Each ask of these
     // turns that writes `behind load` comes before any load was begun, or after fewer reads than a load of the catalog takes,

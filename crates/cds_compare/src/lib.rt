@@ -1,8 +1,6 @@
-//! Tests alone: scripts are played, and each report is compared with that of the plain program beside the definitions;
-//! and whole histories of scans and loads go through the public calls of the store and the replica.
+//! Tests alone: whole histories of scans go through the public calls of the store, and what it answers is compared with
+//! the plain history beside the definitions.
 #![tactic(auto)]
 
 #[cfg(test)]
 mod calls_tests;
-#[cfg(test)]
-mod tests;

@@ -3,16 +3,16 @@ use Rattle.std.proofs.Common.{◌≡◌, ℕ, List, ◌++◌, Bool, true, false,
 use Rattle.std.specs.Prelude.{codes, OnOk}
 use Rattle.std.specs.Fmt.{decimal}
 use Rattle.cds_object.specs.Object.{ObjectRow}
-use Rattle.cds_model.specs.Server.{reply_to}
-use Rattle.cds_model.specs.declared.exchange.Ask.{Ask as Asked}
-use Rattle.cds_model.specs.declared.exchange.Shown.{Shown}
-use Rattle.cds_notes.specs.Commands.{Note, Command, scans_of, notes_of}
-use Rattle.cds_notes.specs.Inbox.{Delivers, taken_by, is_out, Arrival, arrival}
-use Rattle.cds_notes.specs.Follow.{Known, Outcome, Knows, CannotBeRead, Jumps, Tears, known_by, next_ask, with_reply, with_notes, says, copied}
-use Rattle.cds_notes.specs.declared.says.Says.{Says}
-use Rattle.cds_notes.specs.declared.says.Says.TheVariants.{Gap, BehindLoad, BehindRead, BehindVersion, Stands}
-use Rattle.cds_replica.specs.Called.{IsAnswer, IsAcceptance, IsNotice}
-use Rattle.cds_replica.specs.Called.{UnlessNoMemory}
+use Rattle.cds_load.specs.Server.{reply_to}
+use Rattle.cds_load.specs.declared.exchange.Ask.{Ask as Asked}
+use Rattle.cds_load.specs.declared.exchange.Shown.{Shown}
+use Rattle.cds_commands.specs.Notes.{Note, notes_of}
+use Rattle.cds_commands.specs.Commands.{Command, scans_of}
+use Rattle.cds_follow.specs.Inbox.{Delivers, taken_by, is_out, Arrival, arrival}
+use Rattle.cds_follow.specs.Follow.{Known, Outcome, Knows, CannotBeRead, Jumps, Tears, known_by, next_ask, with_reply, with_notes, says, copied}
+use Rattle.cds_follow.specs.declared.says.Says.{Says}
+use Rattle.cds_follow.specs.declared.says.Says.TheVariants.{Gap, BehindLoad, BehindRead, BehindVersion, Stands}
+use Rattle.cds_replica.specs.Calls.{IsAnswer, IsAcceptance, IsNotice, UnlessNoMemory}
 use Rattle.cds_replica.specs.declared.note.Taken.{Taken}
 use Rattle.cds_replica.specs.declared.note.Taken.TheVariants.{Took, Repeat, Early, Held}
 use Rattle.cds_replica.specs.declared.notify_error.NotifyError.{NotifyError}
@@ -29,6 +29,7 @@ use Rattle.cds_replay.specs.Lines.{known_text, taken_text, delivered_line, ended
 use Rattle.cds_replay.specs.Serving.{Serving, Ended}
 use Rattle.cds_replay.specs.Session.{Playing, IsAfter, moment_in}
 use Rattle.cds_replay.proofs.Turns.{moment-is}
+use Rattle.cds_script.specs.declared.reply.HeldReply.TheVariants.{Named}
 
 -- the reply to the next ask is taken
 pub reply-taken : (was : Playing) (ask : Asked) (shown : Shown) (turns : List Turn) → IsAfter was turns →
@@ -115,7 +116,7 @@ ended-written name now first commands false was server ended =
     sym (ap (λ b. cond b (codes "unsubscribe 200\n") (codes "unsubscribe 412\n")) ended.0)
 
 -- where a name is held back a request is out
-pub name-waits : (turns : List Turn) (name : ℕ) → MayBe turns → (played turns).reply ≡ Some (Some name) → is_out (played turns).replica ≡ true
+pub name-waits : (turns : List Turn) (name : ℕ) → MayBe turns → (played turns).reply ≡ Named name → is_out (played turns).replica ≡ true
 name-waits turns name may is =
     let kept = turns-kept turns may.number in
     (subst (λ r. Waits (played turns).commands kept.entries (played turns).replica r) is kept.waits).0

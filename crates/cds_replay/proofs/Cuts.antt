@@ -1,7 +1,7 @@
 -- The first LF among bytes parts them into a line without one and what comes after it.
 use Rattle.std.proofs.Common.{◌≡◌, ℕ, zero, suc, ◌<◌, List, [], ◌∷◌, ◌++◌, length, take, drop, get_or, true, ◌==◌, refl, ap, arith}
 use Rattle.std.proofs.lemmas.Bool.{and_from, not_from_false, false_from_ne_true, eqb-true}
-use Rattle.cds_model.specs.Script.{is_unbroken}
+use Rattle.cds_script.specs.Lines.{is_unbroken}
 
 -- bytes none of which is an LF
 pub unbroken-none : (bytes : List ℕ) → ((k : ℕ) → k < length bytes → (get_or bytes k 0 == 10) ≡ true → ⊥) → is_unbroken bytes ≡ true

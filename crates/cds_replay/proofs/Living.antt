@@ -1,8 +1,10 @@
 -- A subscription lives where it was granted, has not run out and has a SEQ left.
 use Rattle.std.proofs.Common.{◌≡◌, ◌⊎◌, inl, inr, ◌+◌, ◌≤◌, ℕ, Bool, true, false, cond, ◌&&◌, ◌||◌, nat_eq, nat_lt, List, [], ◌∷◌, filter, Option, Some, None, is_some, refl, sym, ap, ◌∙◌, arith, true≢false, eqb-true, eq-eqb}
 use Rattle.std.specs.List.{list_any, range_with_len}
-use Rattle.cds_notes.specs.Commands.{Command, Scans, Grants, Ends, Ticks, granted, granted_time, unless_past, runs_until, is_alive, next_seq_of, seq_limit, notes_of}
-use Rattle.cds_notes.proofs.Among.{Among, among-filter, among-row, filter-among}
+use Rattle.cds_commands.specs.Commands.{Command, Scans, Grants, Renews, Ends, Ticks, Stops}
+use Rattle.cds_commands.specs.Subscriptions.{granted, end_after, renewed_until, unless_past, runs_until, is_alive}
+use Rattle.cds_commands.specs.Notes.{next_seq_of, seq_limit, notes_of}
+use Rattle.cds_commands.proofs.Among.{Among, among-filter, among-row, filter-among}
 use Rattle.cds_script.specs.Report.{lives}
 
 past-runs : (moment : ℕ) (o : Option ℕ) → is_some (unless_past moment o) ≡ true → is_some o ≡ true
@@ -13,18 +15,29 @@ past-runs moment (Some end) e = refl
 runs-named : (name : ℕ) (commands : List Command) → is_some (runs_until name commands) ≡ true → (1 ≤ name) × (name ≤ granted commands)
 runs-named name [] e = absurd (true≢false (sym e))
 runs-named name (Scans library ∷ older) e = runs-named name older e
-runs-named name (Grants moment ∷ older) e = by (nat_eq name (granted older + 1)) refl e (λ d. runs-named name older d)
+runs-named name (Grants moment callback seconds ∷ older) e = by (nat_eq name (granted older + 1)) refl e (λ d. runs-named name older d)
   where
-    by : (b : Bool) → nat_eq name (granted older + 1) ≡ b → is_some (cond b (Some (moment + granted_time)) (runs_until name older)) ≡ true
+    by : (b : Bool) → nat_eq name (granted older + 1) ≡ b → is_some (cond b (Some (end_after moment seconds)) (runs_until name older)) ≡ true
         → (is_some (runs_until name older) ≡ true → (1 ≤ name) × (name ≤ granted older)) → (1 ≤ name) × (name ≤ granted older + 1)
     by true h d r = let same = eqb-true name (granted older + 1) h in (omega (arith, same), omega (arith, same))
     by false h d r = let low = (r d).0 in let high = (r d).1 in (low, omega (arith, high))
-runs-named name (Ends other ∷ older) e = by (nat_eq name other) e (λ d. runs-named name older d)
+runs-named name (Renews moment other seconds ∷ older) e = by (nat_eq name other) e (λ d. runs-named name older d)
+  where
+    still : (o : Option ℕ) → is_some (renewed_until (end_after moment seconds) o) ≡ true → is_some o ≡ true
+    still None d = d
+    still (Some end) d = refl
+
+    by : (b : Bool) → is_some (cond b (renewed_until (end_after moment seconds) (runs_until name older)) (runs_until name older)) ≡ true
+        → (is_some (runs_until name older) ≡ true → (1 ≤ name) × (name ≤ granted older)) → (1 ≤ name) × (name ≤ granted older)
+    by true d r = r (still (runs_until name older) d)
+    by false d r = r d
+runs-named name (Ends moment other ∷ older) e = by (nat_eq name other) e (λ d. runs-named name older d)
   where
     by : (b : Bool) → is_some (cond b None (runs_until name older)) ≡ true → (is_some (runs_until name older) ≡ true → (1 ≤ name) × (name ≤ granted older))
         → (1 ≤ name) × (name ≤ granted older)
     by true d r = absurd (true≢false (sym d))
     by false d r = r d
+runs-named name (Stops ∷ older) e = runs-named name older e
 runs-named name (Ticks moment ∷ older) e = runs-named name older (past-runs moment (runs_until name older) e)
 
 any-among : (name : ℕ) (names : List ℕ) → Among name names → list_any (λ other. nat_eq other name) names ≡ true

@@ -2,7 +2,7 @@
 use Rattle.std.proofs.Common.{◌≡◌, ℕ, zero, suc, ◌+◌, ◌≤◌, List, [], ◌∷◌, ◌++◌, length, drop, Some, None, refl, ap, sym, ◌∙◌, arith, append_assoc}
 use Rattle.std.specs.Prelude.{codes, slice_get, option_map}
 use Rattle.std.specs.Fmt.{decimal}
-use Rattle.cds_notes.specs.Commands.{Note}
+use Rattle.cds_commands.specs.Notes.{Note}
 use Rattle.cds_script.specs.Report.{notes_text}
 use Rattle.cds_replay.specs.Lines.{note_line}
 use Rattle.cds_replay.specs.Sending.{head_of}

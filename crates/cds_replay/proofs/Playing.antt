@@ -2,7 +2,7 @@
 use Rattle.std.proofs.Common.{◌≡◌, ℕ, ◌+◌, ◌-◌, ◌≤◌, min, ◌^◌, List, [], ◌++◌, take, drop, Option, Some, Result, Ok, Err, IfErr, OnOk, refl, ap, sym, subst, ◌∙◌, append_assoc, arith}
 use Rattle.std.proofs.lemmas.List.{append-nil, take-append-drop}
 use Rattle.cds_base.specs.Outside.{raised, WhereTold}
-use Rattle.cds_model.specs.Report.{Ending, written_first}
+use Rattle.cds_script.specs.Report.{Ending, written_first}
 use Rattle.cds_replay.specs.declared.script.Script.{Script}
 use Rattle.cds_replay.specs.declared.script.Stop.{Stop}
 use Rattle.cds_replay.specs.declared.script.Stop.TheVariants.{Outside, Limit as PastLimit}

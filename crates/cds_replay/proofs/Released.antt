@@ -6,9 +6,10 @@ use Rattle.cds_catalog.specs.Library.{FolderMap}
 use Rattle.cds_catalog.specs.History.{end_of}
 use Rattle.cds_catalog.proofs.Numbers.{ends_rise}
 use Rattle.cds_catalog.proofs.StepsFind.{each-append, each-weaker, none≢some}
-use Rattle.cds_notes.specs.Commands.{Command, Scans, Grants, Ends, Ticks, scans_of, Release, release_size, released_to, may_release, scan_end_within, release_at, and_release, releases_of}
-use Rattle.cds_notes.proofs.Served.{scans-first}
-use Rattle.cds_notes.proofs.Sent.{first-is, stood-below, released-stood}
+use Rattle.cds_commands.specs.Commands.{Command, Scans, Grants, Ends, Ticks, scans_of, Renews, Stops}
+use Rattle.cds_commands.specs.Releases.{Release, release_size, released_to, may_release, scan_end_within, release_at, and_release, releases_of}
+use Rattle.cds_commands.proofs.Scanned.{scans-first}
+use Rattle.cds_commands.proofs.Sent.{first-is, stood-below, released-stood}
 use Rattle.cds_replay.specs.Serving.{scan_ends, last_moment, released_by, is_pause_over, last_within, next_release, with_end, with_release}
 
 -- ---- filters
@@ -60,10 +61,14 @@ stood-end first [] zero = omega arith
 stood-end first [] (suc n) = omega arith
 stood-end first (Scans library ∷ older) zero = inl (ap end_of (scans-first first (Scans library ∷ older)))
 stood-end first (Scans library ∷ older) (suc n) = inr (stood-end first older n)
-stood-end first (Grants moment ∷ older) zero = stood-end first older zero
-stood-end first (Grants moment ∷ older) (suc n) = stood-end first older n
-stood-end first (Ends name ∷ older) zero = stood-end first older zero
-stood-end first (Ends name ∷ older) (suc n) = stood-end first older n
+stood-end first (Grants moment callback seconds ∷ older) zero = stood-end first older zero
+stood-end first (Grants moment callback seconds ∷ older) (suc n) = stood-end first older n
+stood-end first (Renews moment name seconds ∷ older) zero = stood-end first older zero
+stood-end first (Ends moment name ∷ older) zero = stood-end first older zero
+stood-end first (Stops ∷ older) zero = stood-end first older zero
+stood-end first (Renews moment name seconds ∷ older) (suc n) = stood-end first older n
+stood-end first (Ends moment name ∷ older) (suc n) = stood-end first older n
+stood-end first (Stops ∷ older) (suc n) = stood-end first older n
 stood-end first (Ticks moment ∷ older) zero = stood-end first older zero
 stood-end first (Ticks moment ∷ older) (suc n) = stood-end first older n
 

@@ -4,10 +4,9 @@ use Rattle.std.proofs.lemmas.Bool.{and_parts, and_from, le-ltb}
 use Rattle.std.proofs.lemmas.List.{append-nil, take-append-le}
 use Rattle.std.proofs.lemmas.List.Folds.{list_all-append}
 use Rattle.cds_script.specs.declared.turn.Turn.{Turn}
-use Rattle.cds_model.specs.Script.{is_unbroken, line_limit}
-use Rattle.cds_model.specs.Report.{Ending, limit_ending, written_first}
+use Rattle.cds_script.specs.Lines.{is_unbroken, line_limit}
+use Rattle.cds_script.specs.Report.{Ending, limit_ending, written_first, ending_at, ending_of}
 use Rattle.cds_script.specs.Script.{meaning_of}
-use Rattle.cds_script.specs.Report.{ending_at, ending_of}
 use Rattle.cds_script.proofs.Lines.{ending-line, ending-last, ending-over, ending-long}
 use Rattle.cds_replay.specs.Session.{Playing, IsAfter}
 use Rattle.cds_replay.specs.declared.script.Script.{Script}

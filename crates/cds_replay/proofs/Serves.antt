@@ -8,7 +8,9 @@ use Rattle.cds_catalog.specs.History.{end_of, with_scan}
 use Rattle.cds_catalog.specs.Steps.{Standing}
 use Rattle.cds_store.specs.Stands.{Stored, StandsFor, no_scans}
 use Rattle.cds_changes.specs.Events.{events_between}
-use Rattle.cds_notes.specs.Commands.{Command, Scans, Grants, Ends, Ticks, scans_of, granted, Note, subscription_limit, has_room, first_note, notes_of}
+use Rattle.cds_commands.specs.Commands.{Command, Scans, Grants, Ends, Ticks, scans_of}
+use Rattle.cds_commands.specs.Subscriptions.{granted, subscription_limit}
+use Rattle.cds_commands.specs.Notes.{Note, has_room, first_note, notes_of}
 use Rattle.cds_script.specs.Report.{lives}
 use Rattle.cds_replay.specs.declared.book.Subscription.{Subscription}
 use Rattle.cds_replay.specs.Serving.{Subscribed, subscribed_by, nothing_granted, alive, holds_alive, with_grant, without, expired, notified, Released, released_by, nothing_released, next_release, with_end, with_release, note_to, Serving, Serves, IsServing, Ended}
@@ -16,13 +18,14 @@ use Rattle.cds_replay.proofs.Subscribed.{names-alive, as-many, subscribed-scan, 
 use Rattle.cds_replay.proofs.Released.{Comes, is-released, released-within, released-scan}
 use Rattle.cds_replay.proofs.Ticking.{ticked-silent, ticked-release}
 use Rattle.std.proofs.lemmas.List.{append-nil}
+use Rattle.cds_script.specs.Script.{grant_at}
 
 pub begun : (first : ℕ) (store : Stored) (subscribed : Subscribed) (released : Released) (sent : List Note) → StandsFor store (no_scans first) →
-    subscribed ≡ nothing_granted → released ≡ nothing_released first → sent ≡ [] →
+    store.forgotten ≡ first → subscribed ≡ nothing_granted → released ≡ nothing_released first → sent ≡ [] →
     Serves (record { store = store; subscribed = subscribed; released = released; sent = sent }) first []
-begun first store subscribed released sent stands s r n = record {
+begun first store subscribed released sent stands f s r n = record {
   store = stands;
-  forgotten = let low = stands.2 in let to = ap (λ (t : Released). t.to) r in omega (arith, low, to);
+  forgotten = f ∙ sym (ap (λ (t : Released). t.to) r);
   subscribed = s;
   released = r;
   sent = n;
@@ -65,7 +68,7 @@ module _ (was : Serving) (first : ℕ) (commands : List Command) (serves : Serve
 
   pub subscribed-once : (now : ℕ) (subscribed : Subscribed) (sent : List Note) → subscribed ≡ with_grant now was.subscribed →
       sent ≡ was.sent ++ first_note (was.subscribed.granted + 1) was.store.standing.number ∷ [] →
-      Serves (record { store = was.store; subscribed = subscribed; released = was.released; sent = sent }) first (Grants now ∷ commands)
+      Serves (record { store = was.store; subscribed = subscribed; released = was.released; sent = sent }) first (grant_at now ∷ commands)
   subscribed-once now subscribed sent s n = record {
     store = serves.store;
     forgotten = serves.forgotten;
@@ -83,12 +86,12 @@ module _ (was : Serving) (first : ℕ) (commands : List Command) (serves : Serve
       ∙ any-alive name now (subscribed_by first commands).living
       ∙ ap (holds_alive name now) (sym serves.subscribed)
 
-  ended : (name : ℕ) (subscribed : Subscribed) → subscribed ≡ without name was.subscribed →
-      Serves (record { store = was.store; subscribed = subscribed; released = was.released; sent = was.sent }) first (Ends name ∷ commands)
-  ended name subscribed s = record {
+  ended : (now name : ℕ) (subscribed : Subscribed) → subscribed ≡ without name was.subscribed →
+      Serves (record { store = was.store; subscribed = subscribed; released = was.released; sent = was.sent }) first (Ends now name ∷ commands)
+  ended now name subscribed s = record {
     store = serves.store;
     forgotten = serves.forgotten;
-    subscribed = s ∙ ap (without name) serves.subscribed ∙ sym (subscribed-end first commands name);
+    subscribed = s ∙ ap (without name) serves.subscribed ∙ sym (subscribed-end first commands now name);
     released = serves.released;
     sent = serves.sent ∙ sym (append-nil (notes_of first commands));
   }
@@ -96,15 +99,15 @@ module _ (was : Serving) (first : ℕ) (commands : List Command) (serves : Serve
   pub ended-by : (name now : ℕ) (lived : Bool) (subscribed : Subscribed) → lived ≡ holds_alive name now was.subscribed →
       MatchBool lived (subscribed ≡ without name was.subscribed) (subscribed ≡ was.subscribed) →
       Ended first name now commands lived was (record { store = was.store; subscribed = subscribed; released = was.released; sent = was.sent })
-  ended-by name now true subscribed l s = (living-is name now ∙ sym l, ended name subscribed s)
+  ended-by name now true subscribed l s = (living-is name now ∙ sym l, ended now name subscribed s)
   ended-by name now false subscribed l s =
       (living-is name now ∙ sym l, ap (λ (t : Subscribed). record { store = was.store; subscribed = t; released = was.released; sent = was.sent }) s)
 
-  pub ended-serves : (name : ℕ) (lived : Bool) (subscribed : Subscribed) →
+  pub ended-serves : (name now : ℕ) (lived : Bool) (subscribed : Subscribed) →
       MatchBool lived (subscribed ≡ without name was.subscribed) (subscribed ≡ was.subscribed) →
       IsServing (record { store = was.store; subscribed = subscribed; released = was.released; sent = was.sent })
-  ended-serves name true subscribed s = record { first = first; commands = Ends name ∷ commands; serves = ended name subscribed s }
-  ended-serves name false subscribed s = record {
+  ended-serves name now true subscribed s = record { first = first; commands = Ends now name ∷ commands; serves = ended now name subscribed s }
+  ended-serves name now false subscribed s = record {
     first = first;
     commands = commands;
     serves = record { store = serves.store; forgotten = serves.forgotten; subscribed = s ∙ serves.subscribed; released = serves.released; sent = serves.sent };

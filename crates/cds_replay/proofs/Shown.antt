@@ -7,11 +7,11 @@ use Rattle.cds_catalog.specs.Steps.{Standing}
 use Rattle.cds_catalog.proofs.StepsTree.{catalogs_are_trees-proof}
 use Rattle.cds_store.specs.Rows.{rows_of}
 use Rattle.cds_store.specs.Stands.{Stored, IsStore}
-use Rattle.cds_model.specs.Server.{Moment, page_size, update_of, children_reply}
-use Rattle.cds_model.specs.declared.exchange.Shown.TheVariants.{Page, Fault}
-use Rattle.cds_model.proofs.Merge.{filter-all}
-use Rattle.cds_model.proofs.Pages.{take-all, drop-all}
-use Rattle.cds_model.proofs.Trees.{ascend-rises, each-found}
+use Rattle.cds_load.specs.Server.{Moment, page_size, update_of, children_reply}
+use Rattle.cds_load.specs.declared.exchange.Shown.TheVariants.{Page, Fault}
+use Rattle.cds_load.proofs.Merge.{filter-all}
+use Rattle.cds_load.proofs.Pages.{take-all, drop-all}
+use Rattle.cds_load.proofs.Trees.{ascend-rises, each-found}
 
 -- the rows of a store are a tree
 pub store-tree : (store : Stored) → IsStore store → IsTree (rows_of store.standing.rows)

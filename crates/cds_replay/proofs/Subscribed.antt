@@ -8,11 +8,15 @@ use Rattle.cds_catalog.specs.Library.{FolderMap}
 use Rattle.cds_catalog.specs.History.{end_of}
 use Rattle.cds_catalog.proofs.StepsFind.{each-filter, none≢some}
 use Rattle.cds_changes.proofs.Numbers.{range-more}
-use Rattle.cds_notes.specs.Commands.{Command, Scans, Grants, Ends, Ticks, scans_of, Release, release_at, releases_of, granted, granted_time, unless_past, runs_until, is_alive, Note, next_seq_of, seq_limit, alive_names, subscription_limit, has_room, released_note, released_notes, first_note, sent_by, notes_of}
-use Rattle.cds_notes.proofs.Among.{Among, among-all, row-among, seq-append, seq-none}
-use Rattle.cds_notes.proofs.Sent.{Sound, all-sound}
+use Rattle.cds_commands.specs.Commands.{Command, Scans, Grants, Ends, Ticks, scans_of}
+use Rattle.cds_commands.specs.Releases.{Release, release_at, releases_of}
+use Rattle.cds_commands.specs.Subscriptions.{granted, unless_past, runs_until, is_alive, subscription_limit, end_after}
+use Rattle.cds_commands.specs.Notes.{Note, next_seq_of, seq_limit, alive_names, has_room, released_note, released_notes, first_note, sent_by, notes_of}
+use Rattle.cds_commands.proofs.Among.{Among, among-all, row-among, seq-append, seq-none}
+use Rattle.cds_commands.proofs.Sent.{Sound, all-sound}
 use Rattle.cds_replay.specs.declared.book.Subscription.{Subscription}
 use Rattle.cds_replay.specs.Serving.{running, subscription_of, subscribed_by, alive, with_grant, without, expired, has_next, raised, notified}
+use Rattle.cds_script.specs.Script.{grant_at, granted_time, granted_seconds}
 
 -- ---- lists of what some numbers have
 
@@ -224,11 +228,11 @@ module _ (first : ℕ) (older : List Command) where
     living = filter_map (λ name. running name (next_seq_of name (silent-same (Scans library) refl i)) (runs_until name older)) (range_with_len 1 (granted older));
   }
 
-  pub subscribed-end : (other : ℕ) → subscribed_by first (Ends other ∷ older) ≡ without other (subscribed_by first older)
-  subscribed-end other = ap (λ (l : List Subscription). record { granted = granted older; living = l })
-      (agree (subscription_of first (Ends other ∷ older)) (λ name. kept (λ (s : Subscription). not (nat_eq s.name other)) (subscription_of first older name)) (range_with_len 1 (granted older))
+  pub subscribed-end : (moment other : ℕ) → subscribed_by first (Ends moment other ∷ older) ≡ without other (subscribed_by first older)
+  subscribed-end moment other = ap (λ (l : List Subscription). record { granted = granted older; living = l })
+      (agree (subscription_of first (Ends moment other ∷ older)) (λ name. kept (λ (s : Subscription). not (nat_eq s.name other)) (subscription_of first older name)) (range_with_len 1 (granted older))
       (λ name a.
-      (λ i. running name (next_seq_of name (silent-same (Ends other) refl i)) (runs_until name (Ends other ∷ older)))
+      (λ i. running name (next_seq_of name (silent-same (Ends moment other) refl i)) (runs_until name (Ends moment other ∷ older)))
       ∙ gone name other (next_seq_of name (notes_of first older)) (runs_until name older))
       ∙ sym (filter-given (λ (s : Subscription). not (nat_eq s.name other)) (subscription_of first older) (range_with_len 1 (granted older))))
 
@@ -268,21 +272,21 @@ module _ (first : ℕ) (older : List Command) where
           ∙ ap (λ (n : ℕ). next_seq_of name (notes_of first older) + n) (count name a))
           ∙ told now name (next_seq_of name (notes_of first older)) (runs_until name older)
 
-  pub subscribed-grant : (now : ℕ) → subscribed_by first (Grants now ∷ older) ≡ with_grant now (subscribed_by first older)
+  pub subscribed-grant : (now : ℕ) → subscribed_by first (grant_at now ∷ older) ≡ with_grant now (subscribed_by first older)
   subscribed-grant now =
       let more : granted older + 1 ≡ suc (granted older) = omega arith in
       let next : 1 + granted older ≡ granted older + 1 = omega arith in
       ap (λ (l : List Subscription). record { granted = granted older + 1; living = l })
-      (ap (λ (n : ℕ). filter_map (subscription_of first (Grants now ∷ older)) (range_with_len 1 n)) more
-      ∙ ap (filter_map (subscription_of first (Grants now ∷ older))) (range-more 1 (granted older))
-      ∙ filter_map-append (subscription_of first (Grants now ∷ older)) (range_with_len 1 (granted older)) ((1 + granted older) ∷ [])
-      ∙ ap (λ (n : ℕ). filter_map (subscription_of first (Grants now ∷ older)) (range_with_len 1 (granted older)) ++ cons_option (subscription_of first (Grants now ∷ older) n) []) next
-      ∙ (λ i. agree (subscription_of first (Grants now ∷ older)) (subscription_of first older) (range_with_len 1 (granted older)) others i ++ cons_option (new i) []))
+      (ap (λ (n : ℕ). filter_map (subscription_of first (grant_at now ∷ older)) (range_with_len 1 n)) more
+      ∙ ap (filter_map (subscription_of first (grant_at now ∷ older))) (range-more 1 (granted older))
+      ∙ filter_map-append (subscription_of first (grant_at now ∷ older)) (range_with_len 1 (granted older)) ((1 + granted older) ∷ [])
+      ∙ ap (λ (n : ℕ). filter_map (subscription_of first (grant_at now ∷ older)) (range_with_len 1 (granted older)) ++ cons_option (subscription_of first (grant_at now ∷ older) n) []) next
+      ∙ (λ i. agree (subscription_of first (grant_at now ∷ older)) (subscription_of first older) (range_with_len 1 (granted older)) others i ++ cons_option (new i) []))
     where
       note : Note
       note = first_note (granted older + 1) (end_of (scans_of first older))
 
-      others : (name : ℕ) → Among name (range_with_len 1 (granted older)) → subscription_of first (Grants now ∷ older) name ≡ subscription_of first older name
+      others : (name : ℕ) → Among name (range_with_len 1 (granted older)) → subscription_of first (grant_at now ∷ older) name ≡ subscription_of first older name
       others name a =
           let row = row-among 1 (granted older) name a in
           let high = row.1 in
@@ -290,16 +294,16 @@ module _ (first : ℕ) (older : List Command) where
           let back : granted older + 1 ≡ name → ⊥ = λ e. omega (arith, high, e) in
           let none : next_seq_of name (note ∷ []) ≡ 0 = (λ i. length (cond (ne_eqb (granted older + 1) name back i) (note ∷ []) [])) in
           let more = seq-append name (notes_of first older) (note ∷ []) in
-          let same : next_seq_of name (notes_of first (Grants now ∷ older)) ≡ next_seq_of name (notes_of first older) = omega (arith, more, none) in
-          (λ i. running name (same i) (cond (ne_eqb name (granted older + 1) apart i) (Some (now + granted_time)) (runs_until name older)))
+          let same : next_seq_of name (notes_of first (grant_at now ∷ older)) ≡ next_seq_of name (notes_of first older) = omega (arith, more, none) in
+          (λ i. running name (same i) (cond (ne_eqb name (granted older + 1) apart i) (Some (end_after now granted_seconds)) (runs_until name older)))
 
-      new : subscription_of first (Grants now ∷ older) (granted older + 1) ≡ Some (record { name = granted older + 1; end = now + granted_time; next_seq = 1 })
+      new : subscription_of first (grant_at now ∷ older) (granted older + 1) ≡ Some (record { name = granted older + 1; end = now + granted_time; next_seq = 1 })
       new =
           let none = none-yet in
           let one : next_seq_of (granted older + 1) (note ∷ []) ≡ 1 = (λ i. length (cond (eq-eqb (granted older + 1) (granted older + 1) refl i) (note ∷ []) [])) in
           let more = seq-append (granted older + 1) (notes_of first older) (note ∷ []) in
-          let seq : next_seq_of (granted older + 1) (notes_of first (Grants now ∷ older)) ≡ 1 = omega (arith, more, none, one) in
-          (λ i. running (granted older + 1) (seq i) (cond (eq-eqb (granted older + 1) (granted older + 1) refl i) (Some (now + granted_time)) (runs_until (granted older + 1) older)))
+          let seq : next_seq_of (granted older + 1) (notes_of first (grant_at now ∷ older)) ≡ 1 = omega (arith, more, none, one) in
+          (λ i. running (granted older + 1) (seq i) (cond (eq-eqb (granted older + 1) (granted older + 1) refl i) (Some (end_after now granted_seconds)) (runs_until (granted older + 1) older)))
 
 -- ---- which subscriptions live
 

@@ -4,7 +4,9 @@ use Rattle.std.specs.List.{AllByRecursion}
 use Rattle.std.proofs.lemmas.List.{append-nil}
 use Rattle.cds_event.specs.declared.Event.{Event}
 use Rattle.cds_changes.specs.Events.{events_between}
-use Rattle.cds_notes.specs.Commands.{Command, Ticks, scans_of, Release, release_at, releases_of, Note, alive_names, released_note, released_notes, sent_by, notes_of}
+use Rattle.cds_commands.specs.Commands.{Command, Ticks, scans_of}
+use Rattle.cds_commands.specs.Releases.{Release, release_at, releases_of}
+use Rattle.cds_commands.specs.Notes.{Note, alive_names, released_note, released_notes, sent_by, notes_of}
 use Rattle.cds_replay.specs.declared.book.Subscription.{Subscription}
 use Rattle.cds_replay.specs.Serving.{subscribed_by, alive, released_by, note_to}
 use Rattle.cds_replay.specs.ServingLaws.{ticks_expire, ticks_release}

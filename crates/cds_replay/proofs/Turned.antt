@@ -1,7 +1,7 @@
 -- A session after one more turn.
 use Rattle.std.proofs.Common.{◌≡◌, ◌≤◌, List, [], ◌∷◌, length, true, false, nat_eq, refl, sym, subst, ◌∙◌, arith}
 use Rattle.std.proofs.lemmas.Bool.{eqb-true, false_from_ne_true}
-use Rattle.cds_replica.specs.Kept.{StandsFor}
+use Rattle.cds_replica.specs.State.{StandsFor}
 use Rattle.cds_script.specs.declared.turn.Turn.{Turn}
 use Rattle.cds_script.specs.Report.{number_of, first_of, clock_of, records_since, may_stand, played}
 use Rattle.cds_replay.specs.Serving.{Serves}

@@ -8,26 +8,30 @@ use Rattle.cds_catalog.specs.Steps.{Standing}
 use Rattle.cds_store.specs.declared.span.Span.{Span}
 use Rattle.cds_store.specs.declared.error.ApplyError.{ApplyError}
 use Rattle.cds_store.specs.declared.error.ApplyError.TheVariants.{BadRecords, Full, Spent, Mem as NoMemory}
-use Rattle.cds_model.specs.Report.{folder_record}
-use Rattle.cds_model.specs.Server.{reply_to}
-use Rattle.cds_model.specs.declared.exchange.Ask.{Ask as Asked}
-use Rattle.cds_model.specs.declared.exchange.Shown.{Shown}
-use Rattle.cds_notes.specs.Commands.{Command, Grants, Ends, Ticks, Note, scans_of, granted, has_room, notes_of}
-use Rattle.cds_notes.specs.Inbox.{Begins, Shows, Requests, Accepts, Refuses, Delivers, accepted}
-use Rattle.cds_notes.specs.Follow.{known_by, next_ask, and_turn}
-use Rattle.cds_notes.specs.Given.{moment_after, asked_at}
-use Rattle.cds_replica.specs.Called.{GoesOn, TakesTurn}
-use Rattle.cds_replica.specs.Kept.{Kept, StandsFor}
+use Rattle.cds_script.specs.Report.{script_token, folder_record, track_record, first_of, clock_of, may_stand, scanned, after_reply, after_note, sent_note, given_up, Played, played}
+use Rattle.cds_load.specs.Server.{reply_to}
+use Rattle.cds_load.specs.declared.exchange.Ask.{Ask as Asked}
+use Rattle.cds_load.specs.declared.exchange.Shown.{Shown}
+use Rattle.cds_commands.specs.Commands.{Command, Grants, Ends, Ticks, scans_of}
+use Rattle.cds_commands.specs.Notes.{Note, has_room, notes_of}
+use Rattle.cds_commands.specs.Subscriptions.{granted}
+use Rattle.cds_follow.specs.Inbox.{Begins, Shows, Requests, Accepts, Refuses, Delivers, accepted}
+use Rattle.cds_follow.specs.Follow.{known_by, next_ask, and_turn}
+use Rattle.cds_follow.specs.Given.{moment_after, asked_at}
+use Rattle.cds_replica.specs.Calls.{GoesOn, TakesTurn}
+use Rattle.cds_replica.specs.State.{ReplicaState, StandsFor}
+use Rattle.cds_object.specs.declared.info.FlacInfo.{FlacInfo}
 use Rattle.cds_script.specs.declared.turn.Turn.{Turn}
 use Rattle.cds_script.specs.declared.turn.Turn.TheVariants.{Folder, Track, Scan, Load, Read, Ask, First, At, Subscribe, Accept, Unsubscribe, Deliver, ReadFault}
-use Rattle.cds_script.specs.Report.{first_of, clock_of, may_stand, scanned, after_reply, after_note, sent_note, given_up, Played, played}
 use Rattle.cds_replay.specs.Lines.{was_answered}
 use Rattle.cds_replay.specs.Serving.{Serving, Scanned, Granted, Ended, Serves}
-use Rattle.cds_replay.specs.Session.{Playing, IsAfter, moment_in, with_record}
+use Rattle.cds_replay.specs.Session.{Playing, IsAfter, moment_in, with_record, held_reply}
 use Rattle.cds_replay.proofs.Turned.{some-turns, turned}
+use Rattle.cds_script.specs.Script.{grant_at}
+use Rattle.cds_script.specs.declared.reply.HeldReply.TheVariants.{NoReply, Named, Refusal}
 
 -- a load
-pub load-after : (was : Playing) (replica : Kept) (turns : List Turn) → IsAfter was turns → GoesOn was.replica Begins replica →
+pub load-after : (was : Playing) (replica : ReplicaState) (turns : List Turn) → IsAfter was turns → GoesOn was.replica Begins replica →
     IsAfter (record was { replica = replica; fresh = false }) (Load ∷ turns)
 load-after was replica turns after goes =
     turned was (record was { replica = replica; fresh = false }) Load turns after refl refl after.server (goes (played turns).replica after.replica)
@@ -44,16 +48,16 @@ lost-after was turns after =
 
 -- what the store shows is what the turns' server shows
 pub moment-is : (was : Playing) (turns : List Turn) → IsAfter was turns →
-    moment_in was.server.store ≡ moment_after (first_of turns) (played turns).commands
+    moment_in was.server.store ≡ moment_after script_token (first_of turns) (played turns).commands
 moment-is was turns after = ap (λ (s : Standing). moment_in (record { standing = s; forgotten = 0; kept = [] })) after.server.store.1
 
 -- a read of what is asked next, and one where nothing is
-pub read-after : (was : Playing) (replica : Kept) (ask : Asked) (shown : Shown) (turns : List Turn) → IsAfter was turns →
+pub read-after : (was : Playing) (replica : ReplicaState) (ask : Asked) (shown : Shown) (turns : List Turn) → IsAfter was turns →
     next_ask (known_by (played turns).replica) ≡ Some ask → shown ≡ reply_to (moment_in was.server.store) ask → TakesTurn was.replica (Shows shown) replica →
     IsAfter (record was { replica = replica; fresh = false }) (Read ∷ turns)
 read-after was replica ask shown turns after asked is takes =
     turned was (record was { replica = replica; fresh = false }) Read turns after refl refl after.server
-    (subst (λ o. StandsFor replica (asked_at (moment_after (first_of turns) (played turns).commands) (played turns).replica o)) (sym asked)
+    (subst (λ o. StandsFor replica (asked_at (moment_after script_token (first_of turns) (played turns).commands) (played turns).replica o)) (sym asked)
     (subst (λ s. StandsFor replica (and_turn (Shows s) (played turns).replica)) (is ∙ ap (λ m. reply_to m ask) (moment-is was turns after))
     (takes (played turns).replica after.replica)))
     after.records after.clock after.reply refl
@@ -62,7 +66,7 @@ pub idle-after : (was : Playing) (turns : List Turn) → IsAfter was turns → n
     IsAfter (record was { fresh = false }) (Read ∷ turns)
 idle-after was turns after asked =
     turned was (record was { fresh = false }) Read turns after refl refl after.server
-    (subst (λ o. StandsFor was.replica (asked_at (moment_after (first_of turns) (played turns).commands) (played turns).replica o)) (sym asked) after.replica)
+    (subst (λ o. StandsFor was.replica (asked_at (moment_after script_token (first_of turns) (played turns).commands) (played turns).replica o)) (sym asked) after.replica)
     after.records after.clock after.reply refl
 
 -- a scan, whatever it was answered but that memory ran out
@@ -114,9 +118,9 @@ tick-after was server moment turns after low ticks =
     (ticks (first_of turns) (played turns).commands after.server) after.replica after.records refl after.reply refl
 
 -- a subscribe request, with its answer
-pub subscribe-after : (was : Playing) (server : Serving) (replica : Kept) (name : Option ℕ) (turns : List Turn) → IsAfter was turns → GoesOn was.replica Requests replica →
+pub subscribe-after : (was : Playing) (server : Serving) (replica : ReplicaState) (name : Option ℕ) (turns : List Turn) → IsAfter was turns → GoesOn was.replica Requests replica →
     ((first : ℕ) (commands : List Command) → Serves was.server first commands → Granted first was.clock commands name was.server server) →
-    IsAfter (record was { server = server; replica = replica; reply = Some name; fresh = false }) (Subscribe ∷ turns)
+    IsAfter (record was { server = server; replica = replica; reply = held_reply name; fresh = false }) (Subscribe ∷ turns)
 subscribe-after was server replica name turns after goes grants =
     by name (subst (λ now. Granted (first_of turns) now (played turns).commands name was.server server) after.clock (grants (first_of turns) (played turns).commands after.server))
   where
@@ -130,49 +134,49 @@ subscribe-after was server replica name turns after goes grants =
     p = played turns
 
     granting : Played
-    granting = record { commands = Grants now ∷ p.commands; replica = Requests ∷ p.replica; reply = Some (Some (granted p.commands + 1)) }
+    granting = record { commands = grant_at now ∷ p.commands; replica = Requests ∷ p.replica; reply = Named (granted p.commands + 1) }
 
     refusing : Played
-    refusing = record { commands = p.commands; replica = Requests ∷ p.replica; reply = Some None }
+    refusing = record { commands = p.commands; replica = Requests ∷ p.replica; reply = Refusal }
 
     room : Bool
     room = has_room now p.commands (notes_of first p.commands)
 
     by : (n : Option ℕ) → Granted first now p.commands n was.server server →
-        IsAfter (record was { server = server; replica = replica; reply = Some n; fresh = false }) (Subscribe ∷ turns)
+        IsAfter (record was { server = server; replica = replica; reply = held_reply n; fresh = false }) (Subscribe ∷ turns)
     by None g =
-        turned was (record was { server = server; replica = replica; reply = Some None; fresh = false }) Subscribe turns after refl refl
+        turned was (record was { server = server; replica = replica; reply = Refusal; fresh = false }) Subscribe turns after refl refl
         (subst (λ b. Serves server first (cond b granting refusing).commands) (sym g.0) (subst (λ s. Serves s first p.commands) (sym g.1) after.server))
         (subst (λ b. StandsFor replica (cond b granting refusing).replica) (sym g.0) (goes p.replica after.replica))
         after.records after.clock
         (ap (λ b. (cond b granting refusing).reply) (sym g.0)) refl
     by (Some n) g =
-        turned was (record was { server = server; replica = replica; reply = Some (Some n); fresh = false }) Subscribe turns after refl refl
+        turned was (record was { server = server; replica = replica; reply = Named n; fresh = false }) Subscribe turns after refl refl
         (subst (λ b. Serves server first (cond b granting refusing).commands) (sym g.0) g.2)
         (subst (λ b. StandsFor replica (cond b granting refusing).replica) (sym g.0) (goes p.replica after.replica))
         after.records after.clock
-        (ap (λ m. Some (Some m)) g.1 ∙ ap (λ b. (cond b granting refusing).reply) (sym g.0)) refl
+        (ap Named g.1 ∙ ap (λ b. (cond b granting refusing).reply) (sym g.0)) refl
 
 -- the reply that was held back reaches the replica: there is none, or a refusal, or a name
-pub none-after : (was : Playing) (turns : List Turn) → IsAfter was turns → was.reply ≡ None →
-    IsAfter (record was { reply = None; fresh = false }) (Accept ∷ turns)
+pub none-after : (was : Playing) (turns : List Turn) → IsAfter was turns → was.reply ≡ NoReply →
+    IsAfter (record was { reply = NoReply; fresh = false }) (Accept ∷ turns)
 none-after was turns after none =
-    turned was (record was { reply = None; fresh = false }) Accept turns after refl refl after.server
+    turned was (record was { reply = NoReply; fresh = false }) Accept turns after refl refl after.server
     (subst (λ r. StandsFor was.replica (after_reply r (played turns).replica)) (sym none ∙ after.reply) after.replica)
     after.records after.clock refl refl
 
-pub refused-after : (was : Playing) (replica : Kept) (turns : List Turn) → IsAfter was turns → was.reply ≡ Some None → GoesOn was.replica Refuses replica →
-    IsAfter (record was { replica = replica; reply = None; fresh = false }) (Accept ∷ turns)
+pub refused-after : (was : Playing) (replica : ReplicaState) (turns : List Turn) → IsAfter was turns → was.reply ≡ Refusal → GoesOn was.replica Refuses replica →
+    IsAfter (record was { replica = replica; reply = NoReply; fresh = false }) (Accept ∷ turns)
 refused-after was replica turns after none goes =
-    turned was (record was { replica = replica; reply = None; fresh = false }) Accept turns after refl refl after.server
+    turned was (record was { replica = replica; reply = NoReply; fresh = false }) Accept turns after refl refl after.server
     (subst (λ r. StandsFor replica (after_reply r (played turns).replica)) (sym none ∙ after.reply) (goes (played turns).replica after.replica))
     after.records after.clock refl refl
 
-pub accept-after : (was : Playing) (replica : Kept) (name : ℕ) (turns : List Turn) → IsAfter was turns → was.reply ≡ Some (Some name) →
+pub accept-after : (was : Playing) (replica : ReplicaState) (name : ℕ) (turns : List Turn) → IsAfter was turns → was.reply ≡ Named name →
     TakesTurn was.replica (Accepts name) replica →
-    IsAfter (record was { replica = replica; reply = None; fresh = false }) (Accept ∷ turns)
+    IsAfter (record was { replica = replica; reply = NoReply; fresh = false }) (Accept ∷ turns)
 accept-after was replica name turns after named takes =
-    turned was (record was { replica = replica; reply = None; fresh = false }) Accept turns after refl refl after.server
+    turned was (record was { replica = replica; reply = NoReply; fresh = false }) Accept turns after refl refl after.server
     (subst (λ r. StandsFor replica (after_reply r (played turns).replica)) (sym named ∙ after.reply) (takes (played turns).replica after.replica))
     after.records after.clock refl refl
 
@@ -197,14 +201,14 @@ end-after was server name lived turns after is ends =
     by : (b : Bool) → Ended (first_of turns) name (clock_of turns) (played turns).commands b was.server server →
         Serves server (first_of turns) (given_up (Some name) (first_of turns) (clock_of turns) (played turns).commands)
     by true e =
-        subst (λ b. Serves server (first_of turns) (cond b (Ends name ∷ (played turns).commands) (played turns).commands)) (sym e.0) e.1
+        subst (λ b. Serves server (first_of turns) (cond b (Ends (clock_of turns) name ∷ (played turns).commands) (played turns).commands)) (sym e.0) e.1
     by false e =
-        subst (λ b. Serves server (first_of turns) (cond b (Ends name ∷ (played turns).commands) (played turns).commands))
+        subst (λ b. Serves server (first_of turns) (cond b (Ends (clock_of turns) name ∷ (played turns).commands) (played turns).commands))
         (sym e.0)
         (subst (λ s. Serves s (first_of turns) (played turns).commands) (sym e.1) after.server)
 
 -- a note that was sent reaches the replica
-pub deliver-after : (was : Playing) (replica : Kept) (number : ℕ) (note : Note) (turns : List Turn) → IsAfter was turns → may_stand turns (Deliver number) ≡ true →
+pub deliver-after : (was : Playing) (replica : ReplicaState) (number : ℕ) (note : Note) (turns : List Turn) → IsAfter was turns → may_stand turns (Deliver number) ≡ true →
     sent_note number (notes_of (first_of turns) (played turns).commands) ≡ Some note → TakesTurn was.replica (Delivers note) replica →
     IsAfter (record was { replica = replica; fresh = false }) (Deliver number ∷ turns)
 deliver-after was replica number note turns after may is takes =
@@ -226,8 +230,8 @@ folder-after was path turns after =
     turned was (with_record was (folder_record path)) (Folder path) turns after refl refl after.server after.replica
     (ap (λ r. r ++ folder_record path ∷ []) after.records) after.clock after.reply refl
 
-pub track-after : (was : Playing) (path : List (List ℕ)) (content : Content) (turns : List Turn) → IsAfter was turns →
-    IsAfter (with_record was (record { path = path; content = content })) (Track path content ∷ turns)
-track-after was path content turns after =
-    turned was (with_record was (record { path = path; content = content })) (Track path content) turns after refl refl after.server after.replica
-    (ap (λ r. r ++ (record { path = path; content = content }) ∷ []) after.records) after.clock after.reply refl
+pub track-after : (was : Playing) (path : List (List ℕ)) (info : FlacInfo) (size : ℕ) (turns : List Turn) → IsAfter was turns →
+    IsAfter (with_record was (track_record path info size)) (Track path info size ∷ turns)
+track-after was path info size turns after =
+    turned was (with_record was (track_record path info size)) (Track path info size) turns after refl refl after.server after.replica
+    (ap (λ r. r ++ track_record path info size ∷ []) after.records) after.clock after.reply refl

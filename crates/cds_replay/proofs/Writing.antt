@@ -1,6 +1,6 @@
 -- What a written answer says of the script that it ends.
 use Rattle.std.proofs.Common.{◌≡◌, ℕ, List, [], ◌++◌, Option, Some, None, Result, Err, IfErr, OnOk, refl, ap, sym, subst, ◌∙◌, ◌⊎◌, inl, inr}
-use Rattle.cds_model.specs.Report.{Ending}
+use Rattle.cds_script.specs.Report.{Ending}
 use Rattle.cds_replay.specs.Script.{stop_text, AtLimit, EndsAt}
 use Rattle.cds_replay.specs.declared.script.Stop.{Stop}
 use Rattle.cds_replay.specs.declared.script.Stop.TheVariants.{Outside, Limit as PastLimit}

@@ -1,18 +1,18 @@
 -- The lines of a report, by what the store and the replica answered.
 use Rattle.std.specs.Prelude.{ℕ, Bool, true, false, List, [], ◌++◌, map, Result, Ok, Err, codes}
 use Rattle.std.specs.List.{filter_map}
-use Rattle.cds_notes.specs.Copy.{shown_row}
-use Rattle.cds_replica.specs.Copied.{KeptRow}
+use Rattle.cds_follow.specs.Copy.{shown_row}
+use Rattle.cds_replica.specs.CopyState.{KeptRow}
 use Rattle.std.specs.Fmt.{decimal}
 use Rattle.cds_object.specs.Object.{ObjectRow}
 use Rattle.cds_object.specs.Fragment.{full_text}
 use Rattle.cds_store.specs.declared.span.Span.{Span}
 use Rattle.cds_store.specs.declared.error.ApplyError.{ApplyError}
 use Rattle.cds_store.specs.declared.error.ApplyError.TheVariants.{BadRecords, Full, Spent, Mem}
-use Rattle.cds_model.specs.declared.exchange.Read.{Read}
-use Rattle.cds_model.specs.declared.exchange.Read.TheVariants.{Ok as ReadOk, Fault as ReadFault}
-use Rattle.cds_notes.specs.declared.says.Says.{Says}
-use Rattle.cds_notes.specs.declared.says.Says.TheVariants.{Gap, BehindLoad, BehindRead, BehindVersion, Stands}
+use Rattle.cds_load.specs.declared.exchange.Read.{Read}
+use Rattle.cds_load.specs.declared.exchange.Read.TheVariants.{Ok as ReadOk, Fault as ReadFault}
+use Rattle.cds_follow.specs.declared.says.Says.{Says}
+use Rattle.cds_follow.specs.declared.says.Says.TheVariants.{Gap, BehindLoad, BehindRead, BehindVersion, Stands}
 use Rattle.cds_replica.specs.declared.note.Taken.{Taken}
 use Rattle.cds_replica.specs.declared.note.Taken.TheVariants.{Took, Repeat, Early, Held}
 use Rattle.cds_replica.specs.declared.notify_error.NotifyError.{NotifyError}

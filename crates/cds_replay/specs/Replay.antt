@@ -1,7 +1,7 @@
 -- How a replay ends, and what its sink holds then.
 use Rattle.std.specs.Prelude.{◌≡◌, ℕ, List, ◌++◌, Option, Some, None, Result, Ok, Err}
 use Rattle.cds_base.specs.Outside.{WhereTold}
-use Rattle.cds_model.specs.Report.{Ending, written_first}
+use Rattle.cds_script.specs.Report.{Ending, written_first}
 use Rattle.cds_replay.specs.Script.{GoesOn, stop_status, stop_text}
 use Rattle.cds_replay.specs.declared.script.Script.{Script}
 use Rattle.cds_replay.specs.declared.script.Stop.{Stop}

@@ -3,9 +3,8 @@ use Rattle.std.specs.Prelude.{◌≡◌, ℕ, ◌+◌, ◌-◌, ◌<◌, ◌≤�
 use Rattle.std.specs.Fmt.{decimal}
 use Rattle.cds_script.specs.declared.turn.Meaning.{Meaning}
 use Rattle.cds_script.specs.declared.turn.Turn.{Turn}
-use Rattle.cds_model.specs.Script.{is_unbroken, line_limit, script_limit}
-use Rattle.cds_model.specs.Report.{Ending, written_first}
-use Rattle.cds_script.specs.Report.{ending_at, ending_of}
+use Rattle.cds_script.specs.Lines.{is_unbroken, line_limit, script_limit}
+use Rattle.cds_script.specs.Report.{Ending, written_first, ending_at, ending_of}
 use Rattle.cds_script.specs.Script.{moment_limit}
 use Rattle.cds_replay.specs.Session.{Playing, IsAfter, IsPlayed}
 use Rattle.cds_replay.specs.declared.script.Script.{Script}

@@ -2,7 +2,7 @@
 use Rattle.std.specs.Prelude.{◌<◌, ℕ, List, [], length, Option, Some, None, MatchOption, unwrap_or, slice_get}
 use Rattle.std.specs.List.{AllByRecursion}
 use Rattle.cds_event.specs.declared.Event.{Event}
-use Rattle.cds_notes.specs.Commands.{Note}
+use Rattle.cds_commands.specs.Notes.{Note}
 use Rattle.cds_replay.specs.declared.book.Subscription.{Subscription}
 use Rattle.cds_replay.specs.declared.sent.SentNote.{SentNote}
 use Rattle.cds_replay.specs.declared.sent.SentHead.{SentHead}

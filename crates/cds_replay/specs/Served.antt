@@ -2,10 +2,13 @@
 use Rattle.std.specs.Prelude.{◌≡◌, true, false, List, [], ◌∷◌, ◌++◌, replicate, Some, None, codes}
 use Rattle.cds_catalog.specs.Library.{FolderMap}
 use Rattle.cds_catalog.specs.Evaluated.{a_track}
-use Rattle.cds_notes.specs.Commands.{Command, Scans, Grants, Ends, Ticks, has_room, notes_of}
-use Rattle.cds_notes.specs.Evaluated.{one, two, added, added_other, tracks_come}
+use Rattle.cds_commands.specs.Commands.{Command, Scans, Grants, Ends, Ticks}
+use Rattle.cds_commands.specs.Notes.{has_room, notes_of}
+use Rattle.cds_commands.specs.Evaluated.{one, two, added, added_other}
+use Rattle.cds_follow.specs.Evaluated.{tracks_come}
 use Rattle.cds_script.specs.Report.{sent_note}
 use Rattle.cds_replay.specs.Serving.{subscribed_by, released_by}
+use Rattle.cds_script.specs.Script.{grant_at}
 
 -- two tracks that come one after another, each told to a subscription that was there before
 abbrev pub tracks_are_told : Type 0
@@ -22,7 +25,7 @@ abbrev pub three : FolderMap
 three = two ++ (codes "c" ∷ [], a_track 10) ∷ []
 
 abbrev pub hurried : List Command
-hurried = Ticks 1199 ∷ Scans three ∷ Ticks 1100 ∷ Scans two ∷ Ticks 1000 ∷ Scans one ∷ Grants 0 ∷ []
+hurried = Ticks 1199 ∷ Scans three ∷ Ticks 1100 ∷ Scans two ∷ Ticks 1000 ∷ Scans one ∷ grant_at 0 ∷ []
 
 abbrev pub releases_have_pauses : Type 0
 releases_have_pauses =
@@ -32,8 +35,8 @@ releases_have_pauses =
 -- a subscription ends where it is given up, or at a tick at or past its end
 abbrev pub subscriptions_end : Type 0
 subscriptions_end =
-    (subscribed_by 0 (Ticks 1800000 ∷ Ends 1 ∷ Grants 1 ∷ Grants 0 ∷ Grants 0 ∷ [])
+    (subscribed_by 0 (Ticks 1800000 ∷ Ends 0 1 ∷ grant_at 1 ∷ grant_at 0 ∷ grant_at 0 ∷ [])
     ≡ record { granted = 3; living = record { name = 3; end = 1800001; next_seq = 1 } ∷ [] })
-    × (has_room 1799999 (replicate 64 (Grants 0)) (notes_of 0 (replicate 64 (Grants 0))) ≡ false)
-    × (has_room 1800000 (replicate 64 (Grants 0)) (notes_of 0 (replicate 64 (Grants 0))) ≡ true)
-    × (has_room 0 (replicate 63 (Grants 0)) (notes_of 0 (replicate 63 (Grants 0))) ≡ true)
+    × (has_room 1799999 (replicate 64 (grant_at 0)) (notes_of 0 (replicate 64 (grant_at 0))) ≡ false)
+    × (has_room 1800000 (replicate 64 (grant_at 0)) (notes_of 0 (replicate 64 (grant_at 0))) ≡ true)
+    × (has_room 0 (replicate 63 (grant_at 0)) (notes_of 0 (replicate 63 (grant_at 0))) ≡ true)

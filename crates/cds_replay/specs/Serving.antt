@@ -12,9 +12,13 @@ use Rattle.cds_store.specs.Applied.{IsRefusal}
 use Rattle.cds_store.specs.Stands.{Stored, StandsFor}
 use Rattle.cds_store.specs.declared.error.ApplyError.{ApplyError}
 use Rattle.cds_store.specs.declared.span.Span.{Span}
-use Rattle.cds_notes.specs.Commands.{Command, Scans, Grants, Ends, scans_of, Release, release_size, release_pause, released_to, releases_of, granted, granted_time, runs_until, Note, next_seq_of, seq_limit, has_room, notes_of}
+use Rattle.cds_commands.specs.Commands.{Command, Scans, Grants, Ends, scans_of}
+use Rattle.cds_commands.specs.Releases.{Release, release_size, release_pause, released_to, releases_of}
+use Rattle.cds_commands.specs.Subscriptions.{granted, runs_until}
+use Rattle.cds_commands.specs.Notes.{Note, next_seq_of, seq_limit, has_room, notes_of}
 use Rattle.cds_script.specs.Report.{lives}
 use Rattle.cds_replay.specs.declared.book.Subscription.{Subscription}
+use Rattle.cds_script.specs.Script.{grant_at, granted_time}
 
 -- ---- subscriptions
 
@@ -154,10 +158,10 @@ pub record Serving : Type 0 where
   pub released : Released
   pub sent : List Note
 
--- whether a server stands for commands after a first number; its store keeps the changes that are not released yet
+-- whether a server stands for commands after a first number; its store keeps exactly the changes that are not released yet
 pub record Serves (serving : Serving) (first : ℕ) (commands : List Command) : Type 0 where
   pub store : StandsFor serving.store (scans_of first commands)
-  pub forgotten : serving.store.forgotten ≤ serving.released.to
+  pub forgotten : serving.store.forgotten ≡ serving.released.to
   pub subscribed : serving.subscribed ≡ subscribed_by first commands
   pub released : serving.released ≡ released_by first commands
   pub sent : serving.sent ≡ notes_of first commands
@@ -177,11 +181,11 @@ Granted first moment commands None before now = (has_room moment commands (notes
 Granted first moment commands (Some name) before now =
     (has_room moment commands (notes_of first commands) ≡ true)
     × (name ≡ granted commands + 1)
-    × Serves now first (Grants moment ∷ commands)
+    × Serves now first (grant_at moment ∷ commands)
 
 -- after a subscription was given up: it ends where it lives; else nothing changes
 abbrev pub Ended : ℕ → ℕ → ℕ → List Command → Bool → Serving → Serving → Type 0
-Ended first name moment commands true before now = (lives name first moment commands ≡ true) × Serves now first (Ends name ∷ commands)
+Ended first name moment commands true before now = (lives name first moment commands ≡ true) × Serves now first (Ends moment name ∷ commands)
 Ended first name moment commands false before now = (lives name first moment commands ≡ false) × (now ≡ before)
 
 -- what every server keeps: it stands for some commands

@@ -3,9 +3,12 @@ use Rattle.std.specs.Prelude.{◌≡◌, ◌&&◌, ℕ, nat_lt, List, ◌∷◌,
 use Rattle.cds_catalog.specs.Library.{FolderMap}
 use Rattle.cds_catalog.specs.History.{end_of}
 use Rattle.cds_changes.specs.Events.{events_between}
-use Rattle.cds_notes.specs.Commands.{Command, Scans, Grants, Ends, Ticks, scans_of, is_alive, next_seq_of, seq_limit, alive_names, subscription_limit, has_room, notes_of}
+use Rattle.cds_commands.specs.Commands.{Command, Scans, Grants, Ends, Ticks, scans_of}
+use Rattle.cds_commands.specs.Subscriptions.{is_alive, subscription_limit}
+use Rattle.cds_commands.specs.Notes.{next_seq_of, seq_limit, alive_names, has_room, notes_of}
 use Rattle.cds_script.specs.Report.{lives}
 use Rattle.cds_replay.specs.Serving.{subscribed_by, alive, with_grant, without, expired, notified, released_by, next_release, with_end, with_release, note_to}
+use Rattle.cds_script.specs.Script.{grant_at}
 
 -- a scan has one more end
 abbrev pub scans_have_ends : Type 0
@@ -17,15 +20,15 @@ scans_have_ends = (first : ℕ) (library : FolderMap) (older : List Command) →
 -- a grant sends the first note
 abbrev pub grants_send_a_note : Type 0
 grants_send_a_note = (first now : ℕ) (older : List Command) →
-    (subscribed_by first (Grants now ∷ older) ≡ with_grant now (subscribed_by first older))
-    × (released_by first (Grants now ∷ older) ≡ released_by first older)
+    (subscribed_by first (grant_at now ∷ older) ≡ with_grant now (subscribed_by first older))
+    × (released_by first (grant_at now ∷ older) ≡ released_by first older)
 
 -- an end drops the subscription
 abbrev pub ends_drop : Type 0
-ends_drop = (first name : ℕ) (older : List Command) →
-    (subscribed_by first (Ends name ∷ older) ≡ without name (subscribed_by first older))
-    × (released_by first (Ends name ∷ older) ≡ released_by first older)
-    × (notes_of first (Ends name ∷ older) ≡ notes_of first older)
+ends_drop = (first now name : ℕ) (older : List Command) →
+    (subscribed_by first (Ends now name ∷ older) ≡ without name (subscribed_by first older))
+    × (released_by first (Ends now name ∷ older) ≡ released_by first older)
+    × (notes_of first (Ends now name ∷ older) ≡ notes_of first older)
 
 -- a tick without a release drops the subscriptions that have run out
 abbrev pub ticks_expire : Type 0

@@ -1,25 +1,26 @@
 -- What a session of a script has, and for which turns it stands.
-use Rattle.std.specs.Prelude.{◌≡◌, ◌+◌, ◌<◌, ◌≤◌, ◌^◌, ℕ, Bool, false, nat_eq, List, [], ◌∷◌, ◌++◌, length, Option}
+use Rattle.std.specs.Prelude.{◌≡◌, ◌+◌, ◌<◌, ◌≤◌, ◌^◌, ℕ, Bool, false, nat_eq, List, [], ◌∷◌, ◌++◌, length, Option, Some, None}
 use Rattle.cds_object.specs.declared.record.Record.{Record}
 use Rattle.cds_store.specs.Rows.{rows_of}
 use Rattle.cds_store.specs.Stands.{Stored}
-use Rattle.cds_model.specs.Server.{Moment}
-use Rattle.cds_model.specs.Report.{script_token}
-use Rattle.cds_replica.specs.Kept.{Kept, StandsFor}
+use Rattle.cds_load.specs.Server.{Moment}
+use Rattle.cds_script.specs.Report.{script_token, played, first_of, clock_of, records_since}
+use Rattle.cds_replica.specs.State.{ReplicaState, StandsFor}
 use Rattle.cds_script.specs.declared.turn.Turn.{Turn}
 use Rattle.cds_script.specs.Script.{moment_limit}
-use Rattle.cds_script.specs.Report.{played, first_of, clock_of, records_since}
 use Rattle.cds_script.specs.Played.{MayBe}
 use Rattle.cds_replay.specs.Serving.{Serving, Serves}
+use Rattle.cds_script.specs.declared.reply.HeldReply.{HeldReply}
+use Rattle.cds_script.specs.declared.reply.HeldReply.TheVariants.{Named, Refusal}
 
 -- what a session has: the server, the replica, the records since the last scan, the current moment, the reply to a subscribe
 -- request that is held back, which is a name or a refusal, and whether no turn came yet
 pub record Playing : Type 0 where
   pub server : Serving
-  pub replica : Kept
+  pub replica : ReplicaState
   pub records : List Record
   pub clock : ℕ
-  pub reply : Option (Option ℕ)
+  pub reply : HeldReply
   pub fresh : Bool
 
 -- whether a session stands for turns, the newest first: its server for the commands that were accepted, its replica for the
@@ -32,6 +33,11 @@ pub record IsAfter (playing : Playing) (turns : List Turn) : Type 0 where
   pub clock : playing.clock ≡ clock_of turns
   pub reply : playing.reply ≡ (played turns).reply
   pub fresh : playing.fresh ≡ nat_eq (length turns) 0
+
+-- the reply to a subscribe request, by the name under which it was granted
+abbrev pub held_reply : Option ℕ → HeldReply
+held_reply (Some name) = Named name
+held_reply None = Refusal
 
 -- what a script's server shows while a store has this
 abbrev pub moment_in : Stored → Moment

@@ -4,8 +4,9 @@
 ghost use Rattle.std.specs.Prelude.{◌≡◌, ◌+◌, ◌&&◌, ◌<◌, ◌≤◌, ◌^◌, true, not, nat_eq, nat_lt, map, filter, length, OnOk};
 ghost use Rattle.std.specs.Bool.{MatchBool};
 ghost use Rattle.std.specs.List.{All, list_any};
-ghost use Rattle.cds_notes.specs.Commands.{granted_time, subscription_limit};
+ghost use Rattle.cds_commands.specs.Subscriptions.{subscription_limit};
 ghost use Rattle.cds_replay.specs.Serving.{alive, expired, has_next, holds_alive, nothing_granted, notified, raised, with_grant, without};
+ghost use Rattle.cds_script.specs.Script.{granted_time};
 
 use cds_base::Mem;
 use std::alloc::Global;

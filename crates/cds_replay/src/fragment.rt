@@ -2,50 +2,13 @@
 
 ghost use Rattle.std.specs.Prelude.{◌≡◌, ◌++◌, ◌/◌, ◌%◌, ◌<◌, OnOk, Some, string_bytes, codes, nat_eq, cond, []};
 ghost use Rattle.std.specs.Option.{option_map};
-ghost use Rattle.cds_object.specs.Fragment.{fragment, container_text, item_text, object_attributes, parent_text, text_element, number_element, two_digits, three_digits, duration_text, seconds_text, duration_attribute, number_attribute, rate_attribute, sound_attributes, resource_attributes, resource_text, work_text, item_front, container_front, trackers_text, if_there};
+ghost use Rattle.cds_object.specs.Fragment.{fragment, container_text, item_text, object_attributes, parent_text, two_digits, three_digits, duration_text, seconds_text, duration_attribute, rate_attribute, sound_attributes, resource_attributes, resource_text, work_text, item_front, container_front, trackers_text, if_there};
+ghost use Rattle.cds_base.specs.Writing.{text_element, number_element, number_attribute};
 
-use cds_base::{Mem, Text, escape, put, put_number};
+use cds_base::{
+    Mem, Text, put, put_number, put_number_attribute, put_number_element, put_text_element,
+};
 use cds_object::{Content, Row, TrackContent, Trackers};
-
-/// Puts an element without attributes round a text.
-#[tactic(auto, unfolding(cds_object::specs::Fragment::text_element))]
-fn put_text_element(out: &mut String, name: &str, text: &str) -> Result<(), Mem>
-    ensures { OnOk result (string_bytes out.new ≡ string_bytes out.old ++ text_element name.now text.now) }
-{
-    put_start(out, name)?;
-    escape(text, out)?;
-    put_end(out, name)?;
-    Ok(())
-}
-
-/// Puts an element without attributes round a number.
-#[tactic(auto, unfolding(cds_object::specs::Fragment::number_element))]
-fn put_number_element(out: &mut String, name: &str, number: u64) -> Result<(), Mem>
-    ensures { OnOk result (string_bytes out.new ≡ string_bytes out.old ++ number_element name.now number) }
-{
-    put_start(out, name)?;
-    put_number(out, number)?;
-    put_end(out, name)?;
-    Ok(())
-}
-
-fn put_start(out: &mut String, name: &str) -> Result<(), Mem>
-    ensures { OnOk result (string_bytes out.new ≡ string_bytes out.old ++ (codes "<" ++ name.now ++ codes ">")) }
-{
-    put(out, "<")?;
-    put(out, name)?;
-    put(out, ">")?;
-    Ok(())
-}
-
-fn put_end(out: &mut String, name: &str) -> Result<(), Mem>
-    ensures { OnOk result (string_bytes out.new ≡ string_bytes out.old ++ (codes "</" ++ name.now ++ codes ">")) }
-{
-    put(out, "</")?;
-    put(out, name)?;
-    put(out, ">")?;
-    Ok(())
-}
 
 /// Puts the id of an object's parent.
 fn put_parent(out: &mut String, row: &Row) -> Result<(), Mem>
@@ -156,19 +119,6 @@ fn put_duration_attribute(out: &mut String, duration: Option<u64>) -> Result<(),
         None => Ok(()),
         Some(milliseconds) => put_known_duration(out, milliseconds),
     }
-}
-
-/// Puts an attribute of a number.
-#[tactic(auto, unfolding(cds_object::specs::Fragment::number_attribute))]
-fn put_number_attribute(out: &mut String, name: &str, number: u64) -> Result<(), Mem>
-    ensures { OnOk result (string_bytes out.new ≡ string_bytes out.old ++ number_attribute name.now number) }
-{
-    put(out, " ")?;
-    put(out, name)?;
-    put(out, "=\"")?;
-    put_number(out, number)?;
-    put(out, "\"")?;
-    Ok(())
 }
 
 /// Puts the attribute of the samples in a second, where they are known.

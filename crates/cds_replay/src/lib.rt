@@ -3,7 +3,6 @@
 
 mod book;
 mod fragment;
-mod input;
 mod laws;
 mod play;
 mod releases;
@@ -15,7 +14,6 @@ mod served;
 mod server;
 mod session;
 
-pub use input::{empty_piece, read_piece};
 pub use play::{ReplayError, replay};
 
 #[cfg(test)]

@@ -1,20 +1,19 @@
 //! A script from a source, and its report into a sink.
 
 ghost use Rattle.std.specs.Prelude.{◌≡◌, ℕ, ◌+◌, ◌-◌, ◌<◌, ◌≤◌, ◌++◌, ◌⊎◌, [], ◌∷◌, List, true, Option, Some, length, take, drop, IfOk, IfErr, OnOk, OnErr};
+ghost use Rattle.cds_base.specs.declared.limits.TheConstants.{INPUT_LIMIT};
 ghost use Rattle.cds_base.specs.Outside.{raised, Rose, WhereTold};
-ghost use Rattle.cds_model.specs.Script.{is_unbroken, line_limit, script_limit};
-ghost use Rattle.cds_model.specs.Report.{Ending, outside_ending};
+ghost use Rattle.cds_script.specs.Lines.{is_unbroken, line_limit, script_limit};
+ghost use Rattle.cds_script.specs.Report.{Ending, outside_ending, script_ending};
 ghost use Rattle.cds_script.specs.Complete.{AnswersAreComplete};
 ghost use Rattle.cds_script.specs.LoadBounds.{BoundsLoads};
 ghost use Rattle.cds_script.specs.Played.{script_turns, script_stop, IsReportOf};
-ghost use Rattle.cds_script.specs.Report.{script_ending};
 ghost use Rattle.cds_script.specs.ScriptGiven.{StandsAtScanEnds};
 ghost use Rattle.cds_replay.specs.Script.{left_in, Sound, GoesOn};
 ghost use Rattle.cds_replay.specs.Replay.{OnLine, OnLimit, OnReadFault, OnWriteFault, Holds, EndsIn, Played, Stopped, answer_of};
 
-use crate::input::{empty_piece, read_piece};
 use crate::script::{Script, Stop, cut_line};
-use cds_base::{Failed, Mem, Sink, Source, write_all};
+use cds_base::{Failed, Mem, Sink, Source, empty_piece, read_piece, write_all};
 use std::alloc::Global;
 use std::convert::From;
 use thiserror::Error;
@@ -64,16 +63,16 @@ pub fn replay<S: Source, K: Sink>(
     ensures ok_status { OnOk result (WhereTold (S.left source.old) (λ script. (script_ending script).status ≡ 0)) }
     ensures ok_report { OnOk result (WhereTold (S.left source.old) (λ script. Holds (K.holds sink.old) (script_ending script).text (K.holds sink.new))) }
     ensures ok_end { OnOk result (WhereTold (S.left source.old) (λ script. S.left source.new ≡ Some [])) }
-    ensures ok_moved { OnOk result (S.moved source.new ≤ raised (S.moved source.old) 67108864) }
+    ensures ok_moved { OnOk result (S.moved source.new ≤ raised (S.moved source.old) INPUT_LIMIT) }
     ensures line_status { IfErr result (λ e. OnLine e (λ line. WhereTold (S.left source.old) (λ script. (script_ending script).status ≡ 1))) }
     ensures line_report { IfErr result (λ e. OnLine e (λ line. WhereTold (S.left source.old) (λ script. Holds (K.holds sink.old) (script_ending script).text (K.holds sink.new)))) }
     ensures line_number { IfErr result (λ e. OnLine e (λ line. WhereTold (S.left source.old) (λ script. (front : List ℕ) × ((script_ending script).text ≡ front ++ (outside_ending line).text)))) }
     ensures limit_status { IfErr result (λ e. OnLimit e (WhereTold (S.left source.old) (λ script. (script_ending script).status ≡ 6))) }
     ensures limit_report { IfErr result (λ e. OnLimit e (WhereTold (S.left source.old) (λ script. Holds (K.holds sink.old) (script_ending script).text (K.holds sink.new)))) }
-    ensures limit_moved { IfErr result (λ e. OnLimit e (raised (S.moved source.old) 4097 ≤ S.moved source.new)) }
+    ensures limit_moved { IfErr result (λ e. OnLimit e (raised (S.moved source.old) (line_limit + 1) ≤ S.moved source.new)) }
     ensures read_fault { IfErr result (λ e. OnReadFault e (Rose (S.faults source.old) (S.faults source.new))) }
     ensures write_fault { IfErr result (λ e. OnWriteFault e (Rose (K.faults sink.old) (K.faults sink.new))) }
-    ensures taken { S.moved source.new ≤ S.moved source.old + 67108865 }
+    ensures taken { S.moved source.new ≤ S.moved source.old + (INPUT_LIMIT + 1) }
     ensures source_faults { S.faults source.old ≤ S.faults source.new }
     ensures sink_faults { K.faults sink.old ≤ K.faults sink.new }
     ensures turns { WhereTold (S.left source.old) (λ script. IsReportOf (script_turns script) (script_stop script) (script_ending script)) }
@@ -81,11 +80,11 @@ pub fn replay<S: Source, K: Sink>(
     ensures stands { WhereTold (S.left source.old) (λ script. StandsAtScanEnds (script_turns script)) }
     ensures complete { WhereTold (S.left source.old) (λ script. AnswersAreComplete (script_turns script)) }
 {
-    cds_script::script_turns_may_be();
-    cds_script::reports_are_of_turns();
-    cds_script::all_turns_bound_loads();
-    cds_script::all_turns_stand_at_scan_ends();
-    cds_script::all_answers_are_complete();
+    cds_script::laws::script_turns_may_be();
+    cds_script::laws::reports_are_of_turns();
+    cds_script::laws::all_turns_bound_loads();
+    cds_script::laws::all_turns_stand_at_scan_ends();
+    cds_script::laws::all_answers_are_complete();
     let mut buffer = empty_piece(alloc)?;
     let mut script = Script::new(alloc)?;
     play_on(alloc, &mut script, buffer.as_mut_slice(), source, sink)

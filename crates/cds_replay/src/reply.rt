@@ -5,7 +5,7 @@ ghost use Rattle.std.specs.List.{filter_map, cons_option};
 ghost use Rattle.cds_object.specs.Object.{is_folder};
 ghost use Rattle.cds_object.specs.Tree.{row_of};
 ghost use Rattle.cds_store.specs.Rows.{rows_of};
-ghost use Rattle.cds_model.specs.Server.{reply_to, metadata_reply, children_reply, update_of, container_update};
+ghost use Rattle.cds_load.specs.Server.{reply_to, metadata_reply, children_reply, update_of, container_update};
 ghost use Rattle.cds_replay.specs.Session.{moment_in};
 
 use cds_base::{Mem, Text};

@@ -4,22 +4,18 @@ ghost use Rattle.std.specs.Prelude.{◌≡◌, ℕ, ◌+◌, ◌<◌, ◌≤◌,
 ghost use Rattle.cds_script.specs.declared.turn.Turn.{Turn as TurnValue};
 ghost use Rattle.cds_script.specs.declared.turn.Meaning.TheVariants.{Means};
 ghost use Rattle.cds_replay.specs.declared.script.Stop.TheVariants.{Outside};
-ghost use Rattle.cds_model.specs.Script.{is_unbroken, line_limit, script_limit};
+ghost use Rattle.cds_script.specs.Lines.{is_unbroken, line_limit, script_limit};
 ghost use Rattle.cds_script.specs.Script.{meaning_of, IsInRange};
-ghost use Rattle.cds_model.specs.Report.{Ending};
-ghost use Rattle.cds_script.specs.Report.{script_ending};
+ghost use Rattle.cds_script.specs.Report.{Ending, script_ending};
 ghost use Rattle.cds_replay.specs.Session.{IsAfter, IsPlayed, IsBounded, Grows};
 ghost use Rattle.cds_replay.specs.Script.{stop_text, left_in, Sound, GoesOn, Fed, Finished, WhileGoing, AtLimit, LineRead};
 
 use crate::session::Session;
-use cds_base::{Mem, put, put_number};
+use cds_base::{INPUT_LIMIT, Mem, put, put_number};
 use cds_script::{Meaning, Turn, read_line};
 use memchr::memchr;
 use std::alloc::Global;
 use std::mem::replace;
-
-/// How many bytes a script has at most, with the LFs.
-const SCRIPT_LIMIT: usize = 67_108_864;
 
 /// How many bytes a line has at most, without its LF.
 const LINE_LIMIT: usize = 4_096;
@@ -58,7 +54,7 @@ impl Script {
             session,
             partial: Vec::new(alloc),
             line: 1,
-            room: SCRIPT_LIMIT,
+            room: INPUT_LIMIT,
         })
     }
 
@@ -184,7 +180,7 @@ fn answer_line(
     ensures played { IfOk result (λ stop. WhileGoing stop (IsPlayed session.new)) }
     ensures no_limit { IfOk result (λ stop. AtLimit stop ⊥) }
 {
-    cds_script::lines_mean_in_range();
+    cds_script::laws::lines_mean_in_range();
     match read_line(alloc, line)? {
         Meaning::Nothing => Ok(None),
         Meaning::Means(turn) => answer_turn(session, alloc, turn, number, out),

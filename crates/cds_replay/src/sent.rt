@@ -1,7 +1,7 @@
 //! The notes that a script's server sent.
 
 ghost use Rattle.std.specs.Prelude.{◌≡◌, ◌++◌, [], ◌∷◌, map, length, slice_get, option_map, IfOk, OnErr, OnOk};
-ghost use Rattle.cds_notes.specs.Commands.{first_note};
+ghost use Rattle.cds_commands.specs.Notes.{first_note};
 ghost use Rattle.cds_script.specs.Report.{sent_note};
 ghost use Rattle.cds_replay.specs.Serving.{alive, note_to};
 ghost use Rattle.cds_replay.specs.Sending.{events_at, head_of, kept_note, told_note};
@@ -39,7 +39,7 @@ pub struct Sent {
 
 impl Model for Sent {
     ghost use Rattle.std.specs.Prelude.{List, map};
-    ghost use Rattle.cds_notes.specs.Commands.{Note};
+    ghost use Rattle.cds_commands.specs.Notes.{Note};
 
     ghost Value = { List Note };
 

@@ -1,10 +1,11 @@
 //! The private server of a script: its store, its subscriptions, its releases and the notes that it sent.
 
 ghost use Rattle.std.specs.Prelude.{◌≡◌, ◌+◌, ◌<◌, ◌≤◌, ◌^◌, ℕ, List, [], ◌∷◌, length, Some, slice_get, option_map, IfOk, OnErr, OnOk};
-ghost use Rattle.cds_notes.specs.Commands.{Command, Ticks, granted_time};
+ghost use Rattle.cds_commands.specs.Commands.{Command, Ticks};
 ghost use Rattle.cds_script.specs.Report.{sent_note};
 ghost use Rattle.cds_replay.specs.Sending.{head_of};
 ghost use Rattle.cds_replay.specs.Serving.{Ended, Granted, Scanned, Serves, next_release};
+ghost use Rattle.cds_script.specs.Script.{granted_time};
 
 use crate::book::Book;
 use crate::releases::Releases;

@@ -1,13 +1,11 @@
 //! A script's server and replica, which take its turns one by one.
 
 ghost use Rattle.std.specs.Prelude.{◌≡◌, ◌+◌, ◌<◌, ◌≤◌, ◌++◌, ◌^◌, ◌&&◌, [], ◌∷◌, List, true, nat_lt, nat_le, length, codes, IfOk, OnOk, string_bytes};
-ghost use Rattle.cds_notes.specs.Commands.{granted_time};
 ghost use Rattle.cds_script.specs.declared.turn.Turn.{Turn as TurnValue};
 ghost use Rattle.cds_script.specs.declared.turn.Turn.TheVariants.{Scan, Load, Read, Ask, Subscribe, Accept, Unsubscribe, ReadFault, First, At, Deliver};
-ghost use Rattle.cds_script.specs.Script.{IsInRange, moment_limit};
-ghost use Rattle.cds_script.specs.Report.{may_stand, written_by};
-ghost use Rattle.cds_model.specs.Report.{folder_record};
-ghost use Rattle.cds_replay.specs.Session.{IsAfter, IsPlayed, IsBounded, Grows, with_record};
+ghost use Rattle.cds_script.specs.Script.{IsInRange, moment_limit, granted_time};
+ghost use Rattle.cds_script.specs.Report.{may_stand, written_by, folder_record, track_record};
+ghost use Rattle.cds_replay.specs.Session.{held_reply, IsAfter, IsPlayed, IsBounded, Grows, with_record};
 
 use crate::reply::reply;
 use crate::report::{
@@ -15,9 +13,9 @@ use crate::report::{
 };
 use crate::server::Server;
 use cds_base::{Mem, Sequence, Text, put};
-use cds_object::{Content, Path, Record, Records};
+use cds_object::{Content, FlacInfo, Path, Record, Records, content_of};
 use cds_replica::{AnswerError, NotifyError, Replica, Sid};
-use cds_script::Turn;
+use cds_script::{HeldReply, Turn};
 use std::alloc::Global;
 use std::marker::Model;
 
@@ -30,8 +28,8 @@ pub struct Session {
     records: Records,
     /// The current moment, in milliseconds.
     clock: u64,
-    /// The reply to a subscribe request that has not reached the replica: a name, or a refusal.
-    reply: Option<Option<u32>>,
+    /// The reply to a subscribe request that has not reached the replica.
+    reply: HeldReply,
     /// Whether no turn came yet.
     fresh: bool,
 }
@@ -55,7 +53,7 @@ impl Session {
             replica: Replica::new(alloc),
             records: Sequence::new(alloc),
             clock: 0,
-            reply: None,
+            reply: HeldReply::NoReply,
             fresh: true,
         })
     }
@@ -93,7 +91,7 @@ impl Session {
     {
         match turn {
             Turn::Folder { path } => self.add_folder(alloc, path),
-            Turn::Track { path, content } => self.add(Record { path, content }),
+            Turn::Track { path, info, size } => self.add_track(alloc, path, &info, size),
             Turn::Scan => self.scan(alloc, out),
             Turn::Load => self.load(),
             Turn::Read => self.read(alloc, out),
@@ -123,6 +121,21 @@ impl Session {
     {
         let title = Text::read(alloc, path.name())?;
         let content = Content::Folder { title };
+        self.add(Record { path, content })
+    }
+
+    /// Adds the record of a track: what its file says, and its size in bytes.
+    fn add_track(
+        &mut self,
+        alloc: Global,
+        path: Path,
+        info: &FlacInfo,
+        size: u64,
+    ) -> Result<(), Mem>
+        requires { info.now.samples < 2 ^ 36 }
+        ensures { OnOk result (self.new ≡ with_record self.old (track_record path info.now size)) }
+    {
+        let content = content_of(alloc, info, path.name(), size)?;
         self.add(Record { path, content })
     }
 
@@ -221,7 +234,7 @@ impl Session {
     {
         let sent = self.server.sent_len();
         self.replica.subscribing()?;
-        self.reply = Some(self.server.subscribe(self.clock)?);
+        self.reply = held_reply(self.server.subscribe(self.clock)?);
         self.fresh = false;
         put_notes(out, &self.server, sent)
     }
@@ -234,13 +247,15 @@ impl Session {
         ensures grows { OnOk result (Grows self.old self.new) }
     {
         self.fresh = false;
-        match self.reply.take() {
-            None => put(out, "accept none\n"),
-            Some(None) => {
+        let reply = self.reply;
+        self.reply = HeldReply::NoReply;
+        match reply {
+            HeldReply::NoReply => put(out, "accept none\n"),
+            HeldReply::Refusal => {
                 self.replica.not_subscribed();
                 put(out, "accept 503\n")
             }
-            Some(Some(name)) => {
+            HeldReply::Named { name } => {
                 match self.replica.subscribed(alloc, Sid(u128::from(name))) {
                     Ok(()) => put(out, "accept 200\n"),
                     Err(NotifyError::Mem) => Err(Mem),
@@ -296,5 +311,15 @@ impl Session {
     {
         self.fresh = false;
         put(out, "readfault\n")
+    }
+}
+
+/// The reply to a subscribe request, by the name under which it was granted.
+fn held_reply(name: Option<u32>) -> HeldReply
+    ensures { result ≡ held_reply name }
+{
+    match name {
+        Some(name) => HeldReply::Named { name },
+        None => HeldReply::Refusal,
     }
 }

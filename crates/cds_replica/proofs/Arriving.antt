@@ -3,8 +3,8 @@ use Rattle.std.proofs.Common.{◌≡◌, ◌<◌, ℕ, Bool, true, false, cond, 
 use Rattle.std.specs.Prelude.{nat_le}
 use Rattle.std.specs.List.{list_any}
 use Rattle.std.proofs.lemmas.Bool.{leb-false}
-use Rattle.cds_notes.specs.Commands.{Note}
-use Rattle.cds_notes.specs.Inbox.{has_seq, is_same_note, held_limit, Arrival, IsUnknown, IsRepeat, IsTooMany, IsEarly, IsHeld, IsNext}
+use Rattle.cds_commands.specs.Notes.{Note}
+use Rattle.cds_follow.specs.Inbox.{has_seq, is_same_note, held_limit, Arrival, IsUnknown, IsRepeat, IsTooMany, IsEarly, IsHeld, IsNext}
 use Rattle.cds_replica.specs.Inboxed.{KeptInbox, accepts, repeats, follows, held_count, arrival_in}
 
 -- an arrival by its five tests

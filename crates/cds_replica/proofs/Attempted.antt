@@ -4,31 +4,32 @@ use Rattle.std.specs.Prelude.{IfSome, option_copied, slice_get}
 use Rattle.std.specs.List.{AllByRecursion}
 use Rattle.cds_object.specs.Object.{ObjectRow}
 use Rattle.cds_event.specs.declared.Event.{Event}
-use Rattle.cds_changes.specs.Events.{update_of}
-use Rattle.cds_model.specs.Attempts.{Verdict, CannotBe as CannotCome, verdict_of, attempt_of, says_by}
-use Rattle.cds_model.specs.Replica.{Held, Idle, Begun, HasToken, HasNumber, HasRoot, Lists, HasPage, HasCopy, Taken, Holds, Unreadable as NotReadable, Torn as CannotBe, taken, next_ask as load_ask, says as load_says, copied as load_copied}
-use Rattle.cds_model.specs.declared.exchange.Ask.{Ask}
-use Rattle.cds_model.specs.declared.exchange.Read.{Read}
-use Rattle.cds_model.specs.declared.exchange.Shown.{Shown}
-use Rattle.cds_model.specs.declared.exchange.Says.TheVariants.{BehindLoad as LoadRuns, Stands as LoadStands}
-use Rattle.cds_notes.specs.Copy.{KnownRow, Happening, rows_after, least_unread, read_up_to}
-use Rattle.cds_notes.specs.Inbox.{ReplicaTurn}
-use Rattle.cds_notes.specs.Follow.{Known, position, Outcome, Knows, CannotBeRead, Jumps, Tears, first_torn, judged, counted_from, loaded, with_reply, known_by, next_ask, ask_of, copy_says, says_without_gap, says_of, says, copied, changes_above}
-use Rattle.cds_notes.specs.KnownLaws.{has_copy}
-use Rattle.cds_notes.specs.LoadTurns.{load_turns}
-use Rattle.cds_notes.specs.Seen.{WasShown}
-use Rattle.cds_notes.specs.declared.says.Says.{Says}
-use Rattle.cds_notes.specs.declared.says.Says.TheVariants.{BehindLoad, BehindVersion, Stands}
-use Rattle.cds_replica.specs.Attempted.{AsksByAttempt, TakesByAttempt, SaysByAttempt, CopiesByAttempt, IsVerdict}
-use Rattle.cds_replica.specs.Called.{IsAnswer}
-use Rattle.cds_replica.specs.Keeping.{phase_all}
-use Rattle.cds_replica.specs.Kept.{phase_of, Kept, StandsFor}
+use Rattle.cds_load.specs.Attempts.{Verdict, CannotBe as CannotCome, verdict_of, attempt_of, says_by, ShowsRows}
+use Rattle.cds_load.specs.Stages.{Held, Idle, Begun, HasToken, HasNumber, HasRoot, Lists, HasPage, HasCopy, Taken, Holds, Unreadable as NotReadable, Torn as CannotBe, Shows as LoadShows, held_after, held_by, taken, next_ask as load_ask, says as load_says, copied as load_copied}
+use Rattle.cds_load.specs.declared.exchange.Ask.{Ask}
+use Rattle.cds_load.specs.declared.exchange.Read.{Read}
+use Rattle.cds_load.specs.declared.exchange.Shown.{Shown}
+use Rattle.cds_load.specs.Stages.{BehindLoad as LoadRuns, Stands as LoadStands}
+use Rattle.cds_follow.specs.Copy.{KnownRow, Happening, rows_after, least_unread, read_up_to}
+use Rattle.cds_follow.specs.Inbox.{ReplicaTurn}
+use Rattle.cds_follow.specs.Follow.{Known, position, Outcome, Knows, CannotBeRead, Jumps, Tears, first_torn, judged, counted_from, load_ended, loaded, with_reply, known_by, next_ask, ask_of, copy_says, says_without_gap, says_of, says, copied}
+use Rattle.cds_commands.specs.Notes.{changes_above}
+use Rattle.cds_follow.specs.KnownLaws.{has_copy}
+use Rattle.cds_follow.specs.LoadTurns.{load_turns}
+use Rattle.cds_follow.specs.Seen.{WasShown}
+use Rattle.cds_follow.specs.declared.says.Says.{Says}
+use Rattle.cds_follow.specs.declared.says.Says.TheVariants.{BehindLoad, BehindVersion, Stands}
+use Rattle.cds_replica.specs.Attempted.{AsksByAttempt, TakesByAttempt, SaysByAttempt, CopiesByAttempt, EndsRefused, IsVerdict}
+use Rattle.cds_replica.specs.Calls.{IsAnswer}
+use Rattle.cds_replica.specs.Steps.{phase_all}
+use Rattle.cds_replica.specs.State.{phase_of, ReplicaState, StandsFor}
 use Rattle.cds_replica.proofs.KeptCounts.{known-copied}
-use Rattle.cds_notes.proofs.LoadTurns.{loads-are-of-turns}
-use Rattle.cds_notes.proofs.Seen.{copies-shown}
-use Rattle.cds_model.proofs.Traces.{asks-of_attempts, refusals-of_attempts, answers-of_attempts, copies-of_attempts}
+use Rattle.cds_follow.proofs.LoadTurns.{loads-are-of-turns}
+use Rattle.cds_follow.proofs.Seen.{copies-shown}
+use Rattle.cds_load.proofs.Traces.{asks-of_attempts, refusals-of_attempts, answers-of_attempts, copies-of_attempts}
 use Rattle.cds_replica.specs.declared.error.AnswerError.{AnswerError}
 use Rattle.cds_replica.specs.declared.error.AnswerError.TheVariants.{Unreadable, Jump, Torn, Mem}
+use Rattle.cds_event.specs.Events.{update_of}
 
 -- ---- the next ask
 
@@ -42,7 +43,7 @@ ask-load known (Lists number listing) e = refl
 ask-load known (HasPage number listing page) e = refl
 ask-load known (HasCopy number rows) e = absurd (true≢false e)
 
-pub asks-by_attempt : (kept : Kept) (result : Option Ask) → ((turns : List ReplicaTurn) → StandsFor kept turns → result ≡ next_ask (known_by turns)) → AsksByAttempt kept result
+pub asks-by_attempt : (kept : ReplicaState) (result : Option Ask) → ((turns : List ReplicaTurn) → StandsFor kept turns → result ≡ next_ask (known_by turns)) → AsksByAttempt kept result
 asks-by_attempt kept result next turns stood rows load =
     next turns stood ∙ ask-load (known_by turns) (known_by turns).held load ∙ ap load_ask (loads-are-of-turns turns) ∙ asks-of_attempts (load_turns turns) rows
 
@@ -66,30 +67,56 @@ loaded-read known (HasRoot number root) e = cc
 loaded-read known (Lists number listing) e = cc
 loaded-read known (HasPage number listing page) e = cc
 loaded-read known (HasCopy number rows) e =
-    counted-read rows (record { held = HasCopy number rows; base = number; heard = known.heard; kept = []; happenings = [] }) number (changes_above number known.kept) e
+    counted-read rows (record { held = HasCopy number rows; base = number; last_note = known.last_note; kept = []; happenings = [] }) number (changes_above number known.kept) e
 
-verdict-loaded : (known : Known) (becomes : Taken) (result : Result Read AnswerError) → IsAnswer (loaded known becomes) result → IsVerdict (verdict_of becomes) result
-verdict-loaded known NotReadable (Ok read) is = let no : CannotBeRead ≡ Knows is.0 = is.1 in cc
-verdict-loaded known NotReadable (Err Unreadable) is = refl
-verdict-loaded known NotReadable (Err (Jump expected first)) is = cc
-verdict-loaded known NotReadable (Err (Torn id)) is = cc
-verdict-loaded known NotReadable (Err Mem) is = tt
-verdict-loaded known (CannotBe other) (Ok read) is = let no : Tears other ≡ Knows is.0 = is.1 in cc
-verdict-loaded known (CannotBe other) (Err Unreadable) is = cc
-verdict-loaded known (CannotBe other) (Err (Jump expected first)) is = cc
-verdict-loaded known (CannotBe other) (Err (Torn id)) is = inl same
+-- a reply that ends the load with a refusal
+ends-refused : (turns : List ReplicaTurn) (shown : Shown) → ShowsRows (LoadShows shown ∷ load_turns turns) → (held : Held) (outcome : Outcome) →
+    taken (held_by (load_turns turns)) shown ≡ Holds held → loaded (known_by turns) (Holds held) ≡ outcome → ((now : Known) → outcome ≡ Knows now → ⊥) → EndsRefused turns shown outcome
+ends-refused turns shown rows Idle outcome becomes is never = absurd (never _ (sym is))
+ends-refused turns shown rows Begun outcome becomes is never = absurd (never _ (sym is))
+ends-refused turns shown rows HasToken outcome becomes is never = absurd (never _ (sym is))
+ends-refused turns shown rows (HasNumber number) outcome becomes is never = absurd (never _ (sym is))
+ends-refused turns shown rows (HasRoot number root) outcome becomes is never = absurd (never _ (sym is))
+ends-refused turns shown rows (Lists number listing) outcome becomes is never = absurd (never _ (sym is))
+ends-refused turns shown rows (HasPage number listing page) outcome becomes is never = absurd (never _ (sym is))
+ends-refused turns shown rows (HasCopy number copy) outcome becomes is never =
+    let now : held_by (LoadShows shown ∷ load_turns turns) ≡ HasCopy number copy = ap (held_after (held_by (load_turns turns))) becomes in
+    record {
+      number = number;
+      complete = sym (answers-of_attempts (LoadShows shown ∷ load_turns turns) rows) ∙ ap load_says now;
+      refused = ap (load_ended (known_by turns) number) (sym (copies-of_attempts (LoadShows shown ∷ load_turns turns) rows) ∙ ap load_copied now) ∙ is;
+    }
+
+verdict-loaded : (turns : List ReplicaTurn) (shown : Shown) → ShowsRows (LoadShows shown ∷ load_turns turns) → (becomes : Taken) → taken (held_by (load_turns turns)) shown ≡ becomes →
+    (result : Result Read AnswerError) → IsAnswer (loaded (known_by turns) becomes) result → IsVerdict turns shown (verdict_of becomes) result
+verdict-loaded turns shown rows NotReadable e (Ok read) is = let no : CannotBeRead ≡ Knows is.0 = is.1 in cc
+verdict-loaded turns shown rows NotReadable e (Err Unreadable) is = refl
+verdict-loaded turns shown rows NotReadable e (Err (Jump expected first)) is = cc
+verdict-loaded turns shown rows NotReadable e (Err (Torn id)) is = cc
+verdict-loaded turns shown rows NotReadable e (Err Mem) is = tt
+verdict-loaded turns shown rows (CannotBe other) e (Ok read) is = let no : Tears other ≡ Knows is.0 = is.1 in cc
+verdict-loaded turns shown rows (CannotBe other) e (Err Unreadable) is = cc
+verdict-loaded turns shown rows (CannotBe other) e (Err (Jump expected first)) is = cc
+verdict-loaded turns shown rows (CannotBe other) e (Err (Torn id)) is = inl same
   where
     same : CannotCome other ≡ CannotCome id
     same = ap (λ (n : ℕ). CannotCome n) (tears other id is)
       where
         tears : (a b : ℕ) → Tears a ≡ Tears b → a ≡ b
         tears a b e = cc
-verdict-loaded known (CannotBe other) (Err Mem) is = tt
-verdict-loaded known (Holds held) (Ok read) is = refl
-verdict-loaded known (Holds held) (Err Unreadable) is = absurd (loaded-read known held is)
-verdict-loaded known (Holds held) (Err (Jump expected first)) is = refl
-verdict-loaded known (Holds held) (Err (Torn id)) is = inr refl
-verdict-loaded known (Holds held) (Err Mem) is = tt
+verdict-loaded turns shown rows (CannotBe other) e (Err Mem) is = tt
+verdict-loaded turns shown rows (Holds held) e (Ok read) is = refl
+verdict-loaded turns shown rows (Holds held) e (Err Unreadable) is = absurd (loaded-read (known_by turns) held is)
+verdict-loaded turns shown rows (Holds held) e (Err (Jump expected first)) is =
+    (refl, ends-refused turns shown rows held (Jumps expected first) e is (apart expected first))
+  where
+    apart : (n m : ℕ) (now : Known) → Jumps n m ≡ Knows now → ⊥
+    apart n m now f = cc
+verdict-loaded turns shown rows (Holds held) e (Err (Torn id)) is = inr (refl, ends-refused turns shown rows held (Tears id) e is (apart id))
+  where
+    apart : (n : ℕ) (now : Known) → Tears n ≡ Knows now → ⊥
+    apart n now f = cc
+verdict-loaded turns shown rows (Holds held) e (Err Mem) is = tt
 
 reply-loaded : (known : Known) (held : Held) (shown : Shown) → has_copy held ≡ false → with_reply known held shown ≡ loaded known (taken held shown)
 reply-loaded known Idle shown e = refl
@@ -101,12 +128,13 @@ reply-loaded known (Lists number listing) shown e = refl
 reply-loaded known (HasPage number listing page) shown e = refl
 reply-loaded known (HasCopy number rows) shown e = absurd (true≢false e)
 
-pub takes-by_attempt : (kept : Kept) (shown : Shown) (result : Result Read AnswerError)
+pub takes-by_attempt : (kept : ReplicaState) (shown : Shown) (result : Result Read AnswerError)
     → ((turns : List ReplicaTurn) → StandsFor kept turns → IsAnswer (with_reply (known_by turns) (known_by turns).held shown) result) → TakesByAttempt kept shown result
 takes-by_attempt kept shown result answer turns stood rows load =
-    subst (λ (v : Verdict). IsVerdict v result) (ap (λ (h : Held). verdict_of (taken h shown)) (loads-are-of-turns turns) ∙ refusals-of_attempts (load_turns turns) shown rows)
-    (verdict-loaded (known_by turns) (taken (known_by turns).held shown) result
-    (subst (λ (o : Outcome). IsAnswer o result) (reply-loaded (known_by turns) (known_by turns).held shown load) (answer turns stood)))
+    subst (λ (v : Verdict). IsVerdict turns shown v result) (refusals-of_attempts (load_turns turns) shown rows)
+    (verdict-loaded turns shown rows (taken (held_by (load_turns turns)) shown) refl result
+    (subst (λ (o : Outcome). IsAnswer o result)
+    (reply-loaded (known_by turns) (known_by turns).held shown load ∙ ap (λ (h : Held). loaded (known_by turns) (taken h shown)) (loads-are-of-turns turns)) (answer turns stood)))
 
 -- ---- whether a copy stands
 
@@ -131,7 +159,7 @@ runs-same known (HasCopy number rows) = (λ e. absurd (copy-runs known (least_un
     stands : (n : ℕ) → LoadStands n ≡ LoadRuns → ⊥
     stands n e = cc
 
-pub says-by_attempt : (kept : Kept) (result : Says) → ((turns : List ReplicaTurn) → StandsFor kept turns → result ≡ says turns) → SaysByAttempt kept result
+pub says-by_attempt : (kept : ReplicaState) (result : Says) → ((turns : List ReplicaTurn) → StandsFor kept turns → result ≡ says turns) → SaysByAttempt kept result
 says-by_attempt kept result said turns stood rows none =
     let whole : result ≡ says_without_gap (known_by turns) (known_by turns).held = said turns stood ∙ ap (λ (o : Option ℕ). says_of o (known_by turns)) none in
     let load : load_says (known_by turns).held ≡ says_by (attempt_of (load_turns turns)) = ap load_says (loads-are-of-turns turns) ∙ answers-of_attempts (load_turns turns) rows in
@@ -145,7 +173,7 @@ at-place P [] at row all e = absurd (cc)
 at-place P (next ∷ rows) zero row all e = let same : next ≡ row = cc in subst P same all.0
 at-place P (next ∷ rows) (suc at) row all e = at-place P rows at row all.1 e
 
-pub rows-shown : (kept : Kept) (at : ℕ) (result : Option (Bor ObjectRow)) (turns : List ReplicaTurn)
+pub rows-shown : (kept : ReplicaState) (at : ℕ) (result : Option (Bor ObjectRow)) (turns : List ReplicaTurn)
     → ((turns : List ReplicaTurn) → StandsFor kept turns → option_copied result ≡ slice_get (copied (known_by turns)) at) → StandsFor kept turns
     → IfSome result (λ row. WasShown row.now turns)
 rows-shown kept at None turns is stood = tt
@@ -164,7 +192,7 @@ all-held (Lists number listing) happenings e = absurd (true≢false (sym e))
 all-held (HasPage number listing page) happenings e = absurd (true≢false (sym e))
 all-held (HasCopy number rows) happenings e = known-copied rows happenings
 
-pub copies-by_attempt : (kept : Kept) (rows : List KnownRow) → rows ≡ phase_all kept.known.phase → CopiesByAttempt kept rows
+pub copies-by_attempt : (kept : ReplicaState) (rows : List KnownRow) → rows ≡ phase_all kept.known.phase → CopiesByAttempt kept rows
 copies-by_attempt kept rows is turns stood shown copy =
-    is ∙ ap (λ (k : Kept). phase_all k.known.phase) stood ∙ all-held (known_by turns).held (known_by turns).happenings copy
+    is ∙ ap (λ (k : ReplicaState). phase_all k.known.phase) stood ∙ all-held (known_by turns).held (known_by turns).happenings copy
     ∙ ap (λ (l : List ObjectRow). rows_after l (known_by turns).happenings) (ap load_copied (loads-are-of-turns turns) ∙ copies-of_attempts (load_turns turns) shown)

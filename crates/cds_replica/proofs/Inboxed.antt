@@ -3,10 +3,10 @@ use Rattle.std.proofs.Common.{◌≡◌, ◌⊎◌, inl, inr, ◌+◌, ◌<◌, 
 use Rattle.std.specs.Option.{option_eq}
 use Rattle.std.specs.List.{list_any, cons_option}
 use Rattle.std.proofs.lemmas.Bool.{cases_lt}
-use Rattle.cds_notes.specs.Commands.{Note}
-use Rattle.cds_notes.specs.Inbox.{ReplicaTurn, Begins, Shows, Requests, Accepts, Refuses, Delivers, is_out, accepted, is_accepted, is_early, early_notes, received, has_seq, next_seq, missing, missing_of, is_same_note, different, waiting_notes, held_notes, held_limit, note_of, notes_from_to, taken_by, is_repeat, is_next, Arrival, IsUnknown, IsRepeat, IsTooMany, IsEarly, IsHeld, IsNext, arrival}
-use Rattle.cds_notes.specs.Follow.{is_turned_away}
-use Rattle.cds_notes.proofs.Received.{longest-run}
+use Rattle.cds_commands.specs.Notes.{Note, note_of, notes_from_to}
+use Rattle.cds_follow.specs.Inbox.{ReplicaTurn, Begins, Shows, Requests, Accepts, Refuses, Delivers, is_out, accepted, is_accepted, is_early, early_notes, received, has_seq, next_seq, missing, missing_of, is_same_note, different, waiting_notes, held_notes, held_limit, taken_by, is_repeat, is_next, Arrival, IsUnknown, IsRepeat, IsTooMany, IsEarly, IsHeld, IsNext, arrival}
+use Rattle.cds_follow.specs.Follow.{is_turned_away}
+use Rattle.cds_follow.proofs.Received.{longest-run}
 use Rattle.cds_replica.specs.Inboxed.{KeptInbox, inbox_of, repeats, held_count, arrival_in, run_end, behind, of_name, with_name, taken_early, run_after, with_note, taken_in}
 use Rattle.cds_replica.proofs.Runs.{AreOf, same-parts, run-outside, run-inside, run-from, run-is, run-same, behind-has, behind-none, behind-note, behind-behind, note-past, note-new, notes-same, notes-more, notes-none, different-any, different-has, different-note, any-has, of_name-of, different-of_name}
 

@@ -5,25 +5,25 @@ use Rattle.std.specs.Option.{option_map}
 use Rattle.std.specs.List.{filter_map}
 use Rattle.cds_object.specs.Object.{ObjectRow}
 use Rattle.cds_event.specs.declared.Event.{Event}
-use Rattle.cds_changes.specs.Events.{update_of}
-use Rattle.cds_model.specs.Replica.{Held, Idle, Begun, HasToken, HasNumber, HasRoot, Lists, HasPage, HasCopy, Taken, Holds, Unreadable as NotReadable, Torn as CannotBe, taken}
-use Rattle.cds_model.specs.declared.exchange.Ask.TheVariants.{Metadata}
-use Rattle.cds_model.specs.declared.exchange.Shown.{Shown}
-use Rattle.cds_model.specs.declared.exchange.Shown.TheVariants.{Text, Number, Page, Fault}
-use Rattle.cds_notes.specs.Commands.{Note}
-use Rattle.cds_notes.specs.Copy.{Happening, Changes, Reads, rows_after, shown_row, known_of, least_unread}
-use Rattle.cds_notes.specs.Inbox.{ReplicaTurn, missing}
-use Rattle.cds_notes.specs.Follow.{Known, position, changes_above, Outcome, Knows, CannotBeRead, Jumps, Tears, first_torn, judged, counted_from, with_changes, load_begun, new_changes, greatest_of, is_drop, heard_of, with_notes, loaded, is_of, row_read, object_read, copy_read, with_reply, known_by, next_ask, ask_of, copy_says, says_without_gap, says_of, says, rows_held, copied}
-use Rattle.cds_replica.specs.Copied.{KeptCopy, copy_of, IsSound, AreAbove}
+use Rattle.cds_load.specs.Stages.{Held, Idle, Begun, HasToken, HasNumber, HasRoot, Lists, HasPage, HasCopy, Taken, Holds, Unreadable as NotReadable, Torn as CannotBe, taken}
+use Rattle.cds_load.specs.declared.exchange.Ask.TheVariants.{Metadata}
+use Rattle.cds_load.specs.declared.exchange.Shown.{Shown}
+use Rattle.cds_load.specs.declared.exchange.Shown.TheVariants.{Text, Number, Page, Fault}
+use Rattle.cds_commands.specs.Notes.{Note, changes_above}
+use Rattle.cds_follow.specs.Copy.{Happening, Changes, Reads, rows_after, shown_row, known_of, least_unread}
+use Rattle.cds_follow.specs.Inbox.{ReplicaTurn, missing}
+use Rattle.cds_follow.specs.Follow.{Known, position, Outcome, Knows, CannotBeRead, Jumps, Tears, first_torn, judged, counted_from, with_changes, load_begun, new_changes, greatest_of, is_drop, heard_of, with_notes, loaded, is_of, row_read, object_read, copy_read, with_reply, known_by, next_ask, ask_of, copy_says, says_without_gap, says_of, says, rows_held, copied}
+use Rattle.cds_replica.specs.CopyState.{KeptCopy, copy_of, IsSound, AreAbove}
 use Rattle.cds_replica.specs.CopySteps.{Count, count_from, count_of, copy_read as copy_with, version_of}
 use Rattle.cds_replica.specs.Ended.{end_count}
-use Rattle.cds_replica.specs.Kept.{KeptPhase, Loads, Copies, phase_of, KeptKnown, kept_known, kept_of}
-use Rattle.cds_replica.specs.Keeping.{Becomes, Leads, Unreadable, Leap, Tear, with_what, kept_outcome, of_count, hears_changes, with_telling, load_takes, with_phase, row_of_read, object_of_read, copy_takes, answers, phase_ask, copy_tells, phase_tells, tells_or_gap, kept_says, phase_rows, phase_all}
-use Rattle.cds_replica.specs.Telling.{tells, nothing_told}
+use Rattle.cds_replica.specs.State.{KeptPhase, Loads, Copies, phase_of, KeptKnown, kept_known, kept_of}
+use Rattle.cds_replica.specs.Steps.{Becomes, Leads, Unreadable, Leap, Tear, with_what, kept_outcome, of_count, hears_changes, with_new_changes, load_takes, with_phase, row_of_read, object_of_read, copy_takes, answers, phase_ask, copy_tells, phase_tells, tells_or_gap, kept_says, phase_rows, phase_all}
+use Rattle.cds_replica.specs.NewChanges.{tells, nothing_told}
 use Rattle.cds_replica.proofs.Inboxed.{missing-kept}
 use Rattle.cds_replica.proofs.KeptCounts.{count-kept, known-copied, can-same, read-copied}
 use Rattle.cds_replica.proofs.KeptTurns.{SoundHeld, SoundKnown, SoundTaken, taken-sound, above-filter, new-above, turns-sound}
 use Rattle.cds_replica.proofs.KeptUnread.{least-kept}
+use Rattle.cds_event.specs.Events.{update_of}
 
 -- ---- changes are counted
 
@@ -57,7 +57,7 @@ count-known rows number at known events e sound above =
 -- ---- notes are taken
 
 with-heard : List Note → KeptKnown → KeptKnown
-with-heard notes kept = record kept { heard = greatest_of kept.heard notes }
+with-heard notes kept = record kept { last_note = greatest_of kept.last_note notes }
 
 heard-of : (notes : List Note) (outcome : Outcome) → kept_outcome (heard_of notes outcome) ≡ with_what (with-heard notes) (kept_outcome outcome)
 unfolding with-heard
@@ -69,23 +69,23 @@ heard-of notes (Tears id) = refl
 -- what notes tell of which the first does not drop the copy
 stays-kept : (held : Held) (known : Known) (notes : List Note) → known.held ≡ held → SoundHeld held known.happenings
     → kept_outcome (heard_of notes (with_changes held known (position known) (new_changes (position known) notes)))
-    ≡ with_what (λ (now : KeptPhase × List Event). record { phase = now.0; base = known.base; heard = greatest_of known.heard notes; changes = now.1 })
+    ≡ with_what (λ (now : KeptPhase × List Event). record { phase = now.0; base = known.base; last_note = greatest_of known.last_note notes; changes = now.1 })
     (hears_changes (phase_of held known.happenings) (position known) known.kept (new_changes (position known) notes))
 unfolding with-heard
-stays-kept Idle known notes e sound = λ i. Leads (record { phase = phase_of (e i) known.happenings; base = known.base; heard = greatest_of known.heard notes; changes = known.kept })
-stays-kept Begun known notes e sound = λ i. Leads (record { phase = phase_of (e i) known.happenings; base = known.base; heard = greatest_of known.heard notes; changes = known.kept ++ new_changes (position known) notes })
-stays-kept HasToken known notes e sound = λ i. Leads (record { phase = phase_of (e i) known.happenings; base = known.base; heard = greatest_of known.heard notes; changes = known.kept ++ new_changes (position known) notes })
-stays-kept (HasNumber number) known notes e sound = λ i. Leads (record { phase = phase_of (e i) known.happenings; base = known.base; heard = greatest_of known.heard notes; changes = known.kept ++ new_changes (position known) notes })
-stays-kept (HasRoot number root) known notes e sound = λ i. Leads (record { phase = phase_of (e i) known.happenings; base = known.base; heard = greatest_of known.heard notes; changes = known.kept ++ new_changes (position known) notes })
-stays-kept (Lists number listing) known notes e sound = λ i. Leads (record { phase = phase_of (e i) known.happenings; base = known.base; heard = greatest_of known.heard notes; changes = known.kept ++ new_changes (position known) notes })
-stays-kept (HasPage number listing page) known notes e sound = λ i. Leads (record { phase = phase_of (e i) known.happenings; base = known.base; heard = greatest_of known.heard notes; changes = known.kept ++ new_changes (position known) notes })
+stays-kept Idle known notes e sound = λ i. Leads (record { phase = phase_of (e i) known.happenings; base = known.base; last_note = greatest_of known.last_note notes; changes = known.kept })
+stays-kept Begun known notes e sound = λ i. Leads (record { phase = phase_of (e i) known.happenings; base = known.base; last_note = greatest_of known.last_note notes; changes = known.kept ++ new_changes (position known) notes })
+stays-kept HasToken known notes e sound = λ i. Leads (record { phase = phase_of (e i) known.happenings; base = known.base; last_note = greatest_of known.last_note notes; changes = known.kept ++ new_changes (position known) notes })
+stays-kept (HasNumber number) known notes e sound = λ i. Leads (record { phase = phase_of (e i) known.happenings; base = known.base; last_note = greatest_of known.last_note notes; changes = known.kept ++ new_changes (position known) notes })
+stays-kept (HasRoot number root) known notes e sound = λ i. Leads (record { phase = phase_of (e i) known.happenings; base = known.base; last_note = greatest_of known.last_note notes; changes = known.kept ++ new_changes (position known) notes })
+stays-kept (Lists number listing) known notes e sound = λ i. Leads (record { phase = phase_of (e i) known.happenings; base = known.base; last_note = greatest_of known.last_note notes; changes = known.kept ++ new_changes (position known) notes })
+stays-kept (HasPage number listing page) known notes e sound = λ i. Leads (record { phase = phase_of (e i) known.happenings; base = known.base; last_note = greatest_of known.last_note notes; changes = known.kept ++ new_changes (position known) notes })
 stays-kept (HasCopy number rows) known notes e sound =
     heard-of notes (counted_from rows known (position known) (new_changes (position known) notes))
     ∙ ap (with_what (with-heard notes)) (count-known rows number (position known) known (new_changes (position known) notes) e sound (new-above (position known) notes))
     ∙ by (of_count (count_from (copy_of rows known.happenings) (position known) (new_changes (position known) notes)))
   where
     by : (b : Becomes KeptCopy) → with_what (with-heard notes) (with_what (with-copy known number) b)
-        ≡ with_what (λ (now : KeptPhase × List Event). record { phase = now.0; base = known.base; heard = greatest_of known.heard notes; changes = now.1 })
+        ≡ with_what (λ (now : KeptPhase × List Event). record { phase = now.0; base = known.base; last_note = greatest_of known.last_note notes; changes = now.1 })
         (with_what (λ (now : KeptCopy). (Copies number now, known.kept)) b)
     by (Leads copy) = refl
     by Unreadable = refl
@@ -95,11 +95,11 @@ stays-kept (HasCopy number rows) known notes e sound =
 -- what becomes of notes that are taken, in what is kept
 pub notes-kept : (notes : List Note) (known : Known) → SoundKnown known
     → kept_outcome (with_notes notes known)
-    ≡ with_telling (is_drop (position known) notes) (tells notes (nothing_told (position known) known.heard)) (kept_known known)
+    ≡ with_new_changes (is_drop (position known) notes) (tells notes (nothing_told (position known) known.last_note)) (kept_known known)
 notes-kept notes known sound = by (is_drop (position known) notes)
   where
     by : (b : Bool) → kept_outcome (heard_of notes (with_changes (cond b (load_begun known) known).held (cond b (load_begun known) known) (position known) (new_changes (position known) notes)))
-        ≡ with_telling b (tells notes (nothing_told (position known) known.heard)) (kept_known known)
+        ≡ with_new_changes b (tells notes (nothing_told (position known) known.last_note)) (kept_known known)
     by true = refl
     by false = stays-kept known.held known notes refl sound
 
@@ -122,7 +122,7 @@ loaded-kept held known (Holds (HasCopy number rows)) e sound =
     ∙ sym (with-with (Copies number) (with_phase (kept_known known)) (of_count (end_count rows number known.kept)))
   where
     ended : Known
-    ended = record { held = HasCopy number rows; base = number; heard = known.heard; kept = []; happenings = [] }
+    ended = record { held = HasCopy number rows; base = number; last_note = known.last_note; kept = []; happenings = [] }
 
 row-kept : (rows : List ObjectRow) (number id : ℕ) (known : Known) (shown : List ObjectRow) → known.held ≡ HasCopy number rows → IsSound rows known.happenings
     → kept_outcome (row_read known rows id shown) ≡ with_what (with-copy known number) (row_of_read (copy_of rows known.happenings) id shown)

@@ -4,16 +4,16 @@ use Rattle.std.proofs.lemmas.List.{reverse-append}
 use Rattle.cds_object.specs.Object.{ObjectRow}
 use Rattle.cds_event.specs.declared.Event.{Event}
 use Rattle.cds_event.specs.declared.Event.TheVariants.{ObjAdd, ObjMod, ObjDel, StDone}
-use Rattle.cds_changes.specs.Events.{update_of}
 use Rattle.cds_catalog.proofs.StepsFind.{none≢some}
-use Rattle.cds_notes.specs.Copy.{KnownRow, known_of, knows, knows_container, cannot_be, changed, object_of, Happening, Changes, Reads, rows_after, read_up_to}
-use Rattle.cds_notes.specs.Follow.{Known, Knows, Jumps, first_torn, judged, counted_from, is_of}
-use Rattle.cds_notes.specs.ServerLaws.{befalling}
-use Rattle.cds_notes.proofs.Copies.{read-up-to}
-use Rattle.cds_replica.specs.Copied.{KeptRow, IsSound, AreAbove, kept_row, copy_of, bare_rows}
+use Rattle.cds_follow.specs.Copy.{KnownRow, known_of, knows, knows_container, cannot_be, changed, Happening, Changes, Reads, rows_after, read_up_to}
+use Rattle.cds_follow.specs.Follow.{Known, Knows, Jumps, first_torn, judged, counted_from, is_of}
+use Rattle.cds_follow.specs.ServerLaws.{befalling}
+use Rattle.cds_follow.proofs.Copies.{read-up-to}
+use Rattle.cds_replica.specs.CopyState.{KeptRow, IsSound, AreAbove, kept_row, copy_of, bare_rows}
 use Rattle.cds_replica.specs.CopySteps.{rows_changed_by, cannot_come, first_cannot, Counts, Leaps, judged_count, count_from, count_of, version_of, copy_read, can_be_of}
 use Rattle.cds_replica.proofs.KeptIds.{root-stays, root-stands, distinct-after}
 use Rattle.cds_replica.proofs.KeptSteps.{rows-of, change-kept, read-kept}
+use Rattle.cds_event.specs.Events.{update_of, object_of}
 
 -- ---- several changes
 

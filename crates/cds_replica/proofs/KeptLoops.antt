@@ -7,15 +7,15 @@ use Rattle.std.proofs.lemmas.List.Edits.{map_over_more}
 use Rattle.std.specs.List.{AllByRecursion}
 use Rattle.cds_event.specs.declared.Event.{Event}
 use Rattle.cds_event.specs.declared.Event.TheVariants.{ObjAdd, ObjMod, ObjDel, StDone}
-use Rattle.cds_changes.specs.Events.{update_of}
 use Rattle.cds_catalog.proofs.StepsFind.{none≢some}
-use Rattle.cds_notes.specs.Copy.{Version, KnownRow, object_of, changed, cannot_be}
-use Rattle.cds_replica.specs.Copied.{KeptRow, KeptCopy, bare_rows}
+use Rattle.cds_follow.specs.Copy.{Version, KnownRow, changed, cannot_be}
+use Rattle.cds_replica.specs.CopyState.{KeptRow, KeptCopy, bare_rows}
 use Rattle.cds_replica.specs.CopySteps.{read_of_row, rows_read, rows_changed_by, AddsNoRoot, cannot_come, first_cannot, Counts, Leaps, Tears, judged_count, count_from, leap_from}
 use Rattle.cds_replica.specs.Outlines.{outlines_of, outlines_cannot}
 use Rattle.cds_replica.specs.declared.outline.Outline.{Outline}
 use Rattle.cds_replica.specs.declared.count_error.CountError.TheVariants.{Jump}
 use Rattle.cds_replica.proofs.KeptOutlines.{outlined-cannot}
+use Rattle.cds_event.specs.Events.{update_of, object_of}
 
 -- a loop that changes each item of a list in its place
 pub one_more_changed : {X : Type 0} (f : X → X) (xs ys : List X) (i : ℕ) (x : X) → i < length xs →

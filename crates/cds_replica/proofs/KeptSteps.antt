@@ -7,9 +7,9 @@ use Rattle.cds_object.specs.declared.row.Trackers.{Trackers}
 use Rattle.cds_event.specs.declared.Class.{Class}
 use Rattle.cds_event.specs.declared.Event.{Event}
 use Rattle.cds_event.specs.declared.Event.TheVariants.{ObjAdd, ObjMod, ObjDel, StDone}
-use Rattle.cds_model.specs.Replica.{put_by}
-use Rattle.cds_notes.specs.Copy.{Version, KnownRow, knows, knows_container, counted, parent_in, added_row, put_known, changed, counts_addition, counts_modification, counts_deletion, newer, read_anew, Happening, Changes, Reads, rows_after, marks, since_deletion}
-use Rattle.cds_replica.specs.Copied.{KeptRow, AreDistinct, IsSound, kept_id, greatest, shows, wanted_at, shown_at, kept_row}
+use Rattle.cds_load.specs.Stages.{put_by}
+use Rattle.cds_follow.specs.Copy.{Version, KnownRow, knows, knows_container, counted, parent_in, added_row, put_known, changed, counts_addition, counts_modification, counts_deletion, newer, read_anew, Happening, Changes, Reads, rows_after, marks, since_deletion}
+use Rattle.cds_replica.specs.CopyState.{KeptRow, AreDistinct, IsSound, kept_id, greatest, shows, wanted_at, shown_at, kept_row}
 use Rattle.cds_replica.specs.CopySteps.{counted_rows, wanted_rows, new_row, rows_without, rows_changed, read_of_row, rows_read}
 use Rattle.cds_replica.proofs.KeptIds.{swapped-eq, neither, not-false, knows-counted, knows-added, knows-deleted, knows-read}
 

@@ -5,21 +5,21 @@ use Rattle.std.specs.List.{list_all, list_any}
 use Rattle.cds_object.specs.Object.{ObjectRow, is_folder}
 use Rattle.cds_object.specs.Tree.{is_child_of}
 use Rattle.cds_event.specs.declared.Event.{Event}
-use Rattle.cds_changes.specs.Events.{update_of, is_change}
-use Rattle.cds_model.specs.Replica.{Held, Idle, Begun, HasToken, HasNumber, HasRoot, Lists, HasPage, HasCopy, Listing, Waiting, listing_of, listed_id, listed_children, all_new, known_ids, fits, put_by, put_rows, put_containers, others_waiting, listed, after_page, Taken, Holds, Unreadable, Torn, taken, page_taken, root_taken}
-use Rattle.cds_model.specs.Server.{page_size}
-use Rattle.cds_model.specs.declared.exchange.Shown.{Shown}
-use Rattle.cds_model.specs.declared.exchange.Shown.TheVariants.{Text, Number, Page, Fault}
-use Rattle.cds_notes.specs.Commands.{Note}
-use Rattle.cds_notes.specs.Copy.{KnownRow, known_row, known_of, knows, put_known, Happening, Reads, rows_after, least_unread}
-use Rattle.cds_notes.specs.Inbox.{ReplicaTurn, Begins, Shows, Requests, Accepts, Refuses, Delivers, taken_by}
-use Rattle.cds_notes.specs.Follow.{Known, Outcome, Knows, CannotBeRead, Jumps, Tears, position, changes_above, new_changes, first_torn, counted_from, judged, with_changes, dropped, load_begun, is_drop, heard_of, with_notes, load_ended, loaded, is_of, row_read, copy_read, with_reply, known_after, known_by}
-use Rattle.cds_notes.specs.ServerLaws.{befalling}
-use Rattle.cds_replica.specs.Copied.{AreDistinct, IsSound, AreAbove}
+use Rattle.cds_load.specs.Stages.{Held, Idle, Begun, HasToken, HasNumber, HasRoot, Lists, HasPage, HasCopy, Listing, Waiting, listing_of, listed_id, listed_children, all_new, known_ids, fits, put_by, put_rows, put_containers, others_waiting, listed, after_page, Taken, Holds, Unreadable, Torn, taken, page_taken, root_taken}
+use Rattle.cds_load.specs.Server.{page_size}
+use Rattle.cds_load.specs.declared.exchange.Shown.{Shown}
+use Rattle.cds_load.specs.declared.exchange.Shown.TheVariants.{Text, Number, Page, Fault}
+use Rattle.cds_commands.specs.Notes.{Note, changes_above}
+use Rattle.cds_follow.specs.Copy.{KnownRow, known_row, known_of, knows, put_known, Happening, Reads, rows_after, least_unread}
+use Rattle.cds_follow.specs.Inbox.{ReplicaTurn, Begins, Shows, Requests, Accepts, Refuses, Delivers, taken_by}
+use Rattle.cds_follow.specs.Follow.{Known, Outcome, Knows, CannotBeRead, Jumps, Tears, position, new_changes, first_torn, counted_from, judged, with_changes, dropped, load_begun, is_drop, heard_of, with_notes, load_ended, loaded, is_of, row_read, copy_read, with_reply, known_after, known_by}
+use Rattle.cds_follow.specs.ServerLaws.{befalling}
+use Rattle.cds_replica.specs.CopyState.{AreDistinct, IsSound, AreAbove}
 use Rattle.cds_replica.proofs.KeptIds.{swapped-eq, knows-put, distinct-put}
 use Rattle.cds_replica.specs.CopySteps.{count_of}
 use Rattle.cds_replica.specs.Ended.{end_count}
 use Rattle.cds_replica.proofs.KeptCounts.{count-kept, count-sound, read-sound}
+use Rattle.cds_event.specs.Events.{update_of, is_change}
 
 -- ---- the rows of a load
 
@@ -307,7 +307,7 @@ loaded-sound known (Holds (HasRoot number root)) is = is
 loaded-sound known (Holds (Lists number listing)) is = is
 loaded-sound known (Holds (HasPage number listing page)) is = is
 loaded-sound known (Holds (HasCopy number rows)) is =
-    counted-sound number rows (record { held = HasCopy number rows; base = number; heard = known.heard; kept = []; happenings = [] }) number (changes_above number known.kept) refl is (above-filter number known.kept)
+    counted-sound number rows (record { held = HasCopy number rows; base = number; last_note = known.last_note; kept = []; happenings = [] }) number (changes_above number known.kept) refl is (above-filter number known.kept)
 
 read-of-sound : (number : ℕ) (rows : List ObjectRow) (known : Known) (id : ℕ) (shown : List ObjectRow) → known.held ≡ HasCopy number rows → IsSound rows known.happenings
     → SoundOutcome (row_read known rows id shown)
@@ -375,5 +375,5 @@ ended-sound turns shown number rows e =
 -- what becomes of the changes that were kept meanwhile
 pub ended-kept : (known : Known) (number : ℕ) (rows : List ObjectRow) → IsSound rows [] → count_of rows (load_ended known number rows) ≡ end_count rows number known.kept
 ended-kept known number rows sound =
-    count-kept rows (record { held = HasCopy number rows; base = number; heard = known.heard; kept = []; happenings = [] }) number
+    count-kept rows (record { held = HasCopy number rows; base = number; last_note = known.last_note; kept = []; happenings = [] }) number
     (changes_above number known.kept) sound (above-filter number known.kept)

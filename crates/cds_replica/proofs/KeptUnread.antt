@@ -5,8 +5,8 @@ use Rattle.std.proofs.lemmas.Bool.{cases_lt, leb-true, leb-false, le-leb, lt-leb
 use Rattle.cds_object.specs.Object.{ObjectRow}
 use Rattle.cds_event.specs.declared.Event.TheVariants.{ObjAdd, ObjMod, ObjDel, StDone}
 use Rattle.cds_catalog.proofs.StepsFind.{none≢some}
-use Rattle.cds_notes.specs.Copy.{KnownRow, knows, Happening, Changes, Reads, rows_after, marks, shows_from, since_deletion, is_unread, named, least, least_unread}
-use Rattle.cds_replica.specs.Copied.{IsSound, kept_id, greatest, shows, wanted_at, shown_at, kept_row, copy_of, is_wanted, lesser_of, least_wanted}
+use Rattle.cds_follow.specs.Copy.{KnownRow, knows, Happening, Changes, Reads, rows_after, marks, shows_from, since_deletion, is_unread, named, least, least_unread}
+use Rattle.cds_replica.specs.CopyState.{IsSound, kept_id, greatest, shows, wanted_at, shown_at, kept_row, copy_of, is_wanted, lesser_of, least_wanted}
 use Rattle.cds_replica.proofs.KeptIds.{swapped-eq, neither}
 use Rattle.cds_replica.proofs.KeptSteps.{unmarked}
 

@@ -15,6 +15,6 @@ pub mod Listings
 pub mod Pages
 pub mod Placing
 pub mod Runs
-pub mod Tellings
+pub mod NewOnes
 pub mod Turning
 pub mod Waiting

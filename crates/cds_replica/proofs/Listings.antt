@@ -2,11 +2,11 @@
 use Rattle.std.proofs.Common.{◌≡◌, ℕ, Bool, true, false, cond, ◌&&◌, nat_eq, List, [], ◌∷◌, ◌++◌, length, drop, Err, refl, sym, ap, ◌∙◌, subst, true≢false}
 use Rattle.cds_object.specs.Object.{ObjectRow}
 use Rattle.cds_event.specs.declared.Event.{Event}
-use Rattle.cds_model.specs.Replica.{Lists, HasCopy, Waiting, Listing as Progress, put_rows, put_containers, others_waiting, listed, listed_children, after_page}
+use Rattle.cds_load.specs.Stages.{Lists, HasCopy, Waiting, Listing as Progress, put_rows, put_containers, others_waiting, listed, listed_children, after_page}
 use Rattle.cds_replica.specs.CopySteps.{Count}
 use Rattle.cds_replica.specs.Ended.{end_count, whole_rows, is_end, IsRefusal}
-use Rattle.cds_replica.specs.Keeping.{Becomes, with_what, of_count, IsStep, leads_to}
-use Rattle.cds_replica.specs.Kept.{KeptPhase, Copies}
+use Rattle.cds_replica.specs.Steps.{Becomes, with_what, of_count, IsStep, leads_to}
+use Rattle.cds_replica.specs.State.{KeptPhase, Copies}
 use Rattle.cds_replica.specs.Phases.{ends_load, answer_of}
 use Rattle.cds_replica.specs.declared.count_error.CountError.{CountError}
 use Rattle.cds_replica.specs.declared.count_error.CountError.TheVariants.{Jump, Torn, Mem}

@@ -5,7 +5,7 @@ use Rattle.std.specs.List.{list_any}
 use Rattle.std.proofs.lemmas.List.{take_more, drop_more}
 use Rattle.std.proofs.lemmas.List.Folds.{list_any-append}
 use Rattle.cds_object.specs.Object.{ObjectRow}
-use Rattle.cds_model.specs.Replica.{all_new}
+use Rattle.cds_load.specs.Stages.{all_new}
 use Rattle.cds_replica.specs.Known.{has_id, was_shown}
 
 -- the ids that are known after these rows, too

@@ -2,12 +2,12 @@
 use Rattle.std.proofs.Common.{◌≡◌, ◌⊎◌, inl, inr, ◌+◌, ◌-◌, ◌<◌, ◌≤◌, ℕ, zero, suc, Bool, true, false, cond, ◌&&◌, ◌||◌, nat_eq, nat_lt, List, [], ◌∷◌, map, length, Option, Some, None, refl, sym, ap, ◌∙◌, subst, arith, true≢false, ltb-true, ltb-false, eq-eqb, ne_eqb, eqb-true}
 use Rattle.std.specs.List.{list_any, filter_map, cons_option, range_with_len, AllByRecursion}
 use Rattle.std.proofs.lemmas.Bool.{cases_lt, eqb-false}
-use Rattle.cds_notes.specs.Commands.{Note}
-use Rattle.cds_notes.specs.Inbox.{has_seq, least_outside, is_same_note, different, note_of, notes_from_to}
-use Rattle.cds_notes.proofs.Received.{not-all, below-is_in}
-use Rattle.cds_notes.proofs.Taken.{has-note}
-use Rattle.cds_notes.proofs.Among.{Among}
-use Rattle.cds_notes.proofs.Chain.{note-among, note-later}
+use Rattle.cds_commands.specs.Notes.{Note, note_of, notes_from_to}
+use Rattle.cds_follow.specs.Inbox.{has_seq, least_outside, is_same_note, different}
+use Rattle.cds_follow.proofs.Received.{not-all, below-is_in}
+use Rattle.cds_follow.proofs.Taken.{has-note}
+use Rattle.cds_commands.proofs.Among.{Among}
+use Rattle.cds_commands.proofs.Chain.{note-among, note-later}
 use Rattle.cds_replica.specs.Inboxed.{run_end, behind, of_name}
 
 -- a note that is among others has its SEQ among theirs

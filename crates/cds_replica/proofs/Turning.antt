@@ -2,17 +2,17 @@
 use Rattle.std.proofs.Common.{◌≡◌, ◌≤◌, ℕ, true, false, cond, ◌||◌, List, [], ◌∷◌, Result, Ok, Err, refl, sym, ap, ◌∙◌, subst}
 use Rattle.std.proofs.lemmas.List.{append-nil}
 use Rattle.cds_event.specs.declared.Event.{Event}
-use Rattle.cds_model.specs.Replica.{Held, Idle, Begun, HasToken, HasNumber, HasRoot, Lists, HasPage, HasCopy}
-use Rattle.cds_model.specs.declared.exchange.Read.{Read}
-use Rattle.cds_model.specs.declared.exchange.Shown.{Shown}
-use Rattle.cds_notes.specs.Commands.{Note}
-use Rattle.cds_notes.specs.Inbox.{ReplicaTurn, Shows, Accepts, Delivers, Arrival, IsUnknown, IsRepeat, IsTooMany, IsEarly, IsHeld, IsNext, held_limit, arrival, taken_by}
-use Rattle.cds_notes.specs.Follow.{Known, Outcome, Knows, CannotBeRead, Jumps, Tears, with_notes, with_reply, known_after, known_by, is_no, is_turned_away, is_refused, and_turn}
-use Rattle.cds_replica.specs.Called.{TakesTurn, HoldsFew, IsNotice, IsAcceptance, IsAnswer, UnlessNoMemory, UnlessMem, of_notes, IsTaking, IsDelivered}
+use Rattle.cds_load.specs.Stages.{Held, Idle, Begun, HasToken, HasNumber, HasRoot, Lists, HasPage, HasCopy}
+use Rattle.cds_load.specs.declared.exchange.Read.{Read}
+use Rattle.cds_load.specs.declared.exchange.Shown.{Shown}
+use Rattle.cds_commands.specs.Notes.{Note}
+use Rattle.cds_follow.specs.Inbox.{ReplicaTurn, Shows, Accepts, Delivers, Arrival, IsUnknown, IsRepeat, IsTooMany, IsEarly, IsHeld, IsNext, held_limit, arrival, taken_by}
+use Rattle.cds_follow.specs.Follow.{Known, Outcome, Knows, CannotBeRead, Jumps, Tears, with_notes, with_reply, known_after, known_by, is_no, is_turned_away, is_refused, and_turn}
+use Rattle.cds_replica.specs.Calls.{TakesTurn, HoldsFew, IsNotice, IsAcceptance, IsAnswer, UnlessNoMemory, UnlessMem, of_notes, IsTaking, IsDelivered}
 use Rattle.cds_replica.specs.Inboxed.{KeptInbox, IsInbox, inbox_of, held_count, arrival_in, with_name, taken_early, with_note, taken_in, followers}
-use Rattle.cds_replica.specs.Keeping.{Becomes, Leads, Unreadable, Leap, Tear, with_what, kept_outcome, kept_changes, hears_changes, with_telling, answers, IsStep}
-use Rattle.cds_replica.specs.Kept.{KeptPhase, Loads, Copies, KeptKnown, kept_known, kept_position, Kept, kept_of, StandsFor}
-use Rattle.cds_replica.specs.Telling.{tells, nothing_told}
+use Rattle.cds_replica.specs.Steps.{Becomes, Leads, Unreadable, Leap, Tear, with_what, kept_outcome, kept_changes, hears_changes, with_new_changes, answers, IsStep}
+use Rattle.cds_replica.specs.State.{KeptPhase, Loads, Copies, KeptKnown, kept_known, kept_position, ReplicaState, kept_of, StandsFor}
+use Rattle.cds_replica.specs.NewChanges.{tells, nothing_told}
 use Rattle.cds_replica.specs.declared.error.AnswerError.{AnswerError}
 use Rattle.cds_replica.specs.declared.error.AnswerError.TheVariants.{Unreadable as AnswerUnreadable, Jump as AnswerJump, Torn as AnswerTorn, Mem as AnswerMem}
 use Rattle.cds_replica.specs.declared.note.Taken.{Taken}
@@ -54,38 +54,38 @@ unread-cannot (Tears id) e = let no : ⊥ = cc in absurd no
 
 -- ---- turns that are taken, and turns that are refused
 
-goes-on : (turn : ReplicaTurn) (turns : List ReplicaTurn) (new : Kept) → is_refused turn turns ≡ false → new ≡ kept_of (turn ∷ turns) → StandsFor new (and_turn turn turns)
+goes-on : (turn : ReplicaTurn) (turns : List ReplicaTurn) (new : ReplicaState) → is_refused turn turns ≡ false → new ≡ kept_of (turn ∷ turns) → StandsFor new (and_turn turn turns)
 goes-on turn turns new e is = is ∙ ap kept_of (λ i. cond (sym e i) turns (turn ∷ turns))
 
-stays : (turn : ReplicaTurn) (turns : List ReplicaTurn) (old new : Kept) → is_refused turn turns ≡ true → old ≡ kept_of turns → new ≡ old → StandsFor new (and_turn turn turns)
+stays : (turn : ReplicaTurn) (turns : List ReplicaTurn) (old new : ReplicaState) → is_refused turn turns ≡ true → old ≡ kept_of turns → new ≡ old → StandsFor new (and_turn turn turns)
 stays turn turns old new e stood same = same ∙ stood ∙ ap kept_of (λ i. cond (sym e i) turns (turn ∷ turns))
 
 -- what is kept after a turn whose outcome is known
-kept-then : (known now : Known) (inbox : KeptInbox) (o : Outcome) (new : Kept) → o ≡ Knows now → kept_known now ≡ new.known → new.inbox ≡ inbox
+kept-then : (known now : Known) (inbox : KeptInbox) (o : Outcome) (new : ReplicaState) → o ≡ Knows now → kept_known now ≡ new.known → new.inbox ≡ inbox
     → new ≡ record { known = kept_known (known_after known o); inbox = inbox }
 kept-then known now inbox o new e same box = λ i. record { known = (sym same ∙ ap (λ (o : Outcome). kept_known (known_after known o)) (sym e)) i; inbox = box i }
 
 -- ---- few notes are held
 
-pub holds-few : (kept : Kept) → IsInbox kept.inbox → HoldsFew kept
+pub holds-few : (kept : ReplicaState) → IsInbox kept.inbox → HoldsFew kept
 holds-few kept is turns stood =
-    subst (λ (count : ℕ). count ≤ held_limit) (ap (λ (k : Kept). held_count k.inbox) stood ∙ sym (held-kept turns)) is.few
+    subst (λ (count : ℕ). count ≤ held_limit) (ap (λ (k : ReplicaState). held_count k.inbox) stood ∙ sym (held-kept turns)) is.few
 
 -- ---- a name is accepted
 
-of-early : (name : ℕ) (turns : List ReplicaTurn) (old : Kept) → old ≡ kept_of turns
+of-early : (name : ℕ) (turns : List ReplicaTurn) (old : ReplicaState) → old ≡ kept_of turns
     → of_notes (taken_early name old.inbox) old.known ≡ kept_outcome (with_notes (taken_by (Accepts name) turns) (known_by turns))
 of-early name turns old stood =
     (λ i. of_notes (taken_early name (stood i).inbox) (stood i).known)
     ∙ ap (λ (notes : List Note). of_notes notes (kept_known (known_by turns))) (sym (accepted-taken name turns))
     ∙ sym (notes-kept (taken_by (Accepts name) turns) (known_by turns) (turns-sound turns))
 
-pub accepted-stands : (name : ℕ) (turns : List ReplicaTurn) (old new : Kept) (result : Result (Unit {0}) NotifyError) → StandsFor old turns
+pub accepted-stands : (name : ℕ) (turns : List ReplicaTurn) (old new : ReplicaState) (result : Result (Unit {0}) NotifyError) → StandsFor old turns
     → IsTaking (of_notes (taken_early name old.inbox) old.known) old (with_name name old.inbox) new result
     → UnlessNoMemory result (StandsFor new (and_turn (Accepts name) turns)) × IsAcceptance (with_notes (taken_by (Accepts name) turns) (known_by turns)) result
 accepted-stands name turns old new (Ok done) stood is =
     let lead = leads-known (with_notes (taken_by (Accepts name) turns) (known_by turns)) new.known (sym (of-early name turns old stood) ∙ is.0) in
-    let box : new.inbox ≡ inbox_of (Accepts name ∷ turns) = is.1 ∙ ap (λ (kept : Kept). with_name name kept.inbox) stood ∙ sym (accepted-kept name turns) in (
+    let box : new.inbox ≡ inbox_of (Accepts name ∷ turns) = is.1 ∙ ap (λ (kept : ReplicaState). with_name name kept.inbox) stood ∙ sym (accepted-kept name turns) in (
       goes-on (Accepts name) turns new (ap is_no lead.1)
           (kept-then (known_by turns) lead.0 (inbox_of (Accepts name ∷ turns)) (with_notes (taken_by (Accepts name) turns) (known_by turns)) new lead.1 lead.2 box),
       (lead.0, lead.1),
@@ -100,7 +100,7 @@ accepted-stands name turns old new (Err (Torn id)) stood is =
     (stays (Accepts name) turns old new (ap is_no torn) stood is.1, torn)
 accepted-stands name turns old new (Err Mem) stood is = (tt, tt)
 
-pub taking-unchanged : (becomes : Becomes KeptKnown) (old new : Kept) (inbox : KeptInbox) (error : NotifyError) → IsTaking becomes old inbox new (Err error) → new ≡ old
+pub taking-unchanged : (becomes : Becomes KeptKnown) (old new : ReplicaState) (inbox : KeptInbox) (error : NotifyError) → IsTaking becomes old inbox new (Err error) → new ≡ old
 taking-unchanged becomes old new inbox Unknown is = absurd is
 taking-unchanged becomes old new inbox (Full held) is = absurd is
 taking-unchanged becomes old new inbox (Jump expected first) is = is.1
@@ -110,7 +110,7 @@ taking-unchanged becomes old new inbox Mem is = is
 -- ---- a note is delivered
 
 -- no notes change nothing
-no-notes : (kept : KeptKnown) → with_telling false (tells [] (nothing_told (kept_position kept) kept.heard)) kept ≡ Leads kept
+no-notes : (kept : KeptKnown) → with_new_changes false (tells [] (nothing_told (kept_position kept) kept.last_note)) kept ≡ Leads kept
 no-notes kept = by kept.phase refl
   where
     load : (held : Held) → kept_changes held kept.changes [] ≡ kept.changes
@@ -127,18 +127,18 @@ no-notes kept = by kept.phase refl
     now (Loads held) = λ i. Leads (Loads held, load held i)
     now (Copies number copy) = refl
 
-    by : (phase : KeptPhase) → kept.phase ≡ phase → with_telling false (tells [] (nothing_told (kept_position kept) kept.heard)) kept ≡ Leads kept
+    by : (phase : KeptPhase) → kept.phase ≡ phase → with_new_changes false (tells [] (nothing_told (kept_position kept) kept.last_note)) kept ≡ Leads kept
     by phase e =
-        ap (with_what (λ (n : KeptPhase × List Event). record { phase = n.0; base = kept.base; heard = kept.heard; changes = n.1 }))
+        ap (with_what (λ (n : KeptPhase × List Event). record { phase = n.0; base = kept.base; last_note = kept.last_note; changes = n.1 }))
         ((λ i. hears_changes (e i) (kept_position kept) kept.changes []) ∙ now phase)
-        ∙ (λ i. Leads (record { phase = sym e i; base = kept.base; heard = kept.heard; changes = kept.changes }))
+        ∙ (λ i. Leads (record { phase = sym e i; base = kept.base; last_note = kept.last_note; changes = kept.changes }))
 
-module _ (note : Note) (turns : List ReplicaTurn) (old new : Kept) (stood : StandsFor old turns) where
+module _ (note : Note) (turns : List ReplicaTurn) (old new : ReplicaState) (stood : StandsFor old turns) where
   abbrev out : Outcome
   out = with_notes (taken_by (Delivers note) turns) (known_by turns)
 
   arrives : arrival_in note old.inbox ≡ arrival note turns
-  arrives = ap (λ (kept : Kept). arrival_in note kept.inbox) stood ∙ sym (arrival-kept note turns)
+  arrives = ap (λ (kept : ReplicaState). arrival_in note kept.inbox) stood ∙ sym (arrival-kept note turns)
 
   -- the notes that are taken, and what is kept then, by the arrival
   at : (arr : Arrival) → arrival note turns ≡ arr → is_turned_away arr ≡ false
@@ -167,7 +167,7 @@ module _ (note : Note) (turns : List ReplicaTurn) (old new : Kept) (stood : Stan
       ∙ notes-kept [] (known_by turns) (turns-sound turns) ∙ no-notes (kept_known (known_by turns)) in
       let lead = leads-known out (kept_known (known_by turns)) nothing in
       goes-on (Delivers note) turns new (refused-by arr (sym arrives ∙ e) kept ∙ ap is_no lead.1)
-      (kept-then (known_by turns) lead.0 (inbox_of (Delivers note ∷ turns)) out new lead.1 (lead.2 ∙ sym (known ∙ ap (λ (k : Kept). k.known) stood)) (box ∙ sym here.0))
+      (kept-then (known_by turns) lead.0 (inbox_of (Delivers note ∷ turns)) out new lead.1 (lead.2 ∙ sym (known ∙ ap (λ (k : ReplicaState). k.known) stood)) (box ∙ sym here.0))
 
   -- the next note
   of-next : arrival_in note old.inbox ≡ IsNext → of_notes (note ∷ followers old.inbox) old.known ≡ kept_outcome out
@@ -186,11 +186,11 @@ module _ (note : Note) (turns : List ReplicaTurn) (old new : Kept) (stood : Stan
         (sym arrives ∙ is.0, (lead.0, lead.1)),
       )
   delivered-stands (Ok Repeat) is =
-      (none IsRepeat is.0 refl refl (ap (λ (k : Kept). k.known) is.1) (ap (λ (k : Kept). k.inbox) is.1), sym arrives ∙ is.0)
+      (none IsRepeat is.0 refl refl (ap (λ (k : ReplicaState). k.known) is.1) (ap (λ (k : ReplicaState). k.inbox) is.1), sym arrives ∙ is.0)
   delivered-stands (Ok Early) is =
-      (none IsEarly is.0 refl refl (ap (λ (k : Kept). k.known) is.1) (ap (λ (k : Kept). k.inbox) is.1), sym arrives ∙ is.0)
+      (none IsEarly is.0 refl refl (ap (λ (k : ReplicaState). k.known) is.1) (ap (λ (k : ReplicaState). k.inbox) is.1), sym arrives ∙ is.0)
   delivered-stands (Ok (Waits missing)) is =
-      (none (IsHeld missing) is.0 refl refl (ap (λ (k : Kept). k.known) is.1) (ap (λ (k : Kept). k.inbox) is.1), sym arrives ∙ is.0)
+      (none (IsHeld missing) is.0 refl refl (ap (λ (k : ReplicaState). k.known) is.1) (ap (λ (k : ReplicaState). k.inbox) is.1), sym arrives ∙ is.0)
   delivered-stands (Err Unknown) is = (away IsUnknown is.0 refl is.1, sym arrives ∙ is.0)
   delivered-stands (Err (Full held)) is = (away (IsTooMany held) is.0 refl is.1, sym arrives ∙ is.0)
   delivered-stands (Err (Jump expected first)) is =
@@ -201,7 +201,7 @@ module _ (note : Note) (turns : List ReplicaTurn) (old new : Kept) (stood : Stan
       (stays (Delivers note) turns old new (refused-by IsNext (sym arrives ∙ is.0) refl ∙ ap is_no torn) stood is.2, (sym arrives ∙ is.0, torn))
   delivered-stands (Err Mem) is = (tt, tt)
 
-pub delivered-unchanged : (arr : Arrival) (note : Note) (old new : Kept) (error : NotifyError) → IsDelivered arr note old new (Err error) → new ≡ old
+pub delivered-unchanged : (arr : Arrival) (note : Note) (old new : ReplicaState) (error : NotifyError) → IsDelivered arr note old new (Err error) → new ≡ old
 delivered-unchanged arr note old new Unknown is = is.1
 delivered-unchanged arr note old new (Full held) is = is.1
 delivered-unchanged arr note old new (Jump expected first) is = is.2
@@ -210,7 +210,7 @@ delivered-unchanged arr note old new Mem is = is
 
 -- ---- a reply is taken
 
-pub answered-stands : (shown : Shown) (turns : List ReplicaTurn) (old new : Kept) (result : Result Read AnswerError) → StandsFor old turns → new.inbox ≡ old.inbox
+pub answered-stands : (shown : Shown) (turns : List ReplicaTurn) (old new : ReplicaState) (result : Result Read AnswerError) → StandsFor old turns → new.inbox ≡ old.inbox
     → IsStep (answers old.known old.known.phase shown) old.known new.known result
     → UnlessMem result (StandsFor new (and_turn (Shows shown) turns)) × IsAnswer (with_reply (known_by turns) (known_by turns).held shown) result
 answered-stands shown turns old new result stood box = by result
@@ -229,7 +229,7 @@ answered-stands shown turns old new result stood box = by result
     by (Ok read) is =
         let lead = leads-known out new.known (sym becomes ∙ is) in (
           goes-on (Shows shown) turns new (ap is_no lead.1)
-              (kept-then (known_by turns) lead.0 (inbox_of (Shows shown ∷ turns)) out new lead.1 lead.2 (box ∙ ap (λ (k : Kept). k.inbox) stood)),
+              (kept-then (known_by turns) lead.0 (inbox_of (Shows shown ∷ turns)) out new lead.1 lead.2 (box ∙ ap (λ (k : ReplicaState). k.inbox) stood)),
           (lead.0, lead.1),
         )
     by (Err AnswerUnreadable) is =
@@ -248,7 +248,7 @@ step-unchanged becomes old new AnswerMem is = is
 
 -- ---- a fact for every list of turns that holds unless memory ran out
 
-pub unless-no_memory : {A : Type 0} (result : Result A NotifyError) (old new : Kept) (turn : ReplicaTurn)
+pub unless-no_memory : {A : Type 0} (result : Result A NotifyError) (old new : ReplicaState) (turn : ReplicaTurn)
     → ((turns : List ReplicaTurn) → StandsFor old turns → UnlessNoMemory result (StandsFor new (and_turn turn turns))) → UnlessNoMemory result (TakesTurn old turn new)
 unless-no_memory (Ok x) old new turn h = h
 unless-no_memory (Err Unknown) old new turn h = h
@@ -257,7 +257,7 @@ unless-no_memory (Err (Jump expected first)) old new turn h = h
 unless-no_memory (Err (Torn id)) old new turn h = h
 unless-no_memory (Err Mem) old new turn h = tt
 
-pub unless-mem : (result : Result Read AnswerError) (old new : Kept) (turn : ReplicaTurn)
+pub unless-mem : (result : Result Read AnswerError) (old new : ReplicaState) (turn : ReplicaTurn)
     → ((turns : List ReplicaTurn) → StandsFor old turns → UnlessMem result (StandsFor new (and_turn turn turns))) → UnlessMem result (TakesTurn old turn new)
 unless-mem (Ok read) old new turn h = h
 unless-mem (Err AnswerUnreadable) old new turn h = h

@@ -2,13 +2,13 @@
 use Rattle.std.proofs.Common.{◌≡◌, ◌+◌, ◌<◌, ◌≤◌, ℕ, zero, suc, Bool, true, false, cond, ◌&&◌, ◌||◌, nat_eq, nat_lt, List, [], ◌∷◌, length, Option, Some, None, refl, sym, ap, ◌∙◌, subst, arith, true≢false, eq-eqb, eqb-true, lt-ltb, ltb-true}
 use Rattle.std.specs.Option.{option_eq}
 use Rattle.std.specs.List.{AllByRecursion, list_any, filter, cons_option}
-use Rattle.cds_notes.specs.Commands.{Note}
-use Rattle.cds_notes.specs.Inbox.{has_seq, note_of, notes_from_to}
-use Rattle.cds_notes.specs.Follow.{is_drop}
+use Rattle.cds_commands.specs.Notes.{Note, note_of, notes_from_to}
+use Rattle.cds_follow.specs.Inbox.{has_seq}
+use Rattle.cds_follow.specs.Follow.{is_drop}
 use Rattle.cds_replica.specs.Inboxed.{KeptInbox, IsInbox, IsWaiting, accepts, follows, run_end, behind, of_name, with_name, run_after, followers, with_next}
-use Rattle.cds_replica.specs.Telling.{KeptTelling, tells, tells_note, drops_first}
+use Rattle.cds_replica.specs.NewChanges.{KeptChanges, tells, tells_note, drops_first}
 use Rattle.cds_replica.proofs.Runs.{AreOf, run-outside, run-is, notes-more, notes-none, of_name-of}
-use Rattle.cds_replica.proofs.Tellings.{note-seq, note-has, tells-append, tells-one}
+use Rattle.cds_replica.proofs.NewOnes.{note-seq, note-has, tells-append, tells-one}
 
 -- ---- notes of the accepted name
 
@@ -41,7 +41,7 @@ follows-parts note kept e = let parts = and-parts (accepts note.name kept) (nat_
 
 -- ---- what the next note and those that follow it tell
 
-pub told-by : (note : Note) (kept : KeptInbox) (to : ℕ) (told : KeptTelling) → IsInbox kept → follows note kept ≡ true → to ≡ run_end (note.seq + 1) (of_name note.name kept.waiting)
+pub told-by : (note : Note) (kept : KeptInbox) (to : ℕ) (told : KeptChanges) → IsInbox kept → follows note kept ≡ true → to ≡ run_end (note.seq + 1) (of_name note.name kept.waiting)
     → tells (notes_from_to (note.seq + 1) to (of_name note.name kept.waiting)) (tells_note note told) ≡ tells (note ∷ followers kept) told
 told-by note kept to told inbox e is =
     let parts = follows-parts note kept e in

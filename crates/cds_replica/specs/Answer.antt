@@ -1,10 +1,10 @@
 -- What a replica answers to a reply.
 use Rattle.std.specs.Prelude.{◌≡◌, List, [], ◌∷◌, Option, Some, None, Result, Ok, Err}
-use Rattle.cds_model.specs.Replica.{Held, Taken, Holds, Unreadable as CannotBeRead, Torn as CannotBe}
-use Rattle.cds_model.specs.declared.exchange.Shown.{Shown}
-use Rattle.cds_model.specs.declared.exchange.Shown.TheVariants.{Text, Number, Page, Fault}
-use Rattle.cds_model.specs.declared.exchange.Read.{Read}
-use Rattle.cds_model.specs.declared.exchange.Read.TheVariants.{Ok as ReadOk, Fault as ReadFault}
+use Rattle.cds_load.specs.Stages.{Held, Taken, Holds, Unreadable as CannotBeRead, Torn as CannotBe}
+use Rattle.cds_load.specs.declared.exchange.Shown.{Shown}
+use Rattle.cds_load.specs.declared.exchange.Shown.TheVariants.{Text, Number, Page, Fault}
+use Rattle.cds_load.specs.declared.exchange.Read.{Read}
+use Rattle.cds_load.specs.declared.exchange.Read.TheVariants.{Ok as ReadOk, Fault as ReadFault}
 use Rattle.cds_replica.specs.declared.error.AnswerError.{AnswerError}
 use Rattle.cds_replica.specs.declared.error.AnswerError.TheVariants.{Unreadable, Jump, Torn, Mem}
 

@@ -1,5 +1,5 @@
 -- What becomes of a delivered note, as the inbox answers it.
-use Rattle.cds_notes.specs.Inbox.{Arrival, IsUnknown, IsRepeat, IsTooMany, IsEarly, IsHeld, IsNext}
+use Rattle.cds_follow.specs.Inbox.{Arrival, IsUnknown, IsRepeat, IsTooMany, IsEarly, IsHeld, IsNext}
 use Rattle.cds_replica.specs.declared.inbox.Arrival.{Arrival as Answer}
 use Rattle.cds_replica.specs.declared.inbox.Arrival.TheVariants.{Unknown, Repeat, Full, Early, Held, Next}
 

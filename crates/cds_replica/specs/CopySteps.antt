@@ -8,15 +8,15 @@ use Rattle.cds_object.specs.declared.row.Trackers.{Trackers}
 use Rattle.cds_event.specs.declared.Class.{Class}
 use Rattle.cds_event.specs.declared.Event.{Event}
 use Rattle.cds_event.specs.declared.Event.TheVariants.{ObjAdd, ObjMod, ObjDel, StDone}
-use Rattle.cds_changes.specs.Events.{update_of}
-use Rattle.cds_model.specs.Replica.{put_by}
-use Rattle.cds_notes.specs.Copy.{Version, KnownRow, known_row, known_of, parent_in, counts_addition, counts_modification, counts_deletion, is_container, added_row, changed, cannot_be, object_of, newer}
-use Rattle.cds_notes.specs.Follow.{Outcome, Knows, CannotBeRead, Jumps, Tears as Cannot, is_of}
-use Rattle.cds_replica.specs.Copied.{KeptRow, KeptCopy, kept_id, copy_of, bare_rows}
+use Rattle.cds_load.specs.Stages.{put_by}
+use Rattle.cds_follow.specs.Copy.{Version, KnownRow, known_row, known_of, parent_in, counts_addition, counts_modification, counts_deletion, added_row, changed, cannot_be, newer}
+use Rattle.cds_follow.specs.Follow.{Outcome, Knows, CannotBeRead, Jumps, Tears as Cannot, is_of}
+use Rattle.cds_replica.specs.CopyState.{KeptRow, KeptCopy, kept_id, copy_of, bare_rows}
 use Rattle.cds_replica.specs.declared.copy_row.ChildChange.{ChildChange}
 use Rattle.cds_replica.specs.declared.copy_row.ChildChange.TheVariants.{Added, Modified, Deleted}
 use Rattle.cds_replica.specs.declared.count_error.CountError.{CountError}
 use Rattle.cds_replica.specs.declared.count_error.CountError.TheVariants.{Jump, Torn, Mem}
+use Rattle.cds_event.specs.Events.{update_of, is_container, object_of}
 
 -- a row that a load has read
 abbrev pub loaded_row : ObjectRow → KeptRow

@@ -4,9 +4,9 @@ use Rattle.std.specs.List.{AllByRecursion, list_any}
 use Rattle.std.specs.Global.{Vec}
 use Rattle.cds_object.specs.Object.{ObjectRow}
 use Rattle.cds_event.specs.declared.Event.{Event}
-use Rattle.cds_model.specs.Replica.{Listing as Progress, put_rows}
-use Rattle.cds_notes.specs.Follow.{changes_above}
-use Rattle.cds_replica.specs.Copied.{copy_of}
+use Rattle.cds_load.specs.Stages.{Listing as Progress, put_rows}
+use Rattle.cds_commands.specs.Notes.{changes_above}
+use Rattle.cds_replica.specs.CopyState.{copy_of}
 use Rattle.cds_replica.specs.CopySteps.{loaded_row, rows_changed_by, additions, AddsNoRoot, Count, Counts, Leaps, Tears, count_from}
 use Rattle.cds_replica.specs.Holding.{listing_in}
 use Rattle.cds_replica.specs.declared.count_error.CountError.{CountError}

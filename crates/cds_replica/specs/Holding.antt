@@ -2,7 +2,7 @@
 use Rattle.std.specs.Prelude.{◌≡◌, List, ◌++◌}
 use Rattle.std.specs.Global.{Vec}
 use Rattle.cds_object.specs.Object.{ObjectRow}
-use Rattle.cds_model.specs.Replica.{Held, Listing as Progress, Idle as HoldsNothing, Begun as HoldsBegun, HasToken as HoldsToken, HasNumber as HoldsNumber, HasRoot as HoldsRoot, Lists as HoldsListing, HasPage as HoldsPage}
+use Rattle.cds_load.specs.Stages.{Held, Listing as Progress, Idle as HoldsNothing, Begun as HoldsBegun, HasToken as HoldsToken, HasNumber as HoldsNumber, HasRoot as HoldsRoot, Lists as HoldsListing, HasPage as HoldsPage}
 use Rattle.cds_replica.specs.declared.listing.Listing.{Listing}
 use Rattle.cds_replica.specs.declared.stage.Stage.{Stage}
 use Rattle.cds_replica.specs.declared.stage.Stage.TheVariants.{Idle, Begun, HasToken, HasNumber, HasRoot, Lists, HasPage}

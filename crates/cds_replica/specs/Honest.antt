@@ -1,23 +1,26 @@
--- What a replica's calls say where all that it is given is an honest server's, in every order of notes, with losses and
--- repeats.
+-- What a replica's calls say where all that it is given is an honest server's, whatever its reset token and whatever names it
+-- has for its subscriptions, in every order of notes, with losses and repeats.
 use Rattle.std.specs.Prelude.{◌≡◌, ◌≤◌, ℕ, true, List, ◌∷◌, length, Some, None, Result, Ok, Err, Contains}
 use Rattle.std.specs.Option.{option_map}
 use Rattle.std.specs.List.{AllByRecursion}
 use Rattle.cds_object.specs.Object.{ObjectRow}
 use Rattle.cds_catalog.specs.History.{end_of}
 use Rattle.cds_catalog.specs.Catalog.{catalog}
-use Rattle.cds_model.specs.Server.{Moment, reply_to}
-use Rattle.cds_model.specs.declared.exchange.Read.{Read}
-use Rattle.cds_model.specs.declared.exchange.Shown.{Shown}
-use Rattle.cds_notes.specs.Commands.{Command, Note, scans_of, released_to, releases_of, alive_names, notes_of}
-use Rattle.cds_notes.specs.Inbox.{ReplicaTurn, accepted, received, has_seq}
-use Rattle.cds_notes.specs.Follow.{known_by, next_ask}
-use Rattle.cds_notes.specs.Given.{oldest, moment_after, Entry, Asks, Granted, Gets, length_at, given_by, AreAccepted, IsGiven}
-use Rattle.cds_notes.specs.HonestLaws.{load_was_begun}
-use Rattle.cds_notes.specs.declared.says.Says.{Says}
-use Rattle.cds_notes.specs.declared.says.Says.TheVariants.{Stands}
-use Rattle.cds_replica.specs.Keeping.{phase_rows}
-use Rattle.cds_replica.specs.Kept.{Kept, StandsFor}
+use Rattle.cds_load.specs.Server.{Moment, reply_to}
+use Rattle.cds_load.specs.declared.exchange.Read.{Read}
+use Rattle.cds_load.specs.declared.exchange.Shown.{Shown}
+use Rattle.cds_commands.specs.Commands.{Command, scans_of, oldest, AreAccepted}
+use Rattle.cds_commands.specs.Notes.{Note, alive_names, notes_of}
+use Rattle.cds_commands.specs.Releases.{released_to, releases_of}
+use Rattle.cds_follow.specs.Inbox.{ReplicaTurn, accepted, received, has_seq}
+use Rattle.cds_follow.specs.Follow.{known_by, next_ask}
+use Rattle.cds_follow.specs.Given.{moment_after, Entry, Asks, Granted, Gets, length_at, given_by, IsGiven}
+use Rattle.cds_follow.specs.HonestLaws.{load_was_begun}
+use Rattle.cds_follow.specs.Named.{TellApart, named_note, named}
+use Rattle.cds_follow.specs.declared.says.Says.{Says}
+use Rattle.cds_follow.specs.declared.says.Says.TheVariants.{Stands}
+use Rattle.cds_replica.specs.Steps.{phase_rows}
+use Rattle.cds_replica.specs.State.{ReplicaState, StandsFor}
 use Rattle.cds_replica.specs.declared.error.AnswerError.{AnswerError}
 use Rattle.cds_replica.specs.declared.error.AnswerError.TheVariants.{Unreadable, Jump as AnswerJump, Torn as AnswerTorn, Mem as AnswerMem}
 use Rattle.cds_replica.specs.declared.notify_error.NotifyError.{NotifyError}
@@ -46,23 +49,23 @@ IsHeardThen (Err (Torn id)) fact = ⊥
 IsHeardThen (Err Mem) fact = Unit {0}
 
 -- what stood for the entries of a server stands for them and one more read
-abbrev pub TakesGiven : Kept → Shown → Kept → Result Read AnswerError → Type 0
-TakesGiven old shown new result = (first : ℕ) (commands : List Command) (entries : List Entry) (k : ℕ) → AreAccepted first commands →
-    IsGiven first commands (Asks k ∷ entries) → StandsFor old (given_by first commands entries) →
-    IsReplyOf (moment_after first (oldest k commands)) (given_by first commands entries) shown →
-    IsReadThen result (StandsFor new (given_by first commands (Asks k ∷ entries)))
+abbrev pub TakesGiven : ReplicaState → Shown → ReplicaState → Result Read AnswerError → Type 0
+TakesGiven old shown new result = (token : List ℕ) (names : ℕ → ℕ) (first : ℕ) (commands : List Command) (entries : List Entry) (k : ℕ) → TellApart names → AreAccepted first commands →
+    IsGiven token first commands (Asks k ∷ entries) → StandsFor old (named names (given_by token first commands entries)) →
+    IsReplyOf (moment_after token first (oldest k commands)) (given_by token first commands entries) shown →
+    IsReadThen result (StandsFor new (named names (given_by token first commands (Asks k ∷ entries))))
 
 -- and one more note
-abbrev pub HearsGiven : {A : Type 0} → Kept → Note → Kept → Result A NotifyError → Type 0
-HearsGiven old note new result = (first : ℕ) (commands : List Command) (entries : List Entry) (k : ℕ) → AreAccepted first commands →
-    IsGiven first commands (Gets k note ∷ entries) → StandsFor old (given_by first commands entries) →
-    IsHeardThen result (StandsFor new (given_by first commands (Gets k note ∷ entries)))
+abbrev pub HearsGiven : {A : Type 0} → ReplicaState → Note → ReplicaState → Result A NotifyError → Type 0
+HearsGiven old note new result = (token : List ℕ) (names : ℕ → ℕ) (first : ℕ) (commands : List Command) (entries : List Entry) (k : ℕ) (sent : Note) → note ≡ named_note names sent → TellApart names → AreAccepted first commands →
+    IsGiven token first commands (Gets k sent ∷ entries) → StandsFor old (named names (given_by token first commands entries)) →
+    IsHeardThen result (StandsFor new (named names (given_by token first commands (Gets k sent ∷ entries))))
 
 -- and one more name that is accepted
-abbrev pub AcceptsGiven : {A : Type 0} → Kept → ℕ → Kept → Result A NotifyError → Type 0
-AcceptsGiven old name new result = (first : ℕ) (commands : List Command) (entries : List Entry) (k : ℕ) → AreAccepted first commands →
-    IsGiven first commands (Granted k name ∷ entries) → StandsFor old (given_by first commands entries) →
-    IsHeardThen result (StandsFor new (given_by first commands (Granted k name ∷ entries)))
+abbrev pub AcceptsGiven : {A : Type 0} → ReplicaState → ℕ → ReplicaState → Result A NotifyError → Type 0
+AcceptsGiven old name new result = (token : List ℕ) (names : ℕ → ℕ) (first : ℕ) (commands : List Command) (entries : List Entry) (k number : ℕ) → name ≡ names number → TellApart names → AreAccepted first commands →
+    IsGiven token first commands (Granted k number ∷ entries) → StandsFor old (named names (given_by token first commands entries)) →
+    IsHeardThen result (StandsFor new (named names (given_by token first commands (Granted k number ∷ entries))))
 
 -- a number is the end of the scans of some of the oldest commands, at most so many, and rows are the catalog after them
 pub record StoodAfter (first : ℕ) (commands : List Command) (most number : ℕ) (rows : List ObjectRow) : Type 0 where
@@ -72,21 +75,21 @@ pub record StoodAfter (first : ℕ) (commands : List Command) (most number : ℕ
   pub has_catalog : rows ≡ catalog (scans_of first (oldest length commands))
 
 -- where a replica stands, it does at a scan end, with the catalog there
-abbrev pub SaysGiven : Kept → Says → Type 0
-SaysGiven kept answer = (first : ℕ) (commands : List Command) (newest : Entry) (older : List Entry) (number : ℕ) → AreAccepted first commands →
-    IsGiven first commands (newest ∷ older) → StandsFor kept (given_by first commands (newest ∷ older)) → answer ≡ Stands number →
+abbrev pub SaysGiven : ReplicaState → Says → Type 0
+SaysGiven kept answer = (token : List ℕ) (names : ℕ → ℕ) (first : ℕ) (commands : List Command) (newest : Entry) (older : List Entry) (number : ℕ) → TellApart names → AreAccepted first commands →
+    IsGiven token first commands (newest ∷ older) → StandsFor kept (named names (given_by token first commands (newest ∷ older))) → answer ≡ Stands number →
     StoodAfter first commands (length_at newest) number (phase_rows kept.known.phase)
 
 -- the answer is complete: where a load was begun, the subscription that was accepted last lives, each note that was sent to it was received, no change waits for its release, and nothing is to be read, the replica
 -- stands at the server's number
-abbrev pub CompletesGiven : Kept → Says → Type 0
-CompletesGiven kept answer = (first : ℕ) (commands : List Command) (newest : Entry) (older : List Entry) (name now : ℕ) → AreAccepted first commands →
-    IsGiven first commands (newest ∷ older) →
-    StandsFor kept (given_by first commands (newest ∷ older)) →
-    load_was_begun (given_by first commands (newest ∷ older)) ≡ true →
-    accepted (given_by first commands (newest ∷ older)) ≡ Some name →
+abbrev pub CompletesGiven : ReplicaState → Says → Type 0
+CompletesGiven kept answer = (token : List ℕ) (names : ℕ → ℕ) (first : ℕ) (commands : List Command) (newest : Entry) (older : List Entry) (name now : ℕ) → TellApart names → AreAccepted first commands →
+    IsGiven token first commands (newest ∷ older) →
+    StandsFor kept (named names (given_by token first commands (newest ∷ older))) →
+    load_was_begun (given_by token first commands (newest ∷ older)) ≡ true →
+    accepted (given_by token first commands (newest ∷ older)) ≡ Some name →
     Contains (alive_names now commands (notes_of first commands)) name →
-    AllByRecursion (λ (note : Note). note.name ≡ name → has_seq (received (given_by first commands (newest ∷ older))) note.seq ≡ true) (notes_of first commands) →
+    AllByRecursion (λ (note : Note). note.name ≡ name → has_seq (received (given_by token first commands (newest ∷ older))) note.seq ≡ true) (notes_of first commands) →
     released_to first (releases_of first commands) ≡ end_of (scans_of first commands) →
-    next_ask (known_by (given_by first commands (newest ∷ older))) ≡ None →
+    next_ask (known_by (given_by token first commands (newest ∷ older))) ≡ None →
     answer ≡ Stands (end_of (scans_of first commands))

@@ -3,8 +3,8 @@
 use Rattle.std.specs.Prelude.{◌≡◌, ◌<◌, ◌≤◌, ◌+◌, ◌&&◌, ◌||◌, ℕ, Bool, true, false, cond, not, nat_eq, nat_lt, nat_le, List, [], ◌∷◌, filter, length, Option, Some}
 use Rattle.std.specs.List.{list_any, AllByRecursion}
 use Rattle.std.specs.Option.{option_eq}
-use Rattle.cds_notes.specs.Commands.{Note}
-use Rattle.cds_notes.specs.Inbox.{ReplicaTurn, is_out, accepted, early_notes, has_seq, least_outside, next_seq, is_same_note, different, waiting_notes, held_limit, notes_from_to, Arrival, IsUnknown, IsRepeat, IsTooMany, IsEarly, IsHeld, IsNext}
+use Rattle.cds_commands.specs.Notes.{Note, notes_from_to}
+use Rattle.cds_follow.specs.Inbox.{ReplicaTurn, is_out, accepted, early_notes, has_seq, least_outside, next_seq, is_same_note, different, waiting_notes, held_limit, Arrival, IsUnknown, IsRepeat, IsTooMany, IsEarly, IsHeld, IsNext}
 
 -- the name that was accepted last; whether a subscribe request is out; the SEQ after those that were taken; the notes that
 -- were received and not taken; and the early ones: each held note once, the newest first

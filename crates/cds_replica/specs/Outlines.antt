@@ -5,10 +5,11 @@ use Rattle.std.specs.Option.{option_eq}
 use Rattle.cds_object.specs.Object.{ObjectRow, is_folder}
 use Rattle.cds_event.specs.declared.Event.{Event}
 use Rattle.cds_event.specs.declared.Event.TheVariants.{ObjAdd, ObjMod, ObjDel, StDone}
-use Rattle.cds_model.specs.Replica.{put_by}
-use Rattle.cds_notes.specs.Copy.{KnownRow, is_container, object_of}
-use Rattle.cds_replica.specs.Copied.{KeptRow}
+use Rattle.cds_load.specs.Stages.{put_by}
+use Rattle.cds_follow.specs.Copy.{KnownRow}
+use Rattle.cds_replica.specs.CopyState.{KeptRow}
 use Rattle.cds_replica.specs.declared.outline.Outline.{Outline}
+use Rattle.cds_event.specs.Events.{is_container, object_of}
 
 -- the outline of a row
 abbrev pub outline_of : KnownRow → Outline

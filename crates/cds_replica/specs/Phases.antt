@@ -1,10 +1,10 @@
 -- What a replica's phase stands for, and what ends a load.
 use Rattle.std.specs.Prelude.{◌&&◌, Bool, nat_eq, List, ◌++◌, length}
 use Rattle.cds_object.specs.Object.{ObjectRow}
-use Rattle.cds_model.specs.Replica.{Listing as Progress, listed_children}
+use Rattle.cds_load.specs.Stages.{Listing as Progress, listed_children}
 use Rattle.cds_replica.specs.Ended.{is_end}
 use Rattle.cds_replica.specs.Holding.{held_in}
-use Rattle.cds_replica.specs.Kept.{KeptPhase, Loads, Copies}
+use Rattle.cds_replica.specs.State.{KeptPhase, Loads, Copies}
 use Rattle.cds_replica.specs.declared.count_error.CountError.{CountError}
 use Rattle.cds_replica.specs.declared.count_error.CountError.TheVariants.{Jump as CountJump, Torn as CountTorn, Mem as CountMem}
 use Rattle.cds_replica.specs.declared.error.AnswerError.{AnswerError}

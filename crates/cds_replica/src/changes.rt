@@ -1,38 +1,19 @@
 //! Which events of notes are changes that a replica did not count yet.
 
 ghost use Rattle.std.specs.Prelude.{◌≡◌, ◌&&◌, ◌++◌, nat_lt, IfOk, OnOk};
-ghost use Rattle.cds_changes.specs.Events.{update_of, is_change};
-ghost use Rattle.cds_notes.specs.Follow.{changes_above};
-ghost use Rattle.cds_replica.specs.Copied.{AreAbove};
+ghost use Rattle.cds_commands.specs.Notes.{changes_above};
+ghost use Rattle.cds_replica.specs.CopyState.{AreAbove};
+ghost use Rattle.cds_event.specs.Events.{update_of, is_change};
 
 use cds_base::Mem;
 use cds_event::Event;
 use std::alloc::Global;
 
-/// The number of the change that an event tells, or of the last one of the subtree update that is done.
-pub fn update_of(event: &Event) -> u32
-    ensures { result ≡ update_of event.now }
-{
-    match *event {
-        Event::ObjAdd { update, .. }
-        | Event::ObjMod { update, .. }
-        | Event::ObjDel { update, .. }
-        | Event::StDone { update, .. } => update,
-    }
-}
-
-/// Whether an event tells a change, and not that a subtree update is done.
-fn is_change(event: &Event) -> bool
-    ensures { result ≡ is_change event.now }
-{
-    !matches!(event, Event::StDone { .. })
-}
-
 /// Whether an event is a change above a number.
 fn is_above(number: u32, event: &Event) -> bool
     ensures { result ≡ (is_change event.now && nat_lt number (update_of event.now)) }
 {
-    is_change(event) && number < update_of(event)
+    event.is_change() && number < event.update()
 }
 
 /// Adds the changes above a number.

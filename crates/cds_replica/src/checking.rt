@@ -3,7 +3,7 @@
 ghost use Rattle.std.specs.Prelude.{◌≡◌, ◌+◌, ◌-◌, ◌^◌, ◌<◌, length, min, IsTrue};
 ghost use Rattle.std.specs.List.{list_all, list_any};
 ghost use Rattle.cds_object.specs.Tree.{is_child_of};
-ghost use Rattle.cds_model.specs.Replica.{listed_id, listed_children, all_new, known_ids, fits};
+ghost use Rattle.cds_load.specs.Stages.{listed_id, listed_children, all_new, known_ids, fits};
 ghost use Rattle.cds_replica.specs.Holding.{listing_in};
 ghost use Rattle.cds_replica.specs.Known.{has_id, was_shown};
 

@@ -2,14 +2,13 @@
 
 ghost use Rattle.std.specs.Prelude.{◌≡◌, IfOk, option_copied, slice_get, cond};
 ghost use Rattle.std.specs.List.{filter_map};
-ghost use Rattle.cds_notes.specs.Copy.{shown_row};
+ghost use Rattle.cds_follow.specs.Copy.{shown_row};
 ghost use Rattle.cds_replica.specs.Answer.{read_of};
-ghost use Rattle.cds_replica.specs.Keeping.{IsStep, copy_takes, row_of_read};
-ghost use Rattle.cds_replica.specs.Copied.{AreAbove, bare_rows, lesser_of, least_wanted};
+ghost use Rattle.cds_replica.specs.Steps.{IsStep, copy_takes, row_of_read};
+ghost use Rattle.cds_replica.specs.CopyState.{AreAbove, bare_rows, lesser_of, least_wanted};
 ghost use Rattle.cds_replica.specs.CopySteps.{IsCount, count_from, leap_from, copy_read, version_of, can_be_of};
 
 use crate::AnswerError;
-use crate::changes::update_of;
 use crate::copy_row::CopyRow;
 use crate::copy_rows::{additions, change_all, read};
 use crate::count_error::CountError;
@@ -17,7 +16,7 @@ use crate::order::Identified;
 use crate::outline::{first_cannot, outlines_of};
 use crate::taking::only_row;
 use cds_event::Event;
-use cds_model::{Read, Shown};
+use cds_load::{Read, Shown};
 use cds_object::{Row, Rows};
 use std::alloc::Global;
 use std::marker::Model;
@@ -31,7 +30,7 @@ pub struct CatalogCopy {
 }
 
 impl Model for CatalogCopy {
-    ghost use Rattle.cds_replica.specs.Copied.{KeptCopy};
+    ghost use Rattle.cds_replica.specs.CopyState.{KeptCopy};
 
     ghost Value = { KeptCopy };
 
@@ -46,7 +45,7 @@ pub fn leap(at: u32, events: &[Event]) -> Option<CountError>
     match events.first() {
         None => None,
         Some(event) => {
-            let first = update_of(event);
+            let first = event.update();
             let expected = at + 1;
             if first == expected {
                 None

@@ -1,10 +1,11 @@
 //! A row of a copy, and what each change and each read makes of it.
 
+ghost use Rattle.cds_event.specs.Events.{is_container};
 ghost use Rattle.std.specs.Prelude.{◌≡◌, ◌<◌, nat_eq, option_copied};
 ghost use Rattle.std.specs.Option.{option_eq};
 ghost use Rattle.cds_object.specs.Object.{is_folder};
-ghost use Rattle.cds_notes.specs.Copy.{shown_row, is_container};
-ghost use Rattle.cds_replica.specs.Copied.{is_wanted};
+ghost use Rattle.cds_follow.specs.Copy.{shown_row};
+ghost use Rattle.cds_replica.specs.CopyState.{is_wanted};
 ghost use Rattle.cds_replica.specs.CopySteps.{loaded_row, new_row, new_trackers, counted_row, count_row, counts, wanted_row, read_of_row};
 
 use crate::order::Identified;
@@ -36,7 +37,7 @@ pub struct CopyRow {
 }
 
 impl Model for CopyRow {
-    ghost use Rattle.cds_replica.specs.Copied.{KeptRow, kept_in};
+    ghost use Rattle.cds_replica.specs.CopyState.{KeptRow, kept_in};
 
     ghost Value = { KeptRow };
 
@@ -44,7 +45,7 @@ impl Model for CopyRow {
 }
 
 impl Identified for CopyRow {
-    ghost use Rattle.cds_replica.specs.Copied.{kept_id};
+    ghost use Rattle.cds_replica.specs.CopyState.{kept_id};
 
     ghost id_of = { kept_id };
 
@@ -118,7 +119,7 @@ fn count_row(row: &mut Row, change: ChildChange, number: u32)
 
 impl CopyRow {
     /// A row that a load has read.
-    pub fn of(row: Row) -> CopyRow
+    pub(crate) fn of(row: Row) -> CopyRow
         ensures { result ≡ loaded_row row }
     {
         CopyRow {
@@ -130,7 +131,7 @@ impl CopyRow {
     }
 
     /// The row of an object that a note added, condition: its id is above 0.
-    pub fn added(alloc: Global, id: u32, number: u32, parent: u32, class: Class) -> CopyRow
+    pub(crate) fn added(alloc: Global, id: u32, number: u32, parent: u32, class: Class) -> CopyRow
         requires { 0 < id }
         ensures { result ≡ new_row id number parent class }
     {
@@ -157,7 +158,7 @@ impl CopyRow {
     }
 
     /// The id of the parent; the root has none.
-    pub fn parent(&self) -> Option<u32>
+    pub(crate) fn parent(&self) -> Option<u32>
         ensures { result ≡ self.now.row.parent }
     {
         match self.row.parent {
@@ -167,14 +168,14 @@ impl CopyRow {
     }
 
     /// Whether it is a container's.
-    pub fn is_folder(&self) -> bool
+    pub(crate) fn is_folder(&self) -> bool
         ensures { result ≡ self.now.row.folder }
     {
         self.row.content.is_folder()
     }
 
     /// Whether the object is to be read: no read showed the number at which it was last added or modified, or a later one.
-    pub fn is_wanted(&self) -> bool
+    pub(crate) fn is_wanted(&self) -> bool
         ensures { result ≡ is_wanted self.now }
     {
         self.shown < self.wanted
@@ -191,7 +192,7 @@ impl CopyRow {
     }
 
     /// Counts a change of a child in the trackers, where this is the parent's row.
-    pub fn count(&mut self, parent: Option<u32>, change: ChildChange, number: u32)
+    pub(crate) fn count(&mut self, parent: Option<u32>, change: ChildChange, number: u32)
         ensures { self.new ≡ counted_row (counts change number) parent self.old }
     {
         if self.is_of(parent) {
@@ -200,7 +201,7 @@ impl CopyRow {
     }
 
     /// Has the object read at this number or later, where this is its row.
-    pub fn want(&mut self, id: u32, number: u32)
+    pub(crate) fn want(&mut self, id: u32, number: u32)
         ensures { self.new ≡ wanted_row id number self.old }
     {
         if id == self.row.id.0 {
@@ -210,7 +211,7 @@ impl CopyRow {
 
     /// Takes what a read showed, condition: the content is of the row's kind. A version lower than the one that is kept
     /// is passed over.
-    pub fn read(&mut self, content: Content, version: u32)
+    pub(crate) fn read(&mut self, content: Content, version: u32)
         requires { is_folder content ≡ self.old.row.folder }
         ensures { self.new ≡ read_of_row (record { content = content; object_update = version }) self.old }
     {

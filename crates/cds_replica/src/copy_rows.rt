@@ -2,8 +2,8 @@
 
 ghost use Rattle.std.specs.Prelude.{◌≡◌, ◌+◌, ◌<◌, ◌≤◌, Bool, map, vec_len, vec_capacity};
 ghost use Rattle.std.specs.List.{AllByRecursion};
-ghost use Rattle.cds_notes.specs.Copy.{known_of};
-ghost use Rattle.cds_replica.specs.Copied.{KeptRow};
+ghost use Rattle.cds_follow.specs.Copy.{known_of};
+ghost use Rattle.cds_replica.specs.CopyState.{KeptRow};
 ghost use Rattle.cds_replica.specs.CopySteps.{counts, counted_rows, wanted_rows, parent_among, rows_without, rows_changed, rows_changed_by, rows_read, adds, additions, AddsNoRoot, IsOfKind};
 
 use crate::copy_row::{ChildChange, CopyRow};

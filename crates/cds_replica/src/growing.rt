@@ -1,7 +1,7 @@
 //! How a listing begins and grows.
 
 ghost use Rattle.std.specs.Prelude.{◌≡◌, ℕ, ◌+◌, ◌^◌, ◌<◌, ◌≤◌, ◌∷◌, ◌++◌, [], false, nat_eq, length, drop, OnOk, IfOk, IfErr, vec_len, vec_capacity};
-ghost use Rattle.cds_model.specs.Replica.{Lists, put_rows, put_containers, listing_of, listed, listed_children, after_page};
+ghost use Rattle.cds_load.specs.Stages.{Lists, put_rows, put_containers, listing_of, listed, listed_children, after_page};
 ghost use Rattle.cds_replica.specs.Ended.{is_end};
 ghost use Rattle.cds_replica.specs.Holding.{listing_in, GivesBack, with_part};
 ghost use Rattle.cds_replica.specs.Phases.{ends_load};

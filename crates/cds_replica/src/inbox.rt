@@ -4,15 +4,15 @@
 ghost use Rattle.std.specs.Prelude.{◌≡◌, ◌^◌, ◌<◌, ◌≤◌, ◌&&◌, ◌||◌, [], ◌∷◌, cond, filter, not, nat_eq, nat_lt, nat_le, IsTrue, IfOk, OnOk, OnErr, option_copied};
 ghost use Rattle.std.specs.List.{list_any};
 ghost use Rattle.std.specs.Option.{option_map};
-ghost use Rattle.cds_notes.specs.Inbox.{has_seq, is_same_note, held_limit, missing_of, IsEarly, IsHeld, IsNext};
-ghost use Rattle.cds_notes.specs.Follow.{is_drop};
+ghost use Rattle.cds_follow.specs.Inbox.{has_seq, is_same_note, held_limit, missing_of, IsEarly, IsHeld, IsNext};
+ghost use Rattle.cds_follow.specs.Follow.{is_drop};
 ghost use Rattle.cds_replica.specs.Arrivals.{arrival_of};
-ghost use Rattle.cds_replica.specs.Copied.{AreAbove};
+ghost use Rattle.cds_replica.specs.CopyState.{AreAbove};
 ghost use Rattle.cds_replica.specs.Inboxed.{IsInbox, inbox_of, accepts, repeats, follows, held_count, arrival_in, run_after, with_request, with_refusal, with_name, with_early, with_waiting, with_next, followers, taken_early};
-ghost use Rattle.cds_replica.specs.Telling.{nothing_told, tells, drops_first};
+ghost use Rattle.cds_replica.specs.NewChanges.{nothing_told, tells, drops_first};
 
+use crate::new_changes::{NewChanges, note_of, run_end};
 use crate::note::{Note, Sid};
-use crate::telling::{Telling, note_of, run_end};
 use cds_base::Mem;
 use std::alloc::{AllocError, Global};
 use std::marker::Model;
@@ -212,14 +212,14 @@ impl Inbox {
         alloc: Global,
         note: &Note,
         position: u32,
-        heard: u32,
-    ) -> Result<Telling, Mem>
+        last_note: u32,
+    ) -> Result<NewChanges, Mem>
         requires { IsTrue (follows note.now self.now) }
-        ensures told { IfOk result (λ told. told ≡ tells (note.now ∷ followers self.now) (nothing_told position heard)) }
+        ensures told { IfOk result (λ told. told ≡ tells (note.now ∷ followers self.now) (nothing_told position last_note)) }
         ensures above { IfOk result (λ told. AreAbove position told.changes) }
     {
         let to = self.run_after(note);
-        let mut told = Telling::new(alloc, position, heard);
+        let mut told = NewChanges::new(alloc, position, last_note);
         told.add(note)?;
         told.add_run(self.waiting(), note.name(), note.next_seq(), to)?;
         Ok(told)
@@ -255,13 +255,13 @@ impl Inbox {
         alloc: Global,
         sid: Sid,
         position: u32,
-        heard: u32,
-    ) -> Result<Telling, Mem>
-        ensures told { IfOk result (λ told. told ≡ tells (taken_early sid.0 self.now) (nothing_told position heard)) }
+        last_note: u32,
+    ) -> Result<NewChanges, Mem>
+        ensures told { IfOk result (λ told. told ≡ tells (taken_early sid.0 self.now) (nothing_told position last_note)) }
         ensures above { IfOk result (λ told. AreAbove position told.changes) }
     {
         let to = run_end(self.early(), sid, 0);
-        let mut told = Telling::new(alloc, position, heard);
+        let mut told = NewChanges::new(alloc, position, last_note);
         told.add_run(self.early(), sid, 0, to)?;
         Ok(told)
     }

@@ -1,23 +1,23 @@
 //! What a replica knows beside its notes.
 
 ghost use Rattle.std.specs.Prelude.{◌≡◌, map, IfOk, option_copied, slice_get};
-ghost use Rattle.cds_notes.specs.Follow.{nothing_known};
+ghost use Rattle.cds_follow.specs.Follow.{nothing_known};
 ghost use Rattle.cds_replica.specs.Answer.{read_of};
-ghost use Rattle.cds_replica.specs.Copied.{AreAbove, least_wanted};
-ghost use Rattle.cds_replica.specs.Keeping.{IsHeard, IsStep, kept_begun, hears, with_telling, answers, phase_ask, phase_all, phase_rows, phase_tells, copy_tells, with_phase};
+ghost use Rattle.cds_replica.specs.CopyState.{AreAbove, least_wanted};
+ghost use Rattle.cds_replica.specs.Steps.{IsHeard, IsStep, kept_begun, hears, with_new_changes, answers, phase_ask, phase_all, phase_rows, phase_tells, copy_tells, with_phase};
 ghost use Rattle.cds_replica.specs.Phases.{phase_in};
-ghost use Rattle.cds_replica.specs.Kept.{kept_known, kept_position};
+ghost use Rattle.cds_replica.specs.State.{kept_known, kept_position};
 
 use crate::AnswerError;
 use crate::copy::CatalogCopy;
 use crate::copy_row::CopyRow;
 use crate::count_error::CountError;
+use crate::new_changes::NewChanges;
 use crate::phase::Phase;
 use crate::stage::Stage;
-use crate::telling::Telling;
 use cds_event::Event;
-use cds_model::{Ask, Read, Shown};
-use cds_notes::Says;
+use cds_follow::Says;
+use cds_load::{Ask, Read, Shown};
 use cds_object::Row;
 use std::alloc::Global;
 use std::marker::Model;
@@ -29,17 +29,17 @@ use std::mem;
 pub struct Knowledge {
     phase: Phase,
     base: u32,
-    heard: u32,
+    last_note: u32,
     changes: Vec<Event>,
 }
 
 impl Model for Knowledge {
-    ghost use Rattle.cds_replica.specs.Kept.{KeptKnown};
+    ghost use Rattle.cds_replica.specs.State.{KeptKnown};
     ghost use Rattle.cds_replica.specs.Phases.{phase_in};
 
     ghost Value = { KeptKnown };
 
-    ghost view = { λ k. record { phase = phase_in k.phase; base = k.base; heard = k.heard; changes = k.changes.items } };
+    ghost view = { λ k. record { phase = phase_in k.phase; base = k.base; last_note = k.last_note; changes = k.changes.items } };
 }
 
 impl Knowledge {
@@ -50,7 +50,7 @@ impl Knowledge {
         Knowledge {
             phase: Phase::Load(Stage::Idle),
             base: 0,
-            heard: 0,
+            last_note: 0,
             changes: Vec::new(alloc),
         }
     }
@@ -59,14 +59,14 @@ impl Knowledge {
     pub fn position(&self) -> u32
         ensures { result ≡ kept_position self.now }
     {
-        self.base.max(self.heard)
+        self.base.max(self.last_note)
     }
 
     /// The greatest number of a note that was taken.
-    pub fn heard(&self) -> u32
-        ensures { result ≡ self.now.heard }
+    pub fn last_note(&self) -> u32
+        ensures { result ≡ self.now.last_note }
     {
-        self.heard
+        self.last_note
     }
 
     /// Drops the copy and begins a load.
@@ -78,13 +78,13 @@ impl Knowledge {
     }
 
     /// Takes what notes tell. The first of them may drop the copy, and then a load begins.
-    pub fn hear(&mut self, alloc: Global, drops: bool, told: Telling) -> Result<(), CountError>
+    pub fn hear(&mut self, alloc: Global, drops: bool, told: NewChanges) -> Result<(), CountError>
         requires { AreAbove (kept_position self.old) told.changes }
-        ensures { IsHeard (with_telling drops told self.old) self.old self.new result }
+        ensures { IsHeard (with_new_changes drops told self.old) self.old self.new result }
     {
         if drops {
             self.begin_load();
-            self.heard = told.heard();
+            self.last_note = told.last_note();
             self.changes = told.into_changes();
             return Ok(());
         }
@@ -92,14 +92,14 @@ impl Knowledge {
     }
 
     /// Takes what notes tell, of which the first does not drop the copy.
-    fn hear_changes(&mut self, alloc: Global, told: Telling) -> Result<(), CountError>
+    fn hear_changes(&mut self, alloc: Global, told: NewChanges) -> Result<(), CountError>
         requires { AreAbove (kept_position self.old) told.changes }
         ensures { IsHeard (hears told self.old) self.old self.new result }
     {
         let at = self.position();
         self.phase
             .hear(alloc, at, &mut self.changes, told.changes())?;
-        self.heard = told.heard();
+        self.last_note = told.last_note();
         Ok(())
     }
 

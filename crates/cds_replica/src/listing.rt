@@ -1,7 +1,7 @@
 //! The rows that a load has shown so far, and the containers that it has still to list.
 
 ghost use Rattle.std.specs.Prelude.{◌≡◌, ◌^◌, ◌<◌, length};
-ghost use Rattle.cds_model.specs.Replica.{waiting_of};
+ghost use Rattle.cds_load.specs.Stages.{waiting_of};
 
 use crate::order::Identified;
 use cds_object::Row;
@@ -15,7 +15,7 @@ pub struct Container {
 }
 
 impl Model for Container {
-    ghost use Rattle.cds_model.specs.Replica.{Waiting};
+    ghost use Rattle.cds_load.specs.Stages.{Waiting};
 
     ghost Value = { Waiting };
 
@@ -23,7 +23,7 @@ impl Model for Container {
 }
 
 impl Identified for Container {
-    ghost use Rattle.cds_model.specs.Replica.{Waiting};
+    ghost use Rattle.cds_load.specs.Stages.{Waiting};
 
     ghost id_of = { λ (w : Waiting). w.id };
 

@@ -1,7 +1,7 @@
 //! Notes of a subscription, and what becomes of them.
 
 ghost use Rattle.std.specs.Prelude.{◌≡◌, ◌+◌, ◌^◌, ◌≤◌, ◌&&◌, nat_eq, nat_lt};
-ghost use Rattle.cds_notes.specs.Inbox.{is_same_note};
+ghost use Rattle.cds_follow.specs.Inbox.{is_same_note};
 
 use cds_event::Events;
 use std::marker::Model;
@@ -20,7 +20,7 @@ pub struct Note {
 }
 
 impl Model for Note {
-    ghost use Rattle.cds_notes.specs.Commands.{Note as Told};
+    ghost use Rattle.cds_commands.specs.Notes.{Note as Told};
 
     ghost Value = { Told };
 

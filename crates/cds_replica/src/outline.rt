@@ -3,8 +3,7 @@
 
 ghost use Rattle.std.specs.Prelude.{◌≡◌, nat_eq, not, filter, IfOk};
 ghost use Rattle.std.specs.Option.{option_eq};
-ghost use Rattle.cds_model.specs.Replica.{put_by};
-ghost use Rattle.cds_notes.specs.Copy.{is_container, object_of};
+ghost use Rattle.cds_load.specs.Stages.{put_by};
 ghost use Rattle.cds_replica.specs.Outlines.{outline_of, outlines_of, outline_id, has_object, has_container, has_child, outline_cannot, outlines_changed, outlines_cannot};
 
 use crate::copy_row::CopyRow;
@@ -23,6 +22,7 @@ pub struct Outline {
 
 impl Identified for Outline {
     ghost use Rattle.cds_replica.specs.Outlines.{outline_id};
+    ghost use Rattle.cds_event.specs.Events.{is_container, object_of};
 
     ghost id_of = { outline_id };
 
@@ -81,25 +81,6 @@ fn cannot_be(outlines: &[Outline], event: &Event) -> bool
     }
 }
 
-/// The object that an event names.
-fn object_of(event: &Event) -> u32
-    ensures { result ≡ object_of event.now }
-{
-    match *event {
-        Event::ObjAdd { id, .. }
-        | Event::ObjMod { id, .. }
-        | Event::ObjDel { id, .. }
-        | Event::StDone { id, .. } => id,
-    }
-}
-
-/// Whether a class is that of containers.
-fn is_container(class: Class) -> bool
-    ensures { result ≡ is_container class }
-{
-    matches!(class, Class::Container)
-}
-
 /// Puts the outline of an object in its place.
 pub fn put_outline(outlines: &mut Vec<Outline>, outline: Outline) -> Result<(), Mem>
     ensures { IfOk result (λ _. outlines.new.items ≡ put_by outline_id outline outlines.old.items) }
@@ -131,7 +112,7 @@ fn change(outlines: &mut Vec<Outline>, event: &Event) -> Result<(), Mem>
             Outline {
                 id,
                 parent: Some(parent),
-                folder: is_container(class),
+                folder: class.is_container(),
             },
         ),
         Event::ObjDel { id, .. } => {
@@ -148,7 +129,7 @@ pub fn first_cannot(mut outlines: Vec<Outline>, events: &[Event]) -> Result<Opti
 {
     for event in events {
         if cannot_be(outlines.as_slice(), event) {
-            return Ok(Some(object_of(event)));
+            return Ok(Some(event.object()));
         }
         change(&mut outlines, event)?;
     }

@@ -1,8 +1,8 @@
 //! The load or the copy of a replica.
 
 ghost use Rattle.std.specs.Prelude.{◌≡◌, map, option_copied, slice_get};
-ghost use Rattle.cds_replica.specs.Copied.{AreAbove};
-ghost use Rattle.cds_replica.specs.Keeping.{IsHeard, hears_changes, phase_ask, phase_all, phase_rows};
+ghost use Rattle.cds_replica.specs.CopyState.{AreAbove};
+ghost use Rattle.cds_replica.specs.Steps.{IsHeard, hears_changes, phase_ask, phase_all, phase_rows};
 ghost use Rattle.cds_replica.specs.Phases.{phase_in};
 
 use crate::copy::CatalogCopy;
@@ -10,7 +10,7 @@ use crate::copy_row::CopyRow;
 use crate::count_error::CountError;
 use crate::stage::Stage;
 use cds_event::Event;
-use cds_model::Ask;
+use cds_load::Ask;
 use cds_object::Row;
 use std::alloc::Global;
 

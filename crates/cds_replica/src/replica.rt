@@ -1,17 +1,17 @@
 ghost use Rattle.std.specs.Prelude.{◌≡◌, [], List, ◌∷◌, map, IsOk, IfOk, IfSome, IsSome, IsTrue, OnErr, option_copied, slice_get};
 ghost use Rattle.std.specs.List.{filter_map};
 ghost use Rattle.std.specs.Option.{option_map};
-ghost use Rattle.cds_notes.specs.Copy.{shown_row};
-ghost use Rattle.cds_notes.specs.Inbox.{ReplicaTurn, Begins, Shows, Requests, Accepts, Refuses, Delivers, accepted, arrival, taken_by};
-ghost use Rattle.cds_notes.specs.Follow.{known_by, next_ask, says, copied, with_notes, with_reply};
-ghost use Rattle.cds_notes.specs.Seen.{WasShown};
+ghost use Rattle.cds_follow.specs.Copy.{shown_row};
+ghost use Rattle.cds_follow.specs.Inbox.{ReplicaTurn, Begins, Shows, Requests, Accepts, Refuses, Delivers, is_out, accepted, arrival, taken_by};
+ghost use Rattle.cds_follow.specs.Follow.{known_by, next_ask, says, copied, with_notes, with_reply};
+ghost use Rattle.cds_follow.specs.Seen.{WasShown};
 ghost use Rattle.cds_replica.specs.Answer.{read_of};
 ghost use Rattle.cds_replica.specs.Attempted.{AsksByAttempt, TakesByAttempt, SaysByAttempt, CopiesByAttempt};
-ghost use Rattle.cds_replica.specs.Called.{GoesOn, TakesTurn, HoldsFew, IsNotice, IsAcceptance, IsAnswer, UnlessNoMemory, UnlessMem, IsTaking, IsDelivered, of_notes, refusal_of};
+ghost use Rattle.cds_replica.specs.Calls.{GoesOn, TakesTurn, HoldsFew, IsNotice, IsAcceptance, IsAnswer, UnlessNoMemory, UnlessMem, IsTaking, IsDelivered, of_notes, refusal_of};
 ghost use Rattle.cds_replica.specs.Inboxed.{arrival_in, follows, followers, taken_early, with_name, with_next};
 ghost use Rattle.cds_replica.specs.Honest.{TakesGiven, HearsGiven, AcceptsGiven, SaysGiven, CompletesGiven};
-ghost use Rattle.cds_replica.specs.Keeping.{phase_ask, phase_all, phase_rows, kept_says};
-ghost use Rattle.cds_replica.specs.Kept.{StandsFor};
+ghost use Rattle.cds_replica.specs.Steps.{phase_ask, phase_all, phase_rows, kept_says};
+ghost use Rattle.cds_replica.specs.State.{StandsFor};
 
 use crate::copy_row::CopyRow;
 use crate::count_error::CountError;
@@ -20,8 +20,8 @@ use crate::knowledge::Knowledge;
 use crate::note::{Note, Sid, Taken};
 use crate::{AnswerError, NotifyError};
 use cds_base::Mem;
-use cds_model::{Ask, Read, Shown};
-use cds_notes::Says;
+use cds_follow::Says;
+use cds_load::{Ask, Read, Shown};
 use cds_object::Row;
 use std::alloc::Global;
 use std::marker::Model;
@@ -36,9 +36,9 @@ pub struct Replica {
 }
 
 impl Model for Replica {
-    ghost use Rattle.cds_replica.specs.Kept.{Kept};
+    ghost use Rattle.cds_replica.specs.State.{ReplicaState};
 
-    ghost Value = { Kept };
+    ghost Value = { ReplicaState };
 
     ghost view = { λ r. record { known = r.known; inbox = r.inbox } };
 }
@@ -94,7 +94,8 @@ impl Replica {
 
     /// Whether a subscribe request is out.
     pub fn is_subscribing(&self) -> bool
-        ensures { result ≡ self.now.inbox.out }
+        ensures kept { result ≡ self.now.inbox.out }
+        ensures request { (turns : List ReplicaTurn) → StandsFor self.now turns → result ≡ is_out turns }
     {
         self.inbox.is_out()
     }
@@ -123,7 +124,7 @@ impl Replica {
         let drops = self.inbox.drops_early(sid, position);
         let told = self
             .inbox
-            .told_early(alloc, sid, position, self.known.heard())?;
+            .told_early(alloc, sid, position, self.known.last_note())?;
         match self.known.hear(alloc, drops, told) {
             Ok(()) => {}
             Err(refusal) => return Err(refusal_of(refusal)),
@@ -182,7 +183,7 @@ impl Replica {
         let position = self.known.position();
         let told = self
             .inbox
-            .told_by(alloc, note, position, self.known.heard())?;
+            .told_by(alloc, note, position, self.known.last_note())?;
         match self.known.hear(alloc, note.drops(position), told) {
             Ok(()) => {}
             Err(refusal) => return Err(refusal_of(refusal)),

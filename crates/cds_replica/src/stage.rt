@@ -1,11 +1,11 @@
 //! The stages of a load.
 
 ghost use Rattle.std.specs.Prelude.{◌≡◌};
-ghost use Rattle.cds_model.specs.Replica.{next_ask};
+ghost use Rattle.cds_load.specs.Stages.{next_ask};
 ghost use Rattle.cds_replica.specs.Holding.{held_in};
 
 use crate::listing::Listing;
-use cds_model::Ask;
+use cds_load::Ask;
 use cds_object::{Row, Rows};
 
 /// How far a load has come.

@@ -3,11 +3,11 @@
 ghost use Rattle.std.specs.Prelude.{◌≡◌, ◌+◌, ◌<◌, ◌^◌, ◌&&◌, List, true, false, nat_eq, length, IfOk};
 ghost use Rattle.cds_object.specs.Object.{is_folder};
 ghost use Rattle.cds_event.specs.declared.Event.{Event};
-ghost use Rattle.cds_model.specs.Replica.{Held, Taken, Begun as HoldsBegun, HasToken as HoldsToken, HasNumber as HoldsNumber, HasRoot as HoldsRoot, Lists as HoldsListing, HasPage as HoldsPage, Holds, taken, page_taken, after_page};
+ghost use Rattle.cds_load.specs.Stages.{Held, Taken, Begun as HoldsBegun, HasToken as HoldsToken, HasNumber as HoldsNumber, HasRoot as HoldsRoot, Lists as HoldsListing, HasPage as HoldsPage, Holds, taken, page_taken, after_page};
 ghost use Rattle.cds_replica.specs.Answer.{IsOutcome, read_of, only};
 ghost use Rattle.cds_replica.specs.Holding.{held_in, listing_in};
-ghost use Rattle.cds_replica.specs.Keeping.{IsStep, load_takes, leads_to};
-ghost use Rattle.cds_replica.specs.Kept.{Loads};
+ghost use Rattle.cds_replica.specs.Steps.{IsStep, load_takes, leads_to};
+ghost use Rattle.cds_replica.specs.State.{Loads};
 ghost use Rattle.cds_replica.specs.Phases.{phase_in, ends_load, answer_of};
 
 use crate::AnswerError;
@@ -16,7 +16,7 @@ use crate::listing::Listing;
 use crate::phase::Phase;
 use crate::stage::Stage;
 use cds_event::Event;
-use cds_model::{Read, Shown};
+use cds_load::{Read, Shown};
 use cds_object::{Row, Rows};
 use std::alloc::Global;
 

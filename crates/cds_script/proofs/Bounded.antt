@@ -11,37 +11,41 @@ use Rattle.cds_catalog.specs.Catalog.{catalog}
 use Rattle.cds_catalog.specs.Laws.{AreLibraries}
 use Rattle.cds_catalog.proofs.Accepted.{accepted_map}
 use Rattle.cds_catalog.proofs.Numbers.{ends_rise, equal_ends_equal_catalogs}
-use Rattle.cds_model.specs.declared.exchange.Ask.{Ask as Asked}
-use Rattle.cds_model.specs.declared.exchange.Shown.{Shown}
-use Rattle.cds_model.specs.Server.{Moment, reply_to}
-use Rattle.cds_model.specs.Replica.{Held, Idle, Begun, HasToken, HasNumber, HasRoot, Lists, HasPage, HasCopy, taken, held_after, held_by, next_ask as load_ask, Begins as LoadBegins, Shows as LoadShows}
-use Rattle.cds_model.specs.Report.{script_token}
-use Rattle.cds_model.specs.Loads.{load_reads, held_with, read_once, answered}
-use Rattle.cds_model.proofs.Honest.{IsServed, IsGiven as IsHeldGiven}
-use Rattle.cds_model.proofs.Servers.{StoodAt, server-serves}
-use Rattle.cds_model.proofs.Ends.{Left, read-left, none-left}
-use Rattle.cds_model.proofs.Bounds.{Stale, Owes, read-stale, scan-stale}
-use Rattle.cds_notes.specs.Commands.{Command, Grants, Ends, Note, scans_of, granted, has_room, notes_of}
-use Rattle.cds_notes.specs.Copy.{least_unread, read_up_to}
-use Rattle.cds_notes.specs.Inbox.{ReplicaTurn, Begins, Shows, Requests, Accepts, Refuses, Delivers, accepted, missing, taken_by, arrival}
-use Rattle.cds_notes.specs.Follow.{Known, Knows, position, is_drop, with_notes, with_reply, known_by, is_no, is_turned_away, is_refused, and_turn, ask_of, next_ask, copy_says, says_without_gap, says_of, says}
-use Rattle.cds_notes.specs.Given.{moment_after, asked_at, given_by, latest_length}
-use Rattle.cds_notes.specs.HonestLaws.{begins_load, load_was_begun}
-use Rattle.cds_notes.specs.KnownLaws.{has_copy}
-use Rattle.cds_notes.specs.LoadTurns.{load_turns}
-use Rattle.cds_notes.specs.ServerLaws.{served}
-use Rattle.cds_notes.specs.declared.says.Says.{Says}
-use Rattle.cds_notes.specs.declared.says.Says.TheVariants.{Gap, BehindLoad, BehindRead, BehindVersion, Stands}
-use Rattle.cds_notes.proofs.Served.{commands-serve}
-use Rattle.cds_notes.proofs.Stages.{following-later}
-use Rattle.cds_notes.proofs.Honest.{entries-served}
-use Rattle.cds_notes.proofs.LoadTurns.{loads-are-of-turns}
+use Rattle.cds_load.specs.declared.exchange.Ask.{Ask as Asked}
+use Rattle.cds_load.specs.declared.exchange.Shown.{Shown}
+use Rattle.cds_load.specs.Server.{Moment, reply_to}
+use Rattle.cds_load.specs.Stages.{Held, Idle, Begun, HasToken, HasNumber, HasRoot, Lists, HasPage, HasCopy, taken, held_after, held_by, next_ask as load_ask, Begins as LoadBegins, Shows as LoadShows}
+use Rattle.cds_script.specs.Report.{script_token, number_of, first_of, clock_of, records_since, Played, after_reply, after_note, sent_note, given_up, lives, play, played, history_of, answer_text}
+use Rattle.cds_load.specs.Loads.{load_reads, held_with, read_once}
+use Rattle.cds_script.specs.LoadBounds.{answered, drops, reply_drops, note_drops, answered_after, answered_since, loads_are_bounded, all_turns_bound_loads}
+use Rattle.cds_load.proofs.Honest.{IsServed, IsGiven as IsHeldGiven}
+use Rattle.cds_load.proofs.Servers.{StoodAt, server-serves}
+use Rattle.cds_load.proofs.Ends.{Left, read-left, none-left}
+use Rattle.cds_load.proofs.Bounds.{Stale, Owes, read-stale, scan-stale}
+use Rattle.cds_commands.specs.Commands.{Command, Ends, scans_of}
+use Rattle.cds_commands.specs.Notes.{Note, has_room, notes_of}
+use Rattle.cds_commands.specs.Subscriptions.{granted}
+use Rattle.cds_follow.specs.Copy.{least_unread, read_up_to}
+use Rattle.cds_follow.specs.Inbox.{ReplicaTurn, Begins, Shows, Requests, Accepts, Refuses, Delivers, accepted, missing, taken_by, arrival}
+use Rattle.cds_follow.specs.Follow.{Known, Knows, position, is_drop, with_notes, with_reply, known_by, is_no, is_turned_away, is_refused, and_turn, ask_of, next_ask, copy_says, says_without_gap, says_of, says}
+use Rattle.cds_follow.specs.Given.{moment_after, asked_at, given_by, latest_length}
+use Rattle.cds_follow.specs.HonestLaws.{begins_load, load_was_begun}
+use Rattle.cds_follow.specs.KnownLaws.{has_copy}
+use Rattle.cds_follow.specs.LoadTurns.{load_turns}
+use Rattle.cds_follow.specs.ServerLaws.{served}
+use Rattle.cds_follow.specs.declared.says.Says.{Says}
+use Rattle.cds_follow.specs.declared.says.Says.TheVariants.{Gap, BehindLoad, BehindRead, BehindVersion, Stands}
+use Rattle.cds_follow.proofs.Served.{commands-serve}
+use Rattle.cds_follow.proofs.Stages.{following-later}
+use Rattle.cds_follow.proofs.Honest.{entries-served}
+use Rattle.cds_follow.proofs.LoadTurns.{loads-are-of-turns}
 use Rattle.cds_script.specs.declared.turn.Turn.{Turn}
 use Rattle.cds_script.specs.declared.turn.Turn.TheVariants.{Folder, Track, Scan, Load, Read, Ask, First, At, Subscribe, Accept, Unsubscribe, Deliver, ReadFault}
-use Rattle.cds_script.specs.Report.{number_of, first_of, clock_of, records_since, Played, after_reply, after_note, sent_note, given_up, lives, play, played, history_of, answer_text}
-use Rattle.cds_script.specs.LoadBounds.{drops, reply_drops, note_drops, answered_after, answered_since, loads_are_bounded, all_turns_bound_loads}
 use Rattle.cds_script.proofs.Given.{Kept, ScannedCases, scanned-cases, oldest-all, turns-kept}
 use Rattle.cds_script.proofs.Stood.{read-taken, note-taken, name-taken, may-before_ask, letter_at}
+use Rattle.cds_script.specs.declared.reply.HeldReply.{HeldReply}
+use Rattle.cds_script.specs.declared.reply.HeldReply.TheVariants.{NoReply, Named, Refusal}
+use Rattle.cds_script.specs.Script.{grant_at}
 
 -- ---- what is owed
 
@@ -94,36 +98,36 @@ begun-bound m r held = inr (inr (subst (λ (h : Held). Owing m h 0) (sym held) (
 
 module _ (first : ℕ) (p : Played) (kept : Kept first p) where
   abbrev m : Moment
-  m = moment_after first p.commands
+  m = moment_after script_token first p.commands
 
   abbrev n : ℕ
   n = length p.commands
 
   abbrev Stood : Moment → Type 0
-  Stood = StoodAt (served first p.commands) n
+  Stood = StoodAt (served script_token first p.commands) n
 
   now-serves : IsServed Stood m
   now-serves =
-      subst (λ (cs : List Command). IsServed Stood (moment_after first cs)) (oldest-all p.commands)
-      (server-serves (served first p.commands) n (commands-serve first p.commands kept.accepted.libraries))
+      subst (λ (cs : List Command). IsServed Stood (moment_after script_token first cs)) (oldest-all p.commands)
+      (server-serves (served script_token first p.commands) n (commands-serve script_token first p.commands kept.accepted.libraries))
 
   held-given : IsHeldGiven Stood (known_by p.replica).held
   held-given =
-      let s = entries-served first p.commands kept.accepted kept.entries kept.given in
+      let s = entries-served script_token first p.commands kept.accepted kept.entries kept.given in
       subst (λ turns. IsHeldGiven Stood (known_by turns).held) (sym kept.are)
-      (following-later first p.commands kept.accepted (latest_length kept.entries) n (known_by (given_by first p.commands kept.entries)) kept.within s.following).given
+      (following-later script_token first p.commands kept.accepted (latest_length kept.entries) n (known_by (given_by script_token first p.commands kept.entries)) kept.within s.following).given
 
 -- ---- a scan
 
 -- a scan that keeps the number keeps the moment
 same-moment : (first : ℕ) (records : List Record) (commands now : List Command) → AreLibraries (scans_of first commands).maps →
     ScannedCases (scans_of first commands) records commands now → end_of (scans_of first now) ≡ end_of (scans_of first commands) →
-    moment_after first now ≡ moment_after first commands
-same-moment first records commands now libraries (inl e) ends = ap (moment_after first) e
+    moment_after script_token first now ≡ moment_after script_token first commands
+same-moment first records commands now libraries (inl e) ends = ap (moment_after script_token first) e
 same-moment first records commands now libraries (inr e) ends =
     let accepted : AreLibraries (map_of records ∷ (scans_of first commands).maps) = ((accepted_map records e.0).0, libraries) in
     let same : end_of (with_scan (scans_of first commands) (map_of records)) ≡ end_of (scans_of first commands) = ap (λ cs. end_of (scans_of first cs)) (sym e.3) ∙ ends in
-    ap (moment_after first) e.3
+    ap (moment_after script_token first) e.3
     ∙ (let M : ℕ → List ObjectRow → Moment = λ k rows. record { token = script_token; number = k; rows = rows } in
     λ i. M (same i) ((equal_ends_equal_catalogs (scans_of first commands).first (map_of records ∷ []) (scans_of first commands).maps accepted same) i))
 
@@ -136,22 +140,22 @@ number-above first records commands now (inr e) apart =
     let same : end_of (scans_of first now) ≡ end_of (with_scan (scans_of first commands) (map_of records)) = ap (λ cs. end_of (scans_of first cs)) e.3 in
     omega (arith, rise, same, apart)
 
-scan-bound : (first : ℕ) (records : List Record) (p : Played) → Kept first p → (n : ℕ) → Bound (moment_after first p.commands) p.replica n → (now : List Command) →
+scan-bound : (first : ℕ) (records : List Record) (p : Played) → Kept first p → (n : ℕ) → Bound (moment_after script_token first p.commands) p.replica n → (now : List Command) →
     ScannedCases (scans_of first p.commands) records p.commands now →
-    Bound (moment_after first now) p.replica (cond (nat_eq (end_of (scans_of first now)) (end_of (scans_of first p.commands))) n 0)
+    Bound (moment_after script_token first now) p.replica (cond (nat_eq (end_of (scans_of first now)) (end_of (scans_of first p.commands))) n 0)
 scan-bound first records p kept n (inl none) now cases = inl none
 scan-bound first records p kept n (inr (inl copy)) now cases = inr (inl copy)
 scan-bound first records p kept n (inr (inr owing)) now cases = by (nat_eq (end_of (scans_of first now)) (end_of (scans_of first p.commands))) refl
   where
-    by : (b : Bool) → nat_eq (end_of (scans_of first now)) (end_of (scans_of first p.commands)) ≡ b → Bound (moment_after first now) p.replica (cond b n 0)
+    by : (b : Bool) → nat_eq (end_of (scans_of first now)) (end_of (scans_of first p.commands)) ≡ b → Bound (moment_after script_token first now) p.replica (cond b n 0)
     by true e =
         let same = same-moment first records p.commands now kept.accepted.libraries cases (eqb-true _ _ e) in
         inr (inr (subst (λ m. Owing m (known_by p.replica).held n) (sym same) owing))
     by false e =
         let above = number-above first records p.commands now cases (eqb-false _ _ e) in
-        let stale = scan-stale (Stood first p kept) (moment_after first p.commands) (moment_after first now) (now-serves first p kept) above (known_by p.replica).held owing.begun
+        let stale = scan-stale (Stood first p kept) (moment_after script_token first p.commands) (moment_after script_token first now) (now-serves first p kept) above (known_by p.replica).held owing.begun
         (held-given first p kept) in
-        inr (owing-by (moment_after first now) (known_by p.replica).held 0 stale.0 owing.begun (omega (arith, stale.1)) stale.2)
+        inr (owing-by (moment_after script_token first now) (known_by p.replica).held 0 stale.0 owing.begun (omega (arith, stale.1)) stale.2)
 
 -- ---- a read
 
@@ -210,14 +214,14 @@ notes-held r false = sym (loads-are-of-turns r)
 shows-by : (r : List ReplicaTurn) (turn : ReplicaTurn) → is_refused turn r ≡ false → and_turn turn r ≡ turn ∷ r
 shows-by r turn free = ap (λ b. cond b r (turn ∷ r)) free
 
-read-bound : (first : ℕ) (p : Played) → Kept first p → (n : ℕ) → Bound (moment_after first p.commands) p.replica n → (o : Option Asked) → next_ask (known_by p.replica) ≡ o →
-    Bound (moment_after first p.commands) (asked_at (moment_after first p.commands) p.replica o) (answered o n)
+read-bound : (first : ℕ) (p : Played) → Kept first p → (n : ℕ) → Bound (moment_after script_token first p.commands) p.replica n → (o : Option Asked) → next_ask (known_by p.replica) ≡ o →
+    Bound (moment_after script_token first p.commands) (asked_at (moment_after script_token first p.commands) p.replica o) (answered o n)
 read-bound first p kept n bound None asks = bound
 read-bound first p kept n bound (Some ask) asks =
     subst (λ turns. Bound m turns (n + 1)) (sym turns) (by bound (has_copy known.held) refl)
   where
     m : Moment
-    m = moment_after first p.commands
+    m = moment_after script_token first p.commands
 
     known : Known
     known = known_by p.replica
@@ -263,11 +267,11 @@ taken-bound m r turn n begins held bound = by (is_drop (position (known_by r)) (
         ((λ i. begins i || is_drop (position (known_by r)) (taken_by turn r) || load_was_begun r) ∙ ap (λ b. b || load_was_begun r) e)
         (held ∙ ap (λ b. cond b Begun (known_by r).held) e) bound
 
-reply-bound : (first : ℕ) (m : Moment) (p : Played) → Kept first p → (n : ℕ) → Bound m p.replica n → (o : Option (Option ℕ)) → p.reply ≡ o →
+reply-bound : (first : ℕ) (m : Moment) (p : Played) → Kept first p → (n : ℕ) → Bound m p.replica n → (o : HeldReply) → p.reply ≡ o →
     Bound m (after_reply o p.replica) (cond (reply_drops o p.replica) 0 n)
-reply-bound first m p kept n bound None e = bound
-reply-bound first m p kept n bound (Some None) e = same-bound m p.replica (Refuses ∷ p.replica) n refl refl bound
-reply-bound first m p kept n bound (Some (Some name)) e =
+reply-bound first m p kept n bound NoReply e = bound
+reply-bound first m p kept n bound Refusal e = same-bound m p.replica (Refuses ∷ p.replica) n refl refl bound
+reply-bound first m p kept n bound (Named name) e =
     let ok = name-taken first p kept name e in
     let free : is_refused (Accepts name) p.replica ≡ false = ap is_no ok.1 in
     subst (λ turns. Bound m turns (cond (drops (Accepts name) p.replica) 0 n)) (sym (shows-by p.replica (Accepts name) free))
@@ -298,61 +302,61 @@ note-bound first m p kept n number bound (Some note) e = by (is_turned_away (arr
 
 -- ---- all turns
 
-given_up-same : (first now : ℕ) (commands : List Command) (o : Option ℕ) → moment_after first (given_up o first now commands) ≡ moment_after first commands
+given_up-same : (first now : ℕ) (commands : List Command) (o : Option ℕ) → moment_after script_token first (given_up o first now commands) ≡ moment_after script_token first commands
 given_up-same first now commands None = refl
 given_up-same first now commands (Some name) = by (lives name first now commands)
   where
-    by : (b : Bool) → moment_after first (cond b (Ends name ∷ commands) commands) ≡ moment_after first commands
+    by : (b : Bool) → moment_after script_token first (cond b (Ends now name ∷ commands) commands) ≡ moment_after script_token first commands
     by true = refl
     by false = refl
 
-step : (first now : ℕ) (records : List Record) (p : Played) → Kept first p → (n : ℕ) → Bound (moment_after first p.commands) p.replica n → (turn : Turn) →
-    Bound (moment_after first (play first now records p turn).commands) (play first now records p turn).replica (answered_after first records p n turn)
+step : (first now : ℕ) (records : List Record) (p : Played) → Kept first p → (n : ℕ) → Bound (moment_after script_token first p.commands) p.replica n → (turn : Turn) →
+    Bound (moment_after script_token first (play first now records p turn).commands) (play first now records p turn).replica (answered_after first records p n turn)
 step first now records p kept n bound (Folder path) = bound
-step first now records p kept n bound (Track path content) = bound
+step first now records p kept n bound (Track path info size) = bound
 step first now records p kept n bound Scan = scan-bound first records p kept n bound _ (scanned-cases (scans_of first p.commands) records p.commands)
-step first now records p kept n bound Load = begun-bound (moment_after first p.commands) (Begins ∷ p.replica) refl
+step first now records p kept n bound Load = begun-bound (moment_after script_token first p.commands) (Begins ∷ p.replica) refl
 step first now records p kept n bound Read = read-bound first p kept n bound (next_ask (known_by p.replica)) refl
 step first now records p kept n bound Ask = bound
 step first now records p kept n bound (First number) = bound
 step first now records p kept n bound (At moment) = bound
 step first now records p kept n bound Subscribe = by (has_room now p.commands (notes_of first p.commands))
   where
-    called : Bound (moment_after first p.commands) (Requests ∷ p.replica) n
-    called = same-bound (moment_after first p.commands) p.replica (Requests ∷ p.replica) n refl refl bound
+    called : Bound (moment_after script_token first p.commands) (Requests ∷ p.replica) n
+    called = same-bound (moment_after script_token first p.commands) p.replica (Requests ∷ p.replica) n refl refl bound
 
     by : (b : Bool) → let after : Played = cond b
-        (record { commands = Grants now ∷ p.commands; replica = Requests ∷ p.replica; reply = Some (Some (granted p.commands + 1)) })
-        (record { commands = p.commands; replica = Requests ∷ p.replica; reply = Some None }) in Bound (moment_after first after.commands) after.replica n
+        (record { commands = grant_at now ∷ p.commands; replica = Requests ∷ p.replica; reply = Named (granted p.commands + 1) })
+        (record { commands = p.commands; replica = Requests ∷ p.replica; reply = Refusal }) in Bound (moment_after script_token first after.commands) after.replica n
     by true = called
     by false = called
-step first now records p kept n bound Accept = reply-bound first (moment_after first p.commands) p kept n bound p.reply refl
+step first now records p kept n bound Accept = reply-bound first (moment_after script_token first p.commands) p kept n bound p.reply refl
 step first now records p kept n bound Unsubscribe =
     subst (λ m. Bound m p.replica n) (sym (given_up-same first now p.commands (accepted p.replica))) bound
-step first now records p kept n bound (Deliver note) = note-bound first (moment_after first p.commands) p kept n note bound (sent_note note (notes_of first p.commands)) refl
+step first now records p kept n bound (Deliver note) = note-bound first (moment_after script_token first p.commands) p kept n note bound (sent_note note (notes_of first p.commands)) refl
 step first now records p kept n bound ReadFault = bound
 
 nothing-bound : (m : Moment) → Bound m [] 0
 nothing-bound m = inl (refl, refl)
 
-first-bound : (turn : Turn) → number_of turn ≤ 4294967295 → Bound (moment_after (number_of turn) (play 0 0 [] (played []) turn).commands) (play 0 0 [] (played []) turn).replica
+first-bound : (turn : Turn) → number_of turn ≤ 4294967295 → Bound (moment_after script_token (number_of turn) (play 0 0 [] (played []) turn).commands) (play 0 0 [] (played []) turn).replica
     (answered_after 0 [] (played []) 0 turn)
-first-bound (First number) low = nothing-bound (moment_after number [])
-first-bound (Folder path) low = nothing-bound (moment_after 0 [])
-first-bound (Track path content) low = nothing-bound (moment_after 0 [])
-first-bound Scan low = step 0 0 [] (played []) (turns-kept [] low) 0 (nothing-bound (moment_after 0 [])) Scan
-first-bound Load low = step 0 0 [] (played []) (turns-kept [] low) 0 (nothing-bound (moment_after 0 [])) Load
-first-bound Read low = step 0 0 [] (played []) (turns-kept [] low) 0 (nothing-bound (moment_after 0 [])) Read
-first-bound Ask low = nothing-bound (moment_after 0 [])
-first-bound (At moment) low = step 0 0 [] (played []) (turns-kept [] low) 0 (nothing-bound (moment_after 0 [])) (At moment)
-first-bound Subscribe low = step 0 0 [] (played []) (turns-kept [] low) 0 (nothing-bound (moment_after 0 [])) Subscribe
-first-bound Accept low = step 0 0 [] (played []) (turns-kept [] low) 0 (nothing-bound (moment_after 0 [])) Accept
-first-bound Unsubscribe low = step 0 0 [] (played []) (turns-kept [] low) 0 (nothing-bound (moment_after 0 [])) Unsubscribe
-first-bound (Deliver note) low = step 0 0 [] (played []) (turns-kept [] low) 0 (nothing-bound (moment_after 0 [])) (Deliver note)
-first-bound ReadFault low = nothing-bound (moment_after 0 [])
+first-bound (First number) low = nothing-bound (moment_after script_token number [])
+first-bound (Folder path) low = nothing-bound (moment_after script_token 0 [])
+first-bound (Track path info size) low = nothing-bound (moment_after script_token 0 [])
+first-bound Scan low = step 0 0 [] (played []) (turns-kept [] low) 0 (nothing-bound (moment_after script_token 0 [])) Scan
+first-bound Load low = step 0 0 [] (played []) (turns-kept [] low) 0 (nothing-bound (moment_after script_token 0 [])) Load
+first-bound Read low = step 0 0 [] (played []) (turns-kept [] low) 0 (nothing-bound (moment_after script_token 0 [])) Read
+first-bound Ask low = nothing-bound (moment_after script_token 0 [])
+first-bound (At moment) low = step 0 0 [] (played []) (turns-kept [] low) 0 (nothing-bound (moment_after script_token 0 [])) (At moment)
+first-bound Subscribe low = step 0 0 [] (played []) (turns-kept [] low) 0 (nothing-bound (moment_after script_token 0 [])) Subscribe
+first-bound Accept low = step 0 0 [] (played []) (turns-kept [] low) 0 (nothing-bound (moment_after script_token 0 [])) Accept
+first-bound Unsubscribe low = step 0 0 [] (played []) (turns-kept [] low) 0 (nothing-bound (moment_after script_token 0 [])) Unsubscribe
+first-bound (Deliver note) low = step 0 0 [] (played []) (turns-kept [] low) 0 (nothing-bound (moment_after script_token 0 [])) (Deliver note)
+first-bound ReadFault low = nothing-bound (moment_after script_token 0 [])
 
-bounds : (turns : List Turn) → first_of turns ≤ 4294967295 → Bound (moment_after (first_of turns) (played turns).commands) (played turns).replica (answered_since turns)
-bounds [] low = nothing-bound (moment_after 0 [])
+bounds : (turns : List Turn) → first_of turns ≤ 4294967295 → Bound (moment_after script_token (first_of turns) (played turns).commands) (played turns).replica (answered_since turns)
+bounds [] low = nothing-bound (moment_after script_token 0 [])
 bounds (turn ∷ []) low = first-bound turn low
 bounds (turn ∷ next ∷ older) low =
     step (first_of (next ∷ older)) (clock_of (next ∷ older)) (records_since (next ∷ older)) (played (next ∷ older)) (turns-kept (next ∷ older) low)
@@ -391,7 +395,7 @@ loads-bounded turns may behind = by (bounds turns may.number)
     kept = turns-kept turns may.number
 
     m : Moment
-    m = moment_after (first_of turns) (played turns).commands
+    m = moment_after script_token (first_of turns) (played turns).commands
 
     held : Held
     held = (known_by (played turns).replica).held

@@ -8,24 +8,28 @@ use Rattle.std.proofs.lemmas.Bool.{and_parts, ne_eqb, leb-true}
 use Rattle.cds_object.specs.declared.record.Record.{Record}
 use Rattle.cds_object.specs.Object.{ObjectRow, is_folder}
 use Rattle.cds_object.specs.Tree.{row_of, children_of}
-use Rattle.cds_model.specs.Server.{Moment, page_size, update_of, reply_to, metadata_reply, children_reply}
-use Rattle.cds_model.specs.Report.{read_text, reply_text}
-use Rattle.cds_model.specs.declared.exchange.Ask.{Ask as Asked}
-use Rattle.cds_model.specs.declared.exchange.Ask.TheVariants.{Token, Number as AskNumber, Metadata, Children}
-use Rattle.cds_model.specs.declared.exchange.Shown.TheVariants.{Page, Fault}
-use Rattle.cds_notes.specs.Commands.{Command, Grants, Ends, Ticks, Note, scans_of, granted, has_room, notes_of, sent_by}
-use Rattle.cds_notes.specs.Inbox.{ReplicaTurn, Begins, Shows, Requests, Accepts, Delivers, Arrival, IsUnknown, IsRepeat, IsTooMany, IsEarly, IsHeld, IsNext, is_out, accepted, is_accepted, is_early, early_notes, received, has_seq, next_seq, held_notes, held_limit, is_repeat, is_next, taken_by, arrival}
-use Rattle.cds_notes.specs.Follow.{Known, Knows, with_notes, is_no, is_turned_away, is_refused, and_turn, known_by, next_ask}
-use Rattle.cds_notes.specs.Given.{moment_after, asked_at}
-use Rattle.cds_notes.proofs.Among.{Among, among-contained, among-all, among-filter}
-use Rattle.cds_notes.proofs.Sent.{Sound, all-sound}
+use Rattle.cds_load.specs.Server.{Moment, page_size, update_of, reply_to, metadata_reply, children_reply}
+use Rattle.cds_script.specs.Report.{read_text, reply_text, first_of, clock_of, records_since, Played, after_reply, after_note, sent_note, lives, given_up, play, played, script_token}
+use Rattle.cds_load.specs.declared.exchange.Ask.{Ask as Asked}
+use Rattle.cds_load.specs.declared.exchange.Ask.TheVariants.{Token, Number as AskNumber, Metadata, Children}
+use Rattle.cds_load.specs.declared.exchange.Shown.TheVariants.{Page, Fault}
+use Rattle.cds_commands.specs.Commands.{Command, Ends, Ticks, scans_of}
+use Rattle.cds_commands.specs.Notes.{Note, has_room, notes_of, sent_by}
+use Rattle.cds_commands.specs.Subscriptions.{granted}
+use Rattle.cds_follow.specs.Inbox.{ReplicaTurn, Begins, Shows, Requests, Accepts, Delivers, Arrival, IsUnknown, IsRepeat, IsTooMany, IsEarly, IsHeld, IsNext, is_out, accepted, is_accepted, is_early, early_notes, received, has_seq, next_seq, held_notes, held_limit, is_repeat, is_next, taken_by, arrival}
+use Rattle.cds_follow.specs.Follow.{Known, Knows, with_notes, is_no, is_turned_away, is_refused, and_turn, known_by, next_ask}
+use Rattle.cds_follow.specs.Given.{moment_after, asked_at}
+use Rattle.cds_commands.proofs.Among.{Among, among-contained, among-all, among-filter}
+use Rattle.cds_commands.proofs.Sent.{Sound, all-sound}
 use Rattle.cds_script.specs.declared.turn.Turn.{Turn}
 use Rattle.cds_script.specs.declared.turn.Turn.TheVariants.{Folder, Track, Scan, Load, Read, Ask, First, At, Subscribe, Accept, Unsubscribe, Deliver, ReadFault}
-use Rattle.cds_script.specs.Report.{first_of, clock_of, records_since, Played, after_reply, after_note, sent_note, lives, given_up, play, played}
 use Rattle.cds_script.specs.Played.{AllStand}
 use Rattle.cds_script.specs.Complete.{is_full, delivered_notes_are_received, is_quiet, nothing_is_to_be_read, all_answers_are_complete}
 use Rattle.cds_script.proofs.Given.{Waits, Kept, ScannedCases, scanned-cases, granted-rises, sent-place, sent-contained, turns-kept}
 use Rattle.cds_script.proofs.Stood.{note-taken, name-taken, may-before_ask, answers-are_complete}
+use Rattle.cds_script.specs.declared.reply.HeldReply.{HeldReply}
+use Rattle.cds_script.specs.declared.reply.HeldReply.TheVariants.{NoReply, Named, Refusal}
+use Rattle.cds_script.specs.Script.{grant_at}
 
 -- ---- the note of a number
 
@@ -63,9 +67,9 @@ sent-all P (note ∷ notes) h = (h 1 note refl, sent-all P notes (λ number othe
 -- ---- names
 
 -- the accepted name was granted, and before the one whose reply is held back
-record Named (p : Played) : Type 0 where
+record NamesRise (p : Played) : Type 0 where
   granted_one : (name : ℕ) → accepted p.replica ≡ Some name → name ≤ granted p.commands
-  before : (name next : ℕ) → accepted p.replica ≡ Some name → p.reply ≡ Some (Some next) → name < next
+  before : (name next : ℕ) → accepted p.replica ≡ Some name → p.reply ≡ Named next → name < next
 
 accepted-and : (turn : ReplicaTurn) (turns : List ReplicaTurn) → accepted (turn ∷ turns) ≡ accepted turns → accepted (and_turn turn turns) ≡ accepted turns
 accepted-and turn turns e = by (is_refused turn turns)
@@ -82,31 +86,31 @@ accepted-noted : (o : Option Note) (turns : List ReplicaTurn) → accepted (afte
 accepted-noted None turns = refl
 accepted-noted (Some note) turns = accepted-and (Delivers note) turns refl
 
-replica-named : (commands : List Command) (replica then : List ReplicaTurn) (reply : Option (Option ℕ)) → accepted then ≡ accepted replica →
-    Named (record { commands = commands; replica = replica; reply = reply }) → Named (record { commands = commands; replica = then; reply = reply })
+replica-named : (commands : List Command) (replica then : List ReplicaTurn) (reply : HeldReply) → accepted then ≡ accepted replica →
+    NamesRise (record { commands = commands; replica = replica; reply = reply }) → NamesRise (record { commands = commands; replica = then; reply = reply })
 replica-named commands replica then reply e named = record {
   granted_one = λ name f. named.granted_one name (sym e ∙ f);
   before = λ name next f g. named.before name next (sym e ∙ f) g;
 }
 
-command-named : (p : Played) (command : Command) → Named p → Named (record p { commands = command ∷ p.commands })
+command-named : (p : Played) (command : Command) → NamesRise p → NamesRise (record p { commands = command ∷ p.commands })
 command-named p command named = record {
   granted_one = λ name f. let one = named.granted_one name f in let rise = granted-rises command p.commands in omega (arith, one, rise);
   before = named.before;
 }
 
-same-named : (p : Played) (commands : List Command) → commands ≡ p.commands → Named p → Named (record p { commands = commands })
+same-named : (p : Played) (commands : List Command) → commands ≡ p.commands → NamesRise p → NamesRise (record p { commands = commands })
 same-named p commands e named = record {
   granted_one = λ name f. let one = named.granted_one name f in let same = ap granted e in omega (arith, one, same);
   before = named.before;
 }
 
-reply-named : (first : ℕ) (commands : List Command) (replica : List ReplicaTurn) (reply : Option (Option ℕ)) →
-    Kept first (record { commands = commands; replica = replica; reply = reply }) → Named (record { commands = commands; replica = replica; reply = reply }) →
-    Named (record { commands = commands; replica = after_reply reply replica; reply = None })
-reply-named first commands replica None kept named = record { granted_one = named.granted_one; before = λ name next f g. absurd (cc) }
-reply-named first commands replica (Some None) kept named = record { granted_one = named.granted_one; before = λ name next f g. absurd (cc) }
-reply-named first commands replica (Some (Some other)) kept named = record {
+reply-named : (first : ℕ) (commands : List Command) (replica : List ReplicaTurn) (reply : HeldReply) →
+    Kept first (record { commands = commands; replica = replica; reply = reply }) → NamesRise (record { commands = commands; replica = replica; reply = reply }) →
+    NamesRise (record { commands = commands; replica = after_reply reply replica; reply = NoReply })
+reply-named first commands replica NoReply kept named = record { granted_one = named.granted_one; before = λ name next f g. absurd (cc) }
+reply-named first commands replica Refusal kept named = record { granted_one = named.granted_one; before = λ name next f g. absurd (cc) }
+reply-named first commands replica (Named other) kept named = record {
   granted_one = λ name f. by name (is_refused (Accepts other) replica) f;
   before = λ name next f g. absurd (cc);
 }
@@ -115,26 +119,26 @@ reply-named first commands replica (Some (Some other)) kept named = record {
     by name true f = named.granted_one name f
     by name false f = let same : other ≡ name = cc in let high = kept.waits.2 in omega (arith, same, high)
 
-step-named : (first now : ℕ) (records : List Record) (p : Played) → Kept first p → Named p → (turn : Turn) → Named (play first now records p turn)
+step-named : (first now : ℕ) (records : List Record) (p : Played) → Kept first p → NamesRise p → (turn : Turn) → NamesRise (play first now records p turn)
 step-named first now records p kept named (Folder path) = named
-step-named first now records p kept named (Track path content) = named
+step-named first now records p kept named (Track path info size) = named
 step-named first now records p kept named Scan = by _ (scanned-cases (scans_of first p.commands) records p.commands)
   where
-    by : (after : List Command) → ScannedCases (scans_of first p.commands) records p.commands after → Named (record p { commands = after })
+    by : (after : List Command) → ScannedCases (scans_of first p.commands) records p.commands after → NamesRise (record p { commands = after })
     by after (inl e) = same-named p after e named
-    by after (inr e) = subst (λ (cs : List Command). Named (record p { commands = cs })) (sym e.3) (command-named p _ named)
+    by after (inr e) = subst (λ (cs : List Command). NamesRise (record p { commands = cs })) (sym e.3) (command-named p _ named)
 step-named first now records p kept named Load = replica-named p.commands p.replica (Begins ∷ p.replica) p.reply refl named
 step-named first now records p kept named Read =
-    replica-named p.commands p.replica (asked_at (moment_after first p.commands) p.replica (next_ask (known_by p.replica))) p.reply
-    (accepted-asked (moment_after first p.commands) p.replica (next_ask (known_by p.replica))) named
+    replica-named p.commands p.replica (asked_at (moment_after script_token first p.commands) p.replica (next_ask (known_by p.replica))) p.reply
+    (accepted-asked (moment_after script_token first p.commands) p.replica (next_ask (known_by p.replica))) named
 step-named first now records p kept named Ask = named
 step-named first now records p kept named (First number) = named
 step-named first now records p kept named (At moment) = command-named p (Ticks moment) named
 step-named first now records p kept named Subscribe = by (has_room now p.commands (notes_of first p.commands))
   where
-    by : (b : Bool) → Named (cond b
-        (record { commands = Grants now ∷ p.commands; replica = Requests ∷ p.replica; reply = Some (Some (granted p.commands + 1)) })
-        (record { commands = p.commands; replica = Requests ∷ p.replica; reply = Some None }))
+    by : (b : Bool) → NamesRise (cond b
+        (record { commands = grant_at now ∷ p.commands; replica = Requests ∷ p.replica; reply = Named (granted p.commands + 1) })
+        (record { commands = p.commands; replica = Requests ∷ p.replica; reply = Refusal }))
     by true = record {
       granted_one = λ name f. let one = named.granted_one name f in omega (arith, one);
       before = λ name next f g. let one = named.granted_one name f in let same : granted p.commands + 1 ≡ next = cc in omega (arith, one, same);
@@ -145,11 +149,11 @@ step-named first now records p kept named Accept = reply-named first p.commands 
     (record { granted_one = named.granted_one; before = named.before })
 step-named first now records p kept named Unsubscribe = by (accepted p.replica)
   where
-    on : (name : ℕ) (b : Bool) → Named (record p { commands = cond b (Ends name ∷ p.commands) p.commands })
-    on name true = command-named p (Ends name) named
+    on : (name : ℕ) (b : Bool) → NamesRise (record p { commands = cond b (Ends now name ∷ p.commands) p.commands })
+    on name true = command-named p (Ends now name) named
     on name false = same-named p p.commands refl named
 
-    by : (o : Option ℕ) → Named (record p { commands = given_up o first now p.commands })
+    by : (o : Option ℕ) → NamesRise (record p { commands = given_up o first now p.commands })
     by None = same-named p p.commands refl named
     by (Some name) = on name (lives name first now p.commands)
 step-named first now records p kept named (Deliver note) =
@@ -157,7 +161,7 @@ step-named first now records p kept named (Deliver note) =
     (accepted-noted (sent_note note (notes_of first p.commands)) p.replica) named
 step-named first now records p kept named ReadFault = named
 
-nothing-named : Named (played [])
+nothing-named : NamesRise (played [])
 nothing-named = record { granted_one = λ name f. absurd (cc); before = λ name next f g. absurd (cc) }
 
 -- the first number of older turns is not above the last
@@ -165,7 +169,7 @@ low-older : (turn : Turn) (older : List Turn) → first_of (turn ∷ older) ≤ 
 low-older turn [] low = omega arith
 low-older turn (next ∷ older) low = low
 
-turns-named : (turns : List Turn) → first_of turns ≤ 4294967295 → Named (played turns)
+turns-named : (turns : List Turn) → first_of turns ≤ 4294967295 → NamesRise (played turns)
 turns-named [] low = nothing-named
 turns-named (turn ∷ older) low =
     step-named (first_of older) (clock_of older) (records_since older) (played older) (turns-kept older (low-older turn older low)) (turns-named older (low-older turn older low)) turn
@@ -175,7 +179,7 @@ turns-named (turn ∷ older) low =
 -- it is received, where its name is the accepted one; and early, where the reply that is held back is its name
 record Got (p : Played) (note : Note) : Type 0 where
   taken : accepted p.replica ≡ Some note.name → Among note (received p.replica)
-  early : p.reply ≡ Some (Some note.name) → Among note (early_notes p.replica)
+  early : p.reply ≡ Named note.name → Among note (early_notes p.replica)
 
 is-accepted : (note : Note) (r : List ReplicaTurn) → accepted r ≡ Some note.name → is_accepted note.name r ≡ true
 is-accepted note r e = ap (λ o. option_eq nat_eq o (Some note.name)) e ∙ eq-eqb note.name note.name refl
@@ -209,10 +213,10 @@ turned-unknown (IsHeld seq) t f = absurd (cc)
 turned-unknown IsNext t f = absurd (cc)
 
 -- a request is out while a reply is held back
-waits-out : (first : ℕ) (p : Played) (kept : Kept first p) (name : ℕ) → p.reply ≡ Some (Some name) → is_out p.replica ≡ true
+waits-out : (first : ℕ) (p : Played) (kept : Kept first p) (name : ℕ) → p.reply ≡ Named name → is_out p.replica ≡ true
 waits-out first p kept name e = (subst (Waits p.commands kept.entries p.replica) e kept.waits).0
 
-delivered-got : (first number : ℕ) (p : Played) (note : Note) → Kept first p → Named p → sent_note number (notes_of first p.commands) ≡ Some note →
+delivered-got : (first number : ℕ) (p : Played) (note : Note) → Kept first p → NamesRise p → sent_note number (notes_of first p.commands) ≡ Some note →
     is_full (arrival note p.replica) ≡ false → Got (record p { replica = and_turn (Delivers note) p.replica }) note
 delivered-got first number p note kept named sent free = by (is_turned_away (arrival note p.replica)) refl
   where
@@ -236,7 +240,7 @@ delivered-got first number p note kept named sent free = by (is_turned_away (arr
           subst (λ (b : Bool). Among note (cond b (note ∷ early_notes r) (early_notes r))) (λ i. sym (waits-out first p kept note.name e) i && not (sym apart i)) (inl refl);
     }
       where
-        other : (o : Option ℕ) → accepted r ≡ o → p.reply ≡ Some (Some note.name) → is_accepted note.name r ≡ false
+        other : (o : Option ℕ) → accepted r ≡ o → p.reply ≡ Named note.name → is_accepted note.name r ≡ false
         other None f e = ap (λ v. option_eq nat_eq v (Some note.name)) f
         other (Some name) f e =
             let less = named.before name note.name f e in
@@ -291,17 +295,17 @@ keeps-got p then note k got = record {
   early = λ e. k.early note (got.early e);
 }
 
-reply-got : (first : ℕ) (p : Played) (note : Note) → Kept first p → Got p note → (o : Option (Option ℕ)) → p.reply ≡ o →
-    Got (record { commands = p.commands; replica = after_reply o p.replica; reply = None }) note
-reply-got first p note kept got None e = record { taken = got.taken; early = λ f. absurd (cc) }
-reply-got first p note kept got (Some None) e = record { taken = got.taken; early = λ f. absurd (cc) }
-reply-got first p note kept got (Some (Some name)) e =
+reply-got : (first : ℕ) (p : Played) (note : Note) → Kept first p → Got p note → (o : HeldReply) → p.reply ≡ o →
+    Got (record { commands = p.commands; replica = after_reply o p.replica; reply = NoReply }) note
+reply-got first p note kept got NoReply e = record { taken = got.taken; early = λ f. absurd (cc) }
+reply-got first p note kept got Refusal e = record { taken = got.taken; early = λ f. absurd (cc) }
+reply-got first p note kept got (Named name) e =
     let ok = name-taken first p kept name e in
-    subst (λ (b : Bool). Got (record { commands = p.commands; replica = cond b p.replica (Accepts name ∷ p.replica); reply = None }) note) (sym (ap is_no ok.1))
+    subst (λ (b : Bool). Got (record { commands = p.commands; replica = cond b p.replica (Accepts name ∷ p.replica); reply = NoReply }) note) (sym (ap is_no ok.1))
     (record {
       taken = λ f.
           let same : name ≡ note.name = cc in
-          among-filter (λ (n : Note). nat_eq n.name name) (early_notes p.replica) note (got.early (e ∙ ap (λ v. Some (Some v)) same)) (eq-eqb note.name name (sym same));
+          among-filter (λ (n : Note). nat_eq n.name name) (early_notes p.replica) note (got.early (e ∙ ap (λ v. Named v) same)) (eq-eqb note.name name (sym same));
       early = λ f. absurd (cc);
     })
 
@@ -310,7 +314,7 @@ reply-got first p note kept got (Some (Some name)) e =
 step-sent : (first now number : ℕ) (records : List Record) (p : Played) (note : Note) → sent_note number (notes_of first p.commands) ≡ Some note → (turn : Turn) →
     sent_note number (notes_of first (play first now records p turn).commands) ≡ Some note
 step-sent first now number records p note e (Folder path) = e
-step-sent first now number records p note e (Track path content) = e
+step-sent first now number records p note e (Track path info size) = e
 step-sent first now number records p note e Scan = by _ (scanned-cases (scans_of first p.commands) records p.commands)
   where
     by : (after : List Command) → ScannedCases (scans_of first p.commands) records p.commands after → sent_note number (notes_of first after) ≡ Some note
@@ -325,14 +329,14 @@ step-sent first now number records p note e (At moment) =
 step-sent first now number records p note e Subscribe = by (has_room now p.commands (notes_of first p.commands))
   where
     by : (b : Bool) → let after : Played = cond b
-        (record { commands = Grants now ∷ p.commands; replica = Requests ∷ p.replica; reply = Some (Some (granted p.commands + 1)) })
-        (record { commands = p.commands; replica = Requests ∷ p.replica; reply = Some None }) in sent_note number (notes_of first after.commands) ≡ Some note
-    by true = sent-append number (notes_of first p.commands) (sent_by first p.commands (notes_of first p.commands) (Grants now)) note e
+        (record { commands = grant_at now ∷ p.commands; replica = Requests ∷ p.replica; reply = Named (granted p.commands + 1) })
+        (record { commands = p.commands; replica = Requests ∷ p.replica; reply = Refusal }) in sent_note number (notes_of first after.commands) ≡ Some note
+    by true = sent-append number (notes_of first p.commands) (sent_by first p.commands (notes_of first p.commands) (grant_at now)) note e
     by false = e
 step-sent first now number records p note e Accept = e
 step-sent first now number records p note e Unsubscribe = by (accepted p.replica)
   where
-    on : (name : ℕ) (b : Bool) → sent_note number (notes_of first (cond b (Ends name ∷ p.commands) p.commands)) ≡ Some note
+    on : (name : ℕ) (b : Bool) → sent_note number (notes_of first (cond b (Ends now name ∷ p.commands) p.commands)) ≡ Some note
     on name true = sent-append number (notes_of first p.commands) [] note e
     on name false = e
 
@@ -351,21 +355,21 @@ known-note first number commands note e =
 step-got : (first now number : ℕ) (records : List Record) (p : Played) (note : Note) → Kept first p → sent_note number (notes_of first p.commands) ≡ Some note → Got p note → (turn : Turn) →
     Got (play first now records p turn) note
 step-got first now number records p note kept e got (Folder path) = got
-step-got first now number records p note kept e got (Track path content) = got
+step-got first now number records p note kept e got (Track path info size) = got
 step-got first now number records p note kept e got Scan = record { taken = got.taken; early = got.early }
 step-got first now number records p note kept e got Load =
     keeps-got p (Begins ∷ p.replica) note (record { name = refl; more = λ note a. a; early = λ note a. a }) got
 step-got first now number records p note kept e got Read =
-    keeps-got p (asked_at (moment_after first p.commands) p.replica (next_ask (known_by p.replica))) note
-    (asked-keeps (moment_after first p.commands) p.replica (next_ask (known_by p.replica))) got
+    keeps-got p (asked_at (moment_after script_token first p.commands) p.replica (next_ask (known_by p.replica))) note
+    (asked-keeps (moment_after script_token first p.commands) p.replica (next_ask (known_by p.replica))) got
 step-got first now number records p note kept e got Ask = got
 step-got first now number records p note kept e got (First other) = got
 step-got first now number records p note kept e got (At moment) = record { taken = got.taken; early = got.early }
 step-got first now number records p note kept e got Subscribe = by (has_room now p.commands (notes_of first p.commands))
   where
     by : (b : Bool) → Got (cond b
-        (record { commands = Grants now ∷ p.commands; replica = Requests ∷ p.replica; reply = Some (Some (granted p.commands + 1)) })
-        (record { commands = p.commands; replica = Requests ∷ p.replica; reply = Some None })) note
+        (record { commands = grant_at now ∷ p.commands; replica = Requests ∷ p.replica; reply = Named (granted p.commands + 1) })
+        (record { commands = p.commands; replica = Requests ∷ p.replica; reply = Refusal })) note
     by true = record {
       taken = got.taken;
       early = λ f. let same : granted p.commands + 1 ≡ note.name = cc in let known = known-note first number p.commands note e in absurd (omega (arith, same, known));
@@ -504,18 +508,18 @@ none-asked moment (Some (Children id start)) e = absurd (by (row_of id moment.ro
 step-quiet : (first now : ℕ) (records : List Record) (p : Played) (turn : Turn) → is_quiet turn ≡ true → next_ask (known_by p.replica) ≡ None →
     next_ask (known_by (play first now records p turn).replica) ≡ None
 step-quiet first now records p (Folder path) q e = e
-step-quiet first now records p (Track path content) q e = e
+step-quiet first now records p (Track path info size) q e = e
 step-quiet first now records p Scan q e = e
 step-quiet first now records p Load q e = absurd (cc)
-step-quiet first now records p Read q e = ap (λ o. next_ask (known_by (asked_at (moment_after first p.commands) p.replica o))) e ∙ e
+step-quiet first now records p Read q e = ap (λ o. next_ask (known_by (asked_at (moment_after script_token first p.commands) p.replica o))) e ∙ e
 step-quiet first now records p Ask q e = e
 step-quiet first now records p (First number) q e = e
 step-quiet first now records p (At moment) q e = e
 step-quiet first now records p Subscribe q e = by (has_room now p.commands (notes_of first p.commands))
   where
     by : (b : Bool) → let after : Played = cond b
-        (record { commands = Grants now ∷ p.commands; replica = Requests ∷ p.replica; reply = Some (Some (granted p.commands + 1)) })
-        (record { commands = p.commands; replica = Requests ∷ p.replica; reply = Some None }) in next_ask (known_by after.replica) ≡ None
+        (record { commands = grant_at now ∷ p.commands; replica = Requests ∷ p.replica; reply = Named (granted p.commands + 1) })
+        (record { commands = p.commands; replica = Requests ∷ p.replica; reply = Refusal }) in next_ask (known_by after.replica) ≡ None
     by true = e
     by false = e
 step-quiet first now records p Accept q e = absurd (cc)
@@ -525,7 +529,7 @@ step-quiet first now records p ReadFault q e = e
 
 pub nothing-read : nothing_is_to_be_read
 nothing-read [] older wrote quiet =
-    let none = none-asked (moment_after (first_of older) (played older).commands) (next_ask (known_by (played older).replica)) wrote in
+    let none = none-asked (moment_after script_token (first_of older) (played older).commands) (next_ask (known_by (played older).replica)) wrote in
     step-quiet (first_of older) (clock_of older) (records_since older) (played older) Read refl none
 nothing-read (turn ∷ newer) older wrote quiet =
     let both = and_parts (is_quiet turn) (list_all is_quiet newer) quiet in

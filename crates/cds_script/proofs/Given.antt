@@ -8,16 +8,21 @@ use Rattle.cds_catalog.specs.Library.{found, map_of}
 use Rattle.cds_catalog.specs.History.{History, latest, changes_of, end_of}
 use Rattle.cds_catalog.specs.Scans.{Accepted, TooMany, NoNumbers, bad_record, needed_by, answer_by, scan_answer}
 use Rattle.cds_catalog.proofs.Accepted.{accepted_map}
-use Rattle.cds_model.specs.Server.{Moment, reply_to}
-use Rattle.cds_model.specs.declared.exchange.Ask.{Ask as Asked}
-use Rattle.cds_notes.specs.Commands.{Command, Scans, Grants, Ends, Ticks, Note, scans_of, granted, has_room, notes_of}
-use Rattle.cds_notes.specs.Inbox.{ReplicaTurn, Begins, Shows, Requests, Accepts, Refuses, Delivers, accepted, is_out}
-use Rattle.cds_notes.specs.Follow.{is_refused, and_turn, known_by, next_ask}
-use Rattle.cds_notes.specs.Given.{oldest, moment_after, Entry, Starts, Asks, Calls, Granted, Denied, Gets, asked_at, given_by, latest_length, length_before_call, AreAccepted, IsGiven}
+use Rattle.cds_load.specs.Server.{Moment, reply_to}
+use Rattle.cds_load.specs.declared.exchange.Ask.{Ask as Asked}
+use Rattle.cds_commands.specs.Commands.{Command, Scans, Grants, Renews, Ends, Ticks, Stops, scans_of, oldest, AreAccepted}
+use Rattle.cds_commands.specs.Notes.{Note, has_room, notes_of}
+use Rattle.cds_commands.specs.Subscriptions.{granted}
+use Rattle.cds_follow.specs.Inbox.{ReplicaTurn, Begins, Shows, Requests, Accepts, Refuses, Delivers, accepted, is_out}
+use Rattle.cds_follow.specs.Follow.{is_refused, and_turn, known_by, next_ask}
+use Rattle.cds_follow.specs.Given.{moment_after, Entry, Starts, Asks, Calls, Granted, Denied, Gets, asked_at, given_by, latest_length, length_before_call, IsGiven}
 use Rattle.cds_script.specs.declared.turn.Turn.{Turn}
 use Rattle.cds_script.specs.declared.turn.Turn.TheVariants.{Folder, Track, Scan, Load, Read, Ask, First, At, Subscribe, Accept, Unsubscribe, Deliver, ReadFault}
-use Rattle.cds_script.specs.Report.{number_of, first_of, clock_of, records_since, Played, scanned, after_reply, after_note, sent_note, lives, given_up, play, played}
+use Rattle.cds_script.specs.Report.{number_of, first_of, clock_of, records_since, Played, scanned, after_reply, after_note, sent_note, lives, given_up, play, played, script_token}
 use Rattle.cds_script.specs.ScriptGiven.{scripts_are_given}
+use Rattle.cds_script.specs.declared.reply.HeldReply.{HeldReply}
+use Rattle.cds_script.specs.declared.reply.HeldReply.TheVariants.{NoReply, Named, Refusal}
+use Rattle.cds_script.specs.Script.{grant_at}
 
 -- ---- the oldest commands
 
@@ -30,8 +35,10 @@ oldest-all commands = let e : length commands - length commands ≡ 0 = omega ar
 
 pub granted-rises : (command : Command) (commands : List Command) → granted commands ≤ granted (command ∷ commands)
 granted-rises (Scans library) commands = omega arith
-granted-rises (Grants moment) commands = omega arith
-granted-rises (Ends name) commands = omega arith
+granted-rises (Grants moment callback seconds) commands = omega arith
+granted-rises (Renews moment name seconds) commands = omega arith
+granted-rises Stops commands = omega arith
+granted-rises (Ends moment name) commands = omega arith
 granted-rises (Ticks moment) commands = omega arith
 
 pub granted-dropped : (n : ℕ) (commands : List Command) → granted (drop n commands) ≤ granted commands
@@ -42,7 +49,7 @@ granted-dropped (suc n) (command ∷ commands) =
 
 -- ---- more commands leave what was given
 
-call-low : (first : ℕ) (commands : List Command) (entries : List Entry) → IsGiven first commands entries → length_before_call entries ≤ latest_length entries
+call-low : (first : ℕ) (commands : List Command) (entries : List Entry) → IsGiven script_token first commands entries → length_before_call entries ≤ latest_length entries
 call-low first commands [] given = omega arith
 call-low first commands (Starts k ∷ older) given = let low = given.0 in let rest = call-low first commands older given.2 in omega (arith, low, rest)
 call-low first commands (Asks k ∷ older) given = let low = given.0 in let rest = call-low first commands older given.2 in omega (arith, low, rest)
@@ -53,9 +60,9 @@ call-low first commands (Gets k note ∷ older) given = let low = given.0 in let
 
 module _ (first : ℕ) (command : Command) (commands : List Command) where
   abbrev Stays : List Entry → Type 0
-  Stays entries = IsGiven first (command ∷ commands) entries × (given_by first (command ∷ commands) entries ≡ given_by first commands entries)
+  Stays entries = IsGiven script_token first (command ∷ commands) entries × (given_by script_token first (command ∷ commands) entries ≡ given_by script_token first commands entries)
 
-  given-more : (entries : List Entry) → IsGiven first commands entries → latest_length entries ≤ length commands → Stays entries
+  given-more : (entries : List Entry) → IsGiven script_token first commands entries → latest_length entries ≤ length commands → Stays entries
   given-more [] given low = (tt, refl)
   given-more (Starts k ∷ older) given low =
       let under = given.0 in let rest = given-more older given.2 (omega (arith, under, low)) in
@@ -63,7 +70,7 @@ module _ (first : ℕ) (command : Command) (commands : List Command) where
   given-more (Asks k ∷ older) given low =
       let under = given.0 in let rest = given-more older given.2 (omega (arith, under, low)) in
       let same : oldest k (command ∷ commands) ≡ oldest k commands = oldest-more k command commands low in
-      ((given.0, tt, rest.0), λ i. asked_at (moment_after first (same i)) (rest.1 i) (next_ask (known_by (rest.1 i))))
+      ((given.0, tt, rest.0), λ i. asked_at (moment_after script_token first (same i)) (rest.1 i) (next_ask (known_by (rest.1 i))))
   given-more (Calls k ∷ older) given low =
       let under = given.0 in let rest = given-more older given.2 (omega (arith, under, low)) in
       ((given.0, tt, rest.0), ap (λ turns. Requests ∷ turns) rest.1)
@@ -152,26 +159,26 @@ scan-accepted first records commands a good few most =
 -- ---- what a script keeps
 
 -- the reply that is held back: a request is out, and a name was granted after all that was given before the request
-abbrev pub Waits : List Command → List Entry → List ReplicaTurn → Option (Option ℕ) → Type 0
-Waits commands entries replica None = Unit {0}
-Waits commands entries replica (Some None) = is_out replica ≡ true
-Waits commands entries replica (Some (Some name)) =
+abbrev pub Waits : List Command → List Entry → List ReplicaTurn → HeldReply → Type 0
+Waits commands entries replica NoReply = Unit {0}
+Waits commands entries replica Refusal = is_out replica ≡ true
+Waits commands entries replica (Named name) =
     (is_out replica ≡ true) × (granted (oldest (length_before_call entries) commands) < name) × (name ≤ granted commands)
 
 pub record Kept (first : ℕ) (p : Played) : Type 0 where
   pub accepted : AreAccepted first p.commands
   pub entries : List Entry
-  pub given : IsGiven first p.commands entries
-  pub are : p.replica ≡ given_by first p.commands entries
+  pub given : IsGiven script_token first p.commands entries
+  pub are : p.replica ≡ given_by script_token first p.commands entries
   pub within : latest_length entries ≤ length p.commands
   pub waits : Waits p.commands entries p.replica p.reply
 
 -- one more command
 more-waits : (command : Command) (commands : List Command) (entries : List Entry) (replica : List ReplicaTurn) → length_before_call entries ≤ length commands →
-    (reply : Option (Option ℕ)) → Waits commands entries replica reply → Waits (command ∷ commands) entries replica reply
-more-waits command commands entries replica low None w = tt
-more-waits command commands entries replica low (Some None) w = w
-more-waits command commands entries replica low (Some (Some name)) w =
+    (reply : HeldReply) → Waits commands entries replica reply → Waits (command ∷ commands) entries replica reply
+more-waits command commands entries replica low NoReply w = tt
+more-waits command commands entries replica low Refusal w = w
+more-waits command commands entries replica low (Named name) w =
     let rise = granted-rises command commands in let high = w.2 in (
       w.0,
       subst (λ (cs : List Command). granted cs < name) (sym (oldest-more (length_before_call entries) command commands low)) w.1,
@@ -194,10 +201,10 @@ more-command first p command kept a =
 
 -- turns that leave the request leave what is held back
 same-waits : (commands : List Command) (entries now : List Entry) (replica then : List ReplicaTurn) → length_before_call now ≡ length_before_call entries →
-    is_out then ≡ is_out replica → (reply : Option (Option ℕ)) → Waits commands entries replica reply → Waits commands now then reply
-same-waits commands entries now replica then calls out None w = tt
-same-waits commands entries now replica then calls out (Some None) w = out ∙ w
-same-waits commands entries now replica then calls out (Some (Some name)) w =
+    is_out then ≡ is_out replica → (reply : HeldReply) → Waits commands entries replica reply → Waits commands now then reply
+same-waits commands entries now replica then calls out NoReply w = tt
+same-waits commands entries now replica then calls out Refusal w = out ∙ w
+same-waits commands entries now replica then calls out (Named name) w =
     (out ∙ w.0, subst (λ (k : ℕ). granted (oldest k commands) < name) (sym calls) w.1, w.2)
 
 load-kept : (first : ℕ) (p : Played) → Kept first p → Kept first (record p { replica = Begins ∷ p.replica })
@@ -211,16 +218,16 @@ load-kept first p kept = record {
 }
 
 read-kept : (first : ℕ) (p : Played) → Kept first p →
-    Kept first (record p { replica = asked_at (moment_after first p.commands) p.replica (next_ask (known_by p.replica)) })
+    Kept first (record p { replica = asked_at (moment_after script_token first p.commands) p.replica (next_ask (known_by p.replica)) })
 read-kept first p kept = record {
   accepted = kept.accepted;
   entries = Asks (length p.commands) ∷ kept.entries;
   given = (kept.within, tt, kept.given);
-  are = λ i. asked_at (moment_after first (sym (oldest-all p.commands) i)) (kept.are i) (next_ask (known_by (kept.are i)));
+  are = λ i. asked_at (moment_after script_token first (sym (oldest-all p.commands) i)) (kept.are i) (next_ask (known_by (kept.are i)));
   within = omega arith;
   waits = same-waits p.commands kept.entries (Asks (length p.commands) ∷ kept.entries) p.replica
-      (asked_at (moment_after first p.commands) p.replica (next_ask (known_by p.replica))) refl
-      (out-asked (moment_after first p.commands) p.replica (next_ask (known_by p.replica))) p.reply kept.waits;
+      (asked_at (moment_after script_token first p.commands) p.replica (next_ask (known_by p.replica))) refl
+      (out-asked (moment_after script_token first p.commands) p.replica (next_ask (known_by p.replica))) p.reply kept.waits;
 }
 
 note-kept : (first : ℕ) (p : Played) (o : Option Note) → ((note : Note) → o ≡ Some note → Contains (notes_of first p.commands) note) → Kept first p →
@@ -243,7 +250,7 @@ note-kept first p (Some note) sent kept = record {
       (out-and (Delivers note) p.replica refl) p.reply kept.waits;
 }
 
-refused-kept : (first : ℕ) (p : Played) → Kept first p → Kept first (record { commands = p.commands; replica = Requests ∷ p.replica; reply = Some None })
+refused-kept : (first : ℕ) (p : Played) → Kept first p → Kept first (record { commands = p.commands; replica = Requests ∷ p.replica; reply = Refusal })
 refused-kept first p kept = record {
   accepted = kept.accepted;
   entries = Calls (length p.commands) ∷ kept.entries;
@@ -254,10 +261,10 @@ refused-kept first p kept = record {
 }
 
 granted-kept : (first now : ℕ) (p : Played) → Kept first p →
-    Kept first (record { commands = Grants now ∷ p.commands; replica = Requests ∷ p.replica; reply = Some (Some (granted p.commands + 1)) })
+    Kept first (record { commands = grant_at now ∷ p.commands; replica = Requests ∷ p.replica; reply = Named (granted p.commands + 1) })
 granted-kept first now p kept =
     let a = kept.accepted in
-    let stays = given-more first (Grants now) p.commands kept.entries kept.given kept.within in
+    let stays = given-more first (grant_at now) p.commands kept.entries kept.given kept.within in
     let within = kept.within in
     let before = granted-dropped (length p.commands - latest_length kept.entries) p.commands in
     record {
@@ -268,14 +275,14 @@ granted-kept first now p kept =
       within = omega arith;
       waits = (
         refl,
-        subst (λ (cs : List Command). granted cs < granted p.commands + 1) (sym (oldest-more (latest_length kept.entries) (Grants now) p.commands within)) (omega (arith, before)),
+        subst (λ (cs : List Command). granted cs < granted p.commands + 1) (sym (oldest-more (latest_length kept.entries) (grant_at now) p.commands within)) (omega (arith, before)),
         omega arith,
       );
     }
 
-accept-kept : (first : ℕ) (commands : List Command) (replica : List ReplicaTurn) (reply : Option (Option ℕ)) →
-    Kept first (record { commands = commands; replica = replica; reply = reply }) → Kept first (record { commands = commands; replica = after_reply reply replica; reply = None })
-accept-kept first commands replica None kept = record {
+accept-kept : (first : ℕ) (commands : List Command) (replica : List ReplicaTurn) (reply : HeldReply) →
+    Kept first (record { commands = commands; replica = replica; reply = reply }) → Kept first (record { commands = commands; replica = after_reply reply replica; reply = NoReply })
+accept-kept first commands replica NoReply kept = record {
   accepted = kept.accepted;
   entries = kept.entries;
   given = kept.given;
@@ -283,7 +290,7 @@ accept-kept first commands replica None kept = record {
   within = kept.within;
   waits = tt;
 }
-accept-kept first commands replica (Some None) kept = record {
+accept-kept first commands replica Refusal kept = record {
   accepted = kept.accepted;
   entries = Denied (length commands) ∷ kept.entries;
   given = (kept.within, tt, kept.given);
@@ -291,7 +298,7 @@ accept-kept first commands replica (Some None) kept = record {
   within = omega arith;
   waits = tt;
 }
-accept-kept first commands replica (Some (Some name)) kept = record {
+accept-kept first commands replica (Named name) kept = record {
   accepted = kept.accepted;
   entries = Granted (length commands) name ∷ kept.entries;
   given = (
@@ -331,13 +338,13 @@ given_up-kept : (first now : ℕ) (p : Played) (o : Option ℕ) → Kept first p
 given_up-kept first now p None kept = same-commands first p p.commands refl kept
 given_up-kept first now p (Some name) kept = by (lives name first now p.commands)
   where
-    by : (b : Bool) → Kept first (record p { commands = cond b (Ends name ∷ p.commands) p.commands })
-    by true = let a = kept.accepted in more-command first p (Ends name) kept (record { libraries = a.libraries; few = a.few; numbers = a.numbers })
+    by : (b : Bool) → Kept first (record p { commands = cond b (Ends now name ∷ p.commands) p.commands })
+    by true = let a = kept.accepted in more-command first p (Ends now name) kept (record { libraries = a.libraries; few = a.few; numbers = a.numbers })
     by false = same-commands first p p.commands refl kept
 
 step : (first now : ℕ) (records : List Record) (p : Played) → Kept first p → (turn : Turn) → Kept first (play first now records p turn)
 step first now records p kept (Folder path) = kept
-step first now records p kept (Track path content) = kept
+step first now records p kept (Track path info size) = kept
 step first now records p kept Scan = scan-kept first records p kept
 step first now records p kept Load = load-kept first p kept
 step first now records p kept Read = read-kept first p kept
@@ -347,8 +354,8 @@ step first now records p kept (At moment) = tick-kept first moment p kept
 step first now records p kept Subscribe = by (has_room now p.commands (notes_of first p.commands))
   where
     by : (b : Bool) → Kept first (cond b
-        (record { commands = Grants now ∷ p.commands; replica = Requests ∷ p.replica; reply = Some (Some (granted p.commands + 1)) })
-        (record { commands = p.commands; replica = Requests ∷ p.replica; reply = Some None }))
+        (record { commands = grant_at now ∷ p.commands; replica = Requests ∷ p.replica; reply = Named (granted p.commands + 1) })
+        (record { commands = p.commands; replica = Requests ∷ p.replica; reply = Refusal }))
     by true = granted-kept first now p kept
     by false = refused-kept first p kept
 step first now records p kept Accept = accept-kept first p.commands p.replica p.reply (record {
@@ -377,7 +384,7 @@ nothing-kept first low = record {
 first-kept : (turn : Turn) → number_of turn ≤ 4294967295 → Kept (number_of turn) (play 0 0 [] (played []) turn)
 first-kept (First number) low = nothing-kept number low
 first-kept (Folder path) low = nothing-kept 0 low
-first-kept (Track path content) low = nothing-kept 0 low
+first-kept (Track path info size) low = nothing-kept 0 low
 first-kept Scan low = step 0 0 [] (played []) (nothing-kept 0 low) Scan
 first-kept Load low = step 0 0 [] (played []) (nothing-kept 0 low) Load
 first-kept Read low = step 0 0 [] (played []) (nothing-kept 0 low) Read

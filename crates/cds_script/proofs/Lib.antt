@@ -1,10 +1,10 @@
 pub mod Bounded
 pub mod Delivered
 pub mod Given
+pub mod LineLaws
 pub mod Lines
 pub mod Living
 pub mod MayBe
 pub mod Played
 pub mod Stood
-pub mod WithoutNotes
 pub mod Words

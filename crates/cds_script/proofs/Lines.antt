@@ -4,10 +4,9 @@ use Rattle.std.specs.Prelude.{nat_le}
 use Rattle.std.specs.List.{onto_first}
 use Rattle.std.proofs.lemmas.Bool.{and_parts, and_from, le-leb, lt-leb, lt-ltb, not-true, cases_lt}
 use Rattle.cds_script.specs.declared.turn.Turn.{Turn}
-use Rattle.cds_model.specs.Script.{lines_of, ended_lines, onto_line, is_unbroken, line_limit}
+use Rattle.cds_script.specs.Lines.{lines_of, ended_lines, onto_line, is_unbroken, line_limit}
 use Rattle.cds_script.specs.Script.{meaning_of}
-use Rattle.cds_model.specs.Report.{Ending, limit_ending}
-use Rattle.cds_script.specs.Report.{ending_at, ending_from, ending_of}
+use Rattle.cds_script.specs.Report.{Ending, limit_ending, ending_at, ending_from, ending_of}
 
 -- bytes without an LF, and one more line behind them
 pub lines-append : (line after : List ℕ) → is_unbroken line ≡ true → lines_of (line ++ 10 ∷ after) ≡ line ∷ lines_of after

@@ -7,15 +7,19 @@ use Rattle.std.proofs.lemmas.Bool.{and_parts, leb-true, ltb-true, lt-ltb, ne_eqb
 use Rattle.cds_object.specs.declared.record.Record.{Record}
 use Rattle.cds_catalog.specs.Library.{map_of}
 use Rattle.cds_catalog.specs.Scans.{scan_answer}
-use Rattle.cds_notes.specs.Commands.{Command, Scans, Grants, Ends, Ticks, scans_of, granted, granted_time, unless_past, runs_until, is_alive, next_seq_of, seq_limit, alive_names, subscription_limit, has_room, sent_by, notes_of}
-use Rattle.cds_notes.specs.Inbox.{Requests, accepted}
-use Rattle.cds_notes.proofs.Among.{seq-append}
+use Rattle.cds_commands.specs.Commands.{Command, Scans, Ends, Ticks, scans_of}
+use Rattle.cds_commands.specs.Subscriptions.{granted, end_after, unless_past, runs_until, is_alive, subscription_limit}
+use Rattle.cds_commands.specs.Notes.{next_seq_of, seq_limit, alive_names, has_room, sent_by, notes_of}
+use Rattle.cds_follow.specs.Inbox.{Requests, accepted}
+use Rattle.cds_commands.proofs.Among.{seq-append}
 use Rattle.cds_script.specs.declared.turn.Turn.{Turn}
 use Rattle.cds_script.specs.declared.turn.Turn.TheVariants.{Folder, Track, Scan, Load, Read, Ask, First, At, Subscribe, Accept, Unsubscribe, Deliver, ReadFault}
 use Rattle.cds_script.specs.Report.{number_of, first_of, clock_of, records_since, Played, scanned, lives, given_up, play, played, may_stand}
 use Rattle.cds_script.specs.Played.{AllStand}
 use Rattle.cds_script.specs.ScriptGiven.{subscriptions_are_few}
 use Rattle.cds_script.proofs.Given.{ScannedCases, scanned-cases}
+use Rattle.cds_script.specs.declared.reply.HeldReply.TheVariants.{Named, Refusal}
+use Rattle.cds_script.specs.Script.{grant_at, granted_seconds}
 
 -- ---- how many of a row of numbers pass a test
 
@@ -88,7 +92,7 @@ scans-few first now older command same alive =
     (λ name low lives. lived first now now command older name (alive name) lives))
 
 -- one that was given up
-ends-alive : (now name other : ℕ) (older : List Command) → is_alive name now (Ends other ∷ older) ≡ true → is_alive name now older ≡ true
+ends-alive : (now name other : ℕ) (older : List Command) → is_alive name now (Ends now other ∷ older) ≡ true → is_alive name now older ≡ true
 ends-alive now name other older = by (nat_eq name other)
   where
     by : (b : Bool) → is_some (unless_past now (cond b None (runs_until name older))) ≡ true → is_some (unless_past now (runs_until name older)) ≡ true
@@ -110,17 +114,17 @@ tick-few first now moment older late =
     (λ name low lives. lived first now moment (Ticks moment) older name (λ alive. tick-alive now moment late (runs_until name older) alive) lives)
 
 -- a name that was granted before
-grant-alive : (now name : ℕ) (older : List Command) → name < 1 + granted older → is_alive name now (Grants now ∷ older) ≡ true → is_alive name now older ≡ true
+grant-alive : (now name : ℕ) (older : List Command) → name < 1 + granted older → is_alive name now (grant_at now ∷ older) ≡ true → is_alive name now older ≡ true
 grant-alive now name older low e =
-    ap (λ b. is_some (unless_past now (cond b (Some (now + granted_time)) (runs_until name older)))) (sym (ne_eqb name (granted older + 1) (λ same. omega (arith, low, same)))) ∙ e
+    ap (λ b. is_some (unless_past now (cond b (Some (end_after now granted_seconds)) (runs_until name older)))) (sym (ne_eqb name (granted older + 1) (λ same. omega (arith, low, same)))) ∙ e
 
-grant-few : (first now : ℕ) (older : List Command) → has_room now older (notes_of first older) ≡ true → Living first now (Grants now ∷ older) ≤ subscription_limit
+grant-few : (first now : ℕ) (older : List Command) → has_room now older (notes_of first older) ≡ true → Living first now (grant_at now ∷ older) ≤ subscription_limit
 grant-few first now older room =
     let low = ltb-true (Living first now older) subscription_limit room in
     let next : granted older + 1 ≡ suc (granted older) = omega arith in
-    let p = Lives first now (Grants now ∷ older) in
+    let p = Lives first now (grant_at now ∷ older) in
     let more = one-more p 1 (granted older) in
-    let few = fewer p (Lives first now older) 1 (granted older) (λ name under lives. lived first now now (Grants now) older name (grant-alive now name older under) lives) in
+    let few = fewer p (Lives first now older) 1 (granted older) (λ name under lives. lived first now now (grant_at now) older name (grant-alive now name older under) lives) in
     subst (λ (n : ℕ). length (filter p (range_with_len 1 n)) ≤ subscription_limit) (sym next) (omega (arith, more, few, low))
 
 -- ---- the subscriptions after turns
@@ -142,14 +146,14 @@ given_up-few : (first now : ℕ) (commands : List Command) (o : Option ℕ) → 
 given_up-few first now commands None few = few
 given_up-few first now commands (Some name) few = by (lives name first now commands)
   where
-    by : (b : Bool) → AreFew first now (cond b (Ends name ∷ commands) commands)
-    by true = let fewer = scans-few first now commands (Ends name) refl (λ other alive. ends-alive now other name commands alive) in omega (arith, fewer, few)
+    by : (b : Bool) → AreFew first now (cond b (Ends now name ∷ commands) commands)
+    by true = let fewer = scans-few first now commands (Ends now name) refl (λ other alive. ends-alive now other name commands alive) in omega (arith, fewer, few)
     by false = few
 
 step : (first : ℕ) (older : List Turn) (turn : Turn) → may_stand older turn ≡ true → AreFew first (clock_of older) (played older).commands →
     AreFew first (clock_of (turn ∷ older)) (play first (clock_of older) (records_since older) (played older) turn).commands
 step first older (Folder path) stands few = few
-step first older (Track path content) stands few = few
+step first older (Track path info size) stands few = few
 step first older Scan stands few = scan-few first (clock_of older) (records_since older) (played older).commands few
 step first older Load stands few = few
 step first older Read stands few = few
@@ -164,8 +168,8 @@ step first older Subscribe stands few = by (has_room (clock_of older) (played ol
     p = played older
 
     by : (b : Bool) → has_room (clock_of older) p.commands (notes_of first p.commands) ≡ b → let after : Played = cond b
-        (record { commands = Grants (clock_of older) ∷ p.commands; replica = Requests ∷ p.replica; reply = Some (Some (granted p.commands + 1)) })
-        (record { commands = p.commands; replica = Requests ∷ p.replica; reply = Some None }) in AreFew first (clock_of older) after.commands
+        (record { commands = grant_at (clock_of older) ∷ p.commands; replica = Requests ∷ p.replica; reply = Named (granted p.commands + 1) })
+        (record { commands = p.commands; replica = Requests ∷ p.replica; reply = Refusal }) in AreFew first (clock_of older) after.commands
     by true room = grant-few first (clock_of older) p.commands room
     by false room = few
 step first older Accept stands few = few
@@ -179,7 +183,7 @@ none-few first now = omega arith
 first-few : (turn : Turn) → may_stand [] turn ≡ true → AreFew (number_of turn) (clock_of (turn ∷ [])) (play 0 0 [] (played []) turn).commands
 first-few (First number) stands = none-few number 0
 first-few (Folder path) stands = none-few 0 0
-first-few (Track path content) stands = none-few 0 0
+first-few (Track path info size) stands = none-few 0 0
 first-few Scan stands = step 0 [] Scan stands (none-few 0 0)
 first-few Load stands = none-few 0 0
 first-few Read stands = none-few 0 0

@@ -5,19 +5,19 @@ use Rattle.std.specs.List.{AllByRecursion, list_all, cons_option}
 use Rattle.std.proofs.lemmas.Bool.{and_parts, ltb-true}
 use mathlib.Core.List.{reverse_aux}
 use Rattle.cds_base.specs.Number.{plain_below, has_leading_zero, is_number_in, value_in}
-use Rattle.cds_flac.specs.declared.info.FlacInfo.{FlacInfo}
+use Rattle.cds_object.specs.declared.info.FlacInfo.{FlacInfo}
 use Rattle.cds_object.specs.Path.{path_read}
 use Rattle.cds_object.specs.Content.{same_text}
-use Rattle.cds_model.specs.Script.{words_of, is_word, number_from_to, info_from}
-use Rattle.cds_model.specs.Played.{script_lines}
+use Rattle.cds_script.specs.Lines.{words_of, is_word}
+use Rattle.cds_script.specs.Script.{number_from_to, info_from, folder_turn, track_turn, plain_turn, moment_limit, first_turn, at_turn, deliver_turn, number_turn, folder_line, track_line, plain_line, turn_of, meaning_of_turn, meaning_of_words, meaning_of, IsInRange, MeansInRange, lines_mean_in_range}
+use Rattle.cds_script.specs.Played.{script_lines, turn_in, is_within, is_answered, and_meant, answered_lines, AllStand, script_turns_may_be}
 use Rattle.cds_script.specs.declared.turn.Meaning.{Meaning}
 use Rattle.cds_script.specs.declared.turn.Meaning.TheVariants.{Nothing, Means, Outside}
 use Rattle.cds_script.specs.declared.turn.Turn.{Turn}
 use Rattle.cds_script.specs.declared.turn.Turn.TheVariants.{Folder, Track, Scan, Load, Read, Ask, First, At, Subscribe, Accept, Unsubscribe, Deliver, ReadFault}
-use Rattle.cds_script.specs.Script.{folder_turn, track_turn, plain_turn, moment_limit, first_turn, at_turn, deliver_turn, number_turn, folder_line, track_line, plain_line, turn_of, meaning_of_turn, meaning_of_words, meaning_of, IsInRange, MeansInRange, lines_mean_in_range}
 use Rattle.cds_script.specs.Report.{number_of, first_of, may_stand}
-use Rattle.cds_script.specs.Played.{turn_in, is_within, is_answered, and_meant, answered_lines, AllStand, script_turns_may_be}
 use Rattle.cds_script.proofs.Played.{turns_in}
+use Rattle.cds_object.specs.ContentOf.{bare_info}
 
 -- ---- a first number that a line names is below its limit
 
@@ -37,7 +37,7 @@ Fine (Some turn) = IsInRange turn
 
 low-number : (turn : Turn) → IsInRange turn → number_of turn ≤ 4294967295
 low-number (Folder path) f = omega arith
-low-number (Track path content) f = omega arith
+low-number (Track path info size) f = omega arith
 low-number Scan f = omega arith
 low-number Load f = omega arith
 low-number Read f = omega arith
@@ -70,11 +70,20 @@ folder-fine : (r : Result (List (List ℕ)) ℕ) → Fine (folder_turn r)
 folder-fine (Ok path) = tt
 folder-fine (Err at) = tt
 
-track-fine : (r : Result (List (List ℕ)) ℕ) (size : Option ℕ) (info : Option FlacInfo) → Fine (track_turn r size info)
-track-fine (Ok path) (Some size) (Some info) = tt
-track-fine (Ok path) (Some size) None = tt
-track-fine (Ok path) None info = tt
-track-fine (Err at) size info = tt
+-- what a file says has as many samples as its word
+info-few : (r c b s : Option ℕ) → ((n : ℕ) → s ≡ Some n → n < 2 ^ 36) → (info : FlacInfo) → info_from r c b s ≡ Some info → info.samples < 2 ^ 36
+info-few (Some rate) (Some channels) (Some bits) (Some samples) few info e =
+    let same : bare_info rate channels bits samples ≡ info = cc in subst (λ (i : FlacInfo). i.samples < 2 ^ 36) same (few samples refl)
+info-few None c b s few info e = absurd (cc)
+info-few (Some rate) None b s few info e = absurd (cc)
+info-few (Some rate) (Some channels) None s few info e = absurd (cc)
+info-few (Some rate) (Some channels) (Some bits) None few info e = absurd (cc)
+
+track-fine : (r : Result (List (List ℕ)) ℕ) (size : Option ℕ) (o : Option FlacInfo) → ((info : FlacInfo) → o ≡ Some info → info.samples < 2 ^ 36) → Fine (track_turn r size o)
+track-fine (Ok path) (Some size) (Some info) few = few info refl
+track-fine (Ok path) (Some size) None few = tt
+track-fine (Ok path) None info few = tt
+track-fine (Err at) size info few = tt
 
 folder_line-fine : (words : List (List ℕ)) → Fine (folder_line words)
 folder_line-fine [] = tt
@@ -90,6 +99,7 @@ track_line-fine (a ∷ b ∷ c ∷ d ∷ []) = tt
 track_line-fine (a ∷ b ∷ c ∷ d ∷ f ∷ []) = tt
 track_line-fine (a ∷ b ∷ c ∷ d ∷ f ∷ g ∷ []) = track-fine (path_read a) (plain_below (2 ^ 64) b)
     (info_from (plain_below (2 ^ 20) c) (number_from_to 1 8 d) (number_from_to 1 32 f) (plain_below (2 ^ 36) g))
+    (info-few (plain_below (2 ^ 20) c) (number_from_to 1 8 d) (number_from_to 1 32 f) (plain_below (2 ^ 36) g) (below-limit (2 ^ 36) g))
 track_line-fine (a ∷ b ∷ c ∷ d ∷ f ∷ g ∷ h ∷ words) = tt
 
 number-fine : (word number : List ℕ) → Fine (number_turn word number)

@@ -3,15 +3,13 @@ use Rattle.std.proofs.Common.{◌≡◌, ℕ, suc, ◌+◌, List, [], ◌∷◌,
 use Rattle.std.specs.Prelude.{nat_le}
 use Rattle.std.specs.List.{filter_map, cons_option}
 use mathlib.Core.List.{reverse_aux}
-use Rattle.cds_model.specs.Report.{Ending, written_first, outside_ending, limit_ending}
-use Rattle.cds_model.specs.Script.{lines_of, ended_lines, script_limit}
-use Rattle.cds_model.specs.Played.{is_long}
+use Rattle.cds_script.specs.Report.{Ending, written_first, outside_ending, limit_ending, may_stand, written_by, ending_at, ending_from, script_ending}
+use Rattle.cds_script.specs.Lines.{lines_of, ended_lines, script_limit}
+use Rattle.cds_script.specs.Played.{is_long, turn_in, is_within, is_answered, and_meant, answered_lines, report_of, stop_at, reports_are_of_turns}
 use Rattle.cds_script.specs.declared.turn.Meaning.{Meaning}
 use Rattle.cds_script.specs.declared.turn.Meaning.TheVariants.{Nothing, Means, Outside}
 use Rattle.cds_script.specs.declared.turn.Turn.{Turn}
 use Rattle.cds_script.specs.Script.{meaning_of}
-use Rattle.cds_script.specs.Report.{may_stand, written_by, ending_at, ending_from, script_ending}
-use Rattle.cds_script.specs.Played.{turn_in, is_within, is_answered, and_meant, answered_lines, report_of, stop_at, reports_are_of_turns}
 
 -- the turns of lines, the oldest first
 abbrev pub turns_in : List (List ℕ) → List Turn

@@ -10,25 +10,28 @@ use Rattle.cds_catalog.specs.History.{History, end_of}
 use Rattle.cds_catalog.specs.Catalog.{catalog, catalog_at}
 use Rattle.cds_catalog.specs.Laws.{AreLibraries}
 use Rattle.cds_catalog.proofs.Numbers.{catalog_at_end}
-use Rattle.cds_model.specs.Server.{reply_to}
-use Rattle.cds_model.specs.Stood.{IsScanEnd}
-use Rattle.cds_model.specs.declared.exchange.Ask.{Ask as Asked}
-use Rattle.cds_notes.specs.Commands.{Command, Note, scans_of, granted, notes_of, alive_names, released_to, releases_of}
-use Rattle.cds_notes.specs.Inbox.{ReplicaTurn, Accepts, Delivers, is_out, accepted, received, has_seq, taken_by}
-use Rattle.cds_notes.specs.Follow.{Known, Knows, known_by, next_ask, with_reply, with_notes, says, copied}
-use Rattle.cds_notes.specs.Given.{oldest, moment_after, Asks, Granted, Gets, asked_at, given_by, latest_length}
-use Rattle.cds_notes.specs.HonestLaws.{load_was_begun}
-use Rattle.cds_notes.specs.declared.says.Says.{Says}
-use Rattle.cds_notes.specs.declared.says.Says.TheVariants.{Gap, BehindLoad, BehindRead, BehindVersion, Stands}
-use Rattle.cds_notes.proofs.Served.{scans-first, dropped-grows}
-use Rattle.cds_notes.proofs.Honest.{stood, entries-served, entry-taken}
-use Rattle.cds_notes.proofs.Complete.{answers-complete}
+use Rattle.cds_load.specs.Server.{reply_to}
+use Rattle.cds_script.specs.ScriptGiven.{IsScanEnd, nothing_is_refused, all_turns_stand_at_scan_ends, answers_are_complete}
+use Rattle.cds_load.specs.declared.exchange.Ask.{Ask as Asked}
+use Rattle.cds_commands.specs.Commands.{Command, scans_of, oldest}
+use Rattle.cds_commands.specs.Notes.{Note, notes_of, alive_names}
+use Rattle.cds_commands.specs.Subscriptions.{granted}
+use Rattle.cds_commands.specs.Releases.{released_to, releases_of}
+use Rattle.cds_follow.specs.Inbox.{ReplicaTurn, Accepts, Delivers, is_out, accepted, received, has_seq, taken_by}
+use Rattle.cds_follow.specs.Follow.{Known, Knows, known_by, next_ask, with_reply, with_notes, says, copied}
+use Rattle.cds_follow.specs.Given.{moment_after, Asks, Granted, Gets, asked_at, given_by, latest_length}
+use Rattle.cds_follow.specs.HonestLaws.{load_was_begun}
+use Rattle.cds_follow.specs.declared.says.Says.{Says}
+use Rattle.cds_follow.specs.declared.says.Says.TheVariants.{Gap, BehindLoad, BehindRead, BehindVersion, Stands}
+use Rattle.cds_commands.proofs.Scanned.{scans-first, dropped-grows}
+use Rattle.cds_follow.proofs.Honest.{stood, entries-served, entry-taken}
+use Rattle.cds_follow.proofs.Complete.{answers-complete}
 use Rattle.cds_script.specs.declared.turn.Turn.{Turn}
 use Rattle.cds_script.specs.declared.turn.Turn.TheVariants.{Ask}
-use Rattle.cds_script.specs.Report.{first_of, clock_of, sent_note, lives, Played, played, history_of, answer_text, written_by}
+use Rattle.cds_script.specs.Report.{first_of, clock_of, sent_note, lives, Played, played, history_of, answer_text, written_by, script_token}
 use Rattle.cds_script.specs.Played.{AllStand, MayBe}
-use Rattle.cds_script.specs.ScriptGiven.{nothing_is_refused, all_turns_stand_at_scan_ends, answers_are_complete}
 use Rattle.cds_script.proofs.Given.{Waits, Kept, oldest-all, sent-contained, turns-kept}
+use Rattle.cds_script.specs.declared.reply.HeldReply.TheVariants.{Named}
 
 -- ---- older turns may be
 
@@ -64,24 +67,24 @@ module _ (first : ℕ) (p : Played) (kept : Kept first p) where
   n = length p.commands
 
   pub read-taken : (ask : Asked) → next_ask (known_by r) ≡ Some ask →
-      (now : Known) × (with_reply (known_by r) (known_by r).held (reply_to (moment_after first p.commands) ask) ≡ Knows now)
+      (now : Known) × (with_reply (known_by r) (known_by r).held (reply_to (moment_after script_token first p.commands) ask) ≡ Knows now)
   read-taken ask asks =
-      let t = entry-taken first p.commands kept.accepted (Asks n) kept.entries (kept.within, tt, kept.given) ask
+      let t = entry-taken script_token first p.commands kept.accepted (Asks n) kept.entries (kept.within, tt, kept.given) ask
       (ap (λ turns. next_ask (known_by turns)) (sym kept.are) ∙ asks) in
-      (t.0, (λ i. with_reply (known_by (kept.are i)) (known_by (kept.are i)).held (reply_to (moment_after first (sym (oldest-all p.commands) i)) ask)) ∙ t.1)
+      (t.0, (λ i. with_reply (known_by (kept.are i)) (known_by (kept.are i)).held (reply_to (moment_after script_token first (sym (oldest-all p.commands) i)) ask)) ∙ t.1)
 
   pub note-taken : (number : ℕ) (note : Note) → sent_note number (notes_of first p.commands) ≡ Some note →
       (now : Known) × (with_notes (taken_by (Delivers note) r) (known_by r) ≡ Knows now)
   note-taken number note sent =
       let here = subst (λ (cs : List Command). Contains (notes_of first cs) note) (sym (oldest-all p.commands)) (sent-contained number (notes_of first p.commands) note sent) in
-      let t = entry-taken first p.commands kept.accepted (Gets n note) kept.entries (kept.within, here, kept.given) in
+      let t = entry-taken script_token first p.commands kept.accepted (Gets n note) kept.entries (kept.within, here, kept.given) in
       (t.0, (λ i. with_notes (taken_by (Delivers note) (kept.are i)) (known_by (kept.are i))) ∙ t.1)
 
-pub name-taken : (first : ℕ) (p : Played) (kept : Kept first p) (name : ℕ) → p.reply ≡ Some (Some name) →
+pub name-taken : (first : ℕ) (p : Played) (kept : Kept first p) (name : ℕ) → p.reply ≡ Named name →
     (now : Known) × (with_notes (taken_by (Accepts name) p.replica) (known_by p.replica) ≡ Knows now)
 name-taken first p kept name held =
-    let waits : Waits p.commands kept.entries p.replica (Some (Some name)) = subst (Waits p.commands kept.entries p.replica) held kept.waits in
-    let t = entry-taken first p.commands kept.accepted (Granted (length p.commands) name) kept.entries (
+    let waits : Waits p.commands kept.entries p.replica (Named name) = subst (Waits p.commands kept.entries p.replica) held kept.waits in
+    let t = entry-taken script_token first p.commands kept.accepted (Granted (length p.commands) name) kept.entries (
       kept.within,
       (ap is_out (sym kept.are) ∙ waits.0, waits.1, subst (λ (cs : List Command). name ≤ granted cs) (sym (oldest-all p.commands)) waits.2),
       kept.given,
@@ -108,8 +111,8 @@ end-catalog history number rows all s =
 scan-end : (first : ℕ) (p : Played) → Kept first p → (number : ℕ) → says p.replica ≡ Stands number →
     IsScanEnd (scans_of first p.commands) number (copied (known_by p.replica))
 scan-end first p kept number stands =
-    let s = stood first p.commands kept.accepted (latest_length kept.entries) number (given_by first p.commands kept.entries)
-    (entries-served first p.commands kept.accepted kept.entries kept.given) (ap says (sym kept.are) ∙ stands) in
+    let s = stood script_token first p.commands kept.accepted (latest_length kept.entries) number (given_by script_token first p.commands kept.entries)
+    (entries-served script_token first p.commands kept.accepted kept.entries kept.given) (ap says (sym kept.are) ∙ stands) in
     let grows = dropped-grows first (length p.commands - s.0) p.commands in
     let at-first : (scans_of first p.commands).first ≡ first = ap (λ (h : History). h.first) (scans-first first p.commands) in
     let older : scans_of first (oldest s.0 p.commands) ≡ record { first = (scans_of first p.commands).first; maps = (scans_of first (oldest s.0 p.commands)).maps } =
@@ -172,14 +175,14 @@ stands-complete : (first now name : ℕ) (p : Played) → Kept first p → load_
     says p.replica ≡ Stands (end_of (scans_of first p.commands))
 stands-complete first now name p kept begun named alive all released nothing =
     ap says are
-    ∙ answers-complete first p.commands (Asks (length p.commands)) kept.entries name now kept.accepted (kept.within, tt, kept.given)
+    ∙ answers-complete script_token first p.commands (Asks (length p.commands)) kept.entries name now kept.accepted (kept.within, tt, kept.given)
     (ap load_was_begun (sym are) ∙ begun) (ap accepted (sym are) ∙ named) (any-contained name (alive_names now p.commands (notes_of first p.commands)) alive)
     (subst (λ (turns : List ReplicaTurn). AllByRecursion (λ (note : Note). note.name ≡ name → has_seq (received turns) note.seq ≡ true) (notes_of first p.commands)) are all)
     released (ap (λ turns. next_ask (known_by turns)) (sym are) ∙ nothing)
   where
-    are : p.replica ≡ given_by first p.commands (Asks (length p.commands) ∷ kept.entries)
+    are : p.replica ≡ given_by script_token first p.commands (Asks (length p.commands) ∷ kept.entries)
     are = kept.are
-        ∙ ap (asked_at (moment_after first (oldest (length p.commands) p.commands)) (given_by first p.commands kept.entries))
+        ∙ ap (asked_at (moment_after script_token first (oldest (length p.commands) p.commands)) (given_by script_token first p.commands kept.entries))
         (sym (ap (λ turns. next_ask (known_by turns)) (sym kept.are) ∙ nothing))
 
 pub answers-are_complete : answers_are_complete

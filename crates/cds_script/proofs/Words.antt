@@ -1,10 +1,38 @@
--- The words of a line of `track`, each at its place.
-use Rattle.std.proofs.Common.{◌≡◌, ℕ, ◌^◌, List, [], ◌∷◌, length, refl, arith, Option, Some, None, Result, Ok, Err, slice_index_or}
+-- The words of a line: they are text, and each stands at its place.
+use Rattle.std.proofs.Common.{◌≡◌, ℕ, ◌^◌, List, [], ◌∷◌, length, refl, arith, Option, Some, None, Result, Ok, Err, slice_index_or, zero, suc, ◌≤◌, map, Bool, true, not, ◌&&◌, ap, lit<}
 use Rattle.cds_base.specs.Number.{plain_below}
-use Rattle.cds_flac.specs.declared.info.FlacInfo.{FlacInfo}
+use Rattle.cds_object.specs.declared.info.FlacInfo.{FlacInfo}
 use Rattle.cds_object.specs.Path.{path_read}
-use Rattle.cds_model.specs.Script.{info_from, number_from_to}
-use Rattle.cds_script.specs.Script.{track_turn, track_line}
+use Rattle.cds_script.specs.Script.{number_from_to, info_from, track_turn, track_line}
+use Rattle.std.specs.Prelude.{nat_le, nat_eq}
+use Rattle.std.specs.Result.{result_ok}
+use Rattle.std.specs.Str.{IsAscii, IsUtf8}
+use Rattle.std.proofs.lemmas.Bool.{and_parts, leb-true}
+use Rattle.std.proofs.lemmas.Str.{IsUtf8-from_ascii}
+use Rattle.std.specs.List.{list_all}
+use Rattle.cds_script.specs.Lines.{is_word}
+
+pub list_all-map : {X Y : Type 0} (p : Y → Bool) (f : X → Y) (xs : List X) → list_all p (map f xs) ≡ list_all (λ x. p (f x)) xs
+list_all-map p f [] = refl
+list_all-map p f (x ∷ xs) = ap (λ b. p (f x) && b) (list_all-map p f xs)
+
+pub map-length : {X Y : Type 0} (f : X → Y) (xs : List X) → length (map f xs) ≡ length xs
+map-length f [] = refl
+map-length f (x ∷ xs) = ap suc (map-length f xs)
+
+visible-ascii : (bs : List ℕ) → list_all (λ b. nat_le 33 b && nat_le b 126 && not (nat_eq b 37)) bs ≡ true → IsAscii bs
+visible-ascii [] all i = lit< tt
+visible-ascii (b ∷ bs) all zero =
+    let h : b ≤ 126 = leb-true b 126 (and_parts _ _ (and_parts _ _ (and_parts _ _ all).0).0).1 in omega (arith, h)
+visible-ascii (b ∷ bs) all (suc i) = visible-ascii bs (and_parts _ _ all).1 i
+
+-- a word is text
+pub word-is_text : (word : List ℕ) → is_word word ≡ true → IsUtf8 word
+word-is_text word is = IsUtf8-from_ascii word (visible-ascii word (and_parts _ _ is).1)
+
+pub ok-there : {A E : Type 0} (r : Result A E) (a : A) → result_ok r ≡ Some a → r ≡ Ok a
+ok-there (Ok b) a e = let same : b ≡ a = cc in ap Ok same
+ok-there (Err x) a e = absurd (cc)
 
 -- a line of `track` with six more words
 pub track-words : (words : List (List ℕ)) → length words ≡ 6 →

@@ -6,24 +6,21 @@ use Rattle.std.specs.Fmt.{decimal}
 use Rattle.cds_object.specs.Fragment.{full_text}
 use Rattle.cds_catalog.specs.History.{end_of}
 use Rattle.cds_catalog.specs.Catalog.{catalog}
-use Rattle.cds_notes.specs.Commands.{Note, notes_of, released_to, releases_of}
-use Rattle.cds_notes.specs.Inbox.{Arrival, IsUnknown, IsRepeat, IsTooMany, IsEarly, IsHeld, IsNext, accepted, received, has_seq, arrival}
-use Rattle.cds_notes.specs.Follow.{known_by, next_ask}
-use Rattle.cds_notes.specs.HonestLaws.{load_was_begun}
+use Rattle.cds_commands.specs.Notes.{Note, notes_of}
+use Rattle.cds_commands.specs.Releases.{released_to, releases_of}
+use Rattle.cds_follow.specs.Inbox.{Arrival, IsTooMany, accepted, received, has_seq, arrival}
+use Rattle.cds_follow.specs.Follow.{known_by, next_ask}
+use Rattle.cds_follow.specs.HonestLaws.{load_was_begun}
 use Rattle.cds_script.specs.declared.turn.Turn.{Turn}
-use Rattle.cds_script.specs.declared.turn.Turn.TheVariants.{Folder, Track, Scan, Load, Read, Ask, First, At, Subscribe, Accept, Unsubscribe, Deliver, ReadFault}
+use Rattle.cds_script.specs.declared.turn.Turn.TheVariants.{Load, Read, Ask, Accept, Deliver}
 use Rattle.cds_script.specs.Report.{first_of, clock_of, sent_note, lives, played, history_of, written_by}
 use Rattle.cds_script.specs.Played.{script_turns, MayBe}
 use Rattle.cds_script.specs.Evaluated.{times}
 
 -- whether a delivery is answered `full`
 abbrev pub is_full : Arrival → Bool
-is_full IsUnknown = false
-is_full IsRepeat = false
 is_full (IsTooMany held) = true
-is_full IsEarly = false
-is_full (IsHeld seq) = false
-is_full IsNext = false
+is_full arrival = false
 
 -- each note that was sent to a name was delivered, at least once so that the answer was not `full`
 abbrev pub WereDelivered : List Turn → ℕ → Type 0
@@ -39,19 +36,10 @@ delivered_notes_are_received = (turns : List Turn) (name : ℕ) → MayBe turns 
 
 -- whether a turn leaves what is to be read, where nothing is: it begins no load, and takes no note
 abbrev pub is_quiet : Turn → Bool
-is_quiet (Folder path) = true
-is_quiet (Track path content) = true
-is_quiet Scan = true
 is_quiet Load = false
-is_quiet Read = true
-is_quiet Ask = true
-is_quiet (First number) = true
-is_quiet (At moment) = true
-is_quiet Subscribe = true
 is_quiet Accept = false
-is_quiet Unsubscribe = true
 is_quiet (Deliver note) = false
-is_quiet ReadFault = true
+is_quiet turn = true
 
 -- after a read that wrote `read none` nothing is to be read until a load is begun, a reply accepted or a note delivered
 abbrev pub nothing_is_to_be_read : Type 0

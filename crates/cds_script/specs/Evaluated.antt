@@ -1,12 +1,27 @@
 -- Scripts whose reports are evaluated from the definitions, from bytes to status and text: those that need no subscription,
 -- and those that end at a line.
 use Rattle.std.specs.Prelude.{◌≡◌, ℕ, zero, suc, List, [], ◌++◌, codes}
-use Rattle.cds_model.specs.Evaluated.{root_line, small_item}
 use Rattle.cds_script.specs.Report.{script_ending}
 
 -- what a script leaves
 abbrev pub Leaves : List ℕ → ℕ → List ℕ → Type 0
 Leaves script status text = script_ending script ≡ record { status = status; text = text }
+
+-- the root's row in a library that began at 0, with its children, its containerUpdateID and its deleted children
+abbrev pub root_line : List ℕ → List ℕ → List ℕ → List ℕ
+root_line children update deleted =
+    codes "<container id=\"0\" parentID=\"-1\" restricted=\"1\" searchable=\"1\" childCount=\"" ++ children
+    ++ codes "\"><dc:title>root</dc:title><upnp:class>object.container</upnp:class><upnp:objectUpdateID>0</upnp:objectUpdateID><upnp:containerUpdateID>"
+    ++ update ++ codes "</upnp:containerUpdateID><upnp:totalDeletedChildCount>" ++ deleted
+    ++ codes "</upnp:totalDeletedChildCount></container>\n"
+
+-- a track under the root, of which neither the duration nor the rate is known
+abbrev pub small_item : List ℕ → List ℕ → List ℕ → List ℕ → List ℕ → List ℕ → List ℕ
+small_item id title update size bits channels =
+    codes "<item id=\"" ++ id ++ codes "\" parentID=\"0\" restricted=\"1\"><dc:title>" ++ title
+    ++ codes "</dc:title><upnp:class>object.item.audioItem.musicTrack</upnp:class><upnp:objectUpdateID>" ++ update
+    ++ codes "</upnp:objectUpdateID><res protocolInfo=\"http-get:*:audio/flac:*\" size=\"" ++ size
+    ++ codes "\" bitsPerSample=\"" ++ bits ++ codes "\" nrAudioChannels=\"" ++ channels ++ codes "\">/media/" ++ id ++ codes "</res></item>\n"
 
 -- a line, or a byte, so many times
 abbrev pub times : ℕ → List ℕ → List ℕ

@@ -1,7 +1,9 @@
 pub mod Complete
 pub mod Evaluated
+pub mod EvaluatedNotes
+pub mod LineLaws
+pub mod Lines
 pub mod LoadBounds
-pub mod Noted
 pub mod Played
 pub mod Report
 pub mod Script

@@ -5,26 +5,34 @@ use Rattle.cds_object.specs.declared.record.Record.{Record}
 use Rattle.cds_catalog.specs.History.{end_of}
 use Rattle.cds_catalog.specs.Catalog.{catalog}
 use Rattle.cds_catalog.specs.Scans.{scan_answer}
-use Rattle.cds_model.specs.Loads.{load_reads, answered}
-use Rattle.cds_notes.specs.Commands.{Note, scans_of, notes_of}
-use Rattle.cds_notes.specs.Inbox.{ReplicaTurn, Accepts, Delivers, taken_by}
-use Rattle.cds_notes.specs.Follow.{position, is_drop, is_refused, known_by, next_ask, says}
-use Rattle.cds_notes.specs.HonestLaws.{load_was_begun}
-use Rattle.cds_notes.specs.declared.says.Says.TheVariants.{BehindLoad}
+use Rattle.cds_load.specs.declared.exchange.Ask.{Ask as Asked}
+use Rattle.cds_load.specs.Loads.{load_reads}
+use Rattle.cds_commands.specs.Notes.{Note, notes_of}
+use Rattle.cds_commands.specs.Commands.{scans_of}
+use Rattle.cds_follow.specs.Inbox.{ReplicaTurn, Accepts, Delivers, taken_by}
+use Rattle.cds_follow.specs.Follow.{position, is_drop, is_refused, known_by, next_ask, says}
+use Rattle.cds_follow.specs.HonestLaws.{load_was_begun}
+use Rattle.cds_follow.specs.declared.says.Says.TheVariants.{BehindLoad}
+use Rattle.cds_script.specs.declared.reply.HeldReply.{HeldReply}
+use Rattle.cds_script.specs.declared.reply.HeldReply.TheVariants.{Named}
 use Rattle.cds_script.specs.declared.turn.Turn.{Turn}
-use Rattle.cds_script.specs.declared.turn.Turn.TheVariants.{Folder, Track, Scan, Load, Read, Ask, First, At, Subscribe, Accept, Unsubscribe, Deliver, ReadFault}
+use Rattle.cds_script.specs.declared.turn.Turn.TheVariants.{Scan, Load, Read, Ask, Accept, Deliver}
 use Rattle.cds_script.specs.Report.{first_of, records_since, Played, scanned, sent_note, played, history_of, written_by}
 use Rattle.cds_script.specs.Played.{MayBe}
+
+-- one more read was answered, where something was asked
+abbrev pub answered : Option Asked → ℕ → ℕ
+answered None n = n
+answered (Some ask) n = n + 1
 
 -- whether a turn of the replica lets it take a first note above its position, so that a load begins
 abbrev pub drops : ReplicaTurn → List ReplicaTurn → Bool
 drops turn older = not (is_refused turn older) && is_drop (position (known_by older)) (taken_by turn older)
 
 -- whether the reply that is held back does, and whether a note does
-abbrev pub reply_drops : Option (Option ℕ) → List ReplicaTurn → Bool
-reply_drops None older = false
-reply_drops (Some None) older = false
-reply_drops (Some (Some name)) older = drops (Accepts name) older
+abbrev pub reply_drops : HeldReply → List ReplicaTurn → Bool
+reply_drops (Named name) older = drops (Accepts name) older
+reply_drops reply older = false
 
 abbrev pub note_drops : Option Note → List ReplicaTurn → Bool
 note_drops None older = false
@@ -33,20 +41,13 @@ note_drops (Some note) older = drops (Delivers note) older
 -- how many reads were answered, after a turn: from a load's beginning and a scan with changes on they are counted anew, not from
 -- a scan whose end is the number before it
 abbrev pub answered_after : ℕ → List Record → Played → ℕ → Turn → ℕ
-answered_after first records p n (Folder path) = n
-answered_after first records p n (Track path content) = n
 answered_after first records p n Scan =
     cond (nat_eq (end_of (scans_of first (scanned (scan_answer (scans_of first p.commands) records) records p.commands))) (end_of (scans_of first p.commands))) n 0
 answered_after first records p n Load = 0
 answered_after first records p n Read = answered (next_ask (known_by p.replica)) n
-answered_after first records p n Ask = n
-answered_after first records p n (First number) = n
-answered_after first records p n (At moment) = n
-answered_after first records p n Subscribe = n
 answered_after first records p n Accept = cond (reply_drops p.reply p.replica) 0 n
-answered_after first records p n Unsubscribe = n
 answered_after first records p n (Deliver note) = cond (note_drops (sent_note note (notes_of first p.commands)) p.replica) 0 n
-answered_after first records p n ReadFault = n
+answered_after first records p n turn = n
 
 abbrev pub answered_since : List Turn → ℕ
 answered_since [] = 0

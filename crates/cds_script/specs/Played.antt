@@ -1,16 +1,20 @@
--- The turns of a script and the report of turns. The report of a script is that of its turns and its last line; of a script
--- without notes it is the one that the grammar and the definitions of such scripts give.
-use Rattle.std.specs.Prelude.{◌≡◌, ◌≤◌, ◌+◌, ℕ, Bool, true, false, cond, not, nat_le, ◌&&◌, List, [], ◌∷◌, ◌++◌, length, take, drop, reverse, Option, Some, None}
-use Rattle.std.specs.List.{filter_map, list_all}
-use Rattle.cds_model.specs.Report.{Ending, written_first, outside_ending, limit_ending, script_ending as ending_without_notes}
-use Rattle.cds_model.specs.Played.{script_lines, is_long}
-use Rattle.cds_model.specs.Script.{script_limit}
+-- The turns of a script and the report of turns. The report of a script is that of its turns and its last line.
+use Rattle.std.specs.Prelude.{◌≡◌, ◌≤◌, ◌+◌, ℕ, Bool, true, false, cond, not, nat_lt, nat_le, ◌&&◌, List, [], ◌∷◌, ◌++◌, length, take, drop, reverse, Option, Some, None}
+use Rattle.std.specs.List.{filter_map}
+use Rattle.cds_script.specs.Lines.{lines_of, ended_lines, script_limit, line_limit}
 use Rattle.cds_script.specs.Script.{meaning_of}
-use Rattle.cds_script.specs.Report.{first_of, may_stand, written_by, script_ending}
+use Rattle.cds_script.specs.Report.{Ending, written_first, outside_ending, limit_ending, first_of, may_stand, written_by, script_ending}
 use Rattle.cds_script.specs.declared.turn.Meaning.{Meaning}
 use Rattle.cds_script.specs.declared.turn.Meaning.TheVariants.{Nothing, Means, Outside}
 use Rattle.cds_script.specs.declared.turn.Turn.{Turn}
-use Rattle.cds_script.specs.declared.turn.Turn.TheVariants.{Folder, Track, Scan, Load, Read, Ask, First, At, Subscribe, Accept, Unsubscribe, Deliver, ReadFault}
+
+-- the lines of a script that is within its limit; of a longer one those that ended before the limit was passed
+abbrev pub script_lines : List ℕ → List (List ℕ)
+script_lines bytes = cond (nat_le (length bytes) script_limit) (lines_of bytes) (ended_lines (take script_limit bytes))
+
+-- whether a line is too long
+abbrev pub is_long : List ℕ → Bool
+is_long line = nat_lt line_limit (length line)
 
 -- the turn that a line means, if it means one
 abbrev pub turn_in : Meaning → Option Turn
@@ -85,29 +89,3 @@ pub record MayBe (turns : List Turn) : Type 0 where
 -- the turns of a script are such turns
 abbrev pub script_turns_may_be : Type 0
 script_turns_may_be = (bytes : List ℕ) → MayBe (script_turns bytes)
-
--- whether a turn is one of a script without notes, and whether a line is
-abbrev pub is_plain_turn : Turn → Bool
-is_plain_turn (Folder path) = true
-is_plain_turn (Track path content) = true
-is_plain_turn Scan = true
-is_plain_turn Load = true
-is_plain_turn Read = true
-is_plain_turn Ask = true
-is_plain_turn (First number) = false
-is_plain_turn (At moment) = false
-is_plain_turn Subscribe = false
-is_plain_turn Accept = false
-is_plain_turn Unsubscribe = false
-is_plain_turn (Deliver note) = false
-is_plain_turn ReadFault = false
-
-abbrev pub is_plain : Meaning → Bool
-is_plain Nothing = true
-is_plain (Means turn) = is_plain_turn turn
-is_plain Outside = true
-
--- a script all of whose lines are such has the report, and the status, that it has as a script without notes
-abbrev pub scripts_without_notes_have_one_report : Type 0
-scripts_without_notes_have_one_report = (bytes : List ℕ) → list_all (λ line. is_plain (meaning_of line)) (script_lines bytes) ≡ true →
-    script_ending bytes ≡ ending_without_notes bytes

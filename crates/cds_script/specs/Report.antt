@@ -3,58 +3,57 @@
 use Rattle.std.specs.Prelude.{◌+◌, ◌-◌, ℕ, Bool, true, false, cond, nat_eq, nat_lt, nat_le, ◌&&◌, List, [], ◌∷◌, ◌++◌, length, take, Option, Some, None, slice_get, codes}
 use Rattle.std.specs.List.{list_any}
 use Rattle.std.specs.Fmt.{decimal}
+use Rattle.cds_object.specs.declared.info.FlacInfo.{FlacInfo}
+use Rattle.cds_object.specs.Path.{name_of}
+use Rattle.cds_object.specs.ContentOf.{track_of}
 use Rattle.cds_object.specs.Fragment.{full_text}
+use Rattle.cds_object.specs.declared.content.Content.TheVariants.{Folder as AsFolder}
 use Rattle.cds_object.specs.declared.record.Record.{Record}
 use Rattle.cds_catalog.specs.Library.{map_of}
 use Rattle.cds_catalog.specs.History.{History, end_of}
 use Rattle.cds_catalog.specs.Catalog.{catalog_at}
 use Rattle.cds_catalog.specs.Scans.{ScanAnswer, Accepted, BadRecord, TooMany, NoNumbers, scan_answer}
-use Rattle.cds_model.specs.Report.{folder_record, scan_text, read_text, Ending, written_first, outside_ending, limit_ending}
-use Rattle.cds_model.specs.Script.{lines_of, ended_lines, script_limit, line_limit}
-use Rattle.cds_notes.specs.Commands.{Command, Scans, Grants, Ends, Ticks, Note, scans_of, granted, alive_names, has_room, notes_of, sent_by}
-use Rattle.cds_notes.specs.Inbox.{ReplicaTurn, Begins, Requests, Accepts, Refuses, Delivers, Arrival, IsUnknown, IsRepeat, IsTooMany, IsEarly, IsHeld, IsNext, accepted, arrival}
-use Rattle.cds_notes.specs.Follow.{known_by, next_ask, says, and_turn}
-use Rattle.cds_notes.specs.Given.{moment_after, asked_at}
-use Rattle.cds_notes.specs.declared.says.Says.{Says}
-use Rattle.cds_notes.specs.declared.says.Says.TheVariants.{Gap, BehindLoad, BehindRead, BehindVersion, Stands}
-use Rattle.cds_script.specs.Script.{meaning_of}
+use Rattle.cds_script.specs.Lines.{lines_of, ended_lines, script_limit, line_limit}
+use Rattle.cds_load.specs.Server.{Moment, reply_to}
+use Rattle.cds_load.specs.declared.exchange.Ask.{Ask as Asked}
+use Rattle.cds_load.specs.declared.exchange.Shown.{Shown}
+use Rattle.cds_load.specs.declared.exchange.Shown.TheVariants.{Text, Number, Page, Fault}
+use Rattle.cds_commands.specs.Commands.{Command, Scans, Ends, Ticks, scans_of}
+use Rattle.cds_commands.specs.Notes.{Note, alive_names, has_room, notes_of, sent_by}
+use Rattle.cds_commands.specs.Subscriptions.{granted}
+use Rattle.cds_follow.specs.Inbox.{ReplicaTurn, Begins, Requests, Accepts, Refuses, Delivers, Arrival, IsUnknown, IsRepeat, IsTooMany, IsEarly, IsHeld, IsNext, accepted, arrival}
+use Rattle.cds_follow.specs.Follow.{known_by, next_ask, says, and_turn}
+use Rattle.cds_follow.specs.Given.{moment_after, asked_at}
+use Rattle.cds_follow.specs.declared.says.Says.{Says}
+use Rattle.cds_follow.specs.declared.says.Says.TheVariants.{Gap, BehindLoad, BehindRead, BehindVersion, Stands}
+use Rattle.cds_script.specs.Script.{grant_at, meaning_of}
+use Rattle.cds_script.specs.declared.reply.HeldReply.{HeldReply}
+use Rattle.cds_script.specs.declared.reply.HeldReply.TheVariants.{NoReply, Named, Refusal}
 use Rattle.cds_script.specs.declared.turn.Meaning.{Meaning}
 use Rattle.cds_script.specs.declared.turn.Meaning.TheVariants.{Nothing, Means, Outside}
 use Rattle.cds_script.specs.declared.turn.Turn.{Turn}
 use Rattle.cds_script.specs.declared.turn.Turn.TheVariants.{Folder, Track, Scan, Load, Read, Ask, First, At, Subscribe, Accept, Unsubscribe, Deliver, ReadFault}
 
+-- the record of a folder: its title is its name
+abbrev pub folder_record : List (List ℕ) → Record
+folder_record path = record { path = path; content = AsFolder (name_of path) }
+
+-- the record of a track: what its file says
+abbrev pub track_record : List (List ℕ) → FlacInfo → ℕ → Record
+track_record path info size = record { path = path; content = track_of info (name_of path) size }
+
 -- the records since the last scan, after turns of which the newest is the first
 abbrev pub records_since : List Turn → List Record
 records_since [] = []
 records_since (Folder path ∷ older) = records_since older ++ folder_record path ∷ []
-records_since (Track path content ∷ older) = records_since older ++ (record { path = path; content = content }) ∷ []
+records_since (Track path info size ∷ older) = records_since older ++ track_record path info size ∷ []
 records_since (Scan ∷ older) = []
-records_since (Load ∷ older) = records_since older
-records_since (Read ∷ older) = records_since older
-records_since (Ask ∷ older) = records_since older
-records_since (First number ∷ older) = records_since older
-records_since (At moment ∷ older) = records_since older
-records_since (Subscribe ∷ older) = records_since older
-records_since (Accept ∷ older) = records_since older
-records_since (Unsubscribe ∷ older) = records_since older
-records_since (Deliver note ∷ older) = records_since older
-records_since (ReadFault ∷ older) = records_since older
+records_since (turn ∷ older) = records_since older
 
 -- the server's first number: the oldest turn may say it, else it is 0
 abbrev pub number_of : Turn → ℕ
 number_of (First number) = number
-number_of (Folder path) = 0
-number_of (Track path content) = 0
-number_of Scan = 0
-number_of Load = 0
-number_of Read = 0
-number_of Ask = 0
-number_of (At moment) = 0
-number_of Subscribe = 0
-number_of Accept = 0
-number_of Unsubscribe = 0
-number_of (Deliver note) = 0
-number_of ReadFault = 0
+number_of turn = 0
 
 abbrev pub first_of : List Turn → ℕ
 first_of [] = 0
@@ -65,25 +64,13 @@ first_of (turn ∷ next ∷ older) = first_of (next ∷ older)
 abbrev pub clock_of : List Turn → ℕ
 clock_of [] = 0
 clock_of (At moment ∷ older) = moment
-clock_of (Folder path ∷ older) = clock_of older
-clock_of (Track path content ∷ older) = clock_of older
-clock_of (Scan ∷ older) = clock_of older
-clock_of (Load ∷ older) = clock_of older
-clock_of (Read ∷ older) = clock_of older
-clock_of (Ask ∷ older) = clock_of older
-clock_of (First number ∷ older) = clock_of older
-clock_of (Subscribe ∷ older) = clock_of older
-clock_of (Accept ∷ older) = clock_of older
-clock_of (Unsubscribe ∷ older) = clock_of older
-clock_of (Deliver note ∷ older) = clock_of older
-clock_of (ReadFault ∷ older) = clock_of older
+clock_of (turn ∷ older) = clock_of older
 
--- what turns led to: the commands that the server accepted, the replica's turns, and the reply to a subscribe request that
--- is held back, which is a name or a refusal
+-- what turns led to: the commands that the server accepted, the replica's turns, and the reply that is held back
 pub record Played : Type 0 where
   pub commands : List Command
   pub replica : List ReplicaTurn
-  pub reply : Option (Option ℕ)
+  pub reply : HeldReply
 
 -- the commands after a scan, which a refusal leaves as they were
 abbrev pub scanned : ScanAnswer → List Record → List Command → List Command
@@ -93,10 +80,10 @@ scanned (TooMany objects) records commands = commands
 scanned (NoNumbers needed) records commands = commands
 
 -- after the reply that was held back reached the replica
-abbrev pub after_reply : Option (Option ℕ) → List ReplicaTurn → List ReplicaTurn
-after_reply None turns = turns
-after_reply (Some None) turns = Refuses ∷ turns
-after_reply (Some (Some name)) turns = and_turn (Accepts name) turns
+abbrev pub after_reply : HeldReply → List ReplicaTurn → List ReplicaTurn
+after_reply NoReply turns = turns
+after_reply (Named name) turns = and_turn (Accepts name) turns
+after_reply Refusal turns = Refuses ∷ turns
 
 -- after a note, if there is one, reached the replica
 abbrev pub after_note : Option Note → List ReplicaTurn → List ReplicaTurn
@@ -114,34 +101,57 @@ lives name first now commands = list_any (λ other. nat_eq other name) (alive_na
 -- the commands after the subscription of a name was given up, if there is one and it lives
 abbrev pub given_up : Option ℕ → ℕ → ℕ → List Command → List Command
 given_up None first now commands = commands
-given_up (Some name) first now commands = cond (lives name first now commands) (Ends name ∷ commands) commands
+given_up (Some name) first now commands = cond (lives name first now commands) (Ends now name ∷ commands) commands
+
+-- the reset token of a script's server
+abbrev pub script_token : List ℕ
+script_token = codes "00000000-0000-8000-8000-000000000000"
 
 -- what a turn leads to, after the older ones
 abbrev pub play : ℕ → ℕ → List Record → Played → Turn → Played
 play first now records p (Folder path) = p
-play first now records p (Track path content) = p
+play first now records p (Track path info size) = p
 play first now records p Scan = record p { commands = scanned (scan_answer (scans_of first p.commands) records) records p.commands }
 play first now records p Load = record p { replica = Begins ∷ p.replica }
-play first now records p Read = record p { replica = asked_at (moment_after first p.commands) p.replica (next_ask (known_by p.replica)) }
+play first now records p Read = record p { replica = asked_at (moment_after script_token first p.commands) p.replica (next_ask (known_by p.replica)) }
 play first now records p Ask = p
 play first now records p (First number) = p
 play first now records p (At moment) = record p { commands = Ticks moment ∷ p.commands }
 play first now records p Subscribe =
     cond (has_room now p.commands (notes_of first p.commands))
-    (record { commands = Grants now ∷ p.commands; replica = Requests ∷ p.replica; reply = Some (Some (granted p.commands + 1)) })
-    (record { commands = p.commands; replica = Requests ∷ p.replica; reply = Some None })
-play first now records p Accept = record { commands = p.commands; replica = after_reply p.reply p.replica; reply = None }
+    (record { commands = grant_at now ∷ p.commands; replica = Requests ∷ p.replica; reply = Named (granted p.commands + 1) })
+    (record { commands = p.commands; replica = Requests ∷ p.replica; reply = Refusal })
+play first now records p Accept = record { commands = p.commands; replica = after_reply p.reply p.replica; reply = NoReply }
 play first now records p Unsubscribe = record p { commands = given_up (accepted p.replica) first now p.commands }
 play first now records p (Deliver note) = record p { replica = after_note (sent_note note (notes_of first p.commands)) p.replica }
 play first now records p ReadFault = p
 
 abbrev pub played : List Turn → Played
-played [] = record { commands = []; replica = []; reply = None }
+played [] = record { commands = []; replica = []; reply = NoReply }
 played (turn ∷ older) = play (first_of older) (clock_of older) (records_since older) (played older) turn
 
 -- the history of the accepted scans
 abbrev pub history_of : List Turn → History
 history_of turns = scans_of (first_of turns) (played turns).commands
+
+-- what a scan writes
+abbrev pub scan_text : ℕ → ScanAnswer → List ℕ
+scan_text number Accepted = codes "scan " ++ decimal number ++ codes "\n"
+scan_text number (BadRecord line) = codes "scan bad " ++ decimal line ++ codes "\n"
+scan_text number (TooMany objects) = codes "scan full " ++ decimal objects ++ codes "\n"
+scan_text number (NoNumbers needed) = codes "scan spent " ++ decimal needed ++ codes "\n"
+
+-- what a reply writes
+abbrev pub reply_text : Shown → List ℕ
+reply_text (Text token) = codes "read ok\n"
+reply_text (Number n) = codes "read ok\n"
+reply_text (Page rows total update) = codes "read ok\n"
+reply_text (Fault code) = codes "read " ++ decimal code ++ codes "\n"
+
+-- what a read writes, by the next ask and what the server has
+abbrev pub read_text : Moment → Option Asked → List ℕ
+read_text moment None = codes "read none\n"
+read_text moment (Some ask) = reply_text (reply_to moment ask)
 
 -- what notes that were sent write, the first of which has this number
 abbrev pub notes_text : ℕ → List Note → List ℕ
@@ -155,10 +165,10 @@ abbrev pub sent_text : ℕ → List Command → Command → List ℕ
 sent_text first older command = notes_text (length (notes_of first older) + 1) (sent_by first older (notes_of first older) command)
 
 -- what the reply that was held back writes
-abbrev pub accept_text : Option (Option ℕ) → List ℕ
-accept_text None = codes "accept none\n"
-accept_text (Some None) = codes "accept 503\n"
-accept_text (Some (Some name)) = codes "accept 200\n"
+abbrev pub accept_text : HeldReply → List ℕ
+accept_text NoReply = codes "accept none\n"
+accept_text (Named name) = codes "accept 200\n"
+accept_text Refusal = codes "accept 503\n"
 
 -- what giving up the subscription of a name writes
 abbrev pub unsubscribe_text : Option ℕ → ℕ → ℕ → List Command → List ℕ
@@ -191,16 +201,16 @@ answer_text history (Stands number) =
 -- what a turn writes, after the older ones
 abbrev pub written : ℕ → ℕ → List Record → Played → Turn → List ℕ
 written first now records p (Folder path) = []
-written first now records p (Track path content) = []
+written first now records p (Track path info size) = []
 written first now records p Scan =
     scan_text (end_of (scans_of first (scanned (scan_answer (scans_of first p.commands) records) records p.commands)))
     (scan_answer (scans_of first p.commands) records)
 written first now records p Load = []
-written first now records p Read = read_text (moment_after first p.commands) (next_ask (known_by p.replica))
+written first now records p Read = read_text (moment_after script_token first p.commands) (next_ask (known_by p.replica))
 written first now records p Ask = answer_text (scans_of first p.commands) (says p.replica)
 written first now records p (First number) = []
 written first now records p (At moment) = sent_text first p.commands (Ticks moment)
-written first now records p Subscribe = cond (has_room now p.commands (notes_of first p.commands)) (sent_text first p.commands (Grants now)) []
+written first now records p Subscribe = cond (has_room now p.commands (notes_of first p.commands)) (sent_text first p.commands (grant_at now)) []
 written first now records p Accept = accept_text p.reply
 written first now records p Unsubscribe = unsubscribe_text (accepted p.replica) first now p.commands
 written first now records p (Deliver note) = deliver_text note (sent_note note (notes_of first p.commands)) p.replica
@@ -209,22 +219,29 @@ written first now records p ReadFault = codes "readfault\n"
 abbrev pub written_by : List Turn → Turn → List ℕ
 written_by older turn = written (first_of older) (clock_of older) (records_since older) (played older) turn
 
+-- how a script ends: with a status, and with all that was written
+pub record Ending : Type 0 where
+  pub status : ℕ
+  pub text : List ℕ
+
+-- an ending with more written before it
+abbrev pub written_first : List ℕ → Ending → Ending
+written_first text ending = record { status = ending.status; text = text ++ ending.text }
+
+-- the last line of a script with a line outside the grammar, and of one past a limit
+abbrev pub outside_ending : ℕ → Ending
+outside_ending number = record { status = 1; text = codes "error line " ++ decimal number ++ codes "\n" }
+
+abbrev pub limit_ending : Ending
+limit_ending = record { status = 6; text = codes "error limit\n" }
+
 -- whether a turn may stand after the older ones, or its line is outside the grammar: the first number comes before all else,
 -- moments never fall, and a note that is delivered was sent
 abbrev pub may_stand : List Turn → Turn → Bool
 may_stand older (First number) = nat_eq (length older) 0
 may_stand older (At moment) = nat_le (clock_of older) moment
 may_stand older (Deliver note) = nat_lt 0 note && nat_le note (length (notes_of (first_of older) (played older).commands))
-may_stand older (Folder path) = true
-may_stand older (Track path content) = true
-may_stand older Scan = true
-may_stand older Load = true
-may_stand older Read = true
-may_stand older Ask = true
-may_stand older Subscribe = true
-may_stand older Accept = true
-may_stand older Unsubscribe = true
-may_stand older ReadFault = true
+may_stand older turn = true
 
 -- how a script goes on at a line, by what it means: after these turns, at the line of this number, with what comes after
 -- further turns

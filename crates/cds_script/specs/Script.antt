@@ -1,27 +1,36 @@
--- What each line of a script means (this project's profile). Its lines and the words of a line are those of scripts without
--- notes.
-use Rattle.std.specs.Prelude.{◌^◌, ◌<◌, ◌≤◌, ℕ, cond, nat_eq, List, [], ◌∷◌, Option, Some, None, Result, Ok, Err, codes}
+-- What each line of a script means (this project's profile).
+use Rattle.std.specs.Prelude.{◌+◌, ◌^◌, ◌<◌, ◌≤◌, ℕ, cond, nat_eq, nat_lt, List, [], ◌∷◌, Option, Some, None, Result, Ok, Err, codes}
 use Rattle.std.specs.List.{list_all}
+use Rattle.std.specs.Option.{option_and_then}
 use Rattle.cds_base.specs.Number.{plain_below}
-use Rattle.cds_flac.specs.declared.info.FlacInfo.{FlacInfo}
-use Rattle.cds_object.specs.Path.{path_read, name_of}
+use Rattle.cds_object.specs.declared.info.FlacInfo.{FlacInfo}
+use Rattle.cds_object.specs.Path.{path_read}
 use Rattle.cds_object.specs.Content.{same_text}
-use Rattle.cds_object.specs.ContentOf.{track_of}
-use Rattle.cds_model.specs.Script.{words_of, is_word, number_from_to, info_from}
-use Rattle.cds_notes.specs.Commands.{granted_time}
+use Rattle.cds_object.specs.ContentOf.{bare_info}
+use Rattle.cds_script.specs.Lines.{words_of, is_word}
+use Rattle.cds_commands.specs.Commands.{Command, Grants}
 use Rattle.cds_script.specs.declared.turn.Turn.{Turn}
 use Rattle.cds_script.specs.declared.turn.Turn.TheVariants.{Folder, Track, Scan, Load, Read, Ask, First, At, Subscribe, Accept, Unsubscribe, Deliver, ReadFault}
 use Rattle.cds_script.specs.declared.turn.Meaning.{Meaning}
 use Rattle.cds_script.specs.declared.turn.Meaning.TheVariants.{Nothing, Means, Outside}
+
+-- a number in plain decimal from one number up to another
+abbrev pub number_from_to : ℕ → ℕ → List ℕ → Option ℕ
+number_from_to low high word = option_and_then (λ n. cond (nat_lt n low) None (Some n)) (plain_below (high + 1) word)
 
 -- the turn of a folder at a place, if the word is one
 abbrev pub folder_turn : Result (List (List ℕ)) ℕ → Option Turn
 folder_turn (Err at) = None
 folder_turn (Ok path) = Some (Folder path)
 
+-- what a file without comments says, if its words are its rate, channels, bits and samples
+abbrev pub info_from : Option ℕ → Option ℕ → Option ℕ → Option ℕ → Option FlacInfo
+info_from (Some rate) (Some channels) (Some bits) (Some samples) = Some (bare_info rate channels bits samples)
+info_from rate channels bits samples = None
+
 -- the turn of a track, if its words are a place, the file's size in bytes and what the file says
 abbrev pub track_turn : Result (List (List ℕ)) ℕ → Option ℕ → Option FlacInfo → Option Turn
-track_turn (Ok path) (Some size) (Some info) = Some (Track path (track_of info (name_of path) size))
+track_turn (Ok path) (Some size) (Some info) = Some (Track path info size)
 track_turn path size info = None
 
 -- the turn of a line of one word
@@ -35,6 +44,20 @@ plain_turn word =
     (cond (same_text word (codes "accept")) (Some Accept)
     (cond (same_text word (codes "unsubscribe")) (Some Unsubscribe)
     (cond (same_text word (codes "readfault")) (Some ReadFault) None)))))))
+
+-- each subscription of a script is granted so many seconds, and has this callback
+abbrev pub granted_seconds : ℕ
+granted_seconds = 1800
+
+abbrev pub script_callback : List ℕ
+script_callback = codes "http://127.0.0.1:49153/notify"
+
+abbrev pub grant_at : ℕ → Command
+grant_at now = Grants now script_callback granted_seconds
+
+-- the same time in milliseconds
+abbrev pub granted_time : ℕ
+granted_time = 1800000
 
 -- a moment is below this one, in milliseconds: no subscription runs out before it
 abbrev pub moment_limit : ℕ
@@ -102,24 +125,14 @@ meaning_of (b ∷ rest) = cond (nat_eq b 35) Nothing (meaning_of_words (words_of
 
 -- the numbers of a turn are within their ranges
 abbrev pub IsInRange : Turn → Type 0
-IsInRange (Folder path) = Unit {0}
-IsInRange (Track path content) = Unit {0}
-IsInRange Scan = Unit {0}
-IsInRange Load = Unit {0}
-IsInRange Read = Unit {0}
-IsInRange Ask = Unit {0}
+IsInRange (Track path info size) = info.samples < 2 ^ 36
 IsInRange (First number) = number ≤ 4294967295
 IsInRange (At moment) = moment < moment_limit
-IsInRange Subscribe = Unit {0}
-IsInRange Accept = Unit {0}
-IsInRange Unsubscribe = Unit {0}
-IsInRange (Deliver note) = Unit {0}
-IsInRange ReadFault = Unit {0}
+IsInRange turn = Unit {0}
 
 abbrev pub MeansInRange : Meaning → Type 0
-MeansInRange Nothing = Unit {0}
 MeansInRange (Means turn) = IsInRange turn
-MeansInRange Outside = Unit {0}
+MeansInRange meaning = Unit {0}
 
 -- the numbers of what a line means are within their ranges
 abbrev pub lines_mean_in_range : Type 0

@@ -5,29 +5,42 @@ use Rattle.std.specs.Prelude.{◌≡◌, ◌≤◌, ℕ, true, List, ◌∷◌, 
 use Rattle.std.specs.List.{AllByRecursion}
 use Rattle.std.specs.Fmt.{decimal}
 use Rattle.cds_object.specs.Fragment.{full_text}
-use Rattle.cds_catalog.specs.History.{end_of}
+use Rattle.cds_object.specs.Object.{ObjectRow}
+use Rattle.cds_catalog.specs.Library.{FolderMap}
+use Rattle.cds_catalog.specs.History.{History, end_of}
 use Rattle.cds_catalog.specs.Catalog.{catalog}
-use Rattle.cds_model.specs.Server.{reply_to}
-use Rattle.cds_model.specs.Stood.{IsScanEnd}
-use Rattle.cds_model.specs.declared.exchange.Ask.{Ask as Asked}
-use Rattle.cds_notes.specs.Commands.{Note, alive_names, subscription_limit, notes_of, released_to, releases_of}
-use Rattle.cds_notes.specs.Inbox.{Accepts, Delivers, accepted, received, has_seq, taken_by}
-use Rattle.cds_notes.specs.Follow.{Known, Knows, known_by, next_ask, with_reply, with_notes, says, copied}
-use Rattle.cds_notes.specs.Given.{Entry, moment_after, given_by, latest_length, AreAccepted, IsGiven}
-use Rattle.cds_notes.specs.HonestLaws.{load_was_begun}
-use Rattle.cds_notes.specs.declared.says.Says.TheVariants.{Stands}
+use Rattle.cds_load.specs.Server.{reply_to}
+use Rattle.cds_load.specs.declared.exchange.Ask.{Ask as Asked}
+use Rattle.cds_commands.specs.Notes.{Note, alive_names, notes_of}
+use Rattle.cds_commands.specs.Subscriptions.{subscription_limit}
+use Rattle.cds_commands.specs.Releases.{released_to, releases_of}
+use Rattle.cds_follow.specs.Inbox.{Accepts, Delivers, accepted, received, has_seq, taken_by}
+use Rattle.cds_follow.specs.Follow.{Known, Knows, known_by, next_ask, with_reply, with_notes, says, copied}
+use Rattle.cds_follow.specs.Given.{Entry, moment_after, given_by, latest_length, IsGiven}
+use Rattle.cds_commands.specs.Commands.{AreAccepted}
+use Rattle.cds_follow.specs.HonestLaws.{load_was_begun}
+use Rattle.cds_follow.specs.declared.says.Says.TheVariants.{Stands}
+use Rattle.cds_script.specs.declared.reply.HeldReply.TheVariants.{Named}
 use Rattle.cds_script.specs.declared.turn.Turn.{Turn}
 use Rattle.cds_script.specs.declared.turn.Turn.TheVariants.{Ask}
-use Rattle.cds_script.specs.Report.{first_of, clock_of, sent_note, lives, played, history_of, written_by}
+use Rattle.cds_script.specs.Report.{script_token, first_of, clock_of, sent_note, lives, played, history_of, written_by}
 use Rattle.cds_script.specs.Played.{MayBe}
+
+-- a number is the end of a history's oldest scans, so many of them, and rows are the catalog after these
+pub record IsScanEnd (history : History) (number : ℕ) (rows : List ObjectRow) : Type 0 where
+  pub newer : List FolderMap
+  pub older : List FolderMap
+  pub parts : history.maps ≡ newer ++ older
+  pub ends : end_of (record { first = history.first; maps = older }) ≡ number
+  pub are : rows ≡ catalog (record { first = history.first; maps = older })
 
 -- the commands that turns gave the server are accepted ones, and the replica's turns are what an honest server gives, each at a
 -- length of the list of these commands
 pub record AreGiven (turns : List Turn) : Type 0 where
   pub accepted : AreAccepted (first_of turns) (played turns).commands
   pub entries : List Entry
-  pub given : IsGiven (first_of turns) (played turns).commands entries
-  pub are : (played turns).replica ≡ given_by (first_of turns) (played turns).commands entries
+  pub given : IsGiven script_token (first_of turns) (played turns).commands entries
+  pub are : (played turns).replica ≡ given_by script_token (first_of turns) (played turns).commands entries
   pub within : latest_length entries ≤ length (played turns).commands
 
 abbrev pub scripts_are_given : Type 0
@@ -38,8 +51,8 @@ scripts_are_given = (turns : List Turn) → MayBe turns → AreGiven turns
 pub record AreTaken (turns : List Turn) : Type 0 where
   pub reads : (ask : Asked) → next_ask (known_by (played turns).replica) ≡ Some ask →
       (now : Known) × (with_reply (known_by (played turns).replica) (known_by (played turns).replica).held
-      (reply_to (moment_after (first_of turns) (played turns).commands) ask) ≡ Knows now)
-  pub names : (name : ℕ) → (played turns).reply ≡ Some (Some name) →
+      (reply_to (moment_after script_token (first_of turns) (played turns).commands) ask) ≡ Knows now)
+  pub names : (name : ℕ) → (played turns).reply ≡ Named name →
       (now : Known) × (with_notes (taken_by (Accepts name) (played turns).replica) (known_by (played turns).replica) ≡ Knows now)
   pub notes : (number : ℕ) (note : Note) → sent_note number (notes_of (first_of turns) (played turns).commands) ≡ Some note →
       (now : Known) × (with_notes (taken_by (Delivers note) (played turns).replica) (known_by (played turns).replica) ≡ Knows now)

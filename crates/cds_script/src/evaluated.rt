@@ -1,7 +1,7 @@
 //! Scripts whose reports are evaluated from the definitions: each clause is one of them.
 
 ghost use Rattle.cds_script.specs.Evaluated as evaluated;
-ghost use Rattle.cds_script.specs.Noted as noted;
+ghost use Rattle.cds_script.specs.EvaluatedNotes as noted;
 
 /// An empty script writes nothing.
 pub fn empty_script()

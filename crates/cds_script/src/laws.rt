@@ -1,4 +1,4 @@
-//! Laws of scripts with notes: each function's contract is one of them.
+//! Laws of scripts: each function's contract is one of them.
 
 ghost use Rattle.cds_script.specs.Complete as complete;
 ghost use Rattle.cds_script.specs.LoadBounds as bounds;
@@ -10,12 +10,6 @@ ghost use Rattle.cds_script.specs.ScriptGiven as given;
 /// the number of the first line that is outside the grammar, or `error limit`; and the status is accordingly.
 pub fn reports_are_of_turns()
     ensures { played.reports_are_of_turns }
-{}
-
-/// A script without notes has one report: the one that its turns give among scripts with notes, and the one that the grammar and
-/// the definitions of scripts without notes give.
-pub fn scripts_without_notes_have_one_report()
-    ensures { played.scripts_without_notes_have_one_report }
 {}
 
 /// Each turn of a script may stand after the older ones, and its first number is one of the server's.

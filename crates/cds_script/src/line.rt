@@ -4,15 +4,15 @@ ghost use Rattle.std.specs.Prelude.{◌≡◌, ◌+◌, ◌^◌, ◌<◌, ◌≤
 ghost use Rattle.std.specs.List.{list_all, slice_split};
 ghost use Rattle.std.specs.Result.{result_ok};
 ghost use Rattle.cds_base.specs.Number.{plain_below};
-ghost use Rattle.cds_object.specs.Path.{path_read, name_of};
+ghost use Rattle.cds_object.specs.Path.{path_read};
 ghost use Rattle.cds_object.specs.Content.{same_text};
-ghost use Rattle.cds_object.specs.ContentOf.{track_of, bare_info};
-ghost use Rattle.cds_model.specs.Script.{words_of, is_word, number_from_to, info_from};
-ghost use Rattle.cds_script.specs.Script.{folder_turn, track_turn, moment_limit, first_turn, at_turn, deliver_turn, plain_turn, number_turn, plain_line, folder_line, track_line, turn_of, meaning_of_turn, meaning_of_words, meaning_of};
+ghost use Rattle.cds_object.specs.ContentOf.{bare_info};
+ghost use Rattle.cds_script.specs.Lines.{words_of, is_word};
+ghost use Rattle.cds_script.specs.Script.{number_from_to, info_from, folder_turn, track_turn, moment_limit, first_turn, at_turn, deliver_turn, plain_turn, number_turn, plain_line, folder_line, track_line, turn_of, meaning_of_turn, meaning_of_words, meaning_of};
 
 use crate::{Meaning, Turn};
 use cds_base::{Mem, Sequence, read_plain};
-use cds_object::{Content, FlacInfo, Path, PathError, content_of};
+use cds_object::{FlacInfo, Path, PathError};
 use std::alloc::Global;
 
 /// What a line of a script means, given without its LF.
@@ -190,11 +190,14 @@ fn first(number: &[u8]) -> Option<Turn>
     }
 }
 
+/// No subscription runs out before this moment, in milliseconds.
+const MOMENT_LIMIT: u64 = 1_800_000;
+
 /// The turn of a line that names a moment.
 fn at(moment: &[u8]) -> Option<Turn>
     ensures { result ≡ at_turn (plain_below moment_limit moment.now) }
 {
-    match number_below(moment, 1_800_000) {
+    match number_below(moment, MOMENT_LIMIT) {
         Some(moment) => Some(Turn::At { moment }),
         None => None,
     }
@@ -295,18 +298,14 @@ fn track(alloc: Global, words: &[&[u8]]) -> Result<Option<Turn>, Mem>
     let Some(size) = read_plain(word_at(words, 1)) else {
         return Ok(None);
     };
-    let info = info_of(
+    let Some(info) = info_of(
         alloc,
         word_at(words, 2),
         word_at(words, 3),
         word_at(words, 4),
         word_at(words, 5),
-    );
-    match info {
-        None => Ok(None),
-        Some(info) => {
-            let content = content_of(alloc, &info, path.name(), size)?;
-            Ok(Some(Turn::Track { path, content }))
-        }
-    }
+    ) else {
+        return Ok(None);
+    };
+    Ok(Some(Turn::Track { path, info, size }))
 }

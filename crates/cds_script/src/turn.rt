@@ -1,12 +1,18 @@
-use cds_object::{Content, Path};
+use cds_object::{FlacInfo, Path};
 
 /// One line of a script that does something.
 #[derive(Drop, Debug)]
 pub enum Turn {
     /// Adds a folder to what the next scan finds.
-    Folder { path: Path },
-    /// Adds a track to what the next scan finds.
-    Track { path: Path, content: Content },
+    Folder {
+        path: Path,
+    },
+    /// Adds a track to what the next scan finds: what its file says, and the size of the file in bytes.
+    Track {
+        path: Path,
+        info: FlacInfo,
+        size: u64,
+    },
     /// The records since the last scan are all that the library has now.
     Scan,
     /// The replica begins to load the catalog.
@@ -16,9 +22,13 @@ pub enum Turn {
     /// The replica is asked what it knows.
     Ask,
     /// The number that the server begins at.
-    First { number: u32 },
+    First {
+        number: u32,
+    },
     /// The current moment is this one from now on, in milliseconds; then the server releases what is due.
-    At { moment: u64 },
+    At {
+        moment: u64,
+    },
     /// The server answers a subscribe request of the replica; the reply is held back.
     Subscribe,
     /// The reply that was held back reaches the replica.
@@ -26,7 +36,9 @@ pub enum Turn {
     /// The subscription that the replica accepted last is given up.
     Unsubscribe,
     /// The note of this number among all that the server sent, counted from 1, reaches the replica.
-    Deliver { note: u32 },
+    Deliver {
+        note: u32,
+    },
     /// One ask of the replica is sent and its reply is lost.
     ReadFault,
 }

@@ -1,6 +1,6 @@
 -- What was read is answered by what is owed.
 use Rattle.std.proofs.Common.{inl, inr, refl}
-use Rattle.cds_model.specs.Report.{limit_ending}
+use Rattle.cds_script.specs.Report.{limit_ending}
 use Rattle.cds_cli.specs.Check.{events_ending, refused_ending}
 use Rattle.cds_cli.proofs.Feeding.{ends-owed, writes-owed, text-ends, text-writes}
 use Rattle.cds_cli.proofs.checking.check.Goals as goal

@@ -2,7 +2,7 @@
 use Rattle.std.proofs.Common.{◌≡◌, ℕ, ◌+◌, ◌-◌, ◌≤◌, Some, List, [], ◌++◌, take, drop, ap, sym, ◌∙◌, arith}
 use Rattle.std.proofs.lemmas.Result.{err_from_is_err_and}
 use Rattle.cds_base.specs.Outside.{raised}
-use Rattle.cds_markup.specs.Document.{most_bytes}
+use Rattle.cds_base.specs.declared.limits.TheConstants.{INPUT_LIMIT}
 use Rattle.cds_cli.proofs.Feeding.{SoFar, Coming, goes-on, stops-at, on-limit, moved-by, raised-twice, moved-past, piece-past, piece-within, fed-on, all-fed, none-left}
 use Rattle.cds_cli.proofs.checking.feed_all.Goals as goal
 
@@ -35,7 +35,7 @@ returns-in_err-feed-in-Ok-clause-long g c =
     let fed = c.loop-count.invariant.0 in
     rw (error.1, error.2)
     (on-limit _ _ _
-    (λ long. moved-past (g.S.Source.moved c.args.source.now) ((most_bytes - c.loop-count.left) + c.in-Ok.count) _
+    (λ long. moved-past (g.S.Source.moved c.args.source.now) ((INPUT_LIMIT - c.loop-count.left) + c.in-Ok.count) _
     (piece-past fed.bytes c.split_at.result.0.now c.loop-count.left c.in-Ok.count fed.within c.split_at.ensures.front_len long)
     (c.in-Ok.ensures.count ∙ c.loop-count.invariant.2 c.in-Ok.count))
     (c.in_err-feed-in-Ok.ensures.long fed.bytes fed.is))
@@ -62,7 +62,7 @@ loop-count-preserved g c =
           (c.in-Ok.ensures.rest coming.rest coming.told)
           (c.in_ok-feed-in-Ok.ensures.fed coming.bytes coming.is),
       λ n.
-          let more : (most_bytes - c.loop-count.left) + (c.in-Ok.count + n) ≡ (most_bytes - (c.loop-count.left - c.in-Ok.count)) + n = omega (arith, few, fed.within) in
+          let more : (INPUT_LIMIT - c.loop-count.left) + (c.in-Ok.count + n) ≡ (INPUT_LIMIT - (c.loop-count.left - c.in-Ok.count)) + n = omega (arith, few, fed.within) in
           ap (λ m. raised m n) c.in-Ok.ensures.count
           ∙ raised-twice (g.S.Source.moved c.loop-count.source) c.in-Ok.count n
           ∙ c.loop-count.invariant.2 (c.in-Ok.count + n)

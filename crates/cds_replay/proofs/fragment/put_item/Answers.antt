@@ -1,6 +1,7 @@
 use Rattle.std.proofs.Common.{codes, string_bytes, ◌++◌, ◌∙◌, ap}
 use Rattle.cds_object.specs.Object.{ObjectRow}
-use Rattle.cds_object.specs.Fragment.{item_front, work_text, number_element, resource_text}
+use Rattle.cds_object.specs.Fragment.{item_front, work_text, resource_text}
+use Rattle.cds_base.specs.Writing.{number_element}
 use Rattle.cds_replay.proofs.Pieces.{five}
 use Rattle.cds_replay.proofs.fragment.put_item.Goals as goal
 

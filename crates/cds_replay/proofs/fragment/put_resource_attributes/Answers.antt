@@ -1,5 +1,6 @@
 use Rattle.std.proofs.Common.{codes}
-use Rattle.cds_object.specs.Fragment.{if_there, duration_attribute, number_attribute, rate_attribute, sound_attributes, resource_attributes}
+use Rattle.cds_object.specs.Fragment.{if_there, duration_attribute, rate_attribute, sound_attributes, resource_attributes}
+use Rattle.cds_base.specs.Writing.{number_attribute}
 use Rattle.cds_replay.proofs.Pieces.{five}
 use Rattle.cds_replay.proofs.fragment.put_resource_attributes.Goals as goal
 

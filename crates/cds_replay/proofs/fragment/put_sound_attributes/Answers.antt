@@ -1,5 +1,6 @@
 use Rattle.std.proofs.Common.{codes, string_bytes, ◌++◌, ◌∙◌, ap}
-use Rattle.cds_object.specs.Fragment.{number_attribute, sound_attributes}
+use Rattle.cds_base.specs.Writing.{number_attribute}
+use Rattle.cds_object.specs.Fragment.{sound_attributes}
 use Rattle.cds_replay.proofs.Pieces.{two}
 use Rattle.cds_replay.proofs.fragment.put_sound_attributes.Goals as goal
 

@@ -1,5 +1,6 @@
 use Rattle.std.proofs.Common.{codes, string_bytes, ◌++◌, ◌∙◌, ap}
-use Rattle.cds_object.specs.Fragment.{number_element, trackers_text}
+use Rattle.cds_base.specs.Writing.{number_element}
+use Rattle.cds_object.specs.Fragment.{trackers_text}
 use Rattle.cds_replay.proofs.Pieces.{three}
 use Rattle.cds_replay.proofs.fragment.put_trackers.Goals as goal
 

@@ -1,5 +1,5 @@
 use Rattle.std.proofs.lemmas.List.{append-nil}
-use Rattle.cds_notes.specs.Commands.{notes_of}
+use Rattle.cds_commands.specs.Notes.{notes_of}
 use Rattle.cds_replay.proofs.Subscribed.{subscribed-scan}
 use Rattle.cds_replay.proofs.Released.{released-scan}
 use Rattle.cds_replay.proofs.laws.scans_have_ends.Goals as goal

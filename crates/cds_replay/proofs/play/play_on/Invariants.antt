@@ -1,7 +1,7 @@
 -- So far the bytes that the source gave were taken, and what they add to the report is in the sink.
 use Rattle.std.proofs.Common.{◌≡◌, ℕ, ◌+◌, ◌-◌, ◌≤◌, List, Some}
 use Rattle.cds_base.specs.Outside.{raised}
-use Rattle.cds_model.specs.Report.{Ending}
+use Rattle.cds_script.specs.Report.{Ending}
 use Rattle.cds_replay.specs.Script.{left_in, Sound, GoesOn}
 use Rattle.cds_replay.specs.Replay.{Under}
 use Rattle.cds_replay.proofs.play.play_on.Given as goal

@@ -4,7 +4,7 @@ use Rattle.std.proofs.lemmas.Result.{on_ok_weaker}
 use Rattle.cds_base.specs.Outside.{raised}
 use Rattle.cds_script.specs.Played.{script_turns}
 use Rattle.cds_script.specs.Report.{script_ending}
-use Rattle.cds_model.specs.Script.{line_limit, script_limit}
+use Rattle.cds_script.specs.Lines.{line_limit, script_limit}
 use Rattle.cds_replay.specs.Replay.{OnLimit}
 use Rattle.cds_replay.proofs.Playing.{ok-told, line-told, limit-told}
 use Rattle.cds_replay.proofs.play.replay.Goals as goal

@@ -1,6 +1,6 @@
 -- So far the lines of a front of the piece were played, and the rest is still to be taken.
 use Rattle.std.proofs.Common.{◌≡◌, ℕ, ◌+◌, ◌≤◌, List, ◌++◌, length}
-use Rattle.cds_model.specs.Report.{Ending}
+use Rattle.cds_script.specs.Report.{Ending}
 use Rattle.cds_replay.specs.Script.{left_in, Sound, GoesOn}
 use Rattle.cds_replay.specs.Replay.{Played}
 use Rattle.cds_replay.proofs.play.take_piece.Given as goal

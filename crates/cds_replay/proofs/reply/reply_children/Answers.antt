@@ -2,7 +2,7 @@ use Rattle.std.proofs.Common.{◌≡◌, sym, ap, ◌∙◌, Some}
 use Rattle.std.specs.Prelude.{option_copied}
 use Rattle.cds_object.specs.Tree.{row_of}
 use Rattle.cds_store.specs.Rows.{rows_of}
-use Rattle.cds_model.proofs.Trees.{found-id}
+use Rattle.cds_load.proofs.Trees.{found-id}
 use Rattle.cds_replay.proofs.reply.reply_children.Goals as goal
 
 pub page_of-requires-clause-shown : goal.page_of-requires-clause-shown

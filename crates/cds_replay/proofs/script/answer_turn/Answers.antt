@@ -1,7 +1,6 @@
 -- A turn that may stand is taken, and its line with it.
 use Rattle.std.proofs.Common.{◌≡◌, ◌∷◌, true, cond, ap, sym, ◌∙◌}
-use Rattle.cds_model.specs.Report.{written_first, outside_ending}
-use Rattle.cds_script.specs.Report.{may_stand, written_by}
+use Rattle.cds_script.specs.Report.{written_first, outside_ending, may_stand, written_by}
 use Rattle.cds_replay.proofs.script.answer_turn.Goals as goal
 
 pub returns-clause-meaning : goal.returns-clause-meaning

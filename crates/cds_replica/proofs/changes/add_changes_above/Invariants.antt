@@ -1,5 +1,5 @@
 use Rattle.std.proofs.Common.{◌≡◌, ◌++◌, take}
-use Rattle.cds_notes.specs.Follow.{changes_above}
+use Rattle.cds_commands.specs.Notes.{changes_above}
 use Rattle.cds_replica.proofs.changes.add_changes_above.Given as goal
 
 -- those of the events so far stand behind the others

@@ -1,6 +1,6 @@
 use Rattle.std.proofs.Common.{◌≡◌, rules, sym, subst}
-use Rattle.cds_notes.specs.Follow.{changes_above}
-use Rattle.cds_replica.specs.Copied.{AreAbove}
+use Rattle.cds_commands.specs.Notes.{changes_above}
+use Rattle.cds_replica.specs.CopyState.{AreAbove}
 use Rattle.cds_replica.proofs.KeptTurns.{above-filter}
 use Rattle.cds_replica.proofs.changes.changes_above.Goals as goal
 

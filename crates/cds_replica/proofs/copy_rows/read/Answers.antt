@@ -1,7 +1,7 @@
 use Rattle.std.proofs.Common.{◌≡◌, ◌<◌, true, nat_eq, length, ap, sym, ◌∙◌, eq-eqb, arith}
 use Rattle.std.specs.Prelude.{slice_set}
 use Rattle.std.proofs.lemmas.List.{get_or_default}
-use Rattle.cds_replica.specs.Copied.{KeptRow, kept_id}
+use Rattle.cds_replica.specs.CopyState.{KeptRow, kept_id}
 use Rattle.cds_replica.specs.CopySteps.{read_of_row, rows_read}
 use Rattle.cds_replica.proofs.KeptLoops.{read-here}
 use Rattle.cds_replica.proofs.copy_rows.read.Goals as goal

@@ -1,6 +1,6 @@
 use Rattle.std.proofs.Common.{◌≡◌, ◌++◌, map, take, drop}
-use Rattle.cds_notes.specs.Copy.{known_of}
-use Rattle.cds_replica.specs.Copied.{KeptRow}
+use Rattle.cds_follow.specs.Copy.{known_of}
+use Rattle.cds_replica.specs.CopyState.{KeptRow}
 use Rattle.cds_replica.specs.CopySteps.{rows_read}
 use Rattle.cds_replica.proofs.copy_rows.read.Given as goal
 

@@ -1,6 +1,6 @@
 use Rattle.std.proofs.Common.{[], ◌∷◌, length-append, arith, ap, sym, ◌∙◌}
 use Rattle.cds_object.specs.Object.{ObjectRow}
-use Rattle.cds_model.specs.Replica.{put_rows, put_containers}
+use Rattle.cds_load.specs.Stages.{put_rows, put_containers}
 use Rattle.cds_replica.proofs.Placing.{put_rows-append, put_containers-append}
 use Rattle.cds_replica.proofs.growing.put_objects.Goals as goal
 

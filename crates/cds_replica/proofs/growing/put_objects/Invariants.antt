@@ -1,6 +1,6 @@
 use Rattle.std.proofs.Common.{◌≡◌, ◌+◌, ◌≤◌, length, vec_len}
 use Rattle.std.specs.Prelude.{vec_capacity}
-use Rattle.cds_model.specs.Replica.{put_rows, put_containers}
+use Rattle.cds_load.specs.Stages.{put_rows, put_containers}
 use Rattle.cds_replica.proofs.growing.put_objects.Given as goal
 
 -- the objects so far stand in their places, and there is room for the others

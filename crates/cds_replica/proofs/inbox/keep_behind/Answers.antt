@@ -1,6 +1,6 @@
 use Rattle.std.proofs.Common.{◌&&◌, nat_eq, nat_lt, rules}
 use Rattle.std.proofs.lemmas.Fn.{filter_same}
-use Rattle.cds_notes.specs.Commands.{Note}
+use Rattle.cds_commands.specs.Notes.{Note}
 use Rattle.cds_replica.proofs.inbox.keep_behind.Goals as goal
 
 pub returns : goal.returns

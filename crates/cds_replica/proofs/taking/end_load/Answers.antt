@@ -1,10 +1,10 @@
 use Rattle.std.proofs.Common.{Some, ◌∙◌, refl}
-use Rattle.cds_model.specs.Replica.{HasPage, after_page}
+use Rattle.cds_load.specs.Stages.{HasPage, after_page}
 use Rattle.cds_replica.specs.Ended.{end_count, whole_rows}
 use Rattle.cds_replica.specs.Holding.{listing_in}
 use Rattle.cds_replica.specs.CopySteps.{Counts}
-use Rattle.cds_replica.specs.Keeping.{leads_to}
-use Rattle.cds_replica.specs.Kept.{Loads}
+use Rattle.cds_replica.specs.Steps.{leads_to}
+use Rattle.cds_replica.specs.State.{Loads}
 use Rattle.cds_replica.specs.Phases.{phase_in}
 use Rattle.cds_replica.proofs.Listings.{end-taken, end-refused}
 use Rattle.cds_replica.proofs.taking.end_load.Goals as goal

@@ -1,7 +1,7 @@
 use Rattle.std.proofs.Common.{◌≡◌, ◌⊎◌, inl, inr, ℕ, zero, suc, List, [], ◌∷◌, ◌++◌, take, drop, false, refl, sym, ap, ◌∙◌, subst, Some, None}
-use Rattle.cds_notes.specs.Commands.{Note, first_note, notes_of}
-use Rattle.cds_notes.specs.Evaluated.{added}
-use Rattle.cds_notes.specs.Inbox.{arrival}
+use Rattle.cds_commands.specs.Notes.{Note, first_note, notes_of}
+use Rattle.cds_commands.specs.Evaluated.{added}
+use Rattle.cds_follow.specs.Inbox.{arrival}
 use Rattle.cds_script.specs.declared.turn.Turn.{Turn}
 use Rattle.cds_script.specs.declared.turn.Turn.TheVariants.{Deliver}
 use Rattle.cds_script.specs.Report.{sent_note, played}

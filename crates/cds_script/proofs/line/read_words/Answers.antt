@@ -1,9 +1,9 @@
 use Rattle.std.proofs.Common.{◌≡◌, ℕ, List, map, true, false, cond, Bor, sym, ap, ◌∙◌}
 use Rattle.std.specs.List.{list_all}
-use Rattle.cds_model.specs.Script.{is_word, words_of}
+use Rattle.cds_script.specs.Lines.{is_word, words_of}
 use Rattle.cds_script.specs.Script.{turn_of, meaning_of_turn}
 use Rattle.cds_script.specs.declared.turn.Meaning.TheVariants.{Outside}
-use Rattle.cds_model.proofs.Words.{list_all-map}
+use Rattle.cds_script.proofs.Words.{list_all-map}
 use Rattle.cds_script.proofs.line.read_words.Goals as goal
 
 -- the words as contracts see them

@@ -1,4 +1,4 @@
-use Rattle.cds_model.proofs.Words.{word-is_text}
+use Rattle.cds_script.proofs.Words.{word-is_text}
 use Rattle.cds_script.proofs.line.text_of.Goals as goal
 
 pub unreachable-requires : goal.unreachable-requires

@@ -1,8 +1,7 @@
 -- A line that came in two parts is answered as one.
 use Rattle.std.proofs.Common.{◌≡◌, ℕ, List, ◌++◌, ◌∷◌, ap, refl, ◌∙◌, sym}
 use Rattle.std.proofs.lemmas.Result.{IfOk-weaker}
-use Rattle.cds_model.specs.Report.{Ending}
-use Rattle.cds_script.specs.Report.{ending_of}
+use Rattle.cds_script.specs.Report.{Ending, ending_of}
 use Rattle.cds_replay.proofs.Scripts.{aside-goes, aside-same, fed-from}
 use Rattle.cds_replay.proofs.script.Script.end_line.Goals as goal
 

@@ -1,6 +1,6 @@
 -- Bytes that are kept stand behind those of the last line, or pass a limit.
 use Rattle.std.proofs.Common.{◌<◌, ◌-◌, length, ◌⊎◌, inl, inr, arith, refl}
-use Rattle.cds_model.specs.Script.{line_limit}
+use Rattle.cds_script.specs.Lines.{line_limit}
 use Rattle.cds_replay.proofs.Scripts.{kept-stops, kept-goes}
 use Rattle.cds_replay.proofs.script.Script.keep.Goals as goal
 use Rattle.cds_replay.proofs.script.Script.keep.Goals.{then-left-rest-via-then-left-rest, then-left-rest-via-else-left-rest+then-len-rest}

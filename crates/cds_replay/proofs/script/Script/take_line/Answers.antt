@@ -1,6 +1,6 @@
 -- A whole line is answered, or passes a limit.
 use Rattle.std.proofs.Common.{◌<◌, ◌≤◌, ◌+◌, length, ◌⊎◌, inl, inr, arith, refl}
-use Rattle.cds_model.specs.Script.{line_limit}
+use Rattle.cds_script.specs.Lines.{line_limit}
 use Rattle.cds_replay.proofs.Scripts.{line-stops, line-fed}
 use Rattle.cds_replay.proofs.script.Script.take_line.Goals as goal
 use Rattle.cds_replay.proofs.script.Script.take_line.Goals.{then-self-line-via-then-self-line, then-self-line-via-else-self-line+then-line-gt-LINE_LIMIT}

@@ -1,6 +1,6 @@
 use Rattle.std.proofs.Common.{◌≡◌, ◌++◌, List, ℕ, map, length, sym, ap, ◌∙◌, subst}
 use Rattle.cds_event.specs.declared.Event.{Event}
-use Rattle.cds_notes.specs.Commands.{Note}
+use Rattle.cds_commands.specs.Notes.{Note}
 use Rattle.cds_replay.specs.declared.sent.SentNote.{SentNote}
 use Rattle.cds_replay.specs.Serving.{alive, note_to}
 use Rattle.cds_replay.specs.Sending.{told_note, kept_note, AreKept}

@@ -7,7 +7,7 @@ pub invariant_of-self : goal.invariant_of-self
 invariant_of-self c =
     let i = c.self.inside in
     let was : Serving = record { store = i.store; subscribed = i.book.subscribed; released = i.releases.released; sent = i.sent } in
-    ended-serves was c.self.invariant.first c.self.invariant.commands c.self.invariant.serves c.args.name c.end.result c.end.new.self.subscribed c.end.ensures.ended
+    ended-serves was c.self.invariant.first c.self.invariant.commands c.self.invariant.serves c.args.name c.args.now c.end.result c.end.new.self.subscribed c.end.ensures.ended
 
 pub returns-clause-after : goal.returns-clause-after
 returns-clause-after c = λ first commands serves.

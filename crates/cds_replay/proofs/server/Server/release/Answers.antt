@@ -1,7 +1,7 @@
 use Rattle.std.proofs.Common.{◌≡◌, ◌∷◌, ◌++◌, Some, List, ℕ, map, sym, ap, ◌∙◌, subst, arith}
 use Rattle.cds_event.specs.declared.Event.{Event}
 use Rattle.cds_changes.specs.Events.{events_between}
-use Rattle.cds_notes.specs.Commands.{Command, Ticks, scans_of}
+use Rattle.cds_commands.specs.Commands.{Command, Ticks, scans_of}
 use Rattle.cds_replay.specs.declared.book.Subscription.{Subscription}
 use Rattle.cds_replay.specs.Serving.{Serving, Serves, alive, notified, next_release, note_to}
 use Rattle.cds_replay.proofs.Serves.{reached, released-to}

@@ -1,7 +1,7 @@
 use Rattle.std.proofs.Common.{◌≡◌, ◌∷◌, sym, ◌∙◌, subst}
 use Rattle.cds_catalog.specs.Library.{map_of}
 use Rattle.cds_catalog.specs.History.{end_of, with_scan}
-use Rattle.cds_notes.specs.Commands.{Scans, scans_of}
+use Rattle.cds_commands.specs.Commands.{Scans, scans_of}
 use Rattle.cds_replay.specs.Serving.{Serving, Serves, with_end}
 use Rattle.cds_replay.proofs.Serves.{scanned}
 use Rattle.cds_replay.proofs.server.Server.scan.Goals as goal

@@ -1,8 +1,10 @@
 use Rattle.std.proofs.Common.{◌≡◌, ◌+◌, ◌∷◌, ◌++◌, [], ℕ, refl, sym, ap, ◌∙◌, subst}
-use Rattle.cds_notes.specs.Commands.{Grants, first_note}
+use Rattle.cds_commands.specs.Commands.{Grants}
+use Rattle.cds_commands.specs.Notes.{first_note}
 use Rattle.cds_replay.specs.Serving.{Serving, Serves, with_grant}
 use Rattle.cds_replay.proofs.Serves.{granted-is, room-is, subscribed-once}
 use Rattle.cds_replay.proofs.server.Server.subscribe.Goals as goal
+use Rattle.cds_script.specs.Script.{grant_at}
 
 pub returns-then-not-has_room-clause-after : goal.returns-then-not-has_room-clause-after
 returns-then-not-has_room-clause-after c = λ first commands serves.
@@ -19,7 +21,7 @@ invariant_of-self-2 c =
     c.in_ok-send_first.ensures.sent ∙ (λ j. was.sent ++ first_note (c.granted-name.ensures j + 1) (c.system_update_id.ensures j) ∷ []) in
     record {
       first = c.self.invariant.first;
-      commands = Grants c.args.now ∷ c.self.invariant.commands;
+      commands = grant_at c.args.now ∷ c.self.invariant.commands;
       serves = subscribed-once was c.self.invariant.first c.self.invariant.commands c.self.invariant.serves c.args.now c.grant.new.self.subscribed c.send_first.new.self
           (c.grant.ensures ∙ ap (with_grant c.args.now) c.reserve.ensures.kept) sent;
     }

@@ -1,5 +1,5 @@
 use Rattle.std.proofs.Common.{◌≡◌, ◌∷◌, None, sym, ap, ◌∙◌, subst, ℕ}
-use Rattle.cds_notes.specs.Commands.{Ticks}
+use Rattle.cds_commands.specs.Commands.{Ticks}
 use Rattle.cds_replay.specs.Serving.{Serving, Serves, next_release}
 use Rattle.cds_replay.proofs.Serves.{ticked}
 use Rattle.cds_replay.proofs.server.Server.tick.Goals as goal

@@ -1,12 +1,13 @@
-use Rattle.std.proofs.Common.{◌≡◌, ◌++◌, ◌∷◌, Some, None, false, ap, sym, subst, ◌∙◌, string_bytes}
+use Rattle.std.proofs.Common.{◌≡◌, ◌++◌, ◌∷◌, false, ap, sym, subst, ◌∙◌, string_bytes}
 use Rattle.std.specs.Prelude.{OnOk}
 use Rattle.std.proofs.lemmas.Result.{on_ok_weaker}
-use Rattle.cds_notes.specs.Inbox.{Accepts, taken_by}
-use Rattle.cds_notes.specs.Follow.{known_by, with_notes}
-use Rattle.cds_replica.specs.Called.{UnlessNoMemory, TakesTurn}
-use Rattle.cds_replica.specs.Kept.{Kept}
+use Rattle.cds_follow.specs.Inbox.{Accepts, taken_by}
+use Rattle.cds_follow.specs.Follow.{known_by, with_notes}
+use Rattle.cds_replica.specs.Calls.{UnlessNoMemory, TakesTurn}
+use Rattle.cds_replica.specs.State.{ReplicaState}
 use Rattle.cds_replica.specs.declared.notify_error.NotifyError.TheVariants.{Mem}
 use Rattle.cds_script.specs.declared.turn.Turn.TheVariants.{Accept}
+use Rattle.cds_script.specs.declared.reply.HeldReply.TheVariants.{NoReply, Named, Refusal}
 use Rattle.cds_script.specs.Report.{accept_text, played}
 use Rattle.cds_script.proofs.Stood.{turns-taken}
 use Rattle.cds_replay.specs.Session.{Playing, IsAfter}
@@ -19,16 +20,16 @@ pub subscribed-requires : goal.subscribed-requires
 subscribed-requires c =
     let turns = c.requires.turns in
     let old : IsAfter (record { server = c.self.inside.server; replica = c.self.inside.replica; records = c.self.inside.records; clock = c.self.inside.clock; reply = c.self.inside.reply; fresh = c.self.inside.fresh }) turns = subst (λ p. IsAfter p turns) (sym c.self.view_is) c.requires.after in
-    let reply : (played turns).reply ≡ Some (Some c.in-Some-Some.name) =
-    sym old.reply ∙ sym c.take.ensures.value ∙ c.in-Some-Some.is ∙ ap Some c.in-Some-Some.field-0-is in
-    ap (λ (k : Kept). k.inbox.out) old.replica ∙ name-waits turns c.in-Some-Some.name old.may reply
+    let reply : (played turns).reply ≡ Named c.in-Named.name =
+    sym old.reply ∙ c.in-Named.is in
+    ap (λ (k : ReplicaState). k.inbox.out) old.replica ∙ name-waits turns c.in-Named.name old.may reply
 
 pub unreachable-requires-in-Err-Jump : goal.unreachable-requires-in-Err-Jump
 unreachable-requires-in-Err-Jump c =
     let turns = c.requires.turns in
     let old : IsAfter (record { server = c.self.inside.server; replica = c.self.inside.replica; records = c.self.inside.records; clock = c.self.inside.clock; reply = c.self.inside.reply; fresh = c.self.inside.fresh }) turns = subst (λ p. IsAfter p turns) (sym c.self.view_is) c.requires.after in
-    let reply : (played turns).reply ≡ Some (Some c.from.result) =
-    sym old.reply ∙ sym c.take.ensures.value ∙ c.in-Some-Some.is ∙ ap Some c.in-Some-Some.field-0-is ∙ ap (λ n. Some (Some n)) (sym c.from.ensures) in
+    let reply : (played turns).reply ≡ Named c.from.result =
+    sym old.reply ∙ c.in-Named.is ∙ ap Named (sym c.from.ensures) in
     let taken = (turns-taken turns old.may).names c.from.result reply in
     let only : c.in-Err-Jump.field-0 ≡ Mem = no-name-refusal (with_notes (taken_by (Accepts c.from.result) (played turns).replica) (known_by (played turns).replica))
     taken.0 c.in-Err-Jump.field-0 taken.1 (c.in-Err-Jump.ensures.answer (played turns).replica old.replica) in
@@ -39,33 +40,32 @@ pub unreachable-requires-in-Err-Torn : goal.unreachable-requires-in-Err-Torn
 unreachable-requires-in-Err-Torn c =
     let turns = c.requires.turns in
     let old : IsAfter (record { server = c.self.inside.server; replica = c.self.inside.replica; records = c.self.inside.records; clock = c.self.inside.clock; reply = c.self.inside.reply; fresh = c.self.inside.fresh }) turns = subst (λ p. IsAfter p turns) (sym c.self.view_is) c.requires.after in
-    let reply : (played turns).reply ≡ Some (Some c.from.result) =
-    sym old.reply ∙ sym c.take.ensures.value ∙ c.in-Some-Some.is ∙ ap Some c.in-Some-Some.field-0-is ∙ ap (λ n. Some (Some n)) (sym c.from.ensures) in
+    let reply : (played turns).reply ≡ Named c.from.result =
+    sym old.reply ∙ c.in-Named.is ∙ ap Named (sym c.from.ensures) in
     let taken = (turns-taken turns old.may).names c.from.result reply in
     let only : c.in-Err-Torn.field-0 ≡ Mem = no-name-refusal (with_notes (taken_by (Accepts c.from.result) (played turns).replica) (known_by (played turns).replica))
     taken.0 c.in-Err-Torn.field-0 taken.1 (c.in-Err-Torn.ensures.answer (played turns).replica old.replica) in
     let other = c.in-Err-Torn.field-0-is in
     cc (only, other)
 
-pub returns-in-Some-None-clause-written : goal.returns-in-Some-None-clause-written
-returns-in-Some-None-clause-written c = λ turns after.
+pub returns-in-Refusal-clause-written : goal.returns-in-Refusal-clause-written
+returns-in-Refusal-clause-written c = λ turns after.
     let old : IsAfter (record { server = c.self.inside.server; replica = c.self.inside.replica; records = c.self.inside.records; clock = c.self.inside.clock; reply = c.self.inside.reply; fresh = c.self.inside.fresh }) turns = subst (λ p. IsAfter p turns) (sym c.self.view_is) after in
-    let reply : (played turns).reply ≡ Some None =
-    sym old.reply ∙ sym c.take.ensures.value ∙ c.in-Some-None.is ∙ ap Some c.in-Some-None.field-0-is in
-    on_ok_weaker c.put-in-Some-None.result (λ written. written ∙ sym (ap (λ r. string_bytes c.args.out.now ++ accept_text r) reply)) c.put-in-Some-None.ensures.ok
+    let reply : (played turns).reply ≡ Refusal =
+    sym old.reply ∙ c.in-Refusal.is in
+    on_ok_weaker c.put-in-Refusal.result (λ written. written ∙ sym (ap (λ r. string_bytes c.args.out.now ++ accept_text r) reply)) c.put-in-Refusal.ensures.ok
 
 pub returns-after-subscribed-clause-after : goal.returns-after-subscribed-clause-after
 returns-after-subscribed-clause-after c = λ turns after.
     let was : Playing = record { server = c.self.inside.server; replica = c.self.inside.replica; records = c.self.inside.records; clock = c.self.inside.clock; reply = c.self.inside.reply; fresh = c.self.inside.fresh } in
     let old : IsAfter was turns = subst (λ p. IsAfter p turns) (sym c.self.view_is) after in
-    let reply : was.reply ≡ Some (Some c.from.result) =
-    sym c.take.ensures.value ∙ c.in-Some-Some.is ∙ ap Some c.in-Some-Some.field-0-is ∙ ap (λ n. Some (Some n)) (sym c.from.ensures) in
+    let reply : was.reply ≡ Named c.from.result =
+    c.in-Named.is ∙ ap Named (sym c.from.ensures) in
     elim c.match-subscribed.branch [
       | in-Ok w ↦
           always c.match-subscribed.result
-          (subst (λ r. IsAfter (record was { replica = c.subscribed.new.self; reply = r; fresh = false }) (Accept ∷ turns)) (sym c.take.ensures.after)
           (accept-after was c.subscribed.new.self c.from.result turns old reply
-          (subst (λ r. UnlessNoMemory r (TakesTurn was.replica (Accepts c.from.result) c.subscribed.new.self)) w.in-Ok.is c.subscribed.ensures.stands)))
+          (subst (λ r. UnlessNoMemory r (TakesTurn was.replica (Accepts c.from.result) c.subscribed.new.self)) w.in-Ok.is c.subscribed.ensures.stands))
       | in-Err-Mem w ↦
-          subst (λ r. OnOk r (IsAfter (record was { replica = c.subscribed.new.self; reply = c.take.new.self; fresh = false }) (Accept ∷ turns))) (sym w.result-is) tt
+          subst (λ r. OnOk r (IsAfter (record was { replica = c.subscribed.new.self; reply = NoReply; fresh = false }) (Accept ∷ turns))) (sym w.result-is) tt
     ]

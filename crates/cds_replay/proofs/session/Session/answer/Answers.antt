@@ -52,10 +52,10 @@ returns-in-Folder-clause-played c =
 
 pub returns-in-Track-clause-played : goal.returns-in-Track-clause-played
 returns-in-Track-clause-played c =
-    on_ok_weaker c.add.result
+    on_ok_weaker c.add_track.result
     (λ same. record {
-      turns = Track c.in-Track.path c.in-Track.content ∷ c.requires.played.turns;
-      after = subst (λ p. IsAfter p (Track c.in-Track.path c.in-Track.content ∷ c.requires.played.turns)) (sym same)
-          (track-after c.args.self.now c.in-Track.path c.in-Track.content c.requires.played.turns c.requires.played.after);
+      turns = Track c.in-Track.path c.in-Track.info c.in-Track.size ∷ c.requires.played.turns;
+      after = subst (λ p. IsAfter p (Track c.in-Track.path c.in-Track.info c.in-Track.size ∷ c.requires.played.turns)) (sym same)
+          (track-after c.args.self.now c.in-Track.path c.in-Track.info c.in-Track.size c.requires.played.turns c.requires.played.after);
     })
-    c.add.ensures
+    c.add_track.ensures

@@ -1,6 +1,6 @@
 use Rattle.std.proofs.Common.{◌≡◌, ap, ◌∙◌, string_bytes}
-use Rattle.cds_notes.specs.Commands.{scans_of}
-use Rattle.cds_notes.specs.Follow.{says}
+use Rattle.cds_commands.specs.Commands.{scans_of}
+use Rattle.cds_follow.specs.Follow.{says}
 use Rattle.cds_script.specs.Report.{first_of, answer_text, played}
 use Rattle.cds_replay.specs.Lines.{known_text, known_rows}
 use Rattle.cds_replay.specs.Session.{Playing}

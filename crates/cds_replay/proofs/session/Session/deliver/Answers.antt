@@ -2,7 +2,7 @@ use Rattle.std.proofs.Common.{◌≡◌, ◌++◌, true, Some, None, ap, sym, su
 use Rattle.std.specs.Prelude.{OnOk}
 use Rattle.std.proofs.lemmas.List.{append-nil}
 use Rattle.std.proofs.lemmas.Result.{on_ok_weaker}
-use Rattle.cds_notes.specs.Commands.{notes_of}
+use Rattle.cds_commands.specs.Notes.{notes_of}
 use Rattle.cds_script.specs.Report.{first_of, deliver_text, sent_note, played}
 use Rattle.cds_replay.specs.Lines.{delivered_line, was_noticed}
 use Rattle.cds_replay.specs.Session.{Playing, IsAfter}

@@ -1,6 +1,6 @@
 use Rattle.std.proofs.Common.{◌≡◌, ap, sym, subst, ◌∙◌}
-use Rattle.cds_model.specs.Server.{reply_to}
-use Rattle.cds_notes.specs.Follow.{known_by, with_reply}
+use Rattle.cds_load.specs.Server.{reply_to}
+use Rattle.cds_follow.specs.Follow.{known_by, with_reply}
 use Rattle.cds_replica.specs.declared.error.AnswerError.TheVariants.{Mem}
 use Rattle.cds_script.specs.Report.{played}
 use Rattle.cds_replay.specs.Session.{IsAfter, moment_in}

@@ -1,7 +1,7 @@
 use Rattle.std.proofs.Common.{◌≡◌, map, drop}
-use Rattle.cds_notes.specs.Copy.{known_of}
-use Rattle.cds_notes.specs.Follow.{is_of}
-use Rattle.cds_replica.specs.Copied.{KeptRow}
+use Rattle.cds_follow.specs.Copy.{known_of}
+use Rattle.cds_follow.specs.Follow.{is_of}
+use Rattle.cds_replica.specs.CopyState.{KeptRow}
 use Rattle.cds_replica.proofs.copy.CatalogCopy.can_be_of.Given as goal
 
 abbrev pub invariant-loop-kept : goal.invariant-loop-kept

@@ -1,5 +1,5 @@
 use Rattle.std.proofs.Common.{List, None, Some, ap, sym, refl, ◌∙◌}
-use Rattle.cds_replica.specs.Copied.{KeptRow, KeptCopy, bare_rows}
+use Rattle.cds_replica.specs.CopyState.{KeptRow, KeptCopy, bare_rows}
 use Rattle.cds_replica.specs.CopySteps.{rows_changed_by, count_from, Counts}
 use Rattle.cds_replica.specs.Outlines.{outlines_of}
 use Rattle.cds_replica.proofs.KeptLoops.{decided, count-torn, count-counts, no-root}

@@ -1,8 +1,8 @@
 use Rattle.std.proofs.Common.{◌≡◌, map, drop}
 use Rattle.std.specs.Prelude.{slice_get}
 use Rattle.std.specs.List.{filter_map}
-use Rattle.cds_notes.specs.Copy.{shown_row}
-use Rattle.cds_replica.specs.Copied.{KeptRow}
+use Rattle.cds_follow.specs.Copy.{shown_row}
+use Rattle.cds_replica.specs.CopyState.{KeptRow}
 use Rattle.cds_replica.proofs.copy.CatalogCopy.row.Given as goal
 
 -- so many known rows are still to be passed

@@ -1,6 +1,6 @@
 use Rattle.std.proofs.Common.{◌≡◌, map, filter, drop}
-use Rattle.cds_notes.specs.Copy.{least}
-use Rattle.cds_replica.specs.Copied.{kept_id, is_wanted, lesser_of}
+use Rattle.cds_follow.specs.Copy.{least}
+use Rattle.cds_replica.specs.CopyState.{kept_id, is_wanted, lesser_of}
 use Rattle.cds_replica.proofs.copy.CatalogCopy.unread.Given as goal
 
 -- the least of those so far and of those that are left

@@ -1,9 +1,8 @@
 use Rattle.std.proofs.Common.{◌∙◌, sym, ap}
-use Rattle.cds_notes.specs.Commands.{Note}
+use Rattle.cds_commands.specs.Notes.{Note, note_of}
 use Rattle.std.specs.Prelude.{List}
-use Rattle.cds_notes.specs.Inbox.{note_of}
 use Rattle.cds_replica.specs.Inboxed.{of_name}
-use Rattle.cds_replica.specs.Telling.{drops_first}
+use Rattle.cds_replica.specs.NewChanges.{drops_first}
 use Rattle.cds_replica.proofs.Waiting.{drop-first}
 use Rattle.cds_replica.proofs.inbox.Inbox.drops_early.Goals as goal
 

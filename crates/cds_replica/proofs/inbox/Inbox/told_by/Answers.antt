@@ -1,9 +1,8 @@
 use Rattle.std.proofs.Common.{◌∷◌, ◌∙◌, sym, ap, subst}
-use Rattle.cds_notes.specs.Inbox.{notes_from_to}
-use Rattle.cds_replica.specs.Inboxed.{of_name, run_after}
-use Rattle.cds_replica.specs.Telling.{KeptTelling, nothing_told, tells, tells_note}
-use Rattle.cds_replica.specs.Copied.{AreAbove}
-use Rattle.cds_replica.specs.Inboxed.{followers}
+use Rattle.cds_commands.specs.Notes.{notes_from_to}
+use Rattle.cds_replica.specs.Inboxed.{of_name, run_after, followers}
+use Rattle.cds_replica.specs.NewChanges.{KeptChanges, nothing_told, tells, tells_note}
+use Rattle.cds_replica.specs.CopyState.{AreAbove}
 use Rattle.cds_replica.proofs.KeptTurns.{new-above}
 use Rattle.cds_replica.proofs.Waiting.{told-by, run-after}
 use Rattle.cds_replica.proofs.inbox.Inbox.told_by.Goals as goal
@@ -16,8 +15,8 @@ returns-clause-told c =
     let ends = run-after note kept c.waiting.ensures.facts c.requires in
     c.in_ok-add_run.ensures
     ∙ (λ i. tells (notes_from_to (c.next_seq.ensures.next i) (c.run_after-to.ensures.after i) (of_name (c.name.ensures i) (c.waiting.ensures.waiting i))) (first i))
-    ∙ told-by note kept (run_after kept) (nothing_told c.args.position c.args.heard) c.waiting.ensures.facts c.requires (sym ends)
+    ∙ told-by note kept (run_after kept) (nothing_told c.args.position c.args.last_note) c.waiting.ensures.facts c.requires (sym ends)
 
 pub returns-clause-above : goal.returns-clause-above
 returns-clause-above c =
-    subst (λ (told : KeptTelling). AreAbove c.args.position told.changes) (sym (returns-clause-told c)) (new-above c.args.position (c.args.note.now ∷ followers c.args.self.now))
+    subst (λ (told : KeptChanges). AreAbove c.args.position told.changes) (sym (returns-clause-told c)) (new-above c.args.position (c.args.note.now ∷ followers c.args.self.now))

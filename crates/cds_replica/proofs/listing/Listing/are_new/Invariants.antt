@@ -1,5 +1,5 @@
 use Rattle.std.proofs.Common.{◌≡◌, take, drop}
-use Rattle.cds_model.specs.Replica.{all_new, known_ids}
+use Rattle.cds_load.specs.Stages.{all_new, known_ids}
 use Rattle.cds_replica.specs.Holding.{listing_in}
 use Rattle.cds_replica.proofs.Pages.{ids_after}
 use Rattle.cds_replica.proofs.listing.Listing.are_new.Given as goal

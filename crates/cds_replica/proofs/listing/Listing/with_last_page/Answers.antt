@@ -1,5 +1,5 @@
 use Rattle.std.proofs.Common.{◌≡◌, ◌++◌, drop, rules}
-use Rattle.cds_model.specs.Replica.{put_rows, put_containers}
+use Rattle.cds_load.specs.Stages.{put_rows, put_containers}
 use Rattle.cds_replica.specs.Holding.{listing_in}
 use Rattle.cds_replica.proofs.Listings.{listed-on}
 use Rattle.cds_replica.proofs.listing.Listing.with_last_page.Goals as goal

@@ -1,6 +1,6 @@
 use Rattle.std.proofs.Common.{◌≡◌, true, nat_eq, length, ◌++◌, ◌∙◌, sym}
 use Rattle.std.proofs.lemmas.Result.{IfOk-weaker}
-use Rattle.cds_model.specs.Replica.{listed_children}
+use Rattle.cds_load.specs.Stages.{listed_children}
 use Rattle.cds_replica.specs.Holding.{listing_in}
 use Rattle.cds_replica.proofs.Listings.{page-on}
 use Rattle.cds_replica.proofs.listing.Listing.with_page.Goals as goal

@@ -1,4 +1,4 @@
-use Rattle.cds_notes.specs.Inbox.{Delivers}
+use Rattle.cds_follow.specs.Inbox.{Delivers}
 use Rattle.cds_replica.proofs.Turning.{delivered-stands, unless-no_memory}
 use Rattle.cds_replica.proofs.Honest.{hears-given}
 use Rattle.cds_replica.proofs.replica.Replica.notify.Goals as goal

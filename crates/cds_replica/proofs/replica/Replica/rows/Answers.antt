@@ -1,15 +1,15 @@
 use Rattle.std.proofs.Common.{ap, ◌∙◌}
 use Rattle.std.specs.Prelude.{List, slice_get}
 use Rattle.cds_object.specs.Object.{ObjectRow}
-use Rattle.cds_replica.specs.Keeping.{phase_rows}
-use Rattle.cds_replica.specs.Kept.{Kept}
+use Rattle.cds_replica.specs.Steps.{phase_rows}
+use Rattle.cds_replica.specs.State.{ReplicaState}
 use Rattle.cds_replica.proofs.Keeping.{rows-kept}
 use Rattle.cds_replica.proofs.Attempted.{rows-shown}
 use Rattle.cds_replica.proofs.replica.Replica.rows.Goals as goal
 
 pub returns-clause-row : goal.returns-clause-row
 returns-clause-row c turns stood =
-    c.row.ensures ∙ ap (λ (rows : List ObjectRow). slice_get rows c.args.at) (ap (λ (kept : Kept). phase_rows kept.known.phase) (c.self.view_is ∙ stood) ∙ rows-kept turns)
+    c.row.ensures ∙ ap (λ (rows : List ObjectRow). slice_get rows c.args.at) (ap (λ (kept : ReplicaState). phase_rows kept.known.phase) (c.self.view_is ∙ stood) ∙ rows-kept turns)
 
 pub returns-clause-shown : goal.returns-clause-shown
 returns-clause-shown c turns stood = rows-shown c.args.self.now c.args.at c.row.result turns (returns-clause-row c) stood

@@ -1,6 +1,6 @@
 use Rattle.std.proofs.Common.{◌≡◌, rules, ap, ◌∙◌}
-use Rattle.cds_notes.specs.declared.says.Says.TheVariants.{Gap}
-use Rattle.cds_replica.specs.Keeping.{kept_says}
+use Rattle.cds_follow.specs.declared.says.Says.TheVariants.{Gap}
+use Rattle.cds_replica.specs.Steps.{kept_says}
 use Rattle.cds_replica.proofs.Keeping.{says-kept}
 use Rattle.cds_replica.proofs.Honest.{says-given, completes-given}
 use Rattle.cds_replica.proofs.Attempted.{says-by_attempt}

@@ -1,4 +1,4 @@
-use Rattle.cds_notes.specs.Inbox.{Accepts}
+use Rattle.cds_follow.specs.Inbox.{Accepts}
 use Rattle.cds_replica.proofs.Turning.{accepted-stands, unless-no_memory}
 use Rattle.cds_replica.proofs.Honest.{accepts-given}
 use Rattle.cds_replica.proofs.replica.Replica.subscribed.Goals as goal

@@ -1,8 +1,8 @@
 use Rattle.std.proofs.Common.{sym, subst, refl}
-use Rattle.cds_model.specs.Replica.{taken}
+use Rattle.cds_load.specs.Stages.{taken}
 use Rattle.cds_replica.specs.Holding.{held_in}
-use Rattle.cds_replica.specs.Keeping.{IsStep, load_takes}
-use Rattle.cds_replica.specs.Kept.{Loads}
+use Rattle.cds_replica.specs.Steps.{IsStep, load_takes}
+use Rattle.cds_replica.specs.State.{Loads}
 use Rattle.cds_replica.specs.Phases.{phase_in}
 use Rattle.cds_replica.specs.declared.stage.Stage.{Stage}
 use Rattle.cds_replica.specs.declared.stage.Stage.TheVariants.{Idle, Begun, HasToken, HasNumber, HasRoot, Lists}

@@ -1,0 +1,11 @@
+pub mod Among
+pub mod Chain
+pub mod Fewer
+pub mod Releases
+pub mod Scanned
+pub mod Sent
+pub mod Seqs
+pub mod Spanned
+pub mod NamesForm
+pub mod Lives
+pub mod Delivered

@@ -1,0 +1,10 @@
+pub mod Commands
+pub mod Evaluated
+pub mod Names
+pub mod NoteLaws
+pub mod Notes
+pub mod ReleaseLaws
+pub mod Releases
+pub mod ServerLaws
+pub mod SubscriptionLaws
+pub mod Subscriptions

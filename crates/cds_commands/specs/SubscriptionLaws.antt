@@ -1,0 +1,76 @@
+-- What a subscription is, in words that need no fold over the commands: when it lives, and which notes it gets; and when a tick
+-- releases. Over the commands alone.
+use Rattle.std.specs.Prelude.{◌≡◌, ◌↔◌, ◌⊎◌, ◌<◌, ◌≤◌, ◌+◌, ℕ, Bool, true, false, cond, nat_eq, nat_lt, ◌&&◌, List, [], ◌∷◌, ◌++◌, Option, Some, None, IsSome, Contains}
+use Rattle.cds_catalog.specs.History.{History, end_of}
+use Rattle.cds_changes.specs.Events.{events_between}
+use Rattle.cds_commands.specs.Commands.{Command, Grants, Renews, Ends, Ticks, scans_of}
+use Rattle.cds_commands.specs.Releases.{Release, release_pause, released_to, release_at, releases_of}
+use Rattle.cds_commands.specs.Subscriptions.{granted, end_after, is_alive}
+use Rattle.cds_commands.specs.Notes.{Note, next_seq_of, seq_limit, alive_names, first_note, notes_of, sent_to}
+
+-- the end of what was granted up to a moment, after the commands since then, of which the newest stands first: the last renewal
+-- of the name counts
+abbrev pub lease_end : ℕ → ℕ → List Command → ℕ
+lease_end name end [] = end
+lease_end name end (Renews moment other seconds ∷ older) = cond (nat_eq name other) (end_after moment seconds) (lease_end name end older)
+lease_end name end (command ∷ older) = lease_end name end older
+
+-- a subscription was granted and has not ended since: it was not given up, and no tick came at or past the end that it had then
+pub record HasRun (name : ℕ) (commands : List Command) (end : ℕ) : Type 0 where
+  pub newer : List Command
+  pub older : List Command
+  pub moment : ℕ
+  pub callback : List ℕ
+  pub seconds : ℕ
+  pub parts : commands ≡ newer ++ Grants moment callback seconds ∷ older
+  pub named : name ≡ granted older + 1
+  pub not_given_up : (later before : List Command) (at : ℕ) → newer ≡ later ++ Ends at name ∷ before → ⊥
+  pub not_past : (later before : List Command) (at : ℕ) → newer ≡ later ++ Ticks at ∷ before → at < lease_end name (end_after moment seconds) before
+  pub ends : end ≡ lease_end name (end_after moment seconds) newer
+
+-- it lives at a moment where this is before its end, and it has a SEQ left
+abbrev pub Lives : ℕ → ℕ → ℕ → List Command → Type 0
+Lives first name now commands =
+    (end : ℕ) × HasRun name commands end × (now < end) × (next_seq_of name (notes_of first commands) < seq_limit)
+
+-- exactly such names live
+abbrev pub subscriptions_live_until_their_end : Type 0
+subscriptions_live_until_their_end = (first name now : ℕ) (commands : List Command) →
+    (Contains (alive_names now commands (notes_of first commands)) name) ↔ Lives first name now commands
+
+-- a tick releases exactly where some change waits, and no release came before it or the last one is long enough past
+abbrev pub ticks_release_what_is_due : Type 0
+ticks_release_what_is_due = (first now : ℕ) (commands : List Command) →
+    IsSome (release_at now (scans_of first commands) (releases_of first commands))
+    ↔ ((released_to first (releases_of first commands) < end_of (scans_of first commands))
+    × ((releases_of first commands ≡ [])
+    ⊎ ((last : Release) × (before : List Release) × (releases_of first commands ≡ last ∷ before) × (last.moment + release_pause ≤ now))))
+
+-- the releases at which a name lived, the oldest first
+abbrev pub and_lived : Bool → Option Release → List Release → List Release
+and_lived true (Some release) releases = releases ++ release ∷ []
+and_lived true None releases = releases
+and_lived false o releases = releases
+
+abbrev pub lived_at : ℕ → ℕ → List Command → List Release
+lived_at first name [] = []
+lived_at first name (Ticks moment ∷ older) =
+    and_lived (is_alive name moment older && nat_lt (next_seq_of name (notes_of first older)) seq_limit)
+    (release_at moment (scans_of first older) (releases_of first older)) (lived_at first name older)
+lived_at first name (command ∷ older) = lived_at first name older
+
+-- the note of a release under a SEQ, and the notes of releases under SEQs from one on
+abbrev pub note_of_release : History → ℕ → ℕ → Release → Note
+note_of_release history name seq release =
+    record { name = name; seq = seq; number = release.to; events = events_between history release.from release.to }
+
+abbrev pub notes_of_releases : History → ℕ → ℕ → List Release → List Note
+notes_of_releases history name seq [] = []
+notes_of_releases history name seq (release ∷ releases) = note_of_release history name seq release ∷ notes_of_releases history name (seq + 1) releases
+
+-- the notes of a subscription are its first note, with the number at its making, and one of each release at which it lived, in
+-- order: its k-th note is that of the k-th such release
+abbrev pub notes_are_of_releases : Type 0
+notes_are_of_releases = (first name : ℕ) (commands : List Command) → 1 ≤ name → name ≤ granted commands →
+    (number : ℕ) × (sent_to name (notes_of first commands)
+    ≡ first_note name number ∷ notes_of_releases (scans_of first commands) name 1 (lived_at first name commands))

@@ -1,0 +1,24 @@
+-- The premises of the laws on honest servers hold of a replica that is given notes out of order.
+use Rattle.std.proofs.Common.{◌∷◌, refl, arith}
+use Rattle.cds_catalog.specs.Laws.{IsLibrary}
+use Rattle.cds_follow.specs.Given.{Asks, Gets, IsGiven}
+use Rattle.cds_commands.specs.Commands.{AreAccepted}
+use Rattle.cds_commands.specs.Evaluated.{one, two, added, added_other}
+use Rattle.cds_follow.specs.Evaluated.{prepared, tracks_come, a_token}
+
+one-is : IsLibrary one
+one-is = record { ascending = tt; rootless = (refl, tt); held = (refl, tt) }
+
+two-is : IsLibrary two
+two-is = record { ascending = (refl, tt); rootless = (refl, (refl, tt)); held = (refl, (refl, tt)) }
+
+pub accepted : AreAccepted 0 tracks_come
+accepted = record {
+  libraries = (two-is, (one-is, tt));
+  few = (omega arith, (omega arith, tt));
+  numbers = omega arith;
+}
+
+pub given : IsGiven a_token 0 tracks_come (Asks 5 ∷ Asks 5 ∷ Gets 5 added ∷ Gets 5 added_other ∷ prepared)
+given =
+    (omega arith, tt, (omega arith, tt, (omega arith, (1, omega arith, refl), (omega arith, (2, omega arith, refl), (omega arith, (0, omega arith, refl), (omega arith, (refl, omega arith, omega arith), (omega arith, tt, (omega arith, tt, (omega arith, tt, (omega arith, tt, (omega arith, tt, (omega arith, tt, (omega arith, tt, (omega arith, tt, tt))))))))))))))

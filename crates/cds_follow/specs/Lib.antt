@@ -1,0 +1,14 @@
+pub mod Copy
+pub mod Evaluated
+pub mod Follow
+pub mod Given
+pub mod HonestLaws
+pub mod Inbox
+pub mod InboxLaws
+pub mod KnownLaws
+pub mod LoadTurns
+pub mod Named
+pub mod Seen
+pub mod ServerLaws
+pub mod StepLaws
+pub mod TrackerLaws

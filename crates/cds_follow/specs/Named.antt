@@ -1,0 +1,39 @@
+-- What a replica knows does not depend on the names themselves, only on which notes have one name: so what holds where each
+-- subscription is named by the number of its grant holds for every way to name them apart.
+use Rattle.std.specs.Prelude.{◌≡◌, ℕ, List, [], ◌∷◌}
+use Rattle.cds_commands.specs.Notes.{Note}
+use Rattle.cds_follow.specs.Inbox.{ReplicaTurn, Begins, Shows, Requests, Accepts, Refuses, Delivers, taken_by, arrival}
+use Rattle.cds_follow.specs.Follow.{with_notes, known_by, says, and_turn}
+
+-- a way to name grants, in which no two have one name
+abbrev pub TellApart : (ℕ → ℕ) → Type 0
+TellApart names = (m n : ℕ) → names m ≡ names n → m ≡ n
+
+-- a note, a turn and turns under the names
+abbrev pub named_note : (ℕ → ℕ) → Note → Note
+named_note names note = record { name = names note.name; seq = note.seq; number = note.number; events = note.events }
+
+abbrev pub named_turn : (ℕ → ℕ) → ReplicaTurn → ReplicaTurn
+named_turn names Begins = Begins
+named_turn names (Shows shown) = Shows shown
+named_turn names Requests = Requests
+named_turn names (Accepts name) = Accepts (names name)
+named_turn names Refuses = Refuses
+named_turn names (Delivers note) = Delivers (named_note names note)
+
+abbrev pub named : (ℕ → ℕ) → List ReplicaTurn → List ReplicaTurn
+named names [] = []
+named names (turn ∷ older) = named_turn names turn ∷ named names older
+
+-- under any names that tell grants apart a replica knows the same, says the same, answers a note the same, and refuses the same
+-- turns
+pub record KnowsTheSame (names : ℕ → ℕ) (turns : List ReplicaTurn) : Type 0 where
+  pub knows : known_by (named names turns) ≡ known_by turns
+  pub says_so : says (named names turns) ≡ says turns
+  pub hears : (note : Note) → arrival (named_note names note) (named names turns) ≡ arrival note turns
+  pub takes : (turn : ReplicaTurn) →
+      with_notes (taken_by (named_turn names turn) (named names turns)) (known_by (named names turns)) ≡ with_notes (taken_by turn turns) (known_by turns)
+  pub goes_on : (turn : ReplicaTurn) → and_turn (named_turn names turn) (named names turns) ≡ named names (and_turn turn turns)
+
+abbrev pub names_do_not_matter : Type 0
+names_do_not_matter = (names : ℕ → ℕ) (turns : List ReplicaTurn) → TellApart names → KnowsTheSame names turns

@@ -1,0 +1,8 @@
+//! Which notes a replica takes, and what it knows from them and from the replies that it reads.
+#![tactic(auto)]
+
+pub mod evaluated;
+pub mod laws;
+mod says;
+
+pub use says::Says;

@@ -1,0 +1,55 @@
+-- What a server replies at a moment (UPnP ContentDirectory:4 on Browse, GetSystemUpdateID and the reset token).
+use Rattle.std.specs.Prelude.{ℕ, cond, nat_eq, List, [], ◌∷◌, length, take, drop, Option, Some, None, unwrap_or}
+use Rattle.cds_object.specs.Object.{ObjectRow, is_folder}
+use Rattle.cds_object.specs.Tree.{row_of, children_of}
+use Rattle.cds_object.specs.declared.row.Trackers.{Trackers}
+use Rattle.cds_load.specs.declared.exchange.Ask.{Ask}
+use Rattle.cds_load.specs.declared.exchange.Ask.TheVariants.{Token, Number as AskNumber, Metadata, Children}
+use Rattle.cds_load.specs.declared.exchange.Shown.{Shown}
+use Rattle.cds_load.specs.declared.exchange.Shown.TheVariants.{Text, Number, Page, Fault}
+
+-- what a server has at a moment: its reset token, the number of its newest change, and its rows
+pub record Moment : Type 0 where
+  pub token : List ℕ
+  pub number : ℕ
+  pub rows : List ObjectRow
+
+-- how many children are asked for at once; so a page of a server that replies as this one has no more rows
+abbrev pub page_size : ℕ
+page_size = 256
+
+-- the containerUpdateID of a row; a track has none
+abbrev pub container_update : Option ObjectRow → ℕ
+container_update None = 0
+container_update (Some row) = of_trackers row.trackers
+  where
+    of_trackers : Option Trackers → ℕ
+    of_trackers None = 0
+    of_trackers (Some t) = t.container_update
+
+-- the UpdateID that a reply on an object bears: the server's number for the root, a container's own, and for a track
+-- its parent's
+abbrev pub update_of : Moment → ObjectRow → ℕ
+update_of moment row =
+    cond (nat_eq row.id 0) moment.number
+    (cond (is_folder row.content) (container_update (Some row)) (container_update (row_of (unwrap_or row.parent 0) moment.rows)))
+
+-- the reply to an ask for an object's row
+abbrev pub metadata_reply : Moment → Option ObjectRow → Shown
+metadata_reply moment None = Fault 701
+metadata_reply moment (Some row) = Page (row ∷ []) 1 (update_of moment row)
+
+-- the reply to an ask for an object's children from a place on
+abbrev pub children_reply : Moment → ℕ → Option ObjectRow → Shown
+children_reply moment start None = Fault 701
+children_reply moment start (Some row) =
+    cond (is_folder row.content)
+    (Page (take page_size (drop start (children_of row.id moment.rows))) (length (children_of row.id moment.rows)) (update_of moment row))
+    (Fault 710)
+
+-- the reply to an ask
+abbrev pub reply_to : Moment → Ask → Shown
+reply_to moment Token = Text moment.token
+reply_to moment AskNumber = Number moment.number
+reply_to moment (Metadata id) = metadata_reply moment (row_of id moment.rows)
+reply_to moment (Children id start) = children_reply moment start (row_of id moment.rows)

@@ -1,9 +1,0 @@
-use Rattle.std.proofs.Common.{refl}
-use Rattle.std.specs.Fmt.{digits}
-use Rattle.cds_model.specs.Report.{script_ending}
-use Rattle.cds_object.specs.Fragment.{text_element, number_element, object_attributes, duration_text, seconds_text, duration_attribute, number_attribute, rate_attribute, sound_attributes, resource_text, container_front, trackers_text, resource_attributes, work_text, item_front}
-use Rattle.cds_model.proofs.evaluated.empty_library.Goals as goal
-
-pub returns : goal.returns
-unfolding script_ending digits text_element number_element object_attributes duration_text seconds_text duration_attribute number_attribute rate_attribute sound_attributes resource_text container_front trackers_text resource_attributes work_text item_front
-returns c = refl

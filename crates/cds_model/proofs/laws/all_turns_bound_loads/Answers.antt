@@ -1,5 +1,0 @@
-use Rattle.cds_model.proofs.Played.{turns-bound_loads}
-use Rattle.cds_model.proofs.laws.all_turns_bound_loads.Goals as goal
-
-pub returns : goal.returns
-returns c = turns-bound_loads

@@ -1,5 +1,0 @@
-use Rattle.cds_model.proofs.Stood.{turns-stand}
-use Rattle.cds_model.proofs.laws.all_turns_stand_at_scan_ends.Goals as goal
-
-pub returns : goal.returns
-returns c = turns-stand

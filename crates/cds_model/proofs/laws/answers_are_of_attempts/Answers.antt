@@ -1,5 +1,0 @@
-use Rattle.cds_model.proofs.Traces.{answers-of_attempts}
-use Rattle.cds_model.proofs.laws.answers_are_of_attempts.Goals as goal
-
-pub returns : goal.returns
-returns c = answers-of_attempts

@@ -1,5 +1,0 @@
-use Rattle.cds_model.proofs.Traces.{asks-of_attempts}
-use Rattle.cds_model.proofs.laws.asks_are_of_attempts.Goals as goal
-
-pub returns : goal.returns
-returns c = asks-of_attempts

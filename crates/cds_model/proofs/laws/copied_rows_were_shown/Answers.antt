@@ -1,5 +1,0 @@
-use Rattle.cds_model.proofs.Seen.{copied-shown}
-use Rattle.cds_model.proofs.laws.copied_rows_were_shown.Goals as goal
-
-pub returns : goal.returns
-returns c = copied-shown

@@ -1,5 +1,0 @@
-use Rattle.cds_model.proofs.Traces.{copies-of_attempts}
-use Rattle.cds_model.proofs.laws.copies_are_of_attempts.Goals as goal
-
-pub returns : goal.returns
-returns c = copies-of_attempts

@@ -1,5 +1,0 @@
-use Rattle.cds_model.proofs.Bounded.{loads-bounded}
-use Rattle.cds_model.proofs.laws.loads_are_bounded.Goals as goal
-
-pub returns : goal.returns
-returns c = loads-bounded

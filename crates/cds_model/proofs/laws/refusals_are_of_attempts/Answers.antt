@@ -1,5 +1,0 @@
-use Rattle.cds_model.proofs.Traces.{refusals-of_attempts}
-use Rattle.cds_model.proofs.laws.refusals_are_of_attempts.Goals as goal
-
-pub returns : goal.returns
-returns c = refusals-of_attempts

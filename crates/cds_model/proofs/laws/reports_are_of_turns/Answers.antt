@@ -1,5 +1,0 @@
-use Rattle.cds_model.proofs.Played.{reports-of_turns}
-use Rattle.cds_model.proofs.laws.reports_are_of_turns.Goals as goal
-
-pub returns : goal.returns
-returns c = reports-of_turns

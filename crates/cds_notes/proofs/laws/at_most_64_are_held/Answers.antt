@@ -1,5 +1,0 @@
-use Rattle.cds_notes.proofs.FewHeld.{few-held}
-use Rattle.cds_notes.proofs.laws.at_most_64_are_held.Goals as goal
-
-pub returns : goal.returns
-returns c = few-held

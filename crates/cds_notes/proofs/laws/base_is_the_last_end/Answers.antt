@@ -1,5 +1,0 @@
-use Rattle.cds_notes.proofs.Ended.{base-last-end}
-use Rattle.cds_notes.proofs.laws.base_is_the_last_end.Goals as goal
-
-pub returns : goal.returns
-returns c = base-last-end

@@ -1,5 +1,0 @@
-use Rattle.cds_notes.proofs.Delivered.{delivered-are-received}
-use Rattle.cds_notes.proofs.laws.delivered_notes_are_received.Goals as goal
-
-pub returns : goal.returns
-returns c = delivered-are-received

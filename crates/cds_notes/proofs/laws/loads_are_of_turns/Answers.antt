@@ -1,5 +1,0 @@
-use Rattle.cds_notes.proofs.LoadTurns.{loads-are-of-turns}
-use Rattle.cds_notes.proofs.laws.loads_are_of_turns.Goals as goal
-
-pub returns : goal.returns
-returns c = loads-are-of-turns

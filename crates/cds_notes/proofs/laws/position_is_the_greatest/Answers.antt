@@ -1,5 +1,0 @@
-use Rattle.cds_notes.proofs.Position.{position-greatest}
-use Rattle.cds_notes.proofs.laws.position_is_the_greatest.Goals as goal
-
-pub returns : goal.returns
-returns c = position-greatest

@@ -1,5 +1,0 @@
-use Rattle.cds_notes.proofs.Came.{notes-came}
-use Rattle.cds_notes.proofs.laws.received_notes_came.Goals as goal
-
-pub returns : goal.returns
-returns c = notes-came

@@ -1,5 +1,0 @@
-use Rattle.cds_notes.proofs.Seqs.{seqs-count}
-use Rattle.cds_notes.proofs.laws.seqs_count_from_zero.Goals as goal
-
-pub returns : goal.returns
-returns c = seqs-count

@@ -1,5 +1,0 @@
-use Rattle.cds_notes.proofs.LeadsSpan.{spans-lead}
-use Rattle.cds_notes.proofs.laws.spans_lead_to_the_rows.Goals as goal
-
-pub returns : goal.returns
-returns c = spans-lead

@@ -1,5 +1,0 @@
-use Rattle.cds_notes.proofs.Received.{longest-run}
-use Rattle.cds_notes.proofs.laws.the_longest_run_is_taken.Goals as goal
-
-pub returns : goal.returns
-returns c = longest-run

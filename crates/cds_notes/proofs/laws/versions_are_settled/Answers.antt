@@ -1,5 +1,0 @@
-use Rattle.cds_notes.proofs.Served.{versions-settled}
-use Rattle.cds_notes.proofs.laws.versions_are_settled.Goals as goal
-
-pub returns : goal.returns
-returns c = versions-settled

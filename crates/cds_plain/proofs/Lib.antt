@@ -1,4 +1,0 @@
-pub mod Broken
-pub mod Ordered
-pub mod Scanned
-pub mod Standing

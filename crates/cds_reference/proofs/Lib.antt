@@ -1,0 +1,4 @@
+pub mod Ordered
+pub mod Scanned
+pub mod Spans
+pub mod Standing

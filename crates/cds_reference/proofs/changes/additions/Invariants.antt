@@ -1,0 +1,10 @@
+use Rattle.std.proofs.Common.{◌≡◌, ◌≤◌, take}
+use Rattle.std.specs.List.{count_by}
+use Rattle.cds_catalog.specs.History.{is_addition}
+use Rattle.cds_reference.proofs.changes.additions.Given as goal
+
+abbrev pub invariant-loop-change : goal.invariant-loop-change
+invariant-loop-change l = record {
+  exact : l.count ≡ count_by is_addition (take l.change-index l.changes);
+  within : l.count ≤ l.change-index;
+}

@@ -1,0 +1,117 @@
+//! What notes that are taken one after the other tell, and the runs of SEQs in which they are taken.
+
+ghost use Rattle.std.specs.Prelude.{◌≡◌, ◌+◌, ◌^◌, ◌≤◌, ◌<◌, OnOk, IfSome, is_some, option_copied};
+ghost use Rattle.cds_follow.specs.Inbox.{has_seq};
+ghost use Rattle.cds_commands.specs.Notes.{note_of, notes_from_to};
+ghost use Rattle.cds_replica.specs.Inboxed.{run_end, of_name};
+ghost use Rattle.cds_replica.specs.NewChanges.{nothing_told, tells, tells_note};
+
+use crate::changes::add_changes_above;
+use crate::note::{Note, Sid};
+use cds_base::Mem;
+use cds_event::Event;
+use std::alloc::Global;
+use std::marker::Model;
+
+/// The position and the greatest number of a note after some notes, and the changes that were new in them.
+#[derive(Drop, Debug)]
+pub struct NewChanges {
+    position: u32,
+    last_note: u32,
+    changes: Vec<Event>,
+}
+
+impl Model for NewChanges {
+    ghost use Rattle.cds_replica.specs.NewChanges.{KeptChanges};
+
+    ghost Value = { KeptChanges };
+
+    ghost view = { λ t. record { position = t.position; last_note = t.last_note; changes = t.changes.items } };
+}
+
+impl NewChanges {
+    /// What no note tells, at a position.
+    pub fn new(alloc: Global, position: u32, last_note: u32) -> NewChanges
+        ensures { result ≡ nothing_told position last_note }
+    {
+        NewChanges {
+            position,
+            last_note,
+            changes: Vec::new(alloc),
+        }
+    }
+
+    /// The greatest number of a note.
+    pub fn last_note(&self) -> u32
+        ensures { result ≡ self.now.last_note }
+    {
+        self.last_note
+    }
+
+    /// The changes that were new.
+    pub fn changes(&self) -> &[Event]
+        ensures { result.now ≡ self.now.changes }
+    {
+        self.changes.as_slice()
+    }
+
+    /// The changes that were new, by value.
+    pub fn into_changes(self) -> Vec<Event>
+        ensures { result.items ≡ self.changes }
+    {
+        self.changes
+    }
+
+    /// Adds what one more note tells.
+    pub fn add(&mut self, note: &Note) -> Result<(), Mem>
+        ensures { OnOk result (self.new ≡ tells_note note.now self.old) }
+    {
+        add_changes_above(&mut self.changes, self.position, note.events.as_slice())?;
+        self.position = self.position.max(note.number);
+        self.last_note = self.last_note.max(note.number);
+        Ok(())
+    }
+
+    /// Adds what the notes of a name tell whose SEQs go from one up to another.
+    pub fn add_run(&mut self, notes: &[Note], sid: Sid, from: u64, to: u64) -> Result<(), Mem>
+        ensures { OnOk result (self.new ≡ tells (notes_from_to from to (of_name sid.0 notes.now)) self.old) }
+    {
+        for seq in from..to {
+            if let Some(note) = note_of(notes, sid, seq) {
+                self.add(note)?;
+            }
+        }
+        Ok(())
+    }
+}
+
+/// The note of a name and a SEQ, which came first of these: the newest stands first.
+pub fn note_of(notes: &[Note], sid: Sid, seq: u64) -> Option<&Note>
+    ensures note { option_copied result ≡ note_of seq (of_name sid.0 notes.now) }
+    ensures seq { IfSome result (λ note. note.now.seq ≡ seq) }
+    ensures found { is_some result ≡ has_seq (of_name sid.0 notes.now) seq }
+{
+    let mut found = None;
+    for note in notes {
+        if note.is_at(sid, seq) {
+            found = Some(note);
+        }
+    }
+    found
+}
+
+/// The SEQ after those that the notes of a name have from one on without a hole.
+pub fn run_end(notes: &[Note], sid: Sid, from: u64) -> u64
+    requires { from ≤ 2 ^ 32 }
+    ensures end { result ≡ run_end from (of_name sid.0 notes.now) }
+    ensures within { result ≤ 2 ^ 32 }
+{
+    let mut seq = from;
+    for _held in 0..notes.len() {
+        match note_of(notes, sid, seq) {
+            None => return seq,
+            Some(note) => seq = note.next_seq(),
+        }
+    }
+    seq
+}

@@ -1,0 +1,18 @@
+//! Laws of the lines of a script: each clause is one of them.
+
+ghost use Rattle.cds_script.specs.LineLaws as laws;
+
+/// All bytes are lines that are each followed by an LF, and a last line without one, which may be empty.
+pub fn scripts_are_lines()
+    ensures { laws.scripts_are_lines }
+{}
+
+/// Lines that are each followed by an LF are the lines of their bytes, and each was ended.
+pub fn ended_lines_are_read()
+    ensures { laws.ended_lines_are_read }
+{}
+
+/// A last line that has bytes and no LF is one more line, and the only one that was not ended.
+pub fn last_lines_are_read()
+    ensures { laws.last_lines_are_read }
+{}
