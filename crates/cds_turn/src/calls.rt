@@ -39,7 +39,8 @@ impl<V: StandsFor + Drop> Turn<V> {
         }
     }
 
-    /// Does an act on the value once it is the caller's turn, which may take for ever. The answer is what the act gave.
+    /// Does an act on the value once it is the caller's turn, which may take for ever. The answer is one that the act's
+    /// meaning allows for the list found.
     pub fn with<A: Act<V>, R: Wait>(&self, rt: &R, seat: &mut Seat<V>, act: A) -> A::Out
         requires { IsSeatOf self.now seat.old }
         ensures seat { IsSeatOf self.now seat.new }
@@ -90,8 +91,7 @@ impl<V: StandsFor + Drop> Turn<V> {
         table::merge(&self.table.shared, &mut into.place, place);
     }
 
-    /// The value. `Open` comes where a ticket is out, which is never so where the seat has all passes; the value is then
-    /// gone.
+    /// The value. Where the seat has all passes `Open` never comes; where it comes, the value is gone.
     pub fn close(self, seat: Seat<V>) -> Result<V, Open>
         requires { IsSeatOf self seat }
         ensures value { IfOk result (λ value. StandsBeyond V.stands (start_of self seat) (seen_by seat) value) }
