@@ -56,7 +56,8 @@ pub fn unescape(alloc: Global, text: &str) -> Result<String, TextError>
     ensures exact { (value : List ℕ) → Says text.now value → MatchResult result (λ read. string_bytes read ≡ value) (λ fault. fault ≡ TextError.Mem) }
     ensures exact_reference { (at : ℕ) → IsBadReference text.now at → MatchResult result (λ _. ⊥) (IsOrMem (TextError.BadReference at)) }
     ensures exact_character { (at : ℕ) → IsBadCharacter text.now at → MatchResult result (λ _. ⊥) (IsOrMem (TextError.BadCharacter at)) }
-    ensures inverse { (plain : List ℕ) → AreAllowed plain → text.now ≡ escaped plain → MatchResult result (λ read. string_bytes read ≡ plain) (λ fault. fault ≡ TextError.Mem) }
+    ensures inverse { (plain : List ℕ) → AreAllowed plain → text.now ≡ escaped plain → MatchResult result
+        (λ read. string_bytes read ≡ plain) (λ fault. fault ≡ TextError.Mem) }
 {
     let mut read = String::new(alloc);
     let mut rest = text;
@@ -91,7 +92,8 @@ fn first_piece(text: &str, at: usize) -> Result<(char, &str), TextError>
 
 /// What the reference says whose `&` is before the text, and what follows its `;`.
 fn reference(text: &str) -> Option<(char, &str)>
-    ensures { MatchOption result (BeginsNoReference (38 ∷ text.now)) (λ read. (written : List ℕ) × (38 ∷ text.now ≡ written ++ read.1.now) × IsReference written read.0) }
+    ensures { MatchOption result (BeginsNoReference (38 ∷ text.now))
+        (λ read. (written : List ℕ) × (38 ∷ text.now ≡ written ++ read.1.now) × IsReference written read.0) }
 {
     let (name, after) = text.split_once(';')?;
     let says = named(name)?;

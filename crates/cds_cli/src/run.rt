@@ -50,7 +50,8 @@ Exit status:
 /// Plays the script on the source.
 fn play<S: Source, K: Sink>(alloc: Global, source: &mut S, sink: &mut K) -> u8
     ensures ends { WhereTold (S.left source.old) (λ bytes. Ends result (script_ending bytes).status) }
-    ensures writes { WhereTold (S.left source.old) (λ bytes. WhereTold (K.holds sink.old) (λ before. Writes result (script_ending bytes).text before (K.holds sink.new))) }
+    ensures writes { WhereTold (S.left source.old) (λ bytes. WhereTold (K.holds sink.old)
+        (λ before. Writes result (script_ending bytes).text before (K.holds sink.new))) }
     ensures whole { WhereTold (S.left source.old) (λ bytes. result ≡ 0 → S.left source.new ≡ Some []) }
     ensures within { result ≡ 0 → S.moved source.new ≤ raised (S.moved source.old) INPUT_LIMIT }
     ensures taken { S.moved source.new ≤ S.moved source.old + (INPUT_LIMIT + 1) }
@@ -83,7 +84,8 @@ fn play<S: Source, K: Sink>(alloc: Global, source: &mut S, sink: &mut K) -> u8
 /// is status 2, a sink that could not be written 3, and 4 is that memory ran out.
 pub fn run<S: Source, K: Sink>(alloc: Global, words: &Words, source: &mut S, sink: &mut K) -> u8
     // What was written is exactly the report of the script, up to its end, its broken line or its limit.
-    ensures report { command_of words.now ≡ Some Replay → WhereTold (S.left source.old) (λ bytes. WhereTold (K.holds sink.old) (λ before. Writes result (script_ending bytes).text before (K.holds sink.new))) }
+    ensures report { command_of words.now ≡ Some Replay → WhereTold (S.left source.old)
+        (λ bytes. WhereTold (K.holds sink.old) (λ before. Writes result (script_ending bytes).text before (K.holds sink.new))) }
     ensures status { command_of words.now ≡ Some Replay → WhereTold (S.left source.old) (λ bytes. Ends result (script_ending bytes).status) }
     ensures read_to_its_end { TakesInput (command_of words.now) → WhereTold (S.left source.old) (λ bytes. result ≡ 0 → S.left source.new ≡ Some []) }
 
@@ -97,7 +99,8 @@ pub fn run<S: Source, K: Sink>(alloc: Global, words: &Words, source: &mut S, sin
     // What was written is what the script's turns write, one after the other, and then its last line. Each ask of these
     // turns that writes `behind load` comes before any load was begun, or after fewer reads than a load of the catalog takes,
     // and two more, since the load began, a first note dropped the copy, or the catalog last changed.
-    ensures turns { command_of words.now ≡ Some Replay → WhereTold (S.left source.old) (λ bytes. WhereTold (K.holds sink.old) (λ before. Writes result (report_of (script_turns bytes) ++ (script_stop bytes).text) before (K.holds sink.new))) }
+    ensures turns { command_of words.now ≡ Some Replay → WhereTold (S.left source.old) (λ bytes. WhereTold (K.holds sink.old)
+        (λ before. Writes result (report_of (script_turns bytes) ++ (script_stop bytes).text) before (K.holds sink.new))) }
     ensures load_bound { command_of words.now ≡ Some Replay → WhereTold (S.left source.old) (λ bytes. BoundsLoads (script_turns bytes)) }
 
     // Each ask of these turns that writes `stands` and a number writes a scan end of the scans that were accepted by then, and
@@ -111,7 +114,8 @@ pub fn run<S: Source, K: Sink>(alloc: Global, words: &Words, source: &mut S, sin
 
     // What `check` wrote is the one written form of the events that the input is and LF, where it is a StateEvent; else the place
     // of its first fault, or that it is too long.
-    ensures check { command_of words.now ≡ Some Check → WhereTold (S.left source.old) (λ bytes. WhereTold (K.holds sink.old) (λ before. WritesCheck bytes result before (K.holds sink.new))) }
+    ensures check { command_of words.now ≡ Some Check → WhereTold (S.left source.old)
+        (λ bytes. WhereTold (K.holds sink.old) (λ before. WritesCheck bytes result before (K.holds sink.new))) }
     ensures check_status { command_of words.now ≡ Some Check → WhereTold (S.left source.old) (λ bytes. EndsCheck bytes result) }
 
     // Faults of the outside come only where their count rose.
@@ -119,9 +123,12 @@ pub fn run<S: Source, K: Sink>(alloc: Global, words: &Words, source: &mut S, sin
     ensures write_fault { result ≡ 3 → Rose (K.faults sink.old) (K.faults sink.new) }
 
     // The other commands, and words that are no command's, write one text and take nothing of the source.
-    ensures help { command_of words.now ≡ Some Help → EndsText result 0 × WhereTold (K.holds sink.old) (λ before. WritesText result help_text before (K.holds sink.new)) }
-    ensures version { command_of words.now ≡ Some Version → EndsText result 0 × WhereTold (K.holds sink.old) (λ before. WritesText result version_text before (K.holds sink.new)) }
-    ensures usage { command_of words.now ≡ None → EndsText result 5 × WhereTold (K.holds sink.old) (λ before. WritesText result usage_text before (K.holds sink.new)) }
+    ensures help { command_of words.now ≡ Some Help → EndsText result 0 × WhereTold (K.holds sink.old)
+        (λ before. WritesText result help_text before (K.holds sink.new)) }
+    ensures version { command_of words.now ≡ Some Version → EndsText result 0 × WhereTold (K.holds sink.old)
+        (λ before. WritesText result version_text before (K.holds sink.new)) }
+    ensures usage { command_of words.now ≡ None → EndsText result 5 × WhereTold (K.holds sink.old)
+        (λ before. WritesText result usage_text before (K.holds sink.new)) }
     ensures untouched { (TakesInput (command_of words.now) → ⊥) → source.new ≡ source.old }
 
     // No other status comes.

@@ -34,9 +34,21 @@ impl Model for Row {
 
     ghost Value = { ObjectRow };
 
-    ghost view = { λ r. record { id = r.id.0; parent = option_map (λ i. i.0) r.parent; content = r.content; object_update = r.object_update; trackers = r.trackers } };
+    ghost view = { λ r. record {
+      id = r.id.0;
+      parent = option_map (λ i. i.0) r.parent;
+      content = r.content;
+      object_update = r.object_update;
+      trackers = r.trackers;
+    } };
 
-    ghost invariant = { λ r. IsRow (record { id = r.id.0; parent = option_map (λ i. i.0) r.parent; content = r.content; object_update = r.object_update; trackers = r.trackers }) };
+    ghost invariant = { λ r. IsRow (record {
+      id = r.id.0;
+      parent = option_map (λ i. i.0) r.parent;
+      content = r.content;
+      object_update = r.object_update;
+      trackers = r.trackers;
+    }) };
 }
 
 impl Row {

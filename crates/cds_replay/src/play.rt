@@ -65,10 +65,13 @@ pub fn replay<S: Source, K: Sink>(
     ensures ok_end { OnOk result (WhereTold (S.left source.old) (λ script. S.left source.new ≡ Some [])) }
     ensures ok_moved { OnOk result (S.moved source.new ≤ raised (S.moved source.old) INPUT_LIMIT) }
     ensures line_status { IfErr result (λ e. OnLine e (λ line. WhereTold (S.left source.old) (λ script. (script_ending script).status ≡ 1))) }
-    ensures line_report { IfErr result (λ e. OnLine e (λ line. WhereTold (S.left source.old) (λ script. Holds (K.holds sink.old) (script_ending script).text (K.holds sink.new)))) }
-    ensures line_number { IfErr result (λ e. OnLine e (λ line. WhereTold (S.left source.old) (λ script. (front : List ℕ) × ((script_ending script).text ≡ front ++ (outside_ending line).text)))) }
+    ensures line_report { IfErr result (λ e. OnLine e (λ line. WhereTold (S.left source.old)
+        (λ script. Holds (K.holds sink.old) (script_ending script).text (K.holds sink.new)))) }
+    ensures line_number { IfErr result (λ e. OnLine e (λ line. WhereTold (S.left source.old)
+        (λ script. (front : List ℕ) × ((script_ending script).text ≡ front ++ (outside_ending line).text)))) }
     ensures limit_status { IfErr result (λ e. OnLimit e (WhereTold (S.left source.old) (λ script. (script_ending script).status ≡ 6))) }
-    ensures limit_report { IfErr result (λ e. OnLimit e (WhereTold (S.left source.old) (λ script. Holds (K.holds sink.old) (script_ending script).text (K.holds sink.new)))) }
+    ensures limit_report { IfErr result (λ e. OnLimit e (WhereTold (S.left source.old)
+        (λ script. Holds (K.holds sink.old) (script_ending script).text (K.holds sink.new)))) }
     ensures limit_moved { IfErr result (λ e. OnLimit e (raised (S.moved source.old) (line_limit + 1) ≤ S.moved source.new)) }
     ensures read_fault { IfErr result (λ e. OnReadFault e (Rose (S.faults source.old) (S.faults source.new))) }
     ensures write_fault { IfErr result (λ e. OnWriteFault e (Rose (K.faults sink.old) (K.faults sink.new))) }
@@ -100,9 +103,12 @@ fn play_on<S: Source, K: Sink>(
 ) -> Result<(), ReplayError>
     requires sound { Sound script.old }
     requires some { 0 < length buffer.old }
-    ensures well { (ending : List ℕ → Ending) (bytes : List ℕ) → GoesOn script.old ending → S.left source.old ≡ Some bytes → OnOk result (EndsIn (ending bytes) (K.holds sink.old) (K.holds sink.new)) }
-    ensures end { (ending : List ℕ → Ending) (bytes : List ℕ) → GoesOn script.old ending → S.left source.old ≡ Some bytes → OnOk result (S.left source.new ≡ Some []) }
-    ensures stops { (ending : List ℕ → Ending) (bytes : List ℕ) → GoesOn script.old ending → S.left source.old ≡ Some bytes → IfErr result (λ e. Stopped e (ending bytes) (K.holds sink.old) (K.holds sink.new)) }
+    ensures well { (ending : List ℕ → Ending) (bytes : List ℕ) → GoesOn script.old ending → S.left source.old ≡ Some bytes →
+        OnOk result (EndsIn (ending bytes) (K.holds sink.old) (K.holds sink.new)) }
+    ensures end { (ending : List ℕ → Ending) (bytes : List ℕ) → GoesOn script.old ending → S.left source.old ≡ Some bytes →
+        OnOk result (S.left source.new ≡ Some []) }
+    ensures stops { (ending : List ℕ → Ending) (bytes : List ℕ) → GoesOn script.old ending → S.left source.old ≡ Some bytes →
+        IfErr result (λ e. Stopped e (ending bytes) (K.holds sink.old) (K.holds sink.new)) }
     ensures moved { OnOk result (S.moved source.new ≤ raised (S.moved source.old) (left_in script.old)) }
     ensures limit { IfErr result (λ e. OnLimit e (raised (S.moved source.old) (left_in script.old + line_limit + 1 - script_limit) ≤ S.moved source.new)) }
     ensures read_fault { IfErr result (λ e. OnReadFault e (Rose (S.faults source.old) (S.faults source.new))) }
@@ -132,10 +138,12 @@ fn take_piece<K: Sink>(
     sink: &mut K,
 ) -> Result<(), ReplayError>
     requires { Sound script.old }
-    ensures goes { (ending : List ℕ → Ending) → GoesOn script.old ending → OnOk result (Played ending piece.now (K.holds sink.old) (K.holds sink.new) script.new) }
+    ensures goes { (ending : List ℕ → Ending) → GoesOn script.old ending →
+        OnOk result (Played ending piece.now (K.holds sink.old) (K.holds sink.new) script.new) }
     ensures sound { OnOk result (Sound script.new) }
     ensures left { OnOk result (left_in script.new + length piece.now ≡ left_in script.old) }
-    ensures stops { (ending : List ℕ → Ending) (more : List ℕ) → GoesOn script.old ending → IfErr result (λ e. Stopped e (ending (piece.now ++ more)) (K.holds sink.old) (K.holds sink.new)) }
+    ensures stops { (ending : List ℕ → Ending) (more : List ℕ) → GoesOn script.old ending → IfErr result
+        (λ e. Stopped e (ending (piece.now ++ more)) (K.holds sink.old) (K.holds sink.new)) }
     ensures limit { IfErr result (λ e. OnLimit e (left_in script.old + line_limit < script_limit + length piece.now)) }
     ensures no_read { IfErr result (λ e. OnReadFault e ⊥) }
     ensures write_fault { IfErr result (λ e. OnWriteFault e (Rose (K.faults sink.old) (K.faults sink.new))) }
@@ -158,10 +166,12 @@ fn take_line<K: Sink>(
 ) -> Result<(), ReplayError>
     requires sound { Sound script.old }
     requires whole { is_unbroken line.now ≡ true }
-    ensures goes { (ending : List ℕ → Ending) → GoesOn script.old ending → OnOk result (Played ending (line.now ++ 10 ∷ []) (K.holds sink.old) (K.holds sink.new) script.new) }
+    ensures goes { (ending : List ℕ → Ending) → GoesOn script.old ending →
+        OnOk result (Played ending (line.now ++ 10 ∷ []) (K.holds sink.old) (K.holds sink.new) script.new) }
     ensures sound { OnOk result (Sound script.new) }
     ensures left { OnOk result (left_in script.new + (length line.now + 1) ≡ left_in script.old) }
-    ensures stops { (ending : List ℕ → Ending) (more : List ℕ) → GoesOn script.old ending → IfErr result (λ e. Stopped e (ending ((line.now ++ 10 ∷ []) ++ more)) (K.holds sink.old) (K.holds sink.new)) }
+    ensures stops { (ending : List ℕ → Ending) (more : List ℕ) → GoesOn script.old ending → IfErr result
+        (λ e. Stopped e (ending ((line.now ++ 10 ∷ []) ++ more)) (K.holds sink.old) (K.holds sink.new)) }
     ensures limit { IfErr result (λ e. OnLimit e (left_in script.old + line_limit < script_limit + (length line.now + 1))) }
     ensures no_read { IfErr result (λ e. OnReadFault e ⊥) }
     ensures write_fault { IfErr result (λ e. OnWriteFault e (Rose (K.faults sink.old) (K.faults sink.new))) }
@@ -182,10 +192,12 @@ fn keep_rest<K: Sink>(
 ) -> Result<(), ReplayError>
     requires sound { Sound script.old }
     requires whole { is_unbroken rest.now ≡ true }
-    ensures goes { (ending : List ℕ → Ending) → GoesOn script.old ending → OnOk result (Played ending rest.now (K.holds sink.old) (K.holds sink.new) script.new) }
+    ensures goes { (ending : List ℕ → Ending) → GoesOn script.old ending →
+        OnOk result (Played ending rest.now (K.holds sink.old) (K.holds sink.new) script.new) }
     ensures sound { OnOk result (Sound script.new) }
     ensures left { OnOk result (left_in script.new + length rest.now ≡ left_in script.old) }
-    ensures stops { (ending : List ℕ → Ending) (more : List ℕ) → GoesOn script.old ending → IfErr result (λ e. Stopped e (ending (rest.now ++ more)) (K.holds sink.old) (K.holds sink.new)) }
+    ensures stops { (ending : List ℕ → Ending) (more : List ℕ) → GoesOn script.old ending → IfErr result
+        (λ e. Stopped e (ending (rest.now ++ more)) (K.holds sink.old) (K.holds sink.new)) }
     ensures limit { IfErr result (λ e. OnLimit e (left_in script.old + line_limit < script_limit + length rest.now)) }
     ensures no_read { IfErr result (λ e. OnReadFault e ⊥) }
     ensures write_fault { IfErr result (λ e. OnWriteFault e (Rose (K.faults sink.old) (K.faults sink.new))) }

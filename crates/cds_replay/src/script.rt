@@ -69,7 +69,8 @@ impl Script {
     /// Answers the last line, where it has no LF.
     pub fn finish(&mut self, alloc: Global, out: &mut String) -> Result<Option<Stop>, Mem>
         requires { Sound self.old }
-        ensures meaning { (ending : List ℕ → Ending) → GoesOn self.old ending → IfOk result (λ stop. Finished stop (ending []) (string_bytes out.old) (string_bytes out.new)) }
+        ensures meaning { (ending : List ℕ → Ending) → GoesOn self.old ending → IfOk result
+            (λ stop. Finished stop (ending []) (string_bytes out.old) (string_bytes out.new)) }
         ensures no_limit { IfOk result (λ stop. AtLimit stop ⊥) }
     {
         if self.partial.is_empty() {
@@ -89,7 +90,8 @@ impl Script {
     ) -> Result<Option<Stop>, Mem>
         requires sound { Sound self.old }
         requires whole { is_unbroken line.now ≡ true }
-        ensures meaning { (ending : List ℕ → Ending) (after : List ℕ) → GoesOn self.old ending → IfOk result (λ stop. Fed stop ending (line.now ++ 10 ∷ after) after (string_bytes out.old) (string_bytes out.new) self.new) }
+        ensures meaning { (ending : List ℕ → Ending) (after : List ℕ) → GoesOn self.old ending → IfOk result
+            (λ stop. Fed stop ending (line.now ++ 10 ∷ after) after (string_bytes out.old) (string_bytes out.new) self.new) }
         ensures sound { IfOk result (λ stop. WhileGoing stop (Sound self.new)) }
         ensures left { IfOk result (λ stop. WhileGoing stop (left_in self.new + (length line.now + 1) ≡ left_in self.old)) }
         ensures limit { IfOk result (λ stop. AtLimit stop (left_in self.old + line_limit < script_limit + (length line.now + 1))) }
@@ -113,7 +115,8 @@ impl Script {
         requires sound { Sound self.old }
         requires none { self.old.partial.items ≡ [] }
         requires whole { is_unbroken line.now ≡ true }
-        ensures meaning { (ending : List ℕ → Ending) (after : List ℕ) → GoesOn self.old ending → IfOk result (λ stop. Fed stop ending (line.now ++ 10 ∷ after) after (string_bytes out.old) (string_bytes out.new) self.new) }
+        ensures meaning { (ending : List ℕ → Ending) (after : List ℕ) → GoesOn self.old ending → IfOk result
+            (λ stop. Fed stop ending (line.now ++ 10 ∷ after) after (string_bytes out.old) (string_bytes out.new) self.new) }
         ensures sound { IfOk result (λ stop. WhileGoing stop (Sound self.new)) }
         ensures left { IfOk result (λ stop. WhileGoing stop (left_in self.new + (length line.now + 1) ≡ left_in self.old)) }
         ensures limit { IfOk result (λ stop. AtLimit stop (left_in self.old + line_limit < script_limit + (length line.now + 1))) }
@@ -137,7 +140,8 @@ impl Script {
     ) -> Result<Option<Stop>, Mem>
         requires sound { Sound self.old }
         requires whole { is_unbroken rest.now ≡ true }
-        ensures meaning { (ending : List ℕ → Ending) → GoesOn self.old ending → IfOk result (λ stop. Fed stop ending rest.now [] (string_bytes out.old) (string_bytes out.new) self.new) }
+        ensures meaning { (ending : List ℕ → Ending) → GoesOn self.old ending → IfOk result
+            (λ stop. Fed stop ending rest.now [] (string_bytes out.old) (string_bytes out.new) self.new) }
         ensures sound { IfOk result (λ stop. WhileGoing stop (Sound self.new)) }
         ensures left { IfOk result (λ stop. WhileGoing stop (left_in self.new + length rest.now ≡ left_in self.old)) }
         ensures limit { IfOk result (λ stop. AtLimit stop (left_in self.old + line_limit < script_limit + length rest.now)) }
@@ -175,7 +179,8 @@ fn answer_line(
 ) -> Result<Option<Stop>, Mem>
     requires played { IsPlayed session.old }
     requires bounded { IsBounded session.old }
-    ensures meaning { (turns : List TurnValue) → IsAfter session.old turns → IfOk result (λ stop. LineRead stop turns (meaning_of line.now) number (string_bytes out.old) (string_bytes out.new) session.new) }
+    ensures meaning { (turns : List TurnValue) → IsAfter session.old turns → IfOk result
+        (λ stop. LineRead stop turns (meaning_of line.now) number (string_bytes out.old) (string_bytes out.new) session.new) }
     ensures grows { OnOk result (Grows session.old session.new) }
     ensures played { IfOk result (λ stop. WhileGoing stop (IsPlayed session.new)) }
     ensures no_limit { IfOk result (λ stop. AtLimit stop ⊥) }
@@ -199,7 +204,8 @@ fn answer_turn(
     requires played { IsPlayed session.old }
     requires bounded { IsBounded session.old }
     requires fits { IsInRange turn }
-    ensures meaning { (turns : List TurnValue) → IsAfter session.old turns → IfOk result (λ stop. LineRead stop turns (Means turn) number (string_bytes out.old) (string_bytes out.new) session.new) }
+    ensures meaning { (turns : List TurnValue) → IsAfter session.old turns → IfOk result
+        (λ stop. LineRead stop turns (Means turn) number (string_bytes out.old) (string_bytes out.new) session.new) }
     ensures grows { OnOk result (Grows session.old session.new) }
     ensures played { IfOk result (λ stop. WhileGoing stop (IsPlayed session.new)) }
     ensures no_limit { IfOk result (λ stop. AtLimit stop ⊥) }

@@ -105,7 +105,8 @@ impl Server {
     pub fn subscribe(&mut self, now: u64) -> Result<Option<u32>, Mem>
         requires names { self.old.subscribed.granted + 1 < 2 ^ 32 }
         requires moments { now + granted_time < 2 ^ 64 }
-        ensures after { (first : ℕ) (commands : List Command) → Serves self.old first commands → IfOk result (λ name. Granted first now commands name self.old self.new) }
+        ensures after { (first : ℕ) (commands : List Command) → Serves self.old first commands → IfOk result
+            (λ name. Granted first now commands name self.old self.new) }
         ensures granted { OnOk result (self.new.subscribed.granted ≤ self.old.subscribed.granted + 1) }
         ensures kept { OnErr result (self.new ≡ self.old) }
     {

@@ -85,7 +85,8 @@ impl Session {
         requires fits { IsInRange turn }
         requires bounded { IsBounded self.old }
         ensures after { (turns : List TurnValue) → IsAfter self.old turns → OnOk result (IsAfter self.new (turn ∷ turns)) }
-        ensures written { (turns : List TurnValue) → IsAfter self.old turns → OnOk result (string_bytes out.new ≡ string_bytes out.old ++ written_by turns turn) }
+        ensures written { (turns : List TurnValue) → IsAfter self.old turns →
+            OnOk result (string_bytes out.new ≡ string_bytes out.old ++ written_by turns turn) }
         ensures grows { OnOk result (Grows self.old self.new) }
         ensures played { OnOk result (IsPlayed self.new) }
     {
@@ -143,7 +144,8 @@ impl Session {
     fn scan(&mut self, alloc: Global, out: &mut String) -> Result<(), Mem>
         requires { length self.old.records < 2 ^ 32 }
         ensures after { (turns : List TurnValue) → IsAfter self.old turns → OnOk result (IsAfter self.new (Scan ∷ turns)) }
-        ensures written { (turns : List TurnValue) → IsAfter self.old turns → OnOk result (string_bytes out.new ≡ string_bytes out.old ++ written_by turns Scan) }
+        ensures written { (turns : List TurnValue) → IsAfter self.old turns →
+            OnOk result (string_bytes out.new ≡ string_bytes out.old ++ written_by turns Scan) }
         ensures grows { OnOk result (Grows self.old self.new) }
     {
         let answer = self.server.scan(alloc, &self.records);
@@ -169,7 +171,8 @@ impl Session {
     fn read(&mut self, alloc: Global, out: &mut String) -> Result<(), Mem>
         requires { IsPlayed self.old }
         ensures after { (turns : List TurnValue) → IsAfter self.old turns → OnOk result (IsAfter self.new (Read ∷ turns)) }
-        ensures written { (turns : List TurnValue) → IsAfter self.old turns → OnOk result (string_bytes out.new ≡ string_bytes out.old ++ written_by turns Read) }
+        ensures written { (turns : List TurnValue) → IsAfter self.old turns →
+            OnOk result (string_bytes out.new ≡ string_bytes out.old ++ written_by turns Read) }
         ensures grows { OnOk result (Grows self.old self.new) }
     {
         self.fresh = false;
@@ -191,7 +194,8 @@ impl Session {
     /// Puts what the replica knows, and the rows of its copy where it stands.
     fn ask(&mut self, out: &mut String) -> Result<(), Mem>
         ensures after { (turns : List TurnValue) → IsAfter self.old turns → OnOk result (IsAfter self.new (Ask ∷ turns)) }
-        ensures written { (turns : List TurnValue) → IsAfter self.old turns → OnOk result (string_bytes out.new ≡ string_bytes out.old ++ written_by turns Ask) }
+        ensures written { (turns : List TurnValue) → IsAfter self.old turns →
+            OnOk result (string_bytes out.new ≡ string_bytes out.old ++ written_by turns Ask) }
         ensures grows { OnOk result (Grows self.old self.new) }
     {
         self.fresh = false;
@@ -214,7 +218,8 @@ impl Session {
         requires rises { self.old.clock ≤ moment }
         requires within { moment < moment_limit }
         ensures after { (turns : List TurnValue) → IsAfter self.old turns → OnOk result (IsAfter self.new (At moment ∷ turns)) }
-        ensures written { (turns : List TurnValue) → IsAfter self.old turns → OnOk result (string_bytes out.new ≡ string_bytes out.old ++ written_by turns (At moment)) }
+        ensures written { (turns : List TurnValue) → IsAfter self.old turns →
+            OnOk result (string_bytes out.new ≡ string_bytes out.old ++ written_by turns (At moment)) }
         ensures grows { OnOk result (Grows self.old self.new) }
     {
         let sent = self.server.sent_len();
@@ -229,7 +234,8 @@ impl Session {
         requires granted { self.old.server.subscribed.granted + 1 < 2 ^ 32 }
         requires moment { self.old.clock + granted_time < 2 ^ 64 }
         ensures after { (turns : List TurnValue) → IsAfter self.old turns → OnOk result (IsAfter self.new (Subscribe ∷ turns)) }
-        ensures written { (turns : List TurnValue) → IsAfter self.old turns → OnOk result (string_bytes out.new ≡ string_bytes out.old ++ written_by turns Subscribe) }
+        ensures written { (turns : List TurnValue) → IsAfter self.old turns →
+            OnOk result (string_bytes out.new ≡ string_bytes out.old ++ written_by turns Subscribe) }
         ensures grows { OnOk result (Grows self.old self.new) }
     {
         let sent = self.server.sent_len();
@@ -243,7 +249,8 @@ impl Session {
     fn accept(&mut self, alloc: Global, out: &mut String) -> Result<(), Mem>
         requires { IsPlayed self.old }
         ensures after { (turns : List TurnValue) → IsAfter self.old turns → OnOk result (IsAfter self.new (Accept ∷ turns)) }
-        ensures written { (turns : List TurnValue) → IsAfter self.old turns → OnOk result (string_bytes out.new ≡ string_bytes out.old ++ written_by turns Accept) }
+        ensures written { (turns : List TurnValue) → IsAfter self.old turns →
+            OnOk result (string_bytes out.new ≡ string_bytes out.old ++ written_by turns Accept) }
         ensures grows { OnOk result (Grows self.old self.new) }
     {
         self.fresh = false;
@@ -271,7 +278,8 @@ impl Session {
     /// Gives up the subscription that the replica accepted last.
     fn unsubscribe(&mut self, out: &mut String) -> Result<(), Mem>
         ensures after { (turns : List TurnValue) → IsAfter self.old turns → OnOk result (IsAfter self.new (Unsubscribe ∷ turns)) }
-        ensures written { (turns : List TurnValue) → IsAfter self.old turns → OnOk result (string_bytes out.new ≡ string_bytes out.old ++ written_by turns Unsubscribe) }
+        ensures written { (turns : List TurnValue) → IsAfter self.old turns →
+            OnOk result (string_bytes out.new ≡ string_bytes out.old ++ written_by turns Unsubscribe) }
         ensures grows { OnOk result (Grows self.old self.new) }
     {
         self.fresh = false;
@@ -286,8 +294,10 @@ impl Session {
 
     /// The note of a number reaches the replica, which does not refuse it but where its name is not known or there is no room.
     fn deliver(&mut self, alloc: Global, number: u32, out: &mut String) -> Result<(), Mem>
-        ensures after { (turns : List TurnValue) → IsAfter self.old turns → may_stand turns (Deliver number) ≡ true → OnOk result (IsAfter self.new (Deliver number ∷ turns)) }
-        ensures written { (turns : List TurnValue) → IsAfter self.old turns → OnOk result (string_bytes out.new ≡ string_bytes out.old ++ written_by turns (Deliver number)) }
+        ensures after { (turns : List TurnValue) → IsAfter self.old turns → may_stand turns (Deliver number) ≡ true →
+            OnOk result (IsAfter self.new (Deliver number ∷ turns)) }
+        ensures written { (turns : List TurnValue) → IsAfter self.old turns →
+            OnOk result (string_bytes out.new ≡ string_bytes out.old ++ written_by turns (Deliver number)) }
         ensures grows { OnOk result (Grows self.old self.new) }
     {
         self.fresh = false;

@@ -90,7 +90,8 @@ impl Listing {
     ) -> Result<Listing, (Listing, Vec<Row>)>
         requires short { length self.part.items + length page.items < 2 ^ 32 }
         requires goes_on { is_end (listing_in self) page.items ≡ false }
-        ensures ok { IfOk result (λ listing. (number : ℕ) → listed number (put_rows (self.part.items ++ page.items) self.rows.items) (put_containers (self.part.items ++ page.items) (drop 1 self.waiting.items)) ≡ Lists number (listing_in listing)) }
+        ensures ok { IfOk result (λ listing. (number : ℕ) → listed number (put_rows (self.part.items ++ page.items) self.rows.items)
+            (put_containers (self.part.items ++ page.items) (drop 1 self.waiting.items)) ≡ Lists number (listing_in listing)) }
         ensures err { IfErr result (λ back. GivesBack self page back) }
     {
         let Listing {

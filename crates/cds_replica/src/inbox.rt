@@ -57,7 +57,13 @@ impl Model for Inbox {
 
     ghost view = { λ i. record { accepted = option_map (λ s. s.0) i.accepted; out = i.out; next = i.next; waiting = i.waiting.items; early = i.early.items } };
 
-    ghost invariant = { λ i. IsInbox (record { accepted = option_map (λ s. s.0) i.accepted; out = i.out; next = i.next; waiting = i.waiting.items; early = i.early.items }) };
+    ghost invariant = { λ i. IsInbox (record {
+      accepted = option_map (λ s. s.0) i.accepted;
+      out = i.out;
+      next = i.next;
+      waiting = i.waiting.items;
+      early = i.early.items;
+    }) };
 }
 
 impl Inbox {
@@ -135,7 +141,8 @@ impl Inbox {
 
     /// What becomes of a note that is none of those before.
     fn placed(&self, note: &Note) -> Arrival
-        ensures { arrival_of result ≡ cond (not (accepts note.now.name self.now)) IsEarly (cond (nat_lt self.now.next note.now.seq) (IsHeld self.now.next) IsNext) }
+        ensures { arrival_of result ≡ cond (not (accepts note.now.name self.now)) IsEarly
+            (cond (nat_lt self.now.next note.now.seq) (IsHeld self.now.next) IsNext) }
     {
         if !self.accepts(note.sid) {
             return Arrival::Early;

@@ -66,7 +66,8 @@ impl Phase {
         more: &[Event],
     ) -> Result<(), CountError>
         requires { AreAbove at more.now }
-        ensures { IsHeard (hears_changes (phase_in self.old) at changes.old.items more.now) (phase_in self.old, changes.old.items) (phase_in self.new, changes.new.items) result }
+        ensures { IsHeard (hears_changes (phase_in self.old) at changes.old.items more.now) (phase_in self.old, changes.old.items)
+            (phase_in self.new, changes.new.items) result }
     {
         match self {
             Phase::Load(Stage::Idle) => Ok(()),

@@ -107,7 +107,8 @@ impl Replica {
         requires { IsTrue self.old.inbox.out }
         ensures unchanged { OnErr result (self.new ≡ self.old) }
         ensures stands { UnlessNoMemory result (TakesTurn self.old (Accepts sid.0) self.new) }
-        ensures answer { (turns : List ReplicaTurn) → StandsFor self.old turns → IsAcceptance (with_notes (taken_by (Accepts sid.0) turns) (known_by turns)) result }
+        ensures answer { (turns : List ReplicaTurn) → StandsFor self.old turns →
+            IsAcceptance (with_notes (taken_by (Accepts sid.0) turns) (known_by turns)) result }
         ensures given { AcceptsGiven self.old sid.0 self.new result }
         ensures few { HoldsFew self.new }
     {
@@ -143,7 +144,8 @@ impl Replica {
     pub fn notify(&mut self, alloc: Global, note: Note) -> Result<Taken, NotifyError>
         ensures unchanged { OnErr result (self.new ≡ self.old) }
         ensures stands { UnlessNoMemory result (TakesTurn self.old (Delivers note) self.new) }
-        ensures answer { (turns : List ReplicaTurn) → StandsFor self.old turns → IsNotice (arrival note turns) (with_notes (taken_by (Delivers note) turns) (known_by turns)) result }
+        ensures answer { (turns : List ReplicaTurn) → StandsFor self.old turns →
+            IsNotice (arrival note turns) (with_notes (taken_by (Delivers note) turns) (known_by turns)) result }
         ensures given { HearsGiven self.old note self.new result }
         ensures few { HoldsFew self.new }
     {
@@ -251,7 +253,8 @@ impl Replica {
     /// copy stands. To go over them takes one walk.
     pub fn copy(&self) -> &[CopyRow]
         ensures kept { map (λ kept. kept.row) result.now ≡ phase_all self.now.known.phase }
-        ensures rows { (turns : List ReplicaTurn) → StandsFor self.now turns → filter_map shown_row (map (λ kept. kept.row) result.now) ≡ copied (known_by turns) }
+        ensures rows { (turns : List ReplicaTurn) → StandsFor self.now turns →
+            filter_map shown_row (map (λ kept. kept.row) result.now) ≡ copied (known_by turns) }
         ensures attempt { CopiesByAttempt self.now (map (λ kept. kept.row) result.now) }
     {
         self.known.rows()

@@ -52,7 +52,8 @@ impl Stage {
 
 /// A load goes on.
 fn goes_on(step: Step) -> PhaseStep
-    ensures step { (becomes : Taken) (old : Held) (changes : List Event) → IsOutcome becomes old (held_in step.0) step.1 → IsStep (load_takes changes becomes) (Loads old) (phase_in result.0) result.1 }
+    ensures step { (becomes : Taken) (old : Held) (changes : List Event) → IsOutcome becomes old (held_in step.0) step.1 →
+        IsStep (load_takes changes becomes) (Loads old) (phase_in result.0) result.1 }
     ensures read { (shown : Read) → IfOk step.1 (λ read. read ≡ shown) → IfOk result.1 (λ read. read ≡ shown) }
 {
     (Phase::Load(step.0), step.1)
@@ -132,7 +133,8 @@ fn take_number_after_root(alloc: Global, number: u32, root: Row, shown: Shown) -
 }
 
 fn take_page(number: u32, listing: Listing, shown: Shown) -> Step
-    ensures outcome { IsOutcome (taken (HoldsListing number (listing_in listing)) shown) (HoldsListing number (listing_in listing)) (held_in result.0) result.1 }
+    ensures outcome { IsOutcome (taken (HoldsListing number (listing_in listing)) shown) (HoldsListing number (listing_in listing))
+        (held_in result.0) result.1 }
     ensures read { IfOk result.1 (λ read. read ≡ read_of shown) }
 {
     match shown {
@@ -173,7 +175,8 @@ fn take_number_after_page(
     changes: &[Event],
     shown: Shown,
 ) -> PhaseStep
-    ensures outcome { IsStep (load_takes changes.now (taken (HoldsPage number (listing_in listing) page) shown)) (Loads (HoldsPage number (listing_in listing) page)) (phase_in result.0) result.1 }
+    ensures outcome { IsStep (load_takes changes.now (taken (HoldsPage number (listing_in listing) page) shown))
+        (Loads (HoldsPage number (listing_in listing) page)) (phase_in result.0) result.1 }
     ensures read { IfOk result.1 (λ read. read ≡ read_of shown) }
 {
     let Shown::Number(again) = shown else {
@@ -207,7 +210,8 @@ fn judge_page(
     page: Option<Rows>,
     changes: &[Event],
 ) -> PhaseStep
-    ensures outcome { IsStep (load_takes changes.now (page_taken number (listing_in listing) page)) (Loads (HoldsPage number (listing_in listing) page)) (phase_in result.0) result.1 }
+    ensures outcome { IsStep (load_takes changes.now (page_taken number (listing_in listing) page))
+        (Loads (HoldsPage number (listing_in listing) page)) (phase_in result.0) result.1 }
     ensures read { IfOk result.1 (λ read. read ≡ Read.Ok) }
 {
     match page {
@@ -233,7 +237,8 @@ fn add_page(
     changes: &[Event],
 ) -> PhaseStep
     requires { length listing.part.items + length page < 2 ^ 32 }
-    ensures outcome { IsStep (leads_to changes.now (after_page number (listing_in listing) page)) (Loads (HoldsPage number (listing_in listing) (Some page))) (phase_in result.0) result.1 }
+    ensures outcome { IsStep (leads_to changes.now (after_page number (listing_in listing) page))
+        (Loads (HoldsPage number (listing_in listing) (Some page))) (phase_in result.0) result.1 }
     ensures read { IfOk result.1 (λ read. read ≡ Read.Ok) }
 {
     if listing.ends_load(page.as_slice()) {
@@ -247,7 +252,8 @@ fn add_page(
 fn go_on(alloc: Global, number: u32, listing: Listing, page: Rows, changes: &[Event]) -> PhaseStep
     requires short { length listing.part.items + length page < 2 ^ 32 }
     requires goes_on { ends_load (listing_in listing) page ≡ false }
-    ensures outcome { IsStep (leads_to changes.now (after_page number (listing_in listing) page)) (Loads (HoldsPage number (listing_in listing) (Some page))) (phase_in result.0) result.1 }
+    ensures outcome { IsStep (leads_to changes.now (after_page number (listing_in listing) page))
+        (Loads (HoldsPage number (listing_in listing) (Some page))) (phase_in result.0) result.1 }
     ensures read { IfOk result.1 (λ read. read ≡ Read.Ok) }
 {
     match listing.with_page(alloc, page.into_vec()) {
@@ -268,7 +274,8 @@ fn end_load(
     changes: &[Event],
 ) -> PhaseStep
     requires ends { ends_load (listing_in listing) page ≡ true }
-    ensures outcome { IsStep (leads_to changes.now (after_page number (listing_in listing) page)) (Loads (HoldsPage number (listing_in listing) (Some page))) (phase_in result.0) result.1 }
+    ensures outcome { IsStep (leads_to changes.now (after_page number (listing_in listing) page))
+        (Loads (HoldsPage number (listing_in listing) (Some page))) (phase_in result.0) result.1 }
     ensures read { IfOk result.1 (λ read. read ≡ Read.Ok) }
 {
     match listing.into_copy(alloc, number, page.into_vec(), changes) {

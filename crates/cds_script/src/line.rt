@@ -268,7 +268,8 @@ fn info_of(
     bits: &[u8],
     samples: &[u8],
 ) -> Option<FlacInfo>
-    ensures exact { result ≡ info_from (plain_below (2 ^ 20) rate.now) (number_from_to 1 8 channels.now) (number_from_to 1 32 bits.now) (plain_below (2 ^ 36) samples.now) }
+    ensures exact { result ≡ info_from (plain_below (2 ^ 20) rate.now) (number_from_to 1 8 channels.now)
+        (number_from_to 1 32 bits.now) (plain_below (2 ^ 36) samples.now) }
     ensures few { IfSome result (λ info. info.samples < 2 ^ 36) }
 {
     let rate = number_below(rate, 1 << 20)?;
