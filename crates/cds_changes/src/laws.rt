@@ -39,7 +39,8 @@ pub fn containers_have_their_numbers()
     ensures { containers.containers_have_their_numbers }
 {}
 
-/// An event is marked exactly where it lies at or below a folder that was added, or deleted, with something below it.
+/// An addition is marked exactly where it lies at or below a folder that the scan added with something below it, and a deletion
+/// exactly where it lies at or below one that the scan deleted with something below it; nothing else is marked.
 pub fn marks_lie_under_folders()
     ensures { marks.marks_lie_under_folders }
 {}

@@ -12,11 +12,11 @@ use Rattle.cds_commands.specs.Commands.{Command, Scans, Grants, Renews, Ends, Ti
 use Rattle.cds_commands.specs.Releases.{Release, release_at, releases_of, released_to, release_size}
 use Rattle.cds_commands.specs.Subscriptions.{granted, unless_past, runs_until, is_alive}
 use Rattle.cds_commands.specs.Notes.{Note, next_seq_of, seq_limit, released_note, released_notes, first_note, sent_by, notes_of, sent_to}
-use Rattle.cds_commands.specs.SubscriptionLaws.{and_lived, lived_at, note_of_release, notes_of_releases, notes_are_of_releases}
+use Rattle.cds_commands.specs.SubscriptionLaws.{Lives, and_lived, lived_at, note_of_release, notes_of_releases, notes_are_of_releases, releases_reach_what_lives}
 use Rattle.cds_commands.proofs.Among.{seq-none, among-all}
 use Rattle.cds_commands.proofs.Scanned.{scans-first, dropped-grows}
 use Rattle.cds_commands.proofs.Sent.{Sound, all-sound, stood-below, first-is, release-is, within-stood, granted-more}
-use Rattle.cds_commands.proofs.Lives.{runs-granted}
+use Rattle.cds_commands.proofs.Lives.{runs-granted, test-lives, lives-test}
 
 -- ---- of numbers in a row one is a name once
 
@@ -172,24 +172,23 @@ none-yet first name commands high = empty-length (sent_to name (notes_of first c
 
 -- ---- one command
 
-abbrev Of : ℕ → ℕ → List Command → Type 0
-Of first name commands = (number : ℕ) × (sent_to name (notes_of first commands)
-    ≡ first_note name number ∷ notes_of_releases (scans_of first commands) name 1 (lived_at first name commands))
+-- the notes of a name are its first one, with a number, and those of the releases at which it lived
+abbrev pub Of : ℕ → ℕ → ℕ → List Command → Type 0
+Of first name number commands = sent_to name (notes_of first commands)
+    ≡ first_note name number ∷ notes_of_releases (scans_of first commands) name 1 (lived_at first name commands)
 
-module _ (first name : ℕ) (older : List Command) where
+module _ (first name number : ℕ) (older : List Command) where
   -- a command that sends nothing to the name and at which it is no release
   quiet : (command : Command) → sent_to name (sent_by first older (notes_of first older) command) ≡ [] → lived_at first name (command ∷ older) ≡ lived_at first name older →
-      Of first name older → Of first name (command ∷ older)
-  quiet command none same (number, is) = (
-    number,
-    filter-append (λ (note : Note). nat_eq note.name name) (notes_of first older) (sent_by first older (notes_of first older) command)
-        ∙ ap (λ (notes : List Note). sent_to name (notes_of first older) ++ notes) none ∙ append-nil (sent_to name (notes_of first older)) ∙ is
-        ∙ ap (λ (notes : List Note). first_note name number ∷ notes)
-        (sym (notes-stay first name 1 command older (lived_at first name older) (lived-ended first name older))
-        ∙ ap (notes_of_releases (scans_of first (command ∷ older)) name 1) (sym same)),
-  )
+      Of first name number older → Of first name number (command ∷ older)
+  quiet command none same is =
+      filter-append (λ (note : Note). nat_eq note.name name) (notes_of first older) (sent_by first older (notes_of first older) command)
+      ∙ ap (λ (notes : List Note). sent_to name (notes_of first older) ++ notes) none ∙ append-nil (sent_to name (notes_of first older)) ∙ is
+      ∙ ap (λ (notes : List Note). first_note name number ∷ notes)
+      (sym (notes-stay first name 1 command older (lived_at first name older) (lived-ended first name older))
+      ∙ ap (notes_of_releases (scans_of first (command ∷ older)) name 1) (sym same))
 
-  tick : (moment : ℕ) → 1 ≤ name → name ≤ granted older → Of first name older → Of first name (Ticks moment ∷ older)
+  tick : (moment : ℕ) → 1 ≤ name → name ≤ granted older → Of first name number older → Of first name number (Ticks moment ∷ older)
   tick moment low high of = by (release_at moment (scans_of first older) (releases_of first older)) refl of
     where
       p : ℕ → Bool
@@ -198,69 +197,108 @@ module _ (first name : ℕ) (older : List Command) where
       sent : Option Release → List Note
       sent o = released_notes (scans_of first older) o (notes_of first older) (filter p (range_with_len 1 (granted older)))
 
-      Then : Option Release → Type 0
-      Then o = (number : ℕ) × (sent_to name (notes_of first older ++ sent o)
-          ≡ first_note name number ∷ notes_of_releases (scans_of first older) name 1 (and_lived (p name) o (lived_at first name older)))
+      Then : Option Release → Bool → Type 0
+      Then o b = sent_to name (notes_of first older ++ sent o)
+          ≡ first_note name number ∷ notes_of_releases (scans_of first older) name 1 (and_lived b o (lived_at first name older))
 
-      join : (o : Option Release) (b : Bool) → sent_to name (sent o) ≡ [] → and_lived b o (lived_at first name older) ≡ lived_at first name older → Of first name older →
-          (number : ℕ) × (sent_to name (notes_of first older ++ sent o) ≡ first_note name number ∷ notes_of_releases (scans_of first older) name 1 (and_lived b o (lived_at first name older)))
-      join o b none same (number, is) = (
-        number,
-        filter-append (λ (note : Note). nat_eq note.name name) (notes_of first older) (sent o)
-            ∙ ap (λ (notes : List Note). sent_to name (notes_of first older) ++ notes) none ∙ append-nil (sent_to name (notes_of first older)) ∙ is
-            ∙ ap (λ (l : List Release). first_note name number ∷ notes_of_releases (scans_of first older) name 1 l) (sym same),
-      )
+      join : (o : Option Release) (b : Bool) → sent_to name (sent o) ≡ [] → and_lived b o (lived_at first name older) ≡ lived_at first name older → Of first name number older → Then o b
+      join o b none same is =
+          filter-append (λ (note : Note). nat_eq note.name name) (notes_of first older) (sent o)
+          ∙ ap (λ (notes : List Note). sent_to name (notes_of first older) ++ notes) none ∙ append-nil (sent_to name (notes_of first older)) ∙ is
+          ∙ ap (λ (l : List Release). first_note name number ∷ notes_of_releases (scans_of first older) name 1 l) (sym same)
 
       made : (release : Release) → sent_to name (sent (Some release)) ≡ cond (p name) (released_note (scans_of first older) release (notes_of first older) name ∷ []) []
       made release = one-of (released_note (scans_of first older) release (notes_of first older)) (λ n. refl) p 1 (granted older) name low (omega (arith, high))
 
-      one : (release : Release) (b : Bool) → sent_to name (sent (Some release)) ≡ cond b (released_note (scans_of first older) release (notes_of first older) name ∷ []) [] → Of first name older →
-          (number : ℕ) × (sent_to name (notes_of first older ++ sent (Some release))
-          ≡ first_note name number ∷ notes_of_releases (scans_of first older) name 1 (and_lived b (Some release) (lived_at first name older)))
-      one release false e of = join (Some release) false e refl of
-      one release true e (number, is) =
+      one : (release : Release) (b : Bool) → sent_to name (sent (Some release)) ≡ cond b (released_note (scans_of first older) release (notes_of first older) name ∷ []) [] →
+          Of first name number older → Then (Some release) b
+      one release false e is = join (Some release) false e refl is
+      one release true e is =
           let lived = lived_at first name older in
-          let seq : next_seq_of name (notes_of first older) ≡ 1 + length lived = ap length is ∙ ap suc (many (scans_of first older) name 1 lived) ∙ omega arith in (
-            number,
-            filter-append (λ (note : Note). nat_eq note.name name) (notes_of first older) (sent (Some release))
-                ∙ (λ i. is i ++ e i)
-                ∙ ap (λ (n : ℕ). first_note name number ∷ (notes_of_releases (scans_of first older) name 1 lived ++ note_of_release (scans_of first older) name n release ∷ [])) seq
-                ∙ ap (λ (notes : List Note). first_note name number ∷ notes) (sym (more-releases (scans_of first older) name 1 lived release)),
-          )
+          let seq : next_seq_of name (notes_of first older) ≡ 1 + length lived = ap length is ∙ ap suc (many (scans_of first older) name 1 lived) ∙ omega arith in
+          filter-append (λ (note : Note). nat_eq note.name name) (notes_of first older) (sent (Some release))
+          ∙ (λ i. is i ++ e i)
+          ∙ ap (λ (n : ℕ). first_note name number ∷ (notes_of_releases (scans_of first older) name 1 lived ++ note_of_release (scans_of first older) name n release ∷ [])) seq
+          ∙ ap (λ (notes : List Note). first_note name number ∷ notes) (sym (more-releases (scans_of first older) name 1 lived release))
 
-      by : (o : Option Release) → release_at moment (scans_of first older) (releases_of first older) ≡ o → Of first name older → Then o
-      by None e of = join None (p name) refl (nothing (p name)) of
+      by : (o : Option Release) → release_at moment (scans_of first older) (releases_of first older) ≡ o → Of first name number older → Then o (p name)
+      by None e is = join None (p name) refl (nothing (p name)) is
         where
           nothing : (b : Bool) → and_lived b None (lived_at first name older) ≡ lived_at first name older
           nothing true = refl
           nothing false = refl
-      by (Some release) e of = one release (p name) (made release) of
+      by (Some release) e is = one release (p name) (made release) is
 
-  granting : (moment seconds : ℕ) (callback : List ℕ) → name ≤ granted older → Of first name older → Of first name (Grants moment callback seconds ∷ older)
+  granting : (moment seconds : ℕ) (callback : List ℕ) → name ≤ granted older → Of first name number older → Of first name number (Grants moment callback seconds ∷ older)
   granting moment seconds callback high of =
       quiet (Grants moment callback seconds)
       (ap (λ b. cond b (first_note (granted older + 1) (end_of (scans_of first older)) ∷ []) []) (ne_eqb (granted older + 1) name (λ e. omega (arith, e, high)))) refl of
 
-  granted-now : (moment seconds : ℕ) (callback : List ℕ) → name ≡ granted older + 1 → Of first name (Grants moment callback seconds ∷ older)
-  granted-now moment seconds callback e =
-      let note : Note = first_note (granted older + 1) (end_of (scans_of first older)) in (
-        end_of (scans_of first older),
-        filter-append (λ (n : Note). nat_eq n.name name) (notes_of first older) (note ∷ [])
-            ∙ (λ i. none-yet first name older (let l : granted older < name = omega (arith, e) in l) i ++ cond (eq-eqb (granted older + 1) name (sym e) i) (note ∷ []) [])
-            ∙ ap (λ (n : ℕ). first_note n (end_of (scans_of first older)) ∷ []) (sym e)
-            ∙ ap (λ (l : List Release). first_note name (end_of (scans_of first older)) ∷ notes_of_releases (scans_of first older) name 1 l)
-            (sym (never-lived first name older (omega (arith, e)))),
-      )
+granted-now : (first name moment seconds : ℕ) (callback : List ℕ) (older : List Command) → name ≡ granted older + 1 →
+    Of first name (end_of (scans_of first older)) (Grants moment callback seconds ∷ older)
+granted-now first name moment seconds callback older e =
+    let note : Note = first_note (granted older + 1) (end_of (scans_of first older)) in
+    filter-append (λ (n : Note). nat_eq n.name name) (notes_of first older) (note ∷ [])
+    ∙ (λ i. none-yet first name older (let l : granted older < name = omega (arith, e) in l) i ++ cond (eq-eqb (granted older + 1) name (sym e) i) (note ∷ []) [])
+    ∙ ap (λ (n : ℕ). first_note n (end_of (scans_of first older)) ∷ []) (sym e)
+    ∙ ap (λ (l : List Release). first_note name (end_of (scans_of first older)) ∷ notes_of_releases (scans_of first older) name 1 l)
+    (sym (never-lived first name older (omega (arith, e))))
+
+-- ---- all commands since a grant
+
+-- the grant stands among the commands after it
+granted-since : (newer older : List Command) (moment seconds : ℕ) (callback : List ℕ) → granted older + 1 ≤ granted (newer ++ Grants moment callback seconds ∷ older)
+granted-since [] older moment seconds callback = omega arith
+granted-since (command ∷ newer) older moment seconds callback =
+    let more = granted-more command (newer ++ Grants moment callback seconds ∷ older) in
+    let low = granted-since newer older moment seconds callback in
+    omega (arith, more, low)
+
+since : (first name moment seconds : ℕ) (callback : List ℕ) (newer older : List Command) → name ≡ granted older + 1 →
+    Of first name (end_of (scans_of first older)) (newer ++ Grants moment callback seconds ∷ older)
+since first name moment seconds callback [] older e = granted-now first name moment seconds callback older e
+since first name moment seconds callback (command ∷ newer) older e = on command (since first name moment seconds callback newer older e)
+  where
+    before : List Command
+    before = newer ++ Grants moment callback seconds ∷ older
+
+    number : ℕ
+    number = end_of (scans_of first older)
+
+    high : name ≤ granted before
+    high = let low = granted-since newer older moment seconds callback in omega (arith, low, e)
+
+    on : (c : Command) → Of first name number before → Of first name number (c ∷ before)
+    on (Scans library) of = quiet first name number before (Scans library) refl refl of
+    on (Grants at other_callback other_seconds) of = granting first name number before at other_seconds other_callback high of
+    on (Renews at other other_seconds) of = quiet first name number before (Renews at other other_seconds) refl refl of
+    on (Ends at other) of = quiet first name number before (Ends at other) refl refl of
+    on (Ticks at) of = tick first name number before at (let low : 1 ≤ name = omega (arith, e) in low) high of
+    on Stops of = quiet first name number before Stops refl refl of
 
 pub of-releases : notes_are_of_releases
-of-releases first name [] low high = let no : ⊥ = omega (arith, low, high) in absurd no
-of-releases first name (Scans library ∷ older) low high = quiet first name older (Scans library) refl refl (of-releases first name older low high)
-of-releases first name (Grants moment callback seconds ∷ older) low high = by (cases_lt (granted older) name) (λ l. of-releases first name older low l)
+of-releases first newer older moment callback seconds = since first (granted older + 1) moment seconds callback newer older refl
+
+-- ---- the releases at which a subscription lived
+
+pub lived-where : releases_reach_what_lives
+lived-where first name moment older release e = (
+  (λ lives. at-release true (lives-now lives)),
+  (λ dead. at-release false (dies-now dead)),
+)
   where
-    by : (granted older < name) ⊎ (name ≤ granted older) → (name ≤ granted older → Of first name older) → Of first name (Grants moment callback seconds ∷ older)
-    by (inl l) r = granted-now first name older moment seconds callback (omega (arith, l, high))
-    by (inr l) r = granting first name older moment seconds callback l (r l)
-of-releases first name (Renews moment other seconds ∷ older) low high = quiet first name older (Renews moment other seconds) refl refl (of-releases first name older low high)
-of-releases first name (Ends moment other ∷ older) low high = quiet first name older (Ends moment other) refl refl (of-releases first name older low high)
-of-releases first name (Ticks moment ∷ older) low high = tick first name older moment low high (of-releases first name older low high)
-of-releases first name (Stops ∷ older) low high = quiet first name older Stops refl refl (of-releases first name older low high)
+    p : Bool
+    p = is_alive name moment older && nat_lt (next_seq_of name (notes_of first older)) seq_limit
+
+    at-release : (b : Bool) → p ≡ b → lived_at first name (Ticks moment ∷ older) ≡ and_lived b (Some release) (lived_at first name older)
+    at-release b f = λ i. and_lived (f i) (e i) (lived_at first name older)
+
+    lives-now : Lives first name moment older → p ≡ true
+    lives-now lives = lives-test first name moment older lives
+
+    dies-now : (Lives first name moment older → ⊥) → p ≡ false
+    dies-now dead = by p refl
+      where
+        by : (b : Bool) → p ≡ b → b ≡ false
+        by true f = absurd (dead (test-lives first name moment older f))
+        by false f = refl

@@ -39,7 +39,8 @@ is_stopped (command ∷ older) = is_stopped older
 abbrev pub oldest : ℕ → List Command → List Command
 oldest k commands = drop (length commands - k) commands
 
--- commands that a server accepted: each scan's folder map is one, with at most 65,535 places, and no number passes the last
+-- what holds of the scans among commands that a server accepted: each folder map is one, with at most 65,535 places, and no
+-- number passes 4,294,967,295
 pub record AreAccepted (first : ℕ) (commands : List Command) : Type 0 where
   pub libraries : AreLibraries (scans_of first commands).maps
   pub few : AllByRecursion (λ library. length library ≤ 65535) (scans_of first commands).maps

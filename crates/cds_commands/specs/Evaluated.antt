@@ -82,8 +82,8 @@ abbrev pub grants : ℕ → List Command
 grants zero = []
 grants (suc n) = Grants 0 [] 1800 ∷ grants n
 
-abbrev pub at_most_64_subscriptions : Type 0
-at_most_64_subscriptions =
+abbrev pub room_for_64_subscriptions : Type 0
+room_for_64_subscriptions =
     (has_room 0 (grants 63) (notes_of 0 (grants 63)) ≡ true) × (has_room 0 (grants 64) (notes_of 0 (grants 64)) ≡ false)
     × (has_room 0 (Ends 0 7 ∷ grants 64) (notes_of 0 (Ends 0 7 ∷ grants 64)) ≡ true)
     × (has_room 1800000 (grants 64) (notes_of 0 (grants 64)) ≡ true)

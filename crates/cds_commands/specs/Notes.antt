@@ -34,7 +34,7 @@ abbrev pub alive_names : ℕ → List Command → List Note → List ℕ
 alive_names now commands sent =
     filter (λ name. is_alive name now commands && nat_lt (next_seq_of name sent) seq_limit) (range_with_len 1 (granted commands))
 
--- whether one more subscription is granted
+-- whether there is room for one more subscription
 abbrev pub has_room : ℕ → List Command → List Note → Bool
 has_room now commands sent = nat_lt (length (alive_names now commands sent)) subscription_limit
 
@@ -73,7 +73,8 @@ abbrev pub events_of : List Note → List Event
 events_of [] = []
 events_of (note ∷ notes) = note.events ++ events_of notes
 
--- the note of a SEQ among notes, of which the newest stands first: the one that came first
+-- the note of a SEQ among notes: of several with it the last in the list, which is the one that came first where the newest
+-- stands first
 abbrev pub note_of : ℕ → List Note → Option Note
 note_of seq [] = None
 note_of seq (note ∷ older) = or_this (note_of seq older)

@@ -1,6 +1,6 @@
--- What a subscription is, in words that need no fold over the commands: when it lives, and which notes it gets; and when a tick
--- releases. Over the commands alone.
-use Rattle.std.specs.Prelude.{◌≡◌, ◌↔◌, ◌⊎◌, ◌<◌, ◌≤◌, ◌+◌, ℕ, Bool, true, false, cond, nat_eq, nat_lt, ◌&&◌, List, [], ◌∷◌, ◌++◌, Option, Some, None, IsSome, Contains}
+-- What a subscription is: when it lives, said of the commands since its grant, and which notes it gets; and when a tick releases.
+-- Over the commands alone.
+use Rattle.std.specs.Prelude.{◌≡◌, ◌↔◌, ◌⊎◌, ◌<◌, ◌≤◌, ◌+◌, ℕ, Bool, true, cond, nat_eq, nat_lt, ◌&&◌, List, [], ◌∷◌, ◌++◌, Option, Some, IsSome, Contains}
 use Rattle.cds_catalog.specs.History.{History, end_of}
 use Rattle.cds_changes.specs.Events.{events_between}
 use Rattle.cds_commands.specs.Commands.{Command, Grants, Renews, Ends, Ticks, scans_of}
@@ -46,11 +46,10 @@ ticks_release_what_is_due = (first now : ℕ) (commands : List Command) →
     × ((releases_of first commands ≡ [])
     ⊎ ((last : Release) × (before : List Release) × (releases_of first commands ≡ last ∷ before) × (last.moment + release_pause ≤ now))))
 
--- the releases at which a name lived, the oldest first
+-- the releases at which a name lived, the oldest first; what each tick adds is the law below it
 abbrev pub and_lived : Bool → Option Release → List Release → List Release
 and_lived true (Some release) releases = releases ++ release ∷ []
-and_lived true None releases = releases
-and_lived false o releases = releases
+and_lived other release releases = releases
 
 abbrev pub lived_at : ℕ → ℕ → List Command → List Release
 lived_at first name [] = []
@@ -58,6 +57,13 @@ lived_at first name (Ticks moment ∷ older) =
     and_lived (is_alive name moment older && nat_lt (next_seq_of name (notes_of first older)) seq_limit)
     (release_at moment (scans_of first older) (releases_of first older)) (lived_at first name older)
 lived_at first name (command ∷ older) = lived_at first name older
+
+-- the release of a tick is one of them exactly where the subscription lives at that moment
+abbrev pub releases_reach_what_lives : Type 0
+releases_reach_what_lives = (first name moment : ℕ) (older : List Command) (release : Release) →
+    release_at moment (scans_of first older) (releases_of first older) ≡ Some release →
+    (Lives first name moment older → lived_at first name (Ticks moment ∷ older) ≡ lived_at first name older ++ release ∷ [])
+    × ((Lives first name moment older → ⊥) → lived_at first name (Ticks moment ∷ older) ≡ lived_at first name older)
 
 -- the note of a release under a SEQ, and the notes of releases under SEQs from one on
 abbrev pub note_of_release : History → ℕ → ℕ → Release → Note
@@ -68,9 +74,11 @@ abbrev pub notes_of_releases : History → ℕ → ℕ → List Release → List
 notes_of_releases history name seq [] = []
 notes_of_releases history name seq (release ∷ releases) = note_of_release history name seq release ∷ notes_of_releases history name (seq + 1) releases
 
--- the notes of a subscription are its first note, with the number at its making, and one of each release at which it lived, in
--- order: its k-th note is that of the k-th such release
+-- since its grant the notes of a subscription are its first note, with the number that stood then, and one of each release at
+-- which it lived, in order: its k-th note is that of the k-th such release
 abbrev pub notes_are_of_releases : Type 0
-notes_are_of_releases = (first name : ℕ) (commands : List Command) → 1 ≤ name → name ≤ granted commands →
-    (number : ℕ) × (sent_to name (notes_of first commands)
-    ≡ first_note name number ∷ notes_of_releases (scans_of first commands) name 1 (lived_at first name commands))
+notes_are_of_releases = (first : ℕ) (newer older : List Command) (moment : ℕ) (callback : List ℕ) (seconds : ℕ) →
+    sent_to (granted older + 1) (notes_of first (newer ++ Grants moment callback seconds ∷ older))
+    ≡ first_note (granted older + 1) (end_of (scans_of first older))
+    ∷ notes_of_releases (scans_of first (newer ++ Grants moment callback seconds ∷ older)) (granted older + 1) 1
+    (lived_at first (granted older + 1) (newer ++ Grants moment callback seconds ∷ older))

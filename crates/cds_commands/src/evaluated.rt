@@ -28,6 +28,6 @@ pub fn moments_may_fall()
 {}
 
 /// One more subscription has room where fewer than 64 live.
-pub fn at_most_64_subscriptions()
-    ensures { evaluated.at_most_64_subscriptions }
+pub fn room_for_64_subscriptions()
+    ensures { evaluated.room_for_64_subscriptions }
 {}

@@ -54,8 +54,13 @@ pub fn ticks_release_what_is_due()
     ensures { subscriptions.ticks_release_what_is_due }
 {}
 
-/// The notes of a subscription are its first note and one of each release at which it lived: its k-th note is that of the k-th
-/// such release.
+/// The release of a tick is one at which a subscription lived exactly where it lives at that moment.
+pub fn releases_reach_what_lives()
+    ensures { subscriptions.releases_reach_what_lives }
+{}
+
+/// Since its grant the notes of a subscription are its first note, with the number that stood then, and one of each release at
+/// which it lived: its k-th note is that of the k-th such release.
 pub fn notes_are_of_releases()
     ensures { subscriptions.notes_are_of_releases }
 {}
