@@ -1,15 +1,16 @@
 -- What a track says of itself by its file: the comments that count, the sound's numbers and the file's name (this
 -- project's profile; the names of comments are Vorbis comment field names).
 use Rattle.std.specs.Prelude.{◌-◌, ◌*◌, ◌/◌, ◌^◌, ℕ, Bool, cond, nat_eq, nat_lt, ◌&&◌, ◌||◌, List, [], ◌∷◌, length, take, drop, take_while, Option, Some, None, unwrap_or, codes}
-use Rattle.std.specs.Option.{option_and_then}
+use Rattle.std.specs.Option.{option_and_then, option_map}
 use Rattle.std.specs.Char.{is_ascii_digit}
 use Rattle.std.specs.Str.{str_to_ascii_lowercase}
 use Rattle.cds_base.specs.Number.{number_below}
 use Rattle.cds_object.specs.declared.info.FlacInfo.{FlacInfo}
 use Rattle.cds_object.specs.declared.info.Comment.{Comment}
+use Rattle.cds_object.specs.Clean.{cleaned}
 use Rattle.cds_object.specs.Content.{same_text}
 use Rattle.cds_object.specs.declared.content.Content.{Content}
-use Rattle.cds_object.specs.declared.content.Content.TheVariants.{Track}
+use Rattle.cds_object.specs.declared.content.Content.TheVariants.{Folder, Track}
 
 -- the value of the first comment of a name, which is given in lower case; the ASCII case of a comment's name does not
 -- count
@@ -52,13 +53,13 @@ track_number comments = option_and_then leading_number (first_comment (codes "tr
 abbrev pub milliseconds : ℕ → ℕ → Option ℕ
 milliseconds samples rate = cond (nat_eq samples 0 || nat_eq rate 0) None (Some (samples * 1000 / rate))
 
--- what a track says of itself, by what its file says, its name and its size in bytes
+-- what a track says of itself, by what its file says, its name and its size in bytes; each of its texts is clean
 abbrev pub track_of : FlacInfo → List ℕ → ℕ → Content
 track_of info name size = Track (record {
-  title = track_title info.comments name;
-  artist = comment_text (codes "artist") info.comments;
-  album = comment_text (codes "album") info.comments;
-  genre = comment_text (codes "genre") info.comments;
+  title = cleaned (track_title info.comments name);
+  artist = option_map cleaned (comment_text (codes "artist") info.comments);
+  album = option_map cleaned (comment_text (codes "album") info.comments);
+  genre = option_map cleaned (comment_text (codes "genre") info.comments);
   number = track_number info.comments;
   size = size;
   duration = milliseconds info.samples info.rate;
@@ -66,6 +67,10 @@ track_of info name size = Track (record {
   channels = info.channels;
   bits = info.bits;
 })
+
+-- what a folder says of itself: its name, cleaned
+abbrev pub folder_of : List ℕ → Content
+folder_of name = Folder (cleaned name)
 
 -- what a file without comments says: its rate, channels, bits and samples
 abbrev pub bare_info : ℕ → ℕ → ℕ → ℕ → FlacInfo

@@ -1,6 +1,7 @@
--- What is said of paths besides their definitions.
-use Rattle.std.specs.Prelude.{◌≡◌, ◌↔◌, ◌||◌, ℕ, nat_le, nat_eq, Bool, List, [], ◌∷◌, ◌++◌, length, drop, Some, None}
+-- What is said of paths and of clean texts besides their definitions.
+use Rattle.std.specs.Prelude.{◌≡◌, ◌↔◌, ◌||◌, ℕ, nat_le, nat_eq, Bool, List, [], ◌∷◌, ◌++◌, length, drop, map, chars, Some, None}
 use Rattle.std.specs.List.{slice_split, flat_map, join_with_byte}
+use Rattle.cds_object.specs.Clean.{clean_character, cleaned, IsClean, IsLongestFront}
 use Rattle.cds_object.specs.First.{NoneRefused, IsFirstRefused}
 use Rattle.cds_object.specs.Path.{is_bad_name, bad_name_at}
 
@@ -27,3 +28,11 @@ abbrev pub bad_names_have_their_place : Type 0
 bad_names_have_their_place =
     ((text : List ℕ) (at : ℕ) → (bad_name_at 0 0 (names_of text) ≡ Some at) ↔ IsBadNamePlace text at)
     × ((text : List ℕ) → (bad_name_at 0 0 (names_of text) ≡ None) ↔ NoneRefused cannot_stand (names_of text))
+
+-- what is left of a text is clean, and is the longest front of its characters, each as it stands for itself, that may
+-- stay; a clean text stays as it is
+abbrev pub texts_are_cleaned : Type 0
+texts_are_cleaned =
+    ((text : List ℕ) → IsClean (cleaned text))
+    × ((text : List ℕ) → IsLongestFront (map clean_character (chars text)) (cleaned text))
+    × ((text : List ℕ) → IsClean text → cleaned text ≡ text)

@@ -1,4 +1,5 @@
 pub mod Object
+pub mod Clean
 pub mod Content
 pub mod ContentOf
 pub mod First

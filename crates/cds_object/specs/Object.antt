@@ -1,6 +1,6 @@
 -- The row in which a ContentDirectory shows an object (UPnP ContentDirectory:4 on the properties of objects and on the
 -- tracking of changes): plain numbers, with the two facts that every row keeps.
-use Rattle.std.specs.Prelude.{◌≡◌, ◌==◌, ℕ, Bool, true, false, cond, Option, is_none, is_some}
+use Rattle.std.specs.Prelude.{◌≡◌, ◌==◌, ℕ, Bool, true, false, Option, is_none, is_some}
 use Rattle.cds_object.specs.declared.content.Content.{Content}
 use Rattle.cds_object.specs.declared.content.Content.TheVariants.{Folder, Track}
 use Rattle.cds_object.specs.declared.row.Trackers.{Trackers}

@@ -1,18 +1,21 @@
-//! What a track says of itself, by the comments of its file, its sound and its name.
+//! What a track says of itself, by the comments of its file, its sound and its name, and a folder by its name.
 
 ghost use Rattle.std.specs.Prelude.{◌≡◌, ◌<◌, ◌≤◌, ◌-◌, ◌^◌, drop, length, IfOk, option_copied};
 ghost use Rattle.std.specs.Char.{is_ascii_digit};
 ghost use Rattle.std.specs.List.{prefix_len};
 ghost use Rattle.std.specs.Str.{str_to_ascii_lowercase};
 ghost use Rattle.cds_object.specs.Content.{same_text};
-ghost use Rattle.cds_object.specs.ContentOf.{first_comment, comment_text, has_flac_ending, title_from_name, leading_number, track_number, milliseconds, track_title, track_of};
+ghost use Rattle.std.specs.Option.{option_map};
+ghost use Rattle.cds_object.specs.Clean.{cleaned};
+ghost use Rattle.cds_object.specs.ContentOf.{first_comment, comment_text, has_flac_ending, title_from_name, leading_number, track_number, milliseconds, track_title, track_of, folder_of};
 
-use crate::{Comment, Content, FlacInfo, TrackContent};
+use crate::{Comment, Content, FlacInfo, TrackContent, clean};
 use cds_base::{Mem, Text, read_u32};
 use std::alloc::Global;
 
 /// What a track says of itself, by what its file says, its name and its size in bytes: the first TITLE, ARTIST, ALBUM,
-/// GENRE and TRACKNUMBER count, the ASCII case of their names aside, and the file's name where there is no title.
+/// GENRE and TRACKNUMBER count, the ASCII case of their names aside, and the file's name where there is no title. Each
+/// text is cleaned.
 pub fn content_of(alloc: Global, info: &FlacInfo, name: &str, size: u64) -> Result<Content, Mem>
     requires { info.now.samples < 2 ^ 36 }
     ensures { IfOk result (λ content. content ≡ track_of info.now name.now size) }
@@ -36,23 +39,38 @@ pub fn content_of(alloc: Global, info: &FlacInfo, name: &str, size: u64) -> Resu
     }))
 }
 
+/// What a folder of this name says of itself: the name, cleaned.
+pub fn folder_of(alloc: Global, name: &str) -> Result<Content, Mem>
+    ensures { IfOk result (λ content. content ≡ folder_of name.now) }
+{
+    let title = cleaned(alloc, name)?;
+    Ok(Content::Folder { title })
+}
+
 /// The title by the comments, or by the file's name where they have none.
 fn title_of(alloc: Global, comments: &[Comment], name: &str) -> Result<Text, Mem>
-    ensures { IfOk result (λ title. title ≡ track_title comments.now name.now) }
+    ensures { IfOk result (λ title. title ≡ cleaned (track_title comments.now name.now)) }
 {
     match text_of(alloc, "title", comments)? {
         Some(title) => Ok(title),
-        None => Text::read(alloc, without_ending(name)),
+        None => cleaned(alloc, without_ending(name)),
     }
 }
 
-/// The text of the first comment of a name, `None` where it is empty. The name is in lower case.
+/// The text, cleaned.
+fn cleaned(alloc: Global, text: &str) -> Result<Text, Mem>
+    ensures { IfOk result (λ kept. kept ≡ cleaned text.now) }
+{
+    Ok(Text::from(clean(alloc, text)?))
+}
+
+/// The text of the first comment of a name, cleaned, `None` where it is empty. The name is in lower case.
 fn text_of(alloc: Global, name: &str, comments: &[Comment]) -> Result<Option<Text>, Mem>
     requires { str_to_ascii_lowercase name.now ≡ name.now }
-    ensures { IfOk result (λ text. text ≡ comment_text name.now comments.now) }
+    ensures { IfOk result (λ text. text ≡ option_map cleaned (comment_text name.now comments.now)) }
 {
     match value_of(name, comments) {
-        Some(value) if value.len() > 0 => Ok(Some(value.copy(alloc)?)),
+        Some(value) if value.len() > 0 => Ok(Some(cleaned(alloc, value.as_str())?)),
         _ => Ok(None),
     }
 }

@@ -6,3 +6,8 @@ ghost use Rattle.cds_object.specs.Laws as laws;
 pub fn bad_names_have_their_place()
     ensures { laws.bad_names_have_their_place }
 {}
+
+/// A cleaned text is clean and no shorter than it has to be; a text that is clean stays as it is.
+pub fn texts_are_cleaned()
+    ensures { laws.texts_are_cleaned }
+{}

@@ -2,6 +2,7 @@
 //! a server shows them.
 #![tactic(auto)]
 
+mod cleaning;
 mod content;
 mod error;
 mod from_flac;
@@ -12,9 +13,10 @@ mod path;
 mod record;
 mod row;
 
+pub use cleaning::clean;
 pub use content::{Content, TrackContent};
 pub use error::PathError;
-pub use from_flac::content_of;
+pub use from_flac::{content_of, folder_of};
 pub use id::ObjectId;
 pub use info::{Comment, Comments, FlacInfo};
 pub use path::Path;

@@ -2,7 +2,7 @@ ghost use Rattle.std.specs.Prelude.{◌≡◌, IfOk};
 
 use crate::{
     Comment, Comments, Content, FlacInfo, ObjectId, Path, PathError, Row, TrackContent, Trackers,
-    content_of,
+    clean, content_of, folder_of,
 };
 use cds_base::Text;
 use std::alloc::{AllocError, Global};
@@ -219,6 +219,65 @@ fn durations_are_cut_to_milliseconds(rt: HostRuntime) -> Result<(), Fail> {
     let longest = info(alloc, &[], 68719476735, 1)?;
     match content_of(alloc, &longest, "t.flac", 0)? {
         Content::Track(track) => assert_eq!(rt; track.duration, Some(68719476735000)),
+        _ => assert!(rt; false),
+    }
+    Ok(())
+}
+
+#[test]
+fn texts_are_cleaned(rt: HostRuntime) -> Result<(), Fail> {
+    let alloc = rt.alloc();
+    for (text, want) in [
+        (
+            repeated(alloc, "\u{0}a\t\r\n\u{1f}\u{7f}", 1, "")?,
+            repeated(alloc, "\u{fffd}a   \u{fffd}\u{7f}", 1, "")?,
+        ),
+        (
+            repeated(alloc, "\u{fffd}\u{fffe}\u{ffff}\u{10000}", 1, "")?,
+            repeated(alloc, "\u{fffd}\u{fffd}\u{fffd}\u{10000}", 1, "")?,
+        ),
+        (
+            repeated(alloc, "n", 255, "")?,
+            repeated(alloc, "n", 255, "")?,
+        ),
+        (
+            repeated(alloc, "n", 256, "")?,
+            repeated(alloc, "n", 255, "")?,
+        ),
+        (
+            repeated(alloc, "\u{e9}", 128, "n")?,
+            repeated(alloc, "\u{e9}", 127, "")?,
+        ),
+        (
+            repeated(alloc, "n", 253, "\u{e9}n")?,
+            repeated(alloc, "n", 253, "\u{e9}")?,
+        ),
+        (
+            repeated(alloc, "n", 252, "\u{1f3b5}n")?,
+            repeated(alloc, "n", 252, "")?,
+        ),
+        (
+            repeated(alloc, "\u{1}", 86, "n")?,
+            repeated(alloc, "\u{fffd}", 85, "")?,
+        ),
+    ] {
+        assert!(rt;
+            clean(alloc, text.as_str())?.as_str() == want.as_str(),
+            "{text}"
+        );
+    }
+    let comments = [
+        ("TITLE", "a\tb"),
+        ("ARTIST", "\u{2}"),
+        ("ALBUM", "\r"),
+        ("GENRE", "\u{fffe}g"),
+    ];
+    let track = track(alloc, &comments, "t.flac")?;
+    assert_eq!(rt; track.title.as_str(), "a b");
+    assert!(rt; shown(&track.artist) == Some("\u{fffd}") && shown(&track.album) == Some(" "));
+    assert!(rt; shown(&track.genre) == Some("\u{fffd}g"));
+    match folder_of(alloc, "a\nb")? {
+        Content::Folder { title } => assert_eq!(rt; title.as_str(), "a b"),
         _ => assert!(rt; false),
     }
     Ok(())
