@@ -10,12 +10,12 @@ use Rattle.std.proofs.Math.Nat.{mod-add-mod}
 use Rattle.atomic_table.specs.Table.{State, Me, step, keeps, takes, gives, put_back, rest, stepped, Allows, Splits, Joins, opening, Final, Seen}
 use Rattle.atomic_table.proofs.Lists.{set_else, set_again, one_turn}
 use Rattle.cds_turn.specs.declared.view.View.{View}
-use Rattle.cds_turn.specs.Line.{Extends, StandsBeyond, one_if, tickets, passes, newcomer, spent, Fits, InLine, Kept}
+use Rattle.cds_turn.specs.Line.{Extends, IsKnown, StandsBeyond, Ended, EndsHome, EndsOpen, one_if, tickets, passes, newcomer, spent, Fits, InLine, Kept}
 use Rattle.atomic_table.specs.declared.shared.Seat.{Seat}
 use Rattle.cds_turn.specs.Moves.{at_rest, waiting, having, served, stays, parts, both, settled, Draws, Adds, Passes, Settles, Looks}
-use Rattle.cds_turn.proofs.Lists.{extends_more, extends_nothing, begins, longer_is}
+use Rattle.cds_turn.proofs.Lists.{extends_more, extends_nothing, begins, longer_is, longer_whole, whole}
 use Rattle.cds_turn.proofs.Sums.{total_at, total_set, total_le, each_set, set_at_own, one_there}
-use Rattle.cds_turn.proofs.Standing.{none_of, ticket_le, has_pass, own_or, widened, placed_set, moved, arrived, few_out}
+use Rattle.cds_turn.proofs.Standing.{none_of, ticket_le, has_pass, own_or, widened, known_set, known_left, placed_set, moved, arrived, few_out}
 
 module _ {C T : Type 0} where
   -- both lists of two seats that were joined are no longer than what the one seat has seen
@@ -66,7 +66,7 @@ module _ {V C T : Type 0} (stands : V → T → List C → Type 0) (start : T) (
               (λ j u _ there. let g = r.each j u there in widened start r.served r.drawn r.served (r.drawn + 1) r.list u g (omega arith) (λ t e. (g.in_line t e).0) (λ l e. (g.turn l e).0))
               (λ t e. let same : r.drawn ≡ t = cc in inr (omega arith))
               (λ t from below. dite (ℕ_discrete r.drawn t) (λ same. inl (ap Some same)) (λ other. inr (from, omega arith, λ e. let h : None ≡ Some t = sym no_ticket ∙ e in absurd (cc))))
-              (placed_set stands start r.list s (set s.words 0 ((get_or s.words 0 0 + 1) % 2 ^ 64)) id v w at no_turn no_turn r.placed),
+              (placed_set stands start r.list s (set s.words 0 ((get_or s.words 0 0 + 1) % 2 ^ 64)) id v w at no_turn no_turn (known_set r.list s.views id v w at (λ e. e)) r.placed),
         ),
         (r.drawn, ap (λ (ws : List ℕ). get_or ws 0 0) r.words, refl),
       )
@@ -82,15 +82,25 @@ module _ {V C T : Type 0} (stands : V → T → List C → Type 0) (start : T) (
 
   -- where a seat that waits is served, the value is at home
   at_home : (s : S) (r : InLine stands start seats s) (id : ℕ) (v : View C T) → get_elem? s.views id ≡ some v → v.ticket ≡ Some r.served → v.found ≡ None
-      → (value : V) × (s.homes ≡ some (Some value) ∷ []) × stands value start r.list × ((j : ℕ) (u : View C T) → get_elem? s.views j ≡ some u → u.found ≡ None)
-  at_home s r id v at mine no_turn = ⊎_elim (λ p. p)
+      → (value : V) × (s.homes ≡ some (Some value) ∷ []) × stands value start r.list × IsKnown r.list s.views
+  at_home s r id v at mine no_turn = ⊎_elim (λ p. (p.0, p.1, p.2, p.4))
       (λ p. let j : ℕ = p.1.0 in let u : View C T = p.1.1 in let has = (r.each j u p.1.2).turn r.list p.1.3 in let same : id ≡ j = r.apart id j v u r.served at p.1.2 mine has.0 in
       let one : v ≡ u = one_there s.views id v u at (subst (λ (n : ℕ). get_elem? s.views n ≡ some u) (sym same) p.1.2) in
       let h : None ≡ Some r.list = sym no_turn ∙ (ap (λ (z : View C T). z.found) one ∙ p.1.3) in absurd (cc))
       r.placed
 
-  pub looks : (slots id : ℕ) (me : M) (t : ℕ) → me.0.ticket ≡ Some t → me.0.found ≡ None → me.1 ≡ [] → Allows Rule slots id me 1 (λ n. n) (Looks stands (step slots 1 0 0 none) me)
-  looks slots id me t mine no_turn empty s k _ at _ = let r = k.1 in let v : View C T = me.0 in let f = r.each id v at in dite (ℕ_discrete (get_or s.words 1 0) (t % 2 ^ 64))
+  -- a seat with all passes has seen the whole list, since every other one was joined into another
+  lone : (s : S) (r : InLine stands start seats s) (id : ℕ) (v : View C T) → get_elem? s.views id ≡ some v → v.passes ≡ seats → IsKnown r.list s.views → r.list ≡ v.seen
+  lone s r id v at all k = dite (ℕ_discrete k.0 id)
+      (λ same. let one = one_there s.views id k.1 v (subst (λ n. get_elem? s.views n ≡ some k.1) same k.2) at in sym k.3 ∙ ap (λ (z : View C T). z.seen) one)
+      (λ away. let others = total_set passes s.views id v spent at in let shares = r.shares in
+      let one = total_at passes (set s.views id spent) k.0 k.1 (set_else s.views id k.0 spent away ∙ k.2) in
+      let gone : k.1 ≡ spent = ⊎_elim (λ e. e) (λ (more : 0 < k.1.passes). absurd (omega arith)) (r.each k.0 k.1 k.2).alive in
+      let none_seen : length r.list ≡ 0 = ap length (sym k.3 ∙ ap (λ (z : View C T). z.seen) gone) in
+      whole r.list v.seen (r.each id v at).begun (omega arith))
+
+  pub looks : (slots id : ℕ) (me : M) (all t : ℕ) → all ≡ seats → me.0.ticket ≡ Some t → me.0.found ≡ None → me.1 ≡ [] → Allows Rule slots id me 1 (λ n. n) (Looks stands all (step slots 1 0 0 none) me)
+  looks slots id me all t is_all mine no_turn empty s k _ at _ = let r = k.1 in let v : View C T = me.0 in let f = r.each id v at in dite (ℕ_discrete (get_or s.words 1 0) (t % 2 ^ 64))
       (λ hit. let now : r.served ≡ t = own_ticket s k id t v at mine hit in let own : v.ticket ≡ Some r.served = mine ∙ ap Some (sym now) in let home = at_home s r id v at own no_turn in
       let value : V = home.0 in let w : View C T = having v r.list in let still : set s.words 1 (get_or s.words 1 0) ≡ s.words = set-get_or s.words 1 0 in (
         w,
@@ -113,7 +123,7 @@ module _ {V C T : Type 0} (stands : V → T → List C → Type 0) (start : T) (
         ),
         λ t' mine'. let same : t ≡ t' = cc in inl (
           hit ∙ ap (λ (n : ℕ). n % 2 ^ 64) same,
-          (r.list, value, (λ n. (w, (0, Some value) ∷ empty n)), (λ st e. subst (λ (z : T). stands value z r.list) (sym (f.starts st e)) home.2), f.begun),
+          (r.list, value, (λ n. (w, (0, Some value) ∷ empty n)), (λ st e. subst (λ (z : T). stands value z r.list) (sym (f.starts st e)) home.2), f.begun, λ e. lone s r id v at (e ∙ is_all) home.3),
         ),
       ))
       (λ miss. (me.0, keeps, tt, unchanged s 1 id me k at, λ t' mine'. let same : t ≡ t' = cc in inr ((λ e. miss (e ∙ ap (λ (n : ℕ). n % 2 ^ 64) (sym same))), refl)))
@@ -191,6 +201,7 @@ module _ {V C T : Type 0} (stands : V → T → List C → Type 0) (start : T) (
                 (λ n. put_back (out n) (carried n)),
                 subst (λ (z : List C). stands value start z) own.1 stands_now,
                 each_set (λ j u. u.found ≡ None) s.views id w refl (λ j u away there. none_of u.found (λ m e. (alone s r id v l at has j u away there).1 m e)),
+                (id, w, set_at_own s.views id v w at, own.1),
               )),
         ),
         λ m e. let same : l ≡ m = cc in λ n. (served v (same n), rest (carried n)),
@@ -210,7 +221,7 @@ module _ {V C T : Type 0} (stands : V → T → List C → Type 0) (start : T) (
           k.0,
           moved stands start seats seats s r id v w at (set s.words 0 (get_or s.words 0 0)) s.homes r.served r.drawn r.list (still ∙ r.words) (omega arith) refl
               (record { alive = inr some_pass; starts = f.starts; in_line = f.in_line; begun = f.begun; older = λ i e there. absurd (some-ne-none e (sym there)); turn = f.turn })
-              (λ j u _ there. r.each j u there) (λ t e. inl e) (own_or r.served r.drawn v) (placed_set stands start r.list s (set s.words 0 (get_or s.words 0 0)) id v w at no_turn no_turn r.placed),
+              (λ j u _ there. r.each j u there) (λ t e. inl e) (own_or r.served r.drawn v) (placed_set stands start r.list s (set s.words 0 (get_or s.words 0 0)) id v w at no_turn no_turn (known_set r.list s.views id v w at (λ e. e)) r.placed),
         ),
         (refl, λ i e there. begins r.list v.seen e f.begun (f.older i e there) (shorter i e there)),
       )
@@ -219,7 +230,7 @@ module _ {V C T : Type 0} (stands : V → T → List C → Type 0) (start : T) (
   splits id v begun no_ticket no_turn two s k at = let r = k.1 in let f = r.each id v at in let all = total_at passes s.views id v at in let shares = r.shares in let w : View C T = stays v in
       let first = moved stands start seats (seats - 1) s r id v w at s.words s.homes r.served r.drawn r.list r.words (omega arith) (omega arith)
       (record { alive = inr (omega arith); starts = f.starts; in_line = f.in_line; begun = f.begun; older = f.older; turn = f.turn })
-      (λ j u _ there. r.each j u there) (λ t e. inl e) (own_or r.served r.drawn v) (placed_set stands start r.list s s.words id v w at no_turn no_turn r.placed) in
+      (λ j u _ there. r.each j u there) (λ t e. inl e) (own_or r.served r.drawn v) (placed_set stands start r.list s s.words id v w at no_turn no_turn (known_set r.list s.views id v w at (λ e. e)) r.placed) in
       let now : S = record { words = s.words; homes = s.homes; views = set s.views id w } in let g = first.each id w (set_at_own s.views id v w at) in
       let second = arrived stands start (seats - 1) now first (parts v) no_ticket no_turn (record {
         alive = inr (omega arith);
@@ -245,8 +256,10 @@ module _ {V C T : Type 0} (stands : V → T → List C → Type 0) (start : T) (
         older = one_of r.list v.seen w.seen f.begun g.begun;
         turn = f.turn;
       })
-      (λ j u _ at'. r.each j u at') (λ t e. inl e) (own_or r.served r.drawn v) (placed_set stands start r.list s s.words id v z at no_turn no_turn r.placed) in
+      (λ j u _ at'. r.each j u at') (λ t e. inl e) (own_or r.served r.drawn v) (placed_set stands start r.list s s.words id v z at no_turn no_turn (known_set r.list s.views id v z at (λ e. longer_whole r.list v.seen w.seen f.begun g.begun (inl e))) r.placed) in
       let now : S = record { words = s.words; homes = s.homes; views = set s.views id z } in let none_out : one_if w.ticket ≡ 0 = ap one_if no_ticket' in
+      let taken = known_left first.list now.views id other z w (set_at_own s.views id v z at) there apart
+      (λ e. let n = ap length e in let long = (longer_is v.seen w.seen).1 in sym (whole first.list z.seen (first.each id z (set_at_own s.views id v z at)).begun (omega arith))) in
       let second = moved stands start (seats + w.passes) seats now first other w spent there s.words s.homes first.served first.drawn first.list first.words (omega arith) (omega arith)
       (record {
         alive = inl refl;
@@ -258,7 +271,7 @@ module _ {V C T : Type 0} (stands : V → T → List C → Type 0) (start : T) (
       })
       (λ j u _ at'. first.each j u at') (λ t e. absurd (cc))
       (λ t from below. inr (from, below, λ e. let h : None ≡ Some t = sym no_ticket' ∙ e in absurd (cc)))
-      (placed_set stands start first.list now s.words other w spent there no_turn' refl first.placed) in
+      (placed_set stands start first.list now s.words other w spent there no_turn' refl taken first.placed) in
       (k.0, second)
     where
       one_of : (list a b : List C) → Extends list a → Extends list b → (i : ℕ) (e : List C) → get_elem? (a ∷ b ∷ []) i ≡ some e → Extends list e
@@ -286,7 +299,7 @@ module _ {V C T : Type 0} (stands : V → T → List C → Type 0) (start : T) (
       });
       apart = λ i j a b t ei ej ta tb. (first_alone i a ei).0 ∙ sym (first_alone j b ej).0;
       held = λ t from below. absurd (omega arith);
-      placed = inl (value, refl, stands_now, λ j v e. ap (λ (z : View C T). z.found) (sym (first_alone j v e).1));
+      placed = inl (value, refl, stands_now, (λ j v e. ap (λ (z : View C T). z.found) (sym (first_alone j v e).1)), (0, newcomer start seats, refl, refl));
     },
   )
     where
@@ -295,45 +308,62 @@ module _ {V C T : Type 0} (stands : V → T → List C → Type 0) (start : T) (
       first_alone (suc j) v e = absurd (some-ne-none v (sym e))
 
   -- no ticket is out
-  idle_home : (s : S) (r : InLine stands start seats s) → r.served ≡ r.drawn → (value : V) × (s.homes ≡ some (Some value) ∷ []) × stands value start r.list
-  idle_home s r same = ⊎_elim (λ p. (p.0, p.1, p.2))
+  idle_home : (s : S) (r : InLine stands start seats s) → r.served ≡ r.drawn → (value : V) × (s.homes ≡ some (Some value) ∷ []) × stands value start r.list × IsKnown r.list s.views
+  idle_home s r same = ⊎_elim (λ p. (p.0, p.1, p.2, p.4))
       (λ p. let f = r.each p.1.0 p.1.1 p.1.2 in let own = f.turn r.list p.1.3 in let in_line = f.in_line r.served own.0 in absurd (omega arith)) r.placed
 
-  -- where the two words are equal at the end, the value is at home
-  pub closes : (words : List ℕ) (slots : List (Option V)) (id : ℕ) (v : View C T) (n : ℕ) → Final (Seen Rule id v) words slots → get_elem? words 0 ≡ some n → get_elem? words 1 ≡ some n
-      → (value : V) × (list : List C) × (get_elem? slots 0 ≡ some (Some value)) × stands value start list × Extends list v.seen
-  closes words slots id v n last drawn_is served_is = let s = last.0 in let k = last.1.0 in let r = k.1 in let small = k.0 in let few = few_out stands start seats s r in let count = r.count in
-      let here : s.words ≡ words = last.2 in
-      let a : r.drawn % 2 ^ 64 ≡ n = some-injective (r.drawn % 2 ^ 64) n (sym (ap (λ (ws : List ℕ). get_elem? ws 0) (sym here ∙ r.words)) ∙ drawn_is) in
-      let b : r.served % 2 ^ 64 ≡ n = some-injective (r.served % 2 ^ 64) n (sym (ap (λ (ws : List ℕ). get_elem? ws 1) (sym here ∙ r.words)) ∙ served_is) in
-      let same : r.served ≡ r.drawn = one_turn r.served r.drawn (2 ^ 64) (omega arith) (omega arith) (b ∙ sym a) in let home = idle_home s r same in
-      (home.0, r.list, last.4 0 (Some home.0) (ap (λ (hs : List (maybe.Option (Option V))). get_elem? hs 0) home.1), home.2, (r.each id v last.1.1).begun)
-
-  -- with all passes in one seat, which waits for nothing, the two words are equal
-  pub ends_equal : (words : List ℕ) (slots : List (Option V)) (id : ℕ) (v : View C T) (a b : ℕ) → Final (Seen Rule id v) words slots → v.ticket ≡ None → v.passes ≡ seats
-      → get_elem? words 0 ≡ some a → get_elem? words 1 ≡ some b → a ≡ b
-  ends_equal words slots id v a b last no_ticket all drawn_is served_is = let s = last.0 in let r = last.1.0.1 in let at = last.1.1 in let here : s.words ≡ words = last.2 in
-      let none_out : tickets v ≡ 0 = ap one_if no_ticket in
+  -- the state at the end, its two words and its slot
+  pub ends : (words : List ℕ) (slots : List (Option V)) (id : ℕ) (v : View C T) (a b : ℕ) (slot : Option V) → Final (Seen Rule id v) words slots → v.ticket ≡ None
+      → get_elem? words 0 ≡ some a → get_elem? words 1 ≡ some b → get_elem? slots 0 ≡ some slot
+      → (last : Ended stands start seats id v) × (a ≡ last.rule.drawn % 2 ^ 64) × (b ≡ last.rule.served % 2 ^ 64) × (last.rule.served ≤ last.rule.drawn) × (last.rule.drawn + v.passes ≤ last.rule.served + seats)
+      × (a ≡ b → (last.rule.drawn ≡ last.rule.served) × ((value : V) × (slot ≡ Some value) × (last.state.homes ≡ some (Some value) ∷ []) × stands value start last.rule.list × IsKnown last.rule.list last.state.views))
+  ends words slots id v a b slot final no_ticket drawn_is served_is there = let s = final.0 in let r = final.1.0.1 in let small = final.1.0.0 in let at = final.1.1 in let here : s.words ≡ words = final.2 in
+      let none_out : tickets v ≡ 0 = ap one_if no_ticket in let count = r.count in
       let others = total_set tickets s.views id v spent at in let passes_left = total_set passes s.views id v spent at in
-      let le = total_le tickets passes (set s.views id spent) (each_set (λ _ u. tickets u ≤ passes u) s.views id spent (omega arith) (λ j u _ there. ticket_le start r.served r.drawn r.list u (r.each j u there))) in
-      let shares = r.shares in let count = r.count in let same : r.drawn ≡ r.served = omega arith in
+      let le = total_le tickets passes (set s.views id spent) (each_set (λ _ u. tickets u ≤ passes u) s.views id spent (omega arith) (λ j u _ e. ticket_le start r.served r.drawn r.list u (r.each j u e))) in
+      let shares = r.shares in
       let da : r.drawn % 2 ^ 64 ≡ a = some-injective (r.drawn % 2 ^ 64) a (sym (ap (λ (ws : List ℕ). get_elem? ws 0) (sym here ∙ r.words)) ∙ drawn_is) in
       let sb : r.served % 2 ^ 64 ≡ b = some-injective (r.served % 2 ^ 64) b (sym (ap (λ (ws : List ℕ). get_elem? ws 1) (sym here ∙ r.words)) ∙ served_is) in
-      sym da ∙ (ap (λ (n : ℕ). n % 2 ^ 64) same ∙ sb)
+      let few = few_out stands start seats s r in
+      let idle : a ≡ b → r.served ≡ r.drawn = λ e. one_turn r.served r.drawn (2 ^ 64) (omega arith) (omega arith) (sb ∙ (sym e ∙ sym da)) in (
+        record { state = s; few = small; rule = r; has_seat = at },
+        sym da,
+        sym sb,
+        omega arith,
+        omega arith,
+        λ e. let h = idle_home s r (idle e) in let kept : get_elem? slots 0 ≡ some (Some h.0) = final.4 0 (Some h.0) (ap (λ (hs : List (maybe.Option (Option V))). get_elem? hs 0) h.1) in
+            (sym (idle e), (h.0, sym (some-injective (Some h.0) slot (sym kept ∙ there)), h.1, h.2, h.3)),
+      )
 
-  pub closes_value : (words : List ℕ) (slots : List (Option V)) (id : ℕ) (v : View C T) (n : ℕ) (value : V) → Final (Seen Rule id v) words slots → get_elem? words 0 ≡ some n → get_elem? words 1 ≡ some n
-      → get_elem? slots 0 ≡ some (Some value) → StandsBeyond stands start v.seen value
-  closes_value words slots id v n value last drawn_is served_is there = let home = closes words slots id v n last drawn_is served_is in
-      let both_are : some (Some home.0) ≡ some (Some value) = sym home.2 ∙ there in let same : home.0 ≡ value = cc in
-      record { list = home.1; stands_for = subst (λ (z : V). stands z start home.1) same home.3; begun = home.4 }
+  -- how the table ends, for whatever stands in its two words and in its slot
+  module _ (words : List ℕ) (slots : List (Option V)) (id : ℕ) (v : View C T) (a b : ℕ) (slot : Option V) (final : Final (Seen Rule id v) words slots) (no_ticket : v.ticket ≡ None)
+      (drawn_is : get_elem? words 0 ≡ some a) (served_is : get_elem? words 1 ≡ some b) (there : get_elem? slots 0 ≡ some slot) where
+    -- with all passes the two words are equal
+    pub ends_equal : v.passes ≡ seats → a ≡ b
+    ends_equal all = let e = ends words slots id v a b slot final no_ticket drawn_is served_is there in let one = e.4 in let two = e.3 in let same : e.0.rule.drawn ≡ e.0.rule.served = omega arith in
+        e.1 ∙ (ap (λ (n : ℕ). n % 2 ^ 64) same ∙ sym e.2)
 
-  pub closes_home : (words : List ℕ) (slots : List (Option V)) (id : ℕ) (v : View C T) (n : ℕ) → Final (Seen Rule id v) words slots → get_elem? words 0 ≡ some n → get_elem? words 1 ≡ some n
-      → ¬ (get_elem? slots 0 ≡ some None)
-  closes_home words slots id v n last drawn_is served_is there = let home = closes words slots id v n last drawn_is served_is in
-      let both_are : some (Some home.0) ≡ some None = sym home.2 ∙ there in absurd (cc)
+    pub ends_some : a ≡ b → IsSome slot
+    ends_some same = let h = ((ends words slots id v a b slot final no_ticket drawn_is served_is there).5 same).1 in subst IsSome (sym h.1) (search rules)
 
-  -- where the two words are equal at the end, the slot has the value
-  pub closes_slot : (words : List ℕ) (slots : List (Option V)) (id : ℕ) (v : View C T) (m n : ℕ) (slot : Option V) → Final (Seen Rule id v) words slots → get_elem? words 0 ≡ some m → get_elem? words 1 ≡ some n
-      → get_elem? slots 0 ≡ some slot → m ≡ n → IsSome slot × IfSome slot (StandsBeyond stands start v.seen)
-  closes_slot words slots id v m n None last drawn_is served_is there same = absurd (closes_home words slots id v n last (drawn_is ∙ ap some same) served_is there)
-  closes_slot words slots id v m n (Some value) last drawn_is served_is there same = (search rules, closes_value words slots id v n value last (drawn_is ∙ ap some same) served_is there)
+    pub ends_beyond : a ≡ b → IfSome slot (StandsBeyond stands start v.seen)
+    ends_beyond same = let e = ends words slots id v a b slot final no_ticket drawn_is served_is there in let h = (e.5 same).1 in
+        subst (λ o. IfSome o (StandsBeyond stands start v.seen)) (sym h.1) (record { list = e.0.rule.list; stands_for = h.3; begun = (e.0.rule.each id v e.0.has_seat).begun })
+
+    pub ends_seen : a ≡ b → v.passes ≡ seats → IfSome slot (λ value. stands value start v.seen)
+    ends_seen same all = let e = ends words slots id v a b slot final no_ticket drawn_is served_is there in let h = (e.5 same).1 in
+        subst (λ o. IfSome o (λ value. stands value start v.seen)) (sym h.1) (subst (stands h.0 start) (lone e.0.state e.0.rule id v e.0.has_seat all h.4) h.3)
+
+    pub ends_home : a ≡ b → (value : V) → slot ≡ Some value → EndsHome stands start seats id v value
+    ends_home same value is = let e = ends words slots id v a b slot final no_ticket drawn_is served_is there in let h = (e.5 same).1 in
+        let both_are : Some h.0 ≡ Some value = sym h.1 ∙ is in record { last = e.0; over = (e.5 same).0; home = h.2 ∙ ap (λ o. some o ∷ []) both_are }
+
+    -- where they differ, tickets are out
+    pub ends_open : a ≢ b → EndsOpen stands start seats id v a b
+    ends_open differ = let e = ends words slots id v a b slot final no_ticket drawn_is served_is there in let order = e.3 in record {
+      last = e.0;
+      out = dite (ℕ_discrete e.0.rule.drawn e.0.rule.served) (λ same. absurd (differ (e.1 ∙ (ap (λ (n : ℕ). n % 2 ^ 64) same ∙ sym e.2)))) (λ other. omega arith);
+      few = e.4;
+      ticket_is = e.1;
+      serving_is = e.2;
+    }

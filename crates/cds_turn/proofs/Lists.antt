@@ -1,5 +1,5 @@
 -- Of two beginnings of one list the longer begins with the shorter.
-use Rattle.std.proofs.Common.{◌≡◌, ◌≤◌, Bool, true, false, List, [], ◌∷◌, ◌++◌, length, length-append, append_assoc, append-nil, sym, ap, ◌∙◌, refl, arith, nat_lt, cond, ◌⊎◌, inl, inr}
+use Rattle.std.proofs.Common.{◌≡◌, ◌≤◌, Bool, true, false, List, [], ◌∷◌, ◌++◌, length, length-append, append_assoc, append-nil, sym, ap, ◌∙◌, refl, arith, nat_lt, cond, ◌⊎◌, inl, inr, ⊎_elim, subst}
 use Rattle.std.proofs.lemmas.Bool.{ltb-true, ltb-false}
 use Rattle.cds_turn.specs.Line.{Extends}
 use Rattle.cds_turn.specs.Moves.{longer}
@@ -30,3 +30,17 @@ module _ {C : Type 0} where
   -- the longer of two lists is one of them, and no shorter than either
   pub longer_is : (xs ys : List C) → (length xs ≤ length (longer xs ys)) × (length ys ≤ length (longer xs ys)) × ((longer xs ys ≡ xs) ⊎ (longer xs ys ≡ ys))
   longer_is xs ys = chosen xs ys (nat_lt (length xs) (length ys)) refl
+
+  -- a list that begins with another that is no shorter is the other
+  pub whole : (list seen : List C) → Extends list seen → length list ≤ length seen → list ≡ seen
+  whole list seen e le = let n = ap length e.1 in let m = length-append e.0 seen in e.1 ∙ ap (λ z. z ++ seen) (empty e.0 (omega arith))
+    where
+      empty : (xs : List C) → length xs ≡ 0 → xs ≡ []
+      empty [] same = refl
+      empty (x ∷ xs) same = absurd (omega arith)
+
+  -- the longer of two beginnings of a list of which one is all of it is all of it
+  pub longer_whole : (list a b : List C) → Extends list a → Extends list b → (a ≡ list) ⊎ (b ≡ list) → longer a b ≡ list
+  longer_whole list a b ea eb one = let long = longer_is a b in
+      let enough : length list ≤ length (longer a b) = ⊎_elim (λ (e : a ≡ list). let n = ap length e in let h = long.0 in omega arith) (λ (e : b ≡ list). let n = ap length e in let h = long.1 in omega arith) one in
+      sym (whole list (longer a b) (⊎_elim (λ e. subst (λ (m : List C). Extends list m) (sym e) ea) (λ e. subst (λ (m : List C). Extends list m) (sym e) eb) long.2) enough)

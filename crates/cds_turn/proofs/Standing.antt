@@ -8,7 +8,7 @@ use lib.ListN.{get_elem?}
 use Rattle.atomic_table.specs.Table.{State}
 use Rattle.atomic_table.proofs.Lists.{at_set, set_else, at_snoc, at_longer}
 use Rattle.cds_turn.specs.declared.view.View.{View}
-use Rattle.cds_turn.specs.Line.{one_if, tickets, passes, spent, Fits, AreApart, Placed, InLine}
+use Rattle.cds_turn.specs.Line.{one_if, tickets, passes, spent, Fits, AreApart, IsKnown, Placed, InLine}
 use Rattle.cds_turn.proofs.Sums.{total_set, total_snoc, total_le, each_set, set_at_own, one_there}
 
 abbrev pub some_of : {A : Type 0} → A → Option A → A
@@ -70,6 +70,21 @@ module _ {C T : Type 0} where
       other : (k : ℕ) (u : View C T) (n : ℕ) → get_elem? views k ≡ some u → w.ticket ≡ Some n → u.ticket ≡ Some n → id ≡ k
       other k u n e tw tu = ⊎_elim (λ (h : v.ticket ≡ Some n). apart id k v u n at e h tu) (λ h. absurd (h k u e tu)) (own n tw)
 
+  -- another view is changed, or this one still has seen the whole list
+  pub known_set : (list : List C) (views : List (View C T)) (id : ℕ) (v w : View C T) → get_elem? views id ≡ some v → (v.seen ≡ list → w.seen ≡ list) → IsKnown list views → IsKnown list (set views id w)
+  known_set list views id v w at still k = dite (ℕ_discrete k.0 id)
+      (λ same. let one = one_there views id k.1 v (subst (λ n. get_elem? views n ≡ some k.1) same k.2) at in
+      (id, w, set_at_own views id v w at, still (sym (ap (λ (z : View C T). z.seen) one) ∙ k.3)))
+      (λ away. (k.0, k.1, set_else views id k.0 w away ∙ k.2, k.3))
+
+  -- one view is spent, and another has seen what it had
+  pub known_left : (list : List C) (views : List (View C T)) (id other : ℕ) (z w : View C T) → get_elem? views id ≡ some z → get_elem? views other ≡ some w → other ≢ id
+      → (w.seen ≡ list → z.seen ≡ list) → IsKnown list views → IsKnown list (set views other spent)
+  known_left list views id other z w at there apart has k = dite (ℕ_discrete k.0 other)
+      (λ same. let one = one_there views other k.1 w (subst (λ n. get_elem? views n ≡ some k.1) same k.2) there in
+      (id, z, set_else views other id spent (λ e. apart (sym e)) ∙ at, has (sym (ap (λ (y : View C T). y.seen) one) ∙ k.3)))
+      (λ away. (k.0, k.1, set_else views other k.0 spent away ∙ k.2, k.3))
+
 module _ {V C T : Type 0} (stands : V → T → List C → Type 0) (start : T) where
   abbrev pub St : Type 0
   St = State (Option V) (View C T)
@@ -78,10 +93,11 @@ module _ {V C T : Type 0} (stands : V → T → List C → Type 0) (start : T) w
   Homes = List (maybe.Option (Option V))
 
   -- a seat that does not have the turn changes its view, and still does not have it
-  pub placed_set : (list : List C) (s : St) (words : List ℕ) (id : ℕ) (v w : View C T) → get_elem? s.views id ≡ some v → v.found ≡ None → w.found ≡ None → Placed stands start list s
+  pub placed_set : (list : List C) (s : St) (words : List ℕ) (id : ℕ) (v w : View C T) → get_elem? s.views id ≡ some v → v.found ≡ None → w.found ≡ None
+      → (IsKnown list s.views → IsKnown list (set s.views id w)) → Placed stands start list s
       → Placed stands start list record { words = words; homes = s.homes; views = set s.views id w }
-  placed_set list s words id v w at still after = ⊎_elim
-      (λ p. inl (p.0, p.1, p.2, each_set (λ j u. u.found ≡ None) s.views id w after (λ j u _ e. p.3 j u e)))
+  placed_set list s words id v w at still after known = ⊎_elim
+      (λ p. inl (p.0, p.1, p.2, each_set (λ j u. u.found ≡ None) s.views id w after (λ j u _ e. p.3 j u e), known p.4))
       (λ p. let j : ℕ = p.1.0 in let u : View C T = p.1.1 in let away : j ≢ id = λ e. let same = one_there s.views id u v (subst (λ k. get_elem? s.views k ≡ some u) e p.1.2) at in
       let h : Some list ≡ None = sym p.1.3 ∙ (ap (λ (z : View C T). z.found) same ∙ still) in cc
       in inr (p.0, (j, u, set_else s.views id j w away ∙ p.1.2, p.1.3)))
@@ -131,7 +147,13 @@ module _ {V C T : Type 0} (stands : V → T → List C → Type 0) (start : T) w
         (at_snoc s.views w a i ei);
     held = λ t from below. let k = r.held t from below in (k.0, k.1, at_longer s.views (w ∷ []) k.0 k.1 k.2, k.3);
     placed = ⊎_elim
-        (λ p. inl (p.0, p.1, p.2, λ j u e. ⊎_elim (p.3 j u) (λ (same : w ≡ u). ap (λ (z : View C T). z.found) (sym same) ∙ no_turn) (at_snoc s.views w u j e)))
+        (λ p. inl (
+          p.0,
+          p.1,
+          p.2,
+          λ j u e. ⊎_elim (p.3 j u) (λ (same : w ≡ u). ap (λ (z : View C T). z.found) (sym same) ∙ no_turn) (at_snoc s.views w u j e),
+          (p.4.0, p.4.1, at_longer s.views (w ∷ []) p.4.0 p.4.1 p.4.2, p.4.3),
+        ))
         (λ p. inr (p.0, (p.1.0, p.1.1, at_longer s.views (w ∷ []) p.1.0 p.1.1 p.1.2, p.1.3)))
         r.placed;
   }

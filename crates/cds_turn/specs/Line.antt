@@ -60,6 +60,10 @@ module _ {C T : Type 0} where
   abbrev pub AreHeld : ℕ → ℕ → List (View C T) → Type 0
   AreHeld served drawn views = (t : ℕ) → served ≤ t → t < drawn → (j : ℕ) × (v : View C T) × (get_elem? views j ≡ some v) × (v.ticket ≡ Some t)
 
+  -- some view has seen the whole list
+  abbrev pub IsKnown : List C → List (View C T) → Type 0
+  IsKnown list views = (j : ℕ) × (v : View C T) × (get_elem? views j ≡ some v) × (v.seen ≡ list)
+
   -- no view has the turn
   abbrev pub AreWaiting : List (View C T) → Type 0
   AreWaiting views = (j : ℕ) (v : View C T) → get_elem? views j ≡ some v → v.found ≡ None
@@ -71,10 +75,11 @@ module _ {V C T : Type 0} (stands : V → T → List C → Type 0) (start : T) w
     pub stands_for : stands value start list
     pub begun : Extends list seen
 
-  -- The value is at home and stands for the list while no view has the turn. Else it is out, with the one seat that has the turn
+  -- The value is at home and stands for the list while no view has the turn, and some view has seen the whole list. Else it is out, with the one
+  -- seat that has the turn, which knows the list
   abbrev pub Placed : List C → State (Option V) (View C T) → Type 0
   Placed list s =
-      ((value : V) × (s.homes ≡ some (Some value) ∷ []) × stands value start list × AreWaiting s.views)
+      ((value : V) × (s.homes ≡ some (Some value) ∷ []) × stands value start list × AreWaiting s.views × IsKnown list s.views)
       ⊎ ((s.homes ≡ none ∷ []) × ((j : ℕ) × (v : View C T) × (get_elem? s.views j ≡ some v) × (v.found ≡ Some list)))
 
   pub record InLine (seats : ℕ) (s : State (Option V) (View C T)) : Type 0 where
@@ -92,3 +97,24 @@ module _ {V C T : Type 0} (stands : V → T → List C → Type 0) (start : T) w
   -- the rule: fewer than 2 ^ 32 seats, so fewer than 2 ^ 32 tickets are out at once
   abbrev pub Kept : ℕ → State (Option V) (View C T) → Type 0
   Kept seats s = (seats < 2 ^ 32) × InLine seats s
+
+  -- a state that the rule allows, in which a seat has this view
+  pub record Ended (seats id : ℕ) (view : View C T) : Type 0 where
+    pub state : State (Option V) (View C T)
+    pub few : seats < 2 ^ 32
+    pub rule : InLine seats state
+    pub has_seat : get_elem? state.views id ≡ some view
+
+  -- it ended with all tickets served and this value at home
+  pub record EndsHome (seats id : ℕ) (view : View C T) (value : V) : Type 0 where
+    pub last : Ended seats id view
+    pub over : last.rule.drawn ≡ last.rule.served
+    pub home : last.state.homes ≡ some (Some value) ∷ []
+
+  -- it ended with tickets out, no more than there are passes of other seats, and these are its counts
+  pub record EndsOpen (seats id : ℕ) (view : View C T) (ticket serving : ℕ) : Type 0 where
+    pub last : Ended seats id view
+    pub out : last.rule.served < last.rule.drawn
+    pub few : last.rule.drawn + view.passes ≤ last.rule.served + seats
+    pub ticket_is : ticket ≡ last.rule.drawn % 2 ^ 64
+    pub serving_is : serving ≡ last.rule.served % 2 ^ 64

@@ -80,11 +80,14 @@ module _ {C T : Type 0} where
     abbrev pub Settles : Step S → Me S (View C T) → ℕ → Me S (View C T) → Type 0
     Settles st m n m' = (m' ≡ (settled m.0, m.1)) × ((k : ℕ) (e : List C) → get_elem? m.0.older k ≡ some e → Extends m.0.seen e)
 
-module _ {V C T : Type 0} (stands : V → T → List C → Type 0) where
-  -- the seat has the turn, with the value, which stands for a list that begins with all that the seat had seen
+-- for a turn of so many seats
+module _ {V C T : Type 0} (stands : V → T → List C → Type 0) (seats : ℕ) where
+  -- The seat has the turn, with the value, which stands for a list that begins with all that the seat had seen. A seat with all passes
+  -- had seen the whole list
   abbrev pub Turns : Me (Option V) (View C T) → Me (Option V) (View C T) → Type 0
   Turns m m' = (found : List C) × (value : V) × (m' ≡ (having m.0 found, (0, Some value) ∷ []))
       × ((start : T) → m.0.start ≡ Some start → stands value start found) × Extends found m.0.seen
+      × (m.0.passes ≡ seats → found ≡ m.0.seen)
 
   -- the turn comes exactly where the number found is the own ticket's
   abbrev pub Looks : Step (Option V) → Me (Option V) (View C T) → ℕ → Me (Option V) (View C T) → Type 0

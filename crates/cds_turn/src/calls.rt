@@ -1,7 +1,7 @@
 //! What a caller does with a turn.
 ghost use Rattle.std.specs.Prelude.{◌≡◌, ◌≢◌, ◌⊎◌, ◌+◌, ◌≤◌, List, [], ◌++◌, IfOk, IfErr, IsOk};
 ghost use Rattle.cds_turn.specs.Line.{Extends, StandsBeyond};
-ghost use Rattle.cds_turn.specs.Turn.{IsSeatOf, start_of, seats_of, seen_by, passes_of, turns_of};
+ghost use Rattle.cds_turn.specs.Turn.{IsSeatOf, IsOver, IsOpen, start_of, seats_of, seen_by, passes_of, turns_of};
 
 use crate::open::Open;
 use crate::seat::Seat;
@@ -39,22 +39,24 @@ impl<V: StandsFor + Drop> Turn<V> {
         }
     }
 
-    /// Does an act on the value once it is the caller's turn, which may take for ever. The answer is one that the act's
-    /// meaning allows for the list found.
+    /// Does an act on the value once it is the caller's turn, which may take for ever. The list found begins with all that
+    /// the seat had seen, and is just that where the seat has all passes. The answer is one that the act's meaning allows
+    /// for the list found.
     pub fn with<A: Act<V>, R: Wait>(&self, rt: &R, seat: &mut Seat<V>, act: A) -> A::Out
         requires { IsSeatOf self.now seat.old }
         ensures seat { IsSeatOf self.now seat.new }
         ensures passes { passes_of seat.new ≡ passes_of seat.old }
         ensures turns { turns_of seat.new ≡ turns_of seat.old + 1 }
         ensures found { (found : List V.Command) × Extends found (seen_by seat.old)
+            × (passes_of seat.old ≡ seats_of self.now → found ≡ seen_by seat.old)
             × A.answers act (start_of self.now seat.old) found result
             × (seen_by seat.new ≡ A.adds act (start_of self.now seat.old) found result ++ found)
             × ((given : V) × (left : V) × V.stands given (start_of self.now seat.old) found
-            × V.stands left (start_of self.now seat.old) (seen_by seat.new)) }
+            × V.stands left (start_of self.now seat.old) (seen_by seat.new) × A.does act given left result) }
     {
         let lane = &self.table.shared;
         let place = &mut seat.place;
-        let mut value = table::enter(rt, lane, place);
+        let mut value = table::enter::<V, R, Brand>(rt, lane, place);
         let told = Snapshot::of(&act);
         let (answer, count) = act.act(&mut value);
         table::add::<V, A, Brand>(lane, place, &told, &answer, count);
@@ -91,12 +93,17 @@ impl<V: StandsFor + Drop> Turn<V> {
         table::merge(&self.table.shared, &mut into.place, place);
     }
 
-    /// The value. Where the seat has all passes `Open` never comes; where it comes, the value is gone.
+    /// The value, exactly where all tickets that were drawn are served; else `Open` with the two counts, and the value is
+    /// gone. The counts are those of a state that the turn's rule allows and that has this seat: no more tickets are out
+    /// than the other seats have passes, so where the seat has all of them, the value comes and stands for what it has seen.
     pub fn close(self, seat: Seat<V>) -> Result<V, Open>
         requires { IsSeatOf self seat }
         ensures value { IfOk result (λ value. StandsBeyond V.stands (start_of self seat) (seen_by seat) value) }
-        ensures open { IfErr result (λ o. o.ticket ≢ o.serving) }
+        ensures over { IfOk result (λ value. IsOver self seat value) }
+        ensures open { IfErr result (λ o. IsOpen self seat o.ticket o.serving) }
+        ensures differ { IfErr result (λ o. o.ticket ≢ o.serving) }
         ensures all { passes_of seat ≡ seats_of self → IsOk result }
+        ensures seen { passes_of seat ≡ seats_of self → IfOk result (λ value. V.stands value (start_of self seat) (seen_by seat)) }
     {
         let Turn { table } = self;
         let Seat { place } = seat;

@@ -24,14 +24,19 @@ pub trait Act<V: StandsFor>: Send {
     // The commands that it appends, newest first: of the start, the list found and the answer.
     ghost adds: { Self → V.Start → List V.Command → Self.Out → List V.Command };
 
-    // What its answer may be, of the start and the list found. Want of memory is one of its answers, which appends
-    // nothing.
+    // What its answer may be, of the start and the list found. An act that takes memory allows want of it here, and says
+    // in `adds` that nothing is appended then.
     ghost answers: { Self → V.Start → List V.Command → Self.Out → Type 0 };
 
-    /// Does the job. The first part is its answer, the second the number of commands that it appended.
+    // What it does to the value: of the value given, the value left and the answer.
+    ghost does: { Self → V → V → Self.Out → Type 0 };
+
+    /// Does the job on a value that stands for some list. The first part is its answer, the second the number of commands
+    /// that it appended to that list.
     fn act(self, value: &mut V) -> (Self::Out, u64)
         ensures count { (start : V.Start) (found : List V.Command) → V.stands value.old start found → result.1 ≡ length (adds self start found result.0) }
         ensures answer { (start : V.Start) (found : List V.Command) → V.stands value.old start found → answers self start found result.0 }
         ensures stands { (start : V.Start) (found : List V.Command) → V.stands value.old start found
-            → V.stands value.new start (adds self start found result.0 ++ found) };
+            → V.stands value.new start (adds self start found result.0 ++ found) }
+        ensures does { does self value.old value.new result.0 };
 }

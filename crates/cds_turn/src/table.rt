@@ -1,12 +1,12 @@
 //! The single steps of a turn, each on one word or on the slot.
-ghost use Rattle.std.specs.Prelude.{◌≡◌, ◌≤◌, ℕ, ◌+◌, ◌%◌, ◌^◌, List, [], ◌∷◌, ◌++◌, length, Some, None, IsSome, IfSome, true, false};
-ghost use Rattle.cds_turn.specs.Line.{Extends, StandsBeyond};
+ghost use Rattle.std.specs.Prelude.{◌≡◌, ◌≢◌, ◌≤◌, ℕ, ◌+◌, ◌%◌, ◌^◌, List, [], ◌∷◌, ◌++◌, length, Some, None, IsSome, IfSome, true, false};
+ghost use Rattle.cds_turn.specs.Line.{Extends, StandsBeyond, EndsHome, EndsOpen};
 ghost use Rattle.cds_turn.specs.Moves.{IsAt, Continues, at_rest, found_of, stays, parts, both, settled, Turns};
 
 use crate::open::Open;
 use crate::stands::{Act, StandsFor};
 use crate::view::{
-    Add, Adding, Both, Draw, Line, Look, Opening, Part, PassOn, Place, Settle, View,
+    Add, Adding, Both, Draw, Line, Look, Opening, Part, PassOn, Place, Settle, Sharing, View,
 };
 use atomic_table::{Shared, Table};
 use std::alloc::Global;
@@ -41,6 +41,10 @@ impl<C> Adding<C> for Brand {
     ghost added = { λ _. [] };
 }
 
+impl Sharing for Brand {
+    ghost seats = { 0 };
+}
+
 /// Draws a ticket: the number found is it, modulo 2^64.
 fn draw<V: StandsFor>(lane: &Lane<V>, place: &mut Place<V>) -> u64
     requires table { IsAt lane.now.table_id place.old }
@@ -54,16 +58,17 @@ fn draw<V: StandsFor>(lane: &Lane<V>, place: &mut Place<V>) -> u64
 }
 
 /// Looks at the number that is served, again and again for a moment. The seat has the turn exactly where it is the ticket.
-fn is_served<V: StandsFor>(lane: &Lane<V>, place: &mut Place<V>, ticket: u64) -> bool
+fn is_served<V: StandsFor, G: Sharing>(lane: &Lane<V>, place: &mut Place<V>, ticket: u64) -> bool
     requires table { IsAt lane.now.table_id place.old }
+    requires seats { G.seats ≡ lane.now.key.seats }
     requires ticket { (t : ℕ) × (ticket ≡ t % 2 ^ 64) × (place.old.me.0.ticket ≡ Some t) }
     requires waits { (place.old.me.0.found ≡ None) × (place.old.me.1 ≡ []) }
     ensures table { place.new.table_id ≡ place.old.table_id }
-    ensures turn { result ≡ true → Turns V.stands place.old.me place.new.me }
+    ensures turn { result ≡ true → Turns V.stands G.seats place.old.me place.new.me }
     ensures waits { result ≡ false → place.new.me ≡ place.old.me }
 {
     for _ in 0..LOOKS {
-        if lane.load::<Look>(place, 1) == ticket {
+        if lane.load::<Look<G>>(place, 1) == ticket {
             return true;
         }
     }
@@ -71,15 +76,21 @@ fn is_served<V: StandsFor>(lane: &Lane<V>, place: &mut Place<V>, ticket: u64) ->
 }
 
 /// Waits until the ticket is served. The seat then holds the slot with the value.
-fn await_turn<V: StandsFor, R: Wait>(rt: &R, lane: &Lane<V>, place: &mut Place<V>, ticket: u64)
+fn await_turn<V: StandsFor, R: Wait, G: Sharing>(
+    rt: &R,
+    lane: &Lane<V>,
+    place: &mut Place<V>,
+    ticket: u64,
+)
     requires table { IsAt lane.now.table_id place.old }
+    requires seats { G.seats ≡ lane.now.key.seats }
     requires ticket { (t : ℕ) × (ticket ≡ t % 2 ^ 64) × (place.old.me.0.ticket ≡ Some t) }
     requires waits { (place.old.me.0.found ≡ None) × (place.old.me.1 ≡ []) }
     ensures table { place.new.table_id ≡ place.old.table_id }
-    ensures turn { Turns V.stands place.old.me place.new.me }
+    ensures turn { Turns V.stands G.seats place.old.me place.new.me }
 {
     for _ in rt.forever() {
-        if is_served(lane, place, ticket) {
+        if is_served::<V, G>(lane, place, ticket) {
             return;
         }
         thread::yield_now();
@@ -89,8 +100,13 @@ fn await_turn<V: StandsFor, R: Wait>(rt: &R, lane: &Lane<V>, place: &mut Place<V
 
 /// Draws a ticket, waits for its turn and takes the value, which stands for a list that begins with all that the seat
 /// had seen.
-pub(crate) fn enter<V: StandsFor, R: Wait>(rt: &R, lane: &Lane<V>, place: &mut Place<V>) -> V
+pub(crate) fn enter<V: StandsFor, R: Wait, G: Sharing>(
+    rt: &R,
+    lane: &Lane<V>,
+    place: &mut Place<V>,
+) -> V
     requires table { IsAt lane.now.table_id place.old }
+    requires seats { G.seats ≡ lane.now.key.seats }
     requires rests { place.old ≡ at_rest place.old }
     requires starts { place.old.me.0.start ≡ Some (V.start lane.now.key.value.value) }
     ensures same { Continues place.old place.new }
@@ -98,9 +114,10 @@ pub(crate) fn enter<V: StandsFor, R: Wait>(rt: &R, lane: &Lane<V>, place: &mut P
     ensures out { place.new.me.1 ≡ (0, None) ∷ [] }
     ensures stands { V.stands result (V.start lane.now.key.value.value) (found_of place.new) }
     ensures begun { Extends (found_of place.new) place.old.me.0.seen }
+    ensures all { place.old.me.0.passes ≡ lane.now.key.seats → found_of place.new ≡ place.old.me.0.seen }
 {
     let ticket = draw(lane, place);
-    await_turn(rt, lane, place, ticket);
+    await_turn::<V, R, G>(rt, lane, place, ticket);
     lane.exchange(place, 0, None).unwrap()
 }
 
@@ -206,6 +223,12 @@ pub(crate) fn end<V: StandsFor + Drop>(board: Board<V>, place: Place<V>) -> (Ope
     ensures home { result.0.ticket ≡ result.0.serving → IsSome result.1 }
     ensures value { result.0.ticket ≡ result.0.serving → IfSome result.1 (StandsBeyond V.stands (V.start board.shared.key.value.value) place.me.0.seen) }
     ensures all { place.me.0.passes ≡ board.shared.key.seats → result.0.ticket ≡ result.0.serving }
+    ensures seen { result.0.ticket ≡ result.0.serving → place.me.0.passes ≡ board.shared.key.seats
+        → IfSome result.1 (λ value. V.stands value (V.start board.shared.key.value.value) place.me.0.seen) }
+    ensures over { result.0.ticket ≡ result.0.serving
+        → (value : V) → result.1 ≡ Some value → EndsHome V.stands (V.start board.shared.key.value.value) board.shared.key.seats place.id place.me.0 value }
+    ensures open { result.0.ticket ≢ result.0.serving
+        → EndsOpen V.stands (V.start board.shared.key.value.value) board.shared.key.seats place.id place.me.0 result.0.ticket result.0.serving }
 {
     let mut closed = board.close_with(place);
     let open = Open {

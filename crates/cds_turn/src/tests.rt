@@ -36,13 +36,15 @@ impl StandsFor for Log {
 struct Append(u64);
 
 impl Act<Log> for Append {
-    ghost use Rattle.std.specs.Prelude.{[], ◌∷◌, is_ok, if◌then◌else◌, ⊤};
+    ghost use Rattle.std.specs.Prelude.{◌≡◌, [], ◌∷◌, is_ok, if◌then◌else◌, ⊤};
 
     type Out = Result<(), Mem>;
 
     ghost adds = { λ act _ _ done. if is_ok done then act.0 ∷ [] else [] };
 
     ghost answers = { λ _ _ _ _. ⊤ };
+
+    ghost does = { λ act before after done. after.numbers ≡ (if is_ok done then act.0 ∷ before.numbers else before.numbers) };
 
     fn act(self, log: &mut Log) -> (Result<(), Mem>, u64) {
         match log.numbers.push_front(self.0) {
@@ -64,6 +66,8 @@ impl Act<Log> for Newest {
     ghost adds = { λ _ _ _ _. [] };
 
     ghost answers = { λ _ _ found number. number ≡ slice_index found 0 };
+
+    ghost does = { λ _ before after _. after ≡ before };
 
     fn act(self, log: &mut Log) -> (u64, u64) {
         match log.numbers.front() {

@@ -58,13 +58,22 @@ impl<S, C, T> Play<S, View<C, T>> for Draw {
     ghost then = { Draws };
 }
 
-/// Looks at the number that is served, and takes the slot where it is the own ticket.
-pub(crate) struct Look;
+/// How many seats there may be. Each call that looks picks it.
+pub(crate) trait Sharing {
+    ghost use Rattle.std.specs.Prelude.{ℕ};
 
-impl<V: StandsFor> Play<Option<V>, View<V::Command, V::Start>> for Look {
+    ghost seats: { ℕ };
+}
+
+/// Looks at the number that is served, and takes the slot where it is the own ticket.
+pub(crate) struct Look<G> {
+    of: PhantomData<G>,
+}
+
+impl<V: StandsFor, G: Sharing> Play<Option<V>, View<V::Command, V::Start>> for Look<G> {
     ghost use Rattle.cds_turn.specs.Moves.{Looks};
 
-    ghost then = { Looks V.stands };
+    ghost then = { Looks V.stands G.seats };
 }
 
 /// Commands that an act has appended to the list that it found. Each call that adds them to the count picks them.

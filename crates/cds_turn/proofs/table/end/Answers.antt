@@ -1,12 +1,21 @@
 use Rattle.std.proofs.Common.{ap}
-use Rattle.cds_turn.proofs.Keeps.{closes_slot, ends_equal}
+use Rattle.cds_turn.proofs.Keeps.{ends_equal, ends_some, ends_beyond, ends_seen, ends_home, ends_open}
 use Rattle.cds_turn.proofs.table.end.Goals as goal
 
 pub returns-clause-home : goal.returns-clause-home
-returns-clause-home g c same = (closes_slot g.V.StandsFor.stands _ _ _ _ _ _ _ _ _ c.close_with-closed.ensures.values.2 c.word.ensures c.word-2.ensures c.take-slot.ensures.value same).0
+returns-clause-home g c = ends_some g.V.StandsFor.stands _ _ _ _ _ _ _ _ _ c.close_with-closed.ensures.values.2 (ap (λ z. z.me.0.ticket) c.requires.rests) c.word.ensures c.word-2.ensures c.take-slot.ensures.value
 
 pub returns-clause-value : goal.returns-clause-value
-returns-clause-value g c same = (closes_slot g.V.StandsFor.stands _ _ _ _ _ _ _ _ _ c.close_with-closed.ensures.values.2 c.word.ensures c.word-2.ensures c.take-slot.ensures.value same).1
+returns-clause-value g c = ends_beyond g.V.StandsFor.stands _ _ _ _ _ _ _ _ _ c.close_with-closed.ensures.values.2 (ap (λ z. z.me.0.ticket) c.requires.rests) c.word.ensures c.word-2.ensures c.take-slot.ensures.value
 
 pub returns-clause-all : goal.returns-clause-all
-returns-clause-all g c all = ends_equal g.V.StandsFor.stands _ _ _ _ _ _ _ _ c.close_with-closed.ensures.values.2 (ap (λ z. z.me.0.ticket) c.requires.rests) all c.word.ensures c.word-2.ensures
+returns-clause-all g c = ends_equal g.V.StandsFor.stands _ _ _ _ _ _ _ _ _ c.close_with-closed.ensures.values.2 (ap (λ z. z.me.0.ticket) c.requires.rests) c.word.ensures c.word-2.ensures c.take-slot.ensures.value
+
+pub returns-clause-seen : goal.returns-clause-seen
+returns-clause-seen g c = ends_seen g.V.StandsFor.stands _ _ _ _ _ _ _ _ _ c.close_with-closed.ensures.values.2 (ap (λ z. z.me.0.ticket) c.requires.rests) c.word.ensures c.word-2.ensures c.take-slot.ensures.value
+
+pub returns-clause-over : goal.returns-clause-over
+returns-clause-over g c = ends_home g.V.StandsFor.stands _ _ _ _ _ _ _ _ _ c.close_with-closed.ensures.values.2 (ap (λ z. z.me.0.ticket) c.requires.rests) c.word.ensures c.word-2.ensures c.take-slot.ensures.value
+
+pub returns-clause-open : goal.returns-clause-open
+returns-clause-open g c = ends_open g.V.StandsFor.stands _ _ _ _ _ _ _ _ _ c.close_with-closed.ensures.values.2 (ap (λ z. z.me.0.ticket) c.requires.rests) c.word.ensures c.word-2.ensures c.take-slot.ensures.value

@@ -6,5 +6,5 @@ pub load-requires : goal.load-requires
 load-requires g c = let ticket = c.requires.ticket in let waits = c.requires.waits in let still = c.loop.invariant.1 in (
   search rules,
   search rules,
-  looks g.V.StandsFor.stands _ _ _ _ _ ticket.0 (ap (λ m. m.0.ticket) still ∙ ticket.2) (ap (λ m. m.0.found) still ∙ waits.0) (ap (λ m. m.1) still ∙ waits.1),
+  looks g.V.StandsFor.stands _ _ _ _ _ g.G.Sharing.seats ticket.0 c.requires.seats (ap (λ m. m.0.ticket) still ∙ ticket.2) (ap (λ m. m.0.found) still ∙ waits.0) (ap (λ m. m.1) still ∙ waits.1),
 )
