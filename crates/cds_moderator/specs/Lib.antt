@@ -1,0 +1,2 @@
+pub mod Moderating
+pub mod ModeratingLaws
