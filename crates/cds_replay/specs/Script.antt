@@ -31,7 +31,7 @@ pub record Sound (script : Script) : Type 0 where
   pub whole : is_unbroken script.partial.items ≡ true
   pub short : length script.partial.items ≤ line_limit
   pub within : length script.partial.items ≤ script.room
-  pub records : length script.session.records + script.room ≤ script_limit
+  pub found : length script.session.found + script.room ≤ script_limit
   pub granted : script.session.server.subscribed.granted + script.room ≤ script_limit
   pub moment : script.session.clock < moment_limit
   pub played : IsPlayed script.session

@@ -3,6 +3,7 @@
 
 mod book;
 mod fragment;
+mod last;
 mod laws;
 mod play;
 mod releases;

@@ -1,37 +1,40 @@
 //! A script's server and replica, which take its turns one by one.
 
-ghost use Rattle.std.specs.Prelude.{◌≡◌, ◌+◌, ◌<◌, ◌≤◌, ◌++◌, ◌^◌, ◌&&◌, [], ◌∷◌, List, true, nat_lt, nat_le, length, codes, IfOk, OnOk, string_bytes};
+ghost use Rattle.std.specs.Prelude.{◌≡◌, ◌+◌, ◌<◌, ◌≤◌, ◌++◌, map, ◌^◌, ◌&&◌, [], ◌∷◌, List, true, nat_lt, nat_le, length, codes, IfOk, OnOk, string_bytes};
 ghost use Rattle.cds_script.specs.declared.turn.Turn.{Turn as TurnValue};
 ghost use Rattle.cds_script.specs.declared.turn.Turn.TheVariants.{Scan, Load, Read, Ask, Subscribe, Accept, Unsubscribe, ReadFault, First, At, Deliver};
 ghost use Rattle.cds_script.specs.Script.{IsInRange, moment_limit, granted_time};
-ghost use Rattle.cds_script.specs.Report.{may_stand, written_by, folder_record, track_record};
-ghost use Rattle.cds_replay.specs.Session.{held_reply, IsAfter, IsPlayed, IsBounded, Grows, with_record};
+ghost use Rattle.cds_script.specs.declared.found.Found.TheVariants.{Folder as FolderFound, Track as TrackFound};
+ghost use Rattle.cds_script.specs.Report.{may_stand, written_by, commented, last_commented, record_of};
+ghost use Rattle.cds_replay.specs.declared.last.Last.TheVariants.{NoTurn};
+ghost use Rattle.cds_replay.specs.Session.{held_reply, IsAfter, IsPlayed, IsBounded, Grows, last_found, with_found, with_tag};
 
+use crate::last::Last;
 use crate::reply::reply;
 use crate::report::{
     put_delivered, put_ended, put_known, put_notes, put_read, put_scan, was_answered, was_noticed,
 };
 use crate::server::Server;
-use cds_base::{Mem, Sequence, Text, put};
-use cds_object::{Content, FlacInfo, Path, Record, Records, content_of};
+use cds_base::{Mem, put};
+use cds_object::{Comment, FlacInfo, Path};
 use cds_replica::{AnswerError, NotifyError, Replica, Sid};
-use cds_script::{HeldReply, Turn};
+use cds_script::{Found, FoundFile, FoundList, HeldReply, Turn};
 use std::alloc::Global;
 use std::marker::Model;
 
-/// A script's server and replica after the turns so far, the records since its last scan, and the reply that is held back.
+/// A script's server and replica after the turns so far, what was found since its last scan, and the reply that is held back.
 /// It keeps no list of turns, but stands for one.
 #[derive(Drop, Debug)]
 pub struct Session {
     server: Server,
     replica: Replica,
-    records: Records,
+    found: FoundList,
     /// The current moment, in milliseconds.
     clock: u64,
     /// The reply to a subscribe request that has not reached the replica.
     reply: HeldReply,
-    /// Whether no turn came yet.
-    fresh: bool,
+    /// What the last turn was.
+    last: Last,
 }
 
 impl Model for Session {
@@ -39,7 +42,7 @@ impl Model for Session {
 
     ghost Value = { Playing };
 
-    ghost view = { λ s. record { server = s.server; replica = s.replica; records = s.records; clock = s.clock; reply = s.reply; fresh = s.fresh } };
+    ghost view = { λ s. record { server = s.server; replica = s.replica; found = s.found; clock = s.clock; reply = s.reply; last = s.last } };
 }
 
 impl Session {
@@ -51,10 +54,10 @@ impl Session {
         Ok(Session {
             server,
             replica: Replica::new(alloc),
-            records: Sequence::new(alloc),
+            found: FoundList::new(alloc),
             clock: 0,
             reply: HeldReply::NoReply,
-            fresh: true,
+            last: Last::NoTurn,
         })
     }
 
@@ -64,9 +67,10 @@ impl Session {
         ensures { (turns : List TurnValue) → IsAfter self.now turns → result ≡ may_stand turns turn.now }
     {
         match turn {
-            Turn::First { .. } => self.fresh,
+            Turn::First { .. } => matches!(self.last, Last::NoTurn),
             Turn::At { moment } => self.clock <= *moment,
             Turn::Deliver { note } => self.has_sent(*note),
+            Turn::Tag { .. } => matches!(self.last, Last::OfTrack),
             _ => true,
         }
     }
@@ -91,8 +95,9 @@ impl Session {
         ensures played { OnOk result (IsPlayed self.new) }
     {
         match turn {
-            Turn::Folder { path } => self.add_folder(alloc, path),
-            Turn::Track { path, info, size } => self.add_track(alloc, path, &info, size),
+            Turn::Folder { path } => self.add_folder(path),
+            Turn::Track { path, info, size } => self.add_track(path, info, size),
+            Turn::Tag { comment } => self.add_tag(comment),
             Turn::Scan => self.scan(alloc, out),
             Turn::Load => self.load(),
             Turn::Read => self.read(alloc, out),
@@ -107,53 +112,56 @@ impl Session {
         }
     }
 
-    /// Adds a record to those since the last scan.
-    fn add(&mut self, found: Record) -> Result<(), Mem>
-        ensures { OnOk result (self.new ≡ with_record self.old found) }
+    /// Adds one thing to those found since the last scan.
+    fn add(&mut self, one: Found) -> Result<(), Mem>
+        ensures { OnOk result (self.new ≡ with_found self.old one) }
     {
-        self.records.push(found)?;
-        self.fresh = false;
+        self.last = last_found(&one);
+        self.found.push(one)?;
         Ok(())
     }
 
-    /// Adds the record of a folder, whose title is its name.
-    fn add_folder(&mut self, alloc: Global, path: Path) -> Result<(), Mem>
-        ensures { OnOk result (self.new ≡ with_record self.old (folder_record path)) }
+    /// Adds a folder.
+    fn add_folder(&mut self, path: Path) -> Result<(), Mem>
+        ensures { OnOk result (self.new ≡ with_found self.old (FolderFound path)) }
     {
-        let title = Text::read(alloc, path.name())?;
-        let content = Content::Folder { title };
-        self.add(Record { path, content })
+        self.add(Found::Folder { path })
     }
 
-    /// Adds the record of a track: what its file says, and its size in bytes.
-    fn add_track(
-        &mut self,
-        alloc: Global,
-        path: Path,
-        info: &FlacInfo,
-        size: u64,
-    ) -> Result<(), Mem>
-        requires { info.now.samples < 2 ^ 36 }
-        ensures { OnOk result (self.new ≡ with_record self.old (track_record path info.now size)) }
+    /// Adds a track: what its file says, and its size in bytes.
+    fn add_track(&mut self, path: Path, info: FlacInfo, size: u64) -> Result<(), Mem>
+        requires { info.samples < 2 ^ 36 }
+        ensures { OnOk result (self.new ≡ with_found self.old (TrackFound (record { path = path; info = info; size = size }))) }
     {
-        let content = content_of(alloc, info, path.name(), size)?;
-        self.add(Record { path, content })
+        self.add(Found::Track {
+            file: FoundFile::new(path, info, size),
+        })
     }
 
-    /// Scans: the records since the last scan are all that the library has now, and are dropped.
+    /// Puts a comment to the last thing that was found, where it is a track.
+    fn add_tag(&mut self, comment: Comment) -> Result<(), Mem>
+        ensures { OnOk result (self.new ≡ with_tag self.old comment) }
+    {
+        self.found.tag(comment)?;
+        self.last = Last::OfTrack;
+        Ok(())
+    }
+
+    /// Scans: what was found since the last scan is all that the library has now, and is dropped.
     fn scan(&mut self, alloc: Global, out: &mut String) -> Result<(), Mem>
-        requires { length self.old.records < 2 ^ 32 }
+        requires { length self.old.found < 2 ^ 32 }
         ensures after { (turns : List TurnValue) → IsAfter self.old turns → OnOk result (IsAfter self.new (Scan ∷ turns)) }
         ensures written { (turns : List TurnValue) → IsAfter self.old turns →
             OnOk result (string_bytes out.new ≡ string_bytes out.old ++ written_by turns Scan) }
         ensures grows { OnOk result (Grows self.old self.new) }
     {
-        let answer = self.server.scan(alloc, &self.records);
+        let records = self.found.records(alloc)?;
+        let answer = self.server.scan(alloc, &records);
         if !was_answered(&answer) {
             return Err(Mem);
         }
-        self.records = Sequence::new(alloc);
-        self.fresh = false;
+        self.found = FoundList::new(alloc);
+        self.last = Last::Other;
         put_scan(out, answer)
     }
 
@@ -163,7 +171,7 @@ impl Session {
         ensures grows { OnOk result (Grows self.old self.new) }
     {
         self.replica.begin_load()?;
-        self.fresh = false;
+        self.last = Last::Other;
         Ok(())
     }
 
@@ -175,7 +183,7 @@ impl Session {
             OnOk result (string_bytes out.new ≡ string_bytes out.old ++ written_by turns Read) }
         ensures grows { OnOk result (Grows self.old self.new) }
     {
-        self.fresh = false;
+        self.last = Last::Other;
         match self.replica.next_ask() {
             None => put(out, "read none\n"),
             Some(ask) => {
@@ -198,18 +206,18 @@ impl Session {
             OnOk result (string_bytes out.new ≡ string_bytes out.old ++ written_by turns Ask) }
         ensures grows { OnOk result (Grows self.old self.new) }
     {
-        self.fresh = false;
+        self.last = Last::Other;
         put_known(out, self.replica.says(), self.replica.copy())
     }
 
     /// Begins again with a server whose first number is another. No turn came before.
     fn begin_at(&mut self, alloc: Global, number: u32) -> Result<(), Mem>
-        requires { self.old.fresh ≡ true }
+        requires { self.old.last ≡ NoTurn }
         ensures after { (turns : List TurnValue) → IsAfter self.old turns → OnOk result (IsAfter self.new (First number ∷ turns)) }
         ensures grows { OnOk result (Grows self.old self.new) }
     {
         self.server = Server::new(alloc, number)?;
-        self.fresh = false;
+        self.last = Last::Other;
         Ok(())
     }
 
@@ -225,7 +233,7 @@ impl Session {
         let sent = self.server.sent_len();
         self.server.tick(alloc, moment)?;
         self.clock = moment;
-        self.fresh = false;
+        self.last = Last::Other;
         put_notes(out, &self.server, sent)
     }
 
@@ -241,7 +249,7 @@ impl Session {
         let sent = self.server.sent_len();
         self.replica.subscribing()?;
         self.reply = held_reply(self.server.subscribe(self.clock)?);
-        self.fresh = false;
+        self.last = Last::Other;
         put_notes(out, &self.server, sent)
     }
 
@@ -253,7 +261,7 @@ impl Session {
             OnOk result (string_bytes out.new ≡ string_bytes out.old ++ written_by turns Accept) }
         ensures grows { OnOk result (Grows self.old self.new) }
     {
-        self.fresh = false;
+        self.last = Last::Other;
         let reply = self.reply;
         self.reply = HeldReply::NoReply;
         match reply {
@@ -282,7 +290,7 @@ impl Session {
             OnOk result (string_bytes out.new ≡ string_bytes out.old ++ written_by turns Unsubscribe) }
         ensures grows { OnOk result (Grows self.old self.new) }
     {
-        self.fresh = false;
+        self.last = Last::Other;
         match self.replica.accepted() {
             None => put(out, "unsubscribe none\n"),
             Some(sid) => {
@@ -300,7 +308,7 @@ impl Session {
             OnOk result (string_bytes out.new ≡ string_bytes out.old ++ written_by turns (Deliver number)) }
         ensures grows { OnOk result (Grows self.old self.new) }
     {
-        self.fresh = false;
+        self.last = Last::Other;
         match self.server.note(alloc, number)? {
             None => Ok(()),
             Some(note) => {
@@ -319,7 +327,7 @@ impl Session {
         ensures written { OnOk result (string_bytes out.new ≡ string_bytes out.old ++ codes "readfault\n") }
         ensures grows { OnOk result (Grows self.old self.new) }
     {
-        self.fresh = false;
+        self.last = Last::Other;
         put(out, "readfault\n")
     }
 }
@@ -331,5 +339,15 @@ fn held_reply(name: Option<u32>) -> HeldReply
     match name {
         Some(name) => HeldReply::Named { name },
         None => HeldReply::Refusal,
+    }
+}
+
+/// What the turn was that found something.
+fn last_found(one: &Found) -> Last
+    ensures { result ≡ last_found one.now }
+{
+    match one {
+        Found::Folder { .. } => Last::Other,
+        Found::Track { .. } => Last::OfTrack,
     }
 }

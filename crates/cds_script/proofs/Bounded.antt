@@ -40,7 +40,7 @@ use Rattle.cds_follow.proofs.Stages.{following-later}
 use Rattle.cds_follow.proofs.Honest.{entries-served}
 use Rattle.cds_follow.proofs.LoadTurns.{loads-are-of-turns}
 use Rattle.cds_script.specs.declared.turn.Turn.{Turn}
-use Rattle.cds_script.specs.declared.turn.Turn.TheVariants.{Folder, Track, Scan, Load, Read, Ask, First, At, Subscribe, Accept, Unsubscribe, Deliver, ReadFault}
+use Rattle.cds_script.specs.declared.turn.Turn.TheVariants.{Folder, Track, Tag, Scan, Load, Read, Ask, First, At, Subscribe, Accept, Unsubscribe, Deliver, ReadFault}
 use Rattle.cds_script.proofs.Given.{Kept, ScannedCases, scanned-cases, oldest-all, turns-kept}
 use Rattle.cds_script.proofs.Stood.{read-taken, note-taken, name-taken, may-before_ask, letter_at}
 use Rattle.cds_script.specs.declared.reply.HeldReply.{HeldReply}
@@ -314,6 +314,7 @@ step : (first now : ℕ) (records : List Record) (p : Played) → Kept first p �
     Bound (moment_after script_token first (play first now records p turn).commands) (play first now records p turn).replica (answered_after first records p n turn)
 step first now records p kept n bound (Folder path) = bound
 step first now records p kept n bound (Track path info size) = bound
+step first now records p kept n bound (Tag comment) = bound
 step first now records p kept n bound Scan = scan-bound first records p kept n bound _ (scanned-cases (scans_of first p.commands) records p.commands)
 step first now records p kept n bound Load = begun-bound (moment_after script_token first p.commands) (Begins ∷ p.replica) refl
 step first now records p kept n bound Read = read-bound first p kept n bound (next_ask (known_by p.replica)) refl
@@ -344,6 +345,7 @@ first-bound : (turn : Turn) → number_of turn ≤ 4294967295 → Bound (moment_
 first-bound (First number) low = nothing-bound (moment_after script_token number [])
 first-bound (Folder path) low = nothing-bound (moment_after script_token 0 [])
 first-bound (Track path info size) low = nothing-bound (moment_after script_token 0 [])
+first-bound (Tag comment) low = nothing-bound (moment_after script_token 0 [])
 first-bound Scan low = step 0 0 [] (played []) (turns-kept [] low) 0 (nothing-bound (moment_after script_token 0 [])) Scan
 first-bound Load low = step 0 0 [] (played []) (turns-kept [] low) 0 (nothing-bound (moment_after script_token 0 [])) Load
 first-bound Read low = step 0 0 [] (played []) (turns-kept [] low) 0 (nothing-bound (moment_after script_token 0 [])) Read

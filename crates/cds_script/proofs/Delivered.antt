@@ -22,7 +22,7 @@ use Rattle.cds_follow.specs.Given.{moment_after, asked_at}
 use Rattle.cds_commands.proofs.Among.{Among, among-contained, among-all, among-filter}
 use Rattle.cds_commands.proofs.Sent.{Sound, all-sound}
 use Rattle.cds_script.specs.declared.turn.Turn.{Turn}
-use Rattle.cds_script.specs.declared.turn.Turn.TheVariants.{Folder, Track, Scan, Load, Read, Ask, First, At, Subscribe, Accept, Unsubscribe, Deliver, ReadFault}
+use Rattle.cds_script.specs.declared.turn.Turn.TheVariants.{Folder, Track, Tag, Scan, Load, Read, Ask, First, At, Subscribe, Accept, Unsubscribe, Deliver, ReadFault}
 use Rattle.cds_script.specs.Played.{AllStand}
 use Rattle.cds_script.specs.Complete.{is_full, delivered_notes_are_received, is_quiet, nothing_is_to_be_read, all_answers_are_complete}
 use Rattle.cds_script.proofs.Given.{Waits, Kept, ScannedCases, scanned-cases, granted-rises, sent-place, sent-contained, turns-kept}
@@ -122,6 +122,7 @@ reply-named first commands replica (Named other) kept named = record {
 step-named : (first now : ℕ) (records : List Record) (p : Played) → Kept first p → NamesRise p → (turn : Turn) → NamesRise (play first now records p turn)
 step-named first now records p kept named (Folder path) = named
 step-named first now records p kept named (Track path info size) = named
+step-named first now records p kept named (Tag comment) = named
 step-named first now records p kept named Scan = by _ (scanned-cases (scans_of first p.commands) records p.commands)
   where
     by : (after : List Command) → ScannedCases (scans_of first p.commands) records p.commands after → NamesRise (record p { commands = after })
@@ -315,6 +316,7 @@ step-sent : (first now number : ℕ) (records : List Record) (p : Played) (note 
     sent_note number (notes_of first (play first now records p turn).commands) ≡ Some note
 step-sent first now number records p note e (Folder path) = e
 step-sent first now number records p note e (Track path info size) = e
+step-sent first now number records p note e (Tag comment) = e
 step-sent first now number records p note e Scan = by _ (scanned-cases (scans_of first p.commands) records p.commands)
   where
     by : (after : List Command) → ScannedCases (scans_of first p.commands) records p.commands after → sent_note number (notes_of first after) ≡ Some note
@@ -356,6 +358,7 @@ step-got : (first now number : ℕ) (records : List Record) (p : Played) (note :
     Got (play first now records p turn) note
 step-got first now number records p note kept e got (Folder path) = got
 step-got first now number records p note kept e got (Track path info size) = got
+step-got first now number records p note kept e got (Tag comment) = got
 step-got first now number records p note kept e got Scan = record { taken = got.taken; early = got.early }
 step-got first now number records p note kept e got Load =
     keeps-got p (Begins ∷ p.replica) note (record { name = refl; more = λ note a. a; early = λ note a. a }) got
@@ -509,6 +512,7 @@ step-quiet : (first now : ℕ) (records : List Record) (p : Played) (turn : Turn
     next_ask (known_by (play first now records p turn).replica) ≡ None
 step-quiet first now records p (Folder path) q e = e
 step-quiet first now records p (Track path info size) q e = e
+step-quiet first now records p (Tag comment) q e = e
 step-quiet first now records p Scan q e = e
 step-quiet first now records p Load q e = absurd (cc)
 step-quiet first now records p Read q e = ap (λ o. next_ask (known_by (asked_at (moment_after script_token first p.commands) p.replica o))) e ∙ e

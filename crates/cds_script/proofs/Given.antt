@@ -17,7 +17,7 @@ use Rattle.cds_follow.specs.Inbox.{ReplicaTurn, Begins, Shows, Requests, Accepts
 use Rattle.cds_follow.specs.Follow.{is_refused, and_turn, known_by, next_ask}
 use Rattle.cds_follow.specs.Given.{moment_after, Entry, Starts, Asks, Calls, Granted, Denied, Gets, asked_at, given_by, latest_length, length_before_call, IsGiven}
 use Rattle.cds_script.specs.declared.turn.Turn.{Turn}
-use Rattle.cds_script.specs.declared.turn.Turn.TheVariants.{Folder, Track, Scan, Load, Read, Ask, First, At, Subscribe, Accept, Unsubscribe, Deliver, ReadFault}
+use Rattle.cds_script.specs.declared.turn.Turn.TheVariants.{Folder, Track, Tag, Scan, Load, Read, Ask, First, At, Subscribe, Accept, Unsubscribe, Deliver, ReadFault}
 use Rattle.cds_script.specs.Report.{number_of, first_of, clock_of, records_since, Played, scanned, after_reply, after_note, sent_note, lives, given_up, play, played, script_token}
 use Rattle.cds_script.specs.ScriptGiven.{scripts_are_given}
 use Rattle.cds_script.specs.declared.reply.HeldReply.{HeldReply}
@@ -345,6 +345,7 @@ given_up-kept first now p (Some name) kept = by (lives name first now p.commands
 step : (first now : ℕ) (records : List Record) (p : Played) → Kept first p → (turn : Turn) → Kept first (play first now records p turn)
 step first now records p kept (Folder path) = kept
 step first now records p kept (Track path info size) = kept
+step first now records p kept (Tag comment) = kept
 step first now records p kept Scan = scan-kept first records p kept
 step first now records p kept Load = load-kept first p kept
 step first now records p kept Read = read-kept first p kept
@@ -385,6 +386,7 @@ first-kept : (turn : Turn) → number_of turn ≤ 4294967295 → Kept (number_of
 first-kept (First number) low = nothing-kept number low
 first-kept (Folder path) low = nothing-kept 0 low
 first-kept (Track path info size) low = nothing-kept 0 low
+first-kept (Tag comment) low = nothing-kept 0 low
 first-kept Scan low = step 0 0 [] (played []) (nothing-kept 0 low) Scan
 first-kept Load low = step 0 0 [] (played []) (nothing-kept 0 low) Load
 first-kept Read low = step 0 0 [] (played []) (nothing-kept 0 low) Read

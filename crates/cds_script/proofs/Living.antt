@@ -13,7 +13,7 @@ use Rattle.cds_commands.specs.Notes.{next_seq_of, seq_limit, alive_names, has_ro
 use Rattle.cds_follow.specs.Inbox.{Requests, accepted}
 use Rattle.cds_commands.proofs.Among.{seq-append}
 use Rattle.cds_script.specs.declared.turn.Turn.{Turn}
-use Rattle.cds_script.specs.declared.turn.Turn.TheVariants.{Folder, Track, Scan, Load, Read, Ask, First, At, Subscribe, Accept, Unsubscribe, Deliver, ReadFault}
+use Rattle.cds_script.specs.declared.turn.Turn.TheVariants.{Folder, Track, Tag, Scan, Load, Read, Ask, First, At, Subscribe, Accept, Unsubscribe, Deliver, ReadFault}
 use Rattle.cds_script.specs.Report.{number_of, first_of, clock_of, records_since, Played, scanned, lives, given_up, play, played, may_stand}
 use Rattle.cds_script.specs.Played.{AllStand}
 use Rattle.cds_script.specs.ScriptGiven.{subscriptions_are_few}
@@ -154,6 +154,7 @@ step : (first : ℕ) (older : List Turn) (turn : Turn) → may_stand older turn 
     AreFew first (clock_of (turn ∷ older)) (play first (clock_of older) (records_since older) (played older) turn).commands
 step first older (Folder path) stands few = few
 step first older (Track path info size) stands few = few
+step first older (Tag comment) stands few = few
 step first older Scan stands few = scan-few first (clock_of older) (records_since older) (played older).commands few
 step first older Load stands few = few
 step first older Read stands few = few
@@ -184,6 +185,7 @@ first-few : (turn : Turn) → may_stand [] turn ≡ true → AreFew (number_of t
 first-few (First number) stands = none-few number 0
 first-few (Folder path) stands = none-few 0 0
 first-few (Track path info size) stands = none-few 0 0
+first-few (Tag comment) stands = none-few 0 0
 first-few Scan stands = step 0 [] Scan stands (none-few 0 0)
 first-few Load stands = none-few 0 0
 first-few Read stands = none-few 0 0

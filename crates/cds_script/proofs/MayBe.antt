@@ -1,20 +1,21 @@
 -- The turns of a script may be: each may stand after the older ones, and its first number is one of the server's.
-use Rattle.std.proofs.Common.{◌≡◌, ℕ, suc, ◌+◌, ◌<◌, ◌≤◌, ◌^◌, List, [], ◌∷◌, take, Bool, true, false, cond, ◌&&◌, refl, ap, sym, subst, ◌∙◌, arith, Option, Some, None, Result, Ok, Err}
+use Rattle.std.proofs.Common.{◌≡◌, ℕ, suc, ◌+◌, ◌<◌, ◌≤◌, ◌^◌, List, [], ◌∷◌, take, Bool, true, false, cond, ◌&&◌, refl, ap, sym, subst, ◌∙◌, arith, Option, Some, None}
 use Rattle.std.specs.Prelude.{nat_lt, codes}
-use Rattle.std.specs.List.{AllByRecursion, list_all, cons_option}
+use Rattle.std.specs.List.{AllByRecursion, cons_option}
+use Rattle.std.specs.Str.{is_utf8}
 use Rattle.std.proofs.lemmas.Bool.{and_parts, ltb-true}
 use mathlib.Core.List.{reverse_aux}
 use Rattle.cds_base.specs.Number.{plain_below, has_leading_zero, is_number_in, value_in}
 use Rattle.cds_object.specs.declared.info.FlacInfo.{FlacInfo}
-use Rattle.cds_object.specs.Path.{path_read}
 use Rattle.cds_object.specs.Content.{same_text}
-use Rattle.cds_script.specs.Lines.{words_of, is_word}
-use Rattle.cds_script.specs.Script.{number_from_to, info_from, folder_turn, track_turn, plain_turn, moment_limit, first_turn, at_turn, deliver_turn, number_turn, folder_line, track_line, plain_line, turn_of, meaning_of_turn, meaning_of_words, meaning_of, IsInRange, MeansInRange, lines_mean_in_range}
+use Rattle.cds_script.specs.Lines.{words_of}
+use Rattle.cds_script.specs.Word.{words_said}
+use Rattle.cds_script.specs.Script.{number_from_to, info_from, path_said, folder_turn, track_turn, plain_turn, moment_limit, first_turn, at_turn, deliver_turn, number_turn, folder_line, track_line, tag_line, plain_line, turn_of, meaning_of_turn, meaning_of_said, meaning_of_words, meaning_of, IsInRange, MeansInRange, lines_mean_in_range}
 use Rattle.cds_script.specs.Played.{script_lines, turn_in, is_within, is_answered, and_meant, answered_lines, AllStand, script_turns_may_be}
 use Rattle.cds_script.specs.declared.turn.Meaning.{Meaning}
 use Rattle.cds_script.specs.declared.turn.Meaning.TheVariants.{Nothing, Means, Outside}
 use Rattle.cds_script.specs.declared.turn.Turn.{Turn}
-use Rattle.cds_script.specs.declared.turn.Turn.TheVariants.{Folder, Track, Scan, Load, Read, Ask, First, At, Subscribe, Accept, Unsubscribe, Deliver, ReadFault}
+use Rattle.cds_script.specs.declared.turn.Turn.TheVariants.{Folder, Track, Tag, Scan, Load, Read, Ask, First, At, Subscribe, Accept, Unsubscribe, Deliver, ReadFault}
 use Rattle.cds_script.specs.Report.{number_of, first_of, may_stand}
 use Rattle.cds_script.proofs.Played.{turns_in}
 use Rattle.cds_object.specs.ContentOf.{bare_info}
@@ -38,6 +39,7 @@ Fine (Some turn) = IsInRange turn
 low-number : (turn : Turn) → IsInRange turn → number_of turn ≤ 4294967295
 low-number (Folder path) f = omega arith
 low-number (Track path info size) f = omega arith
+low-number (Tag comment) f = omega arith
 low-number Scan f = omega arith
 low-number Load f = omega arith
 low-number Read f = omega arith
@@ -66,9 +68,9 @@ deliver-fine : (o : Option ℕ) → Fine (deliver_turn o)
 deliver-fine None = tt
 deliver-fine (Some n) = tt
 
-folder-fine : (r : Result (List (List ℕ)) ℕ) → Fine (folder_turn r)
-folder-fine (Ok path) = tt
-folder-fine (Err at) = tt
+folder-fine : (o : Option (List (List ℕ))) → Fine (folder_turn o)
+folder-fine (Some path) = tt
+folder-fine None = tt
 
 -- what a file says has as many samples as its word
 info-few : (r c b s : Option ℕ) → ((n : ℕ) → s ≡ Some n → n < 2 ^ 36) → (info : FlacInfo) → info_from r c b s ≡ Some info → info.samples < 2 ^ 36
@@ -79,15 +81,15 @@ info-few (Some rate) None b s few info e = absurd (cc)
 info-few (Some rate) (Some channels) None s few info e = absurd (cc)
 info-few (Some rate) (Some channels) (Some bits) None few info e = absurd (cc)
 
-track-fine : (r : Result (List (List ℕ)) ℕ) (size : Option ℕ) (o : Option FlacInfo) → ((info : FlacInfo) → o ≡ Some info → info.samples < 2 ^ 36) → Fine (track_turn r size o)
-track-fine (Ok path) (Some size) (Some info) few = few info refl
-track-fine (Ok path) (Some size) None few = tt
-track-fine (Ok path) None info few = tt
-track-fine (Err at) size info few = tt
+track-fine : (o : Option (List (List ℕ))) (size : Option ℕ) (says : Option FlacInfo) → ((info : FlacInfo) → says ≡ Some info → info.samples < 2 ^ 36) → Fine (track_turn o size says)
+track-fine (Some path) (Some size) (Some info) few = few info refl
+track-fine (Some path) (Some size) None few = tt
+track-fine (Some path) None says few = tt
+track-fine None size says few = tt
 
 folder_line-fine : (words : List (List ℕ)) → Fine (folder_line words)
 folder_line-fine [] = tt
-folder_line-fine (path ∷ []) = folder-fine (path_read path)
+folder_line-fine (path ∷ []) = folder-fine (path_said path)
 folder_line-fine (path ∷ next ∷ words) = tt
 
 track_line-fine : (words : List (List ℕ)) → Fine (track_line words)
@@ -97,10 +99,16 @@ track_line-fine (a ∷ b ∷ []) = tt
 track_line-fine (a ∷ b ∷ c ∷ []) = tt
 track_line-fine (a ∷ b ∷ c ∷ d ∷ []) = tt
 track_line-fine (a ∷ b ∷ c ∷ d ∷ f ∷ []) = tt
-track_line-fine (a ∷ b ∷ c ∷ d ∷ f ∷ g ∷ []) = track-fine (path_read a) (plain_below (2 ^ 64) b)
+track_line-fine (a ∷ b ∷ c ∷ d ∷ f ∷ g ∷ []) = track-fine (path_said a) (plain_below (2 ^ 64) b)
     (info_from (plain_below (2 ^ 20) c) (number_from_to 1 8 d) (number_from_to 1 32 f) (plain_below (2 ^ 36) g))
     (info-few (plain_below (2 ^ 20) c) (number_from_to 1 8 d) (number_from_to 1 32 f) (plain_below (2 ^ 36) g) (below-limit (2 ^ 36) g))
 track_line-fine (a ∷ b ∷ c ∷ d ∷ f ∷ g ∷ h ∷ words) = tt
+
+tag_line-fine : (words : List (List ℕ)) → Fine (tag_line words)
+tag_line-fine [] = tt
+tag_line-fine (a ∷ []) = tt
+tag_line-fine (a ∷ b ∷ []) = cond-fine (is_utf8 a && is_utf8 b) _ None tt tt
+tag_line-fine (a ∷ b ∷ c ∷ words) = tt
 
 number-fine : (word number : List ℕ) → Fine (number_turn word number)
 number-fine word number =
@@ -128,18 +136,19 @@ turn-fine : (words : List (List ℕ)) → Fine (turn_of words)
 turn-fine [] = tt
 turn-fine (word ∷ words) =
     cond-fine (same_text word (codes "folder")) (folder_line words) _ (folder_line-fine words)
-    (cond-fine (same_text word (codes "track")) (track_line words) (plain_line word words) (track_line-fine words) (plain_line-fine word words))
+    (cond-fine (same_text word (codes "track")) (track_line words) _ (track_line-fine words)
+    (cond-fine (same_text word (codes "tag")) (tag_line words) (plain_line word words) (tag_line-fine words) (plain_line-fine word words)))
 
 meant-fine : (o : Option Turn) → Fine o → Fine (turn_in (meaning_of_turn o))
 meant-fine None f = tt
 meant-fine (Some turn) f = f
 
-words-fine : (words : List (List ℕ)) → Fine (turn_in (meaning_of_words words))
-words-fine words = by (list_all is_word words)
+words-fine : (parts : List (List ℕ)) → Fine (turn_in (meaning_of_words parts))
+words-fine parts = by (words_said parts)
   where
-    by : (b : Bool) → Fine (turn_in (cond b (meaning_of_turn (turn_of words)) Outside))
-    by true = meant-fine (turn_of words) (turn-fine words)
-    by false = tt
+    by : (o : Option (List (List ℕ))) → Fine (turn_in (meaning_of_said o))
+    by (Some words) = meant-fine (turn_of words) (turn-fine words)
+    by None = tt
 
 line-fine : (line : List ℕ) → Fine (turn_in (meaning_of line))
 line-fine [] = tt

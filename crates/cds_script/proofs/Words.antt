@@ -1,69 +1,93 @@
--- The words of a line: they are text, and each stands at its place.
-use Rattle.std.proofs.Common.{◌≡◌, ℕ, ◌^◌, List, [], ◌∷◌, length, refl, arith, Option, Some, None, Result, Ok, Err, slice_index_or, zero, suc, ◌≤◌, map, Bool, true, not, ◌&&◌, ap, lit<}
-use Rattle.cds_base.specs.Number.{plain_below}
-use Rattle.cds_object.specs.declared.info.FlacInfo.{FlacInfo}
-use Rattle.cds_object.specs.Path.{path_read}
-use Rattle.cds_script.specs.Script.{number_from_to, info_from, track_turn, track_line}
-use Rattle.std.specs.Prelude.{nat_le, nat_eq}
-use Rattle.std.specs.Result.{result_ok}
-use Rattle.std.specs.Str.{IsAscii, IsUtf8}
-use Rattle.std.proofs.lemmas.Bool.{and_parts, leb-true}
-use Rattle.std.proofs.lemmas.Str.{IsUtf8-from_ascii}
-use Rattle.std.specs.List.{list_all}
-use Rattle.cds_script.specs.Lines.{is_word}
+-- What the words of a line stand for.
+use Rattle.std.proofs.Common.{◌≡◌, ℕ, ◌+◌, ◌*◌, ◌/◌, ◌%◌, ◌<◌, List, [], ◌∷◌, ◌++◌, refl, sym, ap, ◌∙◌, arith, length, ◌==◌, Option, Some, None, Bool, true, false, not, cond, append_assoc}
+use Rattle.std.specs.Prelude.{nat_lt, nat_eq}
+use Rattle.std.specs.Str.{IsUtf8, is_utf8}
+use Rattle.std.proofs.lemmas.Str.{IsUtf8-from_is_utf8}
+use Rattle.std.proofs.lemmas.Bool.{and_parts, eqb-true}
+use Rattle.std.proofs.lemmas.Bool.Decides.{nat_tests}
+use Rattle.std.proofs.lemmas.List.{append-nil}
+use Rattle.cds_script.specs.Word.{is_plain_byte, digit_value, escaped_byte, byte_before, word_before, decoded, hex_digit, encoded, any_bytes_can_be_written, plain_words_stand_for_themselves}
 
-pub list_all-map : {X Y : Type 0} (p : Y → Bool) (f : X → Y) (xs : List X) → list_all p (map f xs) ≡ list_all (λ x. p (f x)) xs
-list_all-map p f [] = refl
-list_all-map p f (x ∷ xs) = ap (λ b. p (f x) && b) (list_all-map p f xs)
+-- bytes that were read, before those that the rest stands for
+abbrev pub joined : {X : Type 0} → List X → Option (List X) → Option (List X)
+joined read None = None
+joined read (Some more) = Some (read ++ more)
 
-pub map-length : {X Y : Type 0} (f : X → Y) (xs : List X) → length (map f xs) ≡ length xs
-map-length f [] = refl
-map-length f (x ∷ xs) = ap suc (map-length f xs)
+pub joined-one : (word : List ℕ) (b : ℕ) (o : Option (List ℕ)) → joined word (byte_before (Some b) o) ≡ joined (word ++ b ∷ []) o
+joined-one word b None = refl
+joined-one word b (Some more) = ap Some (sym (append_assoc word (b ∷ []) more))
 
-visible-ascii : (bs : List ℕ) → list_all (λ b. nat_le 33 b && nat_le b 126 && not (nat_eq b 37)) bs ≡ true → IsAscii bs
-visible-ascii [] all i = lit< tt
-visible-ascii (b ∷ bs) all zero =
-    let h : b ≤ 126 = leb-true b 126 (and_parts _ _ (and_parts _ _ (and_parts _ _ all).0).0).1 in omega (arith, h)
-visible-ascii (b ∷ bs) all (suc i) = visible-ascii bs (and_parts _ _ all).1 i
+pub joined-word : (words : List (List ℕ)) (word : List ℕ) (o : Option (List (List ℕ))) → joined words (word_before (Some word) o) ≡ joined (words ++ word ∷ []) o
+joined-word words word None = refl
+joined-word words word (Some more) = ap Some (sym (append_assoc words (word ∷ []) more))
 
--- a word is text
-pub word-is_text : (word : List ℕ) → is_word word ≡ true → IsUtf8 word
-word-is_text word is = IsUtf8-from_ascii word (visible-ascii word (and_parts _ _ is).1)
+pub joined-nothing : {X : Type 0} (o : Option (List X)) → joined [] o ≡ o
+joined-nothing None = refl
+joined-nothing (Some more) = refl
 
-pub ok-there : {A E : Type 0} (r : Result A E) (a : A) → result_ok r ≡ Some a → r ≡ Ok a
-ok-there (Ok b) a e = let same : b ≡ a = cc in ap Ok same
-ok-there (Err x) a e = absurd (cc)
+pub joined-all : {X : Type 0} (read : List X) → joined read (Some []) ≡ Some read
+joined-all read = ap Some (append-nil read)
 
--- a line of `track` with six more words
-pub track-words : (words : List (List ℕ)) → length words ≡ 6 →
-    track_line words ≡ track_turn (path_read (slice_index_or words 0 [])) (plain_below (2 ^ 64) (slice_index_or words 1 []))
-    (info_from (plain_below (2 ^ 20) (slice_index_or words 2 [])) (number_from_to 1 8 (slice_index_or words 3 []))
-    (number_from_to 1 32 (slice_index_or words 4 [])) (plain_below (2 ^ 36) (slice_index_or words 5 [])))
-track-words [] e = absurd (omega (arith, e))
-track-words (a ∷ []) e = absurd (omega (arith, e))
-track-words (a ∷ b ∷ []) e = absurd (omega (arith, e))
-track-words (a ∷ b ∷ c ∷ []) e = absurd (omega (arith, e))
-track-words (a ∷ b ∷ c ∷ d ∷ []) e = absurd (omega (arith, e))
-track-words (a ∷ b ∷ c ∷ d ∷ f ∷ []) e = absurd (omega (arith, e))
-track-words (a ∷ b ∷ c ∷ d ∷ f ∷ g ∷ []) e = refl
-track-words (a ∷ b ∷ c ∷ d ∷ f ∷ g ∷ h ∷ words) e = absurd (omega (arith, e))
+pub nothing-left : (rest : List ℕ) → (length rest == 0) ≡ true → rest ≡ []
+nothing-left [] e = refl
+nothing-left (b ∷ rest) e = let l : length (b ∷ rest) ≡ 0 = eqb-true (length (b ∷ rest)) 0 e in let none : ⊥ = omega (arith, l) in absurd none
 
--- and with any other number of words
-pub track-others : (words : List (List ℕ)) → (length words ≡ 6 → ⊥) → track_line words ≡ None
-track-others [] ne = refl
-track-others (a ∷ []) ne = refl
-track-others (a ∷ b ∷ []) ne = refl
-track-others (a ∷ b ∷ c ∷ []) ne = refl
-track-others (a ∷ b ∷ c ∷ d ∷ []) ne = refl
-track-others (a ∷ b ∷ c ∷ d ∷ f ∷ []) ne = refl
-track-others (a ∷ b ∷ c ∷ d ∷ f ∷ g ∷ []) ne = absurd (ne refl)
-track-others (a ∷ b ∷ c ∷ d ∷ f ∷ g ∷ h ∷ words) ne = refl
+-- ---- text
 
-pub track_turn-no_size : (path : Result (List (List ℕ)) ℕ) (info : Option FlacInfo) → track_turn path None info ≡ None
-track_turn-no_size (Ok path) info = refl
-track_turn-no_size (Err at) info = refl
+pub no-text : (word : List ℕ) → (IsUtf8 word → ⊥) → is_utf8 word ≡ false
+no-text word bad = by (is_utf8 word) refl
+  where
+    by : (b : Bool) → is_utf8 word ≡ b → b ≡ false
+    by true e = absurd (bad (IsUtf8-from_is_utf8 word e))
+    by false e = refl
 
-pub track_turn-no_info : (path : Result (List (List ℕ)) ℕ) (size : Option ℕ) → track_turn path size None ≡ None
-track_turn-no_info (Ok path) (Some size) = refl
-track_turn-no_info (Ok path) None = refl
-track_turn-no_info (Err at) size = refl
+-- ---- one byte
+
+plain-no_escape : (b : ℕ) → is_plain_byte b ≡ true → nat_eq b 37 ≡ false
+plain-no_escape b e = by (nat_eq b 37) (and_parts _ _ e).1
+  where
+    by : (c : Bool) → not c ≡ true → c ≡ false
+    by true f = absurd (cc)
+    by false f = refl
+
+pub plain-first : (b : ℕ) (rest : List ℕ) → is_plain_byte b ≡ true → decoded (b ∷ rest) ≡ byte_before (Some b) (decoded rest)
+plain-first b [] e = ap (λ c. byte_before (cond c (Some b) None) (Some [])) e
+plain-first b (c ∷ []) e = ap (λ d. byte_before (cond d (Some b) None) (decoded (c ∷ []))) e
+plain-first b (c ∷ d ∷ rest) e = λ i.
+    cond (plain-no_escape b e i) (byte_before (escaped_byte (digit_value c) (digit_value d)) (decoded rest))
+    (byte_before (cond (e i) (Some b) None) (decoded (c ∷ d ∷ rest)))
+
+pub plain_words-stand : plain_words_stand_for_themselves
+plain_words-stand [] e = refl
+plain_words-stand (b ∷ rest) e =
+    let all = and_parts _ _ e in
+    plain-first b rest all.0 ∙ ap (byte_before (Some b)) (plain_words-stand rest all.1)
+
+digit-back : (n : ℕ) → n < 16 → digit_value (hex_digit n) ≡ Some n
+digit-back n low = by (nat_lt n 10) refl
+  where
+    by : (b : Bool) → nat_lt n 10 ≡ b → digit_value (cond b (48 + n) (55 + n)) ≡ Some n
+    by true e = grind (arith, nat_tests)
+    by false e = grind (arith, nat_tests)
+
+escaped-back : (b : ℕ) → b < 256 → escaped_byte (digit_value (hex_digit (b / 16))) (digit_value (hex_digit (b % 16))) ≡ Some b
+escaped-back b low =
+    (λ i. escaped_byte (digit-back (b / 16) (omega (arith, low)) i) (digit-back (b % 16) (omega arith) i))
+    ∙ (let e : 16 * (b / 16) + b % 16 ≡ b = omega arith in ap Some e)
+
+pub any-bytes : any_bytes_can_be_written
+any-bytes [] all = refl
+any-bytes (b ∷ bytes) all = by (is_plain_byte b) refl (any-bytes bytes all.1)
+  where
+    by : (c : Bool) → is_plain_byte b ≡ c → decoded (encoded bytes) ≡ Some bytes →
+        decoded (cond c (b ∷ []) (37 ∷ hex_digit (b / 16) ∷ hex_digit (b % 16) ∷ []) ++ encoded bytes) ≡ Some (b ∷ bytes)
+    by true e r = plain-first b (encoded bytes) e ∙ ap (byte_before (Some b)) r
+    by false e r = λ i. byte_before (escaped-back b all.0 i) (r i)
+
+-- ---- what is no word
+
+pub none-plain : (b : ℕ) (rest : List ℕ) → is_plain_byte b ≡ false → nat_eq b 37 ≡ false → decoded (b ∷ rest) ≡ None
+none-plain b [] e f = ap (λ c. byte_before (cond c (Some b) None) (Some [])) e
+none-plain b (c ∷ []) e f = ap (λ d. byte_before (cond d (Some b) None) (decoded (c ∷ []))) e
+none-plain b (c ∷ d ∷ rest) e f = λ i.
+    cond (f i) (byte_before (escaped_byte (digit_value c) (digit_value d)) (decoded rest)) (byte_before (cond (e i) (Some b) None) (decoded (c ∷ d ∷ rest)))

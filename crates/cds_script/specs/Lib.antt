@@ -1,6 +1,7 @@
 pub mod Complete
 pub mod Evaluated
 pub mod EvaluatedNotes
+pub mod FoundFile
 pub mod LineLaws
 pub mod Lines
 pub mod LoadBounds
@@ -8,3 +9,4 @@ pub mod Played
 pub mod Report
 pub mod Script
 pub mod ScriptGiven
+pub mod Word

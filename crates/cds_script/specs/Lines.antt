@@ -1,5 +1,5 @@
 -- A script is lines ended by LF, each of words parted by one space (this project's profile).
-use Rattle.std.specs.Prelude.{ℕ, Bool, cond, nat_eq, nat_lt, nat_le, ◌&&◌, not, List, [], ◌∷◌, length}
+use Rattle.std.specs.Prelude.{ℕ, Bool, cond, nat_eq, not, List, [], ◌∷◌}
 use Rattle.std.specs.List.{slice_split, list_all, onto_first}
 use Rattle.cds_base.specs.declared.limits.TheConstants.{INPUT_LIMIT}
 
@@ -32,7 +32,3 @@ line_limit = 4096
 -- the parts of a line between its spaces
 abbrev pub words_of : List ℕ → List (List ℕ)
 words_of line = slice_split (λ b. nat_eq b 32) line
-
--- whether a part of a line is a word: it has at least one byte, each visible and none a `%`
-abbrev pub is_word : List ℕ → Bool
-is_word part = nat_lt 0 (length part) && list_all (λ b. nat_le 33 b && nat_le b 126 && not (nat_eq b 37)) part

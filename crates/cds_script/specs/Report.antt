@@ -1,13 +1,12 @@
 -- The report of a script: what its turns write, by the commands that the server accepted and by the replica's turns (this
 -- project's profile).
-use Rattle.std.specs.Prelude.{◌+◌, ◌-◌, ℕ, Bool, true, false, cond, nat_eq, nat_lt, nat_le, ◌&&◌, List, [], ◌∷◌, ◌++◌, length, take, Option, Some, None, slice_get, codes}
+use Rattle.std.specs.Prelude.{◌+◌, ◌-◌, ℕ, Bool, true, false, cond, nat_eq, nat_lt, nat_le, ◌&&◌, List, [], ◌∷◌, ◌++◌, map, length, take, Option, Some, None, slice_get, codes}
 use Rattle.std.specs.List.{list_any}
 use Rattle.std.specs.Fmt.{decimal}
-use Rattle.cds_object.specs.declared.info.FlacInfo.{FlacInfo}
+use Rattle.cds_object.specs.declared.info.Comment.{Comment}
 use Rattle.cds_object.specs.Path.{name_of}
-use Rattle.cds_object.specs.ContentOf.{track_of}
 use Rattle.cds_object.specs.Fragment.{full_text}
-use Rattle.cds_object.specs.declared.content.Content.TheVariants.{Folder as AsFolder}
+use Rattle.cds_object.specs.ContentOf.{folder_of}
 use Rattle.cds_object.specs.declared.record.Record.{Record}
 use Rattle.cds_catalog.specs.Library.{map_of}
 use Rattle.cds_catalog.specs.History.{History, end_of}
@@ -26,29 +25,48 @@ use Rattle.cds_follow.specs.Follow.{known_by, next_ask, says, and_turn}
 use Rattle.cds_follow.specs.Given.{moment_after, asked_at}
 use Rattle.cds_follow.specs.declared.says.Says.{Says}
 use Rattle.cds_follow.specs.declared.says.Says.TheVariants.{Gap, BehindLoad, BehindRead, BehindVersion, Stands}
+use Rattle.cds_script.specs.FoundFile.{with_comment, track_record}
+use Rattle.cds_script.specs.declared.found.Found.{Found}
+use Rattle.cds_script.specs.declared.found.Found.TheVariants.{Folder as FolderFound, Track as TrackFound}
 use Rattle.cds_script.specs.Script.{grant_at, meaning_of}
 use Rattle.cds_script.specs.declared.reply.HeldReply.{HeldReply}
 use Rattle.cds_script.specs.declared.reply.HeldReply.TheVariants.{NoReply, Named, Refusal}
 use Rattle.cds_script.specs.declared.turn.Meaning.{Meaning}
 use Rattle.cds_script.specs.declared.turn.Meaning.TheVariants.{Nothing, Means, Outside}
 use Rattle.cds_script.specs.declared.turn.Turn.{Turn}
-use Rattle.cds_script.specs.declared.turn.Turn.TheVariants.{Folder, Track, Scan, Load, Read, Ask, First, At, Subscribe, Accept, Unsubscribe, Deliver, ReadFault}
+use Rattle.cds_script.specs.declared.turn.Turn.TheVariants.{Folder, Track, Tag, Scan, Load, Read, Ask, First, At, Subscribe, Accept, Unsubscribe, Deliver, ReadFault}
 
--- the record of a folder: its title is its name
+-- a comment put to the last thing that was found, where it is a file
+abbrev pub commented : Comment → Found → Found
+commented comment (FolderFound path) = FolderFound path
+commented comment (TrackFound file) = TrackFound (with_comment comment file)
+
+abbrev pub last_commented : Comment → List Found → List Found
+last_commented comment [] = []
+last_commented comment (found ∷ []) = commented comment found ∷ []
+last_commented comment (found ∷ next ∷ others) = found ∷ last_commented comment (next ∷ others)
+
+-- what was found since the last scan, after turns of which the newest is the first
+abbrev pub found_since : List Turn → List Found
+found_since [] = []
+found_since (Folder path ∷ older) = found_since older ++ FolderFound path ∷ []
+found_since (Track path info size ∷ older) = found_since older ++ TrackFound (record { path = path; info = info; size = size }) ∷ []
+found_since (Tag comment ∷ older) = last_commented comment (found_since older)
+found_since (Scan ∷ older) = []
+found_since (turn ∷ older) = found_since older
+
+-- the record of a folder: its title is its name, cleaned
 abbrev pub folder_record : List (List ℕ) → Record
-folder_record path = record { path = path; content = AsFolder (name_of path) }
+folder_record path = record { path = path; content = folder_of (name_of path) }
 
--- the record of a track: what its file says
-abbrev pub track_record : List (List ℕ) → FlacInfo → ℕ → Record
-track_record path info size = record { path = path; content = track_of info (name_of path) size }
+-- the record of what was found
+abbrev pub record_of : Found → Record
+record_of (FolderFound path) = folder_record path
+record_of (TrackFound file) = track_record file
 
--- the records since the last scan, after turns of which the newest is the first
+-- the records since the last scan
 abbrev pub records_since : List Turn → List Record
-records_since [] = []
-records_since (Folder path ∷ older) = records_since older ++ folder_record path ∷ []
-records_since (Track path info size ∷ older) = records_since older ++ track_record path info size ∷ []
-records_since (Scan ∷ older) = []
-records_since (turn ∷ older) = records_since older
+records_since turns = map record_of (found_since turns)
 
 -- the server's first number: the oldest turn may say it, else it is 0
 abbrev pub number_of : Turn → ℕ
@@ -111,6 +129,7 @@ script_token = codes "00000000-0000-8000-8000-000000000000"
 abbrev pub play : ℕ → ℕ → List Record → Played → Turn → Played
 play first now records p (Folder path) = p
 play first now records p (Track path info size) = p
+play first now records p (Tag comment) = p
 play first now records p Scan = record p { commands = scanned (scan_answer (scans_of first p.commands) records) records p.commands }
 play first now records p Load = record p { replica = Begins ∷ p.replica }
 play first now records p Read = record p { replica = asked_at (moment_after script_token first p.commands) p.replica (next_ask (known_by p.replica)) }
@@ -202,6 +221,7 @@ answer_text history (Stands number) =
 abbrev pub written : ℕ → ℕ → List Record → Played → Turn → List ℕ
 written first now records p (Folder path) = []
 written first now records p (Track path info size) = []
+written first now records p (Tag comment) = []
 written first now records p Scan =
     scan_text (end_of (scans_of first (scanned (scan_answer (scans_of first p.commands) records) records p.commands)))
     (scan_answer (scans_of first p.commands) records)
@@ -235,9 +255,16 @@ outside_ending number = record { status = 1; text = codes "error line " ++ decim
 abbrev pub limit_ending : Ending
 limit_ending = record { status = 6; text = codes "error limit\n" }
 
+-- whether the newest of turns is a track, or a comment of one
+abbrev pub is_tagging : List Turn → Bool
+is_tagging (Track path info size ∷ older) = true
+is_tagging (Tag comment ∷ older) = true
+is_tagging turns = false
+
 -- whether a turn may stand after the older ones, or its line is outside the grammar: the first number comes before all else,
--- moments never fall, and a note that is delivered was sent
+-- a comment behind a track or another comment, moments never fall, and a note that is delivered was sent
 abbrev pub may_stand : List Turn → Turn → Bool
+may_stand older (Tag comment) = is_tagging older
 may_stand older (First number) = nat_eq (length older) 0
 may_stand older (At moment) = nat_le (clock_of older) moment
 may_stand older (Deliver note) = nat_lt 0 note && nat_le note (length (notes_of (first_of older) (played older).commands))

@@ -1,16 +1,18 @@
 -- What each line of a script means (this project's profile).
-use Rattle.std.specs.Prelude.{◌+◌, ◌^◌, ◌<◌, ◌≤◌, ℕ, cond, nat_eq, nat_lt, List, [], ◌∷◌, Option, Some, None, Result, Ok, Err, codes}
-use Rattle.std.specs.List.{list_all}
+use Rattle.std.specs.Prelude.{◌+◌, ◌^◌, ◌<◌, ◌≤◌, ℕ, cond, nat_eq, nat_lt, List, [], ◌∷◌, ◌&&◌, Option, Some, None, codes}
+use Rattle.std.specs.Str.{is_utf8}
 use Rattle.std.specs.Option.{option_and_then}
+use Rattle.std.specs.Result.{result_ok}
 use Rattle.cds_base.specs.Number.{plain_below}
 use Rattle.cds_object.specs.declared.info.FlacInfo.{FlacInfo}
 use Rattle.cds_object.specs.Path.{path_read}
 use Rattle.cds_object.specs.Content.{same_text}
 use Rattle.cds_object.specs.ContentOf.{bare_info}
-use Rattle.cds_script.specs.Lines.{words_of, is_word}
+use Rattle.cds_script.specs.Lines.{words_of}
+use Rattle.cds_script.specs.Word.{words_said}
 use Rattle.cds_commands.specs.Commands.{Command, Grants}
 use Rattle.cds_script.specs.declared.turn.Turn.{Turn}
-use Rattle.cds_script.specs.declared.turn.Turn.TheVariants.{Folder, Track, Scan, Load, Read, Ask, First, At, Subscribe, Accept, Unsubscribe, Deliver, ReadFault}
+use Rattle.cds_script.specs.declared.turn.Turn.TheVariants.{Folder, Track, Tag, Scan, Load, Read, Ask, First, At, Subscribe, Accept, Unsubscribe, Deliver, ReadFault}
 use Rattle.cds_script.specs.declared.turn.Meaning.{Meaning}
 use Rattle.cds_script.specs.declared.turn.Meaning.TheVariants.{Nothing, Means, Outside}
 
@@ -18,10 +20,14 @@ use Rattle.cds_script.specs.declared.turn.Meaning.TheVariants.{Nothing, Means, O
 abbrev pub number_from_to : ℕ → ℕ → List ℕ → Option ℕ
 number_from_to low high word = option_and_then (λ n. cond (nat_lt n low) None (Some n)) (plain_below (high + 1) word)
 
+-- the place that a word names: it is text in UTF-8, and the text of a path
+abbrev pub path_said : List ℕ → Option (List (List ℕ))
+path_said word = cond (is_utf8 word) (result_ok (path_read word)) None
+
 -- the turn of a folder at a place, if the word is one
-abbrev pub folder_turn : Result (List (List ℕ)) ℕ → Option Turn
-folder_turn (Err at) = None
-folder_turn (Ok path) = Some (Folder path)
+abbrev pub folder_turn : Option (List (List ℕ)) → Option Turn
+folder_turn None = None
+folder_turn (Some path) = Some (Folder path)
 
 -- what a file without comments says, if its words are its rate, channels, bits and samples
 abbrev pub info_from : Option ℕ → Option ℕ → Option ℕ → Option ℕ → Option FlacInfo
@@ -29,9 +35,13 @@ info_from (Some rate) (Some channels) (Some bits) (Some samples) = Some (bare_in
 info_from rate channels bits samples = None
 
 -- the turn of a track, if its words are a place, the file's size in bytes and what the file says
-abbrev pub track_turn : Result (List (List ℕ)) ℕ → Option ℕ → Option FlacInfo → Option Turn
-track_turn (Ok path) (Some size) (Some info) = Some (Track path info size)
+abbrev pub track_turn : Option (List (List ℕ)) → Option ℕ → Option FlacInfo → Option Turn
+track_turn (Some path) (Some size) (Some info) = Some (Track path info size)
 track_turn path size info = None
+
+-- the turn of a comment, if its name and its value are texts in UTF-8
+abbrev pub tag_turn : List ℕ → List ℕ → Option Turn
+tag_turn name value = cond (is_utf8 name && is_utf8 value) (Some (Tag (record { name = name; value = value }))) None
 
 -- the turn of a line of one word
 abbrev pub plain_turn : List ℕ → Option Turn
@@ -85,15 +95,20 @@ number_turn word number =
 
 -- the turn of a line that begins with `folder`, by its other words
 abbrev pub folder_line : List (List ℕ) → Option Turn
-folder_line (path ∷ []) = folder_turn (path_read path)
+folder_line (path ∷ []) = folder_turn (path_said path)
 folder_line words = None
 
 -- the turn of a line that begins with `track`, by its other words
 abbrev pub track_line : List (List ℕ) → Option Turn
 track_line (path ∷ size ∷ rate ∷ channels ∷ bits ∷ samples ∷ []) =
-    track_turn (path_read path) (plain_below (2 ^ 64) size)
+    track_turn (path_said path) (plain_below (2 ^ 64) size)
     (info_from (plain_below (2 ^ 20) rate) (number_from_to 1 8 channels) (number_from_to 1 32 bits) (plain_below (2 ^ 36) samples))
 track_line words = None
+
+-- the turn of a line that begins with `tag`, by its other words
+abbrev pub tag_line : List (List ℕ) → Option Turn
+tag_line (name ∷ value ∷ []) = tag_turn name value
+tag_line words = None
 
 -- the turn of a line that is one word alone, or a word and a number
 abbrev pub plain_line : List ℕ → List (List ℕ) → Option Turn
@@ -106,17 +121,23 @@ abbrev pub turn_of : List (List ℕ) → Option Turn
 turn_of [] = None
 turn_of (word ∷ words) =
     cond (same_text word (codes "folder")) (folder_line words)
-    (cond (same_text word (codes "track")) (track_line words) (plain_line word words))
+    (cond (same_text word (codes "track")) (track_line words)
+    (cond (same_text word (codes "tag")) (tag_line words) (plain_line word words)))
 
 -- what a turn that may be none means
 abbrev pub meaning_of_turn : Option Turn → Meaning
 meaning_of_turn None = Outside
 meaning_of_turn (Some turn) = Means turn
 
+-- what words mean, where each part of a line is one
+abbrev pub meaning_of_said : Option (List (List ℕ)) → Meaning
+meaning_of_said None = Outside
+meaning_of_said (Some words) = meaning_of_turn (turn_of words)
+
 -- what the parts of a line mean: a turn, where each is a word and together they are a turn's; else the line is outside the
 -- grammar
 abbrev pub meaning_of_words : List (List ℕ) → Meaning
-meaning_of_words words = cond (list_all is_word words) (meaning_of_turn (turn_of words)) Outside
+meaning_of_words parts = meaning_of_said (words_said parts)
 
 -- what a line means: nothing, where it is empty or begins with `#`; else what its parts mean
 abbrev pub meaning_of : List ℕ → Meaning

@@ -2,6 +2,7 @@
 #![tactic(auto)]
 
 pub mod evaluated;
+mod found;
 pub mod laws;
 mod line;
 pub mod line_laws;
@@ -9,7 +10,9 @@ mod reply;
 #[cfg(test)]
 mod tests;
 mod turn;
+mod word;
 
+pub use found::{Found, FoundFile, FoundList};
 pub use line::read_line;
 pub use reply::HeldReply;
 pub use turn::{Meaning, Turn};

@@ -1,18 +1,16 @@
 //! What a line of a script means.
 
 ghost use Rattle.std.specs.Prelude.{◌≡◌, ◌+◌, ◌^◌, ◌<◌, ◌≤◌, ◌&&◌, nat_eq, nat_le, nat_lt, not, [], slice_index_or, true, false, None, Some, map, length, codes, IfOk, IfSome, Option, ◌*◌};
-ghost use Rattle.std.specs.List.{list_all, slice_split};
-ghost use Rattle.std.specs.Result.{result_ok};
 ghost use Rattle.cds_base.specs.Number.{plain_below};
-ghost use Rattle.cds_object.specs.Path.{path_read};
 ghost use Rattle.cds_object.specs.Content.{same_text};
 ghost use Rattle.cds_object.specs.ContentOf.{bare_info};
-ghost use Rattle.cds_script.specs.Lines.{words_of, is_word};
-ghost use Rattle.cds_script.specs.Script.{number_from_to, info_from, folder_turn, track_turn, moment_limit, first_turn, at_turn, deliver_turn, plain_turn, number_turn, plain_line, folder_line, track_line, turn_of, meaning_of_turn, meaning_of_words, meaning_of};
+ghost use Rattle.cds_script.specs.Lines.{words_of};
+ghost use Rattle.cds_script.specs.Script.{number_from_to, info_from, path_said, folder_turn, track_turn, tag_turn, moment_limit, first_turn, at_turn, deliver_turn, plain_turn, number_turn, plain_line, folder_line, track_line, tag_line, turn_of, meaning_of_turn, meaning_of_words, meaning_of};
 
+use crate::word::{Word, words_in};
 use crate::{Meaning, Turn};
-use cds_base::{Mem, Sequence, read_plain};
-use cds_object::{FlacInfo, Path, PathError};
+use cds_base::{Mem, Sequence, Text, read_plain};
+use cds_object::{Comment, FlacInfo, Path, PathError};
 use std::alloc::Global;
 
 /// What a line of a script means, given without its LF.
@@ -35,11 +33,18 @@ pub fn read_line(alloc: Global, line: &[u8]) -> Result<Meaning, Mem>
 fn read_words(alloc: Global, line: &[u8]) -> Result<Meaning, Mem>
     ensures { IfOk result (λ meaning. meaning ≡ meaning_of_words (words_of line.now)) }
 {
-    let words = split_words(alloc, line)?;
-    if !are_words(words.as_slice()) {
-        return Ok(Meaning::Outside);
+    let parts = split_words(alloc, line)?;
+    match words_in(alloc, parts.as_slice())? {
+        None => Ok(Meaning::Outside),
+        Some(words) => means(alloc, words.as_slice()),
     }
-    match turn(alloc, words.as_slice())? {
+}
+
+/// What words mean.
+fn means(alloc: Global, words: &[Word]) -> Result<Meaning, Mem>
+    ensures { IfOk result (λ meaning. meaning ≡ meaning_of_turn (turn_of words.now)) }
+{
+    match turn(alloc, words)? {
         None => Ok(Meaning::Outside),
         Some(turn) => Ok(Meaning::Means(turn)),
     }
@@ -53,34 +58,6 @@ fn split_words(alloc: Global, line: &[u8]) -> Result<Vec<&[u8]>, Mem>
     Ok(words)
 }
 
-/// Whether a part of a line is a word.
-fn is_visible(word: &[u8]) -> bool
-    ensures { result ≡ is_word word.now }
-{
-    0 < word.len() && are_visible(word)
-}
-
-/// Whether all bytes can stand in a word.
-fn are_visible(word: &[u8]) -> bool
-    ensures { result ≡ list_all (λ b. nat_le 33 b && nat_le b 126 && not (nat_eq b 37)) word.now }
-{
-    word.iter().all(|byte| is_visible_byte(*byte))
-}
-
-/// Whether a byte can stand in a word.
-fn is_visible_byte(byte: u8) -> bool
-    ensures { result ≡ (nat_le 33 byte && nat_le byte 126 && not (nat_eq byte 37)) }
-{
-    33 <= byte && byte <= 126 && byte != b'%'
-}
-
-/// Whether all parts of a line are words.
-fn are_words(words: &[&[u8]]) -> bool
-    ensures { result ≡ list_all (λ w. is_word w.now) words.now }
-{
-    words.iter().all(|word| is_visible(word))
-}
-
 /// Whether a word has these bytes.
 fn is_text(word: &[u8], text: &str) -> bool
     ensures { result ≡ same_text word.now text.now }
@@ -88,29 +65,20 @@ fn is_text(word: &[u8], text: &str) -> bool
     word == text.as_bytes()
 }
 
-/// A word as text: its bytes are ASCII.
-fn text_of(word: &[u8]) -> &str
-    requires { is_word word.now ≡ true }
-    ensures { result.now ≡ word.now }
-{
-    match str::from_utf8(word) {
-        Ok(text) => text,
-        Err(_) => unreachable!(),
-    }
-}
-
 /// The turn of a line of words.
-fn turn(alloc: Global, words: &[&[u8]]) -> Result<Option<Turn>, Mem>
-    requires { list_all (λ w. is_word w.now) words.now ≡ true }
-    ensures { IfOk result (λ turn. turn ≡ turn_of (map (λ w. w.now) words.now)) }
+fn turn(alloc: Global, words: &[Word]) -> Result<Option<Turn>, Mem>
+    ensures { IfOk result (λ turn. turn ≡ turn_of words.now) }
 {
-    match words.split_first() {
-        None => Ok(None),
-        Some((word, others)) => {
+    match words {
+        [] => Ok(None),
+        [word, others @ ..] => {
+            let word = word.as_slice();
             if is_text(word, "folder") {
                 folder(alloc, others)
             } else if is_text(word, "track") {
                 track(alloc, others)
+            } else if is_text(word, "tag") {
+                tag(alloc, others)
             } else {
                 Ok(short(word, others))
             }
@@ -118,22 +86,13 @@ fn turn(alloc: Global, words: &[&[u8]]) -> Result<Option<Turn>, Mem>
     }
 }
 
-/// The word at a place.
-fn word_at<'a>(words: &[&'a [u8]], at: usize) -> &'a [u8]
-    requires { at < length words.now }
-    ensures word { result.now ≡ slice_index_or (map (λ w. w.now) words.now) at [] }
-    ensures visible { list_all (λ w. is_word w.now) words.now ≡ true → is_word result.now ≡ true }
-{
-    words[at]
-}
-
 /// The turn of a line that is one word alone, or a word and a number.
-fn short(word: &[u8], others: &[&[u8]]) -> Option<Turn>
-    ensures { result ≡ plain_line word.now (map (λ w. w.now) others.now) }
+fn short(word: &[u8], others: &[Word]) -> Option<Turn>
+    ensures { result ≡ plain_line word.now others.now }
 {
     match others {
         [] => plain(word),
-        [number] => numbered(word, number),
+        [number] => numbered(word, number.as_slice()),
         _ => None,
     }
 }
@@ -215,10 +174,12 @@ fn deliver(note: &[u8]) -> Option<Turn>
 
 /// The place that a word names, if it names one.
 fn path_of(alloc: Global, word: &[u8]) -> Result<Option<Path>, Mem>
-    requires { is_word word.now ≡ true }
-    ensures { IfOk result (λ path. path ≡ result_ok (path_read word.now)) }
+    ensures { IfOk result (λ path. path ≡ path_said word.now) }
 {
-    match Path::read(alloc, text_of(word)) {
+    let Ok(text) = str::from_utf8(word) else {
+        return Ok(None);
+    };
+    match Path::read(alloc, text) {
         Ok(path) => Ok(Some(path)),
         Err(PathError::BadPath { .. }) => Ok(None),
         Err(PathError::Mem) => Err(Mem),
@@ -226,14 +187,20 @@ fn path_of(alloc: Global, word: &[u8]) -> Result<Option<Path>, Mem>
 }
 
 /// The turn of a line that begins with `folder`, by its other words.
-fn folder(alloc: Global, words: &[&[u8]]) -> Result<Option<Turn>, Mem>
-    requires { list_all (λ w. is_word w.now) words.now ≡ true }
-    ensures { IfOk result (λ turn. turn ≡ folder_line (map (λ w. w.now) words.now)) }
+fn folder(alloc: Global, words: &[Word]) -> Result<Option<Turn>, Mem>
+    ensures { IfOk result (λ turn. turn ≡ folder_line words.now) }
 {
-    if words.len() != 1 {
-        return Ok(None);
+    match words {
+        [path] => folder_at(alloc, path.as_slice()),
+        _ => Ok(None),
     }
-    match path_of(alloc, word_at(words, 0))? {
+}
+
+/// The turn of a folder at the place that a word names.
+fn folder_at(alloc: Global, path: &[u8]) -> Result<Option<Turn>, Mem>
+    ensures { IfOk result (λ turn. turn ≡ folder_turn (path_said path.now)) }
+{
+    match path_of(alloc, path)? {
         None => Ok(None),
         Some(path) => Ok(Some(Turn::Folder { path })),
     }
@@ -286,27 +253,62 @@ fn info_of(
 }
 
 /// The turn of a line that begins with `track`, by its other words.
-fn track(alloc: Global, words: &[&[u8]]) -> Result<Option<Turn>, Mem>
-    requires { list_all (λ w. is_word w.now) words.now ≡ true }
-    ensures { IfOk result (λ turn. turn ≡ track_line (map (λ w. w.now) words.now)) }
+fn track(alloc: Global, words: &[Word]) -> Result<Option<Turn>, Mem>
+    ensures { IfOk result (λ turn. turn ≡ track_line words.now) }
 {
-    if words.len() != 6 {
-        return Ok(None);
+    match words {
+        [path, size, rate, channels, bits, samples] => {
+            let info = info_of(
+                alloc,
+                rate.as_slice(),
+                channels.as_slice(),
+                bits.as_slice(),
+                samples.as_slice(),
+            );
+            track_at(alloc, path.as_slice(), read_plain(size.as_slice()), info)
+        }
+        _ => Ok(None),
     }
-    let Some(path) = path_of(alloc, word_at(words, 0))? else {
+}
+
+/// The turn of a track at the place that a word names, if its size and what it says are there.
+fn track_at(
+    alloc: Global,
+    path: &[u8],
+    size: Option<u64>,
+    info: Option<FlacInfo>,
+) -> Result<Option<Turn>, Mem>
+    ensures { IfOk result (λ turn. turn ≡ track_turn (path_said path.now) size info) }
+{
+    match (path_of(alloc, path)?, size, info) {
+        (Some(path), Some(size), Some(info)) => Ok(Some(Turn::Track { path, info, size })),
+        _ => Ok(None),
+    }
+}
+
+/// The turn of a line that begins with `tag`, by its other words.
+fn tag(alloc: Global, words: &[Word]) -> Result<Option<Turn>, Mem>
+    ensures { IfOk result (λ turn. turn ≡ tag_line words.now) }
+{
+    match words {
+        [name, value] => tag_of(alloc, name.as_slice(), value.as_slice()),
+        _ => Ok(None),
+    }
+}
+
+/// The turn of a comment, if its name and its value are texts.
+fn tag_of(alloc: Global, name: &[u8], value: &[u8]) -> Result<Option<Turn>, Mem>
+    ensures { IfOk result (λ turn. turn ≡ tag_turn name.now value.now) }
+{
+    let Ok(name) = str::from_utf8(name) else {
         return Ok(None);
     };
-    let Some(size) = read_plain(word_at(words, 1)) else {
+    let Ok(value) = str::from_utf8(value) else {
         return Ok(None);
     };
-    let Some(info) = info_of(
-        alloc,
-        word_at(words, 2),
-        word_at(words, 3),
-        word_at(words, 4),
-        word_at(words, 5),
-    ) else {
-        return Ok(None);
-    };
-    Ok(Some(Turn::Track { path, info, size }))
+    let name = Text::read(alloc, name)?;
+    let value = Text::read(alloc, value)?;
+    Ok(Some(Turn::Tag {
+        comment: Comment { name, value },
+    }))
 }

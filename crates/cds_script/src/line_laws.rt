@@ -1,6 +1,7 @@
 //! Laws of the lines of a script: each clause is one of them.
 
 ghost use Rattle.cds_script.specs.LineLaws as laws;
+ghost use Rattle.cds_script.specs.Word as words;
 
 /// All bytes are lines that are each followed by an LF, and a last line without one, which may be empty.
 pub fn scripts_are_lines()
@@ -15,4 +16,14 @@ pub fn ended_lines_are_read()
 /// A last line that has bytes and no LF is one more line, and the only one that was not ended.
 pub fn last_lines_are_read()
     ensures { laws.last_lines_are_read }
+{}
+
+/// Any bytes can be written as a part of a line that stands for them.
+pub fn any_bytes_can_be_written()
+    ensures { words.any_bytes_can_be_written }
+{}
+
+/// Visible ASCII without `%` stands for itself.
+pub fn plain_words_stand_for_themselves()
+    ensures { words.plain_words_stand_for_themselves }
 {}

@@ -7,6 +7,9 @@ fn turn_text(alloc: Global, turn: &Turn) -> Result<String, AllocError> {
     match turn {
         Turn::Folder { path } => format!(in alloc; "folder {}", path.name()),
         Turn::Track { path, .. } => format!(in alloc; "track {}", path.name()),
+        Turn::Tag { comment } => {
+            format!(in alloc; "tag {} {}", comment.name.as_str(), comment.value.as_str())
+        }
         Turn::Scan => "scan".to_string(alloc),
         Turn::Load => "load".to_string(alloc),
         Turn::Read => "read".to_string(alloc),
@@ -50,6 +53,11 @@ fn lines_mean_turns(rt: HostRuntime) -> Result<(), Fail> {
         ("deliver 4294967295", "deliver 4294967295"),
         ("folder Rock/Old", "folder Old"),
         ("track Rock/a.flac 10 0 2 16 0", "track a.flac"),
+        ("track A%20%C3%BC%2Fb%25.flac 10 0 2 16 0", "track b%.flac"),
+        ("sc%61n", "scan"),
+        ("at%2020", "outside"),
+        ("tag TITLE A%20&%20\"B\"", "tag TITLE A & \"B\""),
+        ("tag %C3%A4 %01", "tag \u{e4} \u{1}"),
         ("", "nothing"),
         ("#", "nothing"),
         ("# subscribe", "nothing"),
@@ -71,6 +79,16 @@ fn other_lines_are_outside(rt: HostRuntime) -> Result<(), Fail> {
         "subscribed",
         "read fault",
         "accept%20",
+        "accept%",
+        "scan%4",
+        "sc%zzn",
+        "sc%6bn",
+        "folder a%00",
+        "folder %C3",
+        "tag TITLE %C3",
+        "tag %C3 x",
+        "tag TITLE",
+        "tag TITLE a b",
         "first",
         "first 01",
         "first +1",

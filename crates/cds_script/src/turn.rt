@@ -1,4 +1,4 @@
-use cds_object::{FlacInfo, Path};
+use cds_object::{Comment, FlacInfo, Path};
 
 /// One line of a script that does something.
 #[derive(Drop, Debug)]
@@ -12,6 +12,10 @@ pub enum Turn {
         path: Path,
         info: FlacInfo,
         size: u64,
+    },
+    /// Adds a comment to what the file of the track before it says.
+    Tag {
+        comment: Comment,
     },
     /// The records since the last scan are all that the library has now.
     Scan,

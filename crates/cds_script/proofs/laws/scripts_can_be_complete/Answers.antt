@@ -1,4 +1,6 @@
+use lib.Utf8.{encode}
 use Rattle.std.proofs.Common.{◌≡◌, ◌⊎◌, inl, inr, ℕ, zero, suc, List, [], ◌∷◌, ◌++◌, take, drop, false, refl, sym, ap, ◌∙◌, subst, Some, None}
+use Rattle.std.specs.Str.{is_utf8, chars}
 use Rattle.cds_commands.specs.Notes.{Note, first_note, notes_of}
 use Rattle.cds_commands.specs.Evaluated.{added}
 use Rattle.cds_follow.specs.Inbox.{arrival}
@@ -27,6 +29,7 @@ some-is : (a b : Note) → Some a ≡ Some b → a ≡ b
 some-is a b e = cc
 
 told : (number : ℕ) (note : Note) → sent_note number (notes_of 0 (played turns).commands) ≡ Some note → (number ≡ 1) ⊎ (number ≡ 2) → Told number note
+unfolding is_utf8 chars encode
 told number note e (inl one) = subst (λ (n : ℕ). Told n note) (sym one) (
   take 6 turns,
   drop 7 turns,
@@ -43,6 +46,7 @@ told number note e (inr two) = subst (λ (n : ℕ). Told n note) (sym two) (
 )
 
 pub returns : goal.returns
+unfolding is_utf8 chars encode
 returns c = record {
   begun = refl;
   named = refl;

@@ -1,9 +1,9 @@
 use Rattle.std.proofs.Common.{◌≡◌, ◌∷◌, true, sym, subst}
 use Rattle.std.proofs.lemmas.Result.{on_ok_weaker}
-use Rattle.cds_script.specs.declared.turn.Turn.TheVariants.{Folder, Track, Scan, Load, Read, At, Subscribe, Accept, Unsubscribe, Deliver}
+use Rattle.cds_script.specs.declared.turn.Turn.TheVariants.{Folder, Track, Tag, Scan, Load, Read, At, Subscribe, Accept, Unsubscribe, Deliver}
 use Rattle.cds_script.specs.Report.{may_stand}
 use Rattle.cds_replay.specs.Session.{IsAfter}
-use Rattle.cds_replay.proofs.Turns.{folder-after, track-after}
+use Rattle.cds_replay.proofs.Turns.{folder-after, track-after, tag-after}
 use Rattle.cds_replay.proofs.session.Session.answer.Goals as goal
 
 pub returns-in-Scan-clause-played : goal.returns-in-Scan-clause-played
@@ -59,3 +59,14 @@ returns-in-Track-clause-played c =
           (track-after c.args.self.now c.in-Track.path c.in-Track.info c.in-Track.size c.requires.played.turns c.requires.played.after);
     })
     c.add_track.ensures
+
+pub returns-in-Tag-clause-played : goal.returns-in-Tag-clause-played
+returns-in-Tag-clause-played c =
+    let may = subst (λ t. may_stand c.requires.played.turns t ≡ true) c.in-Tag.is (c.requires.stands c.requires.played.turns c.requires.played.after) in
+    on_ok_weaker c.add_tag.result
+    (λ same. record {
+      turns = Tag c.in-Tag.comment ∷ c.requires.played.turns;
+      after = subst (λ p. IsAfter p (Tag c.in-Tag.comment ∷ c.requires.played.turns)) (sym same)
+          (tag-after c.args.self.now c.in-Tag.comment c.requires.played.turns c.requires.played.after may);
+    })
+    c.add_tag.ensures

@@ -12,7 +12,7 @@ use Rattle.cds_replay.proofs.session.Session.deliver.Goals as goal
 
 pub returns-in-None-clause-after : goal.returns-in-None-clause-after
 returns-in-None-clause-after c = λ turns after may.
-    let was : Playing = record { server = c.self.inside.server; replica = c.self.inside.replica; records = c.self.inside.records; clock = c.self.inside.clock; reply = c.self.inside.reply; fresh = c.self.inside.fresh } in
+    let was : Playing = record { server = c.self.inside.server; replica = c.self.inside.replica; found = c.self.inside.found; clock = c.self.inside.clock; reply = c.self.inside.reply; last = c.self.inside.last } in
     let old : IsAfter was turns = subst (λ p. IsAfter p turns) (sym c.self.view_is) after in
     let sent : sent_note c.args.number (notes_of (first_of turns) (played turns).commands) ≡ None =
     sym (ap (sent_note c.args.number) old.server.sent)
@@ -21,7 +21,7 @@ returns-in-None-clause-after c = λ turns after may.
 
 pub returns-in-None-clause-written : goal.returns-in-None-clause-written
 returns-in-None-clause-written c = λ turns after.
-    let was : Playing = record { server = c.self.inside.server; replica = c.self.inside.replica; records = c.self.inside.records; clock = c.self.inside.clock; reply = c.self.inside.reply; fresh = c.self.inside.fresh } in
+    let was : Playing = record { server = c.self.inside.server; replica = c.self.inside.replica; found = c.self.inside.found; clock = c.self.inside.clock; reply = c.self.inside.reply; last = c.self.inside.last } in
     let old : IsAfter was turns = subst (λ p. IsAfter p turns) (sym c.self.view_is) after in
     let sent : sent_note c.args.number (notes_of (first_of turns) (played turns).commands) ≡ None =
     sym (ap (sent_note c.args.number) old.server.sent)
@@ -30,7 +30,7 @@ returns-in-None-clause-written c = λ turns after.
 
 pub returns-else-not-was_noticed-clause-after : goal.returns-else-not-was_noticed-clause-after
 returns-else-not-was_noticed-clause-after c = λ turns after may.
-    let was : Playing = record { server = c.self.inside.server; replica = c.self.inside.replica; records = c.self.inside.records; clock = c.self.inside.clock; reply = c.self.inside.reply; fresh = c.self.inside.fresh } in
+    let was : Playing = record { server = c.self.inside.server; replica = c.self.inside.replica; found = c.self.inside.found; clock = c.self.inside.clock; reply = c.self.inside.reply; last = c.self.inside.last } in
     let old : IsAfter was turns = subst (λ p. IsAfter p turns) (sym c.self.view_is) after in
     let sent : sent_note c.args.number (notes_of (first_of turns) (played turns).commands) ≡ Some c.in-Some.note =
     sym (ap (sent_note c.args.number) old.server.sent)
@@ -41,7 +41,7 @@ returns-else-not-was_noticed-clause-after c = λ turns after may.
 
 pub returns-else-not-was_noticed-clause-written : goal.returns-else-not-was_noticed-clause-written
 returns-else-not-was_noticed-clause-written c = λ turns after.
-    let was : Playing = record { server = c.self.inside.server; replica = c.self.inside.replica; records = c.self.inside.records; clock = c.self.inside.clock; reply = c.self.inside.reply; fresh = c.self.inside.fresh } in
+    let was : Playing = record { server = c.self.inside.server; replica = c.self.inside.replica; found = c.self.inside.found; clock = c.self.inside.clock; reply = c.self.inside.reply; last = c.self.inside.last } in
     let old : IsAfter was turns = subst (λ p. IsAfter p turns) (sym c.self.view_is) after in
     let sent : sent_note c.args.number (notes_of (first_of turns) (played turns).commands) ≡ Some c.in-Some.note =
     sym (ap (sent_note c.args.number) old.server.sent)
