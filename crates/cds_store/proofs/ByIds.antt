@@ -1,5 +1,5 @@
 -- Rows that are changed by their ids, and the ids of places.
-use Rattle.std.proofs.Common.{◌≡◌, ◌+◌, ◌<◌, ◌&&◌, ℕ, Bool, true, false, cond, not, nat_eq, is_none, is_some, filter, map, List, [], ◌∷◌, ◌++◌, length, take, get_or, Option, Some, None, refl, sym, ◌∙◌, ap, subst, true≢false, arith, append_assoc}
+use Rattle.std.proofs.Common.{◌≡◌, ◌+◌, ◌<◌, ◌&&◌, ℕ, Bool, true, false, cond, not, nat_eq, is_none, is_some, filter, map, List, [], ◌∷◌, ◌++◌, length, take, get_or, Option, Some, None, refl, sym, ◌∙◌, ap, subst, true≢false, arith}
 use Rattle.std.specs.List.{AllByRecursion}
 use Rattle.std.specs.BTreeMap.{is_at}
 use Rattle.std.proofs.Math.ListN.{set}
@@ -10,7 +10,6 @@ use Rattle.cds_object.specs.Object.{ObjectRow, is_folder}
 use Rattle.cds_object.specs.Tree.{IdsAscend}
 use Rattle.cds_object.specs.declared.content.Content.{Content}
 use Rattle.cds_catalog.specs.Catalog.{PlacedRow}
-use Rattle.cds_catalog.specs.History.{place_of}
 use Rattle.cds_catalog.specs.Steps.{Standing, touched, touch, id_at, child_added, child_modified, child_deleted, modified, new_row, step}
 use Rattle.cds_catalog.specs.declared.change.Change.{Change}
 use Rattle.cds_catalog.specs.declared.change.Change.TheVariants.{Deletion, Addition, Modification}
@@ -21,12 +20,6 @@ use Rattle.cds_store.specs.Rows.{rows_of, HasRoom, KeepsKind, child_event}
 use Rattle.cds_store.specs.Found.{HasNone, IsPlaceOf, touched_by_id, id_found, id_or_none, KnowsPlaces, IsOnlyAt, CanFind, KeepsKindById, PutsFirst, Learns}
 use Rattle.cds_store.specs.declared.touch.ChildEvent.{ChildEvent}
 use Rattle.cds_store.specs.declared.touch.ChildEvent.TheVariants.{Added, Modified, Deleted}
-use Rattle.cds_event.specs.declared.Event.{Event}
-use Rattle.cds_event.specs.declared.Event.TheVariants.{StDone}
-use Rattle.cds_changes.specs.declared.event_with_parent.EventWithParent.{EventWithParent}
-use Rattle.cds_store.specs.ChangeEvents.{event_by, done_by, events_by}
-use Rattle.cds_store.specs.declared.subtrees.MarkedChange.{MarkedChange}
-use Rattle.cds_store.proofs.Making.{room_when_modified}
 use Rattle.cds_store.proofs.RowsFound.{is_here}
 
 -- ---- one row by its id
@@ -115,6 +108,33 @@ only_mapped g keeps path id rows only =
     each-map (λ placed. same_path path placed.0 ≡ nat_eq placed.1.id id) g rows
     (each-weaker (λ placed. same_path path placed.0 ≡ nat_eq placed.1.id id) (λ placed. same_path path (g placed).0 ≡ nat_eq (g placed).1.id id)
     (λ placed e. ap (same_path path) (keeps.place placed) ∙ e ∙ ap (λ n. nat_eq n id) (sym (keeps.id placed))) rows only)
+
+pub by-id-keeps : (id : ℕ) (f : ObjectRow → ObjectRow) → ((row : ObjectRow) → (f row).id ≡ row.id) → Keeps (touched_by_id id f)
+by-id-keeps id f same = record {
+  place = λ placed. place placed (nat_eq placed.1.id id);
+  id = λ placed. own placed (nat_eq placed.1.id id);
+}
+  where
+    place : (placed : PlacedRow) (b : Bool) → (cond b (placed.0, f placed.1) placed).0 ≡ placed.0
+    place placed true = refl
+    place placed false = refl
+
+    own : (placed : PlacedRow) (b : Bool) → (cond b (placed.0, f placed.1) placed).1.id ≡ placed.1.id
+    own placed true = same placed.1
+    own placed false = refl
+
+pub ascend_modified : (id number : ℕ) (content : Content) (rows : List PlacedRow) → IdsAscend (rows_of rows) → IdsAscend (rows_of (map (touched_by_id id (modified number content)) rows))
+ascend_modified id number content rows a =
+    ascend_mapped (touched_by_id id (modified number content)) (by-id-keeps id (modified number content) (λ row. refl)) rows a
+
+pub room_modified : (id number : ℕ) (content : Content) (rows : List PlacedRow) → AllByRecursion (λ (placed : PlacedRow). HasRoom placed.1) rows
+    → AllByRecursion (λ (placed : PlacedRow). HasRoom placed.1) (map (touched_by_id id (modified number content)) rows)
+room_modified id number content rows room =
+    each-map (λ (placed : PlacedRow). HasRoom placed.1) (touched_by_id id (modified number content)) rows
+    (each-weaker (λ (placed : PlacedRow). HasRoom placed.1) (λ placed. HasRoom (touched_by_id id (modified number content) placed).1) one rows room)
+  where
+    one : (placed : PlacedRow) → HasRoom placed.1 → HasRoom (touched_by_id id (modified number content) placed).1
+    one placed h = elim (nat_eq placed.1.id id) as (λ b. HasRoom (cond b (placed.0, modified number content placed.1) placed).1) [ true ↦ h | false ↦ h ]
 
 ascend_cons : (p : PlacedRow) (rows : List PlacedRow) → AllByRecursion (λ placed. p.1.id < placed.1.id) rows → IdsAscend (rows_of rows) → IdsAscend (rows_of (p ∷ rows))
 ascend_cons p [] above a = tt
@@ -268,67 +288,3 @@ pub event-keeps : (event : ChildEvent) (number : ℕ) (row : ObjectRow) → (chi
 event-keeps Added number row = refl
 event-keeps Modified number row = refl
 event-keeps Deleted number row = refl
-
--- ---- one change made by ids
-
-parent-only : (s : Standing) (change : Change) (id : ℕ) → CanFind s change → id ≡ id_at (parent_of (place_of change)) s.rows → IsOnlyAt (parent_of (place_of change)) id s.rows
-parent-only s change id can is = subst (λ n. IsOnlyAt (parent_of (place_of change)) n s.rows) (sym is) can.parent
-
-pub deleted-rows : (s : Standing) (path : Place) (id : ℕ) (removed now : List PlacedRow) → CanFind s (Deletion path) → id ≡ id_at (parent_of path) s.rows
-    → removed ≡ filter (λ placed. not (same_path path placed.0)) s.rows → now ≡ map (touched_by_id id (child_event Deleted (s.number + 1))) removed
-    → now ≡ touch (parent_of path) (child_deleted (s.number + 1)) (filter (λ placed. not (same_path path placed.0)) s.rows)
-deleted-rows s path id removed now can is r n =
-    n ∙ ap (map (touched_by_id id (child_event Deleted (s.number + 1)))) r
-    ∙ by_place (parent_of path) id (child_deleted (s.number + 1)) (filter (λ placed. not (same_path path placed.0)) s.rows)
-    (each-filter (λ placed. same_path (parent_of path) placed.0 ≡ nat_eq placed.1.id id) (λ placed. not (same_path path placed.0)) s.rows
-    (parent-only s (Deletion path) id can is))
-
-pub added-rows : (s : Standing) (path : Place) (content : Content) (id : ℕ) (all now : List PlacedRow) (row : ObjectRow) → CanFind s (Addition path content)
-    → id ≡ id_at (parent_of path) s.rows → all ≡ map (touched_by_id id (child_event Added (s.number + 1))) s.rows
-    → row ≡ new_row (s.drawn + 1) id (s.number + 1) content → now ≡ all ++ (path, row) ∷ []
-    → now ≡ touch (parent_of path) (child_added (s.number + 1)) s.rows ++ (path, new_row (s.drawn + 1) (id_at (parent_of path) s.rows) (s.number + 1) content) ∷ []
-added-rows s path content id all now row can is a r n =
-    n
-    ∙ (λ i. (a ∙ by_place (parent_of path) id (child_added (s.number + 1)) s.rows (parent-only s (Addition path content) id can is)) i
-    ++ (path, (r ∙ ap (λ m. new_row (s.drawn + 1) m (s.number + 1) content) is) i) ∷ [])
-
-modified-rows : (s : Standing) (path : Place) (content : Content) (own : ℕ) (changed : List PlacedRow) → CanFind s (Modification path content)
-    → own ≡ id_at path s.rows → changed ≡ map (touched_by_id own (modified (s.number + 1) content)) s.rows
-    → changed ≡ touch path (modified (s.number + 1) content) s.rows
-modified-rows s path content own changed can o c =
-    c ∙ by_place path own (modified (s.number + 1) content) s.rows (subst (λ n. IsOnlyAt path n s.rows) (sym o) can.own)
-
-pub changed-rows : (s : Standing) (path : Place) (content : Content) (own id : ℕ) (changed now : List PlacedRow) → CanFind s (Modification path content)
-    → own ≡ id_at path s.rows → id ≡ id_at (parent_of path) s.rows → changed ≡ map (touched_by_id own (modified (s.number + 1) content)) s.rows
-    → now ≡ map (touched_by_id id (child_event Modified (s.number + 1))) changed
-    → now ≡ touch (parent_of path) (child_modified (s.number + 1)) (touch path (modified (s.number + 1) content) s.rows)
-changed-rows s path content own id changed now can o is c n =
-    n ∙ ap (map (touched_by_id id (child_event Modified (s.number + 1)))) (modified-rows s path content own changed can o c)
-    ∙ by_place (parent_of path) id (child_modified (s.number + 1)) (touch path (modified (s.number + 1) content) s.rows)
-    (only_mapped (touched path (modified (s.number + 1) content)) (touched-keeps path (modified (s.number + 1) content) (λ row. refl)) (parent_of path) id s.rows
-    (parent-only s (Modification path content) id can is))
-
-pub changed-ascend : (s : Standing) (path : Place) (content : Content) (own : ℕ) (changed : List PlacedRow) → CanFind s (Modification path content)
-    → own ≡ id_at path s.rows → changed ≡ map (touched_by_id own (modified (s.number + 1) content)) s.rows → IdsAscend (rows_of changed)
-changed-ascend s path content own changed can o c =
-    subst (λ (l : List PlacedRow). IdsAscend (rows_of l)) (sym (modified-rows s path content own changed can o c))
-    (ascend_mapped (touched path (modified (s.number + 1) content)) (touched-keeps path (modified (s.number + 1) content) (λ row. refl)) s.rows can.ascending)
-
-pub changed-room : (s : Standing) (path : Place) (content : Content) (own : ℕ) (changed : List PlacedRow) → CanFind s (Modification path content)
-    → AllByRecursion (λ (placed : PlacedRow). HasRoom placed.1) s.rows
-    → own ≡ id_at path s.rows → changed ≡ map (touched_by_id own (modified (s.number + 1) content)) s.rows → AllByRecursion (λ (placed : PlacedRow). HasRoom placed.1) changed
-changed-room s path content own changed can room o c =
-    subst (AllByRecursion (λ (placed : PlacedRow). HasRoom placed.1)) (sym (modified-rows s path content own changed can o c))
-    (room_when_modified path (s.number + 1) content s.rows room)
-
--- the events of a change that is done with a head's subtree
-pub events-noted : (s : Standing) (p : MarkedChange) (head : Place) (out first both : List EventWithParent) (event : Event) (parent id update : ℕ) → p.done ≡ Some head
-    → event ≡ event_by s p.change p.st → parent ≡ id_at (parent_of (place_of p.change)) s.rows → id ≡ id_at head s.rows → update ≡ s.number + 1
-    → first ≡ out ++ record { event = event; parent = Some parent } ∷ [] → both ≡ first ++ record { event = StDone id update; parent = None } ∷ []
-    → both ≡ out ++ events_by s p
-events-noted s p head out first both event parent id update d e pa h u f b =
-    let one : EventWithParent = record { event = event; parent = Some parent } in
-    let done : EventWithParent = record { event = StDone id update; parent = None } in
-    b ∙ ap (λ (l : List EventWithParent). l ++ done ∷ []) f ∙ append_assoc out (one ∷ []) (done ∷ [])
-    ∙ (λ i. out ++ record { event = e i; parent = Some (pa i) } ∷ record { event = StDone (h i) (u i); parent = None } ∷ [])
-    ∙ ap (λ (o : Option Place). out ++ record { event = event_by s p.change p.st; parent = Some (id_at (parent_of (place_of p.change)) s.rows) } ∷ done_by s o) (sym d)

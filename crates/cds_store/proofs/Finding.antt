@@ -1,5 +1,5 @@
 -- Each change of a scan finds what it names by ids, when those before it are made.
-use Rattle.std.proofs.Common.{◌≡◌, ◌<◌, ℕ, Bool, true, false, cond, nat_eq, map, List, [], ◌∷◌, ◌++◌, reverse, Some, None, refl, sym, ◌∙◌, ap, subst, append_assoc, arith}
+use Rattle.std.proofs.Common.{◌≡◌, ◌<◌, ◌≤◌, ℕ, Bool, true, false, cond, nat_eq, map, List, [], ◌∷◌, ◌++◌, reverse, Some, None, refl, sym, ◌∙◌, ap, subst, append_assoc, arith}
 use Rattle.std.specs.List.{AllByRecursion}
 use Rattle.std.proofs.lemmas.Bool.{false_from_ne_true}
 use Rattle.std.proofs.lemmas.Bool.Decides.{nat_tests}
@@ -9,7 +9,8 @@ use Rattle.cds_object.specs.Tree.{IdsAscend}
 use Rattle.cds_object.specs.declared.content.Content.{Content}
 use Rattle.cds_catalog.specs.Library.{FolderMap, found}
 use Rattle.cds_catalog.specs.History.{latest, changes_of, place_of}
-use Rattle.cds_catalog.specs.Catalog.{id_of, root_entry}
+use Rattle.cds_catalog.specs.Catalog.{PlacedRow, id_of, root_entry}
+use Rattle.cds_catalog.specs.Laws.{IsWithin}
 use Rattle.cds_catalog.specs.Replay.{IsLegal}
 use Rattle.cds_catalog.specs.Steps.{Standing, stepped, id_at}
 use Rattle.cds_catalog.specs.declared.change.Change.{Change}
@@ -21,7 +22,7 @@ use Rattle.cds_catalog.proofs.StepsFind.{Entry, Rising, find_in, found_holds, ea
 use Rattle.cds_catalog.proofs.StepsIds.{ids_rise}
 use Rattle.cds_catalog.proofs.StepsLive.{shown, shown_holder, find_live, stands_named, held, holds_is}
 use Rattle.cds_catalog.proofs.StepsRows.{row_over, rows_over, standing_over}
-use Rattle.cds_catalog.proofs.StepsScan.{legal_within_scan, standing_within_scan}
+use Rattle.cds_catalog.proofs.StepsScan.{legal_within_scan, standing_within_scan, rows_over_within}
 use Rattle.cds_store.specs.ChangeEvents.{changes_in}
 use Rattle.cds_store.specs.Rows.{rows_of}
 use Rattle.cds_store.specs.Stands.{IsScan}
@@ -98,7 +99,9 @@ not_found first changes (e ∷ es) q none = by (same_path q e.0) none (not_found
     by false k r = r k
 
 own_over : (first : ℕ) (change : Change) (older : List Change) → IsLegal (change ∷ older) → OwnIsFound change (rows_over first older)
-own_over first (Deletion path) older l = tt
+own_over first (Deletion path) older l =
+    only_over first older l.0 path l.1.0
+    ((λ i. cond (stands_named older path l.1.0 l.0 l.1.1 i) (Some root_entry.1) (find_in (live older) path)) ∙ find_live older l.0 path ∙ l.1.1)
 own_over first (Addition path content) older l =
     not_found first older (shown older) path
     ((λ i. cond (l.1.0 i) (Some root_entry.1) (find_in (live older) path)) ∙ find_live older l.0 path ∙ l.1.1)
@@ -111,9 +114,11 @@ over_can_find first older change legal = record {
   ascending = ascending_rows first older (shown older) (ids_rise older legal.0);
   parent = parent_over first change older legal;
   own = own_over first change older legal;
+  drawn = each-weaker (λ (placed : PlacedRow). IsWithin (standing_over first older) placed.1) (λ (placed : PlacedRow). placed.1.id ≤ (standing_over first older).drawn)
+      (λ placed within. within.id) (rows_over first older) (rows_over_within first older);
 }
 
-can_find_next : (s : Standing) (changes : List Change) → IsScan s changes → (later newer : List Change) (change : Change) →
+pub can_find_next : (s : Standing) (changes : List Change) → IsScan s changes → (later newer : List Change) (change : Change) →
     changes ≡ later ++ change ∷ newer → CanFind (stepped s newer) change
 can_find_next s changes scan later newer change parted =
     let all = scan.stands.0 in

@@ -16,3 +16,7 @@ pub mod Answering
 pub mod Shown
 pub mod ScanEvents
 pub mod Touched
+pub mod Staying
+pub mod NextResolved
+pub mod Mending
+pub mod Committing

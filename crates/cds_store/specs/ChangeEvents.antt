@@ -15,6 +15,12 @@ use Rattle.cds_event.specs.Events.{class_of}
 abbrev pub changes_in : List MarkedChange → List Change
 changes_in plan = map (λ (p : MarkedChange). p.change) plan
 
+-- the event of a change by its number, the next id that is drawn, and the ids of its object and of its parent
+abbrev pub event_with : ℕ → ℕ → ℕ → ℕ → Change → Bool → Event
+event_with number next own parent (Deletion path) st = ObjDel own number st
+event_with number next own parent (Addition path content) st = ObjAdd next number st parent (class_of content)
+event_with number next own parent (Modification path content) st = ObjMod own number st
+
 -- the event of a change that comes next
 abbrev pub event_by : Standing → Change → Bool → Event
 event_by s (Deletion path) st = ObjDel (id_at path s.rows) (s.number + 1) st
@@ -29,6 +35,18 @@ done_by s (Some head) = record { event = StDone (id_at head s.rows) (s.number + 
 -- the events of a change that comes next
 abbrev pub events_by : Standing → MarkedChange → List EventWithParent
 events_by s p = record { event = event_by s p.change p.st; parent = Some (id_at (parent_of (place_of p.change)) s.rows) } ∷ done_by s p.done
+
+-- the same by the ids of places, from a number and the ids drawn
+abbrev pub done_with : (List (List ℕ) → ℕ) → ℕ → Option (List (List ℕ)) → List EventWithParent
+done_with ids number None = []
+done_with ids number (Some head) = record { event = StDone (ids head) (number + 1); parent = None } ∷ []
+
+abbrev pub events_with : (List (List ℕ) → ℕ) → ℕ → ℕ → MarkedChange → List EventWithParent
+events_with ids number drawn p =
+    record {
+      event = event_with (number + 1) (drawn + 1) (ids (place_of p.change)) (ids (parent_of (place_of p.change))) p.change p.st;
+      parent = Some (ids (parent_of (place_of p.change)));
+    } ∷ done_with ids number p.done
 
 -- those of changes that come one after the other, the newest of which is the first in the list
 abbrev pub all_events_by : Standing → List MarkedChange → List EventWithParent

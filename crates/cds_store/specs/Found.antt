@@ -1,5 +1,5 @@
 -- Rows that are found by their ids, and ids by their places.
-use Rattle.std.specs.Prelude.{◌≡◌, ◌<◌, ◌&&◌, is_none, ℕ, true, false, cond, nat_eq, List, [], ◌∷◌, ◌++◌, length, Option, Some, None}
+use Rattle.std.specs.Prelude.{◌≡◌, ◌<◌, ◌≤◌, ◌&&◌, is_none, ℕ, true, false, cond, nat_eq, List, [], ◌∷◌, ◌++◌, length, Option, Some, None}
 use Rattle.std.specs.List.{AllByRecursion}
 use Rattle.cds_object.specs.Path.{same_path, parent_of}
 use Rattle.cds_object.specs.Object.{ObjectRow, is_folder}
@@ -50,9 +50,9 @@ KnowsPlaces ids rows = (path : List (List ℕ)) → ids path ≡ id_found path r
 abbrev pub IsOnlyAt : List (List ℕ) → ℕ → List PlacedRow → Type 0
 IsOnlyAt path id rows = AllByRecursion (λ placed. same_path path placed.0 ≡ nat_eq placed.1.id id) rows
 
--- what a change finds: a modification its own row by its id, and an addition none at its place
+-- what a change finds: a deletion and a modification their own row by its id, and an addition none at its place
 abbrev pub OwnIsFound : Change → List PlacedRow → Type 0
-OwnIsFound (Deletion path) rows = Unit {0}
+OwnIsFound (Deletion path) rows = IsOnlyAt path (id_at path rows) rows
 OwnIsFound (Addition path content) rows = id_found path rows ≡ None
 OwnIsFound (Modification path content) rows = IsOnlyAt path (id_at path rows) rows
 
@@ -61,6 +61,7 @@ pub record CanFind (s : Standing) (change : Change) : Type 0 where
   pub ascending : IdsAscend (rows_of s.rows)
   pub parent : IsOnlyAt (parent_of (place_of change)) (id_at (parent_of (place_of change)) s.rows) s.rows
   pub own : OwnIsFound change s.rows
+  pub drawn : AllByRecursion (λ placed. placed.1.id ≤ s.drawn) s.rows
 
 -- what stands under an id is of the kind of a content
 abbrev pub KeepsKindById : ℕ → Content → PlacedRow → Type 0

@@ -4,6 +4,8 @@ pub mod Found
 pub mod Lent
 pub mod Offspring
 pub mod Records
+pub mod Resolution
+pub mod Resolved
 pub mod Rows
 pub mod Stands
 pub mod SubtreeIndex

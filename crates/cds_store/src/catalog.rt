@@ -160,6 +160,13 @@ impl Catalog {
         self.number
     }
 
+    /// How many ids were drawn.
+    pub(crate) fn drawn(&self) -> u32
+        ensures { result ≡ self.now.drawn }
+    {
+        self.drawn
+    }
+
     /// The rows in ascending order of ids.
     pub(crate) fn rows(&self) -> &[Placed]
         ensures { result.now ≡ self.now.rows }

@@ -15,6 +15,7 @@ mod placed;
 mod plain;
 mod planning;
 mod records;
+mod resolving;
 mod span;
 mod store;
 mod subtrees;

@@ -1,10 +1,14 @@
 //! The children of each object, found by halving (UPnP ContentDirectory:4 on browsing direct children).
 
-ghost use Rattle.std.specs.Prelude.{◌≡◌, filter, map, take, drop, IfOk};
+ghost use Rattle.std.specs.Prelude.{◌≡◌, ◌++◌, filter, map, take, drop, IfOk};
 ghost use Rattle.std.specs.List.{filter_map};
+ghost use Rattle.std.specs.Ordering.{nat_cmp};
+ghost use Rattle.std.specs.BTreeSet.{contains};
 ghost use Rattle.cds_store.specs.Offspring.{AreChildren, Rises, of_parent, child_of, ids_in};
+ghost use Rattle.cds_store.specs.Resolved.{IsMended};
 
 use crate::placed::Placed;
+use crate::resolving::Resolution;
 use cds_base::Mem;
 use std::alloc::Global;
 
@@ -22,6 +26,23 @@ pub(crate) fn offspring_of(alloc: Global, rows: &[Placed]) -> Result<Vec<Child>,
     let mut offspring = children_among(alloc, rows)?;
     offspring.sort_by_key(|child| child.parent)?;
     Ok(offspring)
+}
+
+/// All children after the changes of a scan: those that go are left out, and those that come are put in.
+pub(crate) fn offspring_after(
+    alloc: Global,
+    offspring: &[Child],
+    scan: &Resolution,
+) -> Result<Vec<Child>, Mem>
+    ensures { IfOk result (λ now. IsMended (contains nat_cmp scan.now.gone) (offspring.now ++ scan.now.come.items) now.items) }
+{
+    let mut mended = Vec::new(alloc);
+    mended.reserve(offspring.len())?;
+    mended.extend_from_slice(offspring)?;
+    mended.extend_from_slice(scan.come.as_slice())?;
+    mended.retain(|child| !scan.gone.contains(&child.id));
+    mended.sort_by_key(|child| child.parent)?;
+    Ok(mended)
 }
 
 /// The objects of rows that have a parent, in the order of the rows.

@@ -8,9 +8,10 @@ ghost use Rattle.cds_store.specs.Applied.{Applied};
 use crate::catalog::Catalog;
 use crate::containers::containers_within;
 use crate::halving::row_by_id;
-use crate::kept::{events_within, keep, retain_after};
-use crate::offspring::{Child, children_in, ids_of, offspring_of, page_of};
+use crate::kept::{events_within, retain_after};
+use crate::offspring::{Child, children_in, ids_of, offspring_after, offspring_of, page_of};
 use crate::planning::plan;
+use crate::resolving::resolve;
 use crate::subtrees::mark_all;
 use crate::{ApplyError, Span};
 use cds_base::Mem;
@@ -23,7 +24,8 @@ use std::marker::Model;
 /// The catalog of a server after all its scans, with the changes that are not forgotten. Contracts see what stands (the
 /// number of the newest change, how many ids were drawn, and the rows with their places), the number up to which changes
 /// are forgotten, and the events of those above it. It stands for a history of scans where all this is that history's.
-/// Rows and children are found by halving, and the changes of a scan are made by ids.
+/// Rows and children are found by halving. All changes of a scan are resolved to ids, and all memory is taken, before any is
+/// made.
 #[derive(Drop, Debug)]
 pub struct Store {
     catalog: Catalog,
@@ -71,14 +73,12 @@ impl Store {
         if changes.is_empty() {
             return Ok(Span { from, to: from });
         }
-        let plan = mark_all(alloc, changes)?;
-        let mut next = self.catalog.copy(alloc)?;
-        let told = next.make_all_by_ids(alloc, plan)?;
-        let offspring = offspring_of(alloc, next.rows())?;
-        keep(&mut self.kept, told.as_slice())?;
-        let to = next.number();
-        self.catalog = next;
+        let marked = mark_all(alloc, changes)?;
+        let scan = resolve(alloc, &self.catalog, marked)?;
+        let offspring = offspring_after(alloc, self.offspring.as_slice(), &scan)?;
+        self.catalog.commit(scan, &mut self.kept)?;
         self.offspring = offspring;
+        let to = self.catalog.number();
         Ok(Span { from, to })
     }
 

@@ -176,6 +176,27 @@ fn scans(rt: HostRuntime) -> Result<(), Fail> {
             answers: "0-2 2-3 3-5 ",
             rows: "0<0@0[1 1 0] 1<0@1[5 2 1] 3<1@4 4<1@5 ",
         },
+        // Flat: tracks go and are modified, all go, and one comes back with a new id.
+        Case {
+            first: 0,
+            scans: "a=1 b=1 c=1 d=1 | b=2 d=1 | | a=1",
+            answers: "0-4 4-7 7-9 9-10 ",
+            rows: "0<0@0[10 1 4] 5<0@10 ",
+        },
+        // 16 deep: the track is modified, and then it goes with the seven folders above it.
+        Case {
+            first: 0,
+            scans: "a/ a/a/ a/a/a/ a/a/a/a/ a/a/a/a/a/ a/a/a/a/a/a/ a/a/a/a/a/a/a/ a/a/a/a/a/a/a/a/ a/a/a/a/a/a/a/a/a/ \
+                a/a/a/a/a/a/a/a/a/a/ a/a/a/a/a/a/a/a/a/a/a/ a/a/a/a/a/a/a/a/a/a/a/a/ a/a/a/a/a/a/a/a/a/a/a/a/a/ \
+                a/a/a/a/a/a/a/a/a/a/a/a/a/a/ a/a/a/a/a/a/a/a/a/a/a/a/a/a/a/ a/a/a/a/a/a/a/a/a/a/a/a/a/a/a/a=1 | a/ \
+                a/a/ a/a/a/ a/a/a/a/ a/a/a/a/a/ a/a/a/a/a/a/ a/a/a/a/a/a/a/ a/a/a/a/a/a/a/a/ a/a/a/a/a/a/a/a/a/ \
+                a/a/a/a/a/a/a/a/a/a/ a/a/a/a/a/a/a/a/a/a/a/ a/a/a/a/a/a/a/a/a/a/a/a/ a/a/a/a/a/a/a/a/a/a/a/a/a/ \
+                a/a/a/a/a/a/a/a/a/a/a/a/a/a/ a/a/a/a/a/a/a/a/a/a/a/a/a/a/a/ a/a/a/a/a/a/a/a/a/a/a/a/a/a/a/a=2 | a/ \
+                a/a/ a/a/a/ a/a/a/a/ a/a/a/a/a/ a/a/a/a/a/a/ a/a/a/a/a/a/a/ a/a/a/a/a/a/a/a/",
+            answers: "0-16 16-17 17-25 ",
+            rows: "0<0@0[1 1 0] 1<0@1[2 1 0] 2<1@2[3 1 0] 3<2@3[4 1 0] 4<3@4[5 1 0] 5<4@5[6 1 0] 6<5@6[7 1 0] 7<6@7[8 1 \
+                0] 8<7@8[25 0 1] ",
+        },
     ];
     for case in &cases {
         assert!(rt; is_so(alloc, case)?, "{}", case.scans);

@@ -6,12 +6,12 @@ use Rattle.cds_store.specs.Found.{HasNone, IsPlaceOf}
 use Rattle.cds_store.proofs.ByIds.{touched_here, untouched}
 use Rattle.cds_store.proofs.by_ids.modify_by_id.Goals as goal
 
-pub returns-in-Some : goal.returns-in-Some
-returns-in-Some c =
+pub returns-in-Some-clause-rows : goal.returns-in-Some-clause-rows
+returns-in-Some-clause-rows c =
     ap (λ (p : PlacedRow). set c.args.rows.now.items c.in-Some.at p) c.modify_here.ensures
     ∙ touched_here c.args.id c.in-Some.at (modified c.args.number c.args.content) c.args.rows.now.items c.index_mut.result.now
     (subst (λ (l : List PlacedRow). IsPlaceOf c.args.id l c.in-Some.at) c.as_slice.ensures.value c.in-Some.ensures) c.index_mut.ensures.value
 
-pub returns-in_default : goal.returns-in_default
-returns-in_default c =
+pub returns-in_default-clause-rows : goal.returns-in_default-clause-rows
+returns-in_default-clause-rows c =
     untouched c.args.id (modified c.args.number c.args.content) c.args.rows.now.items (subst (HasNone c.args.id) c.as_slice.ensures.value c.in_default.ensures)

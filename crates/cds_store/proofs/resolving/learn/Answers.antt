@@ -4,7 +4,7 @@ use Rattle.cds_object.specs.Path.{path_cmp}
 use Rattle.cds_catalog.specs.declared.change.Change.{Change}
 use Rattle.cds_store.specs.Found.{Learns}
 use Rattle.cds_store.proofs.ByIds.{put_at, taken_at}
-use Rattle.cds_store.proofs.by_ids.learn.Goals as goal
+use Rattle.cds_store.proofs.resolving.learn.Goals as goal
 
 pub returns-in-Deletion : goal.returns-in-Deletion
 returns-in-Deletion c =

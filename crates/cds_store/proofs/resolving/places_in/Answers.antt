@@ -1,7 +1,7 @@
 use Rattle.std.specs.BTreeMap.{get}
 use Rattle.cds_object.specs.Path.{path_cmp}
 use Rattle.cds_store.proofs.ByIds.{knows_more}
-use Rattle.cds_store.proofs.by_ids.places_in.Goals as goal
+use Rattle.cds_store.proofs.resolving.places_in.Goals as goal
 
 pub loop-placed-preserved : goal.loop-placed-preserved
 loop-placed-preserved c =

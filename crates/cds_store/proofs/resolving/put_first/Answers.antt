@@ -3,7 +3,7 @@ use Rattle.std.specs.BTreeMap.{get}
 use Rattle.cds_object.specs.Path.{path_cmp}
 use Rattle.cds_catalog.specs.Catalog.{PlacedRow}
 use Rattle.cds_store.proofs.ByIds.{stays_first, puts_first}
-use Rattle.cds_store.proofs.by_ids.put_first.Goals as goal
+use Rattle.cds_store.proofs.resolving.put_first.Goals as goal
 
 pub returns-then-contains_key : goal.returns-then-contains_key
 returns-then-contains_key c =
