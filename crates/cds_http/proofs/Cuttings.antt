@@ -1,5 +1,5 @@
 -- However bytes are cut, the answer is that of all of them.
-use Rattle.std.proofs.Common.{◌≡◌, ℕ, ◌⊎◌, true, false, List, [], ◌∷◌, ◌++◌, take, drop, Option, Some, Result, Ok, Err, refl, sym, ap, ◌∙◌, subst, inl, inr, append_assoc}
+use Rattle.std.proofs.Common.{◌≡◌, ℕ, ◌-◌, ◌≤◌, ◌⊎◌, true, false, List, [], ◌∷◌, ◌++◌, length, take, drop, Option, Some, Result, Ok, Err, refl, sym, ap, ◌∙◌, subst, inl, inr, arith, append_assoc}
 use Rattle.std.proofs.lemmas.List.{append-nil, take-append-drop}
 use Rattle.cds_http.specs.declared.error.HttpError.{HttpError}
 use Rattle.cds_http.specs.declared.error.HttpError.TheVariants.{BadHead, HeadTooLong, BadLength, BadChunk, TooLong, Truncated, Failed, Mem}
@@ -10,9 +10,10 @@ use Rattle.cds_http.specs.declared.message.Fed.TheVariants.{More, Whole as Whole
 use Rattle.cds_http.specs.Known.{Whole, Needs, Refused}
 use Rattle.cds_http.specs.Decided.{Decides}
 use Rattle.cds_http.specs.Steps.{Explains}
-use Rattle.cds_http.specs.Reading.{IsWhole, Takes, at_end}
+use Rattle.cds_http.specs.Reading.{IsWhole, Answers, at_end}
 use Rattle.cds_http.specs.Laws.{Gives, GoesOn, together, IsAnswer, EveryCutting}
 use Rattle.cds_http.proofs.Once.{one_outcome}
+use Rattle.cds_http.proofs.Sayings.{end_needs}
 
 -- a refusal is for want of memory, or by its cause
 caused : (e : HttpError) (C : Type 0) → Explains e C → (e ≡ Mem) ⊎ C
@@ -25,75 +26,70 @@ caused BadLength C h = inr h
 caused BadChunk C h = inr h
 caused TooLong C h = inr h
 
--- behind a whole message nothing changes
-whole_stays : (side : Side) (front : List ℕ) (m : Message) (pieces : List (List ℕ)) (result : Result Message HttpError) → IsWhole side front m
-    → Gives side (Some front) pieces result → (result ≡ Err Mem) ⊎ (result ≡ Ok m)
-whole_stays side front m [] result whole gives =
+-- behind a whole message nothing changes, and all is handed back
+whole_stays : (side : Side) (front : List ℕ) (m : Message) (pieces : List (List ℕ)) (behind : List ℕ) (result : Result Message HttpError) → IsWhole side front m
+    → Gives side (Some front) pieces behind result → (result ≡ Ok m) × (behind ≡ together pieces)
+whole_stays side front m [] behind result whole gives =
     let here = subst (λ (t : List ℕ). Decides true side t (Whole m [])) (append-nil front) (whole true []) in
-    inr (gives.2 ∙ ap at_end (one_outcome true side front gives.0 (Whole m []) gives.1 here))
-whole_stays side front m (piece ∷ more) result whole gives =
-    by (λ front m result. whole_stays side front m more result) gives.0 gives.1 gives.2 gives.3
+    (gives.0.2 ∙ ap at_end (one_outcome true side front gives.0.0 (Whole m []) gives.0.1 here), gives.1)
+whole_stays side front m (piece ∷ more) behind result whole gives =
+    let stays = gives.2.1 m whole in
+    let onwards = subst (λ (step : Result Fed HttpError). GoesOn piece step behind result (λ later. Gives side gives.1 more later result)) stays.0 gives.3 in
+    let there = whole_stays side front m more onwards.0 result whole (subst (λ (n : Option (List ℕ)). Gives side n more onwards.0 result) stays.1 onwards.2) in (
+      there.0,
+      onwards.1 ∙ ap (λ (k : ℕ). drop k piece ++ onwards.0) (none_left (length piece)) ∙ ap (λ (t : List ℕ). piece ++ t) there.1,
+    )
   where
-    next : ((front : List ℕ) (m : Message) (result : Result Message HttpError) → IsWhole side front m → Gives side (Some front) more result → (result ≡ Err Mem) ⊎ (result ≡ Ok m))
-        → (used : ℕ) (other : Message) → IsWhole side (front ++ take used piece) other → Gives side (Some (front ++ take used piece)) more result
-        → (result ≡ Err Mem) ⊎ (result ≡ Ok m)
-    next later used other there onwards =
-        let at : Decides true side (front ++ take used piece) (Whole other []) =
-        subst (λ (t : List ℕ). Decides true side t (Whole other [])) (append-nil (front ++ take used piece)) (there true []) in
-        let both = one_outcome true side (front ++ take used piece) (Whole other []) (Whole m (take used piece)) at (whole true (take used piece)) in
-        let same : other ≡ m = cc in
-        elim (later (front ++ take used piece) other result there onwards) [
-          | inl memory ↦ inl memory
-          | inr is ↦ inr (is ∙ ap (λ (m : Message). Ok m) same)
-        ]
+    none_left : (n : ℕ) → n - n ≡ 0
+    none_left n = omega arith
 
-    by : ((front : List ℕ) (m : Message) (result : Result Message HttpError) → IsWhole side front m → Gives side (Some front) more result → (result ≡ Err Mem) ⊎ (result ≡ Ok m))
-        → (step : Result Fed HttpError) (now : Option (List ℕ)) → Takes side (Some front) piece step now → GoesOn step result (Gives side now more result)
-        → (result ≡ Err Mem) ⊎ (result ≡ Ok m)
-    by later (Ok More) now takes onwards =
-        let both = one_outcome false side (front ++ piece) Needs (Whole m piece) takes.0 (whole false piece) in cc
-    by later (Ok (WholeFed rest)) now takes onwards =
-        next later takes.0 takes.4.0 takes.4.1 (subst (λ (n : Option (List ℕ)). Gives side n more result) takes.3 onwards)
-    by later (Err e) now takes onwards = elim (caused e _ takes.1) [
-      | inl memory ↦ inl (onwards ∙ ap (λ (e : HttpError). Err e) memory)
-      | inr cause ↦
-          let refused = subst (λ (t : List ℕ). Decides true side t (Refused e)) (append-nil (front ++ piece)) (cause true []) in
-          let both = one_outcome true side (front ++ piece) (Refused e) (Whole m piece) refused (whole true piece) in cc
-    ]
-
-cuttings : (side : Side) (bytes : List ℕ) (pieces : List (List ℕ)) (result : Result Message HttpError) → Gives side (Some bytes) pieces result
-    → IsAnswer side (bytes ++ together pieces) result
-cuttings side bytes [] result gives =
-    inr (gives.0, subst (λ (t : List ℕ). Decides true side t gives.0) (sym (append-nil bytes)) gives.1, gives.2)
-cuttings side bytes (piece ∷ more) result gives = by (λ bytes. cuttings side bytes more result) gives.0 gives.1 gives.2 gives.3
+cuttings : (side : Side) (bytes : List ℕ) (pieces : List (List ℕ)) (behind : List ℕ) (result : Result Message HttpError) → Decides false side bytes Needs
+    → Gives side (Some bytes) pieces behind result → IsAnswer side (bytes ++ together pieces) behind result
+cuttings side bytes [] behind result waits gives =
+    let known = gives.0.0 in
+    inr (
+      known,
+      subst (λ (t : List ℕ). Decides true side t known) (sym (append-nil bytes)) gives.0.1,
+      gives.0.2,
+      gives.1 ∙ sym (end_needs side bytes known waits gives.0.1),
+    )
+cuttings side bytes (piece ∷ more) behind result waits gives = by (λ bytes behind. cuttings side bytes more behind result) gives.0 gives.1 gives.2.0 gives.3
   where
-    by : ((bytes : List ℕ) → Gives side (Some bytes) more result → IsAnswer side (bytes ++ together more) result) → (step : Result Fed HttpError) (now : Option (List ℕ)) → Takes side (Some bytes) piece step now → GoesOn step result (Gives side now more result)
-        → IsAnswer side (bytes ++ (piece ++ together more)) result
+    used_all : (n used : ℕ) → used ≤ length piece → n ≡ length piece - used → length piece - n ≡ used
+    used_all n used within is = omega (arith, within, is)
+
+    by : ((bytes behind : List ℕ) → Decides false side bytes Needs → Gives side (Some bytes) more behind result → IsAnswer side (bytes ++ together more) behind result)
+        → (step : Result Fed HttpError) (now : Option (List ℕ)) → Answers side bytes piece step now → GoesOn piece step behind result (λ later. Gives side now more later result)
+        → IsAnswer side (bytes ++ (piece ++ together more)) behind result
     by later (Ok More) now takes onwards =
-        subst (λ (t : List ℕ). IsAnswer side t result) (append_assoc bytes piece (together more))
-        (later (bytes ++ piece) (subst (λ (n : Option (List ℕ)). Gives side n more result) takes.1 onwards))
-    by later (Ok (WholeFed rest)) now takes onwards =
+        subst (λ (t : List ℕ). IsAnswer side t behind result) (append_assoc bytes piece (together more))
+        (later (bytes ++ piece) behind takes.0 (subst (λ (n : Option (List ℕ)). Gives side n more behind result) takes.1 onwards))
+    by later (Ok (WholeFed n)) now takes onwards =
         let used = takes.0 in
         let front = bytes ++ take used piece in
         let m = takes.4.0 in
-        let behind = drop used piece ++ together more in
-        let all : front ++ behind ≡ bytes ++ (piece ++ together more) =
-        append_assoc bytes (take used piece) behind
+        let rest = drop used piece ++ together more in
+        let all : front ++ rest ≡ bytes ++ (piece ++ together more) =
+        append_assoc bytes (take used piece) rest
         ∙ ap (λ (t : List ℕ). bytes ++ t)
         (sym (append_assoc (take used piece) (drop used piece) (together more)) ∙ ap (λ (t : List ℕ). t ++ together more) (take-append-drop used piece)) in
-        elim (whole_stays side front m more result takes.4.1 (subst (λ (n : Option (List ℕ)). Gives side n more result) takes.3 onwards)) [
-          | inl memory ↦ inl memory
-          | inr is ↦ inr (Whole m behind, subst (λ (t : List ℕ). Decides true side t (Whole m behind)) all (takes.4.1 true behind), is)
-        ]
+        let there = whole_stays side front m more onwards.0 result takes.4.1 (subst (λ (n : Option (List ℕ)). Gives side n more onwards.0 result) takes.3 onwards.2) in
+        inr (
+          Whole m rest,
+          subst (λ (t : List ℕ). Decides true side t (Whole m rest)) all (takes.4.1 true rest),
+          there.0,
+          onwards.1 ∙ ap (λ (k : ℕ). drop k piece ++ onwards.0) (used_all n used takes.1 takes.2) ∙ ap (λ (t : List ℕ). drop used piece ++ t) there.1,
+        )
     by later (Err e) now takes onwards = elim (caused e _ takes.1) [
-      | inl memory ↦ inl (onwards ∙ ap (λ (e : HttpError). Err e) memory)
+      | inl memory ↦ inl (onwards.0 ∙ ap (λ (e : HttpError). Err e) memory)
       | inr cause ↦
           inr (
             Refused e,
             subst (λ (t : List ℕ). Decides true side t (Refused e)) (append_assoc bytes piece (together more)) (cause true (together more)),
-            onwards,
+            onwards.0,
+            onwards.1,
           )
     ]
 
 pub every_cutting : EveryCutting
-every_cutting side pieces result gives = cuttings side [] pieces result gives
+every_cutting side pieces behind result gives = cuttings side [] pieces behind result (Needs, refl, refl) gives

@@ -14,5 +14,7 @@ pub mod Once
 pub mod Cuttings
 pub mod SpelledForms
 pub mod Backwards
+pub mod HeadEnds
+pub mod Sayings
 pub mod Numerals
 pub mod Returning

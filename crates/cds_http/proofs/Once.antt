@@ -17,7 +17,7 @@ use Rattle.cds_http.specs.Chunks.{LineOf, LineKnown, line_cut, TrailerOf, Traile
 use Rattle.cds_http.specs.Decided.{with_head, FramedKnown, AfterHead}
 use Rattle.cds_http.specs.Laws.{OneOutcome}
 
-then_once : {A B : Type 0} (first : Known A) (one two : A → List ℕ → Known B → Type 0)
+pub then_once : {A B : Type 0} (first : Known A) (one two : A → List ℕ → Known B → Type 0)
     → ((a : A) (rest : List ℕ) (x y : Known B) → one a rest x → two a rest y → x ≡ y)
     → (x y : Known B) → Then first one x → Then first two y → x ≡ y
 then_once (Whole a rest) one two same x y p q = same a rest x y p q
@@ -85,7 +85,7 @@ chunks_once (suc a) (suc b) body bytes x y p q =
     then_once {A = ℕ} {B = List ℕ} p.0 (AfterLine (ChunksFrom a) body) (AfterLine (ChunksFrom b) body)
     (λ size rest x y. after_once (ChunksFrom a) (ChunksFrom b) (chunks_once a b) body size rest x y) x y p.2 there
 
-body_once : (ended : Bool) (framing : Framing) (bytes : List ℕ) (x y : Known (List ℕ)) → BodyKnown ended framing bytes x → BodyKnown ended framing bytes y → x ≡ y
+pub body_once : (ended : Bool) (framing : Framing) (bytes : List ℕ) (x y : Known (List ℕ)) → BodyKnown ended framing bytes x → BodyKnown ended framing bytes y → x ≡ y
 body_once ended (Counted n) bytes x y p q = p ∙ sym q
 body_once ended Chunked bytes x y p q = chunks_once p.0 q.0 [] bytes x y p.1 q.1
 body_once ended ToEnd bytes x y p q = p ∙ sym q

@@ -17,7 +17,7 @@ further_open : (s : Scan) (q : Place) → further 1 s ≡ Open q → s ≡ Open 
 further_open (Ended at) q e = cc
 further_open (Open p) q e = e
 
-further_ended : (s : Scan) (n : ℕ) → further 1 s ≡ Ended n → (m : ℕ) × (s ≡ Ended m) × (1 + m ≡ n)
+pub further_ended : (s : Scan) (n : ℕ) → further 1 s ≡ Ended n → (m : ℕ) × (s ≡ Ended m) × (1 + m ≡ n)
 further_ended (Ended at) n e = (at, refl, cc)
 further_ended (Open p) n e = cc
 

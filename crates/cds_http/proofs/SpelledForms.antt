@@ -32,7 +32,7 @@ pub record CutsOff (start : Place) (limit : ℕ) (bytes text rest : List ℕ) : 
   pub ends : EndsThere start text
   pub short : length text ≤ limit
 
-cut_off : (start : Place) (e : HttpError) (limit : ℕ) (bytes text rest : List ℕ) → cut_at start e limit bytes ≡ Whole text rest → CutsOff start limit bytes text rest
+pub cut_off : (start : Place) (e : HttpError) (limit : ℕ) (bytes text rest : List ℕ) → cut_at start e limit bytes ≡ Whole text rest → CutsOff start limit bytes text rest
 cut_off start e limit bytes text rest is = by (scanned start bytes) refl is
   where
     at : (n : ℕ) → scanned start bytes ≡ Ended n → (b : Bool) → nat_le n limit ≡ b
@@ -172,7 +172,7 @@ behind_is before (Whole bytes left) whole rest is =
 behind_is before Needs whole rest is = cc
 behind_is before (Refused e) whole rest is = cc
 
-one_more_is : (body : List ℕ) (size : ℕ) (bytes whole rest : List ℕ) → one_more body size bytes ≡ Whole whole rest
+pub one_more_is : (body : List ℕ) (size : ℕ) (bytes whole rest : List ℕ) → one_more body size bytes ≡ Whole whole rest
     → (chunk : List ℕ) × (bytes ≡ chunk ++ 13 ∷ 10 ∷ rest) × (length chunk ≡ size) × (whole ≡ body ++ chunk) × (length whole ≤ body_limit)
 one_more_is body size bytes whole rest is = by (nat_le (length body + size) body_limit) refl is
   where

@@ -1,5 +1,5 @@
 -- What a reader answers to a piece and to the end, and what it stands for then.
-use Rattle.std.proofs.Common.{◌≡◌, ◌≢◌, ℕ, ◌+◌, ◌-◌, ◌≤◌, ◌⊎◌, Bool, true, false, List, [], ◌++◌, length, take, drop, Option, Some, None, Result, Ok, Err, if◌then◌else◌, refl, sym, ap, ◌∙◌, subst, inl, inr, arith, append_assoc}
+use Rattle.std.proofs.Common.{◌≡◌, ◌≢◌, ℕ, ◌+◌, ◌-◌, ◌≤◌, ◌⊎◌, Bool, true, false, List, [], ◌++◌, length, take, drop, Option, Some, None, Result, Ok, Err, IsOkAnd, if◌then◌else◌, refl, sym, ap, ◌∙◌, subst, inl, inr, arith, append_assoc}
 use Rattle.std.proofs.Common.{length-drop}
 use Rattle.std.proofs.lemmas.List.{append-nil, take-append-drop, take-take, drop-take}
 use Rattle.cds_http.specs.declared.error.HttpError.{HttpError}
@@ -27,9 +27,10 @@ use Rattle.cds_http.specs.Framing.{framing_of, body_limit}
 use Rattle.cds_http.specs.Chunks.{open_body, BodyKnown}
 use Rattle.cds_http.specs.Decided.{Decides, with_head, with_body, FramedKnown}
 use Rattle.cds_http.specs.Steps.{StillKnown, PartKnown, Fits, Goes, Explains}
-use Rattle.cds_http.specs.Reading.{Continues, IsWhole, StageOf, Stands, Answers, Takes, Finishes, StageTakes}
+use Rattle.cds_http.specs.Reading.{Continues, IsWhole, StageOf, Stands, Answers, StaysWhole, Takes, Finishes, StageTakes}
 use Rattle.cds_http.proofs.Cuts.{cut_whole, cut_waits, le_true}
 use Rattle.cds_http.proofs.Chunking.{explains_more}
+use Rattle.cds_http.proofs.Once.{one_outcome}
 
 pub head_whole : (side : Side) (text more : List ℕ) (head : Head) → IsHead side text head → EndsThere Before text → length text ≤ head_limit
     → HeadKnown side (text ++ more) (Whole head more)
@@ -226,33 +227,83 @@ truncated_head side bytes front stands =
 pub finishes_whole : (side : Side) (bytes : List ℕ) (m : Message) → IsWhole side bytes m → Finishes side (Some bytes) (Ok m)
 finishes_whole side bytes m whole = (Whole m [], subst (λ (t : List ℕ). Decides true side t (Whole m [])) (append-nil bytes) (whole true []), refl)
 
+-- of bytes that wait no message is whole
+waits_not_whole : (side : Side) (bytes : List ℕ) (m : Message) → Decides false side bytes Needs → IsWhole side bytes m → ⊥
+waits_not_whole side bytes m waits whole =
+    let here = subst (λ (t : List ℕ). Decides false side t (Whole m [])) (append-nil bytes) (whole false []) in
+    let both = one_outcome false side bytes Needs (Whole m []) waits here in cc
+
+-- so a stage that stands for a whole message is at its end
+at_its_end : (side : Side) (stage : Stage) (bytes : List ℕ) (m : Message) → StageOf side stage bytes → IsWhole side bytes m → (other : Message) × (stage ≡ AtEnd other)
+at_its_end side (InHead front) bytes m stands whole =
+    absurd (waits_not_whole side bytes m (subst (λ (t : List ℕ). Decides false side t Needs) stands.0 (head_waits side false front stands.1)) whole)
+at_its_end side (InBody head body) bytes m stands whole =
+    absurd (waits_not_whole side bytes m (subst (λ (t : List ℕ). Decides false side t Needs) (append-nil bytes) (stands.2 false [] Needs stands.1)) whole)
+at_its_end side (AtEnd other) bytes m stands whole = (other, refl)
+at_its_end side IsRefused bytes m stands whole = absurd stands
+
+-- behind as many bytes as the piece has, nothing of it is used
+none_used : (bytes piece : List ℕ) (n used : ℕ) (now : Option (List ℕ)) → used ≤ length piece → n ≡ length piece - used → n ≡ length piece
+    → now ≡ Some (bytes ++ take used piece) → now ≡ Some bytes
+none_used bytes piece n used now within is all now_is =
+    let none : used ≡ 0 = omega (arith, within, is, all) in
+    now_is ∙ ap (λ (k : ℕ). Some (bytes ++ take k piece)) none ∙ ap (λ (t : List ℕ). Some t) (append-nil bytes)
+
+stays_at_end : (side : Side) (bytes piece : List ℕ) (stage : Stage) (result : Result Taken HttpError) (t : Taken) (now : Option (List ℕ)) → StageOf side stage bytes
+    → result ≡ Ok t → ((m : Message) → stage ≡ AtEnd m → IsOkAnd result (λ t. t.fed ≡ WholeFed (length piece)))
+    → Answers side bytes piece (Ok t.fed) now → StaysWhole side bytes piece (Ok t.fed) now
+stays_at_end side bytes piece stage result t now stands is ends answers m whole =
+    let other = at_its_end side stage bytes m stands whole in
+    let fed : t.fed ≡ WholeFed (length piece) =
+    subst (λ (x : Result Taken HttpError). IsOkAnd x (λ t. t.fed ≡ WholeFed (length piece))) is (ends other.0 other.1) in
+    (ap (λ (f : Fed). Ok f) fed, by t.fed answers fed)
+  where
+    by : (f : Fed) → Answers side bytes piece (Ok f) now → f ≡ WholeFed (length piece) → now ≡ Some bytes
+    by More answers is = cc
+    by (WholeFed n) answers is =
+        let same : n ≡ length piece = cc in
+        none_used bytes piece n answers.0 now answers.1 answers.2 same answers.3
+
 -- a reader and the stage that it is at
 pub reader_takes : (side : Side) (came : Option (List ℕ)) (r now : MessageReader) (piece : List ℕ) (result : Result Taken HttpError) (t : Taken)
     → now.side ≡ r.side → now.stage ≡ t.stage → result ≡ Ok t → Stands side r came
     → ((bytes : List ℕ) → StageOf r.side r.stage bytes → StageTakes r.side bytes piece result) → (r.stage ≡ IsRefused → result ≡ Err Failed)
+    → ((m : Message) → r.stage ≡ AtEnd m → IsOkAnd result (λ t. t.fed ≡ WholeFed (length piece)))
     → (after : Option (List ℕ)) × Stands side now after × Takes side came piece (Ok t.fed) after
-reader_takes side None r now piece result t same stage is stands takes refused =
+reader_takes side None r now piece result t same stage is stands takes refused ends =
     let no : ◌≡◌ {A = Result Taken HttpError} (Ok t) (Err Failed) = sym is ∙ refused stands in cc
-reader_takes side (Some bytes) r now piece result t same stage is stands takes refused =
-    let taken = subst (λ (x : Result Taken HttpError). StageTakes r.side bytes piece x) is (takes bytes (subst (λ (s : Side). StageOf s r.stage bytes) (sym stands.0) stands.1)) in (
+reader_takes side (Some bytes) r now piece result t same stage is stands takes refused ends =
+    let taken = subst (λ (x : Result Taken HttpError). StageTakes r.side bytes piece x) is (takes bytes (subst (λ (s : Side). StageOf s r.stage bytes) (sym stands.0) stands.1)) in
+    let answers = subst (λ (s : Side). Answers s bytes piece (Ok t.fed) (Some taken.0)) stands.0 taken.2 in (
       Some taken.0,
       (same ∙ stands.0, subst (λ (s : Side). StageOf s now.stage taken.0) stands.0 (subst (λ (g : Stage). StageOf r.side g taken.0) (sym stage) taken.1)),
-      subst (λ (s : Side). Answers s bytes piece (Ok t.fed) (Some taken.0)) stands.0 taken.2,
+      (answers, stays_at_end side bytes piece r.stage result t (Some taken.0) stands.1 is ends answers),
     )
+
+refused_not_whole : (side : Side) (bytes piece : List ℕ) (stage : Stage) (result : Result Taken HttpError) (e : HttpError) (answer : Result Fed HttpError) (now : Option (List ℕ))
+    → StageOf side stage bytes → result ≡ Err e → ((m : Message) → stage ≡ AtEnd m → IsOkAnd result (λ t. t.fed ≡ WholeFed (length piece)))
+    → StaysWhole side bytes piece answer now
+refused_not_whole side bytes piece stage result e answer now stands is ends m whole =
+    let other = at_its_end side stage bytes m stands whole in
+    absurd (subst (λ (x : Result Taken HttpError). IsOkAnd x (λ t. t.fed ≡ WholeFed (length piece))) is (ends other.0 other.1))
 
 pub reader_refuses : (side : Side) (came : Option (List ℕ)) (r now : MessageReader) (piece : List ℕ) (result : Result Taken HttpError) (e : HttpError)
     → now.stage ≡ IsRefused → result ≡ Err e → Stands side r came
     → ((bytes : List ℕ) → StageOf r.side r.stage bytes → StageTakes r.side bytes piece result) → (r.stage ≡ IsRefused → result ≡ Err Failed)
+    → ((m : Message) → r.stage ≡ AtEnd m → IsOkAnd result (λ t. t.fed ≡ WholeFed (length piece)))
     → (after : Option (List ℕ)) × Stands side now after × Takes side came piece (Err e) after
-reader_refuses side None r now piece result e stage is stands takes refused =
+reader_refuses side None r now piece result e stage is stands takes refused ends =
     let failed : ◌≡◌ {A = Result Taken HttpError} (Err e) (Err Failed) = sym is ∙ refused stands in
     let same : e ≡ Failed = cc in
     (None, stage, (ap (λ (e : HttpError). Err e) same, refl))
-reader_refuses side (Some bytes) r now piece result e stage is stands takes refused =
+reader_refuses side (Some bytes) r now piece result e stage is stands takes refused ends =
     let taken = subst (λ (x : Result Taken HttpError). StageTakes r.side bytes piece x) is (takes bytes (subst (λ (s : Side). StageOf s r.stage bytes) (sym stands.0) stands.1)) in (
       None,
       stage,
-      (refl, subst (λ (s : Side). Explains e ((ended : Bool) (more : List ℕ) → Decides ended s ((bytes ++ piece) ++ more) (Refused e))) stands.0 taken),
+      (
+        (refl, subst (λ (s : Side). Explains e ((ended : Bool) (more : List ℕ) → Decides ended s ((bytes ++ piece) ++ more) (Refused e))) stands.0 taken),
+        refused_not_whole side bytes piece r.stage result e (Err e) None stands.1 is ends,
+      ),
     )
 
 pub reader_ends : (side : Side) (came : Option (List ℕ)) (r : MessageReader) (result : Result Message HttpError) → Stands side r came

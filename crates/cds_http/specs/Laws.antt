@@ -1,11 +1,13 @@
 -- Laws of what is said of messages.
-use Rattle.std.specs.Prelude.{◌≡◌, ℕ, ◌⊎◌, Bool, true, List, [], ◌∷◌, ◌++◌, Option, Some, Result, Ok, Err}
+use Rattle.std.specs.Prelude.{◌≡◌, ◌↔◌, ℕ, ◌-◌, ◌≤◌, ◌⊎◌, All, Bool, true, false, List, [], ◌∷◌, ◌++◌, length, drop, Option, Some, Result, Ok, Err}
 use Rattle.cds_http.specs.declared.error.HttpError.{HttpError}
-use Rattle.cds_http.specs.declared.error.HttpError.TheVariants.{Mem}
+use Rattle.cds_http.specs.declared.error.HttpError.TheVariants.{BadHead, HeadTooLong, BadLength, BadChunk, TooLong, Mem}
 use Rattle.cds_http.specs.declared.message.Side.{Side}
 use Rattle.cds_http.specs.declared.message.Message.{Message}
 use Rattle.cds_http.specs.declared.message.Fed.{Fed}
-use Rattle.cds_http.specs.Known.{Known, Whole}
+use Rattle.cds_http.specs.declared.message.Fed.TheVariants.{More, Whole as WholeFed}
+use Rattle.cds_http.specs.Known.{Known, Whole, Needs, Refused}
+use Rattle.cds_http.specs.Head.{IsNoHead, head_cut, head_limit}
 use Rattle.cds_http.specs.Decided.{Decides}
 use Rattle.cds_http.specs.Spelled.{Spelled, IsMessage}
 use Rattle.cds_http.specs.Reading.{Takes, Finishes, at_end}
@@ -34,27 +36,89 @@ MessagesEnd =
     (side : Side) (bytes : List ℕ) (m : Message) (n : ℕ) (result : Result Message HttpError) → IsMessage side bytes m n
     → Finishes side (Some bytes) result → result ≡ Ok m
 
--- Pieces come and then the end. Where a piece is refused, that is the answer; the pieces behind a whole message are not
--- looked at.
-abbrev pub GoesOn : Result Fed HttpError → Result Message HttpError → Type 0 → Type 0
-GoesOn (Ok fed) result onwards = onwards
-GoesOn (Err e) result onwards = result ≡ Err e
+-- Pieces come and then the end. What is behind the message is the end of the piece that it ends in, by the number that is
+-- answered, and the pieces behind that. Where a piece is refused, that is the answer.
+abbrev pub GoesOn : List ℕ → Result Fed HttpError → List ℕ → Result Message HttpError → (List ℕ → Type 0) → Type 0
+GoesOn piece (Ok More) behind result onwards = onwards behind
+GoesOn piece (Ok (WholeFed n)) behind result onwards = (later : List ℕ) × (behind ≡ drop (length piece - n) piece ++ later) × onwards later
+GoesOn piece (Err e) behind result onwards = (result ≡ Err e) × (behind ≡ [])
 
-abbrev pub Gives : Side → Option (List ℕ) → List (List ℕ) → Result Message HttpError → Type 0
-Gives side came [] result = Finishes side came result
-Gives side came (piece ∷ more) result =
-    (step : Result Fed HttpError) × (now : Option (List ℕ)) × Takes side came piece step now × GoesOn step result (Gives side now more result)
+abbrev pub Gives : Side → Option (List ℕ) → List (List ℕ) → List ℕ → Result Message HttpError → Type 0
+Gives side came [] behind result = Finishes side came result × (behind ≡ [])
+Gives side came (piece ∷ more) behind result =
+    (step : Result Fed HttpError) × (now : Option (List ℕ)) × Takes side came piece step now
+    × GoesOn piece step behind result (λ later. Gives side now more later result)
 
 abbrev pub together : List (List ℕ) → List ℕ
 together [] = []
 together (piece ∷ more) = piece ++ together more
 
--- The answer by what the bytes say, if memory does not run out.
-abbrev pub IsAnswer : Side → List ℕ → Result Message HttpError → Type 0
-IsAnswer side bytes result = (result ≡ Err Mem) ⊎ ((known : Known Message) × Decides true side bytes known × (result ≡ at_end known))
+-- What bytes say is left behind a message.
+abbrev pub left_of : Known Message → List ℕ
+left_of (Whole m rest) = rest
+left_of Needs = []
+left_of (Refused e) = []
 
--- However bytes are cut, a new reader answers by what all of them say.
+-- The answer, and what is behind the message, by what the bytes say, if memory does not run out.
+abbrev pub IsAnswer : Side → List ℕ → List ℕ → Result Message HttpError → Type 0
+IsAnswer side bytes behind result =
+    (result ≡ Err Mem) ⊎ ((known : Known Message) × Decides true side bytes known × (result ≡ at_end known) × (behind ≡ left_of known))
+
+-- However bytes are cut, a new reader answers and hands back what all of them say.
 abbrev pub EveryCutting : Type 0
 EveryCutting =
-    (side : Side) (pieces : List (List ℕ)) (result : Result Message HttpError) → Gives side (Some []) pieces result
-    → IsAnswer side (together pieces) result
+    (side : Side) (pieces : List (List ℕ)) (behind : List ℕ) (result : Result Message HttpError) → Gives side (Some []) pieces behind result
+    → IsAnswer side (together pieces) behind result
+
+-- There are no bytes of which nothing is said: they are a whole message and a rest, or need more, or are refused.
+abbrev pub BytesSay : Type 0
+BytesSay = (ended : Bool) (side : Side) (bytes : List ℕ) → ¬ ((known : Known Message) → ¬ (Decides ended side bytes known))
+
+-- Why bytes are refused.
+abbrev pub IsCause : HttpError → Type 0
+IsCause e = (e ≡ BadHead) ⊎ (e ≡ HeadTooLong) ⊎ (e ≡ BadLength) ⊎ (e ≡ BadChunk) ⊎ (e ≡ TooLong)
+
+abbrev pub RefusedByCause : Type 0
+RefusedByCause = (ended : Bool) (side : Side) (bytes : List ℕ) (e : HttpError) → Decides ended side bytes (Refused e) → IsCause e
+
+-- What is whole before the connection has ended is the same message with the same rest at its end.
+abbrev pub EndKeeps : Type 0
+EndKeeps = (side : Side) (bytes : List ℕ) (m : Message) (rest : List ℕ) → Decides false side bytes (Whole m rest) → Decides true side bytes (Whole m rest)
+
+-- CR or LF.
+abbrev pub IsBreak : ℕ → Type 0
+IsBreak byte = (byte ≡ 13) ⊎ (byte ≡ 10)
+
+-- An empty line: CR LF, or LF alone.
+abbrev pub IsEmptyLine : List ℕ → Type 0
+IsEmptyLine text = (text ≡ 13 ∷ 10 ∷ []) ⊎ (text ≡ 10 ∷ [])
+
+-- The text ends with an empty line behind a line that is not empty: CR and LF may stand before its first other byte, and
+-- some LF behind that stands before the empty line.
+abbrev pub EndsWithEmptyLine : List ℕ → Type 0
+EndsWithEmptyLine text =
+    (blank : List ℕ) × (first : ℕ) × (others : List ℕ) × (last : List ℕ) × (text ≡ blank ++ (first ∷ others ++ 10 ∷ last))
+    × All IsBreak blank × ¬ (IsBreak first) × IsEmptyLine last
+
+-- No front of the bytes with at most so many does.
+abbrev pub NoneWithin : ℕ → List ℕ → Type 0
+NoneWithin most bytes = (front rest : List ℕ) → bytes ≡ front ++ rest → length front ≤ most → ¬ (EndsWithEmptyLine front)
+
+-- The text is the front of the bytes up to the first empty line behind a line that is not empty, and short enough.
+pub record IsFirstEnd (bytes text rest : List ℕ) : Type 0 where
+  pub all : bytes ≡ text ++ rest
+  pub ends : EndsWithEmptyLine text
+  pub first : (shorter more : List ℕ) → text ≡ shorter ++ more → EndsWithEmptyLine shorter → more ≡ []
+  pub short : length text ≤ head_limit
+
+-- A head is cut off there.
+abbrev pub HeadEnds : Type 0
+HeadEnds = (bytes text rest : List ℕ) → (head_cut bytes ≡ Whole text rest) ↔ IsFirstEnd bytes text rest
+
+-- It is refused as too long exactly where as many bytes as may be have no such line within them, and as none exactly where
+-- the text up to that line is none.
+abbrev pub HeadsRefused : Type 0
+HeadsRefused =
+    (ended : Bool) (side : Side) (bytes : List ℕ)
+    → (Decides ended side bytes (Refused HeadTooLong) ↔ ((head_limit ≤ length bytes) × NoneWithin head_limit bytes))
+    × (Decides ended side bytes (Refused BadHead) ↔ ((text : List ℕ) × (rest : List ℕ) × IsFirstEnd bytes text rest × IsNoHead side text))

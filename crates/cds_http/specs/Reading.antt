@@ -51,10 +51,14 @@ Answers side bytes piece (Ok (WholeFed rest)) now =
 Answers side bytes piece (Err e) now =
     (now ≡ None) × Explains e ((ended : Bool) (more : List ℕ) → Decides ended side ((bytes ++ piece) ++ more) (Refused e))
 
+-- Behind a whole message a piece is not taken, and the answer is its length: no want of memory there.
+abbrev pub StaysWhole : Side → List ℕ → List ℕ → Result Fed HttpError → Option (List ℕ) → Type 0
+StaysWhole side bytes piece result now = (m : Message) → IsWhole side bytes m → (result ≡ Ok (WholeFed (length piece))) × (now ≡ Some bytes)
+
 -- A piece comes: what came before, the piece, the answer and what has come then.
 abbrev pub Takes : Side → Option (List ℕ) → List ℕ → Result Fed HttpError → Option (List ℕ) → Type 0
 Takes side None piece result now = (result ≡ Err Failed) × (now ≡ None)
-Takes side (Some bytes) piece result now = Answers side bytes piece result now
+Takes side (Some bytes) piece result now = Answers side bytes piece result now × StaysWhole side bytes piece result now
 
 -- What is answered at the end of the connection.
 abbrev pub at_end : Known Message → Result Message HttpError

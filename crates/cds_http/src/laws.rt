@@ -1,4 +1,4 @@
-ghost use Rattle.cds_http.specs.Laws.{OneOutcome, EveryCutting, WholeIsSpelled, SpelledIsWhole, MessagesEnd};
+ghost use Rattle.cds_http.specs.Laws.{OneOutcome, BytesSay, RefusedByCause, EndKeeps, HeadEnds, HeadsRefused, EveryCutting, WholeIsSpelled, SpelledIsWhole, MessagesEnd};
 ghost use Rattle.cds_http.specs.Returned.{RequestsAreReadBack, RepliesAreReadBack};
 
 /// Bytes say one thing at most of a message at their front.
@@ -6,7 +6,33 @@ pub fn one_outcome()
     ensures { OneOutcome }
 {}
 
-/// However bytes are cut, what a new reader answers to the pieces and the end is what all bytes say.
+/// There are no bytes of which nothing is said.
+pub fn bytes_say()
+    ensures { BytesSay }
+{}
+
+/// Bytes are refused for one of five causes.
+pub fn refused_by_cause()
+    ensures { RefusedByCause }
+{}
+
+/// The end of the connection refuses nothing that is whole.
+pub fn end_keeps()
+    ensures { EndKeeps }
+{}
+
+/// A head is cut off at the first empty line behind a line that is not empty.
+pub fn head_ends()
+    ensures { HeadEnds }
+{}
+
+/// When a head is refused: no such line comes within its limit, or the text up to it is no head.
+pub fn heads_refused()
+    ensures { HeadsRefused }
+{}
+
+/// However bytes are cut, what a new reader answers to the pieces and the end, and what it hands back of them, is what all
+/// bytes say.
 pub fn every_cutting()
     ensures { EveryCutting }
 {}

@@ -2,6 +2,7 @@
 
 ghost use Rattle.std.specs.Prelude.{◌≡◌, ◌≤◌, ℕ, List, [], length, Option, Some, Err, IsOkAnd};
 ghost use Rattle.cds_http.specs.declared.message.Side.{Side};
+ghost use Rattle.cds_http.specs.declared.message.Message.{Message};
 ghost use Rattle.cds_http.specs.declared.lines.Place.{Place};
 ghost use Rattle.cds_http.specs.Lines.{IsFront, EndsThere};
 ghost use Rattle.cds_http.specs.Head.{head_limit};
@@ -121,6 +122,7 @@ fn with_body(head: Head, body: Bytes) -> Message
 /// A piece at a stage.
 fn take(alloc: Global, side: Side, stage: Stage, piece: &[u8]) -> Result<Taken, HttpError>
     ensures takes { (bytes : List ℕ) → StageOf side stage bytes → StageTakes side bytes piece.now result }
+    ensures ends { (m : Message) → stage ≡ Stage.AtEnd m → IsOkAnd result (λ t. t.fed ≡ Fed.Whole (length piece.now)) }
     ensures failed { stage ≡ Stage.Refused → result ≡ Err HttpError.Failed }
 {
     match stage {
