@@ -12,7 +12,7 @@ trap 'rm -rf "$work"' EXIT
 mkdir -p "$work/crates/http_bench/src"
 tar -C "$top/crates" --exclude=out --exclude=must-fail -cf - cds_base cds_http | tar -C "$work/crates" -xf -
 cp "$top/HANDLES" "$work"
-printf '%s\n' 'cds_base:' 'cds_http: cds_base httparse http_header thiserror' 'http_bench: cds_http cds_base anyhow' >"$work/crates.txt"
+printf '%s\n' 'cds_base:' 'cds_http: cds_base bytes httparse http_header memchr thiserror' 'http_bench: cds_http cds_base anyhow' >"$work/crates.txt"
 cat >"$work/crates/http_bench/src/main.rt" <<'RT'
 //! Times of reading HTTP messages.
 #![tactic(auto)]

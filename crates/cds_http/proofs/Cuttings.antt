@@ -11,7 +11,7 @@ use Rattle.cds_http.specs.Known.{Whole, Needs, Refused}
 use Rattle.cds_http.specs.Decided.{Decides}
 use Rattle.cds_http.specs.Steps.{Explains}
 use Rattle.cds_http.specs.Reading.{IsWhole, Answers, at_end}
-use Rattle.cds_http.specs.Laws.{Gives, GoesOn, together, IsAnswer, EveryCutting}
+use Rattle.cds_http.specs.Laws.{Gives, GoesOn, together, left_of, IsAnswer, EveryCutting, CuttingsAgree}
 use Rattle.cds_http.proofs.Once.{one_outcome}
 use Rattle.cds_http.proofs.Sayings.{end_needs}
 
@@ -93,3 +93,18 @@ cuttings side bytes (piece ∷ more) behind result waits gives = by (λ bytes be
 
 pub every_cutting : EveryCutting
 every_cutting side pieces behind result gives = cuttings side [] pieces behind result (Needs, refl, refl) gives
+
+answers_agree : (side : Side) (bytes behind other_behind : List ℕ) (result other_result : Result Message HttpError)
+    → IsAnswer side bytes behind result → IsAnswer side bytes other_behind other_result
+    → (result ≡ Err Mem) ⊎ (other_result ≡ Err Mem) ⊎ ((result ≡ other_result) × (behind ≡ other_behind))
+answers_agree side bytes behind other_behind result other_result (inl memory) second = inl memory
+answers_agree side bytes behind other_behind result other_result (inr first) (inl memory) = inr (inl memory)
+answers_agree side bytes behind other_behind result other_result (inr first) (inr second) =
+    let same = one_outcome true side bytes first.0 second.0 first.1 second.1 in
+    inr (inr (first.2 ∙ ap at_end same ∙ sym second.2, first.3 ∙ ap left_of same ∙ sym second.3))
+
+pub cuttings_agree : CuttingsAgree
+cuttings_agree side pieces others behind other_behind result other_result same first second =
+    answers_agree side (together others) behind other_behind result other_result
+    (subst (λ (t : List ℕ). IsAnswer side t behind result) same (every_cutting side pieces behind result first))
+    (every_cutting side others other_behind other_result second)

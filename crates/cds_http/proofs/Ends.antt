@@ -23,10 +23,10 @@ rest_none start text front rest whole ends is =
     let same : length text ≡ length front = cc in
     nil_from_length rest (omega (arith, same, ap length is, length-append front rest))
 
-inside_step : (b : ℕ) → b ≢ 10 → next_place Inside b ≡ Some Inside
+pub inside_step : (b : ℕ) → b ≢ 10 → next_place Inside b ≡ Some Inside
 inside_step b other = grind (arith, nat_tests)
 
-in_line_step : (b : ℕ) → b ≢ 10 → next_place InLine b ≡ Some InLine
+pub in_line_step : (b : ℕ) → b ≢ 10 → next_place InLine b ≡ Some InLine
 in_line_step b other = grind (arith, nat_tests)
 
 fresh_step : (b : ℕ) → b ≢ 10 → b ≢ 13 → next_place Fresh b ≡ Some Inside
@@ -35,7 +35,7 @@ fresh_step b first second = grind (arith, nat_tests)
 before_step : (b : ℕ) → b ≢ 10 → b ≢ 13 → next_place Before b ≡ Some Inside
 before_step b first second = grind (arith, nat_tests)
 
-scan_first : (p q : Place) (b : ℕ) (bytes : List ℕ) → next_place p b ≡ Some q → scanned p (b ∷ bytes) ≡ further 1 (scanned q bytes)
+pub scan_first : (p q : Place) (b : ℕ) (bytes : List ℕ) → next_place p b ≡ Some q → scanned p (b ∷ bytes) ≡ further 1 (scanned q bytes)
 scan_first p q b bytes is = ap (λ (o : Option Place). scan_step o (λ next. scanned next bytes)) is
 
 -- bytes with no LF stay in their line

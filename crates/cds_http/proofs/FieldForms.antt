@@ -59,3 +59,14 @@ kept_more text headers i d before after name value within name_is value_is so_fa
     ∙ ap (λ (v : List ℕ). append (kept_fields pairs) (lowercase (span_bytes text h.name)) (plain_value v)) value_is
     ∙ sym (kept_push pairs (header_bytes text h))
     ∙ ap kept_fields (sym (map_more (header_bytes text) headers i d within))
+
+-- the same where the value is of a text that is shared
+pub kept_shared : (text shared : List ℕ) (headers : List HeaderSpan) (i : ℕ) (d : HeaderSpan) (before after : Entries FieldValue) (name : List ℕ) (v : FieldValue)
+    → i < length headers → shared ≡ text → name ≡ span_bytes text (get_or headers i d).name → v ≡ plain_value (span_bytes shared (get_or headers i d).value)
+    → before ≡ kept_fields (map (header_bytes text) (take i headers))
+    → after ≡ append before (lowercase name) v
+    → after ≡ kept_fields (map (header_bytes text) (take (i + 1) headers))
+kept_shared text shared headers i d before after name v within same name_is v_is so_far now =
+    kept_more text headers i d before after name (span_bytes shared (get_or headers i d).value) within name_is
+    (ap (λ (t : List ℕ). span_bytes t (get_or headers i d).value) same) so_far
+    (now ∙ ap (λ (v : FieldValue). append before (lowercase name) v) v_is)

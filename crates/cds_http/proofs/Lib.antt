@@ -6,11 +6,13 @@ pub mod Counting
 pub mod Chunking
 pub mod Walking
 pub mod Ends
+pub mod Runs
 pub mod ReadForms
 pub mod FieldForms
 pub mod HeadForms
 pub mod StageForms
 pub mod Once
+pub mod Growing
 pub mod Cuttings
 pub mod SpelledForms
 pub mod Backwards

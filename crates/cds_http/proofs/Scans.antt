@@ -5,11 +5,11 @@ use Rattle.cds_http.specs.declared.lines.Scan.{Scan}
 use Rattle.cds_http.specs.declared.lines.Scan.TheVariants.{Ended, Open}
 use Rattle.cds_http.specs.Lines.{next_place, further, scan_step, scanned, EndsThere}
 
-further-zero : (s : Scan) → further 0 s ≡ s
+pub further-zero : (s : Scan) → further 0 s ≡ s
 further-zero (Ended at) = ap (λ (n : ℕ). Ended n) (zero-add at)
 further-zero (Open p) = refl
 
-further-suc : (n : ℕ) (s : Scan) → further 1 (further n s) ≡ further (suc n) s
+pub further-suc : (n : ℕ) (s : Scan) → further 1 (further n s) ≡ further (suc n) s
 further-suc n (Ended at) = ap (λ (n : ℕ). Ended n) (omega arith)
 further-suc n (Open p) = refl
 

@@ -234,7 +234,7 @@ waits_not_whole side bytes m waits whole =
     let both = one_outcome false side bytes Needs (Whole m []) waits here in cc
 
 -- so a stage that stands for a whole message is at its end
-at_its_end : (side : Side) (stage : Stage) (bytes : List ℕ) (m : Message) → StageOf side stage bytes → IsWhole side bytes m → (other : Message) × (stage ≡ AtEnd other)
+pub at_its_end : (side : Side) (stage : Stage) (bytes : List ℕ) (m : Message) → StageOf side stage bytes → IsWhole side bytes m → (other : Message) × (stage ≡ AtEnd other)
 at_its_end side (InHead front) bytes m stands whole =
     absurd (waits_not_whole side bytes m (subst (λ (t : List ℕ). Decides false side t Needs) stands.0 (head_waits side false front stands.1)) whole)
 at_its_end side (InBody head body) bytes m stands whole =

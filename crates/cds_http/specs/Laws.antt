@@ -70,6 +70,13 @@ EveryCutting =
     (side : Side) (pieces : List (List ℕ)) (behind : List ℕ) (result : Result Message HttpError) → Gives side (Some []) pieces behind result
     → IsAnswer side (together pieces) behind result
 
+-- Two cuttings of the same bytes have the same answer and the same bytes behind the message, if memory runs out in neither.
+abbrev pub CuttingsAgree : Type 0
+CuttingsAgree =
+    (side : Side) (pieces others : List (List ℕ)) (behind other_behind : List ℕ) (result other_result : Result Message HttpError)
+    → together pieces ≡ together others → Gives side (Some []) pieces behind result → Gives side (Some []) others other_behind other_result
+    → (result ≡ Err Mem) ⊎ (other_result ≡ Err Mem) ⊎ ((result ≡ other_result) × (behind ≡ other_behind))
+
 -- There are no bytes of which nothing is said: they are a whole message and a rest, or need more, or are refused.
 abbrev pub BytesSay : Type 0
 BytesSay = (ended : Bool) (side : Side) (bytes : List ℕ) → ¬ ((known : Known Message) → ¬ (Decides ended side bytes known))

@@ -1,5 +1,5 @@
 -- Where a head, a trailer and a chunk line end.
-use Rattle.std.specs.Prelude.{◌≡◌, ℕ, ◌+◌, ◌<◌, ◌≤◌, ◌==◌, ◌⊎◌, List, [], ◌∷◌, ◌++◌, length, take, Option, Some, None, Result, Ok, Err, if◌then◌else◌}
+use Rattle.std.specs.Prelude.{◌≡◌, ℕ, ◌+◌, ◌<◌, ◌≤◌, ◌==◌, ◌⊎◌, List, [], ◌∷◌, ◌++◌, length, take, Bool, true, false, Option, Some, None, Result, Ok, Err, if◌then◌else◌}
 use Rattle.cds_http.specs.declared.error.HttpError.{HttpError}
 use Rattle.cds_http.specs.declared.error.HttpError.TheVariants.{Mem}
 use Rattle.cds_http.specs.declared.lines.Place.{Place}
@@ -83,3 +83,10 @@ KeepsCollected came place limit refusal piece (Ok (WholeText text at)) = ⊥
 KeepsCollected came place limit refusal piece (Ok (Going f)) =
     (f.text ≡ came ++ piece) × (f.place ≡ place) × (length came + length piece < limit)
 KeepsCollected came place limit refusal piece (Err e) = (e ≡ Mem) ⊎ ((e ≡ refusal) × (limit ≤ length came + length piece))
+
+-- A piece without an end is added in place, or all stays as it was.
+abbrev pub AddsFront : Front → ℕ → List ℕ → Result Bool HttpError → Front → Type 0
+AddsFront before limit piece (Ok true) after =
+    (scanned before.place piece ≡ Open after.place) × (after.text ≡ before.text ++ piece) × (length before.text + length piece < limit)
+AddsFront before limit piece (Ok false) after = after ≡ before
+AddsFront before limit piece (Err e) after = e ≡ Mem

@@ -1,7 +1,7 @@
 -- A reader of a message that comes in pieces.
 use Rattle.std.specs.Prelude.{◌≡◌, ℕ, ◌-◌, ◌≤◌, Bool, true, false, List, ◌++◌, length, take, Option, Some, None, Result, Ok, Err}
 use Rattle.cds_http.specs.declared.error.HttpError.{HttpError}
-use Rattle.cds_http.specs.declared.error.HttpError.TheVariants.{Truncated, Failed}
+use Rattle.cds_http.specs.declared.error.HttpError.TheVariants.{Truncated, Failed, Mem}
 use Rattle.cds_http.specs.declared.message.Side.{Side}
 use Rattle.cds_http.specs.declared.message.Message.{Message}
 use Rattle.cds_http.specs.declared.message.Fed.{Fed}
@@ -76,3 +76,9 @@ StageTakes side bytes piece (Ok t) =
     (front : List ℕ) × StageOf side t.stage front × Answers side bytes piece (Ok t.fed) (Some front)
 StageTakes side bytes piece (Err e) =
     Explains e ((ended : Bool) (more : List ℕ) → Decides ended side ((bytes ++ piece) ++ more) (Refused e))
+
+-- A piece is added in place to what a stage keeps, or the stage stays as it was.
+abbrev pub StageGrows : Side → List ℕ → Stage → List ℕ → Result Bool HttpError → Stage → Type 0
+StageGrows side bytes before piece (Ok true) after = StageOf side after (bytes ++ piece) × Decides false side (bytes ++ piece) Needs
+StageGrows side bytes before piece (Ok false) after = after ≡ before
+StageGrows side bytes before piece (Err e) after = e ≡ Mem

@@ -1,5 +1,5 @@
 -- A body that is read piece by piece.
-use Rattle.std.specs.Prelude.{◌≡◌, ℕ, ◌<◌, ◌≤◌, ⊤, Bool, true, false, List, [], ◌∷◌, ◌++◌, length, take, Result, Ok, Err}
+use Rattle.std.specs.Prelude.{◌≡◌, ℕ, ◌+◌, ◌<◌, ◌≤◌, ⊤, Bool, true, false, List, [], ◌∷◌, ◌++◌, length, take, Result, Ok, Err}
 use Rattle.cds_http.specs.declared.error.HttpError.{HttpError}
 use Rattle.cds_http.specs.declared.error.HttpError.TheVariants.{BadHead, HeadTooLong, BadLength, BadChunk, TooLong, Truncated, Failed, Mem}
 use Rattle.cds_http.specs.declared.lines.Place.TheVariants.{Fresh, InLine}
@@ -97,3 +97,15 @@ SizeRead line (Err e) = (e ≡ BadChunk) × ((size : ℕ) → ¬ (IsSizeLine lin
 abbrev pub TrailerRead : List ℕ → Bool → Type 0
 TrailerRead text true = IsTrailer text
 TrailerRead text false = ¬ (IsTrailer text)
+
+-- A piece is added to bytes of which so many more are left, where it does not end them.
+abbrev pub Adds : List ℕ → ℕ → List ℕ → Result Bool HttpError → List ℕ → ℕ → Type 0
+Adds bytes left piece (Ok true) after rest = (length piece < left) × (length piece + rest ≡ left) × (after ≡ bytes ++ piece)
+Adds bytes left piece (Ok false) after rest = (after ≡ bytes) × (rest ≡ left)
+Adds bytes left piece (Err e) after rest = e ≡ Mem
+
+-- A piece is added to a body in place, or the body stays as it was.
+abbrev pub Lengthens : Body → List ℕ → Result Bool HttpError → Body → Type 0
+Lengthens before piece (Ok true) after = Goes before piece (Ok (More after (length piece)))
+Lengthens before piece (Ok false) after = after ≡ before
+Lengthens before piece (Err e) after = e ≡ Mem

@@ -4,11 +4,11 @@ ghost use Rattle.std.specs.Prelude.{ℕ, ◌<◌, ◌≤◌, Bool, List, length}
 ghost use Rattle.cds_http.specs.Known.{Known};
 ghost use Rattle.cds_http.specs.Lines.{EndsThere};
 ghost use Rattle.cds_http.specs.Chunks.{IsSizeLine, BodyKnown, line_limit};
-ghost use Rattle.cds_http.specs.Steps.{Goes, UsesSome, UsesAll, Fits, Turns, SizeRead, TrailerRead, StillKnown};
+ghost use Rattle.cds_http.specs.Steps.{Goes, UsesSome, UsesAll, Fits, Turns, SizeRead, TrailerRead, StillKnown, Adds, Lengthens};
 
 use crate::HttpError;
 use crate::framing::{BODY_LIMIT, Framing};
-use crate::head::HEAD_LIMIT;
+use crate::head::{FIELD_LIMIT, HEAD_LIMIT};
 use crate::lines::{Collected, Front, Place, collect, new_front};
 use cds_base::Bytes;
 use httparse::Status;
@@ -243,7 +243,7 @@ fn take_close(alloc: Global, bytes: Bytes, piece: &[u8]) -> Result<Progress, Htt
 fn is_trailer(text: &[u8]) -> bool
     ensures { EndsThere Place.Fresh text.now → TrailerRead text.now result }
 {
-    let mut headers = [EMPTY_HEADER_SPAN; 64];
+    let mut headers = [EMPTY_HEADER_SPAN; FIELD_LIMIT];
     match parse_headers(text, &mut headers) {
         Ok(Status::Complete(_)) => true,
         _ => false,
@@ -271,6 +271,31 @@ fn take_trailer(bytes: Bytes, front: Front, piece: &[u8]) -> Result<Progress, Ht
             used: piece.len(),
         }),
         Err(refusal) => Err(refusal),
+    }
+}
+
+/// Adds a piece in place where more than its bytes are left, and says whether it did.
+fn add(bytes: &mut Bytes, left: &mut usize, piece: &[u8]) -> Result<bool, HttpError>
+    ensures { Adds bytes.old left.old piece.now result bytes.new left.new }
+{
+    if piece.len() >= *left {
+        return Ok(false);
+    }
+    if bytes.extend(piece).is_err() {
+        return Err(HttpError::Mem);
+    }
+    *left -= piece.len();
+    Ok(true)
+}
+
+/// Adds a piece in place that ends within the bytes of a body or of a chunk, and says whether it did.
+pub(crate) fn lengthen(body: &mut Body, piece: &[u8]) -> Result<bool, HttpError>
+    ensures { Lengthens body.old piece.now result body.new }
+{
+    match &mut body.part {
+        Part::Counted { left } => add(&mut body.bytes, left, piece),
+        Part::Data { left } => add(&mut body.bytes, left, piece),
+        _ => Ok(false),
     }
 }
 

@@ -1,7 +1,7 @@
 //! The head of a message, read once it is there whole.
 
-ghost use Rattle.std.specs.Prelude.{◌≡◌, ◌<◌, ◌≤◌, length, map, All, OnOk, IfErr, MatchResult, IsUtf8};
-ghost use Rattle.httparse.specs.Spans.{IsHeaderWithin, header_bytes, IsRequestWithin, IsRequestOf, IsResponseWithin, IsResponseOf};
+ghost use Rattle.std.specs.Prelude.{◌≡◌, ◌<◌, ◌≤◌, [], length, map, All, OnOk, IfErr, MatchResult, IsUtf8};
+ghost use Rattle.httparse.specs.Spans.{span_bytes, IsHeaderWithin, header_bytes, IsRequestWithin, IsRequestOf, IsResponseWithin, IsResponseOf};
 ghost use Rattle.http_header.specs.Token.{lowercase};
 ghost use Rattle.http_header.specs.FieldName.{IsFieldName};
 ghost use Rattle.http_header.specs.FieldValue.{IsFieldValue, plain_value};
@@ -11,18 +11,20 @@ ghost use Rattle.cds_http.specs.Lines.{EndsThere};
 ghost use Rattle.cds_http.specs.Head.{head_limit, kept_fields, CanBeKept, HoldsRequest, HoldsReply, HeadRead};
 
 use crate::{HttpError, Side, Start};
+use bytes::Bytes as Shared;
 use cds_base::Text;
-use http_header::{
-    HeaderMap, HeaderMapError, HeaderName, HeaderNameError, HeaderValue, HeaderValueError,
-};
+use http_header::{HeaderMap, HeaderMapError, HeaderName, HeaderNameError, HeaderValue};
 use httparse::Status;
 use httparse::spans::{
-    EMPTY_HEADER_SPAN, HeaderSpan, RequestSpans, ResponseSpans, parse_request, parse_response,
+    EMPTY_HEADER_SPAN, HeaderSpan, RequestSpans, ResponseSpans, Span, parse_request, parse_response,
 };
 use std::alloc::Global;
 
 /// The most bytes of a head, or of a trailer.
 pub(crate) const HEAD_LIMIT: usize = 16_384;
+
+/// The most fields of a head, or of a trailer.
+pub(crate) const FIELD_LIMIT: usize = 64;
 
 /// The first line and the fields of a message.
 #[derive(Drop)]
@@ -43,14 +45,28 @@ fn read_name(alloc: Global, bytes: &[u8]) -> Result<HeaderName, HttpError>
     }
 }
 
-/// The value of a field.
-fn read_value(alloc: Global, bytes: &[u8]) -> Result<HeaderValue, HttpError>
-    requires { IsFieldValue bytes.now }
-    ensures { MatchResult result (λ value. value ≡ plain_value bytes.now) (λ e. e ≡ HttpError.Mem) }
+/// The value of a field, which shares the text that it stands in.
+fn read_value(text: &Shared, span: Span) -> Result<HeaderValue, HttpError>
+    requires ordered { span.start ≤ span.end }
+    requires within { span.end ≤ length text.now }
+    requires sound { IsFieldValue (span_bytes text.now span) }
+    ensures { MatchResult result (λ value. value ≡ plain_value (span_bytes text.now span)) (λ e. e ≡ HttpError.Mem) }
 {
-    match HeaderValue::from_bytes(alloc, bytes) {
-        Ok(value) => Ok(value),
-        Err(HeaderValueError::Invalid) => unreachable!(),
+    match text.slice(span.start..span.end) {
+        Ok(value) => Ok(HeaderValue::from_known_valid(value)),
+        Err(_) => Err(HttpError::Mem),
+    }
+}
+
+/// Makes room for so many names.
+fn make_room(fields: &mut HeaderMap, count: usize) -> Result<(), HttpError>
+    requires { (fields.old ≡ []) × (count ≤ 64) }
+    ensures same { fields.new ≡ fields.old }
+    ensures err { IfErr result (λ e. e ≡ HttpError.Mem) }
+{
+    match fields.reserve(count) {
+        Ok(_) => Ok(()),
+        Err(HeaderMapError::MaxSizeReached) => unreachable!(),
         Err(_) => Err(HttpError::Mem),
     }
 }
@@ -76,10 +92,12 @@ fn read_fields(alloc: Global, text: &[u8], headers: &[HeaderSpan]) -> Result<Hea
     requires few { length headers.now ≤ 64 }
     ensures { MatchResult result (λ fields. fields ≡ kept_fields (map (header_bytes text.now) headers.now)) (λ e. e ≡ HttpError.Mem) }
 {
+    let shared = Shared::copy_from_slice(alloc, text)?;
     let mut fields = HeaderMap::new(alloc);
+    make_room(&mut fields, headers.len())?;
     for header in headers {
         let name = read_name(alloc, header.name.of(text))?;
-        let value = read_value(alloc, header.value.of(text))?;
+        let value = read_value(&shared, header.value)?;
         add_field(&mut fields, name, value)?;
     }
     Ok(fields)
@@ -145,7 +163,7 @@ fn read_request_head(alloc: Global, text: &[u8]) -> Result<Head, HttpError>
     requires { length text.now ≤ head_limit }
     ensures { EndsThere Place.Before text.now → HeadRead Side.Request text.now result }
 {
-    let mut headers = [EMPTY_HEADER_SPAN; 64];
+    let mut headers = [EMPTY_HEADER_SPAN; FIELD_LIMIT];
     match parse_request(text, &mut headers) {
         Ok(Status::Complete(spans)) => request_head(alloc, text, &headers, spans),
         Ok(Status::Partial) => Err(HttpError::BadHead),
@@ -158,7 +176,7 @@ fn read_reply_head(alloc: Global, text: &[u8]) -> Result<Head, HttpError>
     requires { length text.now ≤ head_limit }
     ensures { EndsThere Place.Before text.now → HeadRead Side.Reply text.now result }
 {
-    let mut headers = [EMPTY_HEADER_SPAN; 64];
+    let mut headers = [EMPTY_HEADER_SPAN; FIELD_LIMIT];
     match parse_response(text, &mut headers) {
         Ok(Status::Complete(spans)) => reply_head(alloc, text, &headers, spans),
         Ok(Status::Partial) => Err(HttpError::BadHead),

@@ -1,4 +1,4 @@
-ghost use Rattle.cds_http.specs.Laws.{OneOutcome, BytesSay, RefusedByCause, EndKeeps, HeadEnds, HeadsRefused, EveryCutting, WholeIsSpelled, SpelledIsWhole, MessagesEnd};
+ghost use Rattle.cds_http.specs.Laws.{OneOutcome, BytesSay, RefusedByCause, EndKeeps, HeadEnds, HeadsRefused, EveryCutting, CuttingsAgree, WholeIsSpelled, SpelledIsWhole, MessagesEnd};
 ghost use Rattle.cds_http.specs.Returned.{RequestsAreReadBack, RepliesAreReadBack};
 
 /// Bytes say one thing at most of a message at their front.
@@ -35,6 +35,11 @@ pub fn heads_refused()
 /// bytes say.
 pub fn every_cutting()
     ensures { EveryCutting }
+{}
+
+/// Two cuttings of the same bytes have the same answer and the same bytes behind the message.
+pub fn cuttings_agree()
+    ensures { CuttingsAgree }
 {}
 
 /// A whole message is one of the grammar.

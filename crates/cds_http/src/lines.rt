@@ -1,12 +1,16 @@
 //! Where a head, a trailer and a chunk line end.
 
-ghost use Rattle.std.specs.Prelude.{◌≡◌, ◌≤◌, [], length};
+ghost use Rattle.std.specs.Prelude.{◌≡◌, ◌≤◌, ◌<◌, ◌==◌, ℕ, true, [], length, drop, slice_index};
 ghost use Rattle.cds_http.specs.declared.lines.Place.{Place};
-ghost use Rattle.cds_http.specs.Lines.{next_place, scanned, IsWithin, IsFront, EndsCollected, KeepsCollected, Collects, UsesFront};
+ghost use Rattle.cds_http.specs.Lines.{next_place, further, scanned, IsWithin, IsFront, EndsCollected, KeepsCollected, Collects, UsesFront, AddsFront};
 
 use crate::HttpError;
 use cds_base::Bytes;
+use memchr::memchr;
 use std::alloc::Global;
+
+/// The most bytes of a piece that may be looked at twice.
+const SHORT: usize = 64;
 
 /// Where bytes of a head or a trailer leave it: behind empty lines only, inside a line, at the start of a line behind
 /// one that is not empty, or behind a CR there. A trailer begins at the start of a line. A chunk line ends with its LF.
@@ -71,15 +75,47 @@ fn next_place(place: Place, byte: u8) -> Option<Place>
     }
 }
 
+/// How many bytes stand before the first LF.
+fn before_lf(bytes: &[u8]) -> usize
+    ensures within { result ≤ length bytes.now }
+    ensures clean { (k : ℕ) → k < result → ¬ ((slice_index bytes.now k == 10) ≡ true) }
+{
+    match memchr(b'\n', bytes) {
+        Some(at) => at,
+        None => bytes.len(),
+    }
+}
+
+/// How many bytes of a line leave its place as it is.
+fn stay(place: Place, bytes: &[u8]) -> usize
+    ensures within { result ≤ length bytes.now }
+    ensures stays { scanned place bytes.now ≡ further result (scanned place (drop result bytes.now)) }
+{
+    match place {
+        Place::Inside => before_lf(bytes),
+        Place::InLine => before_lf(bytes),
+        _ => 0,
+    }
+}
+
 /// Looks for the end of a head or a trailer in the bytes behind a place of it.
 pub(crate) fn scan_lines(place: Place, bytes: &[u8]) -> Scan
     ensures scanned { result ≡ scanned place bytes.now }
     ensures within { IsWithin bytes.now result }
 {
     let mut here = place;
-    for (at, byte) in bytes.iter().enumerate() {
-        match next_place(here, *byte) {
-            Some(next) => here = next,
+    let mut at = 0;
+    while at < bytes.len() {
+        let (_, rest) = bytes.split_at(at);
+        at += stay(here, rest);
+        if at == bytes.len() {
+            return Scan::Open { place: here };
+        }
+        match next_place(here, bytes[at]) {
+            Some(next) => {
+                here = next;
+                at += 1;
+            }
             None => return Scan::Ended { at: at + 1 },
         }
     }
@@ -171,5 +207,24 @@ pub(crate) fn collect(
     match scan_lines(place, piece) {
         Scan::Ended { at } => end_front(text, limit, refusal, piece, at),
         Scan::Open { place } => keep_front(text, place, limit, refusal, piece),
+    }
+}
+
+/// Adds a short piece in place that has no end in it and keeps below the limit, and says whether it did.
+pub(crate) fn add_front(front: &mut Front, limit: usize, piece: &[u8]) -> Result<bool, HttpError>
+    ensures { AddsFront front.old limit piece.now result front.new }
+{
+    if piece.len() > SHORT || front.text.len() >= limit || piece.len() >= limit - front.text.len() {
+        return Ok(false);
+    }
+    match scan_lines(front.place, piece) {
+        Scan::Ended { .. } => Ok(false),
+        Scan::Open { place } => {
+            if front.text.extend(piece).is_err() {
+                return Err(HttpError::Mem);
+            }
+            front.place = place;
+            Ok(true)
+        }
     }
 }

@@ -1,6 +1,6 @@
 //! Messages that come in pieces.
 
-ghost use Rattle.std.specs.Prelude.{◌≡◌, ◌≤◌, ℕ, List, [], length, Option, Some, Err, IsOkAnd};
+ghost use Rattle.std.specs.Prelude.{◌≡◌, ◌≤◌, ◌-◌, ℕ, List, [], length, Option, Some, Ok, Err, false, IsOkAnd};
 ghost use Rattle.cds_http.specs.declared.message.Side.{Side};
 ghost use Rattle.cds_http.specs.declared.message.Message.{Message};
 ghost use Rattle.cds_http.specs.declared.lines.Place.{Place};
@@ -8,12 +8,12 @@ ghost use Rattle.cds_http.specs.Lines.{IsFront, EndsThere};
 ghost use Rattle.cds_http.specs.Head.{head_limit};
 ghost use Rattle.cds_http.specs.Decided.{with_body};
 ghost use Rattle.cds_http.specs.Steps.{Fits};
-ghost use Rattle.cds_http.specs.Reading.{Stands, Takes, Finishes, Continues, StageTakes, StageOf};
+ghost use Rattle.cds_http.specs.Reading.{Stands, Takes, Finishes, Continues, StageTakes, StageGrows, StageOf};
 
-use crate::body::{Body, Part, Progress, new_body, take_body};
+use crate::body::{Body, Part, Progress, lengthen, new_body, take_body};
 use crate::framing::frame;
 use crate::head::{HEAD_LIMIT, Head, read_head};
-use crate::lines::{Collected, Front, Place, collect, new_front};
+use crate::lines::{Collected, Front, Place, add_front, collect, new_front};
 use crate::{Fed, HttpError, Message, Side};
 use cds_base::{Bytes, Mem};
 use std::alloc::Global;
@@ -64,6 +64,21 @@ impl MessageReader {
         ensures { (side : Side) (came : Option (List ℕ)) → Stands side self.old came
             → (now : Option (List ℕ)) × Stands side self.new now × Takes side came piece.now result now }
     {
+        match grow(&mut self.stage, piece) {
+            Ok(true) => Ok(Fed::More),
+            Ok(false) => self.turn(alloc, piece),
+            Err(refusal) => {
+                self.stage = Stage::Refused;
+                Err(refusal)
+            }
+        }
+    }
+
+    /// The next piece, where it is not just added to what is kept.
+    fn turn(&mut self, alloc: Global, piece: &[u8]) -> Result<Fed, HttpError>
+        ensures { (side : Side) (came : Option (List ℕ)) → Stands side self.old came
+            → (now : Option (List ℕ)) × Stands side self.new now × Takes side came piece.now result now }
+    {
         let stage = mem::replace(&mut self.stage, Stage::Refused);
         match take(alloc, self.side, stage, piece) {
             Ok(taken) => {
@@ -81,6 +96,20 @@ impl MessageReader {
         ensures { (side : Side) (came : Option (List ℕ)) → Stands side self came → Finishes side came result }
     {
         end_stage(self.stage)
+    }
+}
+
+/// Adds a piece in place that only makes longer what is kept, and says whether it did.
+fn grow(stage: &mut Stage, piece: &[u8]) -> Result<bool, HttpError>
+    ensures grows { (side : Side) (bytes : List ℕ) → StageOf side stage.old bytes → StageGrows side bytes stage.old piece.now result stage.new }
+    ensures ends { (m : Message) → stage.old ≡ Stage.AtEnd m → result ≡ Ok false }
+    ensures failed { stage.old ≡ Stage.Refused → (result ≡ Ok false) × (stage.new ≡ Stage.Refused) }
+{
+    match stage {
+        Stage::InHead { front } => add_front(front, HEAD_LIMIT, piece),
+        Stage::InBody { head: _, body } => lengthen(body, piece),
+        Stage::AtEnd { message: _ } => Ok(false),
+        Stage::Refused => Ok(false),
     }
 }
 
@@ -167,6 +196,14 @@ fn end_head(alloc: Global, side: Side, text: &[u8], rest: &[u8]) -> Result<Taken
     }
 }
 
+/// How many bytes of a piece are behind those that were used.
+fn behind(piece: &[u8], used: usize) -> usize
+    requires { used ≤ length piece.now }
+    ensures { result ≡ length piece.now - used }
+{
+    piece.len() - used
+}
+
 /// A piece of a body.
 fn take_rest(alloc: Global, head: Head, body: Body, piece: &[u8]) -> Result<Taken, HttpError>
     ensures { (side : Side) (bytes : List ℕ) → Fits body → Continues side bytes head body → StageTakes side bytes piece.now result }
@@ -181,7 +218,7 @@ fn take_rest(alloc: Global, head: Head, body: Body, piece: &[u8]) -> Result<Take
                 message: with_body(head, body),
             },
             fed: Fed::Whole {
-                rest: piece.len() - used,
+                rest: behind(piece, used),
             },
         }),
         Err(refusal) => Err(refusal),

@@ -149,7 +149,7 @@ const REFUSED: [(&str, HttpError); 31] = [
 ];
 
 /// A front, a piece, how many copies of it, an end, and why the request is refused.
-const LIMITS: [(&str, &str, usize, &str, Option<HttpError>); 10] = [
+const LIMITS: [(&str, &str, usize, &str, Option<HttpError>); 12] = [
     ("GET / HTTP/1.1\r\n", "A: b\r\n", 64, "\r\n", None),
     (
         "GET / HTTP/1.1\r\n",
@@ -191,9 +191,23 @@ const LIMITS: [(&str, &str, usize, &str, Option<HttpError>); 10] = [
     (
         "GET / HTTP/1.1\r\nTRANSFER-ENCODING: chunked\r\n\r\n0\r\n",
         "A: b\r\n",
+        64,
+        "\r\n",
+        None,
+    ),
+    (
+        "GET / HTTP/1.1\r\nTRANSFER-ENCODING: chunked\r\n\r\n0\r\n",
+        "A: b\r\n",
         65,
         "\r\n",
         Some(HttpError::BadChunk),
+    ),
+    (
+        "GET / HTTP/1.1\r\nTRANSFER-ENCODING: chunked\r\n\r\n0\r\nA: ",
+        "b",
+        16_377,
+        "\r\n\r\n",
+        None,
     ),
     (
         "GET / HTTP/1.1\r\nTRANSFER-ENCODING: chunked\r\n\r\n0\r\nA: ",
@@ -327,6 +341,19 @@ fn others_are_refused(rt: HostRuntime) -> Result<(), Fail> {
     Ok(())
 }
 
+/// The length of the body of a reply that ends with the connection, behind 64 MiB and a last piece.
+fn read_open(alloc: Global, last: &[u8]) -> Result<usize, HttpError> {
+    let piece = Vec::from_elem(alloc, b'a', 1_048_576)?;
+    let mut reader = MessageReader::new(alloc, Side::Reply)?;
+    feed(alloc, &mut reader, b"HTTP/1.1 200 OK\r\n\r\n")?;
+    for _ in 0..64 {
+        feed(alloc, &mut reader, piece.as_slice())?;
+    }
+    feed(alloc, &mut reader, last)?;
+    let message = reader.finish()?;
+    Ok(message.body.len())
+}
+
 #[test]
 fn limits_are_kept(rt: HostRuntime) -> Result<(), Fail> {
     let alloc = rt.alloc();
@@ -338,6 +365,8 @@ fn limits_are_kept(rt: HostRuntime) -> Result<(), Fail> {
         };
         reads(&rt, alloc, Side::Request, text.as_str(), expected);
     }
+    assert_eq!(rt; read_open(alloc, b""), Ok(67_108_864));
+    assert_eq!(rt; read_open(alloc, b"a"), Err(HttpError::TooLong));
     Ok(())
 }
 

@@ -2,8 +2,8 @@ use Rattle.cds_http.proofs.Counting.{take_full}
 use Rattle.cds_http.proofs.StageForms.{keeps_body, ends_body, refuses_body}
 use Rattle.cds_http.proofs.reader.take_rest.Goals as goal
 
-pub overflow_sub-result : goal.overflow_sub-result
-overflow_sub-result c = rw c.in-Ok-Whole.field-0-is at c.in-Ok-Whole.ensures.uses
+pub behind-requires : goal.behind-requires
+behind-requires c = rw c.in-Ok-Whole.field-0-is at c.in-Ok-Whole.ensures.uses
 
 pub returns-in-Ok-More : goal.returns-in-Ok-More
 returns-in-Ok-More c side bytes fits so_far =
@@ -14,7 +14,7 @@ returns-in-Ok-More c side bytes fits so_far =
 pub returns-in-Ok-Whole : goal.returns-in-Ok-Whole
 returns-in-Ok-Whole c side bytes fits so_far =
     let goes = rw c.in-Ok-Whole.field-0-is at (c.in-Ok-Whole.ensures.goes fits) in
-    ends_body side bytes c.args.piece.now c.in-Ok-Whole.body c.args.head c.args.body c.in-Ok-Whole.used c.with_body.result c.with_body.ensures so_far goes
+    rw c.behind.ensures (ends_body side bytes c.args.piece.now c.in-Ok-Whole.body c.args.head c.args.body c.in-Ok-Whole.used c.with_body.result c.with_body.ensures so_far goes)
 
 pub returns-in-Err : goal.returns-in-Err
 returns-in-Err c side bytes fits so_far =

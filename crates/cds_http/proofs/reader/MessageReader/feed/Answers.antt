@@ -1,17 +1,14 @@
-use Rattle.std.proofs.Common.{refl}
-use Rattle.cds_http.proofs.StageForms.{reader_takes, reader_refuses}
+use Rattle.std.proofs.Common.{◌∙◌, ap, refl, Bool, Ok}
+use Rattle.cds_http.specs.declared.reader.Stage.TheVariants.{Refused}
+use Rattle.cds_http.proofs.Growing.{feed_grows, feed_refuses}
 use Rattle.cds_http.proofs.reader.MessageReader.feed.Goals as goal
 
-pub returns-in-Ok : goal.returns-in-Ok
-returns-in-Ok c side came stands =
-    let takes = rw c.replace-stage.ensures.value at c.take.ensures.takes in
-    let failed = rw c.replace-stage.ensures.value at c.take.ensures.failed in
-    let ends = rw c.replace-stage.ensures.value at c.take.ensures.ends in
-    reader_takes side came c.args.self.now (record { side = c.args.self.now.side; stage = c.in-Ok.taken.stage }) c.args.piece.now c.take.result c.in-Ok.taken refl refl c.in-Ok.is stands takes failed ends
+pub returns-in-Ok-true : goal.returns-in-Ok-true
+returns-in-Ok-true c side came stands =
+    feed_grows side came c.args.self.now (record { side = c.args.self.now.side; stage = c.grow.new.stage }) c.args.piece.now c.grow.result
+    (c.in-Ok-true.is ∙ ap (λ (b : Bool). Ok b) c.in-Ok-true.field-0-test) refl stands c.grow.ensures.grows c.grow.ensures.failed
 
 pub returns-in-Err : goal.returns-in-Err
 returns-in-Err c side came stands =
-    let takes = rw c.replace-stage.ensures.value at c.take.ensures.takes in
-    let failed = rw c.replace-stage.ensures.value at c.take.ensures.failed in
-    let ends = rw c.replace-stage.ensures.value at c.take.ensures.ends in
-    reader_refuses side came c.args.self.now (record { side = c.args.self.now.side; stage = c.replace-stage.new.dest }) c.args.piece.now c.take.result c.in-Err.refusal c.replace-stage.ensures.after c.in-Err.is stands takes failed ends
+    feed_refuses side came c.args.self.now (record { side = c.args.self.now.side; stage = Refused }) c.grow.new.stage c.args.piece.now c.grow.result c.in-Err.refusal
+    c.in-Err.is refl stands c.grow.ensures.grows c.grow.ensures.ends c.grow.ensures.failed
