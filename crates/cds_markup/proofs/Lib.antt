@@ -77,3 +77,6 @@ pub mod WrittenNames
 pub mod Answering
 pub mod PiecesForm
 pub mod Public
+pub mod Only
+pub mod ChildCount
+pub mod DraftsForm

@@ -23,3 +23,5 @@ pub mod Pieces
 pub mod Reader
 pub mod GivenParts
 pub mod SinkLaws
+pub mod Children
+pub mod Drafts

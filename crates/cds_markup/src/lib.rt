@@ -2,14 +2,17 @@
 #![tactic(auto)]
 
 mod build;
+mod children;
 mod element;
 mod error;
 pub mod evaluated;
+pub mod format_laws;
 pub mod laws;
 mod name;
 mod names;
 mod parser;
 mod part;
+mod positions;
 mod prolog;
 mod read;
 mod reader;
@@ -27,6 +30,7 @@ pub use element::{Element, Node, Nodes};
 pub use error::MarkupError;
 pub use name::{Attr, Attrs, Name};
 pub use part::{Part, Parts};
+pub use positions::{child_place, root_place};
 pub use read::{give_parts, read_document, read_parts};
 pub use reader::Reader;
 pub use sink::PartSink;

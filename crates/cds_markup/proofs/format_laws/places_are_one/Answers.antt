@@ -1,0 +1,5 @@
+use Rattle.cds_markup.proofs.ChildCount.{places-are-one}
+use Rattle.cds_markup.proofs.format_laws.places_are_one.Goals as goal
+
+pub returns : goal.returns
+returns c = places-are-one
