@@ -1,0 +1,30 @@
+use Rattle.std.proofs.Common.{rules, sym, subst, arith, ◌+◌}
+use Rattle.cds_gena.specs.Subscribed.{AreGranted}
+use Rattle.cds_gena.proofs.Granted.{granted-more, none-numbered}
+use Rattle.std.proofs.Common.{◌≡◌, ap, ◌∙◌}
+use Rattle.url.specs.Parts.{serialize}
+use Rattle.cds_gena.specs.Subscribed.{Booked, Subscribed, with_grant}
+use Rattle.cds_gena.proofs.Commands.{booked-grant}
+use Rattle.cds_gena.proofs.book.Book.subscribe.Goals as goal
+
+pub add-requires : goal.add-requires
+add-requires c = record { new = none-numbered c.self.inside.granted (c.self.inside.granted + 1) c.self.inside.living.entries (omega arith) c.self.invariant.1 }
+
+pub invariant_of-self-2 : goal.invariant_of-self-2
+invariant_of-self-2 c =
+    (c.self.invariant.0, subst (AreGranted (c.self.inside.granted + 1)) (sym c.in_ok-add.ensures.ok) (granted-more c.self.inside.granted _ c.self.inside.living.entries c.self.invariant.1))
+
+pub returns-clause-stands : goal.returns-clause-stands
+returns-clause-stands c start commands stands =
+    let now : Subscribed = record { granted = c.self.inside.granted + 1; living = c.add.new.living.entries } in
+    let step : now ≡ with_grant c.args.now (serialize c.args.callback.now) c.args.seconds c.args.self.now.subscribed = search rules in
+    let names = ap (λ (z : Booked). z.names) c.self.view_is ∙ stands.names in
+    let many = ap (λ (z : Booked). z.subscribed.granted) c.self.view_is ∙ ap (λ (s : Subscribed). s.granted) stands.subscribed in
+    let number = c.from.ensures in (
+      omega (arith, names, many, number),
+      record {
+        names = names;
+        subscribed = step ∙ (ap (with_grant c.args.now (serialize c.args.callback.now) c.args.seconds) stands.subscribed
+            ∙ sym (booked-grant start.first commands c.args.now (serialize c.args.callback.now) c.args.seconds));
+      },
+    )

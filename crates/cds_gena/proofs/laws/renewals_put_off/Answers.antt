@@ -1,0 +1,5 @@
+use Rattle.cds_gena.proofs.Commands.{booked-renewal}
+use Rattle.cds_gena.proofs.laws.renewals_put_off.Goals as goal
+
+pub returns : goal.returns
+returns c = λ first now number seconds older. booked-renewal first older now number seconds

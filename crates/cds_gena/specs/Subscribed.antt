@@ -1,0 +1,133 @@
+-- The subscriptions that a server keeps: a function of its first number and of the commands that it accepted, the newest of which stands
+-- first. What a subscription is, the commands alone say (UPnP Device Architecture 2.0 on eventing).
+use Rattle.std.specs.Prelude.{◌≡◌, ◌+◌, ◌-◌, ◌≤◌, ◌&&◌, ℕ, Bool, false, cond, not, nat_eq, nat_lt, nat_le, List, [], ◌∷◌, ◌++◌, map, filter, length, Option, Some, None, unwrap_or}
+use Rattle.std.specs.List.{AllByRecursion, filter_map, range_with_len}
+use Rattle.std.specs.Map.{lookup}
+use Rattle.cds_commands.specs.Commands.{Command, Start}
+use Rattle.cds_commands.specs.Names.{names_of}
+use Rattle.cds_commands.specs.Subscriptions.{granted, end_after, runs_until, callback_of, subscription_limit}
+use Rattle.cds_commands.specs.Notes.{next_seq_of, seq_limit, notes_of}
+use Rattle.cds_gena.specs.declared.address.Address.{Address}
+use Rattle.cds_gena.specs.declared.book.Subscription.{Subscription}
+use Rattle.cds_gena.specs.declared.error.GenaError.{GenaError}
+use Rattle.cds_gena.specs.declared.error.GenaError.TheVariants.{Full, Spent}
+
+-- ---- by the commands
+
+-- a subscription by its callback, the SEQ of its next note, where one is left, and the moment at which it runs out, where it has not ended; each
+-- with its number among the grants
+abbrev pub running : ℕ → List ℕ → ℕ → Option ℕ → Option (ℕ × Subscription)
+running number callback seq None = None
+running number callback seq (Some end) =
+    cond (nat_lt seq seq_limit) (Some (number, record { callback = callback; end = end; next_seq = seq })) None
+
+abbrev pub subscription_of : ℕ → List Command → ℕ → Option (ℕ × Subscription)
+subscription_of first commands number =
+    running number (unwrap_or (callback_of number commands) []) (next_seq_of number (notes_of first commands)) (runs_until number commands)
+
+-- how many subscriptions were granted, and those that have not ended, in the order of their making
+pub record Subscribed : Type 0 where
+  pub granted : ℕ
+  pub living : List (ℕ × Subscription)
+
+abbrev pub subscribed_by : ℕ → List Command → Subscribed
+subscribed_by first commands = record {
+  granted = granted commands;
+  living = filter_map (subscription_of first commands) (range_with_len 1 (granted commands));
+}
+
+-- a book has them, and the name of number 0
+pub record Booked : Type 0 where
+  pub names : ℕ
+  pub subscribed : Subscribed
+
+-- a book has what the commands say
+pub record StandsFor (book : Booked) (start : Start) (commands : List Command) : Type 0 where
+  pub names : book.names ≡ names_of start
+  pub subscribed : book.subscribed ≡ subscribed_by start.first commands
+
+-- ---- step by step
+
+-- before any was granted
+abbrev pub nothing_granted : Subscribed
+nothing_granted = record { granted = 0; living = [] }
+
+-- those that have not run out at a moment
+abbrev pub alive : ℕ → List (ℕ × Subscription) → List (ℕ × Subscription)
+alive now living = filter (λ (p : ℕ × Subscription). nat_lt now p.1.end) living
+
+-- with one more, whose first note is sent
+abbrev pub with_grant : ℕ → List ℕ → ℕ → Subscribed → Subscribed
+with_grant now callback seconds s = record {
+  granted = s.granted + 1;
+  living = s.living ++ (s.granted + 1, record { callback = callback; end = end_after now seconds; next_seq = 1 }) ∷ [];
+}
+
+-- with the end of one put off
+abbrev pub until : ℕ → ℕ → (ℕ × Subscription) → ℕ × Subscription
+until number end p =
+    cond (nat_eq p.0 number) (p.0, record { callback = p.1.callback; end = end; next_seq = p.1.next_seq }) p
+
+abbrev pub renewed : ℕ → ℕ → Subscribed → Subscribed
+renewed number end s = record { granted = s.granted; living = map (until number end) s.living }
+
+-- without that of a number
+abbrev pub without : ℕ → Subscribed → Subscribed
+without number s = record { granted = s.granted; living = filter (λ (p : ℕ × Subscription). not (nat_eq p.0 number)) s.living }
+
+-- without those that have run out
+abbrev pub expired : ℕ → Subscribed → Subscribed
+expired now s = record { granted = s.granted; living = alive now s.living }
+
+-- after each was sent a note: its SEQ is raised, and it ends where that was the last one
+abbrev pub has_next : (ℕ × Subscription) → Bool
+has_next p = nat_lt p.1.next_seq (seq_limit - 1)
+
+abbrev pub raised : (ℕ × Subscription) → ℕ × Subscription
+raised p = (p.0, record { callback = p.1.callback; end = p.1.end; next_seq = p.1.next_seq + 1 })
+
+abbrev pub notified : Subscribed → Subscribed
+notified s = record { granted = s.granted; living = map raised (filter has_next s.living) }
+
+-- ---- names
+
+-- how many subscriptions are granted at most
+abbrev pub last_number : ℕ
+last_number = 4294967295
+
+-- the number of a name, where it is one that a book with this name of number 0 can give
+abbrev pub number_of : ℕ → ℕ → Option ℕ
+number_of names name = cond (nat_le names name && nat_le (name - names) last_number) (Some (name - names)) None
+
+-- whether the subscription of a number has not run out at a moment
+abbrev pub is_running : ℕ → Option Subscription → Bool
+is_running now None = false
+is_running now (Some s) = nat_lt now s.end
+
+abbrev pub holds_alive : ℕ → ℕ → List (ℕ × Subscription) → Bool
+holds_alive now number living = is_running now (lookup (nat_eq number) living)
+
+-- the number of a name whose subscription has not run out
+abbrev pub if_alive : ℕ → List (ℕ × Subscription) → Option ℕ → Option ℕ
+if_alive now living None = None
+if_alive now living (Some number) = cond (holds_alive now number living) (Some number) None
+
+abbrev pub living_named : ℕ → ℕ → Booked → Option ℕ
+living_named now name book = if_alive now book.subscribed.living (number_of book.names name)
+
+-- where the note to a subscription goes
+abbrev pub address_of : ℕ → (ℕ × Subscription) → Address
+address_of names p = record { sid = record { 0 = names + p.0 }; callback = p.1.callback; seq = p.1.next_seq }
+
+-- why no subscription is granted at a moment: no name is left; or as many live as may
+abbrev pub if_full : ℕ → Option GenaError
+if_full live = cond (nat_lt live subscription_limit) None (Some (Full live))
+
+abbrev pub grant_refusal : ℕ → Subscribed → Option GenaError
+grant_refusal now s = cond (nat_eq s.granted last_number) (Some Spent) (if_full (length (alive now s.living)))
+
+-- ---- what every book keeps
+
+-- no more live than were granted, and their numbers are among those
+abbrev pub AreGranted : ℕ → List (ℕ × Subscription) → Type 0
+AreGranted granted living = (length living ≤ granted) × AllByRecursion (λ (p : ℕ × Subscription). p.0 ≤ granted) living

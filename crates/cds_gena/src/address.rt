@@ -1,0 +1,79 @@
+//! Where notes go.
+
+ghost use Rattle.std.specs.Prelude.{◌≡◌, ◌==◌, [], ◌++◌, length, OnOk, OnErr, option_copied, slice_get};
+
+use crate::sid::Sid;
+use cds_base::{Mem, Text};
+use std::alloc::Global;
+use std::marker::Model;
+
+/// Where one note goes: the name of its subscription, the URL at which it is delivered, and its SEQ.
+#[derive(Drop, Debug)]
+pub struct Address {
+    pub sid: Sid,
+    pub callback: Text,
+    pub seq: u32,
+}
+
+/// A list of addresses.
+#[derive(Drop, Debug)]
+pub struct Addresses {
+    items: Vec<Address>,
+}
+
+impl Model for Addresses {
+    ghost use Rattle.std.specs.Prelude.{List};
+    ghost use Rattle.cds_gena.specs.declared.address.Address.{Address};
+
+    ghost Value = { List Address };
+
+    ghost view = { λ a. a.items.items };
+}
+
+impl Addresses {
+    /// The empty list, which takes no memory.
+    pub fn new(alloc: Global) -> Addresses
+        ensures { result ≡ [] }
+    {
+        Addresses {
+            items: Vec::new(alloc),
+        }
+    }
+
+    /// Puts others behind these. Where there is no memory, the list is as before.
+    pub fn append(&mut self, mut more: Vec<Address>) -> Result<(), Mem>
+        ensures ok { OnOk result (self.new ≡ self.old ++ more.items) }
+        ensures err { OnErr result (self.new ≡ self.old) }
+    {
+        self.items.append(&mut more)?;
+        Ok(())
+    }
+
+    /// How many there are.
+    pub fn len(&self) -> usize
+        ensures { result ≡ length self.now }
+    {
+        self.items.len()
+    }
+
+    /// Whether there is none.
+    pub fn is_empty(&self) -> bool
+        ensures { result ≡ (length self.now == 0) }
+    {
+        self.items.is_empty()
+    }
+
+    /// That at a place counted from 0, `None` past the end.
+    pub fn get(&self, at: usize) -> Option<&Address>
+        ensures { option_copied result ≡ slice_get self.now at }
+    {
+        self.items.get(at)
+    }
+
+    /// All of them.
+    pub fn as_slice(&self) -> &[Address]
+        ensures { result.now ≡ self.now }
+    {
+        self.items.as_slice()
+    }
+}

@@ -1,0 +1,358 @@
+//! The subscriptions of one server.
+
+ghost use Rattle.std.specs.Prelude.{◌≡◌, ◌↔◌, ◌⊎◌, ◌+◌, ◌≤◌, ◌^◌, ℕ, List, [], ◌∷◌, ◌++◌, map, filter, length, slice_index, nat_eq, not, Some, None, Err, IsOk, IsSome, IfOk, IfErr, IfSome, OnOk, OnErr};
+ghost use Rattle.indexmap.specs.IndexMap.{get};
+ghost use Rattle.url.specs.Parts.{serialize};
+ghost use Rattle.cds_commands.specs.Commands.{Command, Start, Grants, Renews, Ends, Ticks, scans_of};
+ghost use Rattle.cds_commands.specs.Names.{high_word, low_word, name_of, names_of};
+ghost use Rattle.cds_commands.specs.Releases.{release_at, releases_of};
+ghost use Rattle.cds_commands.specs.Subscriptions.{end_after, granted};
+ghost use Rattle.cds_gena.specs.declared.error.GenaError.TheVariants as GenaError;
+ghost use Rattle.cds_gena.specs.Subscribed.{StandsFor, address_of, alive, expired, grant_refusal, has_next, holds_alive, living_named, nothing_granted, notified, number_of, raised, renewed, until, with_grant, without};
+
+use crate::address::{Address, Addresses};
+use crate::error::GenaError;
+use crate::sid::Sid;
+use cds_base::{Mem, Text};
+use indexmap::IndexMap;
+use std::alloc::Global;
+use std::marker::Model;
+use url::Url;
+
+/// How many subscriptions live at most.
+const SUBSCRIPTION_LIMIT: usize = 64;
+
+/// A subscription that has not ended.
+#[derive(Drop, Debug)]
+pub struct Subscription {
+    /// The URL at which its notes are delivered.
+    pub callback: Text,
+    /// The moment at which it runs out, in milliseconds.
+    pub end: u128,
+    /// The SEQ of its next note.
+    pub next_seq: u32,
+}
+
+/// Those that have not ended, by their numbers, in the order of their making.
+type Living = IndexMap<u32, Subscription>;
+
+/// How many subscriptions were granted, counted from 1, and those that have not ended. It gives names of 128 bits, which
+/// its boot words and these numbers make.
+#[derive(Drop)]
+pub struct Book {
+    /// The name of number 0.
+    names: u128,
+    granted: u32,
+    living: Living,
+}
+
+impl Model for Book {
+    ghost use Rattle.std.specs.Prelude.{◌+◌, ◌≤◌, ◌^◌};
+    ghost use Rattle.cds_gena.specs.Subscribed.{AreGranted, Booked};
+
+    ghost Value = { Booked };
+
+    ghost view = { λ b. record { names = b.names; subscribed = record { granted = b.granted; living = b.living.entries } } };
+
+    ghost invariant = { λ b. (b.names + 2 ^ 32 ≤ 2 ^ 128) × AreGranted b.granted b.living.entries };
+}
+
+/// The moment at which what is granted at a moment for so many seconds runs out.
+fn end_after(now: u64, seconds: u32) -> u128
+    ensures { result ≡ end_after now seconds }
+{
+    u128::from(now) + u128::from(seconds) * 1000
+}
+
+/// How many have not run out at a moment.
+fn count_alive(living: &Living, now: u64) -> usize
+    ensures { result ≡ length (alive now living.now.entries) }
+{
+    let now = u128::from(now);
+    living.iter().filter(|entry| now < entry.1.end).count()
+}
+
+/// Whether that of a number has not run out at a moment.
+fn is_alive(living: &Living, number: u32, now: u64) -> bool
+    ensures { result ≡ holds_alive now number living.now.entries }
+{
+    match living.get(&number) {
+        Some(s) => u128::from(now) < s.end,
+        None => false,
+    }
+}
+
+/// Adds one behind the others.
+fn add(living: &mut Living, number: u32, s: Subscription) -> Result<(), Mem>
+    requires new { get nat_eq living.old number ≡ None }
+    ensures ok { OnOk result (living.new.entries ≡ living.old.entries ++ (number, s) ∷ []) }
+    ensures err { OnErr result (living.new.entries ≡ living.old.entries) }
+{
+    living.insert(number, s)?;
+    Ok(())
+}
+
+/// Puts off the end of that of a number.
+fn put_off(living: &mut Living, number: u32, end: u128)
+    ensures { living.new.entries ≡ map (until number end) living.old.entries }
+{
+    living.retain(|n, s| {
+        if *n == number {
+            s.end = end;
+        }
+        true
+    });
+}
+
+/// Drops that of a number.
+fn drop_numbered(living: &mut Living, number: u32)
+    ensures { living.new.entries ≡ filter (λ p. not (nat_eq p.0 number)) living.old.entries }
+{
+    living.retain(|n, _| *n != number);
+}
+
+/// Drops those that have run out at a moment.
+fn drop_past(living: &mut Living, now: u64)
+    ensures { living.new.entries ≡ alive now living.old.entries }
+{
+    let now = u128::from(now);
+    living.retain(|_, s| now < s.end);
+}
+
+/// Raises the SEQ of each, and drops those for which none is left.
+fn raise(living: &mut Living)
+    ensures { living.new.entries ≡ map raised (filter has_next living.old.entries) }
+{
+    living.retain(|_, s| {
+        if s.next_seq == u32::MAX {
+            return false;
+        }
+        s.next_seq += 1;
+        true
+    });
+}
+
+/// Where the notes to those go that have not run out at a moment, in the order of their making.
+fn addresses(alloc: Global, living: &Living, names: u128, now: u64) -> Result<Vec<Address>, Mem>
+    requires names { names + 2 ^ 32 ≤ 2 ^ 128 }
+    ensures { IfOk result (λ all. all.items ≡ map (address_of names) (alive now living.now.entries)) }
+{
+    let now = u128::from(now);
+    let mut all = Vec::new(alloc);
+    for (number, s) in living.iter() {
+        let number = *number;
+        if now < s.end {
+            let callback = s.callback.copy(alloc)?;
+            all.push(Address {
+                sid: Sid(names + u128::from(number)),
+                callback,
+                seq: s.next_seq,
+            })?;
+        }
+    }
+    Ok(all)
+}
+
+/// The number of a name, where it is one that a book with this name of number 0 can give.
+fn number_of(names: u128, sid: Sid) -> Option<u32>
+    ensures { result ≡ number_of names sid.0 }
+{
+    match sid.0.checked_sub(names) {
+        None => None,
+        Some(number) => {
+            if number <= u128::from(u32::MAX) {
+                Some(number as u32)
+            } else {
+                None
+            }
+        }
+    }
+}
+
+/// The upper 64 bits of each name: those of the first boot word, with the four bits of the version.
+fn high_word(high: u64) -> u64
+    ensures { result ≡ high_word high }
+{
+    high / 65_536 * 65_536 + 32_768 + high % 4_096
+}
+
+/// The lower 64 bits of the name of number 0: those of the second boot word, with the two bits of the variant, and the
+/// lowest 32 bits left for the number.
+fn low_word(low: u64) -> u64
+    ensures result { result ≡ low_word low }
+    ensures room { result + 2 ^ 32 ≤ 2 ^ 64 }
+{
+    9_223_372_036_854_775_808 + low % 4_611_686_018_427_387_904 / 4_294_967_296 * 4_294_967_296
+}
+
+impl Book {
+    /// A book before any subscription, which takes no memory, by a server's two boot words.
+    pub fn new(alloc: Global, boot: [u64; 2]) -> Book
+        ensures nothing { result.subscribed ≡ nothing_granted }
+        ensures stands { (start : Start) → start.high ≡ slice_index boot 0 → start.low ≡ slice_index boot 1 → StandsFor result start [] }
+        ensures names { (first : ℕ) → result.names ≡ names_of (record { high = slice_index boot 0; low = slice_index boot 1; first = first }) }
+    {
+        let names = u128::from(high_word(boot[0])) * 18_446_744_073_709_551_616
+            + u128::from(low_word(boot[1]));
+        Book {
+            names,
+            granted: 0,
+            living: IndexMap::new(alloc),
+        }
+    }
+
+    /// The name of number 0, which is not given to any subscription.
+    pub fn names(&self) -> u128
+        ensures { result ≡ self.now.names }
+    {
+        self.names
+    }
+
+    /// How many subscriptions were granted.
+    pub fn granted(&self) -> u32
+        ensures { result ≡ self.now.subscribed.granted }
+    {
+        self.granted
+    }
+
+    /// How many have not run out at a moment in milliseconds.
+    pub fn live(&self, now: u64) -> usize
+        ensures { result ≡ length (alive now self.now.subscribed.living) }
+    {
+        count_alive(&self.living, now)
+    }
+
+    /// The number of a name whose subscription has not run out at a moment.
+    fn living_named(&self, now: u64, sid: Sid) -> Option<u32>
+        ensures { result ≡ living_named now sid.0 self.now }
+    {
+        match number_of(self.names, sid) {
+            None => None,
+            Some(number) => {
+                if is_alive(&self.living, number, now) {
+                    Some(number)
+                } else {
+                    None
+                }
+            }
+        }
+    }
+
+    /// Why no subscription is granted at a moment in milliseconds.
+    fn grant_refusal(&self, now: u64) -> Option<GenaError>
+        ensures { result ≡ grant_refusal now self.now.subscribed }
+    {
+        if self.granted == u32::MAX {
+            return Some(GenaError::Spent);
+        }
+        let live = count_alive(&self.living, now);
+        if live < SUBSCRIPTION_LIMIT {
+            None
+        } else {
+            Some(GenaError::Full { live: live as u32 })
+        }
+    }
+
+    /// Grants a subscription at a moment in milliseconds for so many seconds, and answers its name. `Spent` where the last
+    /// number was given, then `Full` where as many live as may, with their number. A refusal changes nothing.
+    pub fn subscribe(
+        &mut self,
+        alloc: Global,
+        now: u64,
+        callback: &Url,
+        seconds: u32,
+    ) -> Result<Sid, GenaError>
+        ensures granted { OnOk result (self.new.subscribed ≡ with_grant now (serialize callback.now) seconds self.old.subscribed) }
+        ensures sid { IfOk result (λ sid. sid.0 ≡ self.old.names + (self.old.subscribed.granted + 1)) }
+        ensures room { OnOk result (grant_refusal now self.old.subscribed ≡ None) }
+        ensures refused { IfSome (grant_refusal now self.old.subscribed) (λ e. result ≡ Err e) }
+        ensures errors { IfErr result (λ e. (e ≡ GenaError.Mem) ⊎ (grant_refusal now self.old.subscribed ≡ Some e)) }
+        ensures stands { (start : Start) (commands : List Command) → StandsFor self.old start commands → IfOk result (λ sid. (sid.0 ≡ name_of start (granted commands + 1))
+            × StandsFor self.new start (Grants now (serialize callback.now) seconds ∷ commands)) }
+        ensures names { self.new.names ≡ self.old.names }
+        ensures kept { OnErr result (self.new ≡ self.old) }
+    {
+        if let Some(refusal) = self.grant_refusal(now) {
+            return Err(refusal);
+        }
+        let number = self.granted + 1;
+        let callback = Text::read(alloc, callback.as_str())?;
+        let subscription = Subscription {
+            callback,
+            end: end_after(now, seconds),
+            next_seq: 1,
+        };
+        add(&mut self.living, number, subscription)?;
+        self.granted = number;
+        Ok(Sid(self.names + u128::from(number)))
+    }
+
+    /// Grants the subscription of a name so many seconds from a moment in milliseconds on. `Precondition` where none of that
+    /// name lives then, and nothing changes. It takes no memory.
+    pub fn renew(&mut self, now: u64, sid: Sid, seconds: u32) -> Result<(), GenaError>
+        ensures lives { IsOk result ↔ IsSome (living_named now sid.0 self.old) }
+        ensures renewed { OnOk result (IfSome (living_named now sid.0 self.old)
+            (λ number. self.new.subscribed ≡ renewed number (end_after now seconds) self.old.subscribed)) }
+        ensures stands { (start : Start) (commands : List Command) → StandsFor self.old start commands
+            → OnOk result (IfSome (living_named now sid.0 self.old) (λ number. StandsFor self.new start (Renews now number seconds ∷ commands))) }
+        ensures errors { IfErr result (λ e. e ≡ GenaError.Precondition) }
+        ensures names { self.new.names ≡ self.old.names }
+        ensures kept { OnErr result (self.new ≡ self.old) }
+    {
+        match self.living_named(now, sid) {
+            None => Err(GenaError::Precondition),
+            Some(number) => {
+                put_off(&mut self.living, number, end_after(now, seconds));
+                Ok(())
+            }
+        }
+    }
+
+    /// Ends the subscription of a name. `Precondition` where none of that name lives at the moment, and nothing changes. It
+    /// takes no memory.
+    pub fn unsubscribe(&mut self, now: u64, sid: Sid) -> Result<(), GenaError>
+        ensures lives { IsOk result ↔ IsSome (living_named now sid.0 self.old) }
+        ensures ended { OnOk result (IfSome (living_named now sid.0 self.old) (λ number. self.new.subscribed ≡ without number self.old.subscribed)) }
+        ensures stands { (start : Start) (commands : List Command) → StandsFor self.old start commands
+            → OnOk result (IfSome (living_named now sid.0 self.old) (λ number. StandsFor self.new start (Ends now number ∷ commands))) }
+        ensures errors { IfErr result (λ e. e ≡ GenaError.Precondition) }
+        ensures names { self.new.names ≡ self.old.names }
+        ensures kept { OnErr result (self.new ≡ self.old) }
+    {
+        match self.living_named(now, sid) {
+            None => Err(GenaError::Precondition),
+            Some(number) => {
+                drop_numbered(&mut self.living, number);
+                Ok(())
+            }
+        }
+    }
+
+    /// Drops the subscriptions that have run out at a moment in milliseconds.
+    pub fn expire(&mut self, now: u64)
+        ensures expired { self.new.subscribed ≡ expired now self.old.subscribed }
+        ensures stands { (start : Start) (commands : List Command) → StandsFor self.old start commands
+            → release_at now (scans_of start.first commands) (releases_of start.first commands) ≡ None → StandsFor self.new start (Ticks now ∷ commands) }
+        ensures names { self.new.names ≡ self.old.names }
+    {
+        drop_past(&mut self.living, now);
+    }
+
+    /// Drops the subscriptions that have run out at a moment, gives where a note to each of the others goes, in the order of
+    /// their making, and raises their SEQs; one whose note has the last SEQ ends. All memory is taken first: where there is
+    /// none, nothing changes.
+    pub fn next_notes(&mut self, alloc: Global, now: u64, out: &mut Addresses) -> Result<(), Mem>
+        ensures notes { OnOk result (out.new ≡ out.old ++ map (address_of self.old.names) (alive now self.old.subscribed.living)) }
+        ensures raised { OnOk result (self.new.subscribed ≡ notified (expired now self.old.subscribed)) }
+        ensures stands { (start : Start) (commands : List Command) → StandsFor self.old start commands
+            → IsSome (release_at now (scans_of start.first commands) (releases_of start.first commands)) → OnOk result (StandsFor self.new start (Ticks now ∷ commands)) }
+        ensures names { self.new.names ≡ self.old.names }
+        ensures kept { OnErr result ((self.new ≡ self.old) × (out.new ≡ out.old)) }
+    {
+        let all = addresses(alloc, &self.living, self.names, now)?;
+        out.append(all)?;
+        drop_past(&mut self.living, now);
+        raise(&mut self.living);
+        Ok(())
+    }
+}

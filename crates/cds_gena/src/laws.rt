@@ -1,0 +1,48 @@
+//! Laws of the subscriptions that a book keeps: each function's contract is one of them, and calling it gives the law.
+
+ghost use Rattle.cds_gena.specs.SubscribedLaws as laws;
+
+/// Before any command nothing is granted.
+pub fn nothing_is_granted_at_first()
+    ensures { laws.nothing_is_granted_at_first }
+{}
+
+/// A grant makes one more, which gets its first note.
+pub fn grants_make_one_more()
+    ensures { laws.grants_make_one_more }
+{}
+
+/// A renewal puts off the end of one.
+pub fn renewals_put_off()
+    ensures { laws.renewals_put_off }
+{}
+
+/// One that is given up goes.
+pub fn ends_drop()
+    ensures { laws.ends_drop }
+{}
+
+/// A tick without a release drops those that have run out.
+pub fn ticks_expire()
+    ensures { laws.ticks_expire }
+{}
+
+/// A tick with a release sends each of the others a note, under its next SEQ and in the order of their making.
+pub fn ticks_notify()
+    ensures { laws.ticks_notify }
+{}
+
+/// Scans and the stop change nothing.
+pub fn other_commands_change_nothing()
+    ensures { laws.other_commands_change_nothing }
+{}
+
+/// Which subscriptions live at a moment.
+pub fn living_are_alive()
+    ensures { laws.living_are_alive }
+{}
+
+/// A subscription is refused exactly where no name is left, or as many live as may.
+pub fn grants_are_refused()
+    ensures { laws.grants_are_refused }
+{}
