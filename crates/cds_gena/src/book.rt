@@ -267,7 +267,8 @@ impl Book {
         ensures room { OnOk result (grant_refusal now self.old.subscribed ≡ None) }
         ensures refused { IfSome (grant_refusal now self.old.subscribed) (λ e. result ≡ Err e) }
         ensures errors { IfErr result (λ e. (e ≡ GenaError.Mem) ⊎ (grant_refusal now self.old.subscribed ≡ Some e)) }
-        ensures stands { (start : Start) (commands : List Command) → StandsFor self.old start commands → IfOk result (λ sid. (sid.0 ≡ name_of start (granted commands + 1))
+        ensures stands { (start : Start) (commands : List Command) → StandsFor self.old start commands
+            → IfOk result (λ sid. (sid.0 ≡ name_of start (granted commands + 1))
             × StandsFor self.new start (Grants now (serialize callback.now) seconds ∷ commands)) }
         ensures names { self.new.names ≡ self.old.names }
         ensures kept { OnErr result (self.new ≡ self.old) }
@@ -332,7 +333,8 @@ impl Book {
     pub fn expire(&mut self, now: u64)
         ensures expired { self.new.subscribed ≡ expired now self.old.subscribed }
         ensures stands { (start : Start) (commands : List Command) → StandsFor self.old start commands
-            → release_at now (scans_of start.first commands) (releases_of start.first commands) ≡ None → StandsFor self.new start (Ticks now ∷ commands) }
+            → release_at now (scans_of start.first commands) (releases_of start.first commands) ≡ None
+            → StandsFor self.new start (Ticks now ∷ commands) }
         ensures names { self.new.names ≡ self.old.names }
     {
         drop_past(&mut self.living, now);
@@ -345,7 +347,8 @@ impl Book {
         ensures notes { OnOk result (out.new ≡ out.old ++ map (address_of self.old.names) (alive now self.old.subscribed.living)) }
         ensures raised { OnOk result (self.new.subscribed ≡ notified (expired now self.old.subscribed)) }
         ensures stands { (start : Start) (commands : List Command) → StandsFor self.old start commands
-            → IsSome (release_at now (scans_of start.first commands) (releases_of start.first commands)) → OnOk result (StandsFor self.new start (Ticks now ∷ commands)) }
+            → IsSome (release_at now (scans_of start.first commands) (releases_of start.first commands))
+            → OnOk result (StandsFor self.new start (Ticks now ∷ commands)) }
         ensures names { self.new.names ≡ self.old.names }
         ensures kept { OnErr result ((self.new ≡ self.old) × (out.new ≡ out.old)) }
     {
