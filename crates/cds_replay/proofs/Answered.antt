@@ -1,12 +1,19 @@
 -- What a session's replica and server answer is what its turns write, and nothing is refused.
-use Rattle.std.proofs.Common.{◌≡◌, ℕ, List, ◌++◌, Bool, true, false, cond, Some, Result, Ok, Err, refl, ap, sym, subst, ◌∙◌}
+use Rattle.std.proofs.Common.{◌≡◌, ℕ, ◌+◌, List, [], ◌++◌, length, drop, Bool, true, false, cond, Option, Some, None, Result, Ok, Err, refl, ap, sym, subst, ◌∙◌, arith}
+use Rattle.std.proofs.Math.Seq.{drop-append_seam}
 use Rattle.std.specs.Prelude.{codes, OnOk}
 use Rattle.std.specs.Fmt.{decimal}
 use Rattle.cds_object.specs.Object.{ObjectRow}
 use Rattle.cds_load.specs.Server.{reply_to}
 use Rattle.cds_load.specs.declared.exchange.Ask.{Ask as Asked}
 use Rattle.cds_load.specs.declared.exchange.Shown.{Shown}
-use Rattle.cds_commands.specs.Notes.{Note, notes_of}
+use Rattle.cds_object.specs.declared.record.Record.{Record}
+use Rattle.cds_catalog.specs.History.{end_of}
+use Rattle.cds_catalog.specs.Scans.{scan_answer}
+use Rattle.cds_store.specs.declared.span.Span.{Span}
+use Rattle.cds_store.specs.declared.error.ApplyError.{ApplyError}
+use Rattle.cds_store.specs.declared.error.ApplyError.TheVariants.{BadRecords, Full, Spent, Mem as NoRoom}
+use Rattle.cds_commands.specs.Notes.{Note, has_room, sent_by, notes_of}
 use Rattle.cds_commands.specs.Commands.{Command, scans_of}
 use Rattle.cds_follow.specs.Inbox.{Delivers, taken_by, is_out, Arrival, arrival}
 use Rattle.cds_follow.specs.Follow.{Known, Outcome, Knows, CannotBeRead, Jumps, Tears, known_by, next_ask, with_reply, with_notes, says, copied}
@@ -21,12 +28,14 @@ use Rattle.cds_replica.specs.declared.error.AnswerError.{AnswerError}
 use Rattle.cds_replica.specs.declared.error.AnswerError.TheVariants.{Unreadable, Jump as AnswerJump, Torn as AnswerTorn, Mem as AnswerMem}
 use Rattle.cds_script.specs.declared.turn.Turn.{Turn}
 use Rattle.cds_script.specs.declared.turn.Turn.TheVariants.{Ask}
-use Rattle.cds_script.specs.Report.{first_of, history_of, answer_text, arrival_text, deliver_text, unsubscribe_text, written_by, played, sent_note}
+use Rattle.cds_script.specs.Report.{first_of, history_of, answer_text, arrival_text, deliver_text, unsubscribe_text, scan_text, notes_text, sent_text, scanned, written_by, played, sent_note}
+use Rattle.cds_script.specs.Script.{grant_at}
 use Rattle.cds_script.specs.Played.{MayBe}
 use Rattle.cds_script.proofs.Given.{Waits, turns-kept}
 use Rattle.cds_script.proofs.Stood.{turns-taken, stands-at}
-use Rattle.cds_replay.specs.Lines.{known_text, taken_text, delivered_line, ended_text, was_noticed}
-use Rattle.cds_replay.specs.Serving.{Serving, Ended}
+use Rattle.cds_replay.specs.Lines.{numbered_line, scan_line, known_text, taken_text, delivered_line, ended_text, was_answered, was_noticed}
+use Rattle.cds_replay.specs.Serving.{Serving, Scanned, Granted, Ended}
+use Rattle.cds_replay.proofs.Noticed.{past-lines}
 use Rattle.cds_replay.specs.Session.{Playing, IsAfter, moment_in}
 use Rattle.cds_replay.proofs.Turns.{moment-is}
 use Rattle.cds_script.specs.declared.reply.HeldReply.TheVariants.{Named}
@@ -130,3 +139,33 @@ always (Err e) fact = tt
 pub written-as : {E : Type 0} (answer : Result (Unit {0}) E) (new old a b : List ℕ) → a ≡ b → OnOk answer (new ≡ old ++ a) → OnOk answer (new ≡ old ++ b)
 written-as (Ok done) new old a b same written = written ∙ ap (λ v. old ++ v) same
 written-as (Err e) new old a b same written = tt
+
+-- what a scan was answered is what the scan writes
+pub scan-written : (first : ℕ) (commands : List Command) (records : List Record) (answer : Result Span ApplyError) (old new : Serving) →
+    Scanned first commands records answer old new → was_answered answer ≡ true →
+    scan_line answer
+    ≡ scan_text (end_of (scans_of first (scanned (scan_answer (scans_of first commands) records) records commands))) (scan_answer (scans_of first commands) records)
+scan-written first commands records (Ok span) old new applied told =
+    ap (λ (s : Span). numbered_line (codes "scan ") s.to) applied.2
+    ∙ sym (ap (λ a. scan_text (end_of (scans_of first (scanned a records commands))) a) applied.0)
+scan-written first commands records (Err (BadRecords line)) old new applied told =
+    sym (ap (λ a. scan_text (end_of (scans_of first (scanned a records commands))) a) applied.0)
+scan-written first commands records (Err (Full objects)) old new applied told =
+    sym (ap (λ a. scan_text (end_of (scans_of first (scanned a records commands))) a) applied.0)
+scan-written first commands records (Err (Spent needed)) old new applied told =
+    sym (ap (λ a. scan_text (end_of (scans_of first (scanned a records commands))) a) applied.0)
+scan-written first commands records (Err NoRoom) old new applied told = absurd (cc)
+
+-- what a grant, or its refusal, writes
+pub grant-written : (first now : ℕ) (commands : List Command) (name : Option ℕ) (was server : Serving) → was.sent ≡ notes_of first commands →
+    Granted first now commands name was server →
+    notes_text (length was.sent + 1) (drop (length was.sent) server.sent)
+    ≡ cond (has_room now commands (notes_of first commands)) (sent_text first commands (grant_at now)) []
+grant-written first now commands None was server sent granted =
+    ap (λ (s : Serving). notes_text (length was.sent + 1) (drop (length was.sent) s.sent)) granted.1
+    ∙ past-lines (length was.sent) (length was.sent + 1) was.sent (omega arith)
+    ∙ sym (ap (λ b. cond b (sent_text first commands (grant_at now)) []) granted.0)
+grant-written first now commands (Some name) was server sent granted =
+    (λ i. notes_text (length (sent i) + 1) (drop (length (sent i)) (granted.2.sent i)))
+    ∙ ap (notes_text (length (notes_of first commands) + 1)) (drop-append_seam (notes_of first commands) (sent_by first commands (notes_of first commands) (grant_at now)))
+    ∙ sym (ap (λ b. cond b (sent_text first commands (grant_at now)) []) granted.0)

@@ -1,5 +1,5 @@
 -- A session that stands for turns stands for them and one more: what each turn makes of the server and of the replica.
-use Rattle.std.proofs.Common.{◌≡◌, ℕ, ◌+◌, ◌≤◌, List, [], ◌∷◌, ◌++◌, map, Bool, true, false, cond, nat_le, Option, Some, None, Result, Ok, Err, refl, ap, sym, subst, ◌∙◌}
+use Rattle.std.proofs.Common.{◌≡◌, ℕ, ◌+◌, ◌≤◌, List, [], ◌∷◌, ◌++◌, map, length, suc, Bool, true, false, cond, nat_le, Option, Some, None, Result, Ok, Err, refl, ap, sym, subst, ◌∙◌, arith}
 use Rattle.std.proofs.lemmas.Bool.{le-leb}
 use Rattle.cds_object.specs.declared.content.Content.{Content}
 use Rattle.cds_object.specs.declared.record.Record.{Record}
@@ -22,12 +22,13 @@ use Rattle.cds_replica.specs.Calls.{GoesOn, TakesTurn}
 use Rattle.cds_replica.specs.State.{ReplicaState, StandsFor}
 use Rattle.cds_object.specs.declared.info.Comment.{Comment}
 use Rattle.cds_object.specs.declared.info.FlacInfo.{FlacInfo}
+use Rattle.cds_script.specs.declared.found.Found.{Found}
 use Rattle.cds_script.specs.declared.found.Found.TheVariants.{Folder as FolderFound, Track as TrackFound}
 use Rattle.cds_script.specs.declared.turn.Turn.{Turn}
 use Rattle.cds_script.specs.declared.turn.Turn.TheVariants.{Folder, Track, Tag, Scan, Load, Read, Ask, First, At, Subscribe, Accept, Unsubscribe, Deliver, ReadFault}
 use Rattle.cds_replay.specs.Lines.{was_answered}
 use Rattle.cds_replay.specs.Serving.{Serving, Scanned, Granted, Ended, Serves}
-use Rattle.cds_replay.specs.Session.{Playing, IsAfter, moment_in, with_found, with_tag, held_reply}
+use Rattle.cds_replay.specs.Session.{Playing, IsAfter, Grows, moment_in, with_found, with_tag, held_reply}
 use Rattle.cds_replay.proofs.Turned.{last-some, turned}
 use Rattle.cds_script.specs.Script.{grant_at}
 use Rattle.cds_replay.specs.declared.last.Last.TheVariants.{NoTurn, OfTrack, Other}
@@ -244,3 +245,16 @@ pub tag-after : (was : Playing) (comment : Comment) (turns : List Turn) → IsAf
 tag-after was comment turns after stands =
     turned was (with_tag was comment) (Tag comment) turns after refl stands after.server after.replica
     (ap (last_commented comment) after.found) after.clock after.reply refl
+
+-- which leaves as many things found
+last-length : (comment : Comment) (found : List Found) → length (last_commented comment found) ≡ length found
+last-length comment [] = refl
+last-length comment (found ∷ []) = refl
+last-length comment (found ∷ next ∷ others) = ap suc (last-length comment (next ∷ others))
+
+pub tag-grows : (was : Playing) (comment : Comment) → Grows was (with_tag was comment)
+tag-grows was comment = record {
+  found = let e = last-length comment was.found in omega (arith, e);
+  granted = omega arith;
+  moment = λ low. low;
+}

@@ -2,8 +2,10 @@ use Rattle.std.proofs.Common.{◌≡◌, ◌∷◌, true, sym, subst}
 use Rattle.std.proofs.lemmas.Result.{on_ok_weaker}
 use Rattle.cds_script.specs.declared.turn.Turn.TheVariants.{Folder, Track, Tag, Scan, Load, Read, At, Subscribe, Accept, Unsubscribe, Deliver}
 use Rattle.cds_script.specs.Report.{may_stand}
-use Rattle.cds_replay.specs.Session.{IsAfter}
-use Rattle.cds_replay.proofs.Turns.{folder-after, track-after, tag-after}
+use Rattle.cds_script.specs.FoundFile.{FoundFile}
+use Rattle.cds_script.specs.declared.found.Found.TheVariants.{Folder as FolderFound, Track as TrackFound}
+use Rattle.cds_replay.specs.Session.{IsAfter, Grows, with_found, with_tag}
+use Rattle.cds_replay.proofs.Turns.{folder-after, track-after, tag-after, tag-grows}
 use Rattle.cds_replay.proofs.session.Session.answer.Goals as goal
 
 pub returns-in-Scan-clause-played : goal.returns-in-Scan-clause-played
@@ -70,3 +72,31 @@ returns-in-Tag-clause-played c =
           (tag-after c.args.self.now c.in-Tag.comment c.requires.played.turns c.requires.played.after may);
     })
     c.add_tag.ensures
+
+pub returns-in-Folder-clause-after : goal.returns-in-Folder-clause-after
+returns-in-Folder-clause-after c = λ turns after.
+    on_ok_weaker c.add_folder.result
+    (λ same. subst (λ p. IsAfter p (c.args.turn ∷ turns)) (sym same)
+    (subst (λ t. IsAfter (with_found c.args.self.now (FolderFound c.in-Folder.path)) (t ∷ turns)) (sym c.in-Folder.is) (folder-after c.args.self.now c.in-Folder.path turns after)))
+    c.add_folder.ensures
+
+pub returns-in-Track-clause-after : goal.returns-in-Track-clause-after
+returns-in-Track-clause-after c = λ turns after.
+    let file : FoundFile = record { path = c.in-Track.path; info = c.in-Track.info; size = c.in-Track.size } in
+    on_ok_weaker c.add_track.result
+    (λ same. subst (λ p. IsAfter p (c.args.turn ∷ turns)) (sym same)
+    (subst (λ t. IsAfter (with_found c.args.self.now (TrackFound file)) (t ∷ turns)) (sym c.in-Track.is)
+    (track-after c.args.self.now c.in-Track.path c.in-Track.info c.in-Track.size turns after)))
+    c.add_track.ensures
+
+pub returns-in-Tag-clause-after : goal.returns-in-Tag-clause-after
+returns-in-Tag-clause-after c = λ turns after.
+    let may = subst (λ t. may_stand turns t ≡ true) c.in-Tag.is (c.requires.stands turns after) in
+    on_ok_weaker c.add_tag.result
+    (λ same. subst (λ p. IsAfter p (c.args.turn ∷ turns)) (sym same)
+    (subst (λ t. IsAfter (with_tag c.args.self.now c.in-Tag.comment) (t ∷ turns)) (sym c.in-Tag.is) (tag-after c.args.self.now c.in-Tag.comment turns after may)))
+    c.add_tag.ensures
+
+pub returns-in-Tag-clause-grows : goal.returns-in-Tag-clause-grows
+returns-in-Tag-clause-grows c =
+    on_ok_weaker c.add_tag.result (λ same. subst (Grows c.args.self.now) (sym same) (tag-grows c.args.self.now c.in-Tag.comment)) c.add_tag.ensures
