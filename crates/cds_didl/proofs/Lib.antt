@@ -1,0 +1,4 @@
+pub mod OneByOne
+pub mod Whole
+pub mod Spaces
+pub mod Joined

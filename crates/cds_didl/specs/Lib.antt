@@ -1,0 +1,6 @@
+pub mod Spelled
+pub mod Duration
+pub mod Reading
+pub mod Didl
+pub mod Filter
+pub mod Fragment

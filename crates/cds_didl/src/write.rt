@@ -1,0 +1,73 @@
+//! Writing DIDL-Lite.
+
+ghost use Rattle.std.specs.Prelude.{◌≡◌, ◌++◌, OnOk, OnErr, IfOk, codes, string_bytes};
+ghost use Rattle.cds_didl.specs.Fragment.{fragment_of, fragments, didl_start, didl_text};
+
+use crate::Filter;
+use crate::row_text::put_row;
+use cds_base::{Mem, put};
+use cds_object::Row;
+use std::alloc::Global;
+
+/// Appends the element of a row, with the properties that the filter lets through. The place of a track's bytes is the
+/// base, which is escaped, `/media/` and the id. A refusal leaves `out` as it was.
+pub fn write_fragment(row: &Row, filter: &Filter, base: &str, out: &mut Vec<u8>) -> Result<(), Mem>
+    ensures ok { OnOk result (out.new.items ≡ out.old.items ++ fragment_of filter.now base.now row.now) }
+    ensures err { OnErr result (out.new.items ≡ out.old.items) }
+{
+    let mut text = String::new(*out.allocator());
+    put_row(&mut text, row, filter, base)?;
+    append(text.as_str(), out)
+}
+
+/// Appends a document of these rows. A refusal leaves `out` as it was.
+pub fn write_didl(rows: &[Row], filter: &Filter, base: &str, out: &mut Vec<u8>) -> Result<(), Mem>
+    ensures ok { OnOk result (out.new.items ≡ out.old.items ++ didl_text filter.now base.now rows.now) }
+    ensures err { OnErr result (out.new.items ≡ out.old.items) }
+{
+    let text = didl_text(*out.allocator(), rows, filter, base)?;
+    append(text.as_str(), out)
+}
+
+/// Appends a text. A refusal leaves `out` as it was.
+fn append(text: &str, out: &mut Vec<u8>) -> Result<(), Mem>
+    ensures ok { OnOk result (out.new.items ≡ out.old.items ++ text.now) }
+    ensures err { OnErr result (out.new.items ≡ out.old.items) }
+{
+    out.extend_from_slice(text.as_bytes())?;
+    Ok(())
+}
+
+/// The text of a document of these rows.
+#[tactic(auto, unfolding(crate::specs::Fragment::didl_text))]
+fn didl_text(alloc: Global, rows: &[Row], filter: &Filter, base: &str) -> Result<String, Mem>
+    ensures { IfOk result (λ text. string_bytes text ≡ didl_text filter.now base.now rows.now) }
+{
+    let mut text = String::new(alloc);
+    put_start(&mut text)?;
+    put_rows(&mut text, rows, filter, base)?;
+    put(&mut text, "</DIDL-Lite>")?;
+    Ok(text)
+}
+
+/// Puts the start tag of a document.
+#[tactic(auto, unfolding(crate::specs::Fragment::didl_start))]
+fn put_start(out: &mut String) -> Result<(), Mem>
+    ensures { OnOk result (string_bytes out.new ≡ string_bytes out.old ++ didl_start) }
+{
+    put(
+        out,
+        "<DIDL-Lite xmlns=\"urn:schemas-upnp-org:metadata-1-0/DIDL-Lite/\" xmlns:dc=\"http://purl.org/dc/elements/1.1/\" xmlns:upnp=\"urn:schemas-upnp-org:metadata-1-0/upnp/\">",
+    )?;
+    Ok(())
+}
+
+/// Puts the texts of rows.
+fn put_rows(out: &mut String, rows: &[Row], filter: &Filter, base: &str) -> Result<(), Mem>
+    ensures { OnOk result (string_bytes out.new ≡ string_bytes out.old ++ fragments filter.now base.now rows.now) }
+{
+    for row in rows {
+        put_row(out, row, filter, base)?;
+    }
+    Ok(())
+}
