@@ -1,2 +1,3 @@
+pub mod SidText
 pub mod Subscribed
 pub mod SubscribedLaws

@@ -30,6 +30,21 @@ fn subscriptions_live_by_the_rule(rt: HostRuntime) -> Result<(), Fail> {
         .subscribe(alloc, 1_000, &url, 3_600)
         .expect(&rt, "room");
     assert_eq!(rt; (first, second), (Sid(NAMES + 1), Sid(NAMES + 2)));
+    let mut text = Vec::new(alloc);
+    first.write(&mut text)?;
+    assert_eq!(rt;
+        text.as_slice(),
+        &b"uuid:00000000-0000-8000-8000-000000000001"[..]
+    );
+    assert_eq!(rt; Sid::read(text.as_slice()), Some(first));
+    assert_eq!(rt;
+        Sid::read(b"UUID:00000000-0000-8000-8000-000000000001"),
+        None
+    );
+    assert_eq!(rt;
+        Sid::read(b"uuid:00000000-0000-8000-8000-00000000000"),
+        None
+    );
     // a note to each, and none to one that has run out
     assert_eq!(rt; seqs(alloc, &mut book, 1_799_999)?.as_slice(), &[1, 1][..]);
     assert_eq!(rt;
