@@ -1,5 +1,5 @@
 -- Rows one by one.
-use Rattle.std.proofs.Common.{◌≡◌, ◌+◌, ◌<◌, ◌≤◌, ℕ, Bool, true, false, cond, codes, Option, Some, None, List, [], ◌∷◌, ◌++◌, length, map, Result, Ok, Err, refl, sym, ap, subst, ◌∙◌, arith, append_assoc}
+use Rattle.std.proofs.Common.{◌≡◌, ◌+◌, ◌<◌, ◌≤◌, ℕ, Bool, true, false, cond, codes, Option, Some, None, List, [], ◌∷◌, ◌++◌, length, map, Result, Ok, Err, refl, ap, subst, arith, append_assoc}
 use Rattle.cds_markup.specs.Document.{Meaning}
 use Rattle.cds_object.specs.Object.{ObjectRow}
 use Rattle.cds_didl.specs.declared.error.Fault.{Fault}

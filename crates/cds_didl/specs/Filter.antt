@@ -1,5 +1,5 @@
 -- Which properties are written of objects (UPnP ContentDirectory:4 on the filter of Browse and Search).
-use Rattle.std.specs.Prelude.{◌==◌, ℕ, Bool, true, not, ◌||◌, if◌then◌else◌, Option, Some, None, List, [], ◌∷◌, codes, drop, map}
+use Rattle.std.specs.Prelude.{◌==◌, ℕ, Bool, true, ◌||◌, if◌then◌else◌, Option, Some, None, List, [], ◌∷◌, codes, drop, map}
 use Rattle.std.specs.List.{slice_split, list_any, prefix_len}
 use Rattle.std.specs.Str.{bytes_eq}
 

@@ -1,6 +1,6 @@
 -- What an element of DIDL-Lite says of an object (UPnP ContentDirectory:4 on DIDL-Lite and on the properties of objects;
 -- which of them are needed is this project's profile). Elements and attributes that are not named here are passed over.
-use Rattle.std.specs.Prelude.{◌==◌, ◌^◌, ◌++◌, ℕ, Bool, if◌then◌else◌, Option, Some, None, List, codes}
+use Rattle.std.specs.Prelude.{◌==◌, ◌^◌, ◌++◌, ℕ, if◌then◌else◌, Option, Some, None, List, codes}
 use Rattle.std.specs.Option.{option_and_then, option_map}
 use Rattle.std.specs.List.{ends_with}
 use Rattle.std.specs.Fmt.{decimal}
@@ -9,7 +9,6 @@ use Rattle.cds_base.specs.Number.{number_below}
 use Rattle.cds_markup.specs.Document.{Meaning}
 use Rattle.cds_markup.specs.Children.{attrs_of, nodes_in, texts_in, named, is_any, only_of, plain_value}
 use Rattle.cds_object.specs.declared.content.Content.{Content}
-use Rattle.cds_object.specs.declared.content.TrackContent.{TrackContent}
 use Rattle.cds_object.specs.declared.content.Content.TheVariants.{Folder, Track}
 use Rattle.cds_object.specs.declared.row.Trackers.{Trackers}
 use Rattle.cds_object.specs.Object.{ObjectRow}

@@ -1,4 +1,4 @@
-use Rattle.std.proofs.Common.{◌≡◌, ◌≤◌, length, take, sym, ◌∙◌, arith}
+use Rattle.std.proofs.Common.{◌≡◌, take, sym, ◌∙◌, arith}
 use Rattle.cds_didl.specs.Filter.{without_back}
 use Rattle.cds_didl.proofs.Spaces.{one-less, none-less, none-left}
 use Rattle.cds_didl.proofs.filtering.without_back.Goals.{then-loop-end-test+else-text-end-eq32, else-loop-end-test}
