@@ -1,6 +1,6 @@
 use crate::{DidlError, Filter, read_didl, write_didl, write_fragment};
 use cds_markup::MarkupError;
-use cds_object::{Content, ObjectId, Rows};
+use cds_object::{Content, ObjectId, Row, Rows};
 use std::alloc::{AllocError, Global};
 use std::test::Fail;
 
@@ -23,6 +23,14 @@ fn read_inside(alloc: Global, parts: &[&str]) -> Result<Result<Rows, DidlError>,
     }
     text.push_str("</DIDL-Lite>")?;
     Ok(read_didl(alloc, text.as_str().as_bytes()))
+}
+
+/// The row at a place.
+fn row_at(rows: &Rows, at: usize) -> Result<&Row, Fail> {
+    match rows.get(at) {
+        Some(row) => Ok(row),
+        None => Err(Fail::from(DidlError::Mem)),
+    }
 }
 
 /// The text with one piece replaced by another.
@@ -159,7 +167,7 @@ fn parts_are_read(rt: HostRuntime) -> Result<(), Fail> {
     ] {
         let item = with(alloc, ITEM, from, to)?;
         match read_inside(alloc, &[item.as_str()])? {
-            Ok(rows) => match &rows.as_slice()[0].content {
+            Ok(rows) => match &row_at(&rows, 0)?.content {
                 Content::Track(track) => assert!(rt; track.duration == want, "{to}"),
                 Content::Folder { .. } => assert!(rt; false),
             },
@@ -176,7 +184,7 @@ fn parts_are_read(rt: HostRuntime) -> Result<(), Fail> {
     match read_inside(alloc, &[CONTAINER, other.as_str()])? {
         Ok(rows) => {
             assert_eq!(rt; rows.len(), 2);
-            let row = &rows.as_slice()[1];
+            let row = row_at(&rows, 1)?;
             assert!(rt;
                 row.id == ObjectId(2) && row.parent == Some(ObjectId(1)) && row.object_update == 2
             );
@@ -281,9 +289,30 @@ fn filters_let_through_what_they_name(rt: HostRuntime) -> Result<(), Fail> {
     ] {
         let mut out = Vec::new(alloc);
         let filter = Filter::read(alloc, text)?;
-        write_fragment(&rows.as_slice()[number], &filter, "", &mut out)?;
+        write_fragment(row_at(&rows, number)?, &filter, "", &mut out)?;
         let want = format!(in alloc; "{want}{more}")?;
         assert!(rt; out.as_slice() == want.as_bytes(), "{text}");
+    }
+    Ok(())
+}
+
+#[test]
+fn texts_are_escaped(rt: HostRuntime) -> Result<(), Fail> {
+    let alloc = rt.alloc();
+    let front =
+        "<item id=\"1\" parentID=\"0\" restricted=\"1\"><dc:title>A &amp; &quot;B&quot; &lt;C&gt;\u{fffd}</dc:title><upnp:class>object.item.audioItem.musicTrack</upnp:class><upnp:objectUpdateID>1</upnp:objectUpdateID><res protocolInfo=\"http-get:*:audio/flac:*\" size=\"10\" bitsPerSample=\"16\" nrAudioChannels=\"2\">";
+    let item = format!(in alloc; "{front}/media/1</res></item>")?;
+    match read_inside(alloc, &[item.as_str()])? {
+        Ok(rows) => {
+            let mut out = Vec::new(alloc);
+            write_fragment(row_at(&rows, 0)?, &Filter::all(), "", &mut out)?;
+            assert!(rt; out.as_slice() == item.as_bytes());
+            let mut out = Vec::new(alloc);
+            write_fragment(row_at(&rows, 0)?, &Filter::all(), "http://h?a&b", &mut out)?;
+            let based = format!(in alloc; "{front}http://h?a&amp;b/media/1</res></item>")?;
+            assert!(rt; out.as_slice() == based.as_bytes());
+        }
+        Err(_) => assert!(rt; false),
     }
     Ok(())
 }
