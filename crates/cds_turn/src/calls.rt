@@ -93,9 +93,10 @@ impl<V: StandsFor + Drop> Turn<V> {
         table::merge(&self.table.shared, &mut into.place, place);
     }
 
-    /// The value, exactly where all tickets that were drawn are served; else `Open` with the two counts, and the value is
-    /// gone. The counts are those of a state that the turn's rule allows and that has this seat: no more tickets are out
-    /// than the other seats have passes, so where the seat has all of them, the value comes and stands for what it has seen.
+    /// The value, which stands for a list that begins with all that the seat had seen; or `Open` with two numbers that
+    /// differ, and the value is gone. Either comes with some state that the turn's rule allows and that has this seat: of the
+    /// value one in which all tickets are served, of `Open` one whose counts these are. With all passes in the seat the value
+    /// comes, and stands for just what it has seen.
     pub fn close(self, seat: Seat<V>) -> Result<V, Open>
         requires { IsSeatOf self seat }
         ensures value { IfOk result (λ value. StandsBeyond V.stands (start_of self seat) (seen_by seat) value) }
