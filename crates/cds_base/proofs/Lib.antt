@@ -1,5 +1,6 @@
 pub mod Parts
 pub mod Escapes
+pub mod Items
 pub mod Numbers
 pub mod Pieces
 pub mod References

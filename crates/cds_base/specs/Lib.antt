@@ -1,5 +1,8 @@
+pub mod Asked
 pub mod Characters
+pub mod Entries
 pub mod Escape
+pub mod Folders
 pub mod Memory
 pub mod Number
 pub mod Outside

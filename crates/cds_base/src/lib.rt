@@ -3,9 +3,14 @@
 #![tactic(auto)]
 
 mod escaping;
+mod exterior;
+mod folder;
 mod limits;
 mod mem;
 mod memory;
+mod memory_folder;
+mod memory_item;
+mod memory_outside;
 mod number;
 mod order;
 mod outside;
@@ -13,19 +18,26 @@ mod reading;
 mod runs;
 mod sequence;
 mod text;
+mod trace;
 mod unescaping;
 mod writing;
 
 pub use escaping::escape;
+pub use exterior::{Outside, OutsideFault};
+pub use folder::{Entry, Folder, FolderFault};
 pub use limits::INPUT_LIMIT;
 pub use mem::Mem;
 pub use memory::{MemSink, MemSource};
+pub use memory_folder::MemFolder;
+pub use memory_item::{MemItem, are_tree};
+pub use memory_outside::MemOutside;
 pub use number::{read_plain, read_u32, read_u64};
 pub use outside::{Failed, Sink, Source, write_all};
 pub use reading::{empty_piece, read_piece};
 pub use runs::{first_forbidden, plain_run};
 pub use sequence::Sequence;
 pub use text::Text;
+pub use trace::Trace;
 pub use unescaping::{TextError, is_allowed, unescape};
 pub use writing::{
     put, put_attribute, put_number, put_number_attribute, put_number_element, put_text_element,
@@ -40,5 +52,7 @@ pub type Numbers = Sequence<u32>;
 /// A list of words, as a command line has them.
 pub type Words = Sequence<Text>;
 
+#[cfg(test)]
+mod folder_tests;
 #[cfg(test)]
 mod tests;

@@ -89,7 +89,7 @@ impl Source for MemSource {
 }
 
 /// Whether the number stands in the list.
-fn is_listed(numbers: &[u32], number: u64) -> bool
+pub fn is_listed(numbers: &[u32], number: u64) -> bool
     ensures { result ≡ list_any (λ x. x == number) numbers.now }
 {
     numbers.iter().any(|x| u64::from(*x) == number)

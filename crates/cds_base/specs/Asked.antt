@@ -1,0 +1,21 @@
+-- The words of what gives the objects of the outside.
+use Rattle.std.specs.Prelude.{◌≡◌, ℕ, Bool, true, false, Result, Ok, Err, List}
+use Rattle.cds_base.specs.declared.exterior.OutsideFault.{OutsideFault}
+use Rattle.cds_base.specs.declared.exterior.OutsideFault.TheVariants.{Failed, Mem}
+use Rattle.cds_base.specs.Outside.{Rose}
+
+-- What the outside was asked for: a folder at a path.
+pub data Asked : Type 0 where
+  ForFolder : List ℕ → Asked
+
+-- A count of faults after a call: it rose where the call failed, and stays where it did not.
+abbrev pub OutsideRose : {A : Type 0} → Result A OutsideFault → ℕ → ℕ → Type 0
+OutsideRose (Ok value) old new = new ≡ old
+OutsideRose (Err Failed) old new = Rose old new
+OutsideRose (Err Mem) old new = new ≡ old
+
+-- Whether a call of the outside failed.
+abbrev pub gave_nothing : {A : Type 0} → Result A OutsideFault → Bool
+gave_nothing (Ok value) = false
+gave_nothing (Err Failed) = true
+gave_nothing (Err Mem) = false

@@ -1,0 +1,99 @@
+-- What callers see of the folders in memory.
+use Rattle.std.specs.Prelude.{◌≡◌, ℕ, if◌then◌else◌, Option, Some, None, List, [], ◌∷◌, map, take}
+use Rattle.std.specs.Option.{option_map}
+use Rattle.cds_base.specs.declared.folder.Entry.{Entry}
+use Rattle.cds_base.specs.declared.folder.Entry.TheVariants.{Folder, File}
+use Rattle.cds_base.specs.declared.memory_item.MemItem.{MemItem}
+use Rattle.cds_base.specs.declared.memory_item.MemItem.TheVariants.{FolderItem, FileItem}
+use Rattle.cds_base.specs.Memory.{SourceState}
+use Rattle.cds_base.specs.Entries.{Contents, FolderTold, is_file_at}
+
+-- The entry that an item is given as.
+abbrev pub entry_of : MemItem → Entry
+entry_of (FolderItem path) = Folder path
+entry_of (FileItem path size bytes fails) = File path size
+
+abbrev pub entries_of : List MemItem → List Entry
+entries_of items = map entry_of items
+
+-- A file's source as it is opened. Where the item has no bytes, the file cannot be opened.
+abbrev pub source_of : MemItem → Option SourceState
+source_of (FolderItem path) = None
+source_of (FileItem path size None fails) = None
+source_of (FileItem path size (Some bytes) fails) = Some (record { left = bytes; moved = 0; calls = 0; faults = 0; fails = fails })
+
+-- The source of the first file at a path.
+abbrev pub source_at : List MemItem → List ℕ → Option SourceState
+source_at [] path = None
+source_at (item ∷ items) path = if is_file_at path (entry_of item) then source_of item else source_at items path
+
+-- What the files hold.
+abbrev pub contents_of : List MemItem → Contents
+contents_of items path = option_map (λ source. source.left) (source_at items path)
+
+-- A folder in memory.
+pub record FolderState : Type 0 where
+  -- what it has, in the order in which it is given
+  pub items : List MemItem
+  -- how many of these were given since the tree began
+  pub at : ℕ
+  -- how many entries it gave, how many files it opened and how many came back
+  pub entries : ℕ
+  pub opened : ℕ
+  pub returned : ℕ
+  -- how many calls of `entry` and `open` it answered, and how many faults there were of entries and of files
+  pub calls : ℕ
+  pub entry_faults : ℕ
+  pub file_faults : ℕ
+  -- the numbers, counted from 1, of the calls that are to fail
+  pub fails : List ℕ
+
+-- The entries given since the tree began.
+abbrev pub given_of : FolderState → List Entry
+given_of folder = take folder.at (entries_of folder.items)
+
+-- A folder that nothing was asked of yet.
+abbrev pub fresh_folder : List MemItem → List ℕ → FolderState
+fresh_folder items fails = record {
+  items = items;
+  at = 0;
+  entries = 0;
+  opened = 0;
+  returned = 0;
+  calls = 0;
+  entry_faults = 0;
+  file_faults = 0;
+  fails = fails;
+}
+
+-- What a folder in memory tells of itself.
+abbrev pub told_of : FolderState → FolderTold
+told_of folder = record {
+  tree = Some (entries_of folder.items);
+  contents = Some (contents_of folder.items);
+  given = given_of folder;
+  entries = folder.entries;
+  opened = folder.opened;
+  returned = folder.returned;
+  entry_faults = folder.entry_faults;
+  file_faults = folder.file_faults;
+}
+
+-- What gives folders in memory.
+pub record OutsideState : Type 0 where
+  -- the folders that it has left, the next one first
+  pub folders : List FolderState
+  -- the paths that it was asked for
+  pub asked : List (List ℕ)
+  -- the folders that came back
+  pub ended : List FolderState
+  -- how many calls of `folder` it answered, and how many faults there were
+  pub calls : ℕ
+  pub faults : ℕ
+  -- the numbers, counted from 1, of the calls of `folder` that are to fail
+  pub fails : List ℕ
+
+-- The first folder of a list, before anything was asked of it, and the others.
+abbrev pub IsFirstOf : FolderState → List FolderState → List FolderState → Type 0
+IsFirstOf folder [] left = ⊥
+IsFirstOf folder (first ∷ others) left = (folder ≡ fresh_folder first.items first.fails) × (left ≡ others)
