@@ -1,4 +1,5 @@
 pub mod Parts
+pub mod Ascending
 pub mod Escapes
 pub mod Items
 pub mod Numbers

@@ -1,6 +1,8 @@
 -- What callers see of the folders in memory.
-use Rattle.std.specs.Prelude.{◌≡◌, ℕ, if◌then◌else◌, Option, Some, None, List, [], ◌∷◌, map, take}
+use Rattle.std.specs.Prelude.{◌≡◌, ℕ, Bool, true, ◌&&◌, if◌then◌else◌, Option, Some, None, List, [], ◌∷◌, map, take}
 use Rattle.std.specs.Option.{option_map}
+use Rattle.std.specs.Ordering.{is_lt, nat_cmp}
+use Rattle.std.specs.Cmp.Lexicographic.{slice_cmp}
 use Rattle.cds_base.specs.declared.folder.Entry.{Entry}
 use Rattle.cds_base.specs.declared.folder.Entry.TheVariants.{Folder, File}
 use Rattle.cds_base.specs.declared.memory_item.MemItem.{MemItem}
@@ -97,3 +99,22 @@ pub record OutsideState : Type 0 where
 abbrev pub IsFirstOf : FolderState → List FolderState → List FolderState → Type 0
 IsFirstOf folder [] left = ⊥
 IsFirstOf folder (first ∷ others) left = (folder ≡ fresh_folder first.items first.fails) × (left ≡ others)
+
+-- An item's path.
+abbrev pub item_path : MemItem → List ℕ
+item_path (FolderItem path) = path
+item_path (FileItem path size bytes fails) = path
+
+-- Whether an item's path comes before another's in the order of bytes.
+abbrev pub is_before : MemItem → MemItem → Bool
+is_before item next = is_lt (slice_cmp nat_cmp (item_path item) (item_path next))
+
+-- Whether it comes before the first of a list.
+abbrev pub is_before_first : MemItem → List MemItem → Bool
+is_before_first item [] = true
+is_before_first item (next ∷ items) = is_before item next
+
+-- Whether each item's path comes before the next one's.
+abbrev pub ascends : List MemItem → Bool
+ascends [] = true
+ascends (item ∷ items) = is_before_first item items && ascends items

@@ -55,6 +55,9 @@ fn trees_are_told_from_other_lists(rt: HostRuntime) -> Result<(), Fail> {
         ("a/ a/b/x", false),
         ("a/ ab/x", false),
         ("a/b/ a/ a/b/x b", true),
+        ("a b b/", false),
+        ("a b c/", true),
+        ("a b b", false),
     ] {
         let list = items(rt.alloc(), paths)?;
         assert_eq!(rt; are_tree(list.as_slice()), want, "{paths}");

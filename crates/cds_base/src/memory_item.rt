@@ -1,8 +1,8 @@
-ghost use Rattle.std.specs.Prelude.{◌≡◌, ◌==◌, ◌&&◌, not, Option, Some, None, ◌<◌, length, IfOk};
+ghost use Rattle.std.specs.Prelude.{◌≡◌, ◌==◌, ◌&&◌, not, Option, Some, None, ◌<◌, length, IfOk, IsTrue};
 ghost use Rattle.std.specs.List.{list_any, list_all};
 ghost use Rattle.std.specs.Str.{bytes_eq};
 ghost use Rattle.cds_base.specs.Entries.{IsEntryBehind, all_differ, is_at, is_file_at, is_held, is_in, is_name, is_new, is_parent_of, is_path_held, is_slash_and_name, is_tree};
-ghost use Rattle.cds_base.specs.Folders.{entry_of, entries_of, source_of, source_at};
+ghost use Rattle.cds_base.specs.Folders.{ascends, entry_of, entries_of, is_before_first, item_path, source_of, source_at};
 
 use crate::{Bytes, Entry, Mem, MemSource, Numbers, Text};
 use std::alloc::Global;
@@ -32,8 +32,56 @@ pub fn are_tree(items: &[MemItem]) -> bool
     all_paths_differ(items) && all_are_held(items)
 }
 
-/// Whether no path comes twice.
+/// Whether no path comes twice. Where the paths are in ascending order of bytes, one pass tells.
 fn all_paths_differ(items: &[MemItem]) -> bool
+    ensures { result ≡ all_differ (entries_of items.now) }
+{
+    ascending_differ(items) || all_pairs_differ(items)
+}
+
+/// Whether each path comes before the next one in the order of bytes, so that none comes twice.
+fn ascending_differ(items: &[MemItem]) -> bool
+    ensures { IsTrue result → IsTrue (all_differ (entries_of items.now)) }
+{
+    is_ascending(items)
+}
+
+/// Whether each path comes before the next one in the order of bytes.
+fn is_ascending(items: &[MemItem]) -> bool
+    ensures { result ≡ ascends items.now }
+{
+    let mut left = items;
+    while let Some((item, rest)) = left.split_first() {
+        if !comes_before(item, rest) {
+            return false;
+        }
+        left = rest;
+    }
+    true
+}
+
+/// Whether the item's path comes before that of the first of these.
+fn comes_before(item: &MemItem, items: &[MemItem]) -> bool
+    ensures { result ≡ is_before_first item.now items.now }
+{
+    match items.split_first() {
+        Some((next, _)) => path_of(item).cmp(path_of(next)).is_lt(),
+        None => true,
+    }
+}
+
+/// The item's path.
+fn path_of(item: &MemItem) -> &Text
+    ensures { result.now ≡ item_path item.now }
+{
+    match item {
+        MemItem::FolderItem { path } => path,
+        MemItem::FileItem { path, .. } => path,
+    }
+}
+
+/// Whether each path is that of none of the later ones.
+fn all_pairs_differ(items: &[MemItem]) -> bool
     ensures { result ≡ all_differ (entries_of items.now) }
 {
     let mut left = items;

@@ -1,7 +1,7 @@
 use Rattle.std.proofs.Common.{◌≡◌, length}
 use Rattle.cds_base.specs.Entries.{all_differ}
 use Rattle.cds_base.specs.Folders.{entries_of}
-use Rattle.cds_base.proofs.memory_item.all_paths_differ.Given as goal
+use Rattle.cds_base.proofs.memory_item.all_pairs_differ.Given as goal
 
 abbrev pub invariant-loop-item : goal.invariant-loop-item
 invariant-loop-item l = all_differ (entries_of l.left) ≡ all_differ (entries_of l.items)
