@@ -79,4 +79,5 @@ pub mod PiecesForm
 pub mod Public
 pub mod Only
 pub mod ChildCount
+pub mod ChildStanding
 pub mod DraftsForm

@@ -7,3 +7,4 @@ unfoldable pub use Rattle.cds_markup.proofs.Answering.{markup_on_literals}
 pub use Rattle.cds_markup.proofs.ContentForm.{tree-is}
 pub use Rattle.cds_markup.proofs.TagForm.{empty-parts, start-parts, tree-first, no-misc, no-prolog}
 pub use Rattle.cds_markup.proofs.WrittenTags.{small-name, without-prefix, Stands, TagStands, start-of, end-of}
+pub use Rattle.cds_markup.proofs.DraftsForm.{drafts-are-read}

@@ -24,4 +24,5 @@ pub mod Reader
 pub mod GivenParts
 pub mod SinkLaws
 pub mod Children
+pub mod ChildPlaces
 pub mod Drafts

@@ -1,0 +1,5 @@
+use Rattle.cds_markup.proofs.ChildStanding.{places-are-of-elements}
+use Rattle.cds_markup.proofs.format_laws.places_are_of_elements.Goals as goal
+
+pub returns : goal.returns
+returns c = places-are-of-elements
