@@ -41,78 +41,81 @@ fn with(alloc: Global, text: &str, from: &str, to: &str) -> Result<String, Alloc
     }
 }
 
+/// Objects that are not as they have to be: of which kind, and the piece that is replaced by another.
+const BAD_OBJECTS: [(&str, &str, &str); 39] = [
+    (ITEM, " id=\"2\"", ""),
+    (ITEM, " id=\"2\"", " id=\"4294967296\""),
+    (ITEM, " id=\"2\"", " id=\"3\""),
+    (ITEM, " parentID=\"1\"", ""),
+    (ITEM, " parentID=\"1\"", " parentID=\"-1\""),
+    (ITEM, "<dc:title>a</dc:title>", ""),
+    (ITEM, "<dc:title>", "<dc:title>b</dc:title><dc:title>"),
+    (ITEM, "dc:title>a</dc:title", "upnp:title>a</upnp:title"),
+    (ITEM, "object.item.audioItem.musicTrack", "object.container"),
+    (ITEM, "<upnp:objectUpdateID>2</upnp:objectUpdateID>", ""),
+    (ITEM, "<upnp:objectUpdateID>2", "<upnp:objectUpdateID>"),
+    (
+        ITEM,
+        "<upnp:artist>",
+        "<upnp:artist>b</upnp:artist><upnp:artist>",
+    ),
+    (ITEM, "<upnp:album>", "<upnp:album/><upnp:album>"),
+    (
+        ITEM,
+        "<upnp:genre>",
+        "<upnp:genre></upnp:genre><upnp:genre>",
+    ),
+    (ITEM, "Number>7", "Number>x"),
+    (ITEM, "<res ", "<res/><res "),
+    (ITEM, "/media/2", "/media/02"),
+    (ITEM, "/media/2", "/media/2/"),
+    (ITEM, " size=\"1000\"", ""),
+    (ITEM, "size=\"1000\"", "size=\"18446744073709551616\""),
+    (ITEM, "size=\"1000\"", "size=\"x\""),
+    (ITEM, "0:00:10.000", "1:60:00"),
+    (ITEM, "0:00:10.000", "0:00:60"),
+    (ITEM, "0:00:10.000", "0:0:10"),
+    (ITEM, "0:00:10.000", ":00:10"),
+    (ITEM, "0:00:10.000", "0:00:10."),
+    (ITEM, "0:00:10.000", "0:00:10.5x"),
+    (ITEM, "0:00:10.000", "5124095576031:00:00"),
+    (ITEM, "\"44100\"", "\"\""),
+    (ITEM, "bitsPerSample=\"16\"", "bitsPerSample=\"256\""),
+    (ITEM, " bitsPerSample=\"16\"", ""),
+    (ITEM, " nrAudioChannels=\"2\"", ""),
+    (CONTAINER, " childCount=\"1\"", ""),
+    (CONTAINER, "<upnp:class>object.container</upnp:class>", ""),
+    (
+        CONTAINER,
+        "object.container",
+        "object.item.audioItem.musicTrack",
+    ),
+    (
+        CONTAINER,
+        "<upnp:containerUpdateID>2</upnp:containerUpdateID>",
+        "",
+    ),
+    (
+        CONTAINER,
+        "<upnp:totalDeletedChildCount>0</upnp:totalDeletedChildCount>",
+        "",
+    ),
+    (
+        CONTAINER,
+        "id=\"1\" parentID=\"0\"",
+        "id=\"0\" parentID=\"0\"",
+    ),
+    (
+        CONTAINER,
+        "id=\"1\" parentID=\"0\"",
+        "id=\"00\" parentID=\"-01\"",
+    ),
+];
+
 #[test]
 fn refusals_have_their_places(rt: HostRuntime) -> Result<(), Fail> {
     let alloc = rt.alloc();
-    for (kind, from, to) in [
-        (ITEM, " id=\"2\"", ""),
-        (ITEM, " id=\"2\"", " id=\"4294967296\""),
-        (ITEM, " id=\"2\"", " id=\"3\""),
-        (ITEM, " parentID=\"1\"", ""),
-        (ITEM, " parentID=\"1\"", " parentID=\"-1\""),
-        (ITEM, "<dc:title>a</dc:title>", ""),
-        (ITEM, "<dc:title>", "<dc:title>b</dc:title><dc:title>"),
-        (ITEM, "dc:title>a</dc:title", "upnp:title>a</upnp:title"),
-        (ITEM, "object.item.audioItem.musicTrack", "object.container"),
-        (ITEM, "<upnp:objectUpdateID>2</upnp:objectUpdateID>", ""),
-        (ITEM, "<upnp:objectUpdateID>2", "<upnp:objectUpdateID>"),
-        (
-            ITEM,
-            "<upnp:artist>",
-            "<upnp:artist>b</upnp:artist><upnp:artist>",
-        ),
-        (ITEM, "<upnp:album>", "<upnp:album/><upnp:album>"),
-        (
-            ITEM,
-            "<upnp:genre>",
-            "<upnp:genre></upnp:genre><upnp:genre>",
-        ),
-        (ITEM, "Number>7", "Number>x"),
-        (ITEM, "<res ", "<res/><res "),
-        (ITEM, "/media/2", "/media/02"),
-        (ITEM, "/media/2", "/media/2/"),
-        (ITEM, " size=\"1000\"", ""),
-        (ITEM, "size=\"1000\"", "size=\"18446744073709551616\""),
-        (ITEM, "size=\"1000\"", "size=\"x\""),
-        (ITEM, "0:00:10.000", "1:60:00"),
-        (ITEM, "0:00:10.000", "0:00:60"),
-        (ITEM, "0:00:10.000", "0:0:10"),
-        (ITEM, "0:00:10.000", ":00:10"),
-        (ITEM, "0:00:10.000", "0:00:10."),
-        (ITEM, "0:00:10.000", "0:00:10.5x"),
-        (ITEM, "0:00:10.000", "5124095576031:00:00"),
-        (ITEM, "\"44100\"", "\"\""),
-        (ITEM, "bitsPerSample=\"16\"", "bitsPerSample=\"256\""),
-        (ITEM, " bitsPerSample=\"16\"", ""),
-        (ITEM, " nrAudioChannels=\"2\"", ""),
-        (CONTAINER, " childCount=\"1\"", ""),
-        (CONTAINER, "<upnp:class>object.container</upnp:class>", ""),
-        (
-            CONTAINER,
-            "object.container",
-            "object.item.audioItem.musicTrack",
-        ),
-        (
-            CONTAINER,
-            "<upnp:containerUpdateID>2</upnp:containerUpdateID>",
-            "",
-        ),
-        (
-            CONTAINER,
-            "<upnp:totalDeletedChildCount>0</upnp:totalDeletedChildCount>",
-            "",
-        ),
-        (
-            CONTAINER,
-            "id=\"1\" parentID=\"0\"",
-            "id=\"0\" parentID=\"0\"",
-        ),
-        (
-            CONTAINER,
-            "id=\"1\" parentID=\"0\"",
-            "id=\"00\" parentID=\"-01\"",
-        ),
-    ] {
+    for (kind, from, to) in BAD_OBJECTS {
         let bad = with(alloc, kind, from, to)?;
         assert!(rt; bad.len() > 0, "{from}");
         let at = START.len() + CONTAINER.len() + 1;
@@ -150,21 +153,24 @@ fn refusals_have_their_places(rt: HostRuntime) -> Result<(), Fail> {
     Ok(())
 }
 
+/// Durations: the piece that is replaced, by which, and the milliseconds.
+const DURATIONS: [(&str, &str, Option<u64>); 6] = [
+    ("0:00:10.000", "0:00:10.000", Some(10000)),
+    ("0:00:10.000", "01:02:03", Some(3723000)),
+    ("0:00:10.000", "0:00:00.5", Some(500)),
+    ("0:00:10.000", "0:59:59.98765", Some(3599987)),
+    (
+        "0:00:10.000",
+        "5124095576030:25:51.615",
+        Some(18446744073709551615),
+    ),
+    (" duration=\"0:00:10.000\"", "", None),
+];
+
 #[test]
-fn parts_are_read(rt: HostRuntime) -> Result<(), Fail> {
+fn durations_are_read(rt: HostRuntime) -> Result<(), Fail> {
     let alloc = rt.alloc();
-    for (from, to, want) in [
-        ("0:00:10.000", "0:00:10.000", Some(10000)),
-        ("0:00:10.000", "01:02:03", Some(3723000)),
-        ("0:00:10.000", "0:00:00.5", Some(500)),
-        ("0:00:10.000", "0:59:59.98765", Some(3599987)),
-        (
-            "0:00:10.000",
-            "5124095576030:25:51.615",
-            Some(18446744073709551615),
-        ),
-        (" duration=\"0:00:10.000\"", "", None),
-    ] {
+    for (from, to, want) in DURATIONS {
         let item = with(alloc, ITEM, from, to)?;
         match read_inside(alloc, &[item.as_str()])? {
             Ok(rows) => match &row_at(&rows, 0)?.content {
@@ -174,6 +180,12 @@ fn parts_are_read(rt: HostRuntime) -> Result<(), Fail> {
             Err(_) => assert!(rt; false, "{to}"),
         }
     }
+    Ok(())
+}
+
+#[test]
+fn what_is_not_named_is_passed_over(rt: HostRuntime) -> Result<(), Fail> {
+    let alloc = rt.alloc();
     let other = with(
         alloc,
         ITEM,
@@ -236,57 +248,63 @@ fn rows_are_written_and_read_back(rt: HostRuntime) -> Result<(), Fail> {
     Ok(())
 }
 
+/// A container with nothing that a filter may leave out, and the beginning of such an item.
+const BARE: &str =
+    "<container id=\"1\" parentID=\"0\" restricted=\"1\"><dc:title>Rock</dc:title><upnp:class>object.container</upnp:class></container>";
+
+const FRONT: &str =
+    "<item id=\"2\" parentID=\"1\" restricted=\"1\"><dc:title>a</dc:title><upnp:class>object.item.audioItem.musicTrack</upnp:class>";
+
+/// Filters, the number of a row, and what is written of it, in two parts.
+const FILTERED: [(&str, usize, &str, &str); 11] = [
+    ("", 0, BARE, ""),
+    ("x,*,upnp:Artist,res@x", 0, BARE, ""),
+    (
+        " @childCount , container@searchable ",
+        0,
+        "<container id=\"1\" parentID=\"0\" restricted=\"1\" searchable=\"1\" childCount=\"1\"><dc:title>Rock</dc:title><upnp:class>object.container</upnp:class></container>",
+        "",
+    ),
+    (
+        "upnp:containerUpdateID,upnp:totalDeletedChildCount",
+        0,
+        "<container id=\"1\" parentID=\"0\" restricted=\"1\"><dc:title>Rock</dc:title><upnp:class>object.container</upnp:class><upnp:containerUpdateID>2</upnp:containerUpdateID><upnp:totalDeletedChildCount>0</upnp:totalDeletedChildCount></container>",
+        "",
+    ),
+    ("*", 0, CONTAINER, ""),
+    ("*", 1, ITEM, ""),
+    ("res@y", 1, FRONT, "</item>"),
+    (
+        "upnp:genre,res@size",
+        1,
+        FRONT,
+        "<upnp:genre>D</upnp:genre><res protocolInfo=\"http-get:*:audio/flac:*\" size=\"1000\">/media/2</res></item>",
+    ),
+    (
+        "res@protocolInfo",
+        1,
+        FRONT,
+        "<res protocolInfo=\"http-get:*:audio/flac:*\">/media/2</res></item>",
+    ),
+    (
+        "res,res@size",
+        1,
+        FRONT,
+        "<res protocolInfo=\"http-get:*:audio/flac:*\" size=\"1000\" duration=\"0:00:10.000\" sampleFrequency=\"44100\" bitsPerSample=\"16\" nrAudioChannels=\"2\">/media/2</res></item>",
+    ),
+    (
+        "upnp:artist,upnp:objectUpdateID",
+        1,
+        FRONT,
+        "<upnp:artist>A &amp; B</upnp:artist><upnp:objectUpdateID>2</upnp:objectUpdateID></item>",
+    ),
+];
+
 #[test]
 fn filters_let_through_what_they_name(rt: HostRuntime) -> Result<(), Fail> {
     let alloc = rt.alloc();
     let rows = rows(alloc)?;
-    let bare =
-        "<container id=\"1\" parentID=\"0\" restricted=\"1\"><dc:title>Rock</dc:title><upnp:class>object.container</upnp:class></container>";
-    let front =
-        "<item id=\"2\" parentID=\"1\" restricted=\"1\"><dc:title>a</dc:title><upnp:class>object.item.audioItem.musicTrack</upnp:class>";
-    for (text, number, want, more) in [
-        ("", 0, bare, ""),
-        ("x,*,upnp:Artist,res@x", 0, bare, ""),
-        (
-            " @childCount , container@searchable ",
-            0,
-            "<container id=\"1\" parentID=\"0\" restricted=\"1\" searchable=\"1\" childCount=\"1\"><dc:title>Rock</dc:title><upnp:class>object.container</upnp:class></container>",
-            "",
-        ),
-        (
-            "upnp:containerUpdateID,upnp:totalDeletedChildCount",
-            0,
-            "<container id=\"1\" parentID=\"0\" restricted=\"1\"><dc:title>Rock</dc:title><upnp:class>object.container</upnp:class><upnp:containerUpdateID>2</upnp:containerUpdateID><upnp:totalDeletedChildCount>0</upnp:totalDeletedChildCount></container>",
-            "",
-        ),
-        ("*", 0, CONTAINER, ""),
-        ("*", 1, ITEM, ""),
-        ("res@y", 1, front, "</item>"),
-        (
-            "upnp:genre,res@size",
-            1,
-            front,
-            "<upnp:genre>D</upnp:genre><res protocolInfo=\"http-get:*:audio/flac:*\" size=\"1000\">/media/2</res></item>",
-        ),
-        (
-            "res@protocolInfo",
-            1,
-            front,
-            "<res protocolInfo=\"http-get:*:audio/flac:*\">/media/2</res></item>",
-        ),
-        (
-            "res,res@size",
-            1,
-            front,
-            "<res protocolInfo=\"http-get:*:audio/flac:*\" size=\"1000\" duration=\"0:00:10.000\" sampleFrequency=\"44100\" bitsPerSample=\"16\" nrAudioChannels=\"2\">/media/2</res></item>",
-        ),
-        (
-            "upnp:artist,upnp:objectUpdateID",
-            1,
-            front,
-            "<upnp:artist>A &amp; B</upnp:artist><upnp:objectUpdateID>2</upnp:objectUpdateID></item>",
-        ),
-    ] {
+    for (text, number, want, more) in FILTERED {
         let mut out = Vec::new(alloc);
         let filter = Filter::read(alloc, text)?;
         write_fragment(row_at(&rows, number)?, &filter, "", &mut out)?;
