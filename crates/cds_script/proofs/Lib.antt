@@ -8,3 +8,4 @@ pub mod MayBe
 pub mod Played
 pub mod Stood
 pub mod Words
+pub mod WordLaws

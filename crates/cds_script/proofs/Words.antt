@@ -63,7 +63,7 @@ plain_words-stand (b ∷ rest) e =
     let all = and_parts _ _ e in
     plain-first b rest all.0 ∙ ap (byte_before (Some b)) (plain_words-stand rest all.1)
 
-digit-back : (n : ℕ) → n < 16 → digit_value (hex_digit n) ≡ Some n
+pub digit-back : (n : ℕ) → n < 16 → digit_value (hex_digit n) ≡ Some n
 digit-back n low = by (nat_lt n 10) refl
   where
     by : (b : Bool) → nat_lt n 10 ≡ b → digit_value (cond b (48 + n) (55 + n)) ≡ Some n

@@ -1,7 +1,8 @@
 -- What a word of a script stands for: visible ASCII for itself, and `%` with two upper-case hexadecimal digits for any byte (this
 -- project's profile).
-use Rattle.std.specs.Prelude.{◌≡◌, ◌+◌, ◌-◌, ◌*◌, ◌/◌, ◌%◌, ◌<◌, ℕ, Bool, true, cond, not, nat_eq, nat_le, nat_lt, ◌&&◌, List, [], ◌∷◌, ◌++◌, length, Option, Some, None}
-use Rattle.std.specs.List.{AllByRecursion, list_all}
+use Rattle.std.specs.Prelude.{◌≡◌, ◌↔◌, ◌+◌, ◌-◌, ◌*◌, ◌/◌, ◌%◌, ◌<◌, ℕ, Bool, true, cond, not, nat_eq, nat_le, nat_lt, ◌&&◌, List, [], ◌∷◌, ◌++◌, length, map, Option, Some, None}
+use Rattle.std.specs.List.{AllByRecursion, list_all, flat_map, join_with_byte}
+use Rattle.cds_script.specs.Lines.{words_of}
 
 -- whether a byte of a part of a line stands for itself
 abbrev pub is_plain_byte : ℕ → Bool
@@ -65,3 +66,48 @@ any_bytes_can_be_written = (bytes : List ℕ) → AllByRecursion (λ b. b < 256)
 -- visible ASCII without `%` stands for itself
 abbrev pub plain_words_stand_for_themselves : Type 0
 plain_words_stand_for_themselves = (part : List ℕ) → list_all is_plain_byte part ≡ true → decoded part ≡ Some part
+
+-- a piece of a word: a byte that stands for itself, or `%` with the digits of two numbers
+pub data Piece : Type 0 where
+  Plain : ℕ → Piece
+  Escape : ℕ → ℕ → Piece
+
+abbrev pub IsPiece : Piece → Type 0
+IsPiece (Plain b) = is_plain_byte b ≡ true
+IsPiece (Escape high low) = (high < 16) × (low < 16)
+
+-- how a piece stands in a word, and the byte that it stands for
+abbrev pub text_of_piece : Piece → List ℕ
+text_of_piece (Plain b) = b ∷ []
+text_of_piece (Escape high low) = 37 ∷ hex_digit high ∷ hex_digit low ∷ []
+
+abbrev pub byte_of_piece : Piece → ℕ
+byte_of_piece (Plain b) = b
+byte_of_piece (Escape high low) = 16 * high + low
+
+-- a part of a line is pieces one behind the other, which stand for these bytes
+pub record IsOfPieces (part bytes : List ℕ) : Type 0 where
+  pub pieces : List Piece
+  pub all : AllByRecursion IsPiece pieces
+  pub text : flat_map text_of_piece pieces ≡ part
+  pub meant : map byte_of_piece pieces ≡ bytes
+
+-- a part of a line stands for bytes exactly where it is such pieces, so every other part is no word
+abbrev pub words_are_of_pieces : Type 0
+words_are_of_pieces = (part bytes : List ℕ) → (decoded part ≡ Some bytes) ↔ IsOfPieces part bytes
+
+-- what is written so has visible bytes alone, so no space and no LF
+abbrev pub is_visible : ℕ → Bool
+is_visible b = nat_le 33 b && nat_le b 126
+
+abbrev pub written_words_are_visible : Type 0
+written_words_are_visible = (bytes : List ℕ) → AllByRecursion (λ b. b < 256) bytes → list_all is_visible (encoded bytes) ≡ true
+
+-- bytes that can be a word: at least one
+abbrev pub CanBeWord : List ℕ → Type 0
+CanBeWord word = (0 < length word) × AllByRecursion (λ b. b < 256) word
+
+-- words that are written so, with a space between each two, are read back from their line
+abbrev pub written_lines_are_read : Type 0
+written_lines_are_read = (word : List ℕ) (words : List (List ℕ)) → AllByRecursion CanBeWord (word ∷ words) →
+    words_said (words_of (join_with_byte 32 (map encoded (word ∷ words)))) ≡ Some (word ∷ words)

@@ -27,3 +27,19 @@ pub fn any_bytes_can_be_written()
 pub fn plain_words_stand_for_themselves()
     ensures { words.plain_words_stand_for_themselves }
 {}
+
+/// A part of a line stands for bytes exactly where it is pieces one behind the other, each a byte that stands for itself or an
+/// escape, that stand for these bytes; every other part is no word.
+pub fn words_are_of_pieces()
+    ensures { words.words_are_of_pieces }
+{}
+
+/// Bytes that are written as a word have visible ASCII alone: no space, and no LF.
+pub fn written_words_are_visible()
+    ensures { words.written_words_are_visible }
+{}
+
+/// Words that are written so, with one space between each two, are read back from their line.
+pub fn written_lines_are_read()
+    ensures { words.written_lines_are_read }
+{}
