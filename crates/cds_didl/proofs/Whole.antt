@@ -5,9 +5,9 @@ use Rattle.cds_object.specs.declared.content.Content.{Content}
 use Rattle.cds_object.specs.declared.content.Content.TheVariants.{Folder, Track}
 use Rattle.cds_object.specs.declared.row.Trackers.{Trackers}
 use Rattle.cds_object.specs.Object.{ObjectRow}
-use Rattle.cds_object.specs.Fragment.{object_attributes, container_text, item_text, item_front, container_front, trackers_text, resource_attributes, sound_attributes, resource_text, work_text}
+use Rattle.cds_object.specs.Fragment.{object_attributes, container_text, item_text, item_front, container_front, trackers_text, resource_attributes, sound_attributes, resource_text, work_text, fragment}
 use Rattle.cds_didl.specs.Filter.{wants_resource}
-use Rattle.cds_didl.specs.Fragment.{text_of, container_attributes, container_start, trackers_wanted, container_wanted, sound_wanted, resource_attributes_wanted, place_text, resource_wanted, work_wanted, item_wanted, ReportIsTheWhole}
+use Rattle.cds_didl.specs.Fragment.{text_of, container_attributes, container_start, trackers_wanted, container_wanted, sound_wanted, resource_attributes_wanted, place_text, resource_wanted, work_wanted, item_wanted, fragment_of, ReportIsTheWhole}
 
 -- the text of the report by a row's content
 abbrev of_content : ObjectRow → Content → Option Trackers → List ℕ
@@ -46,3 +46,6 @@ report-is-the-whole row = by row.content row.trackers
     by (Track track) trackers =
         ap (λ x. ((((item_front row track ++ work_text track) ++ number_element (codes "upnp:objectUpdateID") row.object_update) ++ (x ++ codes "</res>")) ++ codes "</item>"))
         (place-again (codes "<res" ++ resource_attributes track) (codes ">") (codes "/media/") (decimal row.id))
+
+pub whole_text : (row : ObjectRow) → fragment_of None [] row ≡ fragment row
+whole_text = report-is-the-whole

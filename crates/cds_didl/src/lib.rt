@@ -18,7 +18,7 @@ mod write;
 pub use error::DidlError;
 pub use filtering::Filter;
 pub use read::read_didl;
-pub use write::{write_didl, write_fragment};
+pub use write::{put_fragment, write_didl, write_fragment};
 
 #[cfg(test)]
 mod tests;

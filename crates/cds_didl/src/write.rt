@@ -1,6 +1,7 @@
 //! Writing DIDL-Lite.
 
 ghost use Rattle.std.specs.Prelude.{◌≡◌, ◌++◌, OnOk, OnErr, IfOk, codes, string_bytes};
+ghost use Rattle.cds_object.specs.Fragment.{fragment};
 ghost use Rattle.cds_didl.specs.Fragment.{fragment_of, fragments, didl_start, didl_text};
 
 use crate::Filter;
@@ -18,6 +19,16 @@ pub fn write_fragment(row: &Row, filter: &Filter, base: &str, out: &mut Vec<u8>)
     let mut text = String::new(*out.allocator());
     put_row(&mut text, row, filter, base)?;
     append(text.as_str(), out)
+}
+
+/// Puts the element of a row as a report has it, with every property and an empty base. After a refusal the text has a part
+/// of it.
+#[tactic(auto, using(crate::proofs::Whole::whole_text))]
+pub fn put_fragment(out: &mut String, row: &Row) -> Result<(), Mem>
+    ensures ok { OnOk result (string_bytes out.new ≡ string_bytes out.old ++ fragment row.now) }
+{
+    put_row(out, row, &Filter::all(), "")?;
+    Ok(())
 }
 
 /// Appends a document of these rows. A refusal leaves `out` as it was.

@@ -2,7 +2,6 @@
 #![tactic(auto)]
 
 mod book;
-mod fragment;
 mod last;
 mod laws;
 mod play;

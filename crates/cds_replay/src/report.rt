@@ -6,7 +6,7 @@ ghost use Rattle.cds_object.specs.Fragment.{fragment, full_text};
 ghost use Rattle.cds_script.specs.Report.{notes_text};
 ghost use Rattle.cds_replay.specs.Lines.{scan_line, read_line, stands_text, known_text, known_rows, numbered_line, note_line, delivered_line, taken_text, ended_text, was_answered, was_noticed};
 
-use crate::fragment::put_fragment;
+use cds_didl::put_fragment;
 use crate::sent::SentHead;
 use crate::server::Server;
 use cds_base::{Mem, put, put_number};
