@@ -5,8 +5,6 @@
 mod check_tests;
 mod checking;
 mod command;
-#[cfg(test)]
-mod notes_tests;
 mod run;
 mod streams;
 #[cfg(test)]

@@ -20,5 +20,3 @@ pub use play::{ReplayError, replay};
 mod play_tests;
 #[cfg(test)]
 mod server_tests;
-#[cfg(test)]
-mod tests;
