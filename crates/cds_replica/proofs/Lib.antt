@@ -12,6 +12,7 @@ pub mod KeptSteps
 pub mod KeptTurns
 pub mod KeptUnread
 pub mod Listings
+pub mod Ordered
 pub mod Pages
 pub mod Placing
 pub mod Runs

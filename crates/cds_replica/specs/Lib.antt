@@ -10,6 +10,7 @@ pub mod Honest
 pub mod Inboxed
 pub mod Known
 pub mod NewChanges
+pub mod Order
 pub mod Outlines
 pub mod Phases
 pub mod State

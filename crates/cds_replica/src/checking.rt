@@ -6,9 +6,10 @@ ghost use Rattle.cds_object.specs.Tree.{is_child_of};
 ghost use Rattle.cds_load.specs.Stages.{listed_id, listed_children, all_new, known_ids, fits};
 ghost use Rattle.cds_replica.specs.Holding.{listing_in};
 ghost use Rattle.cds_replica.specs.Known.{has_id, was_shown};
+ghost use Rattle.cds_replica.specs.Order.{KeysAscend, id_of_row};
 
 use crate::listing::Listing;
-use crate::order::Identified;
+use crate::order::{Identified, has_in_order, is_in_order};
 use cds_object::Row;
 
 /// How many rows a page has at most.
@@ -64,20 +65,42 @@ impl Listing {
     fn are_new(&self, page: &[Row]) -> bool
         ensures { result ≡ all_new (known_ids (listing_in self.now)) page.now }
     {
+        let ordered = is_in_order(self.part.as_slice());
         for (at, row) in page.iter().enumerate() {
             let (earlier, _) = page.split_at(at);
-            if self.was_shown(row.id(), earlier) {
+            if self.was_shown(row.id(), ordered, earlier) {
                 return false;
             }
         }
         true
     }
 
-    /// Whether an id was shown before, also earlier in the page.
-    fn was_shown(&self, id: u32, earlier: &[Row]) -> bool
+    /// Whether an id was shown before, also earlier in the page. Where the part is in order it is looked through by
+    /// halving.
+    fn was_shown(&self, id: u32, ordered: bool, earlier: &[Row]) -> bool
+        requires { IsTrue ordered → KeysAscend id_of_row self.now.part.items }
         ensures { result ≡ was_shown id self.now.rows.items self.now.part.items earlier.now }
     {
-        is_among(&self.rows, id) || is_among(&self.part, id) || is_among(earlier, id)
+        self.stands(id) || self.is_in_part(id, ordered) || is_among(earlier, id)
+    }
+
+    /// Whether an id is among the rows of whole listings.
+    fn stands(&self, id: u32) -> bool
+        ensures { result ≡ list_any (has_id id) self.now.rows.items }
+    {
+        has_in_order(self.rows.as_slice(), id)
+    }
+
+    /// Whether an id is in the part.
+    fn is_in_part(&self, id: u32, ordered: bool) -> bool
+        requires { IsTrue ordered → KeysAscend id_of_row self.now.part.items }
+        ensures { result ≡ list_any (has_id id) self.now.part.items }
+    {
+        if ordered {
+            has_in_order(self.part.as_slice(), id)
+        } else {
+            is_among(self.part.as_slice(), id)
+        }
     }
 }
 

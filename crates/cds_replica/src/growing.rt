@@ -4,10 +4,11 @@ ghost use Rattle.std.specs.Prelude.{◌≡◌, ℕ, ◌+◌, ◌^◌, ◌<◌, �
 ghost use Rattle.cds_load.specs.Stages.{Lists, put_rows, put_containers, listing_of, listed, listed_children, after_page};
 ghost use Rattle.cds_replica.specs.Ended.{is_end};
 ghost use Rattle.cds_replica.specs.Holding.{listing_in, GivesBack, with_part};
+ghost use Rattle.cds_replica.specs.Order.{KeysAscend, id_of_row, id_of_waiting};
 ghost use Rattle.cds_replica.specs.Phases.{ends_load};
 
 use crate::listing::{Container, Listing};
-use crate::order::put;
+use crate::order::put_in_order;
 use cds_object::Row;
 use std::alloc::{AllocError, Global};
 
@@ -135,25 +136,33 @@ fn reserve(rows: &mut Vec<Row>, waiting: &mut Vec<Container>, more: usize) -> Re
 fn put_object(rows: &mut Vec<Row>, waiting: &mut Vec<Container>, row: Row)
     requires rows_room { vec_len rows.old < vec_capacity rows.old }
     requires waiting_room { vec_len waiting.old < vec_capacity waiting.old }
+    requires rows_ascend { KeysAscend id_of_row rows.old.items }
+    requires waiting_ascend { KeysAscend id_of_waiting waiting.old.items }
     ensures rows { rows.new.items ≡ put_rows (row ∷ []) rows.old.items }
     ensures waiting { waiting.new.items ≡ put_containers (row ∷ []) waiting.old.items }
+    ensures rows_ascend { KeysAscend id_of_row rows.new.items }
+    ensures waiting_ascend { KeysAscend id_of_waiting waiting.new.items }
     ensures rows_len { vec_len rows.new ≡ vec_len rows.old + 1 }
     ensures waiting_len { vec_len waiting.new ≤ vec_len waiting.old + 1 }
     ensures rows_capacity { vec_capacity rows.old ≤ vec_capacity rows.new }
     ensures waiting_capacity { vec_capacity waiting.old ≤ vec_capacity waiting.new }
 {
     if let Some(container) = Container::of(&row) {
-        put(waiting, container);
+        put_in_order(waiting, container);
     }
-    put(rows, row);
+    put_in_order(rows, row);
 }
 
 /// Puts each of these rows in its place, and the containers among them among those that wait.
 fn put_objects(rows: &mut Vec<Row>, waiting: &mut Vec<Container>, objects: Vec<Row>)
     requires rows_room { vec_len rows.old + vec_len objects ≤ vec_capacity rows.old }
     requires waiting_room { vec_len waiting.old + vec_len objects ≤ vec_capacity waiting.old }
+    requires rows_ascend { KeysAscend id_of_row rows.old.items }
+    requires waiting_ascend { KeysAscend id_of_waiting waiting.old.items }
     ensures rows { rows.new.items ≡ put_rows objects.items rows.old.items }
     ensures waiting { waiting.new.items ≡ put_containers objects.items waiting.old.items }
+    ensures rows_ascend { KeysAscend id_of_row rows.new.items }
+    ensures waiting_ascend { KeysAscend id_of_waiting waiting.new.items }
 {
     for row in objects {
         put_object(rows, waiting, row);
@@ -162,7 +171,9 @@ fn put_objects(rows: &mut Vec<Row>, waiting: &mut Vec<Container>, objects: Vec<R
 
 /// Drops the first container, if one waits.
 fn drop_first(waiting: &mut Vec<Container>)
+    requires { KeysAscend id_of_waiting waiting.old.items }
     ensures items { waiting.new.items ≡ drop 1 waiting.old.items }
+    ensures ascend { KeysAscend id_of_waiting waiting.new.items }
     ensures len { vec_len waiting.new ≤ vec_len waiting.old }
     ensures capacity { vec_capacity waiting.new ≡ vec_capacity waiting.old }
 {

@@ -2,6 +2,7 @@
 
 ghost use Rattle.std.specs.Prelude.{◌≡◌, ◌^◌, ◌<◌, length};
 ghost use Rattle.cds_load.specs.Stages.{waiting_of};
+ghost use Rattle.cds_replica.specs.Order.{KeysAscend, KeysAscend-prop, id_of_row, id_of_waiting};
 
 use crate::order::Identified;
 use cds_object::Row;
@@ -62,4 +63,6 @@ pub struct Listing {
     pub waiting: Vec<Container>,
     pub part: Vec<Row>,
     ghost part_fits: { length part.items < 2 ^ 32 },
+    ghost rows_ascend: { KeysAscend id_of_row rows.items } by { KeysAscend-prop id_of_row rows.items },
+    ghost waiting_ascend: { KeysAscend id_of_waiting waiting.items } by { KeysAscend-prop id_of_waiting waiting.items },
 }

@@ -82,7 +82,7 @@ fn cannot_be(outlines: &[Outline], event: &Event) -> bool
 }
 
 /// Puts the outline of an object in its place.
-pub fn put_outline(outlines: &mut Vec<Outline>, outline: Outline) -> Result<(), Mem>
+fn put_outline(outlines: &mut Vec<Outline>, outline: Outline) -> Result<(), Mem>
     ensures { IfOk result (λ _. outlines.new.items ≡ put_by outline_id outline outlines.old.items) }
 {
     outlines.reserve(1)?;

@@ -14,6 +14,8 @@ loop-row-preserved c =
       waiting = c.put_object.ensures.waiting ∙ ap (put_containers (row ∷ [])) c.loop-row.invariant.waiting ∙ sym (put_containers-append xs (row ∷ []) c.args.waiting.now.items);
       rows_len = omega (arith, more);
       waiting_len = omega (arith, more);
+      rows_ascend = c.put_object.ensures.rows_ascend;
+      waiting_ascend = c.put_object.ensures.waiting_ascend;
       rows_capacity = omega arith;
       waiting_capacity = omega arith;
     }
