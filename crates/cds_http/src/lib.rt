@@ -18,7 +18,7 @@ pub use examples::{bodies_are_framed, bodies_are_taken, heads_are_cut};
 pub use fields::{Field, Fields};
 pub use message::{Fed, Message, Side, Start};
 pub use reader::MessageReader;
-pub use write::{write_reply, write_request};
+pub use write::{write_reply, write_reply_head, write_request};
 
 #[cfg(test)]
 mod tests;

@@ -38,6 +38,23 @@ pub fn write_reply(status: u16, fields: &Fields, body: &[u8], out: &mut Vec<u8>)
     append_both(out, head.as_slice(), body)
 }
 
+/// Appends the head of a reply, for a body of so many bytes that is written behind it: all of a reply up to its empty line.
+/// Names are to be tokens, and values to have no CR, LF or NUL. A refusal leaves `out` as it was.
+pub fn write_reply_head(
+    status: u16,
+    fields: &Fields,
+    count: u64,
+    out: &mut Vec<u8>,
+) -> Result<(), Mem>
+    requires { CanBeWritten fields.now }
+    ensures ok { OnOk result (out.new.items ≡ out.old.items ++ reply_text status fields.now count) }
+    ensures err { OnErr result (out.new.items ≡ out.old.items) }
+{
+    let head = reply_head(*out.allocator(), status, fields, count)?;
+    out.extend_from_slice(head.as_slice())?;
+    Ok(())
+}
+
 /// Appends a head and a body, or nothing.
 fn append_both(out: &mut Vec<u8>, head: &[u8], body: &[u8]) -> Result<(), Mem>
     ensures ok { OnOk result (out.new.items ≡ out.old.items ++ (head.now ++ body.now)) }
