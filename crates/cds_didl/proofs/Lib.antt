@@ -3,3 +3,10 @@ pub mod Whole
 pub mod Spaces
 pub mod Joined
 pub mod OneAnswer
+pub mod PlainValues
+pub mod DurationRead
+pub mod RowDrafts
+pub mod RowSays
+pub mod RowRead
+pub mod ItemRead
+pub mod ReadBack

@@ -4,3 +4,4 @@ pub mod Reading
 pub mod Didl
 pub mod Filter
 pub mod Fragment
+pub mod ReadBack

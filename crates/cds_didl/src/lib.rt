@@ -8,6 +8,7 @@ mod filtering;
 pub mod laws;
 mod pieces;
 mod properties;
+mod ranges;
 mod read;
 mod resource;
 mod row_text;

@@ -1,10 +1,13 @@
 //! Writing DIDL-Lite.
 
 ghost use Rattle.std.specs.Prelude.{◌≡◌, ◌++◌, OnOk, OnErr, IfOk, codes, string_bytes};
+ghost use Rattle.std.specs.List.{AllByRecursion};
 ghost use Rattle.cds_object.specs.Fragment.{fragment};
 ghost use Rattle.cds_didl.specs.Fragment.{fragment_of, fragments, didl_start, didl_text};
+ghost use Rattle.cds_didl.specs.ReadBack.{HasRanges, IsReadBack};
 
 use crate::Filter;
+use crate::ranges::ranges;
 use crate::row_text::put_row;
 use cds_base::{Mem, put};
 use cds_object::Row;
@@ -31,9 +34,11 @@ pub fn put_fragment(out: &mut String, row: &Row) -> Result<(), Mem>
     Ok(())
 }
 
-/// Appends a document of these rows. A refusal leaves `out` as it was.
+/// Appends a document of these rows. With the whole filter, where texts and base have allowed characters only and the
+/// document has at most `INPUT_LIMIT` bytes, `read_didl` gives these rows of it. A refusal leaves `out` as it was.
 pub fn write_didl(rows: &[Row], filter: &Filter, base: &str, out: &mut Vec<u8>) -> Result<(), Mem>
     ensures ok { OnOk result (out.new.items ≡ out.old.items ++ didl_text filter.now base.now rows.now) }
+    ensures read_back { OnOk result (IsReadBack filter.now base.now rows.now) }
     ensures err { OnErr result (out.new.items ≡ out.old.items) }
 {
     let text = didl_text(*out.allocator(), rows, filter, base)?;
@@ -52,7 +57,8 @@ fn append(text: &str, out: &mut Vec<u8>) -> Result<(), Mem>
 /// The text of a document of these rows.
 #[tactic(auto, unfolding(crate::specs::Fragment::didl_text))]
 fn didl_text(alloc: Global, rows: &[Row], filter: &Filter, base: &str) -> Result<String, Mem>
-    ensures { IfOk result (λ text. string_bytes text ≡ didl_text filter.now base.now rows.now) }
+    ensures text { IfOk result (λ text. string_bytes text ≡ didl_text filter.now base.now rows.now) }
+    ensures ranged { OnOk result (AllByRecursion HasRanges rows.now) }
 {
     let mut text = String::new(alloc);
     put_start(&mut text)?;
@@ -75,9 +81,11 @@ fn put_start(out: &mut String) -> Result<(), Mem>
 
 /// Puts the texts of rows.
 fn put_rows(out: &mut String, rows: &[Row], filter: &Filter, base: &str) -> Result<(), Mem>
-    ensures { OnOk result (string_bytes out.new ≡ string_bytes out.old ++ fragments filter.now base.now rows.now) }
+    ensures text { OnOk result (string_bytes out.new ≡ string_bytes out.old ++ fragments filter.now base.now rows.now) }
+    ensures ranged { OnOk result (AllByRecursion HasRanges rows.now) }
 {
     for row in rows {
+        ranges(row);
         put_row(out, row, filter, base)?;
     }
     Ok(())
