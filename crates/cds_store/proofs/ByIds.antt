@@ -17,7 +17,7 @@ use Rattle.cds_catalog.proofs.Paths.{same_path_is, same_path_at, same_path_swap}
 use Rattle.cds_catalog.proofs.StepsPaths.{Place}
 use Rattle.cds_catalog.proofs.StepsFind.{each-weaker, each-both, each-filter, each-map, map-agree}
 use Rattle.cds_store.specs.Rows.{rows_of, HasRoom, KeepsKind, child_event}
-use Rattle.cds_store.specs.Found.{HasNone, IsPlaceOf, touched_by_id, id_found, id_or_none, KnowsPlaces, IsOnlyAt, CanFind, KeepsKindById, PutsFirst, Learns}
+use Rattle.cds_store.specs.Found.{HasNone, IsPlaceOf, touched_by_id, id_found, id_or_none, KnowsPlaces, IsOnlyAt, CanFind, KeepsKindById, Puts, Learns}
 use Rattle.cds_store.specs.declared.touch.ChildEvent.{ChildEvent}
 use Rattle.cds_store.specs.declared.touch.ChildEvent.TheVariants.{Added, Modified, Deleted}
 use Rattle.cds_store.proofs.RowsFound.{is_here}
@@ -213,38 +213,14 @@ found_append at (q ∷ rows) p = by (same_path at q.0) (found_append at rows p)
 
 -- ---- while rows are gone through
 
-pub knows_more : (before now : Place → Option ℕ) (rows : List PlacedRow) (i : ℕ) (x : PlacedRow) → i < length rows → x ≡ get_or rows i x
-    → KnowsPlaces before (take i rows) → PutsFirst before now x → KnowsPlaces now (take (i + 1) rows)
-knows_more before now rows i x within is knows puts = λ at.
-    puts at ∙ by (same_path at x.0) (before at) ∙ ap (λ o. or_found o (cond (same_path at x.0) (Some x.1.id) None)) (knows at)
-    ∙ sym (ap (id_found at) (take_more rows i x within ∙ ap (λ (q : PlacedRow). take i rows ++ q ∷ []) (sym is)) ∙ found_append at (take i rows) x)
-  where
-    by : (b : Bool) (o : Option ℕ) → cond (b && is_none o) (Some x.1.id) o ≡ or_found o (cond b (Some x.1.id) None)
-    by true None = refl
-    by true (Some id) = refl
-    by false None = refl
-    by false (Some id) = refl
+pub knows_more : (before now : Place → Option ℕ) (x : PlacedRow) (rows : List PlacedRow) → KnowsPlaces before rows → Puts before now x → KnowsPlaces now (x ∷ rows)
+knows_more before now x rows knows puts = λ at. puts at ∙ ap (cond (same_path at x.0) (Some x.1.id)) (knows at)
 
-pub stays_first : (ids : Place → Option ℕ) (x : PlacedRow) → is_some (ids x.0) ≡ true → PutsFirst ids ids x
-stays_first ids x there = λ at. by at (same_path at x.0) refl (ids at) refl
-  where
-    by : (at : Place) (b : Bool) → same_path at x.0 ≡ b → (o : Option ℕ) → ids at ≡ o → ids at ≡ cond (b && is_none (ids at)) (Some x.1.id) (ids at)
-    by at true e None h = absurd (true≢false (sym there ∙ ap is_some (ap ids (sym (same_path_is at x.0 e)) ∙ h)))
-    by at true e (Some id) h = sym (ap (λ (o : Option ℕ). cond (is_none o) (Some x.1.id) (ids at)) h)
-    by at false e o h = refl
-
-pub puts_first : (before now : Place → Option ℕ) (k : Place) (x : PlacedRow) (id : ℕ) → k ≡ x.0 → id ≡ x.1.id → is_some (before x.0) ≡ false
-    → ((at : Place) → now at ≡ cond (is_at (path_cmp k) at) (Some id) (before at)) → PutsFirst before now x
-puts_first before now k x id is same none updates = λ at.
+pub row_put : (before now : Place → Option ℕ) (k : Place) (x : PlacedRow) (id : ℕ) → k ≡ x.0 → id ≡ x.1.id
+    → ((at : Place) → now at ≡ cond (is_at (path_cmp k) at) (Some id) (before at)) → Puts before now x
+row_put before now k x id is same updates = λ at.
     updates at ∙ ap (λ (b : Bool). cond b (Some id) (before at)) (sym (same_path_at k at) ∙ same_path_swap k at ∙ ap (same_path at) is)
     ∙ ap (λ n. cond (same_path at x.0) (Some n) (before at)) same
-    ∙ by at (same_path at x.0) refl (before at) refl
-  where
-    by : (at : Place) (b : Bool) → same_path at x.0 ≡ b → (o : Option ℕ) → before at ≡ o
-        → cond b (Some x.1.id) (before at) ≡ cond (b && is_none (before at)) (Some x.1.id) (before at)
-    by at true e None h = sym (ap (λ (o : Option ℕ). cond (is_none o) (Some x.1.id) (before at)) h)
-    by at true e (Some n) h = absurd (true≢false (ap is_some (sym h ∙ ap before (same_path_is at x.0 e)) ∙ none))
-    by at false e o h = refl
 
 -- ---- what a change does to them
 

@@ -1,5 +1,5 @@
 -- Rows that are found by their ids, and ids by their places.
-use Rattle.std.specs.Prelude.{◌≡◌, ◌<◌, ◌≤◌, ◌&&◌, is_none, ℕ, true, false, cond, nat_eq, List, [], ◌∷◌, ◌++◌, length, Option, Some, None}
+use Rattle.std.specs.Prelude.{◌≡◌, ◌<◌, ◌≤◌, ℕ, true, false, cond, nat_eq, List, [], ◌∷◌, ◌++◌, length, Option, Some, None}
 use Rattle.std.specs.List.{AllByRecursion}
 use Rattle.cds_object.specs.Path.{same_path, parent_of}
 use Rattle.cds_object.specs.Object.{ObjectRow, is_folder}
@@ -67,10 +67,9 @@ pub record CanFind (s : Standing) (change : Change) : Type 0 where
 abbrev pub KeepsKindById : ℕ → Content → PlacedRow → Type 0
 KeepsKindById id content placed = nat_eq placed.1.id id ≡ true → is_folder placed.1.content ≡ is_folder content
 
--- the ids by places before a row and after it: its own is put at its place, where none was there
-abbrev pub PutsFirst : (List (List ℕ) → Option ℕ) → (List (List ℕ) → Option ℕ) → PlacedRow → Type 0
-PutsFirst before now placed =
-    (path : List (List ℕ)) → now path ≡ cond (same_path path placed.0 && is_none (before path)) (Some placed.1.id) (before path)
+-- the ids by places before a row and after it: its own is at its place, and every other place is as before
+abbrev pub Puts : (List (List ℕ) → Option ℕ) → (List (List ℕ) → Option ℕ) → PlacedRow → Type 0
+Puts before now placed = (path : List (List ℕ)) → now path ≡ cond (same_path path placed.0) (Some placed.1.id) (before path)
 
 -- what a change does to the ids of places, where the next addition draws an id
 abbrev pub Learns : (List (List ℕ) → Option ℕ) → (List (List ℕ) → Option ℕ) → Change → ℕ → Type 0

@@ -8,7 +8,7 @@ ghost use Rattle.std.specs.BTreeSet.{contains};
 ghost use Rattle.cds_object.specs.Path.{path_cmp};
 ghost use Rattle.cds_catalog.specs.Steps.{Standing, stepped};
 ghost use Rattle.cds_store.specs.ChangeEvents.{changes_in, event_with, events_with, all_events_by};
-ghost use Rattle.cds_store.specs.Found.{KnowsPlaces, id_or_none, PutsFirst, Learns};
+ghost use Rattle.cds_store.specs.Found.{KnowsPlaces, id_or_none, Puts, Learns};
 ghost use Rattle.cds_store.specs.Resolved.{ids_by, goes_after, come_after, drawn_after};
 ghost use Rattle.cds_store.specs.Resolution.{IsResolutionOf, Takes, Notes};
 ghost use Rattle.cds_store.specs.Stands.{IsScan};
@@ -54,24 +54,23 @@ pub(crate) struct Resolution {
     pub(crate) come: Vec<Child>,
 }
 
-/// The ids of rows by their places.
+/// The ids of rows by their places, that of the first where several have one.
 fn places_in(alloc: Global, rows: &[Placed]) -> Result<Places, Mem>
     ensures { IfOk result (λ places. KnowsPlaces (get path_cmp places) rows.now) }
 {
     let mut places = BTreeMap::new(alloc);
-    for placed in rows {
-        put_first(alloc, &mut places, placed)?;
+    let mut at = rows.len();
+    while at > 0 {
+        at -= 1;
+        put_id(alloc, &mut places, &rows[at])?;
     }
     Ok(places)
 }
 
-/// Puts the id of a row at its place, where none is there.
-fn put_first(alloc: Global, places: &mut Places, placed: &Placed) -> Result<(), Mem>
-    ensures { IfOk result (λ _. PutsFirst (get path_cmp places.old) (get path_cmp places.new) placed.now) }
+/// Puts the id of a row at its place.
+fn put_id(alloc: Global, places: &mut Places, placed: &Placed) -> Result<(), Mem>
+    ensures { IfOk result (λ _. Puts (get path_cmp places.old) (get path_cmp places.new) placed.now) }
 {
-    if places.contains_key(&placed.path) {
-        return Ok(());
-    }
     let path = placed.path.copy(alloc)?;
     places.insert(path, placed.id())?;
     Ok(())
