@@ -1,17 +1,17 @@
 -- The body of a block of comments: the reading and the form say the same.
-use Rattle.std.proofs.Common.{◌≡◌, ℕ, ◌+◌, ◌≤◌, nat_lt, cond, List, ◌++◌, length, Ok, Err, refl, sym, ap, subst, ◌∙◌, arith, append_assoc, length-append}
+use Rattle.std.proofs.Common.{◌≡◌, ℕ, ◌+◌, nat_lt, List, ◌++◌, length, Ok, refl, sym, ap, subst, ◌∙◌, arith, append_assoc, length-append}
 use Rattle.std.specs.List.{flat_map}
 use Rattle.std.specs.Str.{is_utf8}
 use Rattle.cds_flac.specs.declared.error.FlacError.TheVariants.{BadComment}
 use Rattle.cds_object.specs.declared.info.Comment.{Comment}
 use Rattle.cds_flac.specs.Numbers.{little_endian}
 use Rattle.cds_flac.specs.Step.{Step, after, little_number}
-use Rattle.cds_flac.specs.Reading.{behind_vendor, comment_block, comments_from, counted_comments, text_at, field_after}
+use Rattle.cds_flac.specs.Reading.{behind_vendor, comment_block, comments_from, counted_comments, text_at}
 use Rattle.cds_flac.specs.Form.{field_bytes, SaysComments}
 use Rattle.cds_flac.proofs.Steps.{after-ok}
-use Rattle.cds_flac.proofs.Blocks.{block-vendor, vendor-passed, counted-fits}
+use Rattle.cds_flac.proofs.Blocks.{vendor-passed, counted-count}
 use Rattle.cds_flac.proofs.Shapes.{after-was, else-was, then-was, within-was, little-was, little-front}
-use Rattle.cds_flac.proofs.FieldForm.{text-was, text-front, CommentsRead, comments-were, comments-front, field_fits}
+use Rattle.cds_flac.proofs.FieldForm.{text-was, text-front, CommentsRead, comments-were, comments-front}
 
 -- comments that were read behind their count
 pub record CountRead (at end : ℕ) (left : List ℕ) (comments : List Comment) (rest : List ℕ) : Type 0 where
@@ -24,14 +24,13 @@ pub record CountRead (at end : ℕ) (left : List ℕ) (comments : List Comment) 
 count-was : (at end : ℕ) (left : List ℕ) (found : List Comment × List ℕ) → counted_comments at end left ≡ Ok found → CountRead at end left found.0 found.1
 unfolding counted_comments
 count-was at end left found e =
-    let next : ℕ → List ℕ → Step (List Comment) = λ count rest. cond (nat_lt end (at + 4 + field_after count)) (Err (BadComment (at + 4))) (comments_from count (at + 4) end rest) in
-    let was = after-was (little_number at left) next found e in
+    let next : ℕ → List ℕ → Step (List Comment) = λ count rest. comments_from count (at + 4) end rest in
+    let room = else-was (nat_lt end (at + 4)) (BadComment at) (after (little_number at left) next) found e in
+    let was = after-was (little_number at left) next found room.1 in
     let count = was.0.0 in
     let rest = was.0.1 in
     let size = little-was at left was.0 was.1 in
-    let checked = else-was (nat_lt end (at + 4 + field_after count)) (BadComment (at + 4)) (comments_from count (at + 4) end rest) found was.2 in
-    let inside : at + 4 + field_after count ≤ end = within-was end (at + 4 + field_after count) checked.0 in
-    let read = comments-were count (at + 4) end rest found inside checked.1 in
+    let read = comments-were count (at + 4) end rest found (within-was end (at + 4) room.0) was.2 in
     record {
       count = size.0;
       behind = rest;
@@ -63,11 +62,10 @@ unfolding comment_block
 body-was at n left found e =
     let end = at + n in
     let next : List ℕ → List ℕ → Step (List Comment) = λ vendor rest. behind_vendor at end vendor rest in
-    let room = else-was (nat_lt end (at + 4)) (BadComment at) (after (text_at at end 4 left) next) found e in
-    let was = after-was (text_at at end 4 left) next found room.1 in
+    let was = after-was (text_at at end left) next found e in
     let vendor = was.0.0 in
     let one = was.0.1 in
-    let read = text-was at end 4 left was.0 was.1 in
+    let read = text-was at end left was.0 was.1 in
     let text = then-was (is_utf8 vendor) (BadComment at) (counted_comments (at + 4 + length vendor) end one) found was.2 in
     let counted = count-was (at + 4 + length vendor) end one found text.1 in
     let list = counted.read in
@@ -96,6 +94,7 @@ apart size vendor count flat over rest body e =
     sym (whole_body size vendor count flat over rest _ _ _ refl refl refl ∙ ap (λ xs. xs ++ rest) (sym e))
 
 pub body-front : (at : ℕ) (body rest : List ℕ) (comments : List Comment) → SaysComments body comments → comment_block at (at + length body) (body ++ rest) ≡ Ok (comments, rest)
+unfolding comment_block
 body-front at body rest comments says =
     let end = at + length body in
     let vendor = says.vendor in
@@ -105,12 +104,11 @@ body-front at body rest comments says =
     ap length says.spelled ∙ length_of_body vendor.size vendor.text says.count flat says.over says.vendor_is_field.size_bytes says.count_bytes in
     let ends : at + 4 + length vendor.text + 4 + length (flat ++ says.over) ≡ end = omega (arith, long) in
     let tail = says.count ++ (flat ++ (says.over ++ rest)) in
-    let fits = field_fits says.fields (at + 4 + length vendor.text + 4) end says.over says.each_is_field ends in
     let counted : little_number (at + 4 + length vendor.text) tail ≡ Ok (length says.fields, flat ++ (says.over ++ rest)) =
     little-front (at + 4 + length vendor.text) says.count (flat ++ (says.over ++ rest)) says.count_bytes ∙ ap (λ n. Ok (n, flat ++ (says.over ++ rest))) says.count_says in
-    block-vendor at end (body ++ rest) (omega (arith, long))
-    ∙ ap (λ left. after (text_at at end 4 left) next) (apart vendor.size vendor.text says.count flat says.over rest body says.spelled)
-    ∙ after-ok next (text-front at end 4 vendor tail says.vendor_is_field (omega (arith, long)))
+    ap (λ left. after (text_at at end left) next) (apart vendor.size vendor.text says.count flat says.over rest body says.spelled)
+    ∙ after-ok next (text-front at end vendor tail says.vendor_is_field (omega (arith, long)))
     ∙ vendor-passed at end tail vendor.text says.vendor_is_text
-    ∙ counted-fits (at + 4 + length vendor.text) end tail (length says.fields) (flat ++ (says.over ++ rest)) counted fits
+    ∙ counted-count (at + 4 + length vendor.text) end tail (omega (arith, long))
+    ∙ after-ok (λ count rest. comments_from count (at + 4 + length vendor.text + 4) end rest) counted
     ∙ comments-front says.fields (at + 4 + length vendor.text + 4) end says.over rest comments says.each_is_field says.each_in_form ends

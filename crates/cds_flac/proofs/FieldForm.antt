@@ -1,51 +1,52 @@
 -- Texts behind their lengths, and lists of comments: the reading and the form say the same.
-use Rattle.std.proofs.Common.{◌≡◌, ℕ, zero, suc, ◌+◌, ◌-◌, ◌≤◌, nat_lt, cond, List, [], ◌∷◌, ◌++◌, length, map, Option, Some, None, Ok, Err, refl, sym, ap, subst, ◌∙◌, arith, append_assoc, length-append}
+use Rattle.std.proofs.Common.{◌≡◌, ℕ, zero, suc, ◌+◌, ◌-◌, ◌≤◌, nat_lt, List, [], ◌∷◌, ◌++◌, length, map, Option, Some, None, Ok, refl, sym, ap, subst, ◌∙◌, arith, append_assoc, length-append}
 use Rattle.std.specs.List.{flat_map}
 use Rattle.cds_flac.specs.declared.error.FlacError.TheVariants.{BadComment}
 use Rattle.cds_object.specs.declared.info.Comment.{Comment}
 use Rattle.cds_flac.specs.Numbers.{little_endian}
 use Rattle.cds_flac.specs.Comment.{comment_of}
 use Rattle.cds_flac.specs.Step.{Step, after, taken, little_number}
-use Rattle.cds_flac.specs.Reading.{comments_from, text_at, text_of_length, in_form, field_after}
+use Rattle.cds_flac.specs.Reading.{comments_from, text_at, text_of_length, in_form}
 use Rattle.cds_flac.specs.Form.{Field, field_bytes, IsField, EachIsField}
 use Rattle.cds_flac.proofs.Steps.{after-ok}
-use Rattle.cds_flac.proofs.Texts.{text-fits}
+use Rattle.cds_flac.proofs.Texts.{text-fits, text-length}
 use Rattle.cds_flac.proofs.Shapes.{after-was, else-was, within-was, taken-was, taken-front, little-was, little-front, same_pair}
 
 -- a text that was read stands behind its length, in the block
-pub record TextRead (at end field : ℕ) (left text rest : List ℕ) : Type 0 where
+pub record TextRead (at end : ℕ) (left text rest : List ℕ) : Type 0 where
   pub size : List ℕ
   pub spelled : left ≡ size ++ (text ++ rest)
   pub size_bytes : length size ≡ 4
   pub size_says : little_endian size ≡ length text
-  pub inside : at + 4 + length text + field ≤ end
+  pub inside : at + 4 + length text ≤ end
 
-pub text-was : (at end field : ℕ) (left : List ℕ) (found : List ℕ × List ℕ) → text_at at end field left ≡ Ok found → TextRead at end field left found.0 found.1
+pub text-was : (at end : ℕ) (left : List ℕ) (found : List ℕ × List ℕ) → text_at at end left ≡ Ok found → TextRead at end left found.0 found.1
 unfolding text_at
-text-was at end field left found e =
-    let was = after-was (little_number at left) (λ n rest. text_of_length at end field n rest) found e in
+text-was at end left found e =
+    let next : ℕ → List ℕ → Step (List ℕ) = λ n rest. text_of_length at end n rest in
+    let room = else-was (nat_lt end (at + 4)) (BadComment at) (after (little_number at left) next) found e in
+    let was = after-was (little_number at left) next found room.1 in
     let n = was.0.0 in
     let rest = was.0.1 in
     let size = little-was at left was.0 was.1 in
     let taking : Step (List ℕ) = taken (at + 4) n rest in
-    let checked : Step (List ℕ) = cond (nat_lt end (at + 4 + n + field)) (Err (BadComment (at + 4 + n))) taking in
-    let first = else-was (nat_lt end (at + 4 + n)) (BadComment at) checked found was.2 in
-    let second = else-was (nat_lt end (at + 4 + n + field)) (BadComment (at + 4 + n)) taking found first.1 in
-    let bytes = taken-was (at + 4) n rest found second.1 in
+    let fits = else-was (nat_lt end (at + 4 + n)) (BadComment at) taking found was.2 in
+    let bytes = taken-was (at + 4) n rest found fits.1 in
     record {
       size = size.0;
       spelled = size.1 ∙ ap (λ xs. size.0 ++ xs) bytes.0;
       size_bytes = size.2;
       size_says = size.3 ∙ sym bytes.1;
-      inside = subst (λ m. at + 4 + m + field ≤ end) (sym bytes.1) (within-was end (at + 4 + n + field) second.0);
+      inside = subst (λ m. at + 4 + m ≤ end) (sym bytes.1) (within-was end (at + 4 + n) fits.0);
     }
 
-pub text-front : (at end field : ℕ) (f : Field) (rest : List ℕ) → IsField f → at + 4 + length f.text + field ≤ end → text_at at end field (f.size ++ (f.text ++ rest)) ≡ Ok (f.text, rest)
-unfolding text_at
-text-front at end field f rest is inside =
-    after-ok (λ n rest. text_of_length at end field n rest) (little-front at f.size (f.text ++ rest) is.size_bytes)
-    ∙ ap (λ n. text_of_length at end field n (f.text ++ rest)) is.size_says
-    ∙ text-fits at end field (length f.text) (f.text ++ rest) (omega arith) inside
+pub text-front : (at end : ℕ) (f : Field) (rest : List ℕ) → IsField f → at + 4 + length f.text ≤ end → text_at at end (f.size ++ (f.text ++ rest)) ≡ Ok (f.text, rest)
+text-front at end f rest is inside =
+    let next : ℕ → List ℕ → Step (List ℕ) = λ n rest. text_of_length at end n rest in
+    text-length at end (f.size ++ (f.text ++ rest)) (omega arith)
+    ∙ after-ok next (little-front at f.size (f.text ++ rest) is.size_bytes)
+    ∙ ap (λ n. text_of_length at end n (f.text ++ rest)) is.size_says
+    ∙ text-fits at end (f.text ++ rest) (length f.text) inside
     ∙ taken-front (at + 4) (length f.text) f.text rest refl
 
 -- so many comments that were read, with what is left over
@@ -70,7 +71,7 @@ length_of_four : (size text flat over : List ℕ) → length size ≡ 4 → leng
 length_of_four size text flat over h =
     omega (arith, h, length-append ((size ++ text) ++ flat) over, length-append (size ++ text) flat, length-append size text, length-append flat over)
 
-pub comments-were : (count at end : ℕ) (left : List ℕ) (found : List Comment × List ℕ) → at + field_after count ≤ end → comments_from count at end left ≡ Ok found → CommentsRead count at end left found.0 found.1
+pub comments-were : (count at end : ℕ) (left : List ℕ) (found : List Comment × List ℕ) → at ≤ end → comments_from count at end left ≡ Ok found → CommentsRead count at end left found.0 found.1
 comments-were zero at end left found inside e =
     let was = after-was (taken at (end - at) left) (λ over rest. Ok ([], rest)) found e in
     let bytes = taken-was at (end - at) left was.0 was.1 in
@@ -86,10 +87,10 @@ comments-were zero at end left found inside e =
       ends = omega (arith, bytes.1, inside);
     }
 comments-were (suc more) at end left found inside e =
-    let was = after-was (text_at at end (field_after more) left) (λ text rest. in_form at (comment_of text) (λ comment. after (comments_from more (at + 4 + length text) end rest) (λ others rest. Ok (comment ∷ others, rest)))) found e in
+    let was = after-was (text_at at end left) (λ text rest. in_form at (comment_of text) (λ comment. after (comments_from more (at + 4 + length text) end rest) (λ others rest. Ok (comment ∷ others, rest)))) found e in
     let text = was.0.0 in
     let rest = was.0.1 in
-    let read = text-was at end (field_after more) left was.0 was.1 in
+    let read = text-was at end left was.0 was.1 in
     let formed = form-was at (comment_of text) (λ comment. after (comments_from more (at + 4 + length text) end rest) (λ others rest. Ok (comment ∷ others, rest))) found was.2 in
     let others = after-was (comments_from more (at + 4 + length text) end rest) (λ others rest. Ok (formed.0 ∷ others, rest)) found formed.2 in
     let behind = comments-were more (at + 4 + length text) end rest others.0 read.inside others.1 in
@@ -104,12 +105,6 @@ comments-were (suc more) at end left found inside e =
       each_in_form = ap (λ c. c ∷ map (λ f. comment_of f.text) behind.fields) formed.1 ∙ ap (λ cs. Some formed.0 ∷ cs) behind.each_in_form ∙ ap (map Some) parts.0;
       ends = omega (arith, behind.ends, length_of_four read.size text (flat_map field_bytes behind.fields) behind.over read.size_bytes);
     }
-
--- the next field fits, where there is one
-pub field_fits : (fields : List Field) (at end : ℕ) (over : List ℕ) → EachIsField fields → at + length (flat_map field_bytes fields ++ over) ≡ end → at + field_after (length fields) ≤ end
-field_fits [] at end over each ends = omega (arith, ends)
-field_fits (f ∷ fields) at end over each ends =
-    omega (arith, ends, each.0.size_bytes, length-append (field_bytes f ++ flat_map field_bytes fields) over, length-append (field_bytes f) (flat_map field_bytes fields), length-append f.size f.text)
 
 none_in_form : (comments : List Comment) → ◌≡◌ {A = List (Option Comment)} [] (map Some comments) → comments ≡ []
 none_in_form [] e = refl
@@ -128,13 +123,13 @@ comments-front (f ∷ fields) at end over rest comments each forms ends =
     let flat = flat_map field_bytes fields in
     let formed = first_in_form (comment_of f.text) (map (λ f. comment_of f.text) fields) comments forms in
     let behind : at + 4 + length f.text + length (flat ++ over) ≡ end = omega (arith, ends, length_of_four f.size f.text flat over each.0.size_bytes) in
-    let fits = field_fits fields (at + 4 + length f.text) end over each.1 behind in
+    let fits : at + 4 + length f.text ≤ end = omega (arith, behind) in
     let spelled : (field_bytes f ++ flat) ++ (over ++ rest) ≡ f.size ++ (f.text ++ (flat ++ (over ++ rest))) =
     append_assoc (field_bytes f) flat (over ++ rest) ∙ append_assoc f.size f.text (flat ++ (over ++ rest)) in
     let next : List ℕ → List ℕ → Step (List Comment) = λ text rest. in_form at (comment_of text) (λ comment. after (comments_from more (at + 4 + length text) end rest) (λ others rest. Ok (comment ∷ others, rest))) in
     let others : List Comment → List ℕ → Step (List Comment) = λ others rest. Ok (formed.0 ∷ others, rest) in
-    ap (λ left. after (text_at at end (field_after more) left) next) spelled
-    ∙ after-ok next (text-front at end (field_after more) f (flat ++ (over ++ rest)) each.0 fits)
+    ap (λ left. after (text_at at end left) next) spelled
+    ∙ after-ok next (text-front at end f (flat ++ (over ++ rest)) each.0 fits)
     ∙ ap (λ value. in_form at value (λ comment. after (comments_from more (at + 4 + length f.text) end (flat ++ (over ++ rest))) (λ others rest. Ok (comment ∷ others, rest)))) formed.3
     ∙ after-ok others (comments-front fields (at + 4 + length f.text) end over rest formed.1 each.1 formed.4 behind)
     ∙ ap (λ cs. Ok (cs, rest)) (sym formed.2)

@@ -7,7 +7,7 @@ use Rattle.cds_object.specs.declared.info.Comment.{Comment}
 use Rattle.cds_flac.specs.Step.{Step, after, taken}
 use Rattle.cds_flac.specs.Agree.{Judged}
 use Rattle.cds_flac.specs.Comment.{comment_of}
-use Rattle.cds_flac.specs.Reading.{comments_from, text_at, in_form, field_after}
+use Rattle.cds_flac.specs.Reading.{comments_from, text_at, in_form}
 use Rattle.cds_flac.proofs.Steps.{after-ok, judged-after}
 
 -- a step's comments behind those that were read before
@@ -26,23 +26,23 @@ module _ (front : List Comment) (at end m : ℕ) (left : List ℕ) where
   behind_text : List ℕ → List ℕ → Step (List Comment)
   behind_text text rest = in_form at (comment_of text) (λ comment. after (comments_from m (at + 4 + length text) end rest) (λ others rest. Ok (comment ∷ others, rest)))
 
-  pub front-stops : (refusal : FlacError) → Judged (text_at at end (field_after m) left) refusal → Judged (with_front front (comments_from (suc m) at end left)) refusal
+  pub front-stops : (refusal : FlacError) → Judged (text_at at end left) refusal → Judged (with_front front (comments_from (suc m) at end left)) refusal
   unfolding behind_text
   front-stops refusal h =
       judged-after (comments_from (suc m) at end left) (λ others rest. Ok (front ++ others, rest)) refusal
-      (judged-after (text_at at end (field_after m) left) behind_text refusal h)
+      (judged-after (text_at at end left) behind_text refusal h)
 
-  at_text : (text rest : List ℕ) → text_at at end (field_after m) left ≡ Ok (text, rest) → with_front front (comments_from (suc m) at end left) ≡ with_front front (behind_text text rest)
+  at_text : (text rest : List ℕ) → text_at at end left ≡ Ok (text, rest) → with_front front (comments_from (suc m) at end left) ≡ with_front front (behind_text text rest)
   unfolding behind_text
   at_text text rest e = ap (with_front front) (after-ok behind_text e)
 
-  pub front-refused : (text rest : List ℕ) → text_at at end (field_after m) left ≡ Ok (text, rest) → comment_of text ≡ None → with_front front (comments_from (suc m) at end left) ≡ Err (BadComment at)
+  pub front-refused : (text rest : List ℕ) → text_at at end left ≡ Ok (text, rest) → comment_of text ≡ None → with_front front (comments_from (suc m) at end left) ≡ Err (BadComment at)
   unfolding behind_text
   front-refused text rest e none =
       at_text text rest e
       ∙ ap (λ found. with_front front (in_form at found (λ comment. after (comments_from m (at + 4 + length text) end rest) (λ others rest. Ok (comment ∷ others, rest))))) none
 
-  pub front-more : (text rest : List ℕ) (comment : Comment) → text_at at end (field_after m) left ≡ Ok (text, rest) → comment_of text ≡ Some comment → with_front front (comments_from (suc m) at end left) ≡ with_front (front ++ comment ∷ []) (comments_from m (at + 4 + length text) end rest)
+  pub front-more : (text rest : List ℕ) (comment : Comment) → text_at at end left ≡ Ok (text, rest) → comment_of text ≡ Some comment → with_front front (comments_from (suc m) at end left) ≡ with_front (front ++ comment ∷ []) (comments_from m (at + 4 + length text) end rest)
   unfolding behind_text
   front-more text rest comment e found =
       at_text text rest e

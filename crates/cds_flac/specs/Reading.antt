@@ -1,6 +1,7 @@
 -- What the metadata of a FLAC file is, read in order (RFC 9639 on the marker and the metadata blocks): the fields, or
 -- the first refusal. A block's type decides as soon as its byte has come, a length or a count as soon as its bytes
--- have come, a text when it is whole.
+-- have come, a text when it is whole, and a field that reaches past its block where it begins, once all before it was
+-- judged.
 use Rattle.std.specs.Prelude.{◌==◌, ℕ, suc, zero, ◌+◌, ◌-◌, ◌%◌, nat_lt, nat_le, Bool, true, false, not, ◌&&◌, if◌then◌else◌, Option, Some, None, is_none, unwrap_or, Ok, Err, List, [], ◌∷◌, length, codes}
 use Rattle.std.specs.Str.{is_utf8, bytes_eq}
 use Rattle.cds_base.specs.declared.limits.TheConstants.{INPUT_LIMIT}
@@ -12,22 +13,14 @@ use Rattle.cds_flac.specs.Numbers.{sound_bits, rate_of, channels_of, depth_of, s
 use Rattle.cds_flac.specs.Comment.{comment_of}
 use Rattle.cds_flac.specs.Step.{Step, after, taken, big_number, little_number}
 
--- How many bytes the next field takes, where so many are still to come.
-abbrev pub field_after : ℕ → ℕ
-field_after zero = 0
-field_after (suc more) = 4
+-- The text of a length that was read at a place, in a block that ends at a place.
+abbrev pub text_of_length : ℕ → ℕ → ℕ → List ℕ → Step (List ℕ)
+text_of_length at end n left = if nat_lt end (at + 4 + n) then Err (BadComment at) else taken (at + 4) n left
 
--- The text of a length that was read at a place, in a block that ends at a place and has a field of so many bytes
--- right after the text.
-abbrev pub text_of_length : ℕ → ℕ → ℕ → ℕ → List ℕ → Step (List ℕ)
-text_of_length at end field n left =
-    if nat_lt end (at + 4 + n) then Err (BadComment at)
-    else if nat_lt end (at + 4 + n + field) then Err (BadComment (at + 4 + n))
-    else taken (at + 4) n left
-
--- The text whose length field stands at a place.
-unfoldable pub text_at : ℕ → ℕ → ℕ → List ℕ → Step (List ℕ)
-text_at at end field left = after (little_number at left) (λ n rest. text_of_length at end field n rest)
+-- The text whose length field stands at a place. A field that reaches past the block is refused there.
+unfoldable pub text_at : ℕ → ℕ → List ℕ → Step (List ℕ)
+text_at at end left =
+    if nat_lt end (at + 4) then Err (BadComment at) else after (little_number at left) (λ n rest. text_of_length at end n rest)
 
 -- What follows a text that is in its form; one that is not is refused where its length field stands.
 abbrev pub in_form : {A B : Type 0} → ℕ → Option A → (A → Step B) → Step B
@@ -38,15 +31,15 @@ in_form at (Some value) next = next value
 abbrev pub comments_from : ℕ → ℕ → ℕ → List ℕ → Step (List Comment)
 comments_from zero at end left = after (taken at (end - at) left) (λ over rest. Ok ([], rest))
 comments_from (suc more) at end left =
-    after (text_at at end (field_after more) left) (λ text rest.
+    after (text_at at end left) (λ text rest.
     in_form at (comment_of text) (λ comment.
     after (comments_from more (at + 4 + length text) end rest) (λ others rest. Ok (comment ∷ others, rest))))
 
--- The comments whose count stands at a place.
+-- The comments whose count stands at a place. A count that reaches past the block is refused there.
 unfoldable pub counted_comments : ℕ → ℕ → List ℕ → Step (List Comment)
 counted_comments at end left =
-    after (little_number at left) (λ count rest.
-    if nat_lt end (at + 4 + field_after count) then Err (BadComment (at + 4)) else comments_from count (at + 4) end rest)
+    if nat_lt end (at + 4) then Err (BadComment at)
+    else after (little_number at left) (λ count rest. comments_from count (at + 4) end rest)
 
 -- The comments behind a vendor text that is in UTF-8.
 abbrev pub behind_vendor : ℕ → ℕ → List ℕ → List ℕ → Step (List Comment)
@@ -55,9 +48,7 @@ behind_vendor at end vendor left =
 
 -- The comments of a VORBIS_COMMENT block's body, from its place to its end.
 unfoldable pub comment_block : ℕ → ℕ → List ℕ → Step (List Comment)
-comment_block at end left =
-    if nat_lt end (at + 4) then Err (BadComment at)
-    else after (text_at at end 4 left) (λ vendor rest. behind_vendor at end vendor rest)
+comment_block at end left = after (text_at at end left) (λ vendor rest. behind_vendor at end vendor rest)
 
 -- A block header's first byte has the type in seven bits, and in the top one whether the block is the last.
 abbrev pub kind_of : ℕ → ℕ

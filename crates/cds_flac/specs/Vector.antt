@@ -63,6 +63,15 @@ CommentFieldFaultsAreRefused =
     × (metadata (sound ++ comments_block (low 0 ++ low 1 ++ low 4 ++ codes "A=B")) ≡ Err (BadComment 54))
     × (metadata (sound ++ comments_block (low 0 ++ low 2 ++ low 3 ++ codes "A=B")) ≡ Err (BadComment 61))
 
+-- A text that stands before a field that has no room is judged first: a vendor that is not UTF-8, one that is cut off, a
+-- comment out of form, and one that is cut off.
+abbrev pub TextsBeforeFieldsDecide : Type 0
+TextsBeforeFieldsDecide =
+    (metadata (sound ++ 132 ∷ 0 ∷ 0 ∷ 5 ∷ low 1 ++ 255 ∷ []) ≡ Err (BadComment 46))
+    × (metadata (sound ++ 132 ∷ 0 ∷ 0 ∷ 5 ∷ low 1) ≡ Err (Truncated 50))
+    × (metadata (sound ++ 132 ∷ 0 ∷ 0 ∷ 12 ∷ low 0 ++ low 2 ++ low 0) ≡ Err (BadComment 54))
+    × (metadata (sound ++ 132 ∷ 0 ∷ 0 ∷ 15 ∷ low 0 ++ low 2 ++ low 2) ≡ Err (Truncated 58))
+
 -- Texts out of form: no equals sign, no name, a byte in the name, a value and a vendor that are not UTF-8.
 abbrev pub TextFaultsAreRefused : Type 0
 TextFaultsAreRefused =

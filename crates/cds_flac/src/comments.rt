@@ -4,7 +4,7 @@ ghost use Rattle.std.specs.List.{list_all};
 ghost use Rattle.cds_base.specs.Outside.{WhereTold};
 ghost use Rattle.cds_flac.specs.Agree.{Agrees, FaultRose};
 ghost use Rattle.cds_flac.specs.Comment.{comment_of, is_name, is_name_byte, named};
-ghost use Rattle.cds_flac.specs.Reading.{comment_block, counted_comments, comments_from, field_after, text_at};
+ghost use Rattle.cds_flac.specs.Reading.{comment_block, counted_comments, comments_from, text_at};
 
 use crate::input::{pass_over, read_count, read_text};
 use crate::{Comment, Comments, FlacError};
@@ -24,10 +24,7 @@ pub fn read_comment_block<S: Source>(
     ensures fault { FaultRose result (S.faults source.old) (S.faults source.new) }
     ensures never_falls { S.faults source.old ≤ S.faults source.new }
 {
-    if end < at + 4 {
-        return Err(FlacError::BadComment { at });
-    }
-    let vendor = read_text_at(alloc, source, at, end, 4)?;
+    let vendor = read_text_at(alloc, source, at, end)?;
     if !is_text(vendor.as_slice()) {
         return Err(FlacError::BadComment { at });
     }
@@ -42,16 +39,16 @@ fn read_counted<S: Source>(
     at: usize,
     end: usize,
 ) -> Result<Comments, FlacError>
-    requires in_block { at + 4 ≤ end }
+    requires in_block { at ≤ end }
     requires near { end < 2 ^ 32 }
     ensures told { WhereTold (S.left source.old) (λ bytes. Agrees (counted_comments at end bytes) result (S.left source.new)) }
     ensures fault { FaultRose result (S.faults source.old) (S.faults source.new) }
     ensures never_falls { S.faults source.old ≤ S.faults source.new }
 {
-    let count = read_count(source, at)?;
-    if end < at + 4 + next_field(count) {
-        return Err(FlacError::BadComment { at: at + 4 });
+    if end < at + 4 {
+        return Err(FlacError::BadComment { at });
     }
+    let count = read_count(source, at)?;
     let comments = read_comments(alloc, source, count, at + 4, end)?;
     Ok(comments)
 }
@@ -64,7 +61,7 @@ fn read_comments<S: Source>(
     at: usize,
     end: usize,
 ) -> Result<Comments, FlacError>
-    requires in_block { at + field_after count ≤ end }
+    requires in_block { at ≤ end }
     requires near { end < 2 ^ 32 }
     ensures told { WhereTold (S.left source.old) (λ bytes. Agrees (comments_from count at end bytes) result (S.left source.new)) }
     ensures fault { FaultRose result (S.faults source.old) (S.faults source.new) }
@@ -75,7 +72,7 @@ fn read_comments<S: Source>(
     let mut more = count;
     while more > 0 {
         more -= 1;
-        let text = read_text_at(alloc, source, place, end, next_field(more))?;
+        let text = read_text_at(alloc, source, place, end)?;
         match split_comment(alloc, text.as_slice())? {
             Some(comment) => comments.push(comment)?,
             None => return Err(FlacError::BadComment { at: place }),
@@ -86,36 +83,26 @@ fn read_comments<S: Source>(
     Ok(comments)
 }
 
-/// How many bytes the next length field takes, where so many texts are to come.
-fn next_field(more: usize) -> usize
-    ensures { result ≡ field_after more }
-{
-    if more == 0 { 0 } else { 4 }
-}
-
-/// The text whose length stands at `at`, in a block that ends at `end` and has a field of `field` bytes right after
-/// the text.
+/// The text whose length stands at `at`, in a block that ends at `end`.
 fn read_text_at<S: Source>(
     alloc: Global,
     source: &mut S,
     at: usize,
     end: usize,
-    field: usize,
 ) -> Result<Bytes, FlacError>
-    requires in_block { at + 4 ≤ end }
+    requires in_block { at ≤ end }
     requires near { end < 2 ^ 32 }
-    requires small { field ≤ 4 }
-    ensures told { WhereTold (S.left source.old) (λ bytes. Agrees (text_at at end field bytes) result (S.left source.new)) }
-    ensures in_block { IfOk result (λ text. at + 4 + length text + field ≤ end) }
+    ensures told { WhereTold (S.left source.old) (λ bytes. Agrees (text_at at end bytes) result (S.left source.new)) }
+    ensures in_block { IfOk result (λ text. at + 4 + length text ≤ end) }
     ensures fault { FaultRose result (S.faults source.old) (S.faults source.new) }
     ensures never_falls { S.faults source.old ≤ S.faults source.new }
 {
+    if end < at + 4 {
+        return Err(FlacError::BadComment { at });
+    }
     let n = read_count(source, at)?;
     if end < at + 4 + n {
         return Err(FlacError::BadComment { at });
-    }
-    if end < at + 4 + n + field {
-        return Err(FlacError::BadComment { at: at + 4 + n });
     }
     let text = read_text(alloc, source, at + 4, n)?;
     Ok(text)

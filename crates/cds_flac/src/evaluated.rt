@@ -1,6 +1,6 @@
 //! Files that are read by the definition: each clause is one of them.
 
-ghost use Rattle.cds_flac.specs.Vector.{TitleIsRead, CutsAreTruncated, HeaderFaultsAreRefused, CommentFieldFaultsAreRefused, TextFaultsAreRefused};
+ghost use Rattle.cds_flac.specs.Vector.{TitleIsRead, CutsAreTruncated, HeaderFaultsAreRefused, CommentFieldFaultsAreRefused, TextFaultsAreRefused, TextsBeforeFieldsDecide};
 
 /// A file of one comment, read by the definition.
 pub fn title_is_read()
@@ -20,6 +20,11 @@ pub fn header_faults_are_refused()
 /// Lengths and counts that reach past a comment block.
 pub fn comment_field_faults_are_refused()
     ensures { CommentFieldFaultsAreRefused }
+{}
+
+/// Texts before a field that has no room.
+pub fn texts_before_fields_decide()
+    ensures { TextsBeforeFieldsDecide }
 {}
 
 /// Texts of a comment block that are out of form.

@@ -183,6 +183,34 @@ fn broken_files_are_refused(rt: HostRuntime) {
     }
 }
 
+/// A vendor out of form, one cut off, a comment out of form and one cut off, each before a field that has no room.
+#[test]
+fn texts_before_fields_decide(rt: HostRuntime) {
+    for (tail, want) in [
+        (
+            b"\x84\0\0\x05\x01\0\0\0\xFF".as_slice(),
+            FlacError::BadComment { at: 46 },
+        ),
+        (
+            b"\x84\0\0\x05\x01\0\0\0".as_slice(),
+            FlacError::Truncated { at: 50 },
+        ),
+        (
+            b"\x84\0\0\x0C\0\0\0\0\x02\0\0\0\0\0\0\0".as_slice(),
+            FlacError::BadComment { at: 54 },
+        ),
+        (
+            b"\x84\0\0\x0F\0\0\0\0\x02\0\0\0\x02\0\0\0".as_slice(),
+            FlacError::Truncated { at: 58 },
+        ),
+    ] {
+        assert!(rt;
+            read_behind(rt.alloc(), tail).err() == Some(want),
+            "{want:?}"
+        );
+    }
+}
+
 #[test]
 fn later_blocks_of_comments_and_of_sound_are_passed_over(rt: HostRuntime) -> Result<(), Fail> {
     let mut bytes = Vec::from_slice(rt.alloc(), &FILE)?;

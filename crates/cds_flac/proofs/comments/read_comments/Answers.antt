@@ -2,7 +2,7 @@
 use Rattle.std.proofs.Common.{◌≡◌, ℕ, suc, ◌+◌, ◌-◌, ◌<◌, List, sym, ap, ◌∙◌, arith}
 use Rattle.cds_object.specs.declared.info.Comment.{Comment}
 use Rattle.cds_flac.specs.Comment.{comment_of}
-use Rattle.cds_flac.specs.Reading.{comments_from, text_at}
+use Rattle.cds_flac.specs.Reading.{comments_from}
 use Rattle.cds_flac.proofs.Fronts.{with_front, front-stops, front-refused, front-more}
 use Rattle.cds_flac.proofs.Steps.{judged-same, agrees-exit}
 use Rattle.cds_flac.proofs.comments.read_comments.Goals as goal
@@ -25,8 +25,7 @@ returns-in_err-text-clause-told g c = λ bytes told.
     let more = c.loop-more.more in
     agrees-exit _ c.from_residual.result _ c.in_err-text.field-0.0 c.from_residual.ensures.1
     (judged-same _ (before.2 ∙ some_more front more place c.args.end before.0 c.loop-more-test.true)
-    (front-stops front place c.args.end (more - 1) before.0 _
-    (judged-same _ (ap (λ field. text_at place c.args.end field before.0) (sym c.next_field.ensures)) (c.in_err-text.ensures.told before.0 before.1))))
+    (front-stops front place c.args.end (more - 1) before.0 _ (c.in_err-text.ensures.told before.0 before.1)))
 
 pub returns-in-None-clause-told : goal.returns-in-None-clause-told
 returns-in-None-clause-told g c = λ bytes told.
@@ -37,12 +36,12 @@ returns-in-None-clause-told g c = λ bytes told.
     let text = c.in_ok-text.ensures.told before.0 before.1 in
     before.2
     ∙ some_more front more place c.args.end before.0 c.loop-more-test.true
-    ∙ front-refused front place c.args.end (more - 1) before.0 c.in_ok-text.text text.0 (ap (λ field. text_at place c.args.end field before.0) (sym c.next_field.ensures) ∙ text.1)
+    ∙ front-refused front place c.args.end (more - 1) before.0 c.in_ok-text.text text.0 text.1
     (ap comment_of (sym c.as_slice.ensures) ∙ sym c.in_ok-comment.ensures ∙ c.in-None.is)
 
 pub loop-more-preserved : goal.loop-more-preserved
 loop-more-preserved g c = (
-  omega (arith, c.in_ok-text.ensures.in_block, c.next_field.ensures, c.len.ensures),
+  omega (arith, c.in_ok-text.ensures.in_block, c.len.ensures),
   λ bytes told.
       let before = c.loop-more.invariant.1 bytes told in
       let front = c.loop-more.comments in
@@ -53,7 +52,7 @@ loop-more-preserved g c = (
         text.2,
         before.2
             ∙ some_more front more place c.args.end before.0 c.loop-more-test.true
-            ∙ front-more front place c.args.end (more - 1) before.0 c.in_ok-text.text text.0 c.in-Some.comment (ap (λ field. text_at place c.args.end field before.0) (sym c.next_field.ensures) ∙ text.1)
+            ∙ front-more front place c.args.end (more - 1) before.0 c.in_ok-text.text text.0 c.in-Some.comment text.1
             (ap comment_of (sym c.as_slice.ensures) ∙ sym c.in_ok-comment.ensures ∙ c.in-Some.is)
             ∙ same_place _ (more - 1) place c.args.end _ c.len.result text.0 (sym c.len.ensures)
             ∙ ap (λ comments. with_front comments (comments_from (more - 1) (place + (4 + c.len.result)) c.args.end text.0)) (sym c.in_ok-push-in-Some.ensures.ok),
