@@ -1,8 +1,8 @@
 -- What a reading call answers, beside the definition over the bytes that its source had left.
-use Rattle.std.specs.Prelude.{◌≡◌, ℕ, ⊤, Option, Some, Result, Ok, Err, List}
+use Rattle.std.specs.Prelude.{◌≡◌, ℕ, ◌+◌, ◌-◌, ◌≤◌, ⊤, Option, Some, Result, Ok, Err, List}
 use Rattle.cds_base.specs.Outside.{Rose}
 use Rattle.cds_flac.specs.declared.error.FlacError.{FlacError}
-use Rattle.cds_flac.specs.declared.error.FlacError.TheVariants.{ReadFault, Mem}
+use Rattle.cds_flac.specs.declared.error.FlacError.TheVariants.{NotFlac, NoStreamInfo, BadStreamInfo, Forbidden, Truncated, BadComment, TooLong, ReadFault, Mem}
 use Rattle.cds_flac.specs.Step.{Step}
 
 -- The refusal is the definition's, but for a failed read and want of memory, which no bytes decide.
@@ -29,6 +29,26 @@ Fills step value (Err refusal) left = Judged step refusal
 abbrev pub Passes : {A B : Type 0} → Step A → Result B FlacError → Option (List ℕ) → Type 0
 Passes {A} step (Ok done) left = (value : A) × Gives step value left
 Passes step (Err refusal) left = Judged step refusal
+
+-- How many bytes from the start of the file a refusal is known by: the marker, the byte of a type, a length, the end of
+-- the file, the text behind a length, which a block of less than 2^24 bytes holds, and the last header within the
+-- limit. A failed read and want of memory may come at every byte of these.
+abbrev pub needed : FlacError → ℕ
+needed NotFlac = 4
+needed NoStreamInfo = 5
+needed BadStreamInfo = 8
+needed (Forbidden at) = at + 1
+needed (Truncated at) = at
+needed (BadComment at) = at + 16777216
+needed TooLong = 67108872
+needed ReadFault = 67108872
+needed Mem = 67108872
+
+-- A call that begins at a place took no more than so many bytes where it gave a value, and else no more than its refusal
+-- needs. The counts are those of the source.
+abbrev pub Took : {A : Type 0} → Result A FlacError → (A → ℕ) → ℕ → ℕ → ℕ → Type 0
+Took (Ok value) size at old new = new ≤ old + size value
+Took (Err refusal) size at old new = (at ≤ needed refusal) × (new ≤ old + (needed refusal - at))
 
 -- A failed read is answered only where the source's count of faults rose.
 abbrev pub FaultRose : {A : Type 0} → Result A FlacError → ℕ → ℕ → Type 0

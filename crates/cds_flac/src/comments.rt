@@ -1,8 +1,8 @@
-ghost use Rattle.std.specs.Prelude.{◌≡◌, ◌==◌, position, ◌+◌, ◌<◌, ◌≤◌, ◌^◌, length, IfOk};
+ghost use Rattle.std.specs.Prelude.{◌≡◌, ◌==◌, position, ◌+◌, ◌-◌, ◌≤◌, length, IfOk};
 ghost use Rattle.std.specs.Str.{is_utf8};
 ghost use Rattle.std.specs.List.{list_all};
 ghost use Rattle.cds_base.specs.Outside.{WhereTold};
-ghost use Rattle.cds_flac.specs.Agree.{Agrees, FaultRose};
+ghost use Rattle.cds_flac.specs.Agree.{Agrees, FaultRose, Took};
 ghost use Rattle.cds_flac.specs.Comment.{comment_of, is_name, is_name_byte, named};
 ghost use Rattle.cds_flac.specs.Reading.{comment_block, counted_comments, comments_from, text_at};
 
@@ -19,8 +19,10 @@ pub fn read_comment_block<S: Source>(
     end: usize,
 ) -> Result<Comments, FlacError>
     requires in_block { at ≤ end }
-    requires near { end < 2 ^ 32 }
+    requires near { end ≤ 67108868 }
+    requires short { end ≤ at + 16777216 }
     ensures told { WhereTold (S.left source.old) (λ bytes. Agrees (comment_block at end bytes) result (S.left source.new)) }
+    ensures took { Took result (λ _. end - at) at (S.moved source.old) (S.moved source.new) }
     ensures fault { FaultRose result (S.faults source.old) (S.faults source.new) }
     ensures never_falls { S.faults source.old ≤ S.faults source.new }
 {
@@ -40,8 +42,10 @@ fn read_counted<S: Source>(
     end: usize,
 ) -> Result<Comments, FlacError>
     requires in_block { at ≤ end }
-    requires near { end < 2 ^ 32 }
+    requires near { end ≤ 67108868 }
+    requires short { end ≤ at + 16777216 }
     ensures told { WhereTold (S.left source.old) (λ bytes. Agrees (counted_comments at end bytes) result (S.left source.new)) }
+    ensures took { Took result (λ _. end - at) at (S.moved source.old) (S.moved source.new) }
     ensures fault { FaultRose result (S.faults source.old) (S.faults source.new) }
     ensures never_falls { S.faults source.old ≤ S.faults source.new }
 {
@@ -62,8 +66,10 @@ fn read_comments<S: Source>(
     end: usize,
 ) -> Result<Comments, FlacError>
     requires in_block { at ≤ end }
-    requires near { end < 2 ^ 32 }
+    requires near { end ≤ 67108868 }
+    requires short { end ≤ at + 16777216 }
     ensures told { WhereTold (S.left source.old) (λ bytes. Agrees (comments_from count at end bytes) result (S.left source.new)) }
+    ensures took { Took result (λ _. end - at) at (S.moved source.old) (S.moved source.new) }
     ensures fault { FaultRose result (S.faults source.old) (S.faults source.new) }
     ensures never_falls { S.faults source.old ≤ S.faults source.new }
 {
@@ -91,9 +97,11 @@ fn read_text_at<S: Source>(
     end: usize,
 ) -> Result<Bytes, FlacError>
     requires in_block { at ≤ end }
-    requires near { end < 2 ^ 32 }
+    requires near { end ≤ 67108868 }
+    requires short { end ≤ at + 16777216 }
     ensures told { WhereTold (S.left source.old) (λ bytes. Agrees (text_at at end bytes) result (S.left source.new)) }
     ensures in_block { IfOk result (λ text. at + 4 + length text ≤ end) }
+    ensures took { Took result (λ text. 4 + length text) at (S.moved source.old) (S.moved source.new) }
     ensures fault { FaultRose result (S.faults source.old) (S.faults source.new) }
     ensures never_falls { S.faults source.old ≤ S.faults source.new }
 {

@@ -1,6 +1,6 @@
 ghost use Rattle.std.specs.Prelude.{◌≡◌, ◌<◌, ◌≤◌, ◌^◌, IfOk};
 ghost use Rattle.cds_base.specs.Outside.{WhereTold};
-ghost use Rattle.cds_flac.specs.Agree.{Agrees, FaultRose};
+ghost use Rattle.cds_flac.specs.Agree.{Agrees, FaultRose, Took};
 ghost use Rattle.cds_flac.specs.Form.{BeginsWith, ReadsWhatBegins};
 ghost use Rattle.cds_flac.specs.Numbers.{sound_bits};
 ghost use Rattle.cds_flac.specs.Step.{Step};
@@ -14,7 +14,7 @@ use std::alloc::Global;
 
 /// Reads the metadata at the front of a FLAC file (RFC 9639): the marker and the metadata blocks, and nothing behind
 /// the last of them. Comments are those of the first VORBIS_COMMENT block. The first fault in reading order is
-/// answered; `ReadFault` comes only where the source's count of faults rose.
+/// answered, and no more bytes are taken than it needs; `ReadFault` comes only where the count of faults rose.
 pub fn read_flac<S: Source>(alloc: Global, source: &mut S) -> Result<FlacInfo, FlacError>
     ensures told { WhereTold (S.left source.old) (λ bytes. Agrees (metadata bytes) result (S.left source.new)) }
     ensures form { IfOk result (λ info. WhereTold (S.left source.old) (λ bytes. BeginsWith bytes info (S.left source.new))) }
@@ -23,6 +23,7 @@ pub fn read_flac<S: Source>(alloc: Global, source: &mut S) -> Result<FlacInfo, F
     ensures channels { IfOk result (λ info. (1 ≤ info.channels) × (info.channels ≤ 8)) }
     ensures bits { IfOk result (λ info. (1 ≤ info.bits) × (info.bits ≤ 32)) }
     ensures samples { IfOk result (λ info. info.samples < 2 ^ 36) }
+    ensures took { Took result (λ _. 67108868) 0 (S.moved source.old) (S.moved source.new) }
     ensures fault { FaultRose result (S.faults source.old) (S.faults source.new) }
     ensures never_falls { S.faults source.old ≤ S.faults source.new }
 {
@@ -37,6 +38,7 @@ fn read_metadata<S: Source>(alloc: Global, source: &mut S) -> Result<FlacInfo, F
     ensures channels { IfOk result (λ info. (1 ≤ info.channels) × (info.channels ≤ 8)) }
     ensures bits { IfOk result (λ info. (1 ≤ info.bits) × (info.bits ≤ 32)) }
     ensures samples { IfOk result (λ info. info.samples < 2 ^ 36) }
+    ensures took { Took result (λ _. 67108868) 0 (S.moved source.old) (S.moved source.new) }
     ensures fault { FaultRose result (S.faults source.old) (S.faults source.new) }
     ensures never_falls { S.faults source.old ≤ S.faults source.new }
 {
@@ -50,6 +52,7 @@ fn read_metadata<S: Source>(alloc: Global, source: &mut S) -> Result<FlacInfo, F
 /// The marker `fLaC`.
 fn read_marker<S: Source>(source: &mut S) -> Result<(), FlacError>
     ensures told { WhereTold (S.left source.old) (λ bytes. Agrees (marker_at bytes) result (S.left source.new)) }
+    ensures took { Took result (λ _. 4) 0 (S.moved source.old) (S.moved source.new) }
     ensures fault { FaultRose result (S.faults source.old) (S.faults source.new) }
     ensures never_falls { S.faults source.old ≤ S.faults source.new }
 {
@@ -64,6 +67,7 @@ fn read_marker<S: Source>(source: &mut S) -> Result<(), FlacError>
 /// The first byte of STREAMINFO's header, which is the first block.
 fn read_stream_head<S: Source>(source: &mut S) -> Result<u8, FlacError>
     ensures told { WhereTold (S.left source.old) (λ bytes. Agrees (stream_head bytes) result (S.left source.new)) }
+    ensures took { Took result (λ _. 4) 4 (S.moved source.old) (S.moved source.new) }
     ensures fault { FaultRose result (S.faults source.old) (S.faults source.new) }
     ensures never_falls { S.faults source.old ≤ S.faults source.new }
 {
@@ -85,6 +89,7 @@ fn read_stream_head<S: Source>(source: &mut S) -> Result<u8, FlacError>
 /// The 64 bits of STREAMINFO's body that describe the sound.
 fn read_sound<S: Source>(source: &mut S) -> Result<u64, FlacError>
     ensures told { WhereTold (S.left source.old) (λ bytes. Agrees (sound_at bytes) result (S.left source.new)) }
+    ensures took { Took result (λ _. 34) 8 (S.moved source.old) (S.moved source.new) }
     ensures fault { FaultRose result (S.faults source.old) (S.faults source.new) }
     ensures never_falls { S.faults source.old ≤ S.faults source.new }
 {

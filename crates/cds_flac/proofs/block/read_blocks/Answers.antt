@@ -11,7 +11,7 @@ unfolding most_blocks
 enough = omega arith
 
 pub loop-found-init : goal.loop-found-init
-loop-found-init g c = (omega arith, λ bytes told. (most_blocks, bytes, told, enough, refl), omega arith)
+loop-found-init g c = (omega arith, omega arith, omega arith, λ bytes told. (most_blocks, bytes, told, enough, refl), omega arith)
 
 -- a block may come
 some_left : (fewer place : ℕ) → 67108868 < fewer + place → place ≤ 67108868 → 0 < fewer
@@ -29,7 +29,7 @@ same_place fewer found place n left =
 
 pub returns-in_err-header-clause-told : goal.returns-in_err-header-clause-told
 returns-in_err-header-clause-told g c = λ bytes told.
-    let before = c.loop-found.invariant.1 bytes told in
+    let before = c.loop-found.invariant.3 bytes told in
     agrees-exit _ c.from_residual.result _ c.in_err-header.field-0.0 c.from_residual.ensures.1
     (judged-same _ before.4
     (walk-no_header before.0 c.loop-found.found c.loop-found.place before.1 (some_left before.0 c.loop-found.place before.3 c.loop-found.invariant.0) _
@@ -37,7 +37,7 @@ returns-in_err-header-clause-told g c = λ bytes told.
 
 pub returns-in_err-found-clause-told : goal.returns-in_err-found-clause-told
 returns-in_err-found-clause-told g c = λ bytes told.
-    let before = c.loop-found.invariant.1 bytes told in
+    let before = c.loop-found.invariant.3 bytes told in
     let header = c.in_ok-header.ensures.told before.1 before.2 in
     agrees-exit _ c.from_residual-in_err-found.result _ c.in_err-found.field-0.0 c.from_residual-in_err-found.ensures.1
     (judged-same _ before.4
@@ -46,7 +46,7 @@ returns-in_err-found-clause-told g c = λ bytes told.
 
 pub returns-then-header-clause-told : goal.returns-then-header-clause-told
 returns-then-header-clause-told g c = λ bytes told.
-    let before = c.loop-found.invariant.1 bytes told in
+    let before = c.loop-found.invariant.3 bytes told in
     let header = c.in_ok-header.ensures.told before.1 before.2 in
     let body = c.in_ok-found.ensures.told header.0 header.2 in (
       body.0,
@@ -59,8 +59,10 @@ returns-then-header-clause-told g c = λ bytes told.
 pub loop-found-preserved : goal.loop-found-preserved
 loop-found-preserved g c = (
   next_place c.loop-found.place c.in_ok-header.header.length c.in_ok-header.ensures.within,
+  omega arith,
+  omega (arith, c.in_ok-header.ensures.took, c.in_ok-found.ensures.took),
   λ bytes told.
-      let before = c.loop-found.invariant.1 bytes told in
+      let before = c.loop-found.invariant.3 bytes told in
       let header = c.in_ok-header.ensures.told before.1 before.2 in
       let body = c.in_ok-found.ensures.told header.0 header.2 in (
         before.0 - 1,

@@ -7,6 +7,8 @@ use Rattle.cds_flac.proofs.block.read_blocks.Given as goal
 abbrev pub invariant-loop-found : goal.invariant-loop-found
 invariant-loop-found g l =
     (l.place ≤ 67108868)
+    × (42 ≤ l.place)
+    × (g.S.Source.moved l.source ≤ g.S.Source.moved l.initial.source + (l.place - 42))
     × WhereTold (g.S.Source.left l.initial.source) (λ bytes.
     (fewer : ℕ) × (rest : List ℕ)
     × (g.S.Source.left l.source ≡ Some rest)

@@ -19,7 +19,7 @@ same_place front more place end n m left e =
 
 pub returns-in_err-text-clause-told : goal.returns-in_err-text-clause-told
 returns-in_err-text-clause-told g c = λ bytes told.
-    let before = c.loop-more.invariant.1 bytes told in
+    let before = c.loop-more.invariant.3 bytes told in
     let front = c.loop-more.comments in
     let place = c.loop-more.place in
     let more = c.loop-more.more in
@@ -29,7 +29,7 @@ returns-in_err-text-clause-told g c = λ bytes told.
 
 pub returns-in-None-clause-told : goal.returns-in-None-clause-told
 returns-in-None-clause-told g c = λ bytes told.
-    let before = c.loop-more.invariant.1 bytes told in
+    let before = c.loop-more.invariant.3 bytes told in
     let front = c.loop-more.comments in
     let place = c.loop-more.place in
     let more = c.loop-more.more in
@@ -42,8 +42,10 @@ returns-in-None-clause-told g c = λ bytes told.
 pub loop-more-preserved : goal.loop-more-preserved
 loop-more-preserved g c = (
   omega (arith, c.in_ok-text.ensures.in_block, c.len.ensures),
+  omega (arith, c.len.ensures),
+  omega (arith, c.len.ensures, c.in_ok-text.ensures.took),
   λ bytes told.
-      let before = c.loop-more.invariant.1 bytes told in
+      let before = c.loop-more.invariant.3 bytes told in
       let front = c.loop-more.comments in
       let place = c.loop-more.place in
       let more = c.loop-more.more in

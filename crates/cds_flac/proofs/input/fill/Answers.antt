@@ -21,6 +21,7 @@ loop-got-preserved g c =
             c.in_ok-count.ensures.rest _ left ∙ ap Some (drop-drop n got bytes),
           ),
       omega arith,
+      omega (arith, c.in_ok-count.ensures.count),
     )
 
 pub returns-clause-told : goal.returns-clause-told

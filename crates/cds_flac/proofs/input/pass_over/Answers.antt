@@ -21,6 +21,7 @@ loop-passed-preserved g c =
             c.in_ok-count.ensures.rest _ before.1 ∙ ap Some (drop-drop n passed bytes),
           ),
       omega arith,
+      omega (arith, c.in_ok-count.ensures.count),
     )
 
 pub returns-clause-told : goal.returns-clause-told

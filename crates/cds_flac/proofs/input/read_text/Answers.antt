@@ -21,6 +21,7 @@ loop-piece-preserved g c =
             c.in_ok-count.ensures.rest _ before.2 ∙ ap Some (drop-drop n (length text) bytes) ∙ ap (λ m. Some (drop m bytes)) (sym longer),
           ),
       omega arith,
+      omega (arith, c.in_ok-count.ensures.count, longer),
     )
 
 pub returns-clause-told : goal.returns-clause-told

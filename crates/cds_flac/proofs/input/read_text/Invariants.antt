@@ -1,5 +1,5 @@
 -- The text so far is the front of the bytes.
-use Rattle.std.proofs.Common.{length, ◌-◌, ◌≡◌, ◌≤◌, Some, take, drop}
+use Rattle.std.proofs.Common.{length, ◌+◌, ◌-◌, ◌≡◌, ◌≤◌, Some, take, drop}
 use Rattle.cds_base.specs.Outside.{WhereTold}
 use Rattle.cds_flac.proofs.input.read_text.Given as goal
 
@@ -11,6 +11,7 @@ invariant-loop-piece g l =
     × (l.text ≡ take (length l.text) bytes)
     × (g.S.Source.left l.source ≡ Some (drop (length l.text) bytes)))
     × (g.S.Source.faults l.initial.source ≤ g.S.Source.faults l.source)
+    × (g.S.Source.moved l.source ≤ g.S.Source.moved l.initial.source + length l.text)
 
 abbrev pub decreases-loop-piece : goal.decreases-loop-piece
 decreases-loop-piece g l = l.n - length l.text
