@@ -10,3 +10,5 @@ pub mod RowSays
 pub mod RowRead
 pub mod ItemRead
 pub mod ReadBack
+pub mod Plain
+pub mod CatalogBack

@@ -5,3 +5,4 @@ pub mod Didl
 pub mod Filter
 pub mod Fragment
 pub mod ReadBack
+pub mod Plain
