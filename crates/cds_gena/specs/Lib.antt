@@ -1,3 +1,4 @@
+pub mod Asked
 pub mod SidText
 pub mod Subscribed
 pub mod SubscribedLaws

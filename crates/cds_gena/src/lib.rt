@@ -5,12 +5,14 @@
 mod address;
 mod book;
 mod error;
+mod gena;
 pub mod laws;
 mod sid;
 
 pub use address::{Address, Addresses};
 pub use book::Book;
 pub use error::GenaError;
+pub use gena::{Gena, asks_of_subscription, read_gena};
 pub use sid::Sid;
 
 #[cfg(test)]

@@ -1,0 +1,302 @@
+//! What a request about a subscription asks for.
+
+ghost use Rattle.std.specs.Prelude.{◌≡◌, ◌==◌, ◌<◌, codes, length, take, drop, position, IfOk, IfSome, IsTrue, Ok, Some, None, option_map, option_and_then};
+ghost use Rattle.std.specs.List.{list_all};
+ghost use Rattle.std.specs.Char.{is_digit};
+ghost use Rattle.std.specs.Result.{result_ok};
+ghost use Rattle.url.specs.Parser.{parse_url};
+ghost use Rattle.http_header.specs.Token.{lowercase};
+ghost use Rattle.cds_base.specs.Number.{is_number_in};
+ghost use Rattle.cds_gena.specs.SidText.{sid_in};
+ghost use Rattle.cds_gena.specs.Asked.{Answers, asks_of_subscription, behind_spaces, callback_in, deliverable, enclosed, ending, field_of, gena_of, has_method, is_event, renewing, seconds_by, seconds_in, seconds_of, subscribe_of, subscribing, url_in};
+
+use crate::error::GenaError;
+use crate::sid::Sid;
+use cds_base::{Mem, read_u32};
+use cds_http::{Message, Start};
+use http_header::HeaderMap;
+use std::alloc::Global;
+use url::{ParseError, Url};
+
+/// The fewest seconds for which a subscription is granted.
+const LEAST_SECONDS: u32 = 1_800;
+
+/// The most.
+const MOST_SECONDS: u32 = 86_400;
+
+/// What a request about a subscription asks for.
+#[derive(Drop)]
+pub enum Gena {
+    /// A new subscription, whose notes are delivered at this URL, for so many seconds.
+    Subscribe { callback: Url, seconds: u32 },
+    /// That a subscription lives on for so many seconds.
+    Renew { sid: Sid, seconds: u32 },
+    /// The end of a subscription.
+    Unsubscribe { sid: Sid },
+}
+
+/// Whether a message is a request with this method.
+fn has_method(message: &Message, name: &str) -> bool
+    ensures { result ≡ has_method name.now message.now.start }
+{
+    match &message.start {
+        Start::Request { method, .. } => method.as_str() == name,
+        Start::Reply { .. } => false,
+    }
+}
+
+/// Whether a message is a request with method SUBSCRIBE or UNSUBSCRIBE (UPnP Device Architecture 2.0 on eventing).
+pub fn asks_of_subscription(message: &Message) -> bool
+    ensures { result ≡ asks_of_subscription message.now.start }
+{
+    has_method(message, "SUBSCRIBE") || has_method(message, "UNSUBSCRIBE")
+}
+
+/// The first value of a field.
+fn field_of<'a>(fields: &'a HeaderMap, name: &str) -> Option<&'a [u8]>
+    ensures { option_map (λ value. value.now) result ≡ field_of (lowercase name.now) fields.now }
+{
+    match fields.get(name) {
+        Some(value) => Some(value.as_bytes()),
+        None => None,
+    }
+}
+
+/// The text without the spaces in front.
+fn behind_spaces(text: &[u8]) -> &[u8]
+    ensures { result.now ≡ behind_spaces text.now }
+{
+    let mut rest = text;
+    while let Some((first, more)) = rest.split_first() {
+        if *first != b' ' {
+            return rest;
+        }
+        rest = more;
+    }
+    rest
+}
+
+/// The place of the first `>`.
+fn closing(text: &[u8]) -> Option<usize>
+    ensures exact { result ≡ position (λ c. c == 62) text.now }
+    ensures inside { IfSome result (λ at. at < length text.now) }
+{
+    text.iter().position(|c| *c == b'>')
+}
+
+/// What stands between `<` at the front and the first `>`.
+fn enclosed(text: &[u8]) -> Option<&[u8]>
+    ensures { option_map (λ inner. inner.now) result ≡ enclosed text.now }
+{
+    match text.split_first() {
+        Some((b'<', rest)) => match closing(rest) {
+            Some(at) => Some(rest.split_at(at).0),
+            None => None,
+        },
+        _ => None,
+    }
+}
+
+/// The URL, where notes can be delivered at it.
+fn deliverable(url: Url) -> Option<Url>
+    ensures { result ≡ deliverable url }
+{
+    if url.scheme() == "http" && url.has_host() {
+        Some(url)
+    } else {
+        None
+    }
+}
+
+/// The URL that a text is, if it is one.
+fn parsed(alloc: Global, text: &str) -> Result<Option<Url>, Mem>
+    ensures { IfOk result (λ url. url ≡ result_ok (parse_url None text.now)) }
+{
+    match Url::parse(alloc, text) {
+        Ok(url) => Ok(Some(url)),
+        Err(ParseError::OutOfMemory | ParseError::Overflow) => Err(Mem),
+        Err(_) => Ok(None),
+    }
+}
+
+/// The URL that a text is, where notes can be delivered at it.
+fn url_in(alloc: Global, text: &[u8]) -> Result<Option<Url>, Mem>
+    ensures { IfOk result (λ url. url ≡ url_in text.now) }
+{
+    let Ok(text) = std::str::from_utf8(text) else {
+        return Ok(None);
+    };
+    match parsed(alloc, text)? {
+        Some(url) => Ok(deliverable(url)),
+        None => Ok(None),
+    }
+}
+
+/// The first address of a CALLBACK.
+fn callback_in(alloc: Global, text: &[u8]) -> Result<Option<Url>, Mem>
+    ensures { IfOk result (λ url. url ≡ callback_in text.now) }
+{
+    match enclosed(behind_spaces(text)) {
+        Some(inner) => url_in(alloc, inner),
+        None => Ok(None),
+    }
+}
+
+/// The first address of a CALLBACK that may be missing.
+fn callback_of(alloc: Global, text: Option<&[u8]>) -> Result<Option<Url>, Mem>
+    ensures { IfOk result (λ url. url ≡ option_and_then callback_in (option_map (λ x. x.now) text.entry)) }
+{
+    match text {
+        Some(text) => callback_in(alloc, text),
+        None => Ok(None),
+    }
+}
+
+/// Whether all bytes are digits.
+fn all_digits(bytes: &[u8]) -> bool
+    ensures { result ≡ list_all (λ byte. is_digit byte 10) bytes.now }
+{
+    bytes.iter().all(|byte| char::from(*byte).is_digit(10))
+}
+
+/// Whether there is at least one byte and all are digits.
+fn is_number(bytes: &[u8]) -> bool
+    ensures { result ≡ is_number_in 10 bytes.now }
+{
+    bytes.len() > 0 && all_digits(bytes)
+}
+
+/// The seconds that digits grant.
+fn seconds_by(digits: &[u8]) -> u32
+    ensures { result ≡ seconds_by digits.now }
+{
+    if !is_number(digits) {
+        return LEAST_SECONDS;
+    }
+    match read_u32(digits) {
+        Some(seconds) => seconds.clamp(LEAST_SECONDS, MOST_SECONDS),
+        None => MOST_SECONDS,
+    }
+}
+
+/// The bytes where the word of a TIMEOUT stands.
+fn word_of(text: &[u8]) -> &[u8]
+    ensures { result.now ≡ take 7 text.now }
+{
+    text.split_at(7usize.min(text.len())).0
+}
+
+/// What stands behind them.
+fn behind_word(text: &[u8]) -> &[u8]
+    ensures { result.now ≡ drop 7 text.now }
+{
+    text.split_at(7usize.min(text.len())).1
+}
+
+/// The seconds that a TIMEOUT grants.
+fn seconds_in(text: &[u8]) -> u32
+    ensures { result ≡ seconds_in text.now }
+{
+    if word_of(text).eq_ignore_ascii_case(b"second-") {
+        seconds_by(behind_word(text))
+    } else {
+        LEAST_SECONDS
+    }
+}
+
+/// The seconds that a TIMEOUT grants that may be missing.
+fn seconds_of(text: Option<&[u8]>) -> u32
+    ensures { result ≡ seconds_of (option_map (λ x. x.now) text.entry) }
+{
+    match text {
+        Some(text) => seconds_in(text),
+        None => LEAST_SECONDS,
+    }
+}
+
+/// Whether an NT names events.
+fn is_event(text: Option<&[u8]>) -> bool
+    ensures { result ≡ is_event (option_map (λ x. x.now) text.entry) }
+{
+    match text {
+        Some(text) => text == b"upnp:event".as_slice(),
+        None => false,
+    }
+}
+
+/// What a SUBSCRIBE with an NT of events asks for.
+fn subscribing(alloc: Global, callback: Option<&[u8]>, seconds: u32) -> Result<Gena, GenaError>
+    ensures { Answers result (subscribing (option_and_then callback_in (option_map (λ x. x.now) callback.entry)) seconds) }
+{
+    match callback_of(alloc, callback)? {
+        Some(callback) => Ok(Gena::Subscribe { callback, seconds }),
+        None => Err(GenaError::Precondition),
+    }
+}
+
+/// What a SUBSCRIBE with a SID asks for.
+fn renewing(sid: &[u8], seconds: u32) -> Result<Gena, GenaError>
+    ensures { Answers result (renewing (sid_in sid.now) seconds) }
+{
+    match Sid::read(sid) {
+        Some(sid) => Ok(Gena::Renew { sid, seconds }),
+        None => Err(GenaError::Precondition),
+    }
+}
+
+/// What an UNSUBSCRIBE asks for.
+fn ending(sid: Option<&[u8]>) -> Result<Gena, GenaError>
+    ensures { Answers result (ending (option_and_then sid_in (option_map (λ x. x.now) sid.entry))) }
+{
+    let Some(sid) = sid else {
+        return Err(GenaError::Precondition);
+    };
+    match Sid::read(sid) {
+        Some(sid) => Ok(Gena::Unsubscribe { sid }),
+        None => Err(GenaError::Precondition),
+    }
+}
+
+/// What a SUBSCRIBE asks for.
+fn subscribe_of(
+    alloc: Global,
+    sid: Option<&[u8]>,
+    callback: Option<&[u8]>,
+    nt: Option<&[u8]>,
+    timeout: Option<&[u8]>,
+) -> Result<Gena, GenaError>
+    ensures { Answers result (subscribe_of (option_map (λ x. x.now) sid.entry) (option_map (λ x. x.now) callback.entry)
+        (option_map (λ x. x.now) nt.entry) (option_map (λ x. x.now) timeout.entry)) }
+{
+    match sid {
+        Some(sid) => renewing(sid, seconds_of(timeout)),
+        None => {
+            if !is_event(nt) {
+                return Err(GenaError::Precondition);
+            }
+            subscribing(alloc, callback, seconds_of(timeout))
+        }
+    }
+}
+
+/// What a request about a subscription asks for. `Incompatible` (status 400) exactly where SID stands beside CALLBACK or
+/// NT. Then `Precondition` (status 412) exactly where a SID is needed or there and has no name in it; where SUBSCRIBE has no
+/// SID, and NT is not `upnp:event` or CALLBACK does not begin with an `http` address with a host in `<` and `>`. TIMEOUT is
+/// put within 1,800 and 86,400 seconds.
+pub fn read_gena(alloc: Global, message: &Message) -> Result<Gena, GenaError>
+    requires method { IsTrue (asks_of_subscription message.now.start) }
+    ensures { Answers result (gena_of message.now) }
+{
+    let sid = field_of(&message.fields, "sid");
+    let callback = field_of(&message.fields, "callback");
+    let nt = field_of(&message.fields, "nt");
+    if sid.is_some() && (callback.is_some() || nt.is_some()) {
+        return Err(GenaError::Incompatible);
+    }
+    if has_method(message, "SUBSCRIBE") {
+        let timeout = field_of(&message.fields, "timeout");
+        subscribe_of(alloc, sid, callback, nt, timeout)
+    } else {
+        ending(sid)
+    }
+}
