@@ -427,7 +427,7 @@ past-runs moment None e = e
 past-runs moment (Some end) e = refl
 
 -- one that has not run out was granted
-runs-named : (name : ℕ) (commands : List Command) → is_some (runs_until name commands) ≡ true → (1 ≤ name) × (name ≤ granted commands)
+pub runs-named : (name : ℕ) (commands : List Command) → is_some (runs_until name commands) ≡ true → (1 ≤ name) × (name ≤ granted commands)
 runs-named name [] e = absurd (true≢false (sym e))
 runs-named name (Scans library ∷ older) e = runs-named name older e
 runs-named name (Grants moment callback seconds ∷ older) e = by (nat_eq name (granted older + 1)) refl e (λ d. runs-named name older d)

@@ -1,6 +1,6 @@
 -- What a request about a subscription asks for: its method and the first value of each of four fields say it (UPnP Device Architecture 2.0
 -- on SUBSCRIBE and UNSUBSCRIBE; the bounds of TIMEOUT are this project's profile).
-use Rattle.std.specs.Prelude.{◌≡◌, ◌⊎◌, ◌==◌, ℕ, Bool, false, ◌&&◌, ◌||◌, min, max, List, [], ◌∷◌, codes, bytes_eq, map, take, drop, position, Option, Some, None, is_some, option_map, option_and_then, Result, Ok, Err, MatchResult, if◌then◌else◌}
+use Rattle.std.specs.Prelude.{◌≡◌, ◌⊎◌, ◌==◌, ℕ, Bool, false, ◌&&◌, ◌||◌, min, max, List, [], ◌∷◌, codes, bytes_eq, map, take, drop, position, Option, Some, None, is_some, option_map, option_and_then, Result, Ok, Err, MatchResult, IsTrue, ⊤, if◌then◌else◌}
 use Rattle.std.specs.Result.{result_ok}
 use Rattle.std.specs.Str.{is_utf8}
 use Rattle.std.specs.Char.{to_ascii_lowercase}
@@ -45,8 +45,11 @@ enclosed [] = None
 enclosed (b ∷ rest) = if b == 60 then option_map (λ at. take at rest) (position (λ c. c == 62) rest) else None
 
 -- a URL at which notes can be delivered: its scheme is `http`, and it has a host
+abbrev pub is_deliverable : Parts → Bool
+is_deliverable url = bytes_eq url.scheme (codes "http") && has_host url
+
 abbrev pub deliverable : Parts → Option Parts
-deliverable url = if bytes_eq url.scheme (codes "http") && has_host url then Some url else None
+deliverable url = if is_deliverable url then Some url else None
 
 abbrev pub url_in : List ℕ → Option Parts
 url_in text = if is_utf8 text then option_and_then deliverable (result_ok (parse_url None text)) else None
@@ -114,6 +117,12 @@ abbrev pub gena_of : Message → Result Gena GenaError
 gena_of message =
     gena_by (has_method (codes "SUBSCRIBE") message.start) (field_of (codes "sid") message.fields) (field_of (codes "callback") message.fields)
     (field_of (codes "nt") message.fields) (field_of (codes "timeout") message.fields)
+
+-- a new subscription has a URL at which notes can be delivered
+abbrev pub IsDeliverable : Gena → Type 0
+IsDeliverable (Subscribe url seconds) = IsTrue (is_deliverable url)
+IsDeliverable (Renew sid seconds) = ⊤
+IsDeliverable (Unsubscribe sid) = ⊤
 
 -- the answer is this, unless there was no memory
 abbrev pub Answers : Result Gena GenaError → Result Gena GenaError → Type 0

@@ -1,4 +1,5 @@
 pub mod Asked
+pub mod Served
 pub mod SidText
 pub mod Subscribed
 pub mod SubscribedLaws

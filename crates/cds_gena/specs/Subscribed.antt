@@ -1,12 +1,13 @@
 -- The subscriptions that a server keeps: a function of its first number and of the commands that it accepted, the newest of which stands
 -- first. What a subscription is, the commands alone say (UPnP Device Architecture 2.0 on eventing).
-use Rattle.std.specs.Prelude.{◌≡◌, ◌+◌, ◌-◌, ◌≤◌, ◌&&◌, ℕ, Bool, false, cond, not, nat_eq, nat_lt, nat_le, List, [], ◌∷◌, ◌++◌, map, filter, length, Option, Some, None, unwrap_or}
+use Rattle.std.specs.Prelude.{◌≡◌, ◌+◌, ◌-◌, ◌≤◌, ◌^◌, ◌&&◌, ℕ, Bool, false, cond, not, nat_eq, nat_lt, nat_le, List, [], ◌∷◌, ◌++◌, map, filter, length, Option, Some, None, IsSome, unwrap_or}
 use Rattle.std.specs.List.{AllByRecursion, filter_map, range_with_len}
 use Rattle.std.specs.Map.{lookup}
 use Rattle.cds_commands.specs.Commands.{Command, Start}
 use Rattle.cds_commands.specs.Names.{names_of}
 use Rattle.cds_commands.specs.Subscriptions.{granted, end_after, runs_until, callback_of, subscription_limit}
 use Rattle.cds_commands.specs.Notes.{next_seq_of, seq_limit, notes_of}
+use Rattle.cds_gena.specs.Asked.{url_in}
 use Rattle.cds_gena.specs.declared.address.Address.{Address}
 use Rattle.cds_gena.specs.declared.book.Subscription.{Subscription}
 use Rattle.cds_gena.specs.declared.error.GenaError.{GenaError}
@@ -128,6 +129,19 @@ grant_refusal now s = cond (nat_eq s.granted last_number) (Some Spent) (if_full 
 
 -- ---- what every book keeps
 
+-- the note of an address can be delivered: its callback is the text of an `http` URL with a host
+abbrev pub IsDelivered : Address → Type 0
+IsDelivered to = IsSome (url_in to.callback)
+
 -- no more live than were granted, and their numbers are among those
 abbrev pub AreGranted : ℕ → List (ℕ × Subscription) → Type 0
 AreGranted granted living = (length living ≤ granted) × AllByRecursion (λ (p : ℕ × Subscription). p.0 ≤ granted) living
+
+-- their notes can be delivered
+abbrev pub AreDelivered : List (ℕ × Subscription) → Type 0
+AreDelivered living = AllByRecursion (λ (p : ℕ × Subscription). IsSome (url_in p.1.callback)) living
+
+pub record IsBook (names granted : ℕ) (living : List (ℕ × Subscription)) : Type 0 where
+  pub room : names + 2 ^ 32 ≤ 2 ^ 128
+  pub among : AreGranted granted living
+  pub delivered : AreDelivered living

@@ -1,11 +1,15 @@
 //! Where notes go.
 
-ghost use Rattle.std.specs.Prelude.{◌≡◌, ◌==◌, [], ◌++◌, length, OnOk, OnErr, option_copied, slice_get};
+ghost use Rattle.std.specs.Prelude.{◌≡◌, ◌==◌, [], ◌++◌, length, IfOk, OnOk, OnErr, Some, option_copied, slice_get};
+ghost use Rattle.cds_gena.specs.Asked.{url_in};
+ghost use Rattle.cds_gena.specs.Subscribed.{IsDelivered};
 
+use crate::gena::url_in;
 use crate::sid::Sid;
 use cds_base::{Mem, Text};
 use std::alloc::Global;
 use std::marker::Model;
+use url::Url;
 
 /// Where one note goes: the name of its subscription, the URL at which it is delivered, and its SEQ.
 #[derive(Drop, Debug)]
@@ -13,6 +17,19 @@ pub struct Address {
     pub sid: Sid,
     pub callback: Text,
     pub seq: u32,
+}
+
+impl Address {
+    /// The URL at which it is delivered. The callback is to be the text of an `http` URL with a host.
+    pub fn url(&self, alloc: Global) -> Result<Url, Mem>
+        requires delivered { IsDelivered self.now }
+        ensures { IfOk result (λ url. url_in self.now.callback ≡ Some url) }
+    {
+        match url_in(alloc, self.callback.as_str().as_bytes())? {
+            Some(url) => Ok(url),
+            None => unreachable!(),
+        }
+    }
 }
 
 /// A list of addresses.

@@ -1,6 +1,7 @@
 //! The subscriptions of one server.
 
-ghost use Rattle.std.specs.Prelude.{◌≡◌, ◌↔◌, ◌⊎◌, ◌+◌, ◌≤◌, ◌^◌, ℕ, List, [], ◌∷◌, ◌++◌, map, filter, length, slice_index, nat_eq, not, Some, None, Err, IsOk, IsSome, IfOk, IfErr, IfSome, OnOk, OnErr};
+ghost use Rattle.std.specs.Prelude.{◌≡◌, ◌↔◌, ◌⊎◌, ◌+◌, ◌≤◌, ◌^◌, ℕ, List, [], ◌∷◌, ◌++◌, map, filter, length, slice_index, nat_eq, not, Some, None, Err, IsOk, IsSome, IsTrue, IfOk, IfErr, IfSome, OnOk, OnErr};
+ghost use Rattle.std.specs.List.{AllByRecursion};
 ghost use Rattle.indexmap.specs.IndexMap.{get};
 ghost use Rattle.url.specs.Parts.{serialize};
 ghost use Rattle.cds_commands.specs.Commands.{Command, Start, Grants, Renews, Ends, Ticks, scans_of};
@@ -8,7 +9,9 @@ ghost use Rattle.cds_commands.specs.Names.{high_word, low_word, name_of, names_o
 ghost use Rattle.cds_commands.specs.Releases.{release_at, releases_of};
 ghost use Rattle.cds_commands.specs.Subscriptions.{end_after, granted};
 ghost use Rattle.cds_gena.specs.declared.error.GenaError.TheVariants as GenaError;
-ghost use Rattle.cds_gena.specs.Subscribed.{StandsFor, address_of, alive, expired, grant_refusal, has_next, holds_alive, living_named, nothing_granted, notified, number_of, raised, renewed, until, with_grant, without};
+ghost use Rattle.cds_gena.specs.Asked.{is_deliverable};
+ghost use Rattle.cds_gena.specs.Served.{Served};
+ghost use Rattle.cds_gena.specs.Subscribed.{IsDelivered, StandsFor, address_of, alive, expired, grant_refusal, has_next, holds_alive, living_named, nothing_granted, notified, number_of, raised, renewed, until, with_grant, without};
 
 use crate::address::{Address, Addresses};
 use crate::error::GenaError;
@@ -47,14 +50,13 @@ pub struct Book {
 }
 
 impl Model for Book {
-    ghost use Rattle.std.specs.Prelude.{◌+◌, ◌≤◌, ◌^◌};
-    ghost use Rattle.cds_gena.specs.Subscribed.{AreGranted, Booked};
+    ghost use Rattle.cds_gena.specs.Subscribed.{Booked, IsBook};
 
     ghost Value = { Booked };
 
     ghost view = { λ b. record { names = b.names; subscribed = record { granted = b.granted; living = b.living.entries } } };
 
-    ghost invariant = { λ b. (b.names + 2 ^ 32 ≤ 2 ^ 128) × AreGranted b.granted b.living.entries };
+    ghost invariant = { λ b. IsBook b.names b.granted b.living.entries };
 }
 
 /// The moment at which what is granted at a moment for so many seconds runs out.
@@ -215,9 +217,11 @@ impl Book {
         self.granted
     }
 
-    /// How many have not run out at a moment in milliseconds.
+    /// How many have not run out at a moment in milliseconds: at most 64 where the calls so far were accepted, and no moment
+    /// was before that of an earlier one.
     pub fn live(&self, now: u64) -> usize
-        ensures { result ≡ length (alive now self.now.subscribed.living) }
+        ensures exact { result ≡ length (alive now self.now.subscribed.living) }
+        ensures few { (start : Start) (commands : List Command) → StandsFor self.now start commands → Served start.first now commands → result ≤ 64 }
     {
         count_alive(&self.living, now)
     }
@@ -253,8 +257,9 @@ impl Book {
         }
     }
 
-    /// Grants a subscription at a moment in milliseconds for so many seconds, and answers its name. `Spent` where the last
-    /// number was given, then `Full` where as many live as may, with their number. A refusal changes nothing.
+    /// Grants a subscription at a moment in milliseconds for so many seconds, and answers its name. The callback is to be an
+    /// `http` URL with a host. `Spent` where the last number was given, then `Full` where as many live as may, with their
+    /// number. A refusal changes nothing.
     pub fn subscribe(
         &mut self,
         alloc: Global,
@@ -262,6 +267,7 @@ impl Book {
         callback: &Url,
         seconds: u32,
     ) -> Result<Sid, GenaError>
+        requires delivered { IsTrue (is_deliverable callback.now) }
         ensures granted { OnOk result (self.new.subscribed ≡ with_grant now (serialize callback.now) seconds self.old.subscribed) }
         ensures sid { IfOk result (λ sid. sid.0 ≡ self.old.names + (self.old.subscribed.granted + 1)) }
         ensures room { OnOk result (grant_refusal now self.old.subscribed ≡ None) }
@@ -341,10 +347,11 @@ impl Book {
     }
 
     /// Drops the subscriptions that have run out at a moment, gives where a note to each of the others goes, in the order of
-    /// their making, and raises their SEQs; one whose note has the last SEQ ends. All memory is taken first: where there is
-    /// none, nothing changes.
+    /// their making, and raises their SEQs; one whose note has the last SEQ ends. Each address has a callback at which notes
+    /// can be delivered. All memory is taken first: where there is none, nothing changes.
     pub fn next_notes(&mut self, alloc: Global, now: u64, out: &mut Addresses) -> Result<(), Mem>
         ensures notes { OnOk result (out.new ≡ out.old ++ map (address_of self.old.names) (alive now self.old.subscribed.living)) }
+        ensures delivered { OnOk result (AllByRecursion IsDelivered (map (address_of self.old.names) (alive now self.old.subscribed.living))) }
         ensures raised { OnOk result (self.new.subscribed ≡ notified (expired now self.old.subscribed)) }
         ensures stands { (start : Start) (commands : List Command) → StandsFor self.old start commands
             → IsSome (release_at now (scans_of start.first commands) (releases_of start.first commands))

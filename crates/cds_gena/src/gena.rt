@@ -8,7 +8,7 @@ ghost use Rattle.url.specs.Parser.{parse_url};
 ghost use Rattle.http_header.specs.Token.{lowercase};
 ghost use Rattle.cds_base.specs.Number.{is_number_in};
 ghost use Rattle.cds_gena.specs.SidText.{sid_in};
-ghost use Rattle.cds_gena.specs.Asked.{Answers, asks_of_subscription, behind_spaces, callback_in, deliverable, enclosed, ending, field_of, gena_of, has_method, is_event, renewing, seconds_by, seconds_in, seconds_of, subscribe_of, subscribing, url_in};
+ghost use Rattle.cds_gena.specs.Asked.{Answers, IsDeliverable, asks_of_subscription, behind_spaces, callback_in, deliverable, enclosed, ending, field_of, gena_of, has_method, is_deliverable, is_event, renewing, seconds_by, seconds_in, seconds_of, subscribe_of, subscribing, url_in};
 
 use crate::error::GenaError;
 use crate::sid::Sid;
@@ -36,7 +36,7 @@ pub enum Gena {
 }
 
 /// Whether a message is a request with this method.
-fn has_method(message: &Message, name: &str) -> bool
+pub fn has_method(message: &Message, name: &str) -> bool
     ensures { result ≡ has_method name.now message.now.start }
 {
     match &message.start {
@@ -52,8 +52,8 @@ pub fn asks_of_subscription(message: &Message) -> bool
     has_method(message, "SUBSCRIBE") || has_method(message, "UNSUBSCRIBE")
 }
 
-/// The first value of a field.
-fn field_of<'a>(fields: &'a HeaderMap, name: &str) -> Option<&'a [u8]>
+/// The first value of a field of this name, in letters of either case.
+pub fn field_of<'a>(fields: &'a HeaderMap, name: &str) -> Option<&'a [u8]>
     ensures { option_map (λ value. value.now) result ≡ field_of (lowercase name.now) fields.now }
 {
     match fields.get(name) {
@@ -97,11 +97,18 @@ fn enclosed(text: &[u8]) -> Option<&[u8]>
     }
 }
 
+/// Whether notes can be delivered at a URL: its scheme is `http`, and it has a host.
+pub fn is_deliverable(url: &Url) -> bool
+    ensures { result ≡ is_deliverable url.now }
+{
+    url.scheme() == "http" && url.has_host()
+}
+
 /// The URL, where notes can be delivered at it.
 fn deliverable(url: Url) -> Option<Url>
     ensures { result ≡ deliverable url }
 {
-    if url.scheme() == "http" && url.has_host() {
+    if is_deliverable(&url) {
         Some(url)
     } else {
         None
@@ -120,7 +127,7 @@ fn parsed(alloc: Global, text: &str) -> Result<Option<Url>, Mem>
 }
 
 /// The URL that a text is, where notes can be delivered at it.
-fn url_in(alloc: Global, text: &[u8]) -> Result<Option<Url>, Mem>
+pub(crate) fn url_in(alloc: Global, text: &[u8]) -> Result<Option<Url>, Mem>
     ensures { IfOk result (λ url. url ≡ url_in text.now) }
 {
     let Ok(text) = std::str::from_utf8(text) else {
@@ -285,7 +292,8 @@ fn subscribe_of(
 /// put within 1,800 and 86,400 seconds.
 pub fn read_gena(alloc: Global, message: &Message) -> Result<Gena, GenaError>
     requires method { IsTrue (asks_of_subscription message.now.start) }
-    ensures { Answers result (gena_of message.now) }
+    ensures answers { Answers result (gena_of message.now) }
+    ensures delivered { IfOk result IsDeliverable }
 {
     let sid = field_of(&message.fields, "sid");
     let callback = field_of(&message.fields, "callback");

@@ -1,5 +1,6 @@
 //! Laws of the subscriptions that a book keeps: each function's contract is one of them, and calling it gives the law.
 
+ghost use Rattle.cds_gena.specs.Served as served;
 ghost use Rattle.cds_gena.specs.SubscribedLaws as laws;
 
 /// Before any command nothing is granted.
@@ -45,4 +46,19 @@ pub fn living_are_alive()
 /// A subscription is refused exactly where no name is left, or as many live as may.
 pub fn grants_are_refused()
     ensures { laws.grants_are_refused }
+{}
+
+/// At most 64 live where every command was accepted and no moment is before an earlier one.
+pub fn few_live()
+    ensures { served.few_live }
+{}
+
+/// A name is that of a number whose subscription lives, exactly where it is the name of this number and its subscription lives.
+pub fn names_are_of_numbers()
+    ensures { served.names_are_of_numbers }
+{}
+
+/// The text of a SID is read as its name.
+pub fn names_are_read_back()
+    ensures { served.names_are_read_back }
 {}

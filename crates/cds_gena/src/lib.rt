@@ -12,7 +12,7 @@ mod sid;
 pub use address::{Address, Addresses};
 pub use book::Book;
 pub use error::GenaError;
-pub use gena::{Gena, asks_of_subscription, read_gena};
+pub use gena::{Gena, asks_of_subscription, field_of, has_method, is_deliverable, read_gena};
 pub use sid::Sid;
 
 #[cfg(test)]

@@ -1,7 +1,8 @@
-ghost use Rattle.std.specs.Prelude.{◌≡◌, ◌++◌, option_map, OnOk, OnErr};
+ghost use Rattle.std.specs.Prelude.{◌≡◌, ◌++◌, option_map, IfOk, OnOk, OnErr};
 ghost use Rattle.cds_gena.specs.SidText.{sid_in, sid_text};
 
-use cds_base::Mem;
+use cds_base::{Mem, Text};
+use std::alloc::Global;
 use uuid::Uuid;
 
 /// The name of a subscription: the number of the UUID in its SID (UPnP Device Architecture 2.0 on eventing).
@@ -35,5 +36,15 @@ impl Sid {
         let text = id.urn().encode_lower(&mut buffer);
         out.extend_from_slice(&text.as_bytes()[4..])?;
         Ok(())
+    }
+    /// The text of its SID field.
+    pub fn text(&self, alloc: Global) -> Result<Text, Mem>
+        ensures { IfOk result (λ text. text ≡ sid_text self.now.0) }
+    {
+        let mut buffer = Uuid::encode_buffer();
+        let id = Uuid::from_u128(self.0);
+        let mut text = String::from_str(alloc, "uuid:")?;
+        text.push_str(id.hyphenated().encode_lower(&mut buffer))?;
+        Ok(Text::from(text))
     }
 }

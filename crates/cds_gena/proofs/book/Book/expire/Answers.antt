@@ -1,13 +1,13 @@
 use Rattle.std.proofs.Common.{sym, subst}
-use Rattle.cds_gena.specs.Subscribed.{AreGranted}
-use Rattle.cds_gena.proofs.Granted.{granted-filter}
+use Rattle.cds_gena.specs.Subscribed.{IsBook}
+use Rattle.cds_gena.proofs.Delivered.{book-filter}
 use Rattle.std.proofs.Common.{ap, ◌∙◌}
 use Rattle.cds_gena.specs.Subscribed.{Booked, expired}
 use Rattle.cds_gena.proofs.Commands.{booked-silent}
 use Rattle.cds_gena.proofs.book.Book.expire.Goals as goal
 
 pub invariant_of-self : goal.invariant_of-self
-invariant_of-self c = (c.self.invariant.0, subst (AreGranted c.self.inside.granted) (sym c.drop_past.ensures) (granted-filter c.self.inside.granted _ c.self.inside.living.entries c.self.invariant.1))
+invariant_of-self c = subst (IsBook c.self.inside.names c.self.inside.granted) (sym c.drop_past.ensures) (book-filter c.self.inside.names c.self.inside.granted _ c.self.inside.living.entries c.self.invariant)
 
 pub returns-clause-stands : goal.returns-clause-stands
 returns-clause-stands c start commands stands none = record {

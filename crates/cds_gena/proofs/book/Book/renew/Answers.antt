@@ -1,6 +1,6 @@
 use Rattle.std.proofs.Common.{sym, subst}
-use Rattle.cds_gena.specs.Subscribed.{AreGranted}
-use Rattle.cds_gena.proofs.Granted.{granted-until}
+use Rattle.cds_gena.specs.Subscribed.{IsBook}
+use Rattle.cds_gena.proofs.Delivered.{book-until}
 use Rattle.std.proofs.Common.{rules, ◌≡◌, ◌∷◌, Some, IfSome, ap, ◌∙◌}
 use Rattle.cds_commands.specs.Commands.{Renews}
 use Rattle.cds_commands.specs.Subscriptions.{end_after}
@@ -9,7 +9,7 @@ use Rattle.cds_gena.proofs.Commands.{booked-renewal}
 use Rattle.cds_gena.proofs.book.Book.renew.Goals as goal
 
 pub invariant_of-self : goal.invariant_of-self
-invariant_of-self c = (c.self.invariant.0, subst (AreGranted c.self.inside.granted) (sym c.put_off.ensures) (granted-until c.self.inside.granted _ _ c.self.inside.living.entries c.self.invariant.1))
+invariant_of-self c = subst (IsBook c.self.inside.names c.self.inside.granted) (sym c.put_off.ensures) (book-until c.self.inside.names c.self.inside.granted _ _ c.self.inside.living.entries c.self.invariant)
 
 pub returns-in-Some-clause-stands : goal.returns-in-Some-clause-stands
 returns-in-Some-clause-stands c start commands stands =

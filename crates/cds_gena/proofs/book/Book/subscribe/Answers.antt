@@ -1,6 +1,8 @@
-use Rattle.std.proofs.Common.{rules, sym, subst, arith, ◌+◌}
-use Rattle.cds_gena.specs.Subscribed.{AreGranted}
-use Rattle.cds_gena.proofs.Granted.{granted-more, none-numbered}
+use Rattle.std.proofs.Common.{IsAscii, IsSome, refl, rules, sym, subst, arith, ◌+◌}
+use Rattle.cds_gena.specs.Asked.{url_in}
+use Rattle.cds_gena.specs.Subscribed.{IsBook}
+use Rattle.cds_gena.proofs.Delivered.{book-more, own-url}
+use Rattle.cds_gena.proofs.Granted.{none-numbered}
 use Rattle.std.proofs.Common.{◌≡◌, ap, ◌∙◌}
 use Rattle.url.specs.Parts.{serialize}
 use Rattle.cds_gena.specs.Subscribed.{Booked, Subscribed, with_grant}
@@ -8,11 +10,14 @@ use Rattle.cds_gena.proofs.Commands.{booked-grant}
 use Rattle.cds_gena.proofs.book.Book.subscribe.Goals as goal
 
 pub add-requires : goal.add-requires
-add-requires c = record { new = none-numbered c.self.inside.granted (c.self.inside.granted + 1) c.self.inside.living.entries (omega arith) c.self.invariant.1 }
+add-requires c = record { new = none-numbered c.self.inside.granted (c.self.inside.granted + 1) c.self.inside.living.entries (omega arith) c.self.invariant.among }
 
 pub invariant_of-self-2 : goal.invariant_of-self-2
 invariant_of-self-2 c =
-    (c.self.invariant.0, subst (AreGranted (c.self.inside.granted + 1)) (sym c.in_ok-add.ensures.ok) (granted-more c.self.inside.granted _ c.self.inside.living.entries c.self.invariant.1))
+    let own = own-url c.args.callback.now c.as_str.ensures.valid (subst IsAscii c.as_str.ensures.value c.as_str.ensures.ascii) c.requires.delivered in
+    let goes : IsSome (url_in c.in_ok-callback.callback) = subst (λ t. IsSome (url_in t)) (sym (c.in_ok-callback.ensures ∙ c.as_str.ensures.value)) (subst IsSome (sym own) refl) in
+    subst (IsBook c.self.inside.names (c.self.inside.granted + 1)) (sym c.in_ok-add.ensures.ok)
+    (book-more c.self.inside.names c.self.inside.granted _ c.self.inside.living.entries goes c.self.invariant)
 
 pub returns-clause-stands : goal.returns-clause-stands
 returns-clause-stands c start commands stands =

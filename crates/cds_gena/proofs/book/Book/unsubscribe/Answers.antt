@@ -1,6 +1,6 @@
 use Rattle.std.proofs.Common.{sym, subst}
-use Rattle.cds_gena.specs.Subscribed.{AreGranted}
-use Rattle.cds_gena.proofs.Granted.{granted-filter}
+use Rattle.cds_gena.specs.Subscribed.{IsBook}
+use Rattle.cds_gena.proofs.Delivered.{book-filter}
 use Rattle.std.proofs.Common.{rules, ◌≡◌, ◌∷◌, Some, IfSome, ap, ◌∙◌}
 use Rattle.cds_commands.specs.Commands.{Ends}
 use Rattle.cds_gena.specs.Subscribed.{Booked, StandsFor, living_named, without}
@@ -8,7 +8,7 @@ use Rattle.cds_gena.proofs.Commands.{booked-end}
 use Rattle.cds_gena.proofs.book.Book.unsubscribe.Goals as goal
 
 pub invariant_of-self : goal.invariant_of-self
-invariant_of-self c = (c.self.invariant.0, subst (AreGranted c.self.inside.granted) (sym c.drop_numbered.ensures) (granted-filter c.self.inside.granted _ c.self.inside.living.entries c.self.invariant.1))
+invariant_of-self c = subst (IsBook c.self.inside.names c.self.inside.granted) (sym c.drop_numbered.ensures) (book-filter c.self.inside.names c.self.inside.granted _ c.self.inside.living.entries c.self.invariant)
 
 pub returns-in-Some-clause-stands : goal.returns-in-Some-clause-stands
 returns-in-Some-clause-stands c start commands stands =
