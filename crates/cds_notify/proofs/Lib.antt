@@ -1,0 +1,7 @@
+pub mod Pieces
+pub mod Visible
+pub mod Bodies
+pub mod Lengths
+pub mod Reading
+pub mod Notes
+pub mod Containers

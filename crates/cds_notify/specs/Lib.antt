@@ -1,0 +1,5 @@
+pub mod Laws
+pub mod Notify
+pub mod Propertyset
+pub mod Reading
+pub mod Said

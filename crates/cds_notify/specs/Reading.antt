@@ -1,0 +1,62 @@
+-- What the parts of reading a note's body answer.
+use Rattle.std.specs.Prelude.{◌≡◌, ℕ, Bool, ◌&&◌, List, filter, codes, Option, Some, None, Result, Ok, Err, ⊤, if◌then◌else◌}
+use Rattle.cds_event.specs.declared.Event.{Event}
+use Rattle.cds_markup.specs.declared.element.Node.{Node}
+use Rattle.cds_markup.specs.declared.error.MarkupError.{MarkupError}
+use Rattle.cds_markup.specs.declared.error.MarkupError.TheVariants.{Mem as OutOfMemory, Bad as BadAt, TooDeep, TooLong as TooManyBytes, Failed as RefusedBefore}
+use Rattle.cds_markup.specs.Document.{Meaning, Doc}
+use Rattle.cds_markup.specs.Children.{nodes_in, elements_in, element_in, where_it, is_named, called, is_any}
+use Rattle.cds_lastchange.specs.declared.error.StateError.{StateError}
+use Rattle.cds_lastchange.specs.declared.error.StateError.TheVariants.{Mem as Out, Bad, NotStateEvent, TooLong, Failed}
+use Rattle.cds_lastchange.specs.StateEvent.{IsStateEvent}
+use Rattle.cds_notify.specs.declared.note.NoteError.{NoteError}
+use Rattle.cds_notify.specs.declared.note.NoteError.TheVariants.{Mem, Head, Precondition, Body}
+use Rattle.cds_notify.specs.declared.body.Content.{Content}
+use Rattle.cds_notify.specs.Said.{event_space, Says}
+
+-- a property in which a variable stands
+abbrev pub carries : List ℕ → Meaning → Bool
+carries local element = is_named event_space (codes "property") element && is_any (called local (nodes_in element))
+
+abbrev pub property_with : List ℕ → Node → Option Meaning
+property_with local node = where_it (carries local) (element_in node)
+
+abbrev pub properties_with : List ℕ → List Node → List Meaning
+properties_with local nodes = filter (carries local) (elements_in nodes)
+
+-- why a note is refused whose changes or whose body are refused so
+abbrev pub of_state : StateError → NoteError
+of_state Out = Mem
+of_state (Bad at) = Body
+of_state (NotStateEvent at) = Body
+of_state TooLong = Body
+of_state Failed = Body
+
+abbrev pub of_document : MarkupError → NoteError
+of_document OutOfMemory = Mem
+of_document (BadAt at) = Body
+of_document (TooDeep at) = Body
+of_document TooManyBytes = Body
+of_document RefusedBefore = Body
+
+-- the events of a text, the element of a document, and what a body says. Want of memory says nothing, and there is no cause but these
+abbrev pub EventsTold : List ℕ → Result (List Event) NoteError → Type 0
+EventsTold text (Ok events) = IsStateEvent text events
+EventsTold text (Err Mem) = ⊤
+EventsTold text (Err Head) = ⊥
+EventsTold text (Err Precondition) = ⊥
+EventsTold text (Err Body) = (events : List Event) → IsStateEvent text events → ⊥
+
+abbrev pub DocumentTold : List ℕ → Result Meaning NoteError → Type 0
+DocumentTold body (Ok root) = Doc body root
+DocumentTold body (Err Mem) = ⊤
+DocumentTold body (Err Head) = ⊥
+DocumentTold body (Err Precondition) = ⊥
+DocumentTold body (Err Body) = (root : Meaning) → Doc body root → ⊥
+
+abbrev pub BodyTold : List ℕ → Result Content NoteError → Type 0
+BodyTold body (Ok content) = Says body content.number content.events
+BodyTold body (Err Mem) = ⊤
+BodyTold body (Err Head) = ⊥
+BodyTold body (Err Precondition) = ⊥
+BodyTold body (Err Body) = (number : ℕ) (events : List Event) → Says body number events → ⊥
