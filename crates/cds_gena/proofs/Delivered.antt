@@ -35,7 +35,7 @@ http-kind : scheme_type (codes "http") ≡ SpecialNotFile
 unfolding scheme_type default_port
 http-kind = refl
 
-kind-is : (url : Parts) → is_deliverable url ≡ true → kind_of url ≡ SpecialNotFile
+pub kind-is : (url : Parts) → is_deliverable url ≡ true → kind_of url ≡ SpecialNotFile
 kind-is url can =
     let http : url.scheme ≡ codes "http" = (bytes_eq-Decides url.scheme (codes "http")).0 (first-of (bytes_eq url.scheme (codes "http")) (has_host url) can) in
     ap scheme_type http ∙ http-kind

@@ -1,6 +1,6 @@
 //! Where notes go.
 
-ghost use Rattle.std.specs.Prelude.{◌≡◌, ◌==◌, [], ◌++◌, length, IfOk, OnOk, OnErr, Some, option_copied, slice_get};
+ghost use Rattle.std.specs.Prelude.{◌≡◌, ◌==◌, [], ◌++◌, length, IfOk, OnOk, OnErr, Some, is_some, option_copied, slice_get};
 ghost use Rattle.cds_gena.specs.Asked.{url_in};
 ghost use Rattle.cds_gena.specs.Subscribed.{IsDelivered};
 
@@ -20,6 +20,13 @@ pub struct Address {
 }
 
 impl Address {
+    /// Whether notes can be delivered at its callback: the text of an `http` URL with a host.
+    pub fn is_delivered(&self, alloc: Global) -> Result<bool, Mem>
+        ensures { IfOk result (λ can. can ≡ is_some (url_in self.now.callback)) }
+    {
+        Ok(url_in(alloc, self.callback.as_str().as_bytes())?.is_some())
+    }
+
     /// The URL at which it is delivered. The callback is to be the text of an `http` URL with a host.
     pub fn url(&self, alloc: Global) -> Result<Url, Mem>
         requires delivered { IsDelivered self.now }
