@@ -6,10 +6,10 @@ ghost use Rattle.cds_object.specs.Fragment.{fragment, full_text};
 ghost use Rattle.cds_script.specs.Report.{notes_text};
 ghost use Rattle.cds_replay.specs.Lines.{scan_line, read_line, stands_text, known_text, known_rows, numbered_line, note_line, delivered_line, taken_text, ended_text, was_answered, was_noticed};
 
-use cds_didl::put_fragment;
 use crate::sent::SentHead;
 use crate::server::Server;
 use cds_base::{Mem, put, put_number};
+use cds_didl::put_fragment;
 use cds_object::Row;
 use cds_replica::{CopyRow, NotifyError, Read, Says, Taken};
 use cds_store::{ApplyError, Span};
