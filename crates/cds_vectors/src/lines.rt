@@ -19,6 +19,11 @@ fn root(alloc: Global, children: &str, update: &str, deleted: &str) -> Result<St
     )
 }
 
+/// What stands before the first `/` of a word, and behind it.
+fn parted(word: &str) -> (&str, &str) {
+    word.split_once("/").unwrap_or((word, ""))
+}
+
 /// A folder's row under the root, with nothing deleted from it.
 fn folder(
     alloc: Global,
@@ -27,7 +32,7 @@ fn folder(
     children: &str,
     updates: &str,
 ) -> Result<String, AllocError> {
-    let (object, container) = updates.split_once("/").unwrap_or((updates, updates));
+    let (object, container) = parted(updates);
     format!(in alloc;
         "<container id=\"{id}\" parentID=\"0\" restricted=\"1\" searchable=\"1\" childCount=\"{children}\"><dc:title>{name}</dc:title><upnp:class>object.container</upnp:class><upnp:objectUpdateID>{object}</upnp:objectUpdateID><upnp:containerUpdateID>{container}</upnp:containerUpdateID><upnp:totalDeletedChildCount>0</upnp:totalDeletedChildCount></container>"
     )
@@ -35,8 +40,8 @@ fn folder(
 
 /// The row of a track of two channels of 16 bits, without rate and duration, from `ID/PARENT` and `UPDATE/SIZE`.
 fn track(alloc: Global, ids: &str, title: &str, numbers: &str) -> Result<String, AllocError> {
-    let (id, parent) = ids.split_once("/").unwrap_or((ids, "0"));
-    let (update, size) = numbers.split_once("/").unwrap_or((numbers, "10"));
+    let (id, parent) = parted(ids);
+    let (update, size) = parted(numbers);
     format!(in alloc;
         "<item id=\"{id}\" parentID=\"{parent}\" restricted=\"1\"><dc:title>{title}</dc:title><upnp:class>object.item.audioItem.musicTrack</upnp:class><upnp:objectUpdateID>{update}</upnp:objectUpdateID><res protocolInfo=\"http-get:*:audio/flac:*\" size=\"{size}\" bitsPerSample=\"16\" nrAudioChannels=\"2\">/media/{id}</res></item>"
     )
