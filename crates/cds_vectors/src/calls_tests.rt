@@ -177,57 +177,62 @@ fn outcome(alloc: Global, first: u32, scans: &str) -> Result<String, Fail> {
     Ok(text)
 }
 
+/// A first number, scans parted by `|`, and the answers to them.
+type History = (u32, &'static str, &'static str);
+
+const HISTORIES: [History; 9] = [
+    (0, " | ", "0-0 0-0 "),
+    // Folders vanish with all below them, and come again.
+    (
+        10,
+        "R/ R/S/ R/S/a=1 R/b=1 t=1 | t=1 | R/ R/S/ R/S/a=1 t=2",
+        "10-15 15-19 19-23 ",
+    ),
+    // Folders within folders, side by side and empty.
+    (
+        0,
+        "A/ A/B/ A/B/t=1 C/ C/t=1 D/ | A/ A/B/ C/ C/t=2 C/u=1 | D/ D/x=1",
+        "0-6 6-10 10-17 ",
+    ),
+    // A file becomes a folder with tracks, and a file again.
+    (0, "x=1 y=1 | x/ x/a=1 y=1 | x=1 y=1", "0-2 2-5 5-8 "),
+    // By components `a/b` comes before `a!`, by bytes after it.
+    (
+        0,
+        "a!=1 a/ a/b=1 | a!=2 a/ a/b=2 | a/ | a!/ a!/c=1 a/",
+        "0-3 3-5 5-7 7-9 ",
+    ),
+    // A folder is emptied and filled again.
+    (
+        0,
+        "R/ R/a=1 R/b=1 | R/ | R/ R/b=1 R/a=1 | R/ R/a=2 R/b=1",
+        "0-3 3-5 5-7 7-8 ",
+    ),
+    // Samples within one millisecond are no change, and those beyond are.
+    (
+        0,
+        "a=9:44100 | a=9:44144 | a=9:44145 | a=9:44145",
+        "0-1 1-1 1-2 2-2 ",
+    ),
+    // Refused scans change nothing.
+    (
+        0,
+        "R/ R/a=1 | R/a=1 | R/ R/a=1 R/a=2 | a=1 a/b=1 | R/ R/a=2",
+        "0-2 bad 1 bad 3 bad 2 2-3 ",
+    ),
+    (
+        4294967293,
+        "a=1 b=1 c=1 | b=1 c=1 | b=1 | b=1 c=1",
+        "spent 3 4294967293-4294967295 spent 1 4294967295-4294967295 ",
+    ),
+];
+
 /// Folders and files that come, go and become the other kind; scans that change little or nothing, and scans that are
 /// refused. The store's answers, numbers, rows and spans are the plain history's.
 #[test]
 fn scans(rt: HostRuntime) -> Result<(), Fail> {
     let alloc = rt.alloc();
-    for (first, scans, answers) in [
-        (0, " | ", "0-0 0-0 "),
-        // Folders vanish with all below them, and come again.
-        (
-            10,
-            "R/ R/S/ R/S/a=1 R/b=1 t=1 | t=1 | R/ R/S/ R/S/a=1 t=2",
-            "10-15 15-19 19-23 ",
-        ),
-        // Folders within folders, side by side and empty.
-        (
-            0,
-            "A/ A/B/ A/B/t=1 C/ C/t=1 D/ | A/ A/B/ C/ C/t=2 C/u=1 | D/ D/x=1",
-            "0-6 6-10 10-17 ",
-        ),
-        // A file becomes a folder with tracks, and a file again.
-        (0, "x=1 y=1 | x/ x/a=1 y=1 | x=1 y=1", "0-2 2-5 5-8 "),
-        // By components `a/b` comes before `a!`, by bytes after it.
-        (
-            0,
-            "a!=1 a/ a/b=1 | a!=2 a/ a/b=2 | a/ | a!/ a!/c=1 a/",
-            "0-3 3-5 5-7 7-9 ",
-        ),
-        // A folder is emptied and filled again.
-        (
-            0,
-            "R/ R/a=1 R/b=1 | R/ | R/ R/b=1 R/a=1 | R/ R/a=2 R/b=1",
-            "0-3 3-5 5-7 7-8 ",
-        ),
-        // Samples within one millisecond are no change, and those beyond are.
-        (
-            0,
-            "a=9:44100 | a=9:44144 | a=9:44145 | a=9:44145",
-            "0-1 1-1 1-2 2-2 ",
-        ),
-        // Refused scans change nothing.
-        (
-            0,
-            "R/ R/a=1 | R/a=1 | R/ R/a=1 R/a=2 | a=1 a/b=1 | R/ R/a=2",
-            "0-2 bad 1 bad 3 bad 2 2-3 ",
-        ),
-        (
-            4294967293,
-            "a=1 b=1 c=1 | b=1 c=1 | b=1 | b=1 c=1",
-            "spent 3 4294967293-4294967295 spent 1 4294967295-4294967295 ",
-        ),
-    ] {
+    for (first, scans, answers) in HISTORIES {
         assert_eq!(rt; outcome(alloc, first, scans)?.as_str(), answers);
     }
     Ok(())
