@@ -72,29 +72,50 @@ fn reads_short_paths(rt: HostRuntime) -> Result<(), Fail> {
     Ok(())
 }
 
+/// Whether a path made of so many names of so many bytes, each followed by `/`, and this end has so many names, or is
+/// refused at this place.
+fn reads_as(
+    alloc: Global,
+    bytes: usize,
+    count: usize,
+    end: &str,
+    want: Result<usize, usize>,
+) -> Result<bool, AllocError> {
+    let text = folders(alloc, bytes, count, end)?;
+    match (Path::read(alloc, text.as_str()), want) {
+        (Ok(path), Ok(count)) => Ok(path.names().len() == count),
+        (Err(PathError::BadPath { at }), Err(place)) => Ok(at == place),
+        _ => Ok(false),
+    }
+}
+
 #[test]
 fn reads_paths_at_the_limits(rt: HostRuntime) -> Result<(), Fail> {
     let alloc = rt.alloc();
-    for (text, want) in [
-        (repeated(alloc, "n", 255, "")?, Ok(1)),
-        (repeated(alloc, "n", 256, "")?, Err(0)),
-        (folders(alloc, 255, 1, "a")?, Ok(2)),
-        (folders(alloc, 256, 1, "a")?, Err(0)),
-        (folders(alloc, 1, 15, "a")?, Ok(16)),
-        (folders(alloc, 1, 16, "a")?, Err(32)),
-        (folders(alloc, 1, 17, "")?, Err(32)),
-        (folders(alloc, 255, 4, "")?, Err(1024)),
-        (folders(alloc, 203, 5, "abcd")?, Ok(6)),
-        (folders(alloc, 203, 5, "abcde")?, Err(1024)),
-        (folders(alloc, 203, 6, "..")?, Err(1224)),
-        (folders(alloc, 255, 16, "a")?, Err(4096)),
+    for (bytes, count, end, want) in [
+        (255, 1, "a", Ok(2)),
+        (256, 1, "a", Err(0)),
+        (1, 15, "a", Ok(16)),
+        (1, 16, "a", Err(32)),
+        (1, 17, "", Err(32)),
+        (255, 4, "", Err(1024)),
+        (203, 5, "abcd", Ok(6)),
+        (203, 5, "abcde", Err(1024)),
+        (203, 6, "..", Err(1224)),
+        (255, 16, "a", Err(4096)),
     ] {
-        match (Path::read(alloc, text.as_str()), want) {
-            (Ok(path), Ok(count)) => assert_eq!(rt; path.names().len(), count, "{text}"),
-            (Err(error), Err(at)) => assert_eq!(rt; error, PathError::BadPath { at }, "{text}"),
-            _ => assert!(rt; false, "{text}"),
-        }
+        assert!(rt;
+            reads_as(alloc, bytes, count, end, want)?,
+            "{count} names of {bytes} bytes"
+        );
     }
+    let longest = repeated(alloc, "n", 255, "")?;
+    assert!(rt; Path::read(alloc, longest.as_str()).is_ok());
+    let longer = repeated(alloc, "n", 256, "")?;
+    assert_eq!(rt;
+        Path::read(alloc, longer.as_str()).err(),
+        Some(PathError::BadPath { at: 0 })
+    );
     Ok(())
 }
 
@@ -224,48 +245,47 @@ fn durations_are_cut_to_milliseconds(rt: HostRuntime) -> Result<(), Fail> {
     Ok(())
 }
 
+/// Whether a part so many times, and an end, is left as the same with this part, number and end when it is cleaned.
+fn is_cleaned(
+    alloc: Global,
+    before: (&str, usize, &str),
+    after: (&str, usize, &str),
+) -> Result<bool, AllocError> {
+    let text = repeated(alloc, before.0, before.1, before.2)?;
+    let left = repeated(alloc, after.0, after.1, after.2)?;
+    match clean(alloc, text.as_str()) {
+        Ok(cleaned) => Ok(cleaned.as_str() == left.as_str()),
+        Err(_) => Ok(false),
+    }
+}
+
 #[test]
 fn texts_are_cleaned(rt: HostRuntime) -> Result<(), Fail> {
     let alloc = rt.alloc();
-    for (text, want) in [
+    for (before, after) in [
         (
-            repeated(alloc, "\u{0}a\t\r\n\u{1f}\u{7f}", 1, "")?,
-            repeated(alloc, "\u{fffd}a   \u{fffd}\u{7f}", 1, "")?,
+            ("\u{0}a\t\r\n\u{1f}\u{7f}", 1, ""),
+            ("\u{fffd}a   \u{fffd}\u{7f}", 1, ""),
         ),
         (
-            repeated(alloc, "\u{fffd}\u{fffe}\u{ffff}\u{10000}", 1, "")?,
-            repeated(alloc, "\u{fffd}\u{fffd}\u{fffd}\u{10000}", 1, "")?,
+            ("\u{fffd}\u{fffe}\u{ffff}\u{10000}", 1, ""),
+            ("\u{fffd}\u{fffd}\u{fffd}\u{10000}", 1, ""),
         ),
-        (
-            repeated(alloc, "n", 255, "")?,
-            repeated(alloc, "n", 255, "")?,
-        ),
-        (
-            repeated(alloc, "n", 256, "")?,
-            repeated(alloc, "n", 255, "")?,
-        ),
-        (
-            repeated(alloc, "\u{e9}", 128, "n")?,
-            repeated(alloc, "\u{e9}", 127, "")?,
-        ),
-        (
-            repeated(alloc, "n", 253, "\u{e9}n")?,
-            repeated(alloc, "n", 253, "\u{e9}")?,
-        ),
-        (
-            repeated(alloc, "n", 252, "\u{1f3b5}n")?,
-            repeated(alloc, "n", 252, "")?,
-        ),
-        (
-            repeated(alloc, "\u{1}", 86, "n")?,
-            repeated(alloc, "\u{fffd}", 85, "")?,
-        ),
+        (("n", 255, ""), ("n", 255, "")),
+        (("n", 256, ""), ("n", 255, "")),
+        (("\u{e9}", 128, "n"), ("\u{e9}", 127, "")),
+        (("n", 253, "\u{e9}n"), ("n", 253, "\u{e9}")),
+        (("n", 252, "\u{1f3b5}n"), ("n", 252, "")),
+        (("\u{1}", 86, "n"), ("\u{fffd}", 85, "")),
     ] {
-        assert!(rt;
-            clean(alloc, text.as_str())?.as_str() == want.as_str(),
-            "{text}"
-        );
+        assert!(rt; is_cleaned(alloc, before, after)?, "{}", before.0);
     }
+    Ok(())
+}
+
+#[test]
+fn contents_are_cleaned(rt: HostRuntime) -> Result<(), Fail> {
+    let alloc = rt.alloc();
     let comments = [
         ("TITLE", "a\tb"),
         ("ARTIST", "\u{2}"),
