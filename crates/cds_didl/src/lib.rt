@@ -19,7 +19,8 @@ mod write;
 pub use error::DidlError;
 pub use filtering::Filter;
 pub use read::read_didl;
-pub use write::{put_fragment, write_didl, write_fragment};
+pub use row_text::put_row;
+pub use write::{put_didl_end, put_didl_start, put_fragment, write_didl, write_fragment};
 
 #[cfg(test)]
 mod tests;

@@ -360,7 +360,8 @@ fn put_item(
     Ok(())
 }
 
-/// Puts the text of a row.
+/// Puts the element of a row, with the properties that the filter lets through, as `write_fragment` appends it. After a
+/// refusal the text has a part of it.
 pub fn put_row(out: &mut String, row: &Row, filter: &Filter, base: &str) -> Result<(), Mem>
     ensures { OnOk result (string_bytes out.new ≡ string_bytes out.old ++ fragment_of filter.now base.now row.now) }
 {

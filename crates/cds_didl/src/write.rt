@@ -61,21 +61,29 @@ fn didl_text(alloc: Global, rows: &[Row], filter: &Filter, base: &str) -> Result
     ensures ranged { OnOk result (AllByRecursion HasRanges rows.now) }
 {
     let mut text = String::new(alloc);
-    put_start(&mut text)?;
+    put_didl_start(&mut text)?;
     put_rows(&mut text, rows, filter, base)?;
-    put(&mut text, "</DIDL-Lite>")?;
+    put_didl_end(&mut text)?;
     Ok(text)
 }
 
-/// Puts the start tag of a document.
+/// Puts the start tag of a document. After a refusal the text has a part of it.
 #[tactic(auto, unfolding(crate::specs::Fragment::didl_start))]
-fn put_start(out: &mut String) -> Result<(), Mem>
+pub fn put_didl_start(out: &mut String) -> Result<(), Mem>
     ensures { OnOk result (string_bytes out.new ≡ string_bytes out.old ++ didl_start) }
 {
     put(
         out,
         "<DIDL-Lite xmlns=\"urn:schemas-upnp-org:metadata-1-0/DIDL-Lite/\" xmlns:dc=\"http://purl.org/dc/elements/1.1/\" xmlns:upnp=\"urn:schemas-upnp-org:metadata-1-0/upnp/\">",
     )?;
+    Ok(())
+}
+
+/// Puts the end tag of a document. After a refusal the text may have a part of it.
+pub fn put_didl_end(out: &mut String) -> Result<(), Mem>
+    ensures { OnOk result (string_bytes out.new ≡ string_bytes out.old ++ codes "</DIDL-Lite>") }
+{
+    put(out, "</DIDL-Lite>")?;
     Ok(())
 }
 
