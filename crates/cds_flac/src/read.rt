@@ -14,7 +14,8 @@ use std::alloc::Global;
 
 /// Reads the metadata at the front of a FLAC file (RFC 9639): the marker and the metadata blocks, and nothing behind
 /// the last of them. Comments are those of the first VORBIS_COMMENT block. The first fault in reading order is
-/// answered, and no more bytes are taken than it needs; `ReadFault` comes only where the count of faults rose.
+/// answered, with no byte taken behind what it is known by: of `BadComment` at most the greatest length of a block behind
+/// its place. `ReadFault` comes only where the count of faults rose.
 pub fn read_flac<S: Source>(alloc: Global, source: &mut S) -> Result<FlacInfo, FlacError>
     ensures told { WhereTold (S.left source.old) (λ bytes. Agrees (metadata bytes) result (S.left source.new)) }
     ensures form { IfOk result (λ info. WhereTold (S.left source.old) (λ bytes. BeginsWith bytes info (S.left source.new))) }
