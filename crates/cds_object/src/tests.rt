@@ -1,4 +1,4 @@
-ghost use Rattle.std.specs.Prelude.{◌≡◌, IfOk};
+ghost use Rattle.std.specs.Prelude.{◌≡◌, ◌<◌, ◌^◌, IfOk};
 
 use crate::{
     Comment, Comments, Content, FlacInfo, ObjectId, Path, PathError, Row, TrackContent, Trackers,
@@ -155,37 +155,56 @@ fn shown(text: &Option<Text>) -> Option<&str> {
     }
 }
 
+/// The title of a file with two comments.
+fn title_of(
+    alloc: Global,
+    first: (&str, &str),
+    second: (&str, &str),
+    name: &str,
+) -> Result<Text, Fail> {
+    let track = track(alloc, &[first, second], name)?;
+    Ok(track.title)
+}
+
 #[test]
-fn titles_come_from_comments_or_the_name(rt: HostRuntime) -> Result<(), Fail> {
-    let alloc = rt.alloc();
-    for (names, name, want) in [
-        (["TITLE", "ALBUM"], "a.flac", "x"),
-        (["ALBUM", "tiTle"], "a.flac", "y"),
-        (["title", "TITLE"], "a.flac", "x"),
-        (["TITLES", "TITL"], "a.flac", "a"),
-        (["", "x"], "a.FLAC", "a"),
-        (["", "x"], "b.flac.FlaC", "b.flac"),
-        (["", "x"], ".flac.flac", ".flac"),
-        (["", "x"], ".flac", ".flac"),
-        (["", "x"], "flac", "flac"),
-        (["", "x"], "a.mp3", "a.mp3"),
-        (["", "x"], "aflac", "aflac"),
-        (["", "x"], "\u{e9}.flac", "\u{e9}"),
-        (["", "x"], "\u{1f3b5}lac", "\u{1f3b5}lac"),
-        (["", "x"], "", ""),
+fn titles_come_from_comments(rt: HostRuntime) -> Result<(), Fail> {
+    for (first, second, want) in [
+        ("TITLE", "ALBUM", "x"),
+        ("ALBUM", "tiTle", "y"),
+        ("title", "TITLE", "x"),
+        ("TITLES", "TITL", "a"),
     ] {
-        let track = track(alloc, &[(names[0], "x"), (names[1], "y")], name)?;
-        assert_eq!(rt; track.title.as_str(), want, "{name}");
+        let title = title_of(rt.alloc(), (first, "x"), (second, "y"), "a.flac")?;
+        assert_eq!(rt; title.as_str(), want);
     }
     // the first TITLE counts though it is empty
-    let track = track(alloc, &[("TITLE", ""), ("TITLE", "y")], "a.flac")?;
-    assert_eq!(rt; track.title.as_str(), "a");
+    let title = title_of(rt.alloc(), ("TITLE", ""), ("TITLE", "y"), "a.flac")?;
+    assert_eq!(rt; title.as_str(), "a");
     Ok(())
 }
 
 #[test]
-fn texts_and_numbers_come_from_first_comments(rt: HostRuntime) -> Result<(), Fail> {
-    let alloc = rt.alloc();
+fn titles_come_from_names(rt: HostRuntime) -> Result<(), Fail> {
+    for (name, want) in [
+        ("a.FLAC", "a"),
+        ("b.flac.FlaC", "b.flac"),
+        (".flac.flac", ".flac"),
+        (".flac", ".flac"),
+        ("flac", "flac"),
+        ("a.mp3", "a.mp3"),
+        ("aflac", "aflac"),
+        ("\u{e9}.flac", "\u{e9}"),
+        ("\u{1f3b5}lac", "\u{1f3b5}lac"),
+        ("", ""),
+    ] {
+        let title = title_of(rt.alloc(), ("", "x"), ("x", "y"), name)?;
+        assert_eq!(rt; title.as_str(), want, "{name}");
+    }
+    Ok(())
+}
+
+#[test]
+fn texts_come_from_first_comments(rt: HostRuntime) -> Result<(), Fail> {
     let comments = [
         ("Artist", "A\u{e9}"),
         ("ARTIST", "other"),
@@ -193,12 +212,24 @@ fn texts_and_numbers_come_from_first_comments(rt: HostRuntime) -> Result<(), Fai
         ("GENRE", "Rock"),
         ("ALBUM", "B"),
     ];
-    let track = track(alloc, &comments, "t.flac")?;
+    let track = track(rt.alloc(), &comments, "t.flac")?;
     assert!(rt; shown(&track.artist) == Some("A\u{e9}"));
     assert!(rt; shown(&track.album) == Some("B"));
     assert!(rt; shown(&track.genre) == None);
     assert!(rt; track.number == None && track.size == 1000 && track.duration == Some(10000));
     assert!(rt; track.rate == 44100 && track.channels == 2 && track.bits == 16);
+    Ok(())
+}
+
+/// The number of a track with this TRACKNUMBER and another behind it.
+fn number_of(alloc: Global, value: &str) -> Result<Option<u32>, Fail> {
+    let comments = [("trackNumber", value), ("TRACKNUMBER", "99")];
+    let track = track(alloc, &comments, "t.flac")?;
+    Ok(track.number)
+}
+
+#[test]
+fn numbers_come_from_first_comments(rt: HostRuntime) -> Result<(), Fail> {
     for (value, want) in [
         ("7", Some(7)),
         ("07/12", Some(7)),
@@ -210,19 +241,24 @@ fn texts_and_numbers_come_from_first_comments(rt: HostRuntime) -> Result<(), Fai
         ("4294967296", None),
         ("00000000000000000000012", Some(12)),
     ] {
-        let comments = [("trackNumber", value), ("TRACKNUMBER", "99")];
-        let info = info(alloc, &comments, 1, 1)?;
-        match content_of(alloc, &info, "t.flac", 0)? {
-            Content::Track(track) => assert_eq!(rt; track.number, want, "{value}"),
-            _ => assert!(rt; false),
-        }
+        assert_eq!(rt; number_of(rt.alloc(), value)?, want, "{value}");
     }
     Ok(())
 }
 
+/// The duration of so many samples at a rate.
+fn duration_of(alloc: Global, samples: u64, rate: u32) -> Result<Option<u64>, Fail>
+    requires { samples < 2 ^ 36 }
+{
+    let info = info(alloc, &[], samples, rate)?;
+    match content_of(alloc, &info, "t.flac", 0)? {
+        Content::Track(track) => Ok(track.duration),
+        Content::Folder { .. } => Ok(Some(u64::MAX)),
+    }
+}
+
 #[test]
 fn durations_are_cut_to_milliseconds(rt: HostRuntime) -> Result<(), Fail> {
-    let alloc = rt.alloc();
     for (samples, rate, want) in [
         (441000u32, 44100, Some(10000)),
         (44099, 44100, Some(999)),
@@ -231,17 +267,11 @@ fn durations_are_cut_to_milliseconds(rt: HostRuntime) -> Result<(), Fail> {
         (441000, 0, None),
         (4294967295, 1, Some(4294967295000)),
     ] {
-        let info = info(alloc, &[], u64::from(samples), rate)?;
-        match content_of(alloc, &info, "t.flac", 0)? {
-            Content::Track(track) => assert_eq!(rt; track.duration, want, "{samples}"),
-            _ => assert!(rt; false),
-        }
+        let duration = duration_of(rt.alloc(), u64::from(samples), rate)?;
+        assert_eq!(rt; duration, want, "{samples}");
     }
-    let longest = info(alloc, &[], 68719476735, 1)?;
-    match content_of(alloc, &longest, "t.flac", 0)? {
-        Content::Track(track) => assert_eq!(rt; track.duration, Some(68719476735000)),
-        _ => assert!(rt; false),
-    }
+    let longest = duration_of(rt.alloc(), 68719476735, 1)?;
+    assert_eq!(rt; longest, Some(68719476735000));
     Ok(())
 }
 
@@ -303,23 +333,39 @@ fn contents_are_cleaned(rt: HostRuntime) -> Result<(), Fail> {
     Ok(())
 }
 
+/// Whether a copy of a path and its parents are what they are to be.
+fn has_copies(alloc: Global, path: &Path) -> Result<bool, Fail> {
+    let copy = path.copy(alloc)?;
+    let parent = path.parent(alloc)?;
+    let root = parent.parent(alloc)?;
+    let rock = Path::read(alloc, "Rock")?;
+    Ok(copy == *path && parent == rock && root == Path::root(alloc))
+}
+
 #[test]
-fn copies_are_equal(rt: HostRuntime) -> Result<(), Fail> {
+fn paths_are_copied(rt: HostRuntime) -> Result<(), Fail> {
     let alloc = rt.alloc();
     let path = Path::read(alloc, "Rock/a.flac")?;
-    assert!(rt; path.copy(alloc)? == path && path.parent(alloc)? == Path::read(alloc, "Rock")?);
-    assert!(rt; path.parent(alloc)?.parent(alloc)? == Path::root(alloc));
+    assert!(rt; has_copies(alloc, &path)?);
     assert!(rt; Path::root(alloc).is_root() && !path.is_root() && Path::root(alloc).name() == "");
+    Ok(())
+}
 
+#[test]
+fn contents_are_copied(rt: HostRuntime) -> Result<(), Fail> {
     let comments = [("ARTIST", "A"), ("GENRE", "G"), ("TRACKNUMBER", "3")];
-    let content = Content::Track(track(alloc, &comments, "t.flac")?);
-    assert!(rt; content.copy(alloc)?.says_the_same(&content));
+    let content = Content::Track(track(rt.alloc(), &comments, "t.flac")?);
+    assert!(rt; content.copy(rt.alloc())?.says_the_same(&content));
+    Ok(())
+}
+
+#[test]
+fn rows_are_copied(rt: HostRuntime) -> Result<(), Fail> {
+    let title = Text::read(rt.alloc(), "root")?;
     let row = Row {
         id: ObjectId(0),
         parent: None,
-        content: Content::Folder {
-            title: Text::read(alloc, "root")?,
-        },
+        content: Content::Folder { title },
         object_update: 0,
         trackers: Some(Trackers {
             container_update: 3,
@@ -328,7 +374,7 @@ fn copies_are_equal(rt: HostRuntime) -> Result<(), Fail> {
         }),
     };
     row.facts();
-    let copy = row.copy(alloc)?;
+    let copy = row.copy(rt.alloc())?;
     assert!(rt; copy.id == row.id && copy.parent == row.parent && copy.content == row.content);
     assert!(rt; copy.object_update == row.object_update && copy.trackers == row.trackers);
     Ok(())
