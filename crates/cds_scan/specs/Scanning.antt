@@ -1,0 +1,92 @@
+-- What a scan of a folder answers.
+use Rattle.std.specs.Prelude.{◌≡◌, ◌+◌, ◌-◌, ◌^◌, ◌<◌, ◌≤◌, ◌⊎◌, ℕ, zero, suc, ⊤, Bool, true, false, IsTrue, List, [], ◌∷◌, ◌++◌, length, Option, Err}
+use Rattle.cds_base.specs.declared.folder.Entry.{Entry}
+use Rattle.cds_base.specs.declared.folder.Entry.TheVariants.{Folder, File, End}
+use Rattle.cds_base.specs.Entries.{Contents, Told, is_tree}
+use Rattle.cds_base.specs.Outside.{Rose, raised}
+use Rattle.cds_flac.specs.declared.error.FlacError.{FlacError}
+use Rattle.cds_flac.specs.declared.error.FlacError.TheVariants.{ReadFault}
+use Rattle.cds_object.specs.declared.record.Record.{Record}
+use Rattle.cds_object.specs.Path.{path_read}
+use Rattle.cds_catalog.specs.Library.{map_of}
+use Rattle.cds_scan.specs.declared.scanned.Scan.{Scan}
+use Rattle.cds_scan.specs.declared.error.ScanError.{ScanError}
+use Rattle.cds_scan.specs.declared.error.ScanError.TheVariants.{FolderFault, TooDeep, Full, TooMany, Mem}
+use Rattle.cds_scan.specs.Outcomes.{AreOutcomes, IsOutcome, Kept, Outcome, records_of, refusals_of}
+use Rattle.cds_scan.specs.Found.{paired, placed, refusals_from}
+
+-- a scan got through these entries: each had its outcome, and there were not too many of them, nor too many records
+pub record GotThrough (contents : Option Contents) (seen : List Entry) (outcomes : List Outcome) : Type 0 where
+  pub each : AreOutcomes contents seen outcomes
+  pub few : length seen ≤ 1048576
+  pub room : length (records_of outcomes) ≤ 65535
+
+-- a scan got through a whole tree, and this is what it found
+pub record IsScan (tree : Option (List Entry)) (contents : Option Contents) (scan : Scan) : Type 0 where
+  pub seen : List Entry
+  pub outcomes : List Outcome
+  pub whole : IsTrue (is_tree seen)
+  pub told : Told tree (λ entries. entries ≡ seen)
+  pub through : GotThrough contents seen outcomes
+  pub records : placed scan.records ≡ map_of (records_of outcomes)
+  pub refused : paired scan.refused ≡ refusals_from [] (refusals_of outcomes)
+
+-- an entry's path; the end has none
+abbrev pub has_path : Entry → List ℕ → Type 0
+has_path (Folder own) path = own ≡ path
+has_path (File own size) path = own ≡ path
+has_path End path = ⊥
+
+-- a path of so many bytes that is no place in the library
+pub record IsTooDeep (at : Entry) (bytes : ℕ) : Type 0 where
+  pub path : List ℕ
+  pub its : has_path at path
+  pub long : length path ≡ bytes
+  pub place : ℕ
+  pub no_path : path_read path ≡ Err place
+
+-- why a scan stops at an entry behind those that it got through
+abbrev pub StopsAt : ScanError → Option Contents → List Entry → List Outcome → Entry → Type 0
+StopsAt (TooDeep bytes) contents seen outcomes at = (length seen < 1048576) × IsTooDeep at bytes
+StopsAt (Full objects) contents seen outcomes at =
+    (objects ≡ 65536) × (length seen < 1048576) × (length (records_of outcomes) ≡ 65535)
+    × ((kept : Record) × IsOutcome contents at (Kept kept))
+StopsAt TooMany contents seen outcomes at = length seen ≡ 1048576
+StopsAt FolderFault contents seen outcomes at = ⊥
+StopsAt Mem contents seen outcomes at = ⊥
+
+-- a scan stopped at the first entry that is a cause
+pub record IsStop (tree : Option (List Entry)) (contents : Option Contents) (error : ScanError) : Type 0 where
+  pub seen : List Entry
+  pub outcomes : List Outcome
+  pub at : Entry
+  pub told : Told tree (λ entries. (rest : List Entry) × (entries ≡ seen ++ at ∷ rest))
+  pub through : GotThrough contents seen outcomes
+  pub stops : StopsAt error contents seen outcomes at
+
+-- a scan is refused for one of its entries, for a fault of its folder, whose count rose, or for want of memory
+abbrev pub IsRefused : Option (List Entry) → Option Contents → ℕ → ℕ → ScanError → Type 0
+IsRefused tree contents old new FolderFault = Rose old new
+IsRefused tree contents old new Mem = ⊤
+IsRefused tree contents old new (TooDeep bytes) = IsStop tree contents (TooDeep bytes)
+IsRefused tree contents old new (Full objects) = IsStop tree contents (Full objects)
+IsRefused tree contents old new TooMany = IsStop tree contents TooMany
+
+-- whether a file could not be read
+abbrev pub is_read_fault : FlacError → Bool
+is_read_fault ReadFault = true
+is_read_fault _ = false
+
+-- a count rose by so many at least, or it stands at the last value of a u64
+abbrev pub Covers : ℕ → ℕ → ℕ → Type 0
+Covers n old new = (old + n ≤ new) ⊎ (2 ^ 64 - 1 ≤ new)
+
+-- a count after it rose by one so many times
+abbrev pub climbed : ℕ → ℕ → ℕ
+climbed zero count = count
+climbed (suc times) count = climbed times (raised count 1)
+
+-- every file that was opened came back: both counts rose as many times
+abbrev pub CameBack : ℕ → ℕ → ℕ → ℕ → Type 0
+CameBack opened_old opened_new returned_old returned_new =
+    (times : ℕ) × (opened_new ≡ climbed times opened_old) × (returned_new ≡ climbed times returned_old)
