@@ -1,0 +1,17 @@
+mod AnswerBodies
+pub mod AnswersBack
+mod Asking
+mod Envelopes
+mod Fields
+mod Heads
+mod Joined
+mod Naming
+pub mod OneAnswer
+mod Printed
+mod Replies
+mod RequestBodies
+pub mod RequestsBack
+mod Runs
+mod Saying
+mod Shells
+mod Visible

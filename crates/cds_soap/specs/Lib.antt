@@ -1,0 +1,10 @@
+pub mod Names
+pub mod Envelope
+pub mod Given
+pub mod Control
+pub mod Answered
+pub mod Found
+pub mod Written
+pub mod Shell
+pub mod Evaluated
+pub mod Laws

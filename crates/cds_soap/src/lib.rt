@@ -1,0 +1,34 @@
+//! Control of a ContentDirectory service by SOAP: requests and their answers, both ways (UPnP Device Architecture 2.0 on
+//! control; UPnP ContentDirectory:4 on actions and their arguments).
+#![tactic(auto)]
+
+mod action;
+mod answer;
+mod answer_text;
+mod ask;
+mod envelope;
+mod error;
+mod escape;
+mod examples;
+mod given;
+mod laws;
+mod names;
+mod reply;
+mod request_text;
+mod results;
+
+pub use action::{Action, ActionName, Asked, BrowseRequest, SearchRequest};
+pub use answer::Answer;
+pub use answer_text::{fits, write_answer};
+pub use ask::read_action;
+pub use error::SoapError;
+pub use examples::{
+    answers_are_taken, arguments_are_taken, bodies_are_written, envelopes_are_opened,
+    names_are_said, numbers_are_read,
+};
+pub use laws::{answers_are_read, one_ask, one_reply, requests_are_read};
+pub use reply::read_answer;
+pub use request_text::write_action;
+
+#[cfg(test)]
+mod tests;
