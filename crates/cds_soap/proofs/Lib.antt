@@ -5,6 +5,7 @@ mod Envelopes
 mod Fields
 mod Heads
 mod Joined
+pub mod Lengths
 mod Naming
 pub mod OneAnswer
 mod Printed

@@ -1,9 +1,10 @@
 -- Laws of what is read and written.
-use Rattle.std.specs.Prelude.{◌≡◌, ◌≢◌, ◌==◌, ◌≤◌, ◌<◌, ◌^◌, ℕ, Bool, ◌&&◌, ◌||◌, nat_le, IsTrue, Option, Some, None, option_map, Result, Ok, Err, List, length, ◌++◌, codes, ⊤}
+use Rattle.std.specs.Prelude.{◌≡◌, ◌≢◌, ◌==◌, ◌≤◌, ◌<◌, ◌^◌, ℕ, Bool, ◌&&◌, ◌||◌, nat_le, IsTrue, Option, Some, None, option_map, Result, Ok, Err, List, [], ◌+◌, length, ◌++◌, codes, ⊤}
 use Rattle.std.specs.List.{list_all}
 use Rattle.http_header.specs.HeaderMap.{get}
 use Rattle.url.specs.Parts.{Parts}
 use Rattle.cds_base.specs.declared.limits.TheConstants.{INPUT_LIMIT}
+use Rattle.cds_base.specs.Escape.{escaped}
 use Rattle.cds_base.specs.Unescape.{AreAllowed}
 use Rattle.cds_http.specs.declared.message.Side.TheVariants.{Request, Reply}
 use Rattle.cds_http.specs.declared.message.Start.TheVariants.{Request as of_request}
@@ -114,3 +115,23 @@ AnswersAreRead =
     → Fits (name_of_action asked) given → IsAllowedAnswer given → CanBeToken token
     → length (answer_body (name_of_action asked) version given) ≤ INPUT_LIMIT
     → AreReply ended (written_answer asked version given token ++ more) asked given token more
+
+-- ---- how long bodies are
+
+-- The texts that stand in a body, one behind the other.
+abbrev pub action_texts : Action → List ℕ
+action_texts (action.Browse request) = request.object ++ request.flag ++ request.filter ++ request.sort
+action_texts (action.Search request) = request.container ++ request.criteria ++ request.filter ++ request.sort
+action_texts other = []
+
+abbrev pub answer_texts : Answer → List ℕ
+answer_texts (answer.Page result returned total update) = result
+answer_texts (answer.Text text) = text
+answer_texts other = []
+
+-- A body has at most 1,024 bytes round its texts, which are escaped.
+pub record BodiesAreShort : Type 0 where
+  pub request : (version : ℕ) (asked : Action) → IsVersion version → IsAllowedAction asked
+      → length (request_body version asked) ≤ length (escaped (action_texts asked)) + 1024
+  pub answer : (asked : Action) (version : ℕ) (given : Answer) → IsVersion version → Fits (name_of_action asked) given → IsAllowedAnswer given
+      → length (answer_body (name_of_action asked) version given) ≤ length (escaped (answer_texts given)) + 1024

@@ -1,6 +1,6 @@
 //! What is proved of requests and answers as they are written and read: calling a function gives its law.
 
-ghost use Rattle.cds_soap.specs.Laws.{AnswersAreRead, OneAsk, OneReply, RequestsAreRead};
+ghost use Rattle.cds_soap.specs.Laws.{AnswersAreRead, BodiesAreShort, OneAsk, OneReply, RequestsAreRead};
 
 /// A message has one answer, unless memory ran out.
 pub fn one_ask()
@@ -23,4 +23,9 @@ pub fn requests_are_read()
 /// answer, in each version of the service, with a token or none.
 pub fn answers_are_read()
     ensures { AnswersAreRead }
+{}
+
+/// The body of a request and that of an answer has at most 1,024 bytes round its texts, which are escaped.
+pub fn bodies_are_short()
+    ensures { BodiesAreShort }
 {}

@@ -26,7 +26,7 @@ pub use examples::{
     answers_are_taken, arguments_are_taken, bodies_are_written, envelopes_are_opened,
     names_are_said, numbers_are_read,
 };
-pub use laws::{answers_are_read, one_ask, one_reply, requests_are_read};
+pub use laws::{answers_are_read, bodies_are_short, one_ask, one_reply, requests_are_read};
 pub use reply::read_answer;
 pub use request_text::write_action;
 
