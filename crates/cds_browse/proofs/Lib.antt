@@ -1,0 +1,7 @@
+pub mod Alone
+pub mod Answering
+pub mod Named
+pub mod Pages
+pub mod Ranges
+pub mod Running
+pub mod Texts

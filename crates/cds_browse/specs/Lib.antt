@@ -1,0 +1,5 @@
+pub mod Browsing
+pub mod Evaluated
+pub mod Kept
+pub mod Laws
+pub mod Runs

@@ -1,0 +1,8 @@
+//! Pages of small catalogs, evaluated by the definitions.
+
+ghost use Rattle.cds_browse.specs.Evaluated.{PagesAreCounted};
+
+/// Pages and refusals over a folder with one track.
+pub fn pages_are_counted()
+    ensures { PagesAreCounted }
+{}
