@@ -1,0 +1,104 @@
+-- Where small messages go, and what actions are answered over a small library, evaluated from the definitions.
+use Rattle.std.specs.Prelude.{◌≡◌, ℕ, List, [], ◌∷◌, codes, length}
+use Rattle.http_header.specs.FieldValue.{FieldValue, plain_value}
+use Rattle.http_header.specs.HeaderMap.{Entries}
+use Rattle.cds_http.specs.declared.message.Start.{Start}
+use Rattle.cds_http.specs.declared.message.Start.TheVariants.{Request, Reply}
+use Rattle.cds_soap.specs.declared.action.Action.TheVariants as action
+use Rattle.cds_soap.specs.declared.answer.Answer.{Answer}
+use Rattle.cds_soap.specs.declared.answer.Answer.TheVariants as answer
+use Rattle.cds_catalog.specs.Evaluated.{one_folder}
+use Rattle.cds_commands.specs.Commands.{Start as Beginning, Scans}
+use Rattle.cds_server.specs.Route.{Answers, Controls, route_by}
+use Rattle.cds_server.specs.Published.{Published, published_by}
+use Rattle.cds_server.specs.Answering.{answer_to}
+
+-- ---- ways
+
+abbrev field_named : List ℕ → List ℕ → Entries FieldValue
+field_named name value = (name, plain_value value ∷ []) ∷ []
+
+abbrev at_host : List ℕ → Entries FieldValue
+at_host host = field_named (codes "host") host
+
+abbrev posted : List ℕ → Start
+posted target = Request (codes "POST") target
+
+-- the target comes first, then the method, then HOST, of which the first one counts; a target with a query, or with another host's
+-- form round it, is another one, and until events are built `/event` is
+abbrev pub RequestsAreRouted : Type 0
+RequestsAreRouted =
+    (route_by (posted (codes "/control")) (at_host (codes "10.0.0.1:49152")) ≡ Controls (codes "10.0.0.1:49152"))
+    × (route_by (posted (codes "/control")) (at_host (codes "[fe80::1]")) ≡ Controls (codes "[fe80::1]"))
+    × (route_by (posted (codes "/control")) ((codes "host", plain_value (codes "a") ∷ plain_value (codes " ") ∷ []) ∷ []) ≡ Controls (codes "a"))
+    × (route_by (posted (codes "/control")) [] ≡ Answers 400)
+    × (route_by (posted (codes "/control")) (field_named (codes "hosts") (codes "a")) ≡ Answers 400)
+    × (route_by (posted (codes "/control")) (at_host (codes "")) ≡ Answers 400)
+    × (route_by (posted (codes "/control")) (at_host (codes "a b")) ≡ Answers 400)
+    × (route_by (posted (codes "/control")) (at_host (codes "a/b")) ≡ Answers 400)
+    × (route_by (Request (codes "GET") (codes "/control")) [] ≡ Answers 405)
+    × (route_by (Request (codes "post") (codes "/control")) (at_host (codes "a")) ≡ Answers 405)
+    × (route_by (posted (codes "/control?x")) (at_host (codes "a")) ≡ Answers 404)
+    × (route_by (posted (codes "/Control")) (at_host (codes "a")) ≡ Answers 404)
+    × (route_by (posted (codes "http://a/control")) (at_host (codes "a")) ≡ Answers 404)
+    × (route_by (Request (codes "SUBSCRIBE") (codes "/event")) (at_host (codes "a")) ≡ Answers 404)
+    × (route_by (Reply 200) (at_host (codes "a")) ≡ Answers 400)
+
+-- ---- answers
+
+-- one scan of a folder with a track
+abbrev beginning : Beginning
+beginning = record { high = 0; low = 0; first = 0 }
+
+abbrev scanned : Published
+scanned = published_by beginning (Scans one_folder ∷ [])
+
+abbrev asked : List ℕ → List ℕ → ℕ → ℕ → List ℕ → Answer
+asked object flag start count sort = answer_to scanned (codes "h") (action.Browse (record {
+  object = object;
+  flag = flag;
+  filter = codes "res";
+  start = start;
+  count = count;
+  sort = sort;
+}))
+
+-- the rows of a page, how many match, and the update number
+abbrev numbers : Answer → List ℕ
+numbers (answer.Page result returned total update) = returned ∷ total ∷ update ∷ []
+numbers (answer.Number number) = number ∷ []
+numbers (answer.Text text) = length text ∷ []
+numbers (answer.Fault code) = code ∷ []
+
+abbrev children : List ℕ
+children = codes "BrowseDirectChildren"
+
+abbrev itself : List ℕ
+itself = codes "BrowseMetadata"
+
+abbrev pub ActionsAreAnswered : Type 0
+ActionsAreAnswered =
+    (asked (codes "2") itself 0 0 []
+    ≡ answer.Page (codes "<DIDL-Lite xmlns=\"urn:schemas-upnp-org:metadata-1-0/DIDL-Lite/\" xmlns:dc=\"http://purl.org/dc/elements/1.1/\" xmlns:upnp=\"urn:schemas-upnp-org:metadata-1-0/upnp/\"><item id=\"2\" parentID=\"1\" restricted=\"1\"><dc:title>t</dc:title><upnp:class>object.item.audioItem.musicTrack</upnp:class><res protocolInfo=\"http-get:*:audio/flac:*\" size=\"1\" bitsPerSample=\"8\" nrAudioChannels=\"1\">http://h/media/2</res></item></DIDL-Lite>") 1 1 2)
+    × (numbers (asked (codes "0") children 5 0 []) ≡ 0 ∷ 1 ∷ 2 ∷ [])
+    × (numbers (asked (codes "0") children 0 0 []) ≡ 1 ∷ 1 ∷ 2 ∷ [])
+    × (asked (codes "0") (codes "Browse") 0 0 [] ≡ answer.Fault 402)
+    × (asked (codes "0") itself 1 0 [] ≡ answer.Fault 402)
+    × (asked (codes "x") itself 0 0 [] ≡ answer.Fault 701)
+    × (asked (codes "01") itself 0 0 [] ≡ answer.Fault 701)
+    × (asked (codes "2") children 0 0 [] ≡ answer.Fault 710)
+    × (asked (codes "0") children 0 0 (codes "dc:title") ≡ answer.Fault 709)
+    × (answer_to scanned (codes "h") action.GetSystemUpdateId ≡ answer.Number 2)
+    × (answer_to scanned (codes "h") action.GetServiceResetToken ≡ answer.Text (codes "00000000-0000-8000-8000-000000000000"))
+    × (answer_to scanned (codes "h") action.GetSearchCapabilities ≡ answer.Fault 401)
+    × (answer_to scanned (codes "h") action.GetSortCapabilities ≡ answer.Fault 401)
+    × (answer_to scanned (codes "h") (action.Search (record {
+      container = codes "0";
+      criteria = codes "*";
+      filter = codes "*";
+      start = 0;
+      count = 0;
+      sort = [];
+    }))
+    ≡ answer.Fault 401)
+    × (answer_to (published_by (record { high = 0; low = 0; first = 7 }) []) (codes "h") action.GetSystemUpdateId ≡ answer.Number 7)

@@ -1,0 +1,27 @@
+-- What a server publishes, by the commands that it accepted: all that a control request can ask for.
+use Rattle.std.specs.Prelude.{ℕ, List}
+use Rattle.std.specs.Int.{w128, to_be_bytes}
+use Rattle.uuid.specs.Text.{hyphenated_text, lower}
+use Rattle.cds_object.specs.Object.{ObjectRow}
+use Rattle.cds_catalog.specs.History.{History, end_of}
+use Rattle.cds_catalog.specs.Catalog.{catalog}
+use Rattle.cds_commands.specs.Commands.{Command, Start, scans_of}
+use Rattle.cds_commands.specs.Names.{names_of}
+
+-- the reset token (UPnP ContentDirectory:4 on ServiceResetToken): name number 0 of the server, in the text of a UUID in lower case
+abbrev pub token_of : ℕ → List ℕ
+token_of names = hyphenated_text lower (to_be_bytes w128 names)
+
+-- the reset token, the number of the last change (UPnP ContentDirectory:4 on SystemUpdateID), and the rows of all objects in
+-- ascending order of ids
+pub record Published : Type 0 where
+  pub token : List ℕ
+  pub number : ℕ
+  pub rows : List ObjectRow
+
+-- the catalog is counted afresh over the scans
+abbrev pub published_after : Start → History → Published
+published_after start history = record { token = token_of (names_of start); number = end_of history; rows = catalog history }
+
+abbrev pub published_by : Start → List Command → Published
+published_by start commands = published_after start (scans_of start.first commands)

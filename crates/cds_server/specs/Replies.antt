@@ -1,0 +1,53 @@
+-- The one reply that a server writes to a message, by the commands that it accepted (UPnP Device Architecture 2.0 on control;
+-- UPnP ContentDirectory:4).
+use Rattle.std.specs.Prelude.{◌≡◌, ℕ, List, [], ◌++◌, None, Result, Ok, Err}
+use Rattle.cds_http.specs.declared.message.Message.{Message}
+use Rattle.cds_http.specs.Written.{written_reply}
+use Rattle.cds_soap.specs.declared.action.Asked.{Asked}
+use Rattle.cds_soap.specs.declared.error.SoapError.{SoapError}
+use Rattle.cds_soap.specs.declared.error.SoapError.TheVariants.{Markup, InvalidAction, InvalidArgs, NotAnswer, Mem}
+use Rattle.cds_soap.specs.Control.{AnswersAsk}
+use Rattle.cds_soap.specs.Written.{enveloped, fault_text, answer_fields, written_answer}
+use Rattle.cds_commands.specs.Commands.{Command, Start}
+use Rattle.cds_server.specs.Route.{Route, Answers, Controls, route}
+use Rattle.cds_server.specs.Published.{Published, published_by}
+use Rattle.cds_server.specs.Answering.{answer_to}
+
+-- a reply without a body
+abbrev pub empty_reply : ℕ → List ℕ
+empty_reply status = written_reply status [] []
+
+-- a reply with a fault, which is the same for every action and version
+abbrev pub fault_reply : ℕ → List ℕ
+fault_reply code = written_reply 500 (answer_fields None) (enveloped (fault_text code))
+
+-- a text replies to what was read of a control request: an action is answered in the version that was asked; a body that is no
+-- document is a bad request, and what names no action, or has other arguments, is answered by a fault
+abbrev pub IsReplyTo : Published → List ℕ → Result Asked SoapError → List ℕ → Type 0
+IsReplyTo published host (Ok asked) text =
+    text ≡ written_answer asked.action asked.version (answer_to published host asked.action) None
+IsReplyTo published host (Err (Markup refusal)) text = text ≡ empty_reply 400
+IsReplyTo published host (Err InvalidAction) text = text ≡ fault_reply 401
+IsReplyTo published host (Err InvalidArgs) text = text ≡ fault_reply 402
+IsReplyTo published host (Err NotAnswer) text = ⊥
+IsReplyTo published host (Err Mem) text = ⊥
+
+-- it replies to a control request: to what the message asks
+abbrev pub IsControlReply : Published → List ℕ → Message → List ℕ → Type 0
+IsControlReply published host m text = (read : Result Asked SoapError) × AnswersAsk m read × IsReplyTo published host read text
+
+-- it replies to a message that goes this way
+abbrev pub IsReplyBy : Published → Message → Route → List ℕ → Type 0
+IsReplyBy published m (Answers status) text = text ≡ empty_reply status
+IsReplyBy published m (Controls host) text = IsControlReply published host m text
+
+-- the reply to a message at a moment, which until subscriptions are built says nothing
+abbrev pub IsReply : Start → List Command → ℕ → Message → List ℕ → Type 0
+IsReply start commands now m text = IsReplyBy (published_by start commands) m (route m) text
+
+-- a reply was appended
+abbrev pub RepliesBy : Published → Message → Route → List ℕ → List ℕ → Type 0
+RepliesBy published m way old new = (text : List ℕ) × IsReplyBy published m way text × (new ≡ old ++ text)
+
+abbrev pub Replied : Start → List Command → ℕ → Message → List ℕ → List ℕ → Type 0
+Replied start commands now m old new = (text : List ℕ) × IsReply start commands now m text × (new ≡ old ++ text)
