@@ -1,5 +1,4 @@
 pub mod Alone
-pub mod Answering
 pub mod Named
 pub mod Pages
 pub mod Ranges
