@@ -1,0 +1,4 @@
+pub mod Asking
+pub mod Readings
+pub mod Honest
+pub mod Laws
