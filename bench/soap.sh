@@ -149,32 +149,62 @@ fn told(rt: &HostRuntime, start: Instant, counted: u64) -> Result<(), anyhow::Er
     Ok(())
 }
 
-fn main(rt: HostRuntime) -> Result<(), anyhow::Error> {
-    let alloc = rt.alloc();
-    let mut bytes = Vec::new(alloc);
+/// The bytes on standard input.
+fn input(rt: &HostRuntime) -> Result<Vec<u8>, anyhow::Error> {
+    let mut bytes = Vec::new(rt.alloc());
     rt.reader().read_to_end(&mut bytes)?;
-    let times = times_said(&rt);
-    let action = browse(alloc)?;
-    let answer = page(alloc, bytes.as_slice())?;
-    let reply = written(alloc, &action, &answer)?;
-    if times == 0 {
-        rt.writer().write_all(reply.as_slice())?;
-        return Ok(());
-    }
-    let start = Instant::now(&rt)?;
-    let all = write_all(alloc, &action, &answer, times)?;
-    told(&rt, start, all)?;
-    let start = Instant::now(&rt)?;
-    let all = read_all(alloc, &action, reply.as_slice(), times)?;
-    told(&rt, start, all)?;
-    let start = Instant::now(&rt)?;
-    let all = messages(alloc, times)?;
-    told(&rt, start, all)?;
-    let message = request(alloc)?;
-    let start = Instant::now(&rt)?;
-    let all = actions(alloc, &message, times)?;
-    told(&rt, start, all)?;
+    Ok(bytes)
+}
+
+/// Prints the lengths and the times of so many writings, and the rows and the times of so many readings of a reply.
+fn replies(
+    rt: &HostRuntime,
+    action: &Action,
+    answer: &Answer,
+    times: u32,
+) -> Result<(), anyhow::Error> {
+    let start = Instant::now(rt)?;
+    let all = write_all(rt.alloc(), action, answer, times)?;
+    told(rt, start, all)?;
+    let reply = written(rt.alloc(), action, answer)?;
+    let start = Instant::now(rt)?;
+    let all = read_all(rt.alloc(), action, reply.as_slice(), times)?;
+    told(rt, start, all)
+}
+
+/// Prints the lengths and the times of so many readings of a request's bytes, and the versions and the times of its message.
+fn requests(rt: &HostRuntime, times: u32) -> Result<(), anyhow::Error> {
+    let start = Instant::now(rt)?;
+    let all = messages(rt.alloc(), times)?;
+    told(rt, start, all)?;
+    let message = request(rt.alloc())?;
+    let start = Instant::now(rt)?;
+    let all = actions(rt.alloc(), &message, times)?;
+    told(rt, start, all)
+}
+
+/// Writes the answer to an action.
+fn answered(rt: &HostRuntime, action: &Action, answer: &Answer) -> Result<(), anyhow::Error> {
+    let reply = written(rt.alloc(), action, answer)?;
+    writer(rt).write_all(reply.as_slice())?;
     Ok(())
+}
+
+/// Does what the words of the command say with an answer.
+fn run(rt: &HostRuntime, action: &Action, answer: &Answer) -> Result<(), anyhow::Error> {
+    let times = times_said(rt);
+    if times == 0 {
+        return answered(rt, action, answer);
+    }
+    replies(rt, action, answer, times)?;
+    requests(rt, times)
+}
+
+fn main(rt: HostRuntime) -> Result<(), anyhow::Error> {
+    let bytes = input(&rt)?;
+    let answer = page(rt.alloc(), bytes.as_slice())?;
+    let action = browse(rt.alloc())?;
+    run(&rt, &action, &answer)
 }
 RT
 cat >"$work/reply.c" <<'C'

@@ -3,8 +3,8 @@ ghost use Rattle.std.specs.List.{list_all};
 ghost use Rattle.cds_soap.specs.Written.{is_token_byte, is_reset_token};
 
 use crate::{
-    Action, Answer, Asked, BrowseRequest, SearchRequest, SoapError, fits, read_action, read_answer,
-    write_action, write_answer,
+    Action, ActionName, Answer, Asked, BrowseRequest, SearchRequest, SoapError, fits, read_action,
+    read_answer, write_action, write_answer,
 };
 use cds_base::{Bytes, Mem, Text};
 use cds_http::{HttpError, Message, MessageReader, Side};
@@ -107,15 +107,19 @@ fn with_body(alloc: Global, head: &str, body: &str) -> Result<String, Mem> {
     Ok(format!(in alloc; "{head}CONTENT-LENGTH: {length}\r\n\r\n{body}")?)
 }
 
-/// What a request asks for, or why it was refused.
-fn asked(alloc: Global, bytes: &[u8]) -> Result<String, Mem> {
-    let message = match message(alloc, bytes) {
-        Ok(message) => message,
-        Err(_) => return Ok(String::from_str(alloc, "no message")?),
-    };
-    match read_action(alloc, &message) {
+/// What a message asks for, or why it was refused.
+fn message_asked(alloc: Global, message: &Message) -> Result<String, Mem> {
+    match read_action(alloc, message) {
         Ok(asked) => asked_shown(alloc, &asked),
         Err(refusal) => Ok(String::from_str(alloc, cause(refusal))?),
+    }
+}
+
+/// What a request asks for, or why it was refused.
+fn asked(alloc: Global, bytes: &[u8]) -> Result<String, Mem> {
+    match message(alloc, bytes) {
+        Ok(message) => message_asked(alloc, &message),
+        Err(_) => Ok(String::from_str(alloc, "no message")?),
     }
 }
 
@@ -598,15 +602,37 @@ fn numbers_are_written(rt: HostRuntime) -> Result<(), Fail> {
     Ok(())
 }
 
+/// What a reply answers to Browse, or why it was refused.
+fn browse_read(alloc: Global, bytes: &[u8]) -> Result<String, Mem> {
+    let action = browse(alloc, "0", "")?;
+    answer_read(alloc, &action, bytes)
+}
+
+/// The reply to an action with this page and this token.
+fn page_answered(alloc: Global, action: &Action, text: &str, token: &str) -> Result<Vec<u8>, Mem> {
+    let answer = page(alloc, text)?;
+    answered_with(alloc, action, &answer, token)
+}
+
+/// The reply to Browse with this page and this token.
+fn page_written(alloc: Global, text: &str, token: &str) -> Result<Vec<u8>, Mem> {
+    let action = browse(alloc, "0", "")?;
+    page_answered(alloc, &action, text, token)
+}
+
+/// The reply to Browse with this fault.
+fn fault_written(alloc: Global, code: u16) -> Result<Vec<u8>, Mem> {
+    let action = browse(alloc, "0", "")?;
+    answered(alloc, &action, 1, &Answer::Fault { code })
+}
+
 #[test]
 fn pages_are_written(rt: HostRuntime) -> Result<(), Fail> {
     let alloc = rt.alloc();
-    let action = browse(alloc, "0", "")?;
-    let answer = page(alloc, "<a b=\"c&amp;\">\t\n'\u{e9}</a>")?;
     let token = "00000000-0000-8000-8000-000000000000";
-    let out = answered_with(alloc, &action, &answer, token)?;
+    let out = page_written(alloc, "<a b=\"c&amp;\">\t\n'\u{e9}</a>", token)?;
     assert_eq!(rt; out.as_slice(), PAGE_REPLY.as_bytes());
-    let read = answer_read(alloc, &action, out.as_slice())?;
+    let read = browse_read(alloc, out.as_slice())?;
     assert_eq!(rt; read.as_str(), "<a b=\"c&amp;\">\t\n'\u{e9}</a>|1|2|3");
     Ok(())
 }
@@ -614,31 +640,47 @@ fn pages_are_written(rt: HostRuntime) -> Result<(), Fail> {
 #[test]
 fn faults_are_written(rt: HostRuntime) -> Result<(), Fail> {
     let alloc = rt.alloc();
-    let action = browse(alloc, "0", "")?;
-    let out = answered(alloc, &action, 1, &Answer::Fault { code: 701 })?;
+    let out = fault_written(alloc, 701)?;
     assert_eq!(rt; out.as_slice(), FAULT_REPLY.as_bytes());
-    let read = answer_read(alloc, &action, out.as_slice())?;
+    let read = browse_read(alloc, out.as_slice())?;
     assert_eq!(rt; read.as_str(), "fault 701");
     Ok(())
 }
 
-/// Writes a text as the answer to an action, with bytes behind it, and reads it.
+/// An action that is answered with a text.
+fn asks_for_text(name: ActionName) -> Action {
+    match name {
+        ActionName::GetServiceResetToken => Action::GetServiceResetToken,
+        ActionName::GetSearchCapabilities => Action::GetSearchCapabilities,
+        _ => Action::GetSortCapabilities,
+    }
+}
+
+/// The reply to an action with this text.
+fn text_answered(alloc: Global, action: &Action, text: &str) -> Result<Vec<u8>, Mem> {
+    let text = Text::read(alloc, text)?;
+    answered(alloc, action, 2, &Answer::Text(text))
+}
+
+/// What is read where this text is the answer to an action, with bytes behind it.
 fn text_again(alloc: Global, action: &Action, text: &str) -> Result<String, Mem> {
-    let answer = Answer::Text(Text::read(alloc, text)?);
-    let mut out = answered(alloc, action, 2, &answer)?;
+    let mut out = text_answered(alloc, action, text)?;
     out.extend_from_slice(b"HTTP/1.1 200 OK\r\n")?;
     answer_read(alloc, action, out.as_slice())
 }
 
+/// Actions that are answered with texts.
+const TEXTS: [ActionName; 3] = [
+    ActionName::GetServiceResetToken,
+    ActionName::GetSearchCapabilities,
+    ActionName::GetSortCapabilities,
+];
+
 #[test]
 fn texts_are_read_back(rt: HostRuntime) -> Result<(), Fail> {
     let alloc = rt.alloc();
-    for action in [
-        Action::GetServiceResetToken,
-        Action::GetSearchCapabilities,
-        Action::GetSortCapabilities,
-    ] {
-        let text = text_again(alloc, &action, "dc:title,\r<&>")?;
+    for name in TEXTS {
+        let text = text_again(alloc, &asks_for_text(name), "dc:title,\r<&>")?;
         assert_eq!(rt; text.as_str(), "text dc:title,\r<&>");
     }
     Ok(())
@@ -658,11 +700,23 @@ fn sent(alloc: Global, action: &Action, address: &str) -> Result<Vec<u8>, Mem> {
     Ok(out)
 }
 
+/// The request of this Browse to an address.
+fn browse_sent(alloc: Global, object: &str, sort: &str, address: &str) -> Result<Vec<u8>, Mem> {
+    let action = browse(alloc, object, sort)?;
+    sent(alloc, &action, address)
+}
+
+/// The request of Search to an address.
+fn search_sent(alloc: Global, address: &str) -> Result<Vec<u8>, Mem> {
+    let action = search(alloc)?;
+    sent(alloc, &action, address)
+}
+
 #[test]
 fn requests_are_written(rt: HostRuntime) -> Result<(), Fail> {
     let alloc = rt.alloc();
-    let action = browse(alloc, "a&b", "+dc:title")?;
-    let out = sent(alloc, &action, "http://10.0.0.9:8200/control?a=b")?;
+    let address = "http://10.0.0.9:8200/control?a=b";
+    let out = browse_sent(alloc, "a&b", "+dc:title", address)?;
     assert_eq!(rt; out.as_slice(), BROWSE_REQUEST.as_bytes());
     Ok(())
 }
@@ -670,8 +724,7 @@ fn requests_are_written(rt: HostRuntime) -> Result<(), Fail> {
 #[test]
 fn requests_are_read_back(rt: HostRuntime) -> Result<(), Fail> {
     let alloc = rt.alloc();
-    let action = search(alloc)?;
-    let out = sent(alloc, &action, "http://[::1]:80/control")?;
+    let out = search_sent(alloc, "http://[::1]:80/control")?;
     assert!(rt; out.as_slice().starts_with(SEARCH_FRONT.as_bytes()));
     let read = asked(alloc, out.as_slice())?;
     assert_eq!(rt; read.as_str(), "4|0|dc:title = \"a\"|*|7|0|");
@@ -766,11 +819,10 @@ const INSIDE: [(&str, &str, &str); 5] = [
 
 /// What a reply of this status to Browse with this in its envelope answers.
 fn replied(alloc: Global, status: &str, inside: &str) -> Result<String, Mem> {
-    let action = browse(alloc, "0", "")?;
     let head = format!(in alloc; "HTTP/1.1 {status} \r\n")?;
     let body = enveloped(alloc, "3", inside)?;
     let text = with_body(alloc, head.as_str(), body.as_str())?;
-    answer_read(alloc, &action, text.as_bytes())
+    browse_read(alloc, text.as_bytes())
 }
 
 /// What a reply of this status with this element in its Body answers to Browse.
