@@ -1,9 +1,8 @@
 -- What is asked, and what an honest server replies, is read as it was written.
-use Rattle.std.proofs.Common.{◌≡◌, ℕ, ◌+◌, ◌*◌, ◌<◌, ◌≤◌, ◌^◌, true, Option, Some, None, List, [], ◌∷◌, ◌++◌, length, codes, refl, arith}
+use Rattle.std.proofs.Common.{ℕ, ◌<◌, ◌≤◌, ◌^◌, true, Option, Some, None, List, [], ◌∷◌, ◌++◌, length, codes, refl, arith}
 use Rattle.std.specs.Prelude.{IfSome}
 use Rattle.std.specs.List.{AllByRecursion}
 use Rattle.std.specs.Fmt.{decimal}
-use Rattle.cds_base.specs.declared.limits.TheConstants.{INPUT_LIMIT}
 use Rattle.cds_base.specs.Escape.{escaped}
 use Rattle.cds_base.specs.Unescape.{AreAllowed}
 use Rattle.cds_object.specs.declared.content.Content.{Content}
@@ -13,10 +12,8 @@ use Rattle.cds_didl.specs.Fragment.{didl_text}
 use Rattle.cds_didl.specs.Plain.{IsPlainText, HasPlainTexts}
 use Rattle.cds_didl.specs.ReadBack.{HasAllowedTexts, IsWritable}
 use Rattle.cds_didl.proofs.ReadBack.{rows-are-read-back}
-use Rattle.cds_soap.specs.declared.action.Action.{Action}
-use Rattle.cds_soap.specs.declared.answer.Answer.{Answer}
 use Rattle.cds_soap.specs.Names.{name_of_action, IsVersion}
-use Rattle.cds_soap.specs.Written.{request_body, answer_body, Fits}
+use Rattle.cds_soap.specs.Written.{answer_body, Fits}
 use Rattle.cds_soap.specs.Laws.{IsAllowedBrowse, IsAllowedAction, IsAllowedAnswer, action_texts, answer_texts}
 use Rattle.cds_soap.proofs.Lengths.{bodies-are-short}
 use Rattle.cds_soap.proofs.RequestsBack.{requests-are-read}

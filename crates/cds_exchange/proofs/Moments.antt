@@ -1,5 +1,5 @@
 -- What a server has at a moment, where all of it is plain, it may show.
-use Rattle.std.proofs.Common.{◌≡◌, ℕ, ◌<◌, ◌≤◌, ◌^◌, min, nat_eq, Bool, true, false, cond, Option, Some, None, unwrap_or, is_some, List, [], ◌∷◌, length, take, drop, filter, refl, sym, ap, ◌∙◌, arith}
+use Rattle.std.proofs.Common.{◌≡◌, ℕ, ◌<◌, ◌^◌, nat_eq, Bool, true, false, cond, Option, Some, None, unwrap_or, is_some, List, [], ◌∷◌, length, take, drop, filter, refl, ◌∙◌, arith}
 use Rattle.std.specs.Prelude.{IfSome, MatchOption}
 use Rattle.std.specs.List.{AllByRecursion, count_by}
 use Rattle.std.proofs.lemmas.List.{length-take}
@@ -9,7 +9,6 @@ use Rattle.cds_object.specs.Object.{ObjectRow, is_folder}
 use Rattle.cds_object.specs.Tree.{row_of, children_of, is_child_of, CountsChildren}
 use Rattle.cds_didl.specs.ReadBack.{AreCounts}
 use Rattle.cds_load.specs.declared.exchange.Ask.TheVariants.{Token, Number as AskNumber, Metadata, Children}
-use Rattle.cds_load.specs.declared.exchange.Shown.{Shown}
 use Rattle.cds_load.specs.declared.exchange.Shown.TheVariants.{Page, Fault}
 use Rattle.cds_load.specs.Server.{Moment, page_size, container_update, update_of, metadata_reply, children_reply}
 use Rattle.cds_load.proofs.Pages.{take-all, drop-all}

@@ -1,5 +1,5 @@
 -- Bytes show one thing at most to an ask.
-use Rattle.std.proofs.Common.{◌≡◌, ◌≢◌, ℕ, Option, Some, None, Result, Ok, Err, List, refl, sym, ap, subst, ◌∙◌}
+use Rattle.std.proofs.Common.{◌≡◌, ◌≢◌, ℕ, Some, None, Result, Ok, Err, List, refl, sym, ap, subst, ◌∙◌}
 use Rattle.cds_object.specs.Object.{ObjectRow}
 use Rattle.cds_didl.specs.declared.error.DidlError.{DidlError}
 use Rattle.cds_didl.specs.declared.error.DidlError.TheVariants.{Mem as NoRows}

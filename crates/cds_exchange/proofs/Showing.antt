@@ -1,5 +1,5 @@
 -- Steps of the reading of replies.
-use Rattle.std.proofs.Common.{◌≡◌, ◌≢◌, ℕ, Option, Some, None, Result, Ok, Err, IfOk, List, refl, sym, subst}
+use Rattle.std.proofs.Common.{◌≡◌, ℕ, Option, Some, None, Result, Ok, Err, IfOk, List, sym, subst}
 use Rattle.cds_base.specs.declared.mem.Mem.{Mem}
 use Rattle.cds_object.specs.Object.{ObjectRow}
 use Rattle.cds_soap.specs.declared.action.Action.{Action}

@@ -1,11 +1,7 @@
 -- Laws of exchanges.
 use Rattle.std.specs.Prelude.{◌≡◌, ◌≤◌, ◌+◌, ◌*◌, ℕ, Bool, IsTrue, Option, None, List, ◌++◌, length, codes}
-use Rattle.std.specs.List.{AllByRecursion}
 use Rattle.url.specs.Parts.{Parts}
-use Rattle.cds_base.specs.Escape.{escaped}
 use Rattle.cds_object.specs.Object.{ObjectRow}
-use Rattle.cds_didl.specs.Fragment.{didl_text}
-use Rattle.cds_soap.specs.declared.action.ActionName.TheVariants as name
 use Rattle.cds_soap.specs.Names.{name_of_action, IsVersion}
 use Rattle.cds_soap.specs.Written.{host_in, answer_body, written_action, written_answer, CanBeToken}
 use Rattle.cds_soap.specs.Laws.{is_host, AreRequest}
@@ -15,7 +11,7 @@ use Rattle.cds_load.specs.declared.exchange.Shown.TheVariants.{Page}
 use Rattle.cds_load.specs.Server.{Moment, reply_to}
 use Rattle.cds_exchange.specs.Asking.{action_of}
 use Rattle.cds_exchange.specs.Readings.{ReadsAs, IsReading}
-use Rattle.cds_exchange.specs.Honest.{answer_saying, IsBase, IsPlainRow, IsPlainPage, CanBeShownTo, IsPlainMoment, IsInRange}
+use Rattle.cds_exchange.specs.Honest.{answer_saying, IsBase, CanBeShownTo, IsPlainMoment, IsInRange}
 
 -- Bytes show one thing at most to an ask; so what is read of them is one.
 abbrev pub OneReading : Type 0
