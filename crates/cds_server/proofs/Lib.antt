@@ -1,6 +1,4 @@
-pub mod Standing
 pub mod Hosts
-pub mod Fitting
 pub mod PageRows
 pub mod Causes
 pub mod Passing

@@ -437,7 +437,7 @@ fn server_with(alloc: Global, words: &str) -> Result<Server, Fail> {
     for word in words.split_whitespace() {
         records.push(record_of(alloc, word)?)?;
     }
-    if records.len() < 1_000 {
+    if records.len() < 10_000 {
         let _span = server.accept_records(alloc, 0, &records)?;
     }
     Ok(server)
@@ -582,20 +582,44 @@ fn browse_is_answered(rt: HostRuntime) -> Result<(), Fail> {
     Ok(())
 }
 
-/// A folder with ten tracks, and two tracks beside it.
-const TREE: &str =
-    "r/ r/0.flac r/1.flac r/2.flac r/3.flac r/4.flac r/5.flac r/6.flac r/7.flac r/8.flac r/9.flac x.flac y.flac";
+/// The words of a library of so many folders with so many tracks each.
+fn library(alloc: Global, folders: u32, tracks: u32) -> Result<String, AllocError> {
+    let mut words = String::new(alloc);
+    for folder in 0..folders {
+        words.push_str(format!(in alloc; "f{folder}/ ")?.as_str())?;
+        for track in 0..tracks {
+            words.push_str(format!(in alloc; "f{folder}/{track}.flac ")?.as_str())?;
+        }
+    }
+    Ok(words)
+}
 
+/// Whether ids are so many and go up by one from the first.
+fn go_up(ids: &[u32], first: u32, count: usize) -> bool {
+    let mut want = first;
+    for id in ids {
+        if *id != want {
+            return false;
+        }
+        want = want.saturating_add(1);
+    }
+    ids.len() == count
+}
+
+/// A whole library of 1,000 objects in four folders, by pages of each size.
 #[test]
 fn pages_give_each_row_once(rt: HostRuntime) -> Result<(), Fail> {
     let alloc = rt.alloc();
-    let mut server = server_with(alloc, TREE)?;
-    for (count, pages) in [("1", 10), ("7", 2), ("256", 1), ("0", 1)] {
-        let ids = by_pages(alloc, &mut server, "1", count, pages)?;
-        assert_eq!(rt; ids.as_slice(), [2, 3, 4, 5, 6, 7, 8, 9, 10, 11].as_slice());
+    let words = library(alloc, 4, 249)?;
+    let mut server = server_with(alloc, words.as_str())?;
+    for (object, first) in [("1", 2), ("251", 252), ("501", 502), ("751", 752)] {
+        for (count, pages) in [("1", 249), ("7", 36), ("256", 1), ("0", 1)] {
+            let ids = by_pages(alloc, &mut server, object, count, pages)?;
+            assert!(rt; go_up(ids.as_slice(), first, 249), "{object} by {count}");
+        }
     }
-    let ids = by_pages(alloc, &mut server, "0", "2", 3)?;
-    assert_eq!(rt; ids.as_slice(), [1, 12, 13].as_slice());
+    let folders = by_pages(alloc, &mut server, "0", "3", 2)?;
+    assert_eq!(rt; folders.as_slice(), [1, 251, 501, 751].as_slice());
     Ok(())
 }
 
