@@ -12,6 +12,7 @@ use Rattle.cds_object.specs.declared.row.Trackers.{Trackers}
 use Rattle.cds_object.specs.Object.{ObjectRow, IsRow}
 use Rattle.cds_object.specs.Tree.{is_child_of, IdsAscend, IsHeld, CountsChildren, is_container_row, row_of}
 use Rattle.cds_catalog.specs.Library.{map_of}
+use Rattle.cds_catalog.specs.History.{end_of}
 use Rattle.cds_catalog.specs.Laws.{IsWithin, AreLibraries}
 use Rattle.cds_catalog.specs.Scans.{bad_record}
 use Rattle.cds_catalog.specs.Steps.{Standing, standing_of}
@@ -21,7 +22,7 @@ use Rattle.cds_catalog.proofs.StepsTree.{catalogs_are_trees-proof}
 use Rattle.cds_catalog.proofs.StepsWithin.{rows_are_within-proof}
 use Rattle.cds_base.specs.Unescape.{AreAllowed}
 use Rattle.cds_didl.specs.ReadBack.{HasAllowedTexts, AreCounts, HasRanges, IsWritable}
-use Rattle.cds_didl.specs.Plain.{IsPlainText, HasPlainTexts, IsPlain, history_of, CatalogsAreReadBack}
+use Rattle.cds_didl.specs.Plain.{IsPlainText, HasPlainTexts, IsPlain, history_of, ArePlainRecords, CatalogsAreReadBack}
 use Rattle.cds_didl.proofs.Plain.{rows-are-plain}
 use Rattle.cds_didl.proofs.ReadBack.{rows-are-read-back}
 
@@ -110,19 +111,22 @@ module _ (s : Standing) (rows : List ObjectRow) (number : s.number < 2 ^ 32) (dr
   )
 
 -- the whole
-libraries : (scans : List (List Record)) → AllByRecursion (λ records. bad_record records ≡ None) scans → AreLibraries (map map_of scans)
+pub libraries : (scans : List (List Record)) → AllByRecursion (λ records. bad_record records ≡ None) scans → AreLibraries (map map_of scans)
 libraries [] each = tt
 libraries (records ∷ older) each = ((accepted_map records each.0).0, libraries older each.1)
 
-pub catalogs-are-read-back : CatalogsAreReadBack
-catalogs-are-read-back base first scans can =
+pub catalog-writable : (first : ℕ) (scans : List (List Record)) → AllByRecursion ArePlainRecords scans → AllByRecursion (λ records. bad_record records ≡ None) scans
+    → end_of (history_of first scans) < 2 ^ 32 → AllByRecursion IsWritable (catalog (history_of first scans))
+catalog-writable first scans plain accepted numbers =
     let h = history_of first scans in
     let rows = catalog h in
-    let libs = libraries scans can.accepted in
+    let libs = libraries scans accepted in
     let within = rows_are_within-proof h libs in
     let tree = catalogs_are_trees-proof h libs in
     let s = standing_of h in
-    let drawn : s.drawn < 2 ^ 32 = omega (arith, within.1, can.numbers) in
-    rows-are-read-back base rows can.base_allowed
-    (writable s rows can.numbers drawn (no-more-than s.drawn rows tree.ascending (ids-within s rows within.0)) [] rows refl tree.each within.0 tree.held tree.counted (rows-are-plain first scans can.plain))
-    can.short
+    let drawn : s.drawn < 2 ^ 32 = omega (arith, within.1, numbers) in
+    writable s rows numbers drawn (no-more-than s.drawn rows tree.ascending (ids-within s rows within.0)) [] rows refl tree.each within.0 tree.held tree.counted (rows-are-plain first scans plain)
+
+pub catalogs-are-read-back : CatalogsAreReadBack
+catalogs-are-read-back base first scans can =
+    rows-are-read-back base (catalog (history_of first scans)) can.base_allowed (catalog-writable first scans can.plain can.accepted can.numbers) can.short

@@ -5,3 +5,4 @@ pub mod Rows
 pub mod Honest
 pub mod Moments
 pub mod Bases
+pub mod Histories

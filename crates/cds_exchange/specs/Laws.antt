@@ -1,7 +1,13 @@
 -- Laws of exchanges.
-use Rattle.std.specs.Prelude.{◌≡◌, ◌≤◌, ◌+◌, ◌*◌, ℕ, Bool, IsTrue, Option, None, List, ◌++◌, length, codes}
+use Rattle.std.specs.Prelude.{◌<◌, ◌^◌, map, ◌≡◌, ◌≤◌, ◌+◌, ◌*◌, ℕ, Bool, IsTrue, Option, None, List, ◌++◌, length, codes}
+use Rattle.std.specs.List.{AllByRecursion}
 use Rattle.url.specs.Parts.{Parts}
 use Rattle.cds_object.specs.Object.{ObjectRow}
+use Rattle.cds_object.specs.declared.record.Record.{Record}
+use Rattle.cds_catalog.specs.Library.{map_of}
+use Rattle.cds_catalog.specs.History.{end_of}
+use Rattle.cds_catalog.specs.Scans.{bad_record}
+use Rattle.cds_didl.specs.Plain.{IsPlainText, history_of, ArePlainRecords}
 use Rattle.cds_soap.specs.Names.{name_of_action, IsVersion}
 use Rattle.cds_soap.specs.Written.{host_in, answer_body, written_action, written_answer, CanBeToken}
 use Rattle.cds_soap.specs.Laws.{is_host, AreRequest}
@@ -9,6 +15,7 @@ use Rattle.cds_load.specs.declared.exchange.Ask.{Ask}
 use Rattle.cds_load.specs.declared.exchange.Shown.{Shown}
 use Rattle.cds_load.specs.declared.exchange.Shown.TheVariants.{Page}
 use Rattle.cds_load.specs.Server.{Moment, reply_to}
+use Rattle.cds_load.specs.Servers.{moment_at}
 use Rattle.cds_exchange.specs.Asking.{action_of}
 use Rattle.cds_exchange.specs.Readings.{ReadsAs, IsReading}
 use Rattle.cds_exchange.specs.Honest.{answer_saying, IsBase, CanBeShownTo, IsPlainMoment, IsInRange}
@@ -55,3 +62,10 @@ HonestRepliesAreRead =
 -- What a server has at a moment, where all of it is plain, it may show to any ask.
 abbrev pub MomentsCanBeShown : Type 0
 MomentsCanBeShown = (moment : Moment) (ask : Ask) → IsPlainMoment moment → CanBeShownTo ask (reply_to moment ask)
+
+-- What a server has after scans of plain records is plain, where none is refused and the number has 32 bits.
+abbrev pub HistoriesArePlain : Type 0
+HistoriesArePlain =
+    (token : List ℕ) (first : ℕ) (scans : List (List Record)) → IsPlainText token → AllByRecursion ArePlainRecords scans
+    → AllByRecursion (λ records. bad_record records ≡ None) scans → end_of (history_of first scans) < 2 ^ 32
+    → IsPlainMoment (moment_at token first (map map_of scans))

@@ -1,6 +1,6 @@
 //! What is proved of exchanges as definitions say them: calling a function gives its law.
 
-ghost use Rattle.cds_exchange.specs.Laws.{AsksAreRead, HonestRepliesAreRead, HostsMakeBases, MomentsCanBeShown, OneReading, PagesAreShort, ReadingsAreOne};
+ghost use Rattle.cds_exchange.specs.Laws.{AsksAreRead, HistoriesArePlain, HonestRepliesAreRead, HostsMakeBases, MomentsCanBeShown, OneReading, PagesAreShort, ReadingsAreOne};
 
 /// Bytes show one thing at most to an ask.
 pub fn one_reading()
@@ -36,4 +36,9 @@ pub fn honest_replies_are_read()
 /// What a server has at a moment, where all of it is plain, it may show to any ask.
 pub fn moments_can_be_shown()
     ensures { MomentsCanBeShown }
+{}
+
+/// What a server has after scans of plain records is plain, where none is refused and the number has 32 bits.
+pub fn histories_are_plain()
+    ensures { HistoriesArePlain }
 {}
