@@ -15,3 +15,9 @@ pub mod BodyForm
 pub mod WalkForm
 pub mod ListForm
 pub mod WholeForm
+mod Refusals
+mod RefusedComments
+mod RefusedBlocks
+mod RefusedWhole
+mod FaultComments
+mod FaultBlocks

@@ -23,10 +23,10 @@ and-true : (b : Bool) → (b && true) ≡ b
 and-true true = refl
 and-true false = refl
 
-SaidBy : Option (List Comment) → Block → Type 0
+unfoldable pub SaidBy : Option (List Comment) → Block → Type 0
 SaidBy now b = (comments : List Comment) × (now ≡ Some comments) × SaysComments b.body comments
 
-adds-then : (b : Block) (more : List Block) (found now end : Option (List Comment)) → Adds (is_first_comment (kind_of b.head) found) b.body found now → FoundIn now more end → FoundIn found (b ∷ more) end
+pub adds-then : (b : Block) (more : List Block) (found now end : Option (List Comment)) → Adds (is_first_comment (kind_of b.head) found) b.body found now → FoundIn now more end → FoundIn found (b ∷ more) end
 unfolding SaidBy
 adds-then b more (Some comments) now end adds later =
     let same : now ≡ Some comments = subst (λ t. Adds t b.body (Some comments) now) (and-false (is_comment_block b)) adds in
@@ -42,7 +42,7 @@ adds-then b more None now end adds later =
         let last : FirstComments more end = subst (λ f. FoundIn f more end) is later in
         subst (λ t. MatchOption (cond t (Some b) (find is_comment_block more)) (end ≡ None) (SaidBy end)) (sym e) last
 
-adds-apart : (b : Block) (more : List Block) (found end : Option (List Comment)) → FoundIn found (b ∷ more) end → (now : Option (List Comment)) × Adds (is_first_comment (kind_of b.head) found) b.body found now × FoundIn now more end
+pub adds-apart : (b : Block) (more : List Block) (found end : Option (List Comment)) → FoundIn found (b ∷ more) end → (now : Option (List Comment)) × Adds (is_first_comment (kind_of b.head) found) b.body found now × FoundIn now more end
 unfolding SaidBy
 adds-apart b more (Some comments) end is =
     let same : ◌≡◌ {A = Option (List Comment)} (Some comments) (Some comments) = refl in
@@ -70,7 +70,7 @@ pub record WalkRead (at : ℕ) (left rest : List ℕ) (found now : Option (List 
   pub within : at + length (flat_map block_bytes (first ∷ more)) ≤ 67108868
   pub comments : FoundIn found (first ∷ more) now
 
-choice-was : {A : Type 0} (b : Bool) (x y : Step A) (result : A × List ℕ) → cond b x y ≡ Ok result → ((b ≡ true) × (x ≡ Ok result)) ⊎ ((b ≡ false) × (y ≡ Ok result))
+pub choice-was : {A : Type 0} (b : Bool) (x y : Step A) (result : A × List ℕ) → cond b x y ≡ Ok result → ((b ≡ true) × (x ≡ Ok result)) ⊎ ((b ≡ false) × (y ≡ Ok result))
 choice-was true x y result e = inl (refl, e)
 choice-was false x y result e = inr (refl, e)
 

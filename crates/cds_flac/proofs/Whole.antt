@@ -9,20 +9,20 @@ use Rattle.cds_flac.specs.Reading.{further_blocks, info_of, is_last, marker_at, 
 use Rattle.cds_flac.proofs.Steps.{after-ok, judged-after, judged-same}
 
 -- what follows each part
-from_blocks : ℕ → Option (List Comment) → List ℕ → Step FlacInfo
+pub from_blocks : ℕ → Option (List Comment) → List ℕ → Step FlacInfo
 from_blocks bits found rest = Ok (info_of bits found, rest)
 
-from_sound : ℕ → ℕ → List ℕ → Step FlacInfo
+pub from_sound : ℕ → ℕ → List ℕ → Step FlacInfo
 from_sound head bits rest = after (further_blocks (is_last head) 42 rest) (from_blocks bits)
 
-from_head : ℕ → List ℕ → Step FlacInfo
+pub from_head : ℕ → List ℕ → Step FlacInfo
 from_head head rest = after (sound_at rest) (from_sound head)
 
-from_marker : Unit {0} → List ℕ → Step FlacInfo
+pub from_marker : Unit {0} → List ℕ → Step FlacInfo
 from_marker done rest = after (stream_head rest) from_head
 
 module _ (bytes : List ℕ) where
-  whole : metadata bytes ≡ after (marker_at bytes) from_marker
+  pub whole : metadata bytes ≡ after (marker_at bytes) from_marker
   unfolding metadata from_marker from_head from_sound from_blocks
   whole = refl
 
@@ -30,7 +30,7 @@ module _ (bytes : List ℕ) where
   no_marker refusal h = judged-same refusal whole (judged-after (marker_at bytes) from_marker refusal h)
 
   module _ (done : Unit {0}) (first : List ℕ) (e : marker_at bytes ≡ Ok (done, first)) where
-    to_head : metadata bytes ≡ after (stream_head first) from_head
+    pub to_head : metadata bytes ≡ after (stream_head first) from_head
     unfolding from_marker
     to_head = whole ∙ after-ok from_marker e
 
@@ -38,7 +38,7 @@ module _ (bytes : List ℕ) where
     no_head refusal h = judged-same refusal to_head (judged-after (stream_head first) from_head refusal h)
 
     module _ (head : ℕ) (second : List ℕ) (f : stream_head first ≡ Ok (head, second)) where
-      to_sound : metadata bytes ≡ after (sound_at second) (from_sound head)
+      pub to_sound : metadata bytes ≡ after (sound_at second) (from_sound head)
       unfolding from_head
       to_sound = to_head ∙ after-ok from_head f
 
@@ -46,7 +46,7 @@ module _ (bytes : List ℕ) where
       no_sound refusal h = judged-same refusal to_sound (judged-after (sound_at second) (from_sound head) refusal h)
 
       module _ (bits : ℕ) (third : List ℕ) (k : sound_at second ≡ Ok (bits, third)) where
-        to_blocks : metadata bytes ≡ after (further_blocks (is_last head) 42 third) (from_blocks bits)
+        pub to_blocks : metadata bytes ≡ after (further_blocks (is_last head) 42 third) (from_blocks bits)
         unfolding from_sound
         to_blocks = to_sound ∙ after-ok (from_sound head) k
 

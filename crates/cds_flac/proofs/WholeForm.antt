@@ -21,14 +21,14 @@ use Rattle.cds_flac.proofs.ListForm.{walk-was, walk-front, block_spelled, block_
 use Rattle.cds_flac.proofs.Whole.{all}
 
 -- equal bytes
-bytes-were : (xs ys : List ℕ) → bytes_eq xs ys ≡ true → xs ≡ ys
+pub bytes-were : (xs ys : List ℕ) → bytes_eq xs ys ≡ true → xs ≡ ys
 bytes-were xs ys e = (bytes_eq-Decides xs ys).0 e
 
-enough : 67108868 < most_blocks + 42
+pub enough : 67108868 < most_blocks + 42
 unfolding most_blocks
 enough = omega arith
 
-marker-was : (bytes : List ℕ) (found : Unit {0} × List ℕ) → marker_at bytes ≡ Ok found → bytes ≡ marker ++ found.1
+pub marker-was : (bytes : List ℕ) (found : Unit {0} × List ℕ) → marker_at bytes ≡ Ok found → bytes ≡ marker ++ found.1
 unfolding marker_at
 marker-was bytes found e =
     let was = after-was (taken 0 4 bytes) (λ four rest. is_marker four rest) found e in
@@ -41,26 +41,26 @@ marker-was bytes found e =
     same_unit : (x y : Unit {0} × List ℕ) → ◌≡◌ {A = Step (Unit {0})} (Ok x) (Ok y) → x.1 ≡ y.1
     same_unit x y e = (same_pair x y e).1
 
-marker-front : (rest : List ℕ) → marker_at (marker ++ rest) ≡ Ok (tt, rest)
+pub marker-front : (rest : List ℕ) → marker_at (marker ++ rest) ≡ Ok (tt, rest)
 unfolding marker_at
 marker-front rest = after-ok (λ four rest. is_marker four rest) (taken-front 0 4 marker rest refl)
 
-equal-was : (m n : ℕ) → nat_eq m n ≡ true → m ≡ n
+pub equal-was : (m n : ℕ) → nat_eq m n ≡ true → m ≡ n
 equal-was m n e = grind (arith, nat_tests)
 
-not-was : (b : Bool) → not b ≡ false → b ≡ true
+pub not-was : (b : Bool) → not b ≡ false → b ≡ true
 not-was true e = refl
 not-was false e = absurd (cc)
 
 -- the header of STREAMINFO that was read
-record StreamRead (left : List ℕ) (head : ℕ) (rest : List ℕ) : Type 0 where
-  size : List ℕ
-  spelled : left ≡ head ∷ (size ++ rest)
-  size_bytes : length size ≡ 3
-  size_says : big_endian size ≡ 34
-  kind : kind_of head ≡ 0
+pub record StreamRead (left : List ℕ) (head : ℕ) (rest : List ℕ) : Type 0 where
+  pub size : List ℕ
+  pub spelled : left ≡ head ∷ (size ++ rest)
+  pub size_bytes : length size ≡ 3
+  pub size_says : big_endian size ≡ 34
+  pub kind : kind_of head ≡ 0
 
-stream-was : (left : List ℕ) (found : ℕ × List ℕ) → stream_head left ≡ Ok found → StreamRead left found.0 found.1
+pub stream-was : (left : List ℕ) (found : ℕ × List ℕ) → stream_head left ≡ Ok found → StreamRead left found.0 found.1
 unfolding stream_head
 stream-was left found e =
     let was = after-was (big_number 4 1 left) (λ head rest. stream_of_head head rest) found e in
@@ -87,7 +87,7 @@ stream-was left found e =
       kind = ap kind_of (sym parts.0) ∙ equal-was (kind_of head) 0 (not-was (nat_eq (kind_of head) 0) stream.0);
     }
 
-stream-front : (b : Block) (rest : List ℕ) → IsBlock b → kind_of b.head ≡ 0 → length b.body ≡ 34 → stream_head (b.head ∷ (b.size ++ rest)) ≡ Ok (b.head, rest)
+pub stream-front : (b : Block) (rest : List ℕ) → IsBlock b → kind_of b.head ≡ 0 → length b.body ≡ 34 → stream_head (b.head ∷ (b.size ++ rest)) ≡ Ok (b.head, rest)
 stream-front b rest is kind long =
     let sized : ℕ → List ℕ → Step ℕ = λ n rest. stream_of_length b.head n rest in
     let byte : big_endian (b.head ∷ []) ≡ b.head = omega arith in
@@ -98,7 +98,7 @@ stream-front b rest is kind long =
     ∙ after-ok sized (big-front 5 3 b.size rest is.size_bytes)
     ∙ stream-length b.head rest (big_endian b.size) (is.size_says ∙ long)
 
-sound-was : (left : List ℕ) (found : ℕ × List ℕ) → sound_at left ≡ Ok found → (body : List ℕ) × (left ≡ body ++ found.1) × (length body ≡ 34) × (sound_bits body ≡ found.0)
+pub sound-was : (left : List ℕ) (found : ℕ × List ℕ) → sound_at left ≡ Ok found → (body : List ℕ) × (left ≡ body ++ found.1) × (length body ≡ 34) × (sound_bits body ≡ found.0)
 unfolding sound_at
 sound-was left found e =
     let was = after-was (taken 8 34 left) (λ body rest. Ok (sound_bits body, rest)) found e in
@@ -107,7 +107,7 @@ sound-was left found e =
     let parts = same_pair pair found was.2 in
     (was.0.0, body.0 ∙ ap (λ xs. was.0.0 ++ xs) parts.1, body.1, parts.0)
 
-sound-front : (body rest : List ℕ) → length body ≡ 34 → sound_at (body ++ rest) ≡ Ok (sound_bits body, rest)
+pub sound-front : (body rest : List ℕ) → length body ≡ 34 → sound_at (body ++ rest) ≡ Ok (sound_bits body, rest)
 unfolding sound_at
 sound-front body rest long = after-ok (λ body rest. Ok (sound_bits body, rest)) (taken-front 8 34 body rest long)
 

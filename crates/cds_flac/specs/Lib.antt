@@ -5,3 +5,4 @@ pub mod Reading
 pub mod Form
 pub mod Agree
 pub mod Vector
+pub mod Refused

@@ -3,6 +3,7 @@ ghost use Rattle.cds_base.specs.Outside.{WhereTold};
 ghost use Rattle.cds_flac.specs.Agree.{Agrees, FaultRose, Took};
 ghost use Rattle.cds_flac.specs.Form.{BeginsWith, ReadsWhatBegins};
 ghost use Rattle.cds_flac.specs.Numbers.{sound_bits};
+ghost use Rattle.cds_flac.specs.Refused.{RefusedAs, RefusesWhatIs};
 ghost use Rattle.cds_flac.specs.Step.{Step};
 ghost use Rattle.cds_flac.specs.Reading.{info_of, metadata, stream_head, sound_at, marker_at};
 
@@ -20,6 +21,8 @@ pub fn read_flac<S: Source>(alloc: Global, source: &mut S) -> Result<FlacInfo, F
     ensures told { WhereTold (S.left source.old) (λ bytes. Agrees (metadata bytes) result (S.left source.new)) }
     ensures form { IfOk result (λ info. WhereTold (S.left source.old) (λ bytes. BeginsWith bytes info (S.left source.new))) }
     ensures all { WhereTold (S.left source.old) (λ bytes. ReadsWhatBegins bytes result) }
+    ensures refused { WhereTold (S.left source.old) (λ bytes. RefusedAs bytes result) }
+    ensures all_refused { WhereTold (S.left source.old) (λ bytes. RefusesWhatIs bytes result) }
     ensures rate { IfOk result (λ info. info.rate < 2 ^ 20) }
     ensures channels { IfOk result (λ info. (1 ≤ info.channels) × (info.channels ≤ 8)) }
     ensures bits { IfOk result (λ info. (1 ≤ info.bits) × (info.bits ≤ 32)) }
