@@ -13,4 +13,10 @@ if [ -x "$program" ]; then
   exec "$program" "$@"
 fi
 echo "cds: running the sources unproved, by rt try; './cds --prove' proves and builds the program, which takes some minutes" >&2
+if [ $# -eq 2 ] && [ "$1" = scan ]; then
+  case $2 in
+    /*) ;;
+    *) set -- scan "$PWD/$2" ;;
+  esac
+fi
 cd "$crate" && exec rt try -- "$@"

@@ -2,7 +2,7 @@
 use Rattle.std.specs.Prelude.{◌≡◌, ◌⊎◌, ℕ, cond, List, [], ◌∷◌, ◌++◌, Option, Some, None, codes}
 use Rattle.cds_object.specs.Content.{same_text}
 use Rattle.cds_cli.specs.declared.command.Command.{Command}
-use Rattle.cds_cli.specs.declared.command.Command.TheVariants.{Replay, Check, Help, Version}
+use Rattle.cds_cli.specs.declared.command.Command.TheVariants.{Replay, Check, Scan, Help, Version}
 
 abbrev pub command_named : List ℕ → Option Command
 command_named word =
@@ -11,11 +11,12 @@ command_named word =
     (cond (same_text word (codes "--help")) (Some Help)
     (cond (same_text word (codes "--version")) (Some Version) None)))
 
--- a command is one word alone
+-- a command is one word alone, but for `scan`, behind which a folder stands
 abbrev pub command_of : List (List ℕ) → Option Command
 command_of [] = None
 command_of (word ∷ []) = command_named word
-command_of (word ∷ next ∷ words) = None
+command_of (word ∷ folder ∷ []) = cond (same_text word (codes "scan")) (Some Scan) None
+command_of (word ∷ next ∷ more ∷ words) = None
 
 -- the commands that take what the source gives
 abbrev pub TakesInput : Option Command → Type 0
@@ -34,16 +35,17 @@ abbrev pub help_text : List ℕ
 help_text =
     codes "usage: cds COMMAND\n\n"
     ++ codes "Commands:\n"
-    ++ codes "  replay     play the script on standard input and write its report\n"
-    ++ codes "  check      read a StateEvent on standard input and write its one written form\n"
-    ++ codes "  --help     write this page\n"
-    ++ codes "  --version  write the version\n\n"
+    ++ codes "  replay       play the script on standard input and write its report\n"
+    ++ codes "  check        read a StateEvent on standard input and write its one written form\n"
+    ++ codes "  scan FOLDER  scan a folder of FLAC files and write its catalog and the refused files\n"
+    ++ codes "  --help       write this page\n"
+    ++ codes "  --version    write the version\n\n"
     ++ codes "Exit status:\n"
     ++ codes "  0  the input was read to its end and the whole output was written\n"
     ++ codes "  1  a line of the script is outside the grammar\n"
-    ++ codes "  2  standard input could not be read\n"
+    ++ codes "  2  standard input, or the folder, could not be read\n"
     ++ codes "  3  standard output could not be written\n"
     ++ codes "  4  memory ran out\n"
     ++ codes "  5  the words are no command\n"
-    ++ codes "  6  the input, or a line of a script, is too long\n"
+    ++ codes "  6  the input, or a line of a script, is too long, or the folder has too much\n"
     ++ codes "  8  the input of check is no StateEvent\n"

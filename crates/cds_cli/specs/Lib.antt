@@ -1,3 +1,6 @@
 pub mod Check
 pub mod Command
+pub mod Found
+pub mod Given
 pub mod Run
+pub mod Scan

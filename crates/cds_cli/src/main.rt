@@ -1,17 +1,25 @@
-//! `cds`: a ContentDirectory:4 server and its replica, played from scripts, and the reader of StateEvents.
+//! `cds`: a ContentDirectory:4 server and its replica, played from scripts, the reader of StateEvents, and the scan of a
+//! folder of FLAC files.
 #![tactic(auto)]
 
 #[cfg(test)]
 mod check_tests;
 mod checking;
 mod command;
+mod files;
+mod given;
 mod run;
+#[cfg(test)]
+mod scan_tests;
+mod scanning;
 mod streams;
 #[cfg(test)]
 mod tests;
+mod walk;
 mod written;
 
 use cds_base::{Mem, Text, Words};
+use files::RealOutside;
 use run::run;
 use std::alloc::Global;
 use std::env;
@@ -41,8 +49,9 @@ fn main(rt: HostRuntime) -> ExitCode {
     let alloc = rt.alloc();
     let mut source = Input::new(rt.reader());
     let mut sink = Output::new(writer(&rt));
+    let mut outside = RealOutside::new(rt);
     let status = match read_words(&rt, alloc) {
-        Ok(words) => run(alloc, &words, &mut source, &mut sink),
+        Ok(words) => run(alloc, &words, &mut source, &mut sink, &mut outside),
         Err(Mem) => OUT_OF_MEMORY,
     };
     ExitCode::from(status)

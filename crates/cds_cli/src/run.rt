@@ -12,12 +12,14 @@ ghost use Rattle.cds_script.specs.ScriptGiven.{StandsAtScanEnds};
 ghost use Rattle.cds_cli.specs.Check.{EndsCheck, WritesCheck};
 ghost use Rattle.cds_cli.specs.Command.{command_of, TakesInput, help_text, version_text, usage_text};
 ghost use Rattle.cds_cli.specs.Run.{Ends, Writes, EndsText, WritesText};
-ghost use Rattle.cds_cli.specs.declared.command.Command.TheVariants.{Replay, Check, Help, Version};
+ghost use Rattle.cds_cli.specs.Scan.{AsksFor, EndsScan, GivesBack, WritesScan, folder_in};
+ghost use Rattle.cds_cli.specs.declared.command.Command.TheVariants.{Replay, Check, Scan, Help, Version};
 
 use crate::checking::check;
-use crate::command::{Command, read_command};
+use crate::command::{Command, folder_in, read_command};
+use crate::scanning::scan_folder;
 use crate::written::write_text;
-use cds_base::{Sink, Source, Words};
+use cds_base::{Outside, Sink, Source, Words};
 use cds_replay::{ReplayError, replay};
 use std::alloc::Global;
 
@@ -31,19 +33,20 @@ pub const VERSION: &str = "cds 0.1.0\n";
 pub const HELP: &str = "usage: cds COMMAND
 
 Commands:
-  replay     play the script on standard input and write its report
-  check      read a StateEvent on standard input and write its one written form
-  --help     write this page
-  --version  write the version
+  replay       play the script on standard input and write its report
+  check        read a StateEvent on standard input and write its one written form
+  scan FOLDER  scan a folder of FLAC files and write its catalog and the refused files
+  --help       write this page
+  --version    write the version
 
 Exit status:
   0  the input was read to its end and the whole output was written
   1  a line of the script is outside the grammar
-  2  standard input could not be read
+  2  standard input, or the folder, could not be read
   3  standard output could not be written
   4  memory ran out
   5  the words are no command
-  6  the input, or a line of a script, is too long
+  6  the input, or a line of a script, is too long, or the folder has too much
   8  the input of check is no StateEvent
 ";
 
@@ -74,15 +77,42 @@ fn play<S: Source, K: Sink>(alloc: Global, source: &mut S, sink: &mut K) -> u8
     }
 }
 
+/// Writes the page on the commands and the exit statuses.
+fn write_help<K: Sink>(sink: &mut K) -> u8
+    ensures ends { EndsText result 0 }
+    ensures writes { WhereTold (K.holds sink.old) (λ before. WritesText result help_text before (K.holds sink.new)) }
+    ensures write_fault { result ≡ 3 → Rose (K.faults sink.old) (K.faults sink.new) }
+{
+    write_text(sink, HELP.as_bytes(), 0)
+}
+
+/// Writes what words are that are no command's.
+fn write_usage<K: Sink>(sink: &mut K) -> u8
+    ensures ends { EndsText result 5 }
+    ensures writes { WhereTold (K.holds sink.old) (λ before. WritesText result usage_text before (K.holds sink.new)) }
+    ensures write_fault { result ≡ 3 → Rose (K.faults sink.old) (K.faults sink.new) }
+{
+    write_text(sink, USAGE.as_bytes(), 5)
+}
+
 /// Runs the program on the words after its name, and answers its exit status.
 ///
 /// `replay` plays the script on the source and writes its report to the sink (status 0, or 1 where a line is outside the
 /// grammar, or 6 where the script or a line of it is too long). `check` reads the StateEvent on the source and writes its
 /// one written form and LF (status 0), or `refused AT` with the place of the first fault, in bytes from 0 (8), or `error
-/// limit` where it has more than 67,108,864 bytes without a fault before (6). `--help` and `--version`, each alone, write
-/// their text (status 0). Other words are no command's: the usage is written (status 5). A source that could not be read
-/// is status 2, a sink that could not be written 3, and 4 is that memory ran out.
-pub fn run<S: Source, K: Sink>(alloc: Global, words: &Words, source: &mut S, sink: &mut K) -> u8
+/// limit` where it has more than 67,108,864 bytes without a fault before (6). `scan FOLDER` scans the folder once and
+/// writes each row of its catalog and LF, and `refused PATH` and LF for each file that was refused, in ascending order of
+/// their paths (0), or `error limit` where a path has too many names or bytes, or the folder too many entries or objects
+/// (6). `--help` and `--version`, each alone, write their text (status 0). Other words are no command's: the usage is
+/// written (status 5). A source that could not be read is status 2, and so is a folder of the outside; a sink that could
+/// not be written is 3, and 4 is that memory ran out.
+pub fn run<S: Source, K: Sink, O: Outside>(
+    alloc: Global,
+    words: &Words,
+    source: &mut S,
+    sink: &mut K,
+    outside: &mut O,
+) -> u8
     // What was written is exactly the report of the script, up to its end, its broken line or its limit.
     ensures report { command_of words.now ≡ Some Replay → WhereTold (S.left source.old)
         (λ bytes. WhereTold (K.holds sink.old) (λ before. Writes result (script_ending bytes).text before (K.holds sink.new))) }
@@ -93,7 +123,7 @@ pub fn run<S: Source, K: Sink>(alloc: Global, words: &Words, source: &mut S, sin
     // more than an input may have.
     ensures within_limit { TakesInput (command_of words.now) → result ≡ 0 → S.moved source.new ≤ raised (S.moved source.old) INPUT_LIMIT }
     ensures taken { S.moved source.new ≤ S.moved source.old + (INPUT_LIMIT + 1) }
-    ensures past_limit { result ≡ 6 → raised (S.moved source.old) (line_limit + 1) ≤ S.moved source.new }
+    ensures past_limit { TakesInput (command_of words.now) → result ≡ 6 → raised (S.moved source.old) (line_limit + 1) ≤ S.moved source.new }
     ensures past_check_limit { command_of words.now ≡ Some Check → result ≡ 6 → raised (S.moved source.old) (INPUT_LIMIT + 1) ≤ S.moved source.new }
 
     // What was written is what the script's turns write, one after the other, and then its last line. Each ask of these
@@ -118,8 +148,18 @@ pub fn run<S: Source, K: Sink>(alloc: Global, words: &Words, source: &mut S, sin
         (λ bytes. WhereTold (K.holds sink.old) (λ before. WritesCheck bytes result before (K.holds sink.new))) }
     ensures check_status { command_of words.now ≡ Some Check → WhereTold (S.left source.old) (λ bytes. EndsCheck bytes result) }
 
+    // What `scan` wrote is the catalog of one scan of the folder from the first number 0, and the files that were refused, where
+    // the scan came to the end of the folder's tree; else that it stopped at an entry. The outside was asked for this folder
+    // alone, which came back with all its files.
+    ensures scan { command_of words.now ≡ Some Scan → WhereTold (K.holds sink.old)
+        (λ before. WritesScan (O.ended outside.old) (O.ended outside.new) result before (K.holds sink.new)) }
+    ensures scan_status { command_of words.now ≡ Some Scan → EndsScan (O.ended outside.old) (O.ended outside.new) result }
+    ensures scan_asks { command_of words.now ≡ Some Scan → AsksFor (folder_in words.now) (O.asked outside.old) (O.asked outside.new) }
+    ensures scan_back { command_of words.now ≡ Some Scan → GivesBack (O.ended outside.old) (O.ended outside.new) }
+
     // Faults of the outside come only where their count rose.
-    ensures read_fault { result ≡ 2 → Rose (S.faults source.old) (S.faults source.new) }
+    ensures read_fault { TakesInput (command_of words.now) → result ≡ 2 → Rose (S.faults source.old) (S.faults source.new) }
+    ensures outside_fault { command_of words.now ≡ Some Scan → result ≡ 2 → Rose (O.faults outside.old) (O.faults outside.new) }
     ensures write_fault { result ≡ 3 → Rose (K.faults sink.old) (K.faults sink.new) }
 
     // The other commands, and words that are no command's, write one text and take nothing of the source.
@@ -130,19 +170,21 @@ pub fn run<S: Source, K: Sink>(alloc: Global, words: &Words, source: &mut S, sin
     ensures usage { command_of words.now ≡ None → EndsText result 5 × WhereTold (K.holds sink.old)
         (λ before. WritesText result usage_text before (K.holds sink.new)) }
     ensures untouched { (TakesInput (command_of words.now) → ⊥) → source.new ≡ source.old }
+    ensures outside_untouched { command_of words.now ≢ Some Scan → outside.new ≡ outside.old }
 
     // No other status comes.
     ensures only_usage { result ≡ 5 → command_of words.now ≡ None }
     ensures only_replay { result ≡ 1 → command_of words.now ≡ Some Replay }
     ensures only_check { result ≡ 8 → command_of words.now ≡ Some Check }
-    ensures only_input { (result ≡ 2) ⊎ ((result ≡ 4) ⊎ (result ≡ 6)) → TakesInput (command_of words.now) }
+    ensures only_input { (result ≡ 2) ⊎ ((result ≡ 4) ⊎ (result ≡ 6)) → TakesInput (command_of words.now) ⊎ (command_of words.now ≡ Some Scan) }
     ensures known { (result ≤ 6) ⊎ (result ≡ 8) }
 {
     match read_command(words.as_slice()) {
         Some(Command::Replay) => play(alloc, source, sink),
         Some(Command::Check) => check(alloc, source, sink),
-        Some(Command::Help) => write_text(sink, HELP.as_bytes(), 0),
+        Some(Command::Scan) => scan_folder(alloc, folder_in(words.as_slice()), outside, sink),
+        Some(Command::Help) => write_help(sink),
         Some(Command::Version) => write_text(sink, VERSION.as_bytes(), 0),
-        None => write_text(sink, USAGE.as_bytes(), 5),
+        None => write_usage(sink),
     }
 }

@@ -26,6 +26,13 @@ impl<R: Read + Drop> Input<R> {
             faults: 0,
         }
     }
+
+    /// How many calls failed.
+    pub fn faults(&self) -> u64
+        ensures { result ≡ self.now.faults }
+    {
+        self.faults
+    }
 }
 
 impl<R: Read + Drop> Source for Input<R> {

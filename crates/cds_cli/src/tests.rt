@@ -1,12 +1,12 @@
 //! Scripts and command lines whose answers are known from outside: the rules of the report, worked by hand.
 
 use crate::run::run;
-use cds_base::{Bytes, MemSink, MemSource, Numbers, Text, Words};
+use cds_base::{Bytes, MemOutside, MemSink, MemSource, Numbers, Sequence, Text, Words};
 use std::alloc::Global;
 use std::test::Fail;
 
 /// The words of a command line.
-fn words_of(alloc: Global, words: &[&str]) -> Result<Words, Fail> {
+pub fn words_of(alloc: Global, words: &[&str]) -> Result<Words, Fail> {
     let mut list = Words::new(alloc);
     for word in words {
         list.push(Text::read(alloc, word)?)?;
@@ -29,7 +29,8 @@ pub fn play(
         Bytes::new(alloc),
         Numbers::from(Vec::from_slice(alloc, writes)?),
     );
-    let status = run(alloc, &words, &mut source, &mut sink);
+    let mut outside = MemOutside::new(Sequence::new(alloc), Numbers::new(alloc));
+    let status = run(alloc, &words, &mut source, &mut sink, &mut outside);
     let written = Vec::from_slice(alloc, sink.as_slice())?;
     Ok((status, written))
 }
@@ -98,8 +99,10 @@ fn limits_and_faults_have_their_statuses(rt: HostRuntime) -> Result<(), Fail> {
 fn words_are_commands_or_not(rt: HostRuntime) -> Result<(), Fail> {
     let alloc = rt.alloc();
     let usage = "usage: cds COMMAND\n";
-    let cases: [(&[&str], u8, &str); 6] = [
+    let cases: [(&[&str], u8, &str); 8] = [
         (&[], 5, usage),
+        (&["scan"], 5, usage),
+        (&["scan", "x", "y"], 5, usage),
         (&["play"], 5, usage),
         (&["replay", "x"], 5, usage),
         (&["--version", "--help"], 5, usage),
