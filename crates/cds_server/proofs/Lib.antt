@@ -4,3 +4,4 @@ pub mod Causes
 pub mod Passing
 pub mod OneReply
 pub mod PagesRows
+pub mod Whole

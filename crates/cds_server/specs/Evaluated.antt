@@ -1,5 +1,5 @@
 -- Where small messages go, and what actions are answered over a small library, evaluated from the definitions.
-use Rattle.std.specs.Prelude.{◌≡◌, ℕ, List, [], ◌∷◌, codes, length}
+use Rattle.std.specs.Prelude.{◌≡◌, ℕ, List, [], ◌∷◌, ◌++◌, codes, length}
 use Rattle.http_header.specs.FieldValue.{FieldValue, plain_value}
 use Rattle.http_header.specs.HeaderMap.{Entries}
 use Rattle.cds_http.specs.declared.message.Start.{Start}
@@ -76,10 +76,19 @@ children = codes "BrowseDirectChildren"
 abbrev itself : List ℕ
 itself = codes "BrowseMetadata"
 
+-- the document of that track, with where its bytes are for who asks at `h`
+abbrev pub track_document : List ℕ
+track_document =
+    codes "<DIDL-Lite xmlns=\"urn:schemas-upnp-org:metadata-1-0/DIDL-Lite/\""
+    ++ codes " xmlns:dc=\"http://purl.org/dc/elements/1.1/\" xmlns:upnp=\"urn:schemas-upnp-org:metadata-1-0/upnp/\">"
+    ++ codes "<item id=\"2\" parentID=\"1\" restricted=\"1\"><dc:title>t</dc:title><upnp:class>object.item.audioItem.musicTrack</upnp:class>"
+    ++ codes "<res protocolInfo=\"http-get:*:audio/flac:*\" size=\"1\" bitsPerSample=\"8\" nrAudioChannels=\"1\">http://h/media/2</res>"
+    ++ codes "</item></DIDL-Lite>"
+
 abbrev pub ActionsAreAnswered : Type 0
 ActionsAreAnswered =
     (asked (codes "2") itself 0 0 []
-    ≡ answer.Page (codes "<DIDL-Lite xmlns=\"urn:schemas-upnp-org:metadata-1-0/DIDL-Lite/\" xmlns:dc=\"http://purl.org/dc/elements/1.1/\" xmlns:upnp=\"urn:schemas-upnp-org:metadata-1-0/upnp/\"><item id=\"2\" parentID=\"1\" restricted=\"1\"><dc:title>t</dc:title><upnp:class>object.item.audioItem.musicTrack</upnp:class><res protocolInfo=\"http-get:*:audio/flac:*\" size=\"1\" bitsPerSample=\"8\" nrAudioChannels=\"1\">http://h/media/2</res></item></DIDL-Lite>") 1 1 2)
+    ≡ answer.Page track_document 1 1 2)
     × (numbers (asked (codes "0") children 5 0 []) ≡ 0 ∷ 1 ∷ 2 ∷ [])
     × (numbers (asked (codes "0") children 0 0 []) ≡ 1 ∷ 1 ∷ 2 ∷ [])
     × (asked (codes "0") (codes "Browse") 0 0 [] ≡ answer.Fault 402)

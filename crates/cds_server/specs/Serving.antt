@@ -1,5 +1,5 @@
 -- What a server keeps, and which commands it stands for.
-use Rattle.std.specs.Prelude.{◌≡◌, ℕ, List, ◌∷◌, Result, Ok, Err}
+use Rattle.std.specs.Prelude.{◌≡◌, ℕ, List, ◌∷◌, Result, Ok, Err, ⊤}
 use Rattle.cds_object.specs.declared.record.Record.{Record}
 use Rattle.cds_catalog.specs.Library.{map_of}
 use Rattle.cds_catalog.specs.History.{end_of, with_scan}
@@ -8,6 +8,7 @@ use Rattle.cds_store.specs.Applied.{IsRefusal}
 use Rattle.cds_store.specs.Rows.{rows_of}
 use Rattle.cds_store.specs.Stands.{Stored, StandsFor as StoreStandsFor}
 use Rattle.cds_store.specs.declared.error.ApplyError.{ApplyError}
+use Rattle.cds_store.specs.declared.error.ApplyError.TheVariants.{BadRecords, Full, Spent, Mem}
 use Rattle.cds_store.specs.declared.span.Span.{Span}
 use Rattle.cds_commands.specs.Commands.{Command, Start, Scans, scans_of}
 use Rattle.cds_commands.specs.Names.{names_of}
@@ -40,3 +41,10 @@ Scanned start commands records (Ok span) before now =
     × StandsFor now start (Scans (map_of records) ∷ commands)
     × (span ≡ record { from = end_of (scans_of start.first commands); to = end_of (with_scan (scans_of start.first commands) (map_of records)) })
 Scanned start commands records (Err refusal) before now = IsRefusal (scans_of start.first commands) records refusal × (now ≡ before)
+
+-- a refusal of records that can all stand, as those of a scan of a folder can
+abbrev pub IsOfWhole : ApplyError → Type 0
+IsOfWhole (BadRecords line) = ⊥
+IsOfWhole (Full objects) = ⊤
+IsOfWhole (Spent needed) = ⊤
+IsOfWhole Mem = ⊤

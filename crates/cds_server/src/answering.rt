@@ -147,7 +147,8 @@ fn put_row_of(
     filter: &Filter,
     base: &str,
 ) -> Result<(), Mem>
-    ensures { OnOk result (string_bytes out.new ≡ string_bytes out.old ++ fragments filter.now base.now (rows_with (id ∷ []) (rows_of store.now.standing.rows))) }
+    ensures { OnOk result (string_bytes out.new
+        ≡ string_bytes out.old ++ fragments filter.now base.now (rows_with (id ∷ []) (rows_of store.now.standing.rows))) }
 {
     match store.get(id) {
         None => Ok(()),

@@ -50,7 +50,8 @@ fn request_to(
     message: &Message,
     out: &mut Vec<u8>,
 ) -> Result<(), Mem>
-    ensures ok { OnOk result (RepliesBy (published_of server.now) message.now (request_to method.now target.now message.now.fields) out.old.items out.new.items) }
+    ensures ok { OnOk result (RepliesBy (published_of server.now) message.now (request_to method.now target.now message.now.fields)
+        out.old.items out.new.items) }
     ensures err { OnErr result (out.new.items ≡ out.old.items) }
 {
     if target == "/control" {
@@ -166,7 +167,8 @@ fn answer(
     asked: &Asked,
     out: &mut Vec<u8>,
 ) -> Result<(), Mem>
-    ensures ok { OnOk result (out.new.items ≡ out.old.items ++ written_answer asked.now.action asked.now.version (answer_to (published_of server.now) host.now asked.now.action) None) }
+    ensures ok { OnOk result (out.new.items ≡ out.old.items ++ written_answer asked.now.action asked.now.version
+        (answer_to (published_of server.now) host.now asked.now.action) None) }
     ensures err { OnErr result (out.new.items ≡ out.old.items) }
 {
     let answer = answer_to(alloc, server, host, &asked.action)?;

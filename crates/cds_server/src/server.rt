@@ -1,9 +1,10 @@
 //! The server.
 
-ghost use Rattle.std.specs.Prelude.{◌≡◌, ◌<◌, ◌^◌, List, [], length, slice_index, None, IfOk, OnOk, OnErr};
+ghost use Rattle.std.specs.Prelude.{◌≡◌, ◌<◌, ◌^◌, List, [], length, slice_index, None, IfOk, IfErr, OnOk, OnErr};
 ghost use Rattle.cds_catalog.specs.History.{end_of};
 ghost use Rattle.cds_commands.specs.Commands.{Command, Start, scans_of};
-ghost use Rattle.cds_server.specs.Serving.{StandsFor, Scanned};
+ghost use Rattle.cds_catalog.specs.Scans.{bad_record};
+ghost use Rattle.cds_server.specs.Serving.{StandsFor, Scanned, IsOfWhole};
 ghost use Rattle.cds_server.specs.Replies.{Replied};
 
 use crate::replying::reply;
@@ -11,6 +12,7 @@ use cds_base::{Bytes, Mem};
 use cds_gena::{Address, Book};
 use cds_http::Message;
 use cds_object::Records;
+use cds_scan::Scan;
 use cds_store::{ApplyError, Span, Store};
 use std::alloc::Global;
 use std::marker::Model;
@@ -74,7 +76,8 @@ impl Server {
     }
 
     /// Takes what a scan found as the whole library, at a moment in milliseconds, and answers the numbers of its changes. The
-    /// refusals are the store's. A refusal, or want of memory, leaves the server as it was.
+    /// refusals are the store's: `BadRecords` comes only where a record cannot stand. A refusal, or want of memory, leaves the
+    /// server as it was.
     pub fn accept_records(
         &mut self,
         alloc: Global,
@@ -84,11 +87,30 @@ impl Server {
         requires { length records.now < 2 ^ 32 }
         ensures scanned { (start : Start) (commands : List Command) → StandsFor self.old start commands
             → Scanned start commands records.now result self.old self.new }
+        ensures whole { bad_record records.now ≡ None → IfErr result IsOfWhole }
         ensures kept { OnErr result (self.new ≡ self.old) }
     {
         let _ = now;
         self.store.facts();
         self.store.apply(alloc, records)
+    }
+
+    /// Takes what a scan of a folder found as the whole library, at a moment in milliseconds, and answers the numbers of its
+    /// changes. The refusals are the store's; a scan that `cds_scan` gave has no record that cannot stand, so `BadRecords` does
+    /// not come of it. A refusal, or want of memory, leaves the server as it was.
+    pub fn accept_scan(
+        &mut self,
+        alloc: Global,
+        now: u64,
+        scan: &Scan,
+    ) -> Result<Span, ApplyError>
+        requires { length scan.now.records < 2 ^ 32 }
+        ensures scanned { (start : Start) (commands : List Command) → StandsFor self.old start commands
+            → Scanned start commands scan.now.records result self.old self.new }
+        ensures whole { bad_record scan.now.records ≡ None → IfErr result IsOfWhole }
+        ensures kept { OnErr result (self.new ≡ self.old) }
+    {
+        self.accept_records(alloc, now, &scan.records)
     }
 
     /// The number of the last change, or the first number (UPnP ContentDirectory:4 on SystemUpdateID).
