@@ -15,6 +15,7 @@ pub mod Listings
 pub mod Ordered
 pub mod Pages
 pub mod Placing
+pub mod Replies
 pub mod Runs
 pub mod NewOnes
 pub mod Turning

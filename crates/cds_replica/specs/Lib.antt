@@ -13,5 +13,6 @@ pub mod NewChanges
 pub mod Order
 pub mod Outlines
 pub mod Phases
+pub mod Replies
 pub mod State
 pub mod Steps

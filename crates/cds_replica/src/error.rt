@@ -3,7 +3,8 @@ use thiserror::Error;
 /// Why a reply was not taken. The replica is as before then.
 #[derive(Clone, Copy, Debug, PartialEq, Eq, Error)]
 pub enum AnswerError {
-    /// The reply is of another kind than the ask, or not one row where an object's row was asked.
+    /// The bytes are no reply that answers the ask, or a page in them is no DIDL-Lite document; or the reply is of another kind
+    /// than the ask, or not one row where an object's row was asked.
     #[error("the reply does not answer what was asked")]
     Unreadable,
     /// The first change above the number of a load, of those that notes told meanwhile, is not the one after it.

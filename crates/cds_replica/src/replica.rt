@@ -1,12 +1,15 @@
-ghost use Rattle.std.specs.Prelude.{◌≡◌, [], List, ◌∷◌, map, IsOk, IfOk, IfSome, IsSome, IsTrue, OnErr, option_copied, slice_get};
+ghost use Rattle.std.specs.Prelude.{◌≡◌, [], List, ◌∷◌, ◌++◌, None, map, IsOk, IfOk, IfSome, IsSome, IsTrue, OnOk, OnErr, option_copied, slice_get, codes};
 ghost use Rattle.std.specs.List.{filter_map};
 ghost use Rattle.std.specs.Option.{option_map};
 ghost use Rattle.cds_follow.specs.Copy.{shown_row};
 ghost use Rattle.cds_follow.specs.Inbox.{ReplicaTurn, Begins, Shows, Requests, Accepts, Refuses, Delivers, is_out, accepted, arrival, taken_by};
-ghost use Rattle.cds_follow.specs.Follow.{known_by, next_ask, says, copied, with_notes, with_reply};
+ghost use Rattle.cds_follow.specs.Follow.{CannotBeRead, known_by, next_ask, says, copied, with_notes, with_reply};
 ghost use Rattle.cds_follow.specs.Seen.{WasShown};
+ghost use Rattle.cds_exchange.specs.Asking.{action_of};
+ghost use Rattle.cds_soap.specs.Written.{written_action};
 ghost use Rattle.cds_replica.specs.Answer.{read_of};
 ghost use Rattle.cds_replica.specs.Attempted.{AsksByAttempt, TakesByAttempt, SaysByAttempt, CopiesByAttempt};
+ghost use Rattle.cds_replica.specs.Replies.{IsNextReading, TakesRead, TakesReply, AnswersReply, IsRead, WhereShown, AnswersGiven};
 ghost use Rattle.cds_replica.specs.Calls.{GoesOn, TakesTurn, HoldsFew, IsNotice, IsAcceptance, IsAnswer, UnlessNoMemory, UnlessMem, IsTaking, IsDelivered, of_notes, refusal_of};
 ghost use Rattle.cds_replica.specs.Inboxed.{arrival_in, follows, followers, taken_early, with_name, with_next};
 ghost use Rattle.cds_replica.specs.Honest.{TakesGiven, HearsGiven, AcceptsGiven, SaysGiven, CompletesGiven};
@@ -20,11 +23,13 @@ use crate::knowledge::Knowledge;
 use crate::note::{Note, Sid, Taken};
 use crate::{AnswerError, NotifyError};
 use cds_base::Mem;
+use cds_exchange::read_reply;
 use cds_follow::Says;
 use cds_load::{Ask, Read, Shown};
 use cds_object::Row;
 use std::alloc::Global;
 use std::marker::Model;
+use url::Url;
 
 /// A copy of a server's catalog that goes on with the notes of a subscription, or the load that is to give one. It stands for
 /// the turns that it took, the newest first, though it keeps none of them: a load that was begun, a reply, a subscribe
@@ -202,6 +207,60 @@ impl Replica {
         ensures attempt { AsksByAttempt self.now result }
     {
         self.known.next_ask()
+    }
+
+    /// Appends the control request of an ask, to an `http` address (UPnP Device Architecture 2.0 on control). A refusal leaves
+    /// `out` as it was.
+    pub fn ask_bytes(ask: &Ask, url: &Url, out: &mut Vec<u8>) -> Result<(), Mem>
+        requires http { url.now.scheme ≡ codes "http" }
+        ensures ok { OnOk result (out.new.items ≡ out.old.items ++ written_action (action_of ask.now) url.now) }
+        ensures err { OnErr result (out.new.items ≡ out.old.items) }
+    {
+        cds_exchange::ask_bytes(ask, url, out)
+    }
+
+    /// Takes the bytes of the reply to the next ask, condition: there is one. It does what `take` does with what they show;
+    /// where they are no reply that answers the ask, or a page in them is no DIDL-Lite document, it answers `Unreadable`. What
+    /// is behind the reply is passed over. A refusal leaves the replica as it was.
+    pub fn answer(&mut self, alloc: Global, reply: &[u8]) -> Result<Read, AnswerError>
+        requires { IsSome (phase_ask self.old.known.phase) }
+        ensures unchanged { OnErr result (self.new ≡ self.old) }
+        ensures reads { IsRead (phase_ask self.old.known.phase) reply.now result }
+        ensures unreadable { IsNextReading (phase_ask self.old.known.phase) reply.now None → IsAnswer CannotBeRead result }
+        ensures stands { UnlessMem result (TakesReply self.old reply.now self.new) }
+        ensures answer { AnswersReply self.old reply.now result }
+        ensures read { WhereShown (phase_ask self.old.known.phase) reply.now (λ shown. IfOk result (λ read. read ≡ read_of shown)) }
+        ensures given { AnswersGiven self.old reply.now self.new result }
+        ensures attempt { WhereShown (phase_ask self.old.known.phase) reply.now (λ shown. TakesByAttempt self.old shown result) }
+        ensures few { HoldsFew self.new }
+    {
+        cds_exchange::laws::readings_are_one();
+        self.facts();
+        match self.read_next(alloc, reply) {
+            Ok(read) => self.take_read(alloc, read),
+            Err(_) => Err(AnswerError::Mem),
+        }
+    }
+
+    /// Takes what was read of the bytes of a reply, or refuses them where that is nothing.
+    fn take_read(&mut self, alloc: Global, read: Option<Shown>) -> Result<Read, AnswerError>
+        requires { IsSome (phase_ask self.old.known.phase) }
+        ensures { TakesRead self.old read self.new result }
+    {
+        match read {
+            Some(shown) => self.take(alloc, shown),
+            None => Err(AnswerError::Unreadable),
+        }
+    }
+
+    /// What the bytes of a reply show to the next ask.
+    fn read_next(&self, alloc: Global, reply: &[u8]) -> Result<Option<Shown>, Mem>
+        ensures { IfOk result (λ read. IsNextReading (phase_ask self.now.known.phase) reply.now read) }
+    {
+        match self.next_ask() {
+            Some(ask) => read_reply(alloc, &ask, reply),
+            None => Ok(None),
+        }
     }
 
     /// Takes the reply to the next ask, condition: there is one. A refusal leaves the replica as it was. `Unreadable` comes
