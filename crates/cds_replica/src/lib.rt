@@ -40,3 +40,5 @@ mod note_tests;
 mod served;
 #[cfg(test)]
 mod tests;
+#[cfg(test)]
+mod wire;

@@ -1,4 +1,5 @@
-use crate::served::{Object, reply_to, root, track_of};
+use crate::served::{Object, root, track_of};
+use crate::wire::exchange;
 use crate::{Note, NotifyError, Read, Replica, Says, Sid, Taken};
 use cds_base::Mem;
 use cds_event::{Class, Event, Events};
@@ -172,7 +173,7 @@ fn write_answer(alloc: Global, replica: &Replica, out: &mut String) -> Result<()
     Ok(())
 }
 
-/// Answers the next ask, so often.
+/// Answers the next ask, so often, each as bytes.
 fn read(
     alloc: Global,
     replica: &mut Replica,
@@ -182,15 +183,10 @@ fn read(
 ) -> Result<(), Fail> {
     let objects = objects_of(alloc, server)?;
     for _ in 0..times {
-        match replica.next_ask() {
+        match exchange(alloc, replica, objects.as_slice(), number_of(server))? {
             None => out.push_str("none ")?,
-            Some(ask) => {
-                let shown = reply_to(alloc, objects.as_slice(), number_of(server), ask)?;
-                match replica.take(alloc, shown)? {
-                    Read::Ok => out.push_str("ok ")?,
-                    Read::Fault { code } => out.push_str(&format!(in alloc; "{code} ")?)?,
-                }
-            }
+            Some(Read::Ok) => out.push_str("ok ")?,
+            Some(Read::Fault { code }) => out.push_str(&format!(in alloc; "{code} ")?)?,
         }
     }
     Ok(())
