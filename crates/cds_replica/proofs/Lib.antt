@@ -17,6 +17,7 @@ pub mod Pages
 pub mod Placing
 pub mod Replies
 pub mod Runs
+pub mod ShownIn
 pub mod NewOnes
 pub mod Turning
 pub mod Waiting

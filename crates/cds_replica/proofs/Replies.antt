@@ -44,14 +44,14 @@ turns-one law kept bytes read other turns stood is also =
     next-one law (next_ask (known_by turns)) bytes read other (subst (λ (ask : Option Ask). IsNextReading ask bytes read) (ask-is kept turns stood) is) also
 
 -- a fact that holds unless memory ran out
-unless : {P Q : Type 0} (result : Result Read AnswerError) → (P → Q) → UnlessMem result P → UnlessMem result Q
+pub unless : {P Q : Type 0} (result : Result Read AnswerError) → (P → Q) → UnlessMem result P → UnlessMem result Q
 unless (Ok read) f p = f p
 unless (Err Unreadable) f p = f p
 unless (Err (Jump expected first)) f p = f p
 unless (Err (Torn id)) f p = f p
 unless (Err Mem) f p = tt
 
-always : {P : Type 0} (result : Result Read AnswerError) → P → UnlessMem result P
+pub always : {P : Type 0} (result : Result Read AnswerError) → P → UnlessMem result P
 always (Ok read) p = p
 always (Err Unreadable) p = p
 always (Err (Jump expected first)) p = p

@@ -14,5 +14,6 @@ pub mod Order
 pub mod Outlines
 pub mod Phases
 pub mod Replies
+pub mod ShownIn
 pub mod State
 pub mod Steps

@@ -10,6 +10,7 @@ ghost use Rattle.cds_soap.specs.Written.{written_action};
 ghost use Rattle.cds_replica.specs.Answer.{read_of};
 ghost use Rattle.cds_replica.specs.Attempted.{AsksByAttempt, TakesByAttempt, SaysByAttempt, CopiesByAttempt};
 ghost use Rattle.cds_replica.specs.Replies.{IsNextReading, TakesRead, TakesReply, AnswersReply, IsRead, WhereShown, AnswersGiven};
+ghost use Rattle.cds_replica.specs.ShownIn.{GoesOnIn, WasReplied};
 ghost use Rattle.cds_replica.specs.Calls.{GoesOn, TakesTurn, HoldsFew, IsNotice, IsAcceptance, IsAnswer, UnlessNoMemory, UnlessMem, IsTaking, IsDelivered, of_notes, refusal_of};
 ghost use Rattle.cds_replica.specs.Inboxed.{arrival_in, follows, followers, taken_early, with_name, with_next};
 ghost use Rattle.cds_replica.specs.Honest.{TakesGiven, HearsGiven, AcceptsGiven, SaysGiven, CompletesGiven};
@@ -228,6 +229,7 @@ impl Replica {
         ensures reads { IsRead (phase_ask self.old.known.phase) reply.now result }
         ensures unreadable { IsNextReading (phase_ask self.old.known.phase) reply.now None → IsAnswer CannotBeRead result }
         ensures stands { UnlessMem result (TakesReply self.old reply.now self.new) }
+        ensures goes { UnlessMem result (GoesOnIn self.old reply.now self.new) }
         ensures answer { AnswersReply self.old reply.now result }
         ensures read { WhereShown (phase_ask self.old.known.phase) reply.now (λ shown. IfOk result (λ read. read ≡ read_of shown)) }
         ensures given { AnswersGiven self.old reply.now self.new result }
@@ -304,6 +306,7 @@ impl Replica {
         ensures kept { option_copied result ≡ slice_get (phase_rows self.now.known.phase) at }
         ensures row { (turns : List ReplicaTurn) → StandsFor self.now turns → option_copied result ≡ slice_get (copied (known_by turns)) at }
         ensures shown { (turns : List ReplicaTurn) → StandsFor self.now turns → IfSome result (λ row. WasShown row.now turns) }
+        ensures replied { IfSome result (λ row. WasReplied self.now row.now) }
     {
         self.known.row(at)
     }

@@ -1,4 +1,5 @@
 use Rattle.cds_replica.proofs.Replies.{reply-unchanged, reply-read, reply-unreadable, reply-stands, reply-answers, reply-reads, reply-given, reply-attempts, reply-few}
+use Rattle.cds_replica.proofs.ShownIn.{reply-goes}
 use Rattle.cds_replica.proofs.replica.Replica.answer.Goals as goal
 
 pub returns-in-Ok-clause-unchanged : goal.returns-in-Ok-clause-unchanged
@@ -33,3 +34,7 @@ returns-in-Ok-clause-attempt c =
 
 pub returns-in-Ok-clause-few : goal.returns-in-Ok-clause-few
 returns-in-Ok-clause-few c = reply-few c.args.self.now c.take_read.new.self c.in-Ok.read c.take_read.result c.facts.ensures c.take_read.ensures
+
+pub returns-in-Ok-clause-goes : goal.returns-in-Ok-clause-goes
+returns-in-Ok-clause-goes c =
+    reply-goes c.args.self.now c.take_read.new.self c.args.reply.now c.in-Ok.read c.take_read.result c.in-Ok.ensures c.take_read.ensures

@@ -5,6 +5,7 @@ use Rattle.cds_replica.specs.Steps.{phase_rows}
 use Rattle.cds_replica.specs.State.{ReplicaState}
 use Rattle.cds_replica.proofs.Keeping.{rows-kept}
 use Rattle.cds_replica.proofs.Attempted.{rows-shown}
+use Rattle.cds_replica.proofs.ShownIn.{rows-replied}
 use Rattle.cds_replica.proofs.replica.Replica.rows.Goals as goal
 
 pub returns-clause-row : goal.returns-clause-row
@@ -13,3 +14,6 @@ returns-clause-row c turns stood =
 
 pub returns-clause-shown : goal.returns-clause-shown
 returns-clause-shown c turns stood = rows-shown c.args.self.now c.args.at c.row.result turns (returns-clause-row c) stood
+
+pub returns-clause-replied : goal.returns-clause-replied
+returns-clause-replied c = rows-replied c.args.self.now c.args.at c.row.result (returns-clause-row c)
