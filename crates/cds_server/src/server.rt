@@ -98,12 +98,7 @@ impl Server {
     /// Takes what a scan of a folder found as the whole library, at a moment in milliseconds, and answers the numbers of its
     /// changes. The refusals are the store's; a scan that `cds_scan` gave has no record that cannot stand, so `BadRecords` does
     /// not come of it. A refusal, or want of memory, leaves the server as it was.
-    pub fn accept_scan(
-        &mut self,
-        alloc: Global,
-        now: u64,
-        scan: &Scan,
-    ) -> Result<Span, ApplyError>
+    pub fn accept_scan(&mut self, alloc: Global, now: u64, scan: &Scan) -> Result<Span, ApplyError>
         requires { length scan.now.records < 2 ^ 32 }
         ensures scanned { (start : Start) (commands : List Command) → StandsFor self.old start commands
             → Scanned start commands scan.now.records result self.old self.new }
