@@ -1,0 +1,11 @@
+# For benchmarks that build a program in a folder of its own: gather TOP WORK CRATE copies a crate with those below it.
+gather() {
+    local top=$1 work=$2 name=$3 below
+    if [ -d "$work/crates/$name" ]; then return; fi
+    mkdir -p "$work/crates"
+    tar -C "$top/crates" --exclude=out --exclude=must-fail -cf - "$name" | tar -C "$work/crates" -xf -
+    grep "^$name:" "$top/crates.txt" >>"$work/crates.txt"
+    for below in $(sed -n "s/^$name://p" "$top/crates.txt"); do
+        if [ -d "$top/crates/$below" ]; then gather "$top" "$work" "$below"; fi
+    done
+}
