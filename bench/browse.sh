@@ -215,7 +215,7 @@ fn word(rt: &HostRuntime, at: usize) -> u32 {
 }
 
 /// What the words of the command say.
-fn words(rt: &HostRuntime) -> Words {
+fn words_of(rt: &HostRuntime) -> Words {
     Words {
         tracks: word(rt, 1),
         each: word(rt, 2),
@@ -246,7 +246,7 @@ fn told(
 }
 
 fn main(rt: HostRuntime) -> Result<(), anyhow::Error> {
-    let words = words(&rt);
+    let words = words_of(&rt);
     let mut server = scanned(rt.alloc(), &words)?;
     let text = request(rt.alloc(), &words)?;
     let message = message(rt.alloc(), text.as_str())?;
