@@ -168,9 +168,9 @@ for _ in range(10):
     theirs.append(int(run([f"{work}/page", str(times)], f"{work}/texts")[1]))
 write, read, c = min(t[0] for t in ours), min(t[1] for t in ours), min(theirs)
 rate = lambda taken: times * len(page) * 1000 / taken
-print(f"a page of 256 rows, {len(page)} bytes: written at {rate(write):.0f} MB/s, by the C program at {rate(c):.0f}: {c / write:.2f} of its pace; read at {rate(read):.0f} MB/s")
+print(f"a page of 256 rows, {len(page)} bytes: written at {rate(write):.0f} MB/s, by the C program at {rate(c):.0f}: {c / write:.2f} of its pace (goal: at least 0.5); read at {rate(read):.0f} MB/s")
 large = f"{work}/large"
 pairs = [(once([program], large)[1], once(["xmllint", "--noout", "-"], large)[1]) for _ in range(10)]
 one, other = (sum(p[k] for p in pairs) / len(pairs) for k in (0, 1))
-print(f"a document of 25,600 rows, {os.path.getsize(large) / 1e6:.1f} MB: read in {one * 1000:.0f} ms user, xmllint --noout takes {other * 1000:.0f}: {one / other:.2f} times its user time")
+print(f"a document of 25,600 rows, {os.path.getsize(large) / 1e6:.1f} MB: read in {one * 1000:.0f} ms user, xmllint --noout takes {other * 1000:.0f}: {one / other:.2f} times its user time (goal: at most 2)")
 PY

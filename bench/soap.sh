@@ -294,9 +294,9 @@ for _ in range(10):
     theirs.append(run([f"{work}/reply", str(times)])[0][1] / times)
 write, read, message, action = (min(taken) for taken in zip(*ours))
 c = min(theirs)
-print(f"an answer with a page of {page} bytes, {reply} in all: written at {reply / write * 1000:.0f} MB/s, by the C program at {reply / c * 1000:.0f}: {write / c:.2f} times its time; read at {reply / read * 1000:.0f} MB/s")
+print(f"an answer with a page of {page} bytes, {reply} in all: written at {reply / write * 1000:.0f} MB/s, by the C program at {reply / c * 1000:.0f}: {write / c:.2f} times its time (goal: at most 2); read at {reply / read * 1000:.0f} MB/s")
 calls = f"{work}/calls"
 users = [once(["xmllint", "--noout", "--stream", calls], calls)[1] for _ in range(5)]
 each = sum(users) / len(users) / os.path.getsize(calls) * 1e9
-print(f"a Browse request of {body} bytes in its body: its message in {message / 1000:.2f} us, what it asks for in {action / 1000:.2f} us, {action / body:.1f} ns a byte; xmllint --noout --stream takes {each:.1f}: {action / body / each:.2f} times its time")
+print(f"a Browse request of {body} bytes in its body: its message in {message / 1000:.2f} us, what it asks for in {action / 1000:.2f} us, {action / body:.1f} ns a byte; xmllint --noout --stream takes {each:.1f}: {action / body / each:.2f} times its time (goal: at most 2)")
 PY
