@@ -74,6 +74,7 @@ fn play<S: Source, K: Sink>(alloc: Global, source: &mut S, sink: &mut K) -> u8
         Err(ReplayError::WriteFault) => 3,
         Err(ReplayError::Mem) => 4,
         Err(ReplayError::Limit) => 6,
+        Err(ReplayError::Refused { .. }) => unreachable!(),
     }
 }
 

@@ -13,6 +13,9 @@ use cds_base::{Mem, put};
 use cds_object::Row;
 use std::alloc::Global;
 
+/// For how many bytes a row room is taken first, so that a page is seldom moved as it grows.
+const ROW_LENGTH: usize = 640;
+
 /// Appends the element of a row, with the properties that the filter lets through. The place of a track's bytes is the
 /// base, which is escaped, `/media/` and the id. A refusal leaves `out` as it was.
 pub fn write_fragment(row: &Row, filter: &Filter, base: &str, out: &mut Vec<u8>) -> Result<(), Mem>
@@ -21,7 +24,7 @@ pub fn write_fragment(row: &Row, filter: &Filter, base: &str, out: &mut Vec<u8>)
 {
     let mut text = String::new(*out.allocator());
     put_row(&mut text, row, filter, base)?;
-    append(text.as_str(), out)
+    append(text, out)
 }
 
 /// Puts the element of a row as a report has it, with every property and an empty base. After a refusal the text has a part
@@ -42,15 +45,19 @@ pub fn write_didl(rows: &[Row], filter: &Filter, base: &str, out: &mut Vec<u8>) 
     ensures err { OnErr result (out.new.items ≡ out.old.items) }
 {
     let text = didl_text(*out.allocator(), rows, filter, base)?;
-    append(text.as_str(), out)
+    append(text, out)
 }
 
-/// Appends a text. A refusal leaves `out` as it was.
-fn append(text: &str, out: &mut Vec<u8>) -> Result<(), Mem>
-    ensures ok { OnOk result (out.new.items ≡ out.old.items ++ text.now) }
+/// Appends a text; where nothing is there it takes its place, with no copy. A refusal leaves `out` as it was.
+fn append(text: String, out: &mut Vec<u8>) -> Result<(), Mem>
+    ensures ok { OnOk result (out.new.items ≡ out.old.items ++ string_bytes text) }
     ensures err { OnErr result (out.new.items ≡ out.old.items) }
 {
-    out.extend_from_slice(text.as_bytes())?;
+    if out.is_empty() {
+        *out = text.into_bytes();
+    } else {
+        out.extend_from_slice(text.as_bytes())?;
+    }
     Ok(())
 }
 
@@ -61,6 +68,7 @@ fn didl_text(alloc: Global, rows: &[Row], filter: &Filter, base: &str) -> Result
     ensures ranged { OnOk result (AllByRecursion HasRanges rows.now) }
 {
     let mut text = String::new(alloc);
+    text.reserve(rows.len().saturating_mul(ROW_LENGTH))?;
     put_didl_start(&mut text)?;
     put_rows(&mut text, rows, filter, base)?;
     put_didl_end(&mut text)?;

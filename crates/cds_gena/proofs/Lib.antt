@@ -3,3 +3,7 @@ pub mod Granted
 pub mod Delivered
 pub mod Commands
 pub mod Served
+pub mod Visible
+pub mod Callbacks
+pub mod Requests
+pub mod Leases

@@ -212,7 +212,7 @@ fn seconds_in(text: &[u8]) -> u32
 }
 
 /// The seconds that a TIMEOUT grants that may be missing.
-fn seconds_of(text: Option<&[u8]>) -> u32
+pub(crate) fn seconds_of(text: Option<&[u8]>) -> u32
     ensures { result ≡ seconds_of (option_map (λ x. x.now) text.entry) }
 {
     match text {

@@ -2,6 +2,7 @@
 
 ghost use Rattle.cds_gena.specs.Served as served;
 ghost use Rattle.cds_gena.specs.SubscribedLaws as laws;
+ghost use Rattle.cds_gena.specs.WrittenLaws as written;
 
 /// Before any command nothing is granted.
 pub fn nothing_is_granted_at_first()
@@ -61,4 +62,30 @@ pub fn names_are_of_numbers()
 /// The text of a SID is read as its name.
 pub fn names_are_read_back()
     ensures { served.names_are_read_back }
+{}
+
+/// What `write_subscribe` writes is read, whatever comes behind it, as a SUBSCRIBE request to its address for a subscription with
+/// this callback for 1,800 seconds, where its head is within the limit of a head.
+pub fn subscribes_are_read()
+    ensures { written.subscribes_are_read }
+{}
+
+/// So is what `write_renewal` writes, as the renewal of this subscription for 1,800 seconds.
+pub fn renewals_are_read()
+    ensures { written.renewals_are_read }
+{}
+
+/// And what `write_unsubscribe` writes, as the end of this subscription.
+pub fn unsubscribes_are_read()
+    ensures { written.unsubscribes_are_read }
+{}
+
+/// A written reply that grants a name for 1,800 to 86,400 seconds is read as that.
+pub fn leases_are_read()
+    ensures { written.leases_are_read }
+{}
+
+/// A reply with another status than 200 grants nothing.
+pub fn others_grant_nothing()
+    ensures { written.others_grant_nothing }
 {}

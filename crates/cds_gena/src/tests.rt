@@ -1,5 +1,6 @@
 use crate::{
-    Addresses, Book, Gena, GenaError, Sid, asks_of_subscription, is_deliverable, read_gena,
+    Addresses, Book, Gena, GenaError, Lease, Sid, asks_of_subscription, is_deliverable, read_gena,
+    read_lease, write_renewal, write_subscribe, write_unsubscribe,
 };
 use cds_base::Mem;
 use cds_http::{HttpError, Message, MessageReader, Side};
@@ -300,5 +301,125 @@ fn requests_are_taken_or_refused(rt: HostRuntime) -> Result<(), Fail> {
     }
     let other = request(alloc, "POST /event HTTP/1.1\r\n\r\n")?;
     assert!(rt; !asks_of_subscription(&other));
+    Ok(())
+}
+
+/// Addresses, callbacks, and the request for a subscription.
+const WRITTEN: [(&str, &str, &str); 3] = [
+    (
+        "http://10.0.0.2:49152/event",
+        "http://10.0.0.9:49153/notify",
+        "SUBSCRIBE /event HTTP/1.1\r\nHOST: 10.0.0.2:49152\r\nCALLBACK: <http://10.0.0.9:49153/notify>\r\nNT: upnp:event\r\nTIMEOUT: Second-1800\r\nCONTENT-LENGTH: 0\r\nCONNECTION: close\r\n\r\n",
+    ),
+    (
+        "HTTP://Host.Example:80?a=b#c",
+        "http://user:word@[::1]:8080/a b?x=<y>",
+        "SUBSCRIBE /?a=b HTTP/1.1\r\nHOST: host.example\r\nCALLBACK: <http://user:word@[::1]:8080/a%20b?x=%3Cy%3E>\r\nNT: upnp:event\r\nTIMEOUT: Second-1800\r\nCONTENT-LENGTH: 0\r\nCONNECTION: close\r\n\r\n",
+    ),
+    (
+        "http://[::1]/",
+        "http://h#>",
+        "SUBSCRIBE / HTTP/1.1\r\nHOST: [::1]\r\nCALLBACK: <http://h/#%3E>\r\nNT: upnp:event\r\nTIMEOUT: Second-1800\r\nCONTENT-LENGTH: 0\r\nCONNECTION: close\r\n\r\n",
+    ),
+];
+
+/// A renewal at the first address, and an end.
+const RENEWAL: &str =
+    "SUBSCRIBE /event HTTP/1.1\r\nHOST: 10.0.0.2:49152\r\nSID: uuid:00000000-0000-8000-8000-000000000001\r\nTIMEOUT: Second-1800\r\nCONTENT-LENGTH: 0\r\nCONNECTION: close\r\n\r\n";
+
+const END: &str =
+    "UNSUBSCRIBE /event HTTP/1.1\r\nHOST: 10.0.0.2:49152\r\nSID: uuid:00000000-0000-8000-8000-000000000001\r\nCONTENT-LENGTH: 0\r\nCONNECTION: close\r\n\r\n";
+
+/// Replies, and for how many seconds they grant the name of number 1.
+const REPLIES: [(&str, Option<u32>); 10] = [
+    (
+        "HTTP/1.1 200 OK\r\nSID: uuid:00000000-0000-8000-8000-000000000001\r\nTIMEOUT: Second-3600\r\nCONTENT-LENGTH: 0\r\n\r\n",
+        Some(3_600),
+    ),
+    (
+        "HTTP/1.1 200 Yes\r\ntimeout: SECOND-90000\r\nsid: uuid:00000000000080008000000000000001\r\n\r\n",
+        Some(86_400),
+    ),
+    (
+        "HTTP/1.1 200 OK\r\nSID: uuid:00000000-0000-8000-8000-000000000001\r\nTIMEOUT: Second-1799\r\nTIMEOUT: Second-3600\r\n\r\n",
+        Some(1_800),
+    ),
+    (
+        "HTTP/1.1 200 OK\r\nSID: uuid:00000000-0000-8000-8000-000000000001\r\nTIMEOUT: Second-infinite\r\n\r\n",
+        Some(1_800),
+    ),
+    (
+        "HTTP/1.1 200 OK\r\nSID: uuid:00000000-0000-8000-8000-000000000001\r\n\r\n",
+        Some(1_800),
+    ),
+    ("HTTP/1.1 200 OK\r\nTIMEOUT: Second-3600\r\n\r\n", None),
+    (
+        "HTTP/1.1 200 OK\r\nSID: 00000000-0000-8000-8000-000000000001\r\nTIMEOUT: Second-3600\r\n\r\n",
+        None,
+    ),
+    (
+        "HTTP/1.1 200 OK\r\nSID: uuid:00000000-0000-8000-8000-000000000001\r\nSID: uuid:00000000-0000-8000-8000-000000000001\r\n\r\n",
+        None,
+    ),
+    (
+        "HTTP/1.1 201 OK\r\nSID: uuid:00000000-0000-8000-8000-000000000001\r\nTIMEOUT: Second-3600\r\n\r\n",
+        None,
+    ),
+    (
+        "HTTP/1.1 412 Precondition Failed\r\nCONTENT-LENGTH: 0\r\n\r\n",
+        None,
+    ),
+];
+
+/// An address.
+fn address(alloc: Global, text: &str) -> Result<Url, Fail> {
+    match Url::parse(alloc, text) {
+        Ok(url) => Ok(url),
+        Err(_) => Err(Fail::new("no URL")),
+    }
+}
+
+/// A reply, read.
+fn reply(alloc: Global, text: &str) -> Result<Message, HttpError> {
+    let mut reader = MessageReader::new(alloc, Side::Reply)?;
+    reader.feed(alloc, text.as_bytes())?;
+    reader.finish()
+}
+
+/// The name of number 1, where it is granted for so many seconds.
+fn granted(seconds: Option<u32>) -> Option<Lease> {
+    match seconds {
+        Some(seconds) => Some(Lease {
+            sid: Sid(NAMES + 1),
+            seconds,
+        }),
+        None => None,
+    }
+}
+
+#[test]
+fn requests_are_written_and_replies_read(rt: HostRuntime) -> Result<(), Fail> {
+    let alloc = rt.alloc();
+    for (text, callback, request) in WRITTEN {
+        let url = address(alloc, text)?;
+        let callback = address(alloc, callback)?;
+        if !is_deliverable(&url) || !is_deliverable(&callback) {
+            return Err(Fail::new("no address"));
+        }
+        let mut out = Vec::new(alloc);
+        write_subscribe(alloc, &url, &callback, &mut out)?;
+        assert_eq!(rt; out.as_slice(), request.as_bytes());
+    }
+    let url = address(alloc, WRITTEN[0].0)?;
+    let mut out = Vec::new(alloc);
+    write_renewal(alloc, &url, Sid(NAMES + 1), &mut out)?;
+    assert_eq!(rt; out.as_slice(), RENEWAL.as_bytes());
+    let mut out = Vec::new(alloc);
+    write_unsubscribe(alloc, &url, Sid(NAMES + 1), &mut out)?;
+    assert_eq!(rt; out.as_slice(), END.as_bytes());
+    for (text, seconds) in REPLIES {
+        let message = reply(alloc, text)?;
+        assert_eq!(rt; read_lease(&message), granted(seconds));
+    }
     Ok(())
 }

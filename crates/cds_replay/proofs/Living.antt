@@ -1,44 +1,16 @@
 -- A subscription lives where it was granted, has not run out and has a SEQ left.
-use Rattle.std.proofs.Common.{◌≡◌, ◌⊎◌, inl, inr, ◌+◌, ◌≤◌, ℕ, Bool, true, false, cond, ◌&&◌, ◌||◌, nat_eq, nat_lt, List, [], ◌∷◌, filter, Option, Some, None, is_some, refl, sym, ap, ◌∙◌, arith, true≢false, eqb-true, eq-eqb}
+use Rattle.std.proofs.Common.{◌≡◌, ◌⊎◌, inl, inr, ◌≤◌, ℕ, Bool, true, false, ◌&&◌, ◌||◌, nat_eq, nat_lt, List, [], ◌∷◌, filter, Option, Some, None, is_some, refl, sym, ap, ◌∙◌, arith, true≢false, eqb-true, eq-eqb}
 use Rattle.std.specs.List.{list_any, range_with_len}
-use Rattle.cds_commands.specs.Commands.{Command, Scans, Grants, Renews, Ends, Ticks, Stops}
-use Rattle.cds_commands.specs.Subscriptions.{granted, end_after, renewed_until, unless_past, runs_until, is_alive}
+use Rattle.cds_commands.specs.Commands.{Command}
+use Rattle.cds_commands.specs.Subscriptions.{granted, unless_past, runs_until, is_alive}
 use Rattle.cds_commands.specs.Notes.{next_seq_of, seq_limit, notes_of}
 use Rattle.cds_commands.proofs.Among.{Among, among-filter, among-row, filter-among}
+use Rattle.cds_gena.proofs.Commands.{runs-named}
 use Rattle.cds_script.specs.Report.{lives}
 
 past-runs : (moment : ℕ) (o : Option ℕ) → is_some (unless_past moment o) ≡ true → is_some o ≡ true
 past-runs moment None e = e
 past-runs moment (Some end) e = refl
-
--- one that has not run out was granted
-runs-named : (name : ℕ) (commands : List Command) → is_some (runs_until name commands) ≡ true → (1 ≤ name) × (name ≤ granted commands)
-runs-named name [] e = absurd (true≢false (sym e))
-runs-named name (Scans library ∷ older) e = runs-named name older e
-runs-named name (Grants moment callback seconds ∷ older) e = by (nat_eq name (granted older + 1)) refl e (λ d. runs-named name older d)
-  where
-    by : (b : Bool) → nat_eq name (granted older + 1) ≡ b → is_some (cond b (Some (end_after moment seconds)) (runs_until name older)) ≡ true
-        → (is_some (runs_until name older) ≡ true → (1 ≤ name) × (name ≤ granted older)) → (1 ≤ name) × (name ≤ granted older + 1)
-    by true h d r = let same = eqb-true name (granted older + 1) h in (omega (arith, same), omega (arith, same))
-    by false h d r = let low = (r d).0 in let high = (r d).1 in (low, omega (arith, high))
-runs-named name (Renews moment other seconds ∷ older) e = by (nat_eq name other) e (λ d. runs-named name older d)
-  where
-    still : (o : Option ℕ) → is_some (renewed_until (end_after moment seconds) o) ≡ true → is_some o ≡ true
-    still None d = d
-    still (Some end) d = refl
-
-    by : (b : Bool) → is_some (cond b (renewed_until (end_after moment seconds) (runs_until name older)) (runs_until name older)) ≡ true
-        → (is_some (runs_until name older) ≡ true → (1 ≤ name) × (name ≤ granted older)) → (1 ≤ name) × (name ≤ granted older)
-    by true d r = r (still (runs_until name older) d)
-    by false d r = r d
-runs-named name (Ends moment other ∷ older) e = by (nat_eq name other) e (λ d. runs-named name older d)
-  where
-    by : (b : Bool) → is_some (cond b None (runs_until name older)) ≡ true → (is_some (runs_until name older) ≡ true → (1 ≤ name) × (name ≤ granted older))
-        → (1 ≤ name) × (name ≤ granted older)
-    by true d r = absurd (true≢false (sym d))
-    by false d r = r d
-runs-named name (Stops ∷ older) e = runs-named name older e
-runs-named name (Ticks moment ∷ older) e = runs-named name older (past-runs moment (runs_until name older) e)
 
 any-among : (name : ℕ) (names : List ℕ) → Among name names → list_any (λ other. nat_eq other name) names ≡ true
 any-among name [] a = absurd a
@@ -78,3 +50,9 @@ living-alive first name now commands = by (passes name) refl
         (among-filter passes (range_with_len 1 (granted commands)) name (among-row 1 (granted commands) name low (omega (arith, high))) t)
     by false f = any-none name (filter passes (range_with_len 1 (granted commands)))
         (λ other a. other-name f other (filter-among passes (range_with_len 1 (granted commands)) other a).1 (nat_eq other name) refl)
+
+-- one that lives was granted
+pub lives-granted : (name first now : ℕ) (commands : List Command) → lives name first now commands ≡ true → name ≤ granted commands
+lives-granted name first now commands living =
+    (runs-named name commands (past-runs now (runs_until name commands)
+    (both-hold (is_alive name now commands) (nat_lt (next_seq_of name (notes_of first commands)) seq_limit) (sym (living-alive first name now commands) ∙ living)))).1

@@ -1,12 +1,12 @@
--- Notes that were sent are those that they were, whatever releases are added, and a new release's notes tell its events.
-use Rattle.std.proofs.Common.{◌≡◌, ◌+◌, ◌<◌, ℕ, zero, suc, List, [], ◌∷◌, ◌++◌, map, length, Option, Some, None, refl, ap, ◌∙◌, arith, length-append}
-use Rattle.std.specs.Prelude.{MatchOption, unwrap_or, slice_get}
-use Rattle.cds_event.specs.declared.Event.{Event}
-use Rattle.cds_catalog.proofs.StepsFind.{each-append, each-all, each-map, each-weaker}
-use Rattle.cds_replay.specs.declared.book.Subscription.{Subscription}
-use Rattle.cds_replay.specs.declared.sent.SentNote.{SentNote}
-use Rattle.cds_replay.specs.Serving.{note_to}
-use Rattle.cds_replay.specs.Sending.{events_at, told_note, IsKept, AreKept, kept_note}
+-- Notes that were sent are those that they were, whatever body is added, and new notes have the new body.
+use Rattle.std.proofs.Common.{◌≡◌, ◌+◌, ◌<◌, ℕ, zero, suc, List, [], ◌∷◌, ◌++◌, map, length, Option, Some, None, Bool, refl, ap, sym, subst, ◌∙◌, arith, length-append}
+use Rattle.std.specs.Prelude.{unwrap_or, slice_get, nat_eq, false, true, cond, ◌-◌}
+use Rattle.std.specs.List.{AllByRecursion}
+use Rattle.cds_catalog.proofs.StepsFind.{each-append, each-map, each-weaker}
+use Rattle.cds_gena.specs.declared.address.Address.{Address}
+use Rattle.cds_gena.specs.Subscribed.{IsDelivered}
+use Rattle.cds_replay.specs.declared.sent.KeptNote.{KeptNote}
+use Rattle.cds_replay.specs.Sending.{SentNote, note_at, IsKept, AreKept, kept_note, sent_to, sent_of, carries, is_request_of}
 
 -- ---- places of longer lists
 
@@ -25,50 +25,62 @@ map-append f (x ∷ xs) ys = ap (λ l. f x ∷ l) (map-append f xs ys)
 
 -- ---- the notes before
 
-module _ (releases : List (List Event)) (events : List Event) where
-  abbrev more : List (List Event)
-  more = releases ++ events ∷ []
+module _ (bodies : List (List ℕ)) (body : List ℕ) where
+  abbrev more : List (List ℕ)
+  more = bodies ++ body ∷ []
 
-  one-longer : length more ≡ length releases + 1
-  one-longer = let e = length-append releases (events ∷ []) in omega (arith, e)
+  one-longer : length more ≡ length bodies + 1
+  one-longer = let e = length-append bodies (body ∷ []) in omega (arith, e)
 
-  still-kept : (sent : SentNote) → IsKept (length releases) sent → IsKept (length more) sent
-  still-kept sent is = by sent.release is
-    where
-      by : (o : Option ℕ) → MatchOption o (Unit {0}) (λ at. at < length releases) → MatchOption o (Unit {0}) (λ at. at < length more)
-      by None l = tt
-      by (Some at) l = let e = one-longer in omega (arith, e, l)
+  still-kept : (kept : KeptNote) → IsKept (length bodies) kept → IsKept (length more) kept
+  still-kept kept is = let e = one-longer in let l = is.body in record { body = omega (arith, e, l); delivered = is.delivered }
 
-  same-events : (o : Option ℕ) → MatchOption o (Unit {0}) (λ at. at < length releases) → events_at more o ≡ events_at releases o
-  same-events None l = refl
-  same-events (Some at) l = ap (λ (e : Option (List Event)). unwrap_or e []) (got-before releases (events ∷ []) at l)
+  same-note : (kept : KeptNote) → IsKept (length bodies) kept → note_at more kept ≡ note_at bodies kept
+  same-note kept is = λ i. record { to = kept.to; number = kept.number; body = unwrap_or (got-before bodies (body ∷ []) kept.body is.body i) [] }
 
-  same-note : (sent : SentNote) → IsKept (length releases) sent → told_note more sent ≡ told_note releases sent
-  same-note sent is = λ i. record { name = sent.name; seq = sent.seq; number = sent.number; events = same-events sent.release is i }
+  same-notes : (kept : List KeptNote) → AreKept bodies kept → map (note_at more) kept ≡ map (note_at bodies) kept
+  same-notes [] is = refl
+  same-notes (k ∷ kept) is = λ i. same-note k is.0 i ∷ same-notes kept is.1 i
 
-  same-notes : (sent : List SentNote) → AreKept releases sent → map (told_note more) sent ≡ map (told_note releases) sent
-  same-notes [] kept = refl
-  same-notes (s ∷ sent) kept = λ i. same-note s kept.0 i ∷ same-notes sent kept.1 i
+  -- ---- the notes of a new body
 
-  -- ---- the notes of a new release
-
-  new-notes : (number : ℕ) (subscriptions : List Subscription) →
-      map (told_note more) (map (kept_note number (length releases)) subscriptions) ≡ map (note_to number events) subscriptions
+  new-notes : (number : ℕ) (to : List Address) → map (note_at more) (map (kept_note number (length bodies)) to) ≡ map (sent_to number body) to
   new-notes number [] = refl
-  new-notes number (s ∷ subscriptions) =
-      λ i. record { name = s.name; seq = s.next_seq; number = number; events = unwrap_or (got-last releases events i) [] } ∷ new-notes number subscriptions i
+  new-notes number (a ∷ to) =
+      λ i. record { to = a; number = number; body = unwrap_or (got-last bodies body i) [] } ∷ new-notes number to i
 
-  pub all-kept : (number : ℕ) (sent : List SentNote) (subscriptions : List Subscription) → AreKept releases sent →
-      AreKept more (sent ++ map (kept_note number (length releases)) subscriptions)
-  all-kept number sent subscriptions kept =
-      each-append (IsKept (length more)) sent (map (kept_note number (length releases)) subscriptions)
-      (each-weaker (IsKept (length releases)) (IsKept (length more)) still-kept sent kept)
-      (each-map (IsKept (length more)) (kept_note number (length releases)) subscriptions
-      (each-all (λ (s : Subscription). IsKept (length more) (kept_note number (length releases) s)) (λ s. let e = one-longer in omega (arith, e)) subscriptions))
+  pub all-kept : (number : ℕ) (kept : List KeptNote) (to : List Address) → AreKept bodies kept → AllByRecursion IsDelivered to →
+      AreKept more (kept ++ map (kept_note number (length bodies)) to)
+  all-kept number kept to is delivered =
+      each-append (IsKept (length more)) kept (map (kept_note number (length bodies)) to)
+      (each-weaker (IsKept (length bodies)) (IsKept (length more)) still-kept kept is)
+      (each-map (IsKept (length more)) (kept_note number (length bodies)) to
+      (each-weaker IsDelivered (λ (a : Address). IsKept (length more) (kept_note number (length bodies) a))
+      (λ a d. let e = one-longer in record { body = omega (arith, e); delivered = d }) to delivered))
 
-  pub all-told : (number : ℕ) (sent : List SentNote) (subscriptions : List Subscription) → AreKept releases sent →
-      map (told_note more) (sent ++ map (kept_note number (length releases)) subscriptions)
-      ≡ map (told_note releases) sent ++ map (note_to number events) subscriptions
-  all-told number sent subscriptions kept =
-      map-append (told_note more) sent (map (kept_note number (length releases)) subscriptions)
-      ∙ (λ i. same-notes sent kept i ++ new-notes number subscriptions i)
+  pub all-told : (number : ℕ) (kept : List KeptNote) (to : List Address) → AreKept bodies kept →
+      map (note_at more) (kept ++ map (kept_note number (length bodies)) to) ≡ map (note_at bodies) kept ++ map (sent_to number body) to
+  all-told number kept to is =
+      map-append (note_at more) kept (map (kept_note number (length bodies)) to)
+      ∙ (λ i. same-notes kept is i ++ new-notes number to i)
+
+-- ---- the note of a number
+
+sent-at : (bodies : List (List ℕ)) (kept : List KeptNote) (n : ℕ) (k : KeptNote) → slice_get kept n ≡ Some k →
+    slice_get (map (note_at bodies) kept) n ≡ Some (note_at bodies k)
+sent-at bodies [] n k is = absurd (cc)
+sent-at bodies (x ∷ kept) zero k is = let e : x ≡ k = cc in ap (λ one. Some (note_at bodies one)) e
+sent-at bodies (x ∷ kept) (suc n) k is = sent-at bodies kept n k is
+
+pub request-of : (bodies : List (List ℕ)) (kept : List KeptNote) (sent : List SentNote) (number : ℕ) (k : KeptNote) (body request : List ℕ) →
+    map (note_at bodies) kept ≡ sent → nat_eq number 0 ≡ false → slice_get kept (number - 1) ≡ Some k → slice_get bodies k.body ≡ Some body →
+    carries k.to body request → is_request_of (sent_of number sent) (Some request)
+request-of bodies kept sent number k body request is past at here goes =
+    subst (λ (o : Option SentNote). is_request_of o (Some request)) (sym found) goes
+  where
+    found : sent_of number sent ≡ Some (sent_to k.number body k.to)
+    found =
+        ap (λ (b : Bool). cond b None (slice_get sent (number - 1))) past
+        ∙ ap (λ (l : List SentNote). slice_get l (number - 1)) (sym is)
+        ∙ sent-at bodies kept (number - 1) k at
+        ∙ ap (λ (o : Option (List ℕ)). Some (sent_to k.number (unwrap_or o []) k.to)) here

@@ -1,8 +1,9 @@
+pub mod Events
+pub mod Flipped
 pub mod Lines
 pub mod Replay
 pub mod Script
 pub mod Sending
-pub mod Served
-pub mod Serving
-pub mod ServingLaws
 pub mod Session
+pub mod Wire
+pub mod Wired

@@ -1,5 +1,5 @@
 -- The lines of a report, by what the store and the replica answered.
-use Rattle.std.specs.Prelude.{ℕ, Bool, true, false, List, [], ◌++◌, map, Result, Ok, Err, codes}
+use Rattle.std.specs.Prelude.{◌+◌, ℕ, Bool, true, false, List, [], ◌∷◌, ◌++◌, map, Result, Ok, Err, codes}
 use Rattle.std.specs.List.{filter_map}
 use Rattle.cds_follow.specs.Copy.{shown_row}
 use Rattle.cds_replica.specs.CopyState.{KeptRow}
@@ -18,6 +18,7 @@ use Rattle.cds_replica.specs.declared.note.Taken.TheVariants.{Took, Repeat, Earl
 use Rattle.cds_replica.specs.declared.notify_error.NotifyError.{NotifyError}
 use Rattle.cds_replica.specs.declared.notify_error.NotifyError.TheVariants.{Unknown, Full as TooMany, Jump, Torn, Mem as NoMemory}
 use Rattle.cds_replay.specs.declared.sent.SentHead.{SentHead}
+use Rattle.cds_replay.specs.Sending.{SentNote, head_of}
 
 -- a line of a word and a number
 abbrev pub numbered_line : List ℕ → ℕ → List ℕ
@@ -89,7 +90,16 @@ was_noticed (Err (Jump expected first)) = true
 was_noticed (Err (Torn id)) = true
 was_noticed (Err NoMemory) = false
 
--- the line of what became of a subscription that was given up
-abbrev pub ended_text : Bool → List ℕ
-ended_text true = codes "unsubscribe 200\n"
-ended_text false = codes "unsubscribe 412\n"
+-- whether what a note told could be: the replica did not refuse it for its changes
+abbrev pub can_be_told : Result Taken NotifyError → Bool
+can_be_told (Ok taken) = true
+can_be_told (Err Unknown) = true
+can_be_told (Err (TooMany held)) = true
+can_be_told (Err (Jump expected first)) = false
+can_be_told (Err (Torn id)) = false
+can_be_told (Err NoMemory) = true
+
+-- the lines of notes that were sent, the first of which has this number
+abbrev pub sent_lines : ℕ → List SentNote → List ℕ
+sent_lines number [] = []
+sent_lines number (note ∷ notes) = note_line number (head_of note) ++ sent_lines (number + 1) notes

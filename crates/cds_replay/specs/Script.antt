@@ -1,25 +1,33 @@
 -- How a script goes on after its bytes so far, and how it ends.
-use Rattle.std.specs.Prelude.{◌≡◌, ℕ, ◌+◌, ◌-◌, ◌<◌, ◌≤◌, true, List, ◌++◌, length, Option, Some, None, codes}
+use Rattle.std.specs.Prelude.{◌≡◌, ℕ, Bool, ◌+◌, ◌-◌, ◌<◌, ◌≤◌, true, List, [], ◌++◌, length, Option, Some, None, codes}
 use Rattle.std.specs.Fmt.{decimal}
 use Rattle.cds_script.specs.declared.turn.Meaning.{Meaning}
-use Rattle.cds_script.specs.declared.turn.Turn.{Turn}
 use Rattle.cds_script.specs.Lines.{is_unbroken, line_limit, script_limit}
-use Rattle.cds_script.specs.Report.{Ending, written_first, ending_at, ending_of}
 use Rattle.cds_script.specs.Script.{moment_limit}
 use Rattle.cds_replay.specs.Session.{Playing, IsAfter, IsPlayed}
+use Rattle.cds_replay.specs.Wire.{WiredEnding, wired_first, EndsAtLine, EndsFrom, EndsOf, EndsOver}
+use Rattle.cds_replay.specs.Wired.{Step}
 use Rattle.cds_replay.specs.declared.script.Script.{Script}
 use Rattle.cds_replay.specs.declared.script.Stop.{Stop}
-use Rattle.cds_replay.specs.declared.script.Stop.TheVariants.{Outside, Limit}
+use Rattle.cds_replay.specs.declared.script.Stop.TheVariants.{Outside, Limit, Refused}
 
 -- the status of a script that stops before its last byte
 abbrev pub stop_status : Stop → ℕ
 stop_status (Outside line) = 1
 stop_status Limit = 6
+stop_status (Refused line) = 0
 
--- and the last line that it writes
+-- the last line that it writes, if it writes one
 abbrev pub stop_text : Stop → List ℕ
 stop_text (Outside line) = codes "error line " ++ decimal line ++ codes "\n"
 stop_text Limit = codes "error limit\n"
+stop_text (Refused line) = []
+
+-- and the line of which the replica refused what it gave
+abbrev pub stop_refused : Stop → Option ℕ
+stop_refused (Outside line) = None
+stop_refused Limit = None
+stop_refused (Refused line) = Some line
 
 -- how many bytes more a script may have
 abbrev pub left_in : Script → ℕ
@@ -27,52 +35,55 @@ left_in script = script.room - length script.partial.items
 
 -- what is true of a script that has not stopped: its last line has not ended and is within both limits; each record, each
 -- subscription and each line took at least one byte; its moment is one of a script, and its session stands for some turns
-pub record Sound (script : Script) : Type 0 where
+pub record Sound (carried : List ℕ → List ℕ) (script : Script) : Type 0 where
   pub whole : is_unbroken script.partial.items ≡ true
   pub short : length script.partial.items ≤ line_limit
   pub within : length script.partial.items ≤ script.room
   pub found : length script.session.found + script.room ≤ script_limit
-  pub granted : script.session.server.subscribed.granted + script.room ≤ script_limit
+  pub granted : script.session.server.book.subscribed.granted + script.room ≤ script_limit
   pub moment : script.session.clock < moment_limit
-  pub played : IsPlayed script.session
+  pub played : IsPlayed carried script.session
   pub lines : script.line + script.room ≤ script_limit + 1
 
--- whether a script goes on as a function of its other bytes says: its session stands for some turns, and its last line
--- and what comes after it are still to be taken
-pub record GoesOn (script : Script) (ending : List ℕ → Ending) : Type 0 where
-  pub turns : List Turn
-  pub after : IsAfter script.session turns
-  pub goes : (more : List ℕ) → ending more ≡ ending_of turns script.line script.room (script.partial.items ++ more)
-
--- a script took a piece but for a rest of it: what was added to the text is written, and it goes on after it
-pub record Went (ending : List ℕ → Ending) (piece rest old new : List ℕ) (script : Script) : Type 0 where
-  pub added : List ℕ
-  pub later : List ℕ → Ending
-  pub goes : GoesOn script later
-  pub out : new ≡ old ++ added
-  pub first : (more : List ℕ) → ending (piece ++ more) ≡ written_first added (later (rest ++ more))
-
--- a script ends with a stop: what was added to the text is all that it writes, the last line with it
-pub record EndsAt (ending : Ending) (stop : Stop) (old new : List ℕ) : Type 0 where
+-- how a script goes on whose bytes so far wrote this: they are those before its last line, and what has come of that line; its session
+-- stands for some steps, and the last line and what comes after it are still to be taken
+pub record GoesOn (carried : List ℕ → List ℕ) (script : Script) (before written : List ℕ) : Type 0 where
   pub front : List ℕ
-  pub out : new ≡ old ++ (front ++ stop_text stop)
-  pub ends : ending ≡ record { status = stop_status stop; text = front ++ stop_text stop }
+  pub parts : before ≡ front ++ script.partial.items
+  pub steps : List Step
+  pub after : IsAfter script.session steps
+  pub goes : (more : List ℕ) (later : WiredEnding) → EndsOf carried steps script.line script.room more later →
+      EndsOver carried (front ++ more) (wired_first written later)
 
--- a script ends well: what was added to the text is all that it writes
-pub record EndsWell (ending : Ending) (old new : List ℕ) : Type 0 where
+-- a script took a piece: what was added to the text is written, and it goes on after it
+pub record Went (carried : List ℕ → List ℕ) (before written piece old new : List ℕ) (script : Script) : Type 0 where
   pub added : List ℕ
+  pub goes : GoesOn carried script (before ++ piece) (written ++ added)
   pub out : new ≡ old ++ added
-  pub ends : ending ≡ record { status = 0; text = added }
 
--- what became of a script that took a piece but for a rest of it
-abbrev pub Fed : Option Stop → (List ℕ → Ending) → List ℕ → List ℕ → List ℕ → List ℕ → Script → Type 0
-Fed None ending piece rest old new script = Went ending piece rest old new script
-Fed (Some stop) ending piece rest old new script = (more : List ℕ) → EndsAt (ending (piece ++ more)) stop old new
+-- a script ends with these bytes, of which the first wrote this before: with a refusal or none, a status, and what was added to the
+-- text, and this at its end
+pub record EndsAt (carried : List ℕ → List ℕ) (bytes written : List ℕ) (refused : Option ℕ) (status : ℕ) (last old new : List ℕ) : Type 0 where
+  pub ending : WiredEnding
+  pub is : EndsOver carried bytes ending
+  pub front : List ℕ
+  pub out : new ≡ old ++ (front ++ last)
+  pub at : ending.refused ≡ refused
+  pub ends : ending.ending ≡ record { status = status; text = written ++ (front ++ last) }
+
+-- so with a stop
+abbrev pub StopsAt : (List ℕ → List ℕ) → List ℕ → List ℕ → Stop → List ℕ → List ℕ → Type 0
+StopsAt carried bytes written stop old new = EndsAt carried bytes written (stop_refused stop) (stop_status stop) (stop_text stop) old new
+
+-- what became of a script that took a piece
+abbrev pub Fed : (List ℕ → List ℕ) → Option Stop → List ℕ → List ℕ → List ℕ → List ℕ → List ℕ → Script → Type 0
+Fed carried None before written piece old new script = Went carried before written piece old new script
+Fed carried (Some stop) before written piece old new script = (more : List ℕ) → StopsAt carried ((before ++ piece) ++ more) written stop old new
 
 -- what became of a script whose last byte has come
-abbrev pub Finished : Option Stop → Ending → List ℕ → List ℕ → Type 0
-Finished None ending old new = EndsWell ending old new
-Finished (Some stop) ending old new = EndsAt ending stop old new
+abbrev pub Finished : (List ℕ → List ℕ) → Option Stop → List ℕ → List ℕ → List ℕ → List ℕ → Type 0
+Finished carried None bytes written old new = EndsAt carried bytes written None 0 [] old new
+Finished carried (Some stop) bytes written old new = StopsAt carried bytes written stop old new
 
 -- what holds of a script that has not stopped
 abbrev pub WhileGoing : Option Stop → Type 0 → Type 0
@@ -84,21 +95,36 @@ abbrev pub AtLimit : Option Stop → Type 0 → Type 0
 AtLimit None P = Unit {0}
 AtLimit (Some (Outside line)) P = Unit {0}
 AtLimit (Some Limit) P = P
+AtLimit (Some (Refused line)) P = Unit {0}
 
--- a line did what it means: the session stands for the turns with this one, and what the turn writes was added
-pub record LineTaken (turns : List Turn) (meaning : Meaning) (number : ℕ) (old new : List ℕ) (session : Playing) : Type 0 where
-  pub later : List Turn
+-- and where the replica refused what a line gave it
+abbrev pub AtRefusal : Option Stop → Type 0 → Type 0
+AtRefusal None P = Unit {0}
+AtRefusal (Some (Outside line)) P = Unit {0}
+AtRefusal (Some Limit) P = Unit {0}
+AtRefusal (Some (Refused line)) P = P
+
+-- what comes after a line: these lines, the first of which has the next number, and whether they are all
+abbrev pub Continued : (List ℕ → List ℕ) → ℕ → List (List ℕ) → Bool → List Step → WiredEnding → Type 0
+Continued carried number lines whole now later = EndsFrom carried now (number + 1) lines whole later
+
+-- a line did what it means: the session stands for the steps with this one, and what the turn writes was added
+pub record LineTaken (carried : List ℕ → List ℕ) (steps : List Step) (meaning : Meaning) (number : ℕ) (old new : List ℕ) (session : Playing) : Type 0 where
+  pub now : List Step
   pub added : List ℕ
-  pub after : IsAfter session later
+  pub after : IsAfter session now
   pub out : new ≡ old ++ added
-  pub first : (go_on : List Turn → Ending) → ending_at meaning turns number go_on ≡ written_first added (go_on later)
+  pub first : (lines : List (List ℕ)) (whole : Bool) (later : WiredEnding) → Continued carried number lines whole now later →
+      EndsAtLine carried steps meaning number (Continued carried number lines whole) (wired_first added later)
 
 -- a line ends its script
-pub record LineStops (turns : List Turn) (meaning : Meaning) (number : ℕ) (stop : Stop) (old new : List ℕ) : Type 0 where
+pub record LineStops (carried : List ℕ → List ℕ) (steps : List Step) (meaning : Meaning) (number : ℕ) (stop : Stop) (old new : List ℕ) : Type 0 where
+  pub now : List Step
   pub out : new ≡ old ++ stop_text stop
-  pub ends : (go_on : List Turn → Ending) → ending_at meaning turns number go_on ≡ record { status = stop_status stop; text = stop_text stop }
+  pub ends : (lines : List (List ℕ)) (whole : Bool) → EndsAtLine carried steps meaning number (Continued carried number lines whole)
+      (record { steps = now; refused = stop_refused stop; ending = record { status = stop_status stop; text = stop_text stop } })
 
 -- what became of a line
-abbrev pub LineRead : Option Stop → List Turn → Meaning → ℕ → List ℕ → List ℕ → Playing → Type 0
-LineRead None turns meaning number old new session = LineTaken turns meaning number old new session
-LineRead (Some stop) turns meaning number old new session = LineStops turns meaning number stop old new
+abbrev pub LineRead : (List ℕ → List ℕ) → Option Stop → List Step → Meaning → ℕ → List ℕ → List ℕ → Playing → Type 0
+LineRead carried None steps meaning number old new session = LineTaken carried steps meaning number old new session
+LineRead carried (Some stop) steps meaning number old new session = LineStops carried steps meaning number stop old new

@@ -1,32 +1,65 @@
--- How a script's server keeps the notes that it sent: the events of a release once, however many notes tell them.
-use Rattle.std.specs.Prelude.{◌<◌, ℕ, List, [], length, Option, Some, None, MatchOption, unwrap_or, slice_get}
+-- The notes that a script's server sent, as they go over the wire: the body of a release once, however many notes have it.
+use Rattle.std.specs.Prelude.{◌≡◌, ◌-◌, ◌<◌, ℕ, cond, nat_eq, List, [], ◌∷◌, map, length, Option, Some, None, unwrap_or, slice_get, IfSome}
 use Rattle.std.specs.List.{AllByRecursion}
-use Rattle.cds_event.specs.declared.Event.{Event}
-use Rattle.cds_commands.specs.Notes.{Note}
-use Rattle.cds_replay.specs.declared.book.Subscription.{Subscription}
-use Rattle.cds_replay.specs.declared.sent.SentNote.{SentNote}
+use Rattle.cds_gena.specs.declared.address.Address.{Address}
+use Rattle.cds_gena.specs.Asked.{url_in}
+use Rattle.cds_gena.specs.Subscribed.{IsDelivered}
+use Rattle.cds_notify.specs.Notify.{notify_text}
+use Rattle.cds_server.specs.declared.notes.FirstNote.{FirstNote}
+use Rattle.cds_server.specs.declared.notes.Notes.{Notes}
+use Rattle.cds_replay.specs.declared.sent.KeptNote.{KeptNote}
 use Rattle.cds_replay.specs.declared.sent.SentHead.{SentHead}
 
--- the events of the release at a place, or none
-abbrev pub events_at : List (List Event) → Option ℕ → List Event
-events_at releases None = []
-events_at releases (Some at) = unwrap_or (slice_get releases at) []
+-- a note that was sent: where it goes, the number that it tells, and its body
+pub record SentNote : Type 0 where
+  pub to : Address
+  pub number : ℕ
+  pub body : List ℕ
 
--- a note that was sent, after these releases
-abbrev pub told_note : List (List Event) → SentNote → Note
-told_note releases sent = record { name = sent.name; seq = sent.seq; number = sent.number; events = events_at releases sent.release }
+-- by the place of its body among bodies
+abbrev pub note_at : List (List ℕ) → KeptNote → SentNote
+note_at bodies kept = record { to = kept.to; number = kept.number; body = unwrap_or (slice_get bodies kept.body) [] }
 
--- whether the release of a note is one of so many
-abbrev pub IsKept : ℕ → SentNote → Type 0
-IsKept releases sent = MatchOption sent.release (Unit {0}) (λ at. at < releases)
+-- its body is one of so many, and it can be delivered
+pub record IsKept (bodies : ℕ) (kept : KeptNote) : Type 0 where
+  pub body : kept.body < bodies
+  pub delivered : IsDelivered kept.to
 
-abbrev pub AreKept : List (List Event) → List SentNote → Type 0
-AreKept releases sent = AllByRecursion (IsKept (length releases)) sent
+abbrev pub AreKept : List (List ℕ) → List KeptNote → Type 0
+AreKept bodies notes = AllByRecursion (IsKept (length bodies)) notes
 
--- the note of a release to a subscription
-abbrev pub kept_note : ℕ → ℕ → Subscription → SentNote
-kept_note number release s = record { name = s.name; seq = s.next_seq; number = number; release = Some release }
+-- the note of a release to an address
+abbrev pub kept_note : ℕ → ℕ → Address → KeptNote
+kept_note number body to = record { to = to; number = number; body = body }
+
+-- a note to an address, with a number and a body
+abbrev pub sent_to : ℕ → List ℕ → Address → SentNote
+sent_to number body to = record { to = to; number = number; body = body }
+
+-- the notes of a tick, where it sends some
+abbrev pub sent_notes : Option Notes → List SentNote
+sent_notes None = []
+sent_notes (Some notes) = map (sent_to notes.span.to notes.body) notes.to
+
+-- the first note of a subscription, where one was granted, which tells a number
+abbrev pub first_sent : ℕ → Option FirstNote → List SentNote
+first_sent number None = []
+first_sent number (Some note) = sent_to number note.body note.to ∷ []
 
 -- what is written of a note
-abbrev pub head_of : Note → SentHead
-head_of note = record { seq = note.seq; number = note.number }
+abbrev pub head_of : SentNote → SentHead
+head_of note = record { seq = note.to.seq; number = note.number }
+
+-- the note of a number among all that were sent, counted from 1
+abbrev pub sent_of : ℕ → List SentNote → Option SentNote
+sent_of number notes = cond (nat_eq number 0) None (slice_get notes (number - 1))
+
+-- bytes are the request that carries a body to an address
+abbrev pub carries : Address → List ℕ → List ℕ → Type 0
+carries to body request = IfSome (url_in to.callback) (λ url. request ≡ notify_text url to body)
+
+-- or a note, where there is one
+abbrev pub is_request_of : Option SentNote → Option (List ℕ) → Type 0
+is_request_of None request = request ≡ None
+is_request_of (Some note) None = ⊥
+is_request_of (Some note) (Some request) = carries note.to note.body request

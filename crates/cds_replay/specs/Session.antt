@@ -1,31 +1,45 @@
 -- What a session of a script has, and for which turns it stands.
-use Rattle.std.specs.Prelude.{◌≡◌, ◌+◌, ◌<◌, ◌≤◌, ◌^◌, ℕ, List, [], ◌∷◌, ◌++◌, length, Option, Some, None}
+use Rattle.std.specs.Prelude.{◌≡◌, ◌+◌, ◌<◌, ◌≤◌, ◌^◌, ℕ, Bool, true, false, List, [], ◌∷◌, ◌++◌, length, Option, Some, None, Result, Ok, Err}
 use Rattle.cds_object.specs.declared.info.Comment.{Comment}
-use Rattle.cds_store.specs.Rows.{rows_of}
-use Rattle.cds_store.specs.Stands.{Stored}
-use Rattle.cds_load.specs.Server.{Moment}
-use Rattle.cds_script.specs.Report.{script_token, played, first_of, clock_of, last_commented, found_since}
+use Rattle.cds_load.specs.declared.exchange.Shown.{Shown}
+use Rattle.cds_commands.specs.Commands.{Start}
+use Rattle.cds_notify.specs.Laws.{AreNumbers}
+use Rattle.cds_notify.specs.Propertyset.{propertyset_text}
+use Rattle.cds_server.specs.Outcome.{empty_reply, lease_reply}
+use Rattle.cds_server.specs.Serving.{Serving, StandsFor as ServerStandsFor}
+use Rattle.cds_replay.specs.Sending.{SentNote}
+use Rattle.cds_script.specs.Report.{first_of, clock_of, last_commented, found_since, after_reply, after_note, accept_text, deliver_text}
 use Rattle.cds_replica.specs.State.{ReplicaState, StandsFor}
 use Rattle.cds_script.specs.declared.found.Found.{Found}
 use Rattle.cds_script.specs.declared.found.Found.TheVariants.{Folder as FolderFound, Track as TrackFound}
 use Rattle.cds_script.specs.declared.turn.Turn.{Turn}
 use Rattle.cds_script.specs.declared.turn.Turn.TheVariants.{Track, Tag}
-use Rattle.cds_script.specs.Script.{moment_limit}
-use Rattle.cds_script.specs.Played.{MayBe}
+use Rattle.cds_script.specs.Script.{granted_seconds, moment_limit, script_callback}
 use Rattle.cds_replay.specs.declared.last.Last.{Last}
 use Rattle.cds_replay.specs.declared.last.Last.TheVariants.{NoTurn, OfTrack, Other}
-use Rattle.cds_replay.specs.Serving.{Serving, Serves}
+use Rattle.cds_replay.specs.declared.session.TurnError.{TurnError}
+use Rattle.cds_replay.specs.declared.session.TurnError.TheVariants.{Refused, Mem as NoMemory}
+use Rattle.cds_replay.specs.Wired.{Step, turns_in, played_by, and_read, refuses_read, refuses_reply, refuses_note, refuses, read_text_by, written_on, MayBeBy}
+use Rattle.cds_replay.specs.Wire.{IsReadBy, AreReadBy}
+use Rattle.cds_base.specs.declared.mem.Mem.{Mem}
+use Rattle.cds_commands.specs.Names.{name_of}
+use Rattle.cds_commands.specs.Notes.{Note, notes_of}
+use Rattle.cds_follow.specs.Inbox.{ReplicaTurn}
+use Rattle.cds_follow.specs.Named.{named}
+use Rattle.cds_follow.specs.Follow.{known_by, next_ask}
+use Rattle.cds_replica.specs.Replies.{IsNextReading}
 use Rattle.cds_script.specs.declared.reply.HeldReply.{HeldReply}
-use Rattle.cds_script.specs.declared.reply.HeldReply.TheVariants.{Named, Refusal}
+use Rattle.cds_script.specs.declared.reply.HeldReply.TheVariants.{NoReply, Named, Refusal}
 
--- what a session has: the server, the replica, what was found since the last scan, the current moment, the reply to a subscribe
--- request that is held back, which is a name or a refusal, and what the last turn was
+-- what a session has: the server, the replica, the notes that were sent, what was found since the last scan, the current moment, the
+-- bytes of the reply to a subscribe request that is held back, and what the last turn was
 pub record Playing : Type 0 where
   pub server : Serving
   pub replica : ReplicaState
+  pub sent : List SentNote
   pub found : List Found
   pub clock : ℕ
-  pub reply : HeldReply
+  pub reply : Option (List ℕ)
   pub last : Last
 
 -- what the newest of turns is
@@ -35,30 +49,157 @@ last_of (Track path info size ∷ older) = OfTrack
 last_of (Tag comment ∷ older) = OfTrack
 last_of (turn ∷ older) = Other
 
--- whether a session stands for turns, the newest first: its server for the commands that were accepted, its replica for the
--- replica's turns
-pub record IsAfter (playing : Playing) (turns : List Turn) : Type 0 where
-  pub may : MayBe turns
-  pub server : Serves playing.server (first_of turns) (played turns).commands
-  pub replica : StandsFor playing.replica (played turns).replica
-  pub found : playing.found ≡ found_since turns
-  pub clock : playing.clock ≡ clock_of turns
-  pub reply : playing.reply ≡ (played turns).reply
-  pub last : playing.last ≡ last_of turns
+-- a script's server begins with boot words of 0, and at the script's first number
+abbrev pub script_start : ℕ → Start
+script_start first = record { high = 0; low = 0; first = first }
 
--- the reply to a subscribe request, by the name under which it was granted
-abbrev pub held_reply : Option ℕ → HeldReply
-held_reply (Some name) = Named name
-held_reply None = Refusal
+-- the names of subscriptions on the wire, by the numbers of their grants: they do not depend on the first number
+abbrev pub script_names : ℕ → ℕ
+script_names number = name_of (script_start 0) number
 
--- what a script's server shows while a store has this
-abbrev pub moment_in : Stored → Moment
-moment_in store = record { token = script_token; number = store.standing.number; rows = rows_of store.standing.rows }
+-- a note that was sent, as it goes over the wire: to the callback of a script, under the name and the SEQ of the note, with a body that
+-- tells its number, its changes, and some containers
+pub record IsSentAs (sent : SentNote) (note : Note) : Type 0 where
+  pub to : sent.to ≡ record { sid = record { 0 = script_names note.name }; callback = script_callback; seq = note.seq }
+  pub number : sent.number ≡ note.number
+  pub containers : List (ℕ × ℕ)
+  pub body : sent.body ≡ propertyset_text note.number containers note.events
+  pub numbers : AreNumbers note.number containers note.events
+  pub short : length sent.body < 66000000
+  pub name : note.name < 2 ^ 32
+  pub seq : note.seq < 2 ^ 32
 
--- a session stands for some turns
-pub record IsPlayed (playing : Playing) : Type 0 where
-  pub turns : List Turn
-  pub after : IsAfter playing turns
+-- so each of them, in order
+abbrev pub AreSentAs : List SentNote → List Note → Type 0
+AreSentAs [] [] = Unit {0}
+AreSentAs [] (note ∷ notes) = ⊥
+AreSentAs (one ∷ sent) [] = ⊥
+AreSentAs (one ∷ sent) (note ∷ notes) = IsSentAs one note × AreSentAs sent notes
+
+-- the bytes of a reply to a subscribe request that is held back: they grant the name of a number of 32 bits, or refuse
+abbrev pub IsHeldAs : Option (List ℕ) → HeldReply → Type 0
+IsHeldAs None NoReply = Unit {0}
+IsHeldAs None (Named name) = ⊥
+IsHeldAs None Refusal = ⊥
+IsHeldAs (Some reply) NoReply = ⊥
+IsHeldAs (Some reply) (Named name) = (reply ≡ lease_reply (script_names name) granted_seconds) × (name < 2 ^ 32)
+IsHeldAs (Some reply) Refusal = reply ≡ empty_reply 503
+
+-- whether a session stands for steps, the newest first: its server for the commands that were accepted, its replica for the replica's
+-- turns, under the names on the wire, and what was sent and is held back for the notes and the reply
+pub record IsAfter (playing : Playing) (steps : List Step) : Type 0 where
+  pub may : MayBeBy steps
+  pub server : ServerStandsFor playing.server (script_start (first_of (turns_in steps))) (played_by steps).commands
+  pub replica : StandsFor playing.replica (named script_names (played_by steps).replica)
+  pub sent : AreSentAs playing.sent (notes_of (first_of (turns_in steps)) (played_by steps).commands)
+  pub found : playing.found ≡ found_since (turns_in steps)
+  pub clock : playing.clock ≡ clock_of (turns_in steps)
+  pub reply : IsHeldAs playing.reply (played_by steps).reply
+  pub last : playing.last ≡ last_of (turns_in steps)
+
+-- a session stands for some steps whose replies a wire left
+pub record IsPlayed (carried : List ℕ → List ℕ) (playing : Playing) : Type 0 where
+  pub steps : List Step
+  pub read : AreReadBy carried steps
+  pub after : IsAfter playing steps
+
+-- what holds of the answer to a turn where the replica refused what it was given
+abbrev pub WhenRefused : Result (Unit {0}) TurnError → Type 0 → Type 0
+WhenRefused (Ok done) P = Unit {0}
+WhenRefused (Err Refused) P = P
+WhenRefused (Err NoMemory) P = Unit {0}
+
+-- a step was taken: the session stands for it too, and what it writes was added
+pub record StepTaken (older : List Step) (step : Step) (old new : List ℕ) (playing : Playing) : Type 0 where
+  pub takes : refuses older step ≡ false
+  pub after : IsAfter playing (step ∷ older)
+  pub out : new ≡ old ++ written_on older step
+
+-- or refused: nothing was added
+pub record StepRefused (older : List Step) (step : Step) (old new : List ℕ) : Type 0 where
+  pub refused : refuses older step ≡ true
+  pub out : new ≡ old
+
+-- a turn, the reply to which is read as what a wire left of it, was taken or refused; or memory ran out
+abbrev pub TurnTaken : (List ℕ → List ℕ) → List Step → Turn → List ℕ → List ℕ → Playing → Result (Unit {0}) TurnError → Type 0
+TurnTaken carried older turn old new playing (Ok done) =
+    (read : Option Shown) × IsReadBy carried older turn read × StepTaken older (record { turn = turn; read = read }) old new playing
+TurnTaken carried older turn old new playing (Err Refused) =
+    (read : Option Shown) × IsReadBy carried older turn read × StepRefused older (record { turn = turn; read = read }) old new
+TurnTaken carried older turn old new playing (Err NoMemory) = Unit {0}
+
+-- a session stands for some steps, whatever was read
+abbrev pub IsStanding : Playing → Type 0
+IsStanding playing = (steps : List Step) × IsAfter playing steps
+
+-- a turn without a reply
+abbrev pub quiet : Turn → Step
+quiet turn = record { turn = turn; read = None }
+
+-- such a turn was taken or refused; or memory ran out
+abbrev pub QuietTaken : List Step → Turn → List ℕ → List ℕ → Playing → Result (Unit {0}) TurnError → Type 0
+QuietTaken older turn old new playing (Ok done) = StepTaken older (quiet turn) old new playing
+QuietTaken older turn old new playing (Err Refused) = StepRefused older (quiet turn) old new
+QuietTaken older turn old new playing (Err NoMemory) = Unit {0}
+
+-- an answer that only want of memory stands in the way of, as the answer to a turn
+abbrev pub of_memory : Result (Unit {0}) Mem → Result (Unit {0}) TurnError
+of_memory (Ok done) = Ok tt
+of_memory (Err none) = Err NoMemory
+
+-- ---- what a replica is given in a turn: it takes it, and this is written, or it refuses it. The turns name subscriptions by the numbers
+-- of their grants, and the replica by their names on the wire
+
+-- the bytes of the reply to its next ask, which are read as something or as nothing
+pub record ReplyIsTaken (turns : List ReplicaTurn) (read : Option Shown) (old new : List ℕ) (replica : ReplicaState) : Type 0 where
+  pub takes : refuses_read (next_ask (known_by turns)) read turns ≡ false
+  pub stands : StandsFor replica (named script_names (and_read (next_ask (known_by turns)) read turns))
+  pub out : new ≡ old ++ read_text_by (next_ask (known_by turns)) read
+
+pub record IsRefused (test : Bool) (old new : List ℕ) : Type 0 where
+  pub refused : test ≡ true
+  pub out : new ≡ old
+
+abbrev pub ReplyTaken : List ReplicaTurn → List ℕ → List ℕ → List ℕ → ReplicaState → Result (Unit {0}) TurnError → Type 0
+ReplyTaken turns bytes old new replica (Ok done) =
+    (read : Option Shown) × IsNextReading (next_ask (known_by turns)) bytes read × ReplyIsTaken turns read old new replica
+ReplyTaken turns bytes old new replica (Err Refused) =
+    (read : Option Shown) × IsNextReading (next_ask (known_by turns)) bytes read × IsRefused (refuses_read (next_ask (known_by turns)) read turns) old new
+ReplyTaken turns bytes old new replica (Err NoMemory) = Unit {0}
+
+-- the name under which its subscribe request was granted
+pub record NameIsTaken (turns : List ReplicaTurn) (name : ℕ) (old new : List ℕ) (replica : ReplicaState) : Type 0 where
+  pub takes : refuses_reply (Named name) turns ≡ false
+  pub stands : StandsFor replica (named script_names (after_reply (Named name) turns))
+  pub out : new ≡ old ++ accept_text (Named name)
+
+abbrev pub NameTaken : List ReplicaTurn → ℕ → List ℕ → List ℕ → ReplicaState → Result (Unit {0}) TurnError → Type 0
+NameTaken turns name old new replica (Ok done) = NameIsTaken turns name old new replica
+NameTaken turns name old new replica (Err Refused) = IsRefused (refuses_reply (Named name) turns) old new
+NameTaken turns name old new replica (Err NoMemory) = Unit {0}
+
+-- the reply to it
+pub record RefusalIsTaken (turns : List ReplicaTurn) (old new : List ℕ) (replica : ReplicaState) : Type 0 where
+  pub stands : StandsFor replica (named script_names (after_reply Refusal turns))
+  pub out : new ≡ old ++ accept_text Refusal
+
+abbrev pub HeldTaken : List ReplicaTurn → HeldReply → List ℕ → List ℕ → ReplicaState → Result (Unit {0}) TurnError → Type 0
+HeldTaken turns NoReply old new replica result = Unit {0}
+HeldTaken turns (Named name) old new replica result = NameTaken turns name old new replica result
+HeldTaken turns Refusal old new replica (Ok done) = RefusalIsTaken turns old new replica
+HeldTaken turns Refusal old new replica (Err Refused) = ⊥
+HeldTaken turns Refusal old new replica (Err NoMemory) = Unit {0}
+
+-- the note of a number
+pub record NoteIsTaken (turns : List ReplicaTurn) (number : ℕ) (note : Note) (old new : List ℕ) (replica : ReplicaState) : Type 0 where
+  pub takes : refuses_note (Some note) turns ≡ false
+  pub stands : StandsFor replica (named script_names (after_note (Some note) turns))
+  pub out : new ≡ old ++ deliver_text number (Some note) turns
+
+abbrev pub NoteTaken : List ReplicaTurn → ℕ → Note → List ℕ → List ℕ → ReplicaState → Result (Unit {0}) TurnError → Type 0
+NoteTaken turns number note old new replica (Ok done) = NoteIsTaken turns number note old new replica
+NoteTaken turns number note old new replica (Err Refused) = IsRefused (refuses_note (Some note) turns) old new
+NoteTaken turns number note old new replica (Err NoMemory) = Unit {0}
 
 -- what the turn was that found something
 abbrev pub last_found : Found → Last
@@ -72,15 +213,19 @@ with_found playing one = record playing { found = playing.found ++ one ∷ []; l
 abbrev pub with_tag : Playing → Comment → Playing
 with_tag playing comment = record playing { found = last_commented comment playing.found; last = OfTrack }
 
+-- and with another server
+abbrev pub with_server : Playing → Serving → Playing
+with_server playing server = record playing { server = server }
+
 -- what a session may have before one more turn: the numbers of what it found and of its subscriptions can rise, and its moment is
 -- one of a script
 pub record IsBounded (playing : Playing) : Type 0 where
   pub found : length playing.found + 1 < 2 ^ 32
-  pub granted : playing.server.subscribed.granted + 1 < 2 ^ 32
+  pub granted : playing.server.book.subscribed.granted + 1 < 2 ^ 32
   pub moment : playing.clock < moment_limit
 
 -- and after it: each rose by one at most
 pub record Grows (old new : Playing) : Type 0 where
   pub found : length new.found ≤ length old.found + 1
-  pub granted : new.server.subscribed.granted ≤ old.server.subscribed.granted + 1
+  pub granted : new.server.book.subscribed.granted ≤ old.server.book.subscribed.granted + 1
   pub moment : old.clock < moment_limit → new.clock < moment_limit

@@ -1,22 +1,21 @@
 //! Scripts, played: a server's store and a replica take the turns of a script, and the report is written line by line.
 #![tactic(auto)]
 
-mod book;
+mod control;
+mod events;
 mod last;
-mod laws;
 mod play;
-mod releases;
-mod reply;
 mod report;
 mod script;
 mod sent;
-mod served;
-mod server;
 mod session;
+mod wire;
+mod wire_laws;
 
-pub use play::{ReplayError, replay};
+pub use play::{ReplayError, replay, replay_by};
+pub use wire::{Straight, Wire};
 
 #[cfg(test)]
 mod play_tests;
 #[cfg(test)]
-mod server_tests;
+mod wire_tests;

@@ -1,18 +1,20 @@
 //! A script from a source, and its report into a sink.
 
-ghost use Rattle.std.specs.Prelude.{◌≡◌, ℕ, ◌+◌, ◌-◌, ◌<◌, ◌≤◌, ◌++◌, ◌⊎◌, [], ◌∷◌, List, true, Option, Some, length, take, drop, IfOk, IfErr, OnOk, OnErr};
+ghost use Rattle.std.specs.Prelude.{◌≡◌, ℕ, ◌+◌, ◌-◌, ◌<◌, ◌≤◌, ◌++◌, ◌⊎◌, [], ◌∷◌, List, true, Option, Some, None, length, take, drop, IfOk, IfErr, OnOk, OnErr};
 ghost use Rattle.cds_base.specs.declared.limits.TheConstants.{INPUT_LIMIT};
 ghost use Rattle.cds_base.specs.Outside.{raised, Rose, WhereTold};
 ghost use Rattle.cds_script.specs.Lines.{is_unbroken, line_limit, script_limit};
-ghost use Rattle.cds_script.specs.Report.{Ending, outside_ending, script_ending};
+ghost use Rattle.cds_script.specs.Report.{outside_ending, script_ending};
 ghost use Rattle.cds_script.specs.Complete.{AnswersAreComplete};
 ghost use Rattle.cds_script.specs.LoadBounds.{BoundsLoads};
 ghost use Rattle.cds_script.specs.Played.{script_turns, script_stop, IsReportOf};
 ghost use Rattle.cds_script.specs.ScriptGiven.{StandsAtScanEnds};
 ghost use Rattle.cds_replay.specs.Script.{left_in, Sound, GoesOn};
-ghost use Rattle.cds_replay.specs.Replay.{OnLine, OnLimit, OnReadFault, OnWriteFault, Holds, EndsIn, Played, Stopped, answer_of};
+ghost use Rattle.cds_replay.specs.Wire.{WiredEnding, EndsOver, OnWire, AsksShow};
+ghost use Rattle.cds_replay.specs.Replay.{OnLine, OnRefused, OnLimit, OnReadFault, OnWriteFault, Holds, Reports, EndsWith, EndsIn, Played, Stopped, answer_of};
 
 use crate::script::{Script, Stop, cut_line};
+use crate::wire::{Straight, Wire};
 use cds_base::{Failed, Mem, Sink, Source, empty_piece, read_piece, write_all};
 use std::alloc::Global;
 use std::convert::From;
@@ -35,6 +37,10 @@ pub enum ReplayError {
     /// the line `error limit`.
     #[error("the script or a line of it is too long")]
     Limit,
+    /// The replica refused what the line of this number, counted from 1, gave it: what a wire left of a reply, or a note that
+    /// does not go with what such replies showed before. The report of the lines before it was written.
+    #[error("the replica refused what line {line} gave it")]
+    Refused { line: u32 },
     #[error("out of memory")]
     Mem,
 }
@@ -73,6 +79,7 @@ pub fn replay<S: Source, K: Sink>(
     ensures limit_report { IfErr result (λ e. OnLimit e (WhereTold (S.left source.old)
         (λ script. Holds (K.holds sink.old) (script_ending script).text (K.holds sink.new)))) }
     ensures limit_moved { IfErr result (λ e. OnLimit e (raised (S.moved source.old) (line_limit + 1) ≤ S.moved source.new)) }
+    ensures never_refused { IfErr result (λ e. OnRefused e (λ line. ⊥)) }
     ensures read_fault { IfErr result (λ e. OnReadFault e (Rose (S.faults source.old) (S.faults source.new))) }
     ensures write_fault { IfErr result (λ e. OnWriteFault e (Rose (K.faults sink.old) (K.faults sink.new))) }
     ensures taken { S.moved source.new ≤ S.moved source.old + (INPUT_LIMIT + 1) }
@@ -88,30 +95,79 @@ pub fn replay<S: Source, K: Sink>(
     cds_script::laws::all_turns_bound_loads();
     cds_script::laws::all_turns_stand_at_scan_ends();
     cds_script::laws::all_answers_are_complete();
+    crate::wire_laws::straight_reports_are_the_scripts();
+    replay_by(alloc, source, sink, &Straight)
+}
+
+/// Plays a script whose server and replica have a wire between them: each read goes to the server as a control request, and the
+/// replica takes the bytes that the wire leaves of the reply.
+///
+/// The report is what the script's turns write by what the bytes, as the wire left them, are read as; each line `stands` in it
+/// is followed by rows each of which has the content and the objectUpdateID that one of these replies showed for its id. Where the
+/// replica refuses what a line gives it, the report of the lines before is written, and the replay ends.
+pub fn replay_by<S: Source, K: Sink, W: Wire>(
+    alloc: Global,
+    source: &mut S,
+    sink: &mut K,
+    wire: &W,
+) -> Result<(), ReplayError>
+    ensures ok { OnOk result (WhereTold (S.left source.old) (λ script. OnWire (W.carried wire.now) script (Reports None 0 (K.holds sink.old) (K.holds sink.new)))) }
+    ensures ok_end { OnOk result (WhereTold (S.left source.old) (λ script. S.left source.new ≡ Some [])) }
+    ensures ok_moved { OnOk result (S.moved source.new ≤ raised (S.moved source.old) INPUT_LIMIT) }
+    ensures line_report { IfErr result (λ e. OnLine e (λ line. WhereTold (S.left source.old)
+        (λ script. OnWire (W.carried wire.now) script (Reports None 1 (K.holds sink.old) (K.holds sink.new))))) }
+    ensures line_number { IfErr result (λ e. OnLine e (λ line. WhereTold (S.left source.old)
+        (λ script. OnWire (W.carried wire.now) script (EndsWith (outside_ending line).text)))) }
+    ensures limit_report { IfErr result (λ e. OnLimit e (WhereTold (S.left source.old)
+        (λ script. OnWire (W.carried wire.now) script (Reports None 6 (K.holds sink.old) (K.holds sink.new))))) }
+    ensures limit_moved { IfErr result (λ e. OnLimit e (raised (S.moved source.old) (line_limit + 1) ≤ S.moved source.new)) }
+    ensures refused_report { IfErr result (λ e. OnRefused e (λ line. WhereTold (S.left source.old)
+        (λ script. OnWire (W.carried wire.now) script (Reports (Some line) 0 (K.holds sink.old) (K.holds sink.new))))) }
+    ensures straight { ((bytes : List ℕ) → W.carried wire.now bytes ≡ bytes) → IfErr result (λ e. OnRefused e (λ line. ⊥)) }
+    ensures read_fault { IfErr result (λ e. OnReadFault e (Rose (S.faults source.old) (S.faults source.new))) }
+    ensures write_fault { IfErr result (λ e. OnWriteFault e (Rose (K.faults sink.old) (K.faults sink.new))) }
+    ensures taken { S.moved source.new ≤ S.moved source.old + (INPUT_LIMIT + 1) }
+    ensures source_faults { S.faults source.old ≤ S.faults source.new }
+    ensures sink_faults { K.faults sink.old ≤ K.faults sink.new }
+    ensures asks { WhereTold (S.left source.old) (λ script. (ending : WiredEnding) → EndsOver (W.carried wire.now) script ending → AsksShow ending.steps) }
+    ensures once { WhereTold (S.left source.old) (λ script. (one other : WiredEnding) → EndsOver (W.carried wire.now) script one →
+        EndsOver (W.carried wire.now) script other → one ≡ other) }
+{
+    crate::wire_laws::asks_write_what_was_left();
+    crate::wire_laws::wires_end_once();
     let mut buffer = empty_piece(alloc)?;
     let mut script = Script::new(alloc)?;
-    play_on(alloc, &mut script, buffer.as_mut_slice(), source, sink)
+    play_on(
+        alloc,
+        wire,
+        &mut script,
+        buffer.as_mut_slice(),
+        source,
+        sink,
+    )
 }
 
 /// Plays what a source still gives of a script, piece by piece through the buffer.
-fn play_on<S: Source, K: Sink>(
+fn play_on<W: Wire, S: Source, K: Sink>(
     alloc: Global,
+    wire: &W,
     script: &mut Script,
     buffer: &mut [u8],
     source: &mut S,
     sink: &mut K,
 ) -> Result<(), ReplayError>
-    requires sound { Sound script.old }
+    requires sound { Sound (W.carried wire.now) script.old }
     requires some { 0 < length buffer.old }
-    ensures well { (ending : List ℕ → Ending) (bytes : List ℕ) → GoesOn script.old ending → S.left source.old ≡ Some bytes →
-        OnOk result (EndsIn (ending bytes) (K.holds sink.old) (K.holds sink.new)) }
-    ensures end { (ending : List ℕ → Ending) (bytes : List ℕ) → GoesOn script.old ending → S.left source.old ≡ Some bytes →
+    ensures well { (bytes : List ℕ) → GoesOn (W.carried wire.now) script.old [] [] → S.left source.old ≡ Some bytes →
+        OnOk result (EndsIn (W.carried wire.now) bytes [] (K.holds sink.old) (K.holds sink.new)) }
+    ensures end { (bytes : List ℕ) → GoesOn (W.carried wire.now) script.old [] [] → S.left source.old ≡ Some bytes →
         OnOk result (S.left source.new ≡ Some []) }
-    ensures stops { (ending : List ℕ → Ending) (bytes : List ℕ) → GoesOn script.old ending → S.left source.old ≡ Some bytes →
-        IfErr result (λ e. Stopped e (ending bytes) (K.holds sink.old) (K.holds sink.new)) }
+    ensures stops { (bytes : List ℕ) → GoesOn (W.carried wire.now) script.old [] [] → S.left source.old ≡ Some bytes →
+        IfErr result (λ e. Stopped (W.carried wire.now) e bytes [] (K.holds sink.old) (K.holds sink.new)) }
     ensures moved { OnOk result (S.moved source.new ≤ raised (S.moved source.old) (left_in script.old)) }
     ensures limit { IfErr result (λ e. OnLimit e (raised (S.moved source.old) (left_in script.old + line_limit + 1 - script_limit) ≤ S.moved source.new)) }
     ensures read_fault { IfErr result (λ e. OnReadFault e (Rose (S.faults source.old) (S.faults source.new))) }
+    ensures straight { ((bytes : List ℕ) → W.carried wire.now bytes ≡ bytes) → IfErr result (λ e. OnRefused e (λ line. ⊥)) }
     ensures write_fault { IfErr result (λ e. OnWriteFault e (Rose (K.faults sink.old) (K.faults sink.new))) }
     ensures taken { S.moved source.new ≤ S.moved source.old + (left_in script.old + 1) }
     ensures source_faults { S.faults source.old ≤ S.faults source.new }
@@ -120,10 +176,10 @@ fn play_on<S: Source, K: Sink>(
     loop {
         match read_piece(source, buffer, script.left()) {
             Err(Failed) => return Err(ReplayError::ReadFault),
-            Ok(0) => return finish(alloc, script, sink),
+            Ok(0) => return finish(alloc, wire, script, sink),
             Ok(count) => {
                 let (piece, _) = buffer.split_at(count);
-                take_piece(alloc, script, piece, sink)?;
+                take_piece(alloc, wire, script, piece, sink)?;
             }
         }
     }
@@ -131,95 +187,110 @@ fn play_on<S: Source, K: Sink>(
 
 /// Plays a piece of a script: what a line adds to the report is written before the next line is looked at, so that the
 /// answers of a piece never stand in memory together.
-fn take_piece<K: Sink>(
+fn take_piece<W: Wire, K: Sink>(
     alloc: Global,
+    wire: &W,
     script: &mut Script,
     piece: &[u8],
     sink: &mut K,
 ) -> Result<(), ReplayError>
-    requires { Sound script.old }
-    ensures goes { (ending : List ℕ → Ending) → GoesOn script.old ending →
-        OnOk result (Played ending piece.now (K.holds sink.old) (K.holds sink.new) script.new) }
-    ensures sound { OnOk result (Sound script.new) }
+    requires { Sound (W.carried wire.now) script.old }
+    ensures goes { (before written : List ℕ) → GoesOn (W.carried wire.now) script.old before written →
+        OnOk result (Played (W.carried wire.now) before written piece.now (K.holds sink.old) (K.holds sink.new) script.new) }
+    ensures sound { OnOk result (Sound (W.carried wire.now) script.new) }
     ensures left { OnOk result (left_in script.new + length piece.now ≡ left_in script.old) }
-    ensures stops { (ending : List ℕ → Ending) (more : List ℕ) → GoesOn script.old ending → IfErr result
-        (λ e. Stopped e (ending (piece.now ++ more)) (K.holds sink.old) (K.holds sink.new)) }
+    ensures stops { (before written more : List ℕ) → GoesOn (W.carried wire.now) script.old before written → IfErr result
+        (λ e. Stopped (W.carried wire.now) e ((before ++ piece.now) ++ more) written (K.holds sink.old) (K.holds sink.new)) }
     ensures limit { IfErr result (λ e. OnLimit e (left_in script.old + line_limit < script_limit + length piece.now)) }
     ensures no_read { IfErr result (λ e. OnReadFault e ⊥) }
+    ensures straight { ((bytes : List ℕ) → W.carried wire.now bytes ≡ bytes) → IfErr result (λ e. OnRefused e (λ line. ⊥)) }
     ensures write_fault { IfErr result (λ e. OnWriteFault e (Rose (K.faults sink.old) (K.faults sink.new))) }
     ensures never_falls { K.faults sink.old ≤ K.faults sink.new }
 {
     let mut rest = piece;
     while let Some((line, after)) = cut_line(rest) {
-        take_line(alloc, script, line, sink)?;
+        take_line(alloc, wire, script, line, sink)?;
         rest = after;
     }
-    keep_rest(alloc, script, rest, sink)
+    keep_rest(alloc, wire, script, rest, sink)
 }
 
 /// Plays the line that ends with these bytes and an LF, and writes what it adds to the report.
-fn take_line<K: Sink>(
+fn take_line<W: Wire, K: Sink>(
     alloc: Global,
+    wire: &W,
     script: &mut Script,
     line: &[u8],
     sink: &mut K,
 ) -> Result<(), ReplayError>
-    requires sound { Sound script.old }
+    requires sound { Sound (W.carried wire.now) script.old }
     requires whole { is_unbroken line.now ≡ true }
-    ensures goes { (ending : List ℕ → Ending) → GoesOn script.old ending →
-        OnOk result (Played ending (line.now ++ 10 ∷ []) (K.holds sink.old) (K.holds sink.new) script.new) }
-    ensures sound { OnOk result (Sound script.new) }
+    ensures goes { (before written : List ℕ) → GoesOn (W.carried wire.now) script.old before written →
+        OnOk result (Played (W.carried wire.now) before written (line.now ++ 10 ∷ []) (K.holds sink.old) (K.holds sink.new) script.new) }
+    ensures sound { OnOk result (Sound (W.carried wire.now) script.new) }
     ensures left { OnOk result (left_in script.new + (length line.now + 1) ≡ left_in script.old) }
-    ensures stops { (ending : List ℕ → Ending) (more : List ℕ) → GoesOn script.old ending → IfErr result
-        (λ e. Stopped e (ending ((line.now ++ 10 ∷ []) ++ more)) (K.holds sink.old) (K.holds sink.new)) }
+    ensures stops { (before written more : List ℕ) → GoesOn (W.carried wire.now) script.old before written → IfErr result
+        (λ e. Stopped (W.carried wire.now) e ((before ++ (line.now ++ 10 ∷ [])) ++ more) written (K.holds sink.old) (K.holds sink.new)) }
     ensures limit { IfErr result (λ e. OnLimit e (left_in script.old + line_limit < script_limit + (length line.now + 1))) }
     ensures no_read { IfErr result (λ e. OnReadFault e ⊥) }
+    ensures straight { ((bytes : List ℕ) → W.carried wire.now bytes ≡ bytes) → IfErr result (λ e. OnRefused e (λ line. ⊥)) }
     ensures write_fault { IfErr result (λ e. OnWriteFault e (Rose (K.faults sink.old) (K.faults sink.new))) }
     ensures never_falls { K.faults sink.old ≤ K.faults sink.new }
 {
     let mut out = String::new(alloc);
-    let stop = script.end_line(alloc, line, &mut out)?;
+    let stop = script.end_line(alloc, wire, line, &mut out)?;
     write_out(sink, out.as_bytes(), stop)
 }
 
 /// Keeps the rest of a piece, which has no LF, and writes what this adds to the report: no more than that a limit was
 /// passed.
-fn keep_rest<K: Sink>(
+fn keep_rest<W: Wire, K: Sink>(
     alloc: Global,
+    wire: &W,
     script: &mut Script,
     rest: &[u8],
     sink: &mut K,
 ) -> Result<(), ReplayError>
-    requires sound { Sound script.old }
+    requires sound { Sound (W.carried wire.now) script.old }
     requires whole { is_unbroken rest.now ≡ true }
-    ensures goes { (ending : List ℕ → Ending) → GoesOn script.old ending →
-        OnOk result (Played ending rest.now (K.holds sink.old) (K.holds sink.new) script.new) }
-    ensures sound { OnOk result (Sound script.new) }
+    ensures goes { (before written : List ℕ) → GoesOn (W.carried wire.now) script.old before written →
+        OnOk result (Played (W.carried wire.now) before written rest.now (K.holds sink.old) (K.holds sink.new) script.new) }
+    ensures sound { OnOk result (Sound (W.carried wire.now) script.new) }
     ensures left { OnOk result (left_in script.new + length rest.now ≡ left_in script.old) }
-    ensures stops { (ending : List ℕ → Ending) (more : List ℕ) → GoesOn script.old ending → IfErr result
-        (λ e. Stopped e (ending (rest.now ++ more)) (K.holds sink.old) (K.holds sink.new)) }
+    ensures stops { (before written more : List ℕ) → GoesOn (W.carried wire.now) script.old before written → IfErr result
+        (λ e. Stopped (W.carried wire.now) e ((before ++ rest.now) ++ more) written (K.holds sink.old) (K.holds sink.new)) }
     ensures limit { IfErr result (λ e. OnLimit e (left_in script.old + line_limit < script_limit + length rest.now)) }
     ensures no_read { IfErr result (λ e. OnReadFault e ⊥) }
+    ensures straight { ((bytes : List ℕ) → W.carried wire.now bytes ≡ bytes) → IfErr result (λ e. OnRefused e (λ line. ⊥)) }
     ensures write_fault { IfErr result (λ e. OnWriteFault e (Rose (K.faults sink.old) (K.faults sink.new))) }
     ensures never_falls { K.faults sink.old ≤ K.faults sink.new }
 {
+    let _ = wire;
     let mut out = String::new(alloc);
     let stop = script.keep(alloc, rest, &mut out)?;
     write_out(sink, out.as_bytes(), stop)
 }
 
 /// Ends a script whose last byte has come, and writes what this adds to the report.
-fn finish<K: Sink>(alloc: Global, script: &mut Script, sink: &mut K) -> Result<(), ReplayError>
-    requires { Sound script.old }
-    ensures well { (ending : List ℕ → Ending) → GoesOn script.old ending → OnOk result (EndsIn (ending []) (K.holds sink.old) (K.holds sink.new)) }
-    ensures stops { (ending : List ℕ → Ending) → GoesOn script.old ending → IfErr result (λ e. Stopped e (ending []) (K.holds sink.old) (K.holds sink.new)) }
+fn finish<W: Wire, K: Sink>(
+    alloc: Global,
+    wire: &W,
+    script: &mut Script,
+    sink: &mut K,
+) -> Result<(), ReplayError>
+    requires { Sound (W.carried wire.now) script.old }
+    ensures well { (before written : List ℕ) → GoesOn (W.carried wire.now) script.old before written →
+        OnOk result (EndsIn (W.carried wire.now) before written (K.holds sink.old) (K.holds sink.new)) }
+    ensures stops { (before written : List ℕ) → GoesOn (W.carried wire.now) script.old before written →
+        IfErr result (λ e. Stopped (W.carried wire.now) e before written (K.holds sink.old) (K.holds sink.new)) }
     ensures no_limit { IfErr result (λ e. OnLimit e ⊥) }
     ensures no_read { IfErr result (λ e. OnReadFault e ⊥) }
+    ensures straight { ((bytes : List ℕ) → W.carried wire.now bytes ≡ bytes) → IfErr result (λ e. OnRefused e (λ line. ⊥)) }
     ensures write_fault { IfErr result (λ e. OnWriteFault e (Rose (K.faults sink.old) (K.faults sink.new))) }
     ensures never_falls { K.faults sink.old ≤ K.faults sink.new }
 {
     let mut out = String::new(alloc);
-    let stop = script.finish(alloc, &mut out)?;
+    let stop = script.finish(alloc, wire, &mut out)?;
     write_out(sink, out.as_bytes(), stop)
 }
 
@@ -238,5 +309,6 @@ fn write_out<K: Sink>(sink: &mut K, text: &[u8], stop: Option<Stop>) -> Result<(
         None => Ok(()),
         Some(Stop::Outside { line }) => Err(ReplayError::Line { line }),
         Some(Stop::Limit) => Err(ReplayError::Limit),
+        Some(Stop::Refused { line }) => Err(ReplayError::Refused { line }),
     }
 }

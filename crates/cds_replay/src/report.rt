@@ -3,11 +3,9 @@
 ghost use Rattle.std.specs.Prelude.{◌≡◌, ◌+◌, ◌++◌, ◌∷◌, [], OnOk, drop, string_bytes, codes};
 ghost use Rattle.std.specs.Fmt.{decimal};
 ghost use Rattle.cds_object.specs.Fragment.{fragment, full_text};
-ghost use Rattle.cds_script.specs.Report.{notes_text};
-ghost use Rattle.cds_replay.specs.Lines.{scan_line, read_line, stands_text, known_text, known_rows, numbered_line, note_line, delivered_line, taken_text, ended_text, was_answered, was_noticed};
+ghost use Rattle.cds_replay.specs.Lines.{scan_line, read_line, stands_text, known_text, known_rows, numbered_line, note_line, delivered_line, taken_text, sent_lines, was_answered, was_noticed, can_be_told};
 
-use crate::sent::SentHead;
-use crate::server::Server;
+use crate::sent::{Sent, SentHead};
 use cds_base::{Mem, put, put_number};
 use cds_didl::put_fragment;
 use cds_object::Row;
@@ -119,12 +117,12 @@ fn put_row(out: &mut String, row: &Row) -> Result<(), Mem>
     Ok(())
 }
 
-/// Puts a line for each note that a server sent, from a place on that is counted from 0.
-pub fn put_notes(out: &mut String, server: &Server, from: usize) -> Result<(), Mem>
-    ensures { OnOk result (string_bytes out.new ≡ string_bytes out.old ++ notes_text (from + 1) (drop from server.now.sent)) }
+/// Puts a line for each note that was sent, from a place on that is counted from 0.
+pub fn put_notes(out: &mut String, sent: &Sent, from: usize) -> Result<(), Mem>
+    ensures { OnOk result (string_bytes out.new ≡ string_bytes out.old ++ sent_lines (from + 1) (drop from sent.now)) }
 {
-    for at in from..server.sent_len() {
-        if let Some(head) = server.sent(at) {
+    for at in from..sent.len() {
+        if let Some(head) = sent.head(at) {
             put_note(out, at as u64 + 1, head)?;
         }
     }
@@ -191,13 +189,19 @@ pub fn was_noticed(answer: &Result<Taken, NotifyError>) -> bool
     !matches!(answer, Err(NotifyError::Mem))
 }
 
-/// Puts what became of a subscription that was given up.
-pub fn put_ended(out: &mut String, lived: bool) -> Result<(), Mem>
-    ensures { OnOk result (string_bytes out.new ≡ string_bytes out.old ++ ended_text lived) }
+/// Whether what a note told could be: the replica did not refuse it for its changes.
+pub fn can_be_told(answer: &Result<Taken, NotifyError>) -> bool
+    ensures { result ≡ can_be_told answer.now }
 {
-    if lived {
-        put(out, "unsubscribe 200\n")
-    } else {
-        put(out, "unsubscribe 412\n")
-    }
+    !matches!(
+        answer,
+        Err(NotifyError::Jump { .. }) | Err(NotifyError::Torn { .. })
+    )
+}
+
+/// Puts the status of a reply.
+pub fn put_status(out: &mut String, word: &str, status: u16) -> Result<(), Mem>
+    ensures { OnOk result (string_bytes out.new ≡ string_bytes out.old ++ numbered_line word.now status) }
+{
+    put_numbered_line(out, word, u64::from(status))
 }

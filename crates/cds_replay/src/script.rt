@@ -1,16 +1,16 @@
 //! A script that comes part by part: each line is answered as soon as it has ended.
 
 ghost use Rattle.std.specs.Prelude.{◌≡◌, ℕ, ◌+◌, ◌<◌, ◌≤◌, ◌++◌, ◌^◌, [], ◌∷◌, List, Some, true, length, IfOk, OnOk, MatchOption, string_bytes};
-ghost use Rattle.cds_script.specs.declared.turn.Turn.{Turn as TurnValue};
 ghost use Rattle.cds_script.specs.declared.turn.Meaning.TheVariants.{Means};
-ghost use Rattle.cds_replay.specs.declared.script.Stop.TheVariants.{Outside};
 ghost use Rattle.cds_script.specs.Lines.{is_unbroken, line_limit, script_limit};
-ghost use Rattle.cds_script.specs.Script.{meaning_of, IsInRange};
-ghost use Rattle.cds_script.specs.Report.{Ending, script_ending};
+ghost use Rattle.cds_script.specs.Script.{IsInRange, meaning_of};
+ghost use Rattle.cds_replay.specs.declared.script.Stop.TheVariants.{Outside};
+ghost use Rattle.cds_replay.specs.Wired.{Step};
 ghost use Rattle.cds_replay.specs.Session.{IsAfter, IsPlayed, IsBounded, Grows};
-ghost use Rattle.cds_replay.specs.Script.{stop_text, left_in, Sound, GoesOn, Fed, Finished, WhileGoing, AtLimit, LineRead};
+ghost use Rattle.cds_replay.specs.Script.{stop_text, left_in, Sound, GoesOn, Fed, Finished, WhileGoing, AtLimit, AtRefusal, LineRead};
 
-use crate::session::Session;
+use crate::session::{Session, TurnError};
+use crate::wire::Wire;
 use cds_base::{INPUT_LIMIT, Mem, put, put_number};
 use cds_script::{Meaning, Turn, read_line};
 use memchr::memchr;
@@ -27,10 +27,12 @@ pub enum Stop {
     Outside { line: u32 },
     /// The script or a line of it is too long.
     Limit,
+    /// The replica refused what the line of this number, counted from 1, gave it.
+    Refused { line: u32 },
 }
 
 /// A script of which a part has come. The report goes on at the end of the text that each call is given.
-#[derive(Drop, Debug)]
+#[derive(Drop)]
 pub struct Script {
     session: Session,
     /// What has come of the line that has not ended.
@@ -43,11 +45,10 @@ pub struct Script {
 
 impl Script {
     /// A script of which nothing has come.
-    #[tactic(auto, unfolding(cds_script::specs::Report::script_ending))]
     pub fn new(alloc: Global) -> Result<Script, Mem>
-        ensures sound { IfOk result Sound }
+        ensures sound { (carried : List ℕ → List ℕ) → IfOk result (Sound carried) }
         ensures left { IfOk result (λ script. left_in script ≡ script_limit) }
-        ensures goes { IfOk result (λ script. GoesOn script script_ending) }
+        ensures goes { (carried : List ℕ → List ℕ) → IfOk result (λ script. GoesOn carried script [] []) }
     {
         let session = Session::new(alloc)?;
         Ok(Script {
@@ -60,72 +61,89 @@ impl Script {
 
     /// How many bytes more the script may have.
     pub fn left(&self) -> usize
-        requires { Sound self.now }
+        requires { length self.now.partial.items ≤ self.now.room }
         ensures { result ≡ left_in self.now }
     {
         self.room - self.partial.len()
     }
 
     /// Answers the last line, where it has no LF.
-    pub fn finish(&mut self, alloc: Global, out: &mut String) -> Result<Option<Stop>, Mem>
-        requires { Sound self.old }
-        ensures meaning { (ending : List ℕ → Ending) → GoesOn self.old ending → IfOk result
-            (λ stop. Finished stop (ending []) (string_bytes out.old) (string_bytes out.new)) }
+    pub fn finish<W: Wire>(
+        &mut self,
+        alloc: Global,
+        wire: &W,
+        out: &mut String,
+    ) -> Result<Option<Stop>, Mem>
+        requires { Sound (W.carried wire.now) self.old }
+        ensures meaning { (before written : List ℕ) → GoesOn (W.carried wire.now) self.old before written → IfOk result
+            (λ stop. Finished (W.carried wire.now) stop before written (string_bytes out.old) (string_bytes out.new)) }
         ensures no_limit { IfOk result (λ stop. AtLimit stop ⊥) }
+        ensures straight { ((bytes : List ℕ) → W.carried wire.now bytes ≡ bytes) → IfOk result (λ stop. AtRefusal stop ⊥) }
     {
         if self.partial.is_empty() {
             Ok(None)
         } else {
             let line = replace(&mut self.partial, Vec::new(alloc));
-            answer_line(&mut self.session, alloc, line.as_slice(), self.line, out)
+            answer_line(
+                &mut self.session,
+                alloc,
+                wire,
+                line.as_slice(),
+                self.line,
+                out,
+            )
         }
     }
 
     /// Answers the line that ends with these bytes and an LF. After a stop or an error the script is done with.
-    pub fn end_line(
+    pub fn end_line<W: Wire>(
         &mut self,
         alloc: Global,
+        wire: &W,
         line: &[u8],
         out: &mut String,
     ) -> Result<Option<Stop>, Mem>
-        requires sound { Sound self.old }
+        requires sound { Sound (W.carried wire.now) self.old }
         requires whole { is_unbroken line.now ≡ true }
-        ensures meaning { (ending : List ℕ → Ending) (after : List ℕ) → GoesOn self.old ending → IfOk result
-            (λ stop. Fed stop ending (line.now ++ 10 ∷ after) after (string_bytes out.old) (string_bytes out.new) self.new) }
-        ensures sound { IfOk result (λ stop. WhileGoing stop (Sound self.new)) }
+        ensures meaning { (before written : List ℕ) → GoesOn (W.carried wire.now) self.old before written → IfOk result
+            (λ stop. Fed (W.carried wire.now) stop before written (line.now ++ 10 ∷ []) (string_bytes out.old) (string_bytes out.new) self.new) }
+        ensures sound { IfOk result (λ stop. WhileGoing stop (Sound (W.carried wire.now) self.new)) }
         ensures left { IfOk result (λ stop. WhileGoing stop (left_in self.new + (length line.now + 1) ≡ left_in self.old)) }
         ensures limit { IfOk result (λ stop. AtLimit stop (left_in self.old + line_limit < script_limit + (length line.now + 1))) }
+        ensures straight { ((bytes : List ℕ) → W.carried wire.now bytes ≡ bytes) → IfOk result (λ stop. AtRefusal stop ⊥) }
     {
         if self.partial.is_empty() {
-            self.take_line(alloc, line, out)
+            self.take_line(alloc, wire, line, out)
         } else {
             let mut whole = replace(&mut self.partial, Vec::new(alloc));
             whole.extend_from_slice(line)?;
-            self.take_line(alloc, whole.as_slice(), out)
+            self.take_line(alloc, wire, whole.as_slice(), out)
         }
     }
 
     /// Answers a line, given whole and without its LF.
-    fn take_line(
+    fn take_line<W: Wire>(
         &mut self,
         alloc: Global,
+        wire: &W,
         line: &[u8],
         out: &mut String,
     ) -> Result<Option<Stop>, Mem>
-        requires sound { Sound self.old }
+        requires sound { Sound (W.carried wire.now) self.old }
         requires none { self.old.partial.items ≡ [] }
         requires whole { is_unbroken line.now ≡ true }
-        ensures meaning { (ending : List ℕ → Ending) (after : List ℕ) → GoesOn self.old ending → IfOk result
-            (λ stop. Fed stop ending (line.now ++ 10 ∷ after) after (string_bytes out.old) (string_bytes out.new) self.new) }
-        ensures sound { IfOk result (λ stop. WhileGoing stop (Sound self.new)) }
+        ensures meaning { (before written : List ℕ) → GoesOn (W.carried wire.now) self.old before written → IfOk result
+            (λ stop. Fed (W.carried wire.now) stop before written (line.now ++ 10 ∷ []) (string_bytes out.old) (string_bytes out.new) self.new) }
+        ensures sound { IfOk result (λ stop. WhileGoing stop (Sound (W.carried wire.now) self.new)) }
         ensures left { IfOk result (λ stop. WhileGoing stop (left_in self.new + (length line.now + 1) ≡ left_in self.old)) }
         ensures limit { IfOk result (λ stop. AtLimit stop (left_in self.old + line_limit < script_limit + (length line.now + 1))) }
+        ensures straight { ((bytes : List ℕ) → W.carried wire.now bytes ≡ bytes) → IfOk result (λ stop. AtRefusal stop ⊥) }
     {
         if self.room <= line.len() || LINE_LIMIT < line.len() {
             write_stop(out, Stop::Limit)?;
             return Ok(Some(Stop::Limit));
         }
-        let stop = answer_line(&mut self.session, alloc, line, self.line, out)?;
+        let stop = answer_line(&mut self.session, alloc, wire, line, self.line, out)?;
         self.line += 1;
         self.room -= line.len() + 1;
         Ok(stop)
@@ -138,13 +156,17 @@ impl Script {
         rest: &[u8],
         out: &mut String,
     ) -> Result<Option<Stop>, Mem>
-        requires sound { Sound self.old }
+        requires kept { is_unbroken self.old.partial.items ≡ true }
+        requires short { length self.old.partial.items ≤ line_limit }
+        requires within { length self.old.partial.items ≤ self.old.room }
+        requires inside { self.old.room ≤ script_limit }
         requires whole { is_unbroken rest.now ≡ true }
-        ensures meaning { (ending : List ℕ → Ending) → GoesOn self.old ending → IfOk result
-            (λ stop. Fed stop ending rest.now [] (string_bytes out.old) (string_bytes out.new) self.new) }
-        ensures sound { IfOk result (λ stop. WhileGoing stop (Sound self.new)) }
+        ensures meaning { (carried : List ℕ → List ℕ) (before written : List ℕ) → GoesOn carried self.old before written → IfOk result
+            (λ stop. Fed carried stop before written rest.now (string_bytes out.old) (string_bytes out.new) self.new) }
+        ensures sound { (carried : List ℕ → List ℕ) → Sound carried self.old → IfOk result (λ stop. WhileGoing stop (Sound carried self.new)) }
         ensures left { IfOk result (λ stop. WhileGoing stop (left_in self.new + length rest.now ≡ left_in self.old)) }
         ensures limit { IfOk result (λ stop. AtLimit stop (left_in self.old + line_limit < script_limit + length rest.now)) }
+        ensures not_refused { IfOk result (λ stop. AtRefusal stop ⊥) }
     {
         if self.left() < rest.len() || LINE_LIMIT - self.partial.len() < rest.len() {
             write_stop(out, Stop::Limit)?;
@@ -170,51 +192,59 @@ pub fn cut_line(bytes: &[u8]) -> Option<(&[u8], &[u8])>
 }
 
 /// Does what a line means.
-fn answer_line(
+fn answer_line<W: Wire>(
     session: &mut Session,
     alloc: Global,
+    wire: &W,
     line: &[u8],
     number: u32,
     out: &mut String,
 ) -> Result<Option<Stop>, Mem>
-    requires played { IsPlayed session.old }
+    requires played { IsPlayed (W.carried wire.now) session.old }
     requires bounded { IsBounded session.old }
-    ensures meaning { (turns : List TurnValue) → IsAfter session.old turns → IfOk result
-        (λ stop. LineRead stop turns (meaning_of line.now) number (string_bytes out.old) (string_bytes out.new) session.new) }
-    ensures grows { OnOk result (Grows session.old session.new) }
-    ensures played { IfOk result (λ stop. WhileGoing stop (IsPlayed session.new)) }
+    ensures meaning { (steps : List Step) → IsAfter session.old steps → IfOk result
+        (λ stop. LineRead (W.carried wire.now) stop steps (meaning_of line.now) number (string_bytes out.old) (string_bytes out.new) session.new) }
+    ensures grows { IfOk result (λ stop. WhileGoing stop (Grows session.old session.new)) }
+    ensures played { IfOk result (λ stop. WhileGoing stop (IsPlayed (W.carried wire.now) session.new)) }
     ensures no_limit { IfOk result (λ stop. AtLimit stop ⊥) }
+    ensures straight { ((bytes : List ℕ) → W.carried wire.now bytes ≡ bytes) → IfOk result (λ stop. AtRefusal stop ⊥) }
 {
     cds_script::laws::lines_mean_in_range();
     match read_line(alloc, line)? {
         Meaning::Nothing => Ok(None),
-        Meaning::Means(turn) => answer_turn(session, alloc, turn, number, out),
+        Meaning::Means(turn) => answer_turn(session, alloc, wire, turn, number, out),
         Meaning::Outside => write_outside(out, number),
     }
 }
 
 /// Takes a turn, where it may stand; its line is outside the grammar where it may not.
-fn answer_turn(
+fn answer_turn<W: Wire>(
     session: &mut Session,
     alloc: Global,
+    wire: &W,
     turn: Turn,
     number: u32,
     out: &mut String,
 ) -> Result<Option<Stop>, Mem>
-    requires played { IsPlayed session.old }
+    requires played { IsPlayed (W.carried wire.now) session.old }
     requires bounded { IsBounded session.old }
     requires fits { IsInRange turn }
-    ensures meaning { (turns : List TurnValue) → IsAfter session.old turns → IfOk result
-        (λ stop. LineRead stop turns (Means turn) number (string_bytes out.old) (string_bytes out.new) session.new) }
-    ensures grows { OnOk result (Grows session.old session.new) }
-    ensures played { IfOk result (λ stop. WhileGoing stop (IsPlayed session.new)) }
+    ensures meaning { (steps : List Step) → IsAfter session.old steps → IfOk result
+        (λ stop. LineRead (W.carried wire.now) stop steps (Means turn) number (string_bytes out.old) (string_bytes out.new) session.new) }
+    ensures grows { IfOk result (λ stop. WhileGoing stop (Grows session.old session.new)) }
+    ensures played { IfOk result (λ stop. WhileGoing stop (IsPlayed (W.carried wire.now) session.new)) }
     ensures no_limit { IfOk result (λ stop. AtLimit stop ⊥) }
+    ensures straight { ((bytes : List ℕ) → W.carried wire.now bytes ≡ bytes) → IfOk result (λ stop. AtRefusal stop ⊥) }
 {
     if !session.may_stand(&turn) {
         return write_outside(out, number);
     }
-    session.answer(alloc, turn, out)?;
-    Ok(None)
+    crate::wire_laws::straight_wires_are_taken();
+    match session.answer(alloc, wire, turn, out) {
+        Ok(()) => Ok(None),
+        Err(TurnError::Refused) => Ok(Some(Stop::Refused { line: number })),
+        Err(TurnError::Mem) => Err(Mem),
+    }
 }
 
 /// Writes that the line of a number is outside the grammar.
@@ -227,7 +257,7 @@ fn write_outside(out: &mut String, number: u32) -> Result<Option<Stop>, Mem>
     Ok(Some(stop))
 }
 
-/// Writes the last line of a script that stops.
+/// Writes the last line of a script that stops, where it has one: a turn that is refused writes none.
 fn write_stop(out: &mut String, stop: Stop) -> Result<(), Mem>
     ensures { OnOk result (string_bytes out.new ≡ string_bytes out.old ++ stop_text stop) }
 {
@@ -238,6 +268,7 @@ fn write_stop(out: &mut String, stop: Stop) -> Result<(), Mem>
             put(out, "\n")?;
         }
         Stop::Limit => put(out, "error limit\n")?,
+        Stop::Refused { .. } => {}
     }
     Ok(())
 }

@@ -1,15 +1,15 @@
-//! The notes that a script's server sent.
+//! The notes that a script's server sent, as they go over the wire.
 
-ghost use Rattle.std.specs.Prelude.{◌≡◌, ◌++◌, [], ◌∷◌, map, length, slice_get, option_map, IfOk, OnErr, OnOk};
-ghost use Rattle.cds_commands.specs.Notes.{first_note};
-ghost use Rattle.cds_script.specs.Report.{sent_note};
-ghost use Rattle.cds_replay.specs.Serving.{alive, note_to};
-ghost use Rattle.cds_replay.specs.Sending.{events_at, head_of, kept_note, told_note};
+ghost use Rattle.std.specs.Prelude.{◌≡◌, ◌++◌, [], ◌∷◌, map, length, slice_get, option_map, IfOk, IfSome, OnErr, OnOk};
+ghost use Rattle.cds_gena.specs.Subscribed.{IsDelivered};
+ghost use Rattle.cds_server.specs.Due.{AllGoOut};
+ghost use Rattle.cds_server.specs.Outcome.{GoesOut};
+ghost use Rattle.cds_replay.specs.Sending.{carries, first_sent, head_of, is_request_of, kept_note, note_at, sent_notes, sent_of, sent_to};
 
-use crate::book::Subscription;
-use cds_base::Mem;
-use cds_event::{Event, Events};
-use cds_replica::{Note, Sid};
+use cds_base::{Bytes, Mem};
+use cds_gena::{Address, Addresses};
+use cds_notify::write_notify;
+use cds_server::{FirstNote, Notes};
 use std::alloc::Global;
 use std::marker::Model;
 
@@ -20,105 +20,87 @@ pub struct SentHead {
     pub number: u32,
 }
 
-/// A note without its events: those of a release's note are found by the place of the release.
-#[derive(Clone, Copy, Debug)]
-pub struct SentNote {
-    pub name: u32,
-    pub seq: u32,
+/// Where a note goes, the number that it tells, and the place of its body.
+#[derive(Drop, Debug)]
+pub struct KeptNote {
+    pub to: Address,
     pub number: u32,
-    pub release: Option<usize>,
+    pub body: usize,
 }
 
-/// All notes that were sent, the oldest first, and the events of each release that one of them tells. Contracts see the
-/// list of the notes.
+/// All notes that were sent, the oldest first, and each of their bodies once. Contracts see the list of the notes with their
+/// bodies.
 #[derive(Drop, Debug)]
 pub struct Sent {
-    notes: Vec<SentNote>,
-    releases: Vec<Events>,
+    notes: Vec<KeptNote>,
+    bodies: Vec<Bytes>,
 }
 
 impl Model for Sent {
     ghost use Rattle.std.specs.Prelude.{List, map};
-    ghost use Rattle.cds_commands.specs.Notes.{Note};
+    ghost use Rattle.cds_replay.specs.Sending.{SentNote, note_at, AreKept};
 
-    ghost Value = { List Note };
+    ghost Value = { List SentNote };
 
-    ghost use Rattle.cds_replay.specs.Sending.{told_note, AreKept};
+    ghost view = { λ s. map (note_at s.bodies.items) s.notes.items };
 
-    ghost view = { λ s. map (told_note s.releases.items) s.notes.items };
-
-    ghost invariant = { λ s. AreKept s.releases.items s.notes.items };
+    ghost invariant = { λ s. AreKept s.bodies.items s.notes.items };
 }
 
-/// The notes of a release to the subscriptions that have not run out at a moment.
-fn notes_to(
-    alloc: Global,
-    subscriptions: &[Subscription],
-    now: u64,
-    number: u32,
-    release: usize,
-) -> Result<Vec<SentNote>, Mem>
-    ensures { IfOk result (λ notes. notes.items ≡ map (kept_note number release) (alive now subscriptions.now)) }
+/// A copy of an address.
+fn copied(alloc: Global, to: &Address) -> Result<Address, Mem>
+    ensures { IfOk result (λ copy. copy ≡ to.now) }
+{
+    Ok(Address {
+        sid: to.sid,
+        callback: to.callback.copy(alloc)?,
+        seq: to.seq,
+    })
+}
+
+/// The notes of a release to some addresses, by the place of their body.
+fn notes_to(alloc: Global, to: &[Address], number: u32, body: usize) -> Result<Vec<KeptNote>, Mem>
+    ensures { IfOk result (λ notes. notes.items ≡ map (kept_note number body) to.now) }
 {
     let mut notes = Vec::new(alloc);
-    for s in subscriptions {
-        if now < s.end {
-            notes.push(SentNote {
-                name: s.name,
-                seq: s.next_seq,
-                number,
-                release: Some(release),
-            })?;
-        }
+    for address in to {
+        notes.push(KeptNote {
+            to: copied(alloc, address)?,
+            number,
+            body,
+        })?;
     }
     Ok(notes)
 }
 
-/// Adds a release's notes and its events; a refusal leaves both as they were.
-fn put_release(
-    notes: &mut Vec<SentNote>,
-    releases: &mut Vec<Events>,
-    added: &[SentNote],
-    events: Events,
-) -> Result<(), Mem>
-    ensures notes { OnOk result (notes.new.items ≡ notes.old.items ++ added.now) }
-    ensures releases { OnOk result (releases.new.items ≡ releases.old.items ++ events ∷ []) }
-    ensures notes_kept { OnErr result (notes.new.items ≡ notes.old.items) }
-    ensures releases_kept { OnErr result (releases.new.items ≡ releases.old.items) }
+/// The bytes of the request that carries a body to an address.
+fn carrying(alloc: Global, to: &Address, body: &[u8]) -> Result<Bytes, Mem>
+    requires { IsDelivered to.now }
+    ensures { IfOk result (λ request. carries to.now body.now request) }
 {
-    releases.reserve(1)?;
-    notes.extend_from_slice(added)?;
-    if releases.push(events).is_err() {
+    let mut request = Vec::new(alloc);
+    write_notify(alloc, to, body, &mut request)?;
+    Ok(Bytes::from(request))
+}
+
+/// Adds notes and the body that they have; a refusal leaves both as they were.
+fn put_sent(
+    notes: &mut Vec<KeptNote>,
+    bodies: &mut Vec<Bytes>,
+    mut added: Vec<KeptNote>,
+    body: Bytes,
+) -> Result<(), Mem>
+    ensures notes { OnOk result (notes.new.items ≡ notes.old.items ++ added.items) }
+    ensures bodies { OnOk result (bodies.new.items ≡ bodies.old.items ++ body ∷ []) }
+    ensures notes_kept { OnErr result (notes.new.items ≡ notes.old.items) }
+    ensures bodies_kept { OnErr result (bodies.new.items ≡ bodies.old.items) }
+{
+    bodies.reserve(1)?;
+    notes.append(&mut added)?;
+    if bodies.push(body).is_err() {
         unreachable!();
     }
     Ok(())
-}
-
-/// The events of the release at a place, none where there is no place.
-fn events_at(releases: &[Events], release: Option<usize>) -> &[Event]
-    ensures { result.now ≡ events_at releases.now release }
-{
-    match release {
-        None => &[],
-        Some(at) => match releases.get(at) {
-            None => &[],
-            Some(events) => events.as_slice(),
-        },
-    }
-}
-
-/// A note with its events.
-fn told_note(alloc: Global, releases: &[Events], sent: &SentNote) -> Result<Note, Mem>
-    ensures { IfOk result (λ note. note ≡ told_note releases.now sent.now) }
-{
-    let mut events = Events::new(alloc);
-    events.extend(events_at(releases, sent.release))?;
-    Ok(Note {
-        sid: Sid(u128::from(sent.name)),
-        seq: sent.seq,
-        number: sent.number,
-        events,
-    })
 }
 
 impl Sent {
@@ -128,7 +110,7 @@ impl Sent {
     {
         Sent {
             notes: Vec::new(alloc),
-            releases: Vec::new(alloc),
+            bodies: Vec::new(alloc),
         }
     }
 
@@ -145,64 +127,80 @@ impl Sent {
     {
         match self.notes.get(at) {
             None => None,
-            Some(sent) => Some(SentHead {
-                seq: sent.seq,
-                number: sent.number,
+            Some(note) => Some(SentHead {
+                seq: note.to.seq,
+                number: note.number,
             }),
         }
     }
 
-    /// A copy of the note of a number, counted from 1, `None` where none has it.
-    pub fn note(&self, alloc: Global, number: u32) -> Result<Option<Note>, Mem>
-        ensures { IfOk result (λ note. note ≡ sent_note number self.now) }
+    /// The bytes of the request that carries the note of a number, counted from 1; `None` where none has it.
+    pub fn request(&self, alloc: Global, number: u32) -> Result<Option<Bytes>, Mem>
+        ensures { IfOk result (λ request. is_request_of (sent_of number self.now) request) }
     {
         if number == 0 {
             return Ok(None);
         }
-        match self.notes.get(number as usize - 1) {
-            None => Ok(None),
-            Some(sent) => Ok(Some(told_note(alloc, self.releases.as_slice(), sent)?)),
-        }
+        let Some(note) = self.notes.get(number as usize - 1) else {
+            return Ok(None);
+        };
+        let Some(body) = self.bodies.get(note.body) else {
+            return Ok(None);
+        };
+        Ok(Some(carrying(alloc, &note.to, body.as_slice())?))
     }
 
-    /// Sends the first note of a subscription.
-    pub fn send_first(&mut self, name: u32, number: u32) -> Result<(), Mem>
-        ensures sent { OnOk result (self.new ≡ self.old ++ first_note name number ∷ []) }
+    /// Adds the first note of a subscription, which tells a number.
+    pub fn send_first(&mut self, alloc: Global, note: FirstNote, number: u32) -> Result<(), Mem>
+        requires delivered { IsDelivered note.to }
+        ensures sent { OnOk result (self.new ≡ self.old ++ sent_to number note.body note.to ∷ []) }
         ensures kept { OnErr result (self.new ≡ self.old) }
     {
-        self.notes.push(SentNote {
-            name,
-            seq: 0,
+        let mut added = Vec::new(alloc);
+        added.push(KeptNote {
+            to: note.to,
             number,
-            release: None,
+            body: self.bodies.len(),
         })?;
+        put_sent(&mut self.notes, &mut self.bodies, added, note.body)?;
         Ok(())
     }
 
-    /// Sends the note of a release, up to a number and with these events, to each of the subscriptions that has not run
-    /// out at a moment, and answers to how many.
-    pub fn send(
-        &mut self,
-        alloc: Global,
-        subscriptions: &[Subscription],
-        now: u64,
-        number: u32,
-        events: Events,
-    ) -> Result<usize, Mem>
-        ensures sent { OnOk result (self.new ≡ self.old ++ map (note_to number events) (alive now subscriptions.now)) }
-        ensures count { IfOk result (λ count. count ≡ length (alive now subscriptions.now)) }
+    /// Adds the notes of a release.
+    pub fn send(&mut self, alloc: Global, notes: Notes) -> Result<(), Mem>
+        requires delivered { AllGoOut notes }
+        ensures sent { OnOk result (self.new ≡ self.old ++ map (sent_to notes.span.to notes.body) notes.to) }
         ensures kept { OnErr result (self.new ≡ self.old) }
     {
-        let notes = notes_to(alloc, subscriptions, now, number, self.releases.len())?;
-        if notes.is_empty() {
-            return Ok(0);
+        let added = notes_to(alloc, notes.to.as_slice(), notes.span.to, self.bodies.len())?;
+        put_sent(&mut self.notes, &mut self.bodies, added, notes.body)?;
+        Ok(())
+    }
+
+    /// Adds the notes of a tick, where it sends some.
+    pub fn send_due(&mut self, alloc: Global, notes: Option<Notes>) -> Result<(), Mem>
+        requires { IfSome notes AllGoOut }
+        ensures { OnOk result (self.new ≡ self.old ++ sent_notes notes) }
+    {
+        match notes {
+            None => Ok(()),
+            Some(notes) => self.send(alloc, notes),
         }
-        put_release(
-            &mut self.notes,
-            &mut self.releases,
-            notes.as_slice(),
-            events,
-        )?;
-        Ok(notes.len())
+    }
+
+    /// Adds the first note of a subscription, which tells a number, where one was granted.
+    pub fn send_granted(
+        &mut self,
+        alloc: Global,
+        note: Option<FirstNote>,
+        number: u32,
+    ) -> Result<(), Mem>
+        requires { GoesOut note }
+        ensures { OnOk result (self.new ≡ self.old ++ first_sent number note) }
+    {
+        match note {
+            None => Ok(()),
+            Some(note) => self.send_first(alloc, note, number),
+        }
     }
 }

@@ -1,38 +1,83 @@
 //! A script's server and replica, which take its turns one by one.
 
-ghost use Rattle.std.specs.Prelude.{◌≡◌, ◌+◌, ◌<◌, ◌≤◌, ◌++◌, map, ◌^◌, ◌&&◌, [], ◌∷◌, List, true, nat_lt, nat_le, length, codes, IfOk, OnOk, string_bytes};
-ghost use Rattle.cds_script.specs.declared.turn.Turn.{Turn as TurnValue};
-ghost use Rattle.cds_script.specs.declared.turn.Turn.TheVariants.{Scan, Load, Read, Ask, Subscribe, Accept, Unsubscribe, ReadFault, First, At, Deliver};
-ghost use Rattle.cds_script.specs.Script.{IsInRange, moment_limit, granted_time};
+ghost use Rattle.std.specs.Prelude.{◌≡◌, ℕ, ◌+◌, ◌<◌, ◌≤◌, ◌++◌, map, ◌^◌, ◌&&◌, [], ◌∷◌, List, true, nat_lt, nat_le, length, codes, IfOk, OnOk, IsSome, IsTrue, string_bytes};
+ghost use Rattle.cds_script.specs.declared.turn.Turn.TheVariants.{Scan, Load, Read, Ask, Subscribe, Accept, Renew, Unsubscribe, ReadFault, First, At, Deliver};
+ghost use Rattle.cds_script.specs.Script.{IsInRange, moment_limit};
+ghost use Rattle.cds_script.specs.declared.reply.HeldReply.{HeldReply};
+ghost use Rattle.cds_commands.specs.Commands.{Command, Start as ServerStart};
+ghost use Rattle.cds_server.specs.Serving.{StandsFor as ServerStandsFor};
+ghost use Rattle.cds_replay.specs.Events.{IsAsked};
+ghost use Rattle.cds_follow.specs.Named.{named, named_note};
+ghost use Rattle.cds_commands.specs.Notes.{Note as Told};
 ghost use Rattle.cds_script.specs.declared.found.Found.TheVariants.{Folder as FolderFound, Track as TrackFound};
-ghost use Rattle.cds_script.specs.Report.{may_stand, written_by, commented, last_commented, record_of};
+ghost use Rattle.cds_script.specs.Report.{commented, last_commented, record_of, scanned};
+ghost use Rattle.cds_follow.specs.Inbox.{ReplicaTurn};
+ghost use Rattle.cds_replica.specs.State.{StandsFor};
+ghost use Rattle.cds_replica.specs.Steps.{phase_ask};
+ghost use Rattle.cds_replay.specs.Wired.{Step, may_stand_by, written_on};
 ghost use Rattle.cds_replay.specs.declared.last.Last.TheVariants.{NoTurn};
-ghost use Rattle.cds_replay.specs.Session.{held_reply, IsAfter, IsPlayed, IsBounded, Grows, last_found, with_found, with_tag};
+ghost use Rattle.cds_replay.specs.Session.{script_names, IsHeldAs, IsAfter, IsStanding, IsBounded, TurnTaken, QuietTaken, ReplyTaken, HeldTaken, NameTaken, NoteTaken, of_memory, quiet, Grows, last_found, with_found, with_server, with_tag};
 
-use crate::last::Last;
-use crate::reply::reply;
-use crate::report::{
-    put_delivered, put_ended, put_known, put_notes, put_read, put_scan, was_answered, was_noticed,
+use crate::control::carried_reply;
+use crate::events::{
+    answered, lease_of, note_of, renew_request, status_of, subscribe_request, unsubscribe_request,
 };
-use crate::server::Server;
-use cds_base::{Mem, put};
-use cds_object::{Comment, FlacInfo, Path};
-use cds_replica::{AnswerError, NotifyError, Replica, Sid};
-use cds_script::{Found, FoundFile, FoundList, HeldReply, Turn};
+use crate::last::Last;
+use crate::report::{
+    can_be_told, put_delivered, put_known, put_notes, put_read, put_scan, put_status, was_answered,
+    was_noticed,
+};
+use crate::sent::Sent;
+use crate::wire::Wire;
+use cds_base::{Bytes, Mem, put};
+use cds_object::{Comment, FlacInfo, Path, Records};
+use cds_replica::{AnswerError, Note, NotifyError, Replica, Sid};
+use cds_script::{Found, FoundFile, FoundList, Turn};
+use cds_server::Server;
 use std::alloc::Global;
+use std::convert::From;
 use std::marker::Model;
+use std::mem::replace;
+use thiserror::Error;
+
+/// The boot words of a script's server, which make its reset token.
+const BOOT: [u64; 2] = [0, 0];
+
+/// Why a turn was not taken. After it the session is done with.
+#[derive(Clone, Copy, Debug, PartialEq, Eq, Error)]
+pub enum TurnError {
+    /// The replica refused what it was given: a reply that a wire changed, or a note that does not go with what such replies
+    /// showed before.
+    #[error("the replica refused what it was given")]
+    Refused,
+    #[error("out of memory")]
+    Mem,
+}
+
+impl From<Mem> for TurnError {
+    ghost use Rattle.std.specs.Prelude.{◌≡◌};
+    ghost use Rattle.cds_replay.specs.declared.session.TurnError.{TurnError};
+
+    ghost from_gives = { λ _ r. r ≡ TurnError.Mem };
+
+    fn from(_: Mem) -> Self {
+        TurnError::Mem
+    }
+}
 
 /// A script's server and replica after the turns so far, what was found since its last scan, and the reply that is held back.
 /// It keeps no list of turns, but stands for one.
-#[derive(Drop, Debug)]
+#[derive(Drop)]
 pub struct Session {
     server: Server,
     replica: Replica,
+    /// The notes that the server sent.
+    sent: Sent,
     found: FoundList,
     /// The current moment, in milliseconds.
     clock: u64,
-    /// The reply to a subscribe request that has not reached the replica.
-    reply: HeldReply,
+    /// The bytes of the reply to a subscribe request that has not reached the replica.
+    reply: Option<Bytes>,
     /// What the last turn was.
     last: Last,
 }
@@ -42,7 +87,7 @@ impl Model for Session {
 
     ghost Value = { Playing };
 
-    ghost view = { λ s. record { server = s.server; replica = s.replica; found = s.found; clock = s.clock; reply = s.reply; last = s.last } };
+    ghost view = { λ s. record { server = s.server; replica = s.replica; sent = s.sent; found = s.found; clock = s.clock; reply = s.reply; last = s.last } };
 }
 
 impl Session {
@@ -50,13 +95,14 @@ impl Session {
     pub fn new(alloc: Global) -> Result<Session, Mem>
         ensures { IfOk result (λ session. IsAfter session []) }
     {
-        let server = Server::new(alloc, 0)?;
+        let server = Server::new(alloc, BOOT, 0)?;
         Ok(Session {
             server,
             replica: Replica::new(alloc),
+            sent: Sent::new(alloc),
             found: FoundList::new(alloc),
             clock: 0,
-            reply: HeldReply::NoReply,
+            reply: None,
             last: Last::NoTurn,
         })
     }
@@ -64,7 +110,7 @@ impl Session {
     /// Whether a turn may stand after those so far: the first number comes before all else, moments never fall, and a note
     /// that is delivered was sent.
     pub fn may_stand(&self, turn: &Turn) -> bool
-        ensures { (turns : List TurnValue) → IsAfter self.now turns → result ≡ may_stand turns turn.now }
+        ensures { (steps : List Step) → IsAfter self.now steps → result ≡ may_stand_by steps turn.now }
     {
         match turn {
             Turn::First { .. } => matches!(self.last, Last::NoTurn),
@@ -77,38 +123,43 @@ impl Session {
 
     /// Whether a note of this number was sent.
     fn has_sent(&self, number: u32) -> bool
-        ensures { result ≡ (nat_lt 0 number && nat_le number (length self.now.server.sent)) }
+        ensures { result ≡ (nat_lt 0 number && nat_le number (length self.now.sent)) }
     {
-        0 < number && number as usize <= self.server.sent_len()
+        0 < number && number as usize <= self.sent.len()
     }
 
     /// Takes a turn that may stand, and puts what it writes at the end.
-    pub fn answer(&mut self, alloc: Global, turn: Turn, out: &mut String) -> Result<(), Mem>
-        requires played { IsPlayed self.old }
-        requires stands { (turns : List TurnValue) → IsAfter self.old turns → may_stand turns turn ≡ true }
+    pub fn answer<W: Wire>(
+        &mut self,
+        alloc: Global,
+        wire: &W,
+        turn: Turn,
+        out: &mut String,
+    ) -> Result<(), TurnError>
+        requires standing { IsStanding self.old }
+        requires stands { (steps : List Step) → IsAfter self.old steps → may_stand_by steps turn ≡ true }
         requires fits { IsInRange turn }
         requires bounded { IsBounded self.old }
-        ensures after { (turns : List TurnValue) → IsAfter self.old turns → OnOk result (IsAfter self.new (turn ∷ turns)) }
-        ensures written { (turns : List TurnValue) → IsAfter self.old turns →
-            OnOk result (string_bytes out.new ≡ string_bytes out.old ++ written_by turns turn) }
+        ensures taken { (steps : List Step) → IsAfter self.old steps →
+            TurnTaken (W.carried wire.now) steps turn (string_bytes out.old) (string_bytes out.new) self.new result }
         ensures grows { OnOk result (Grows self.old self.new) }
-        ensures played { OnOk result (IsPlayed self.new) }
     {
         match turn {
-            Turn::Folder { path } => self.add_folder(path),
-            Turn::Track { path, info, size } => self.add_track(path, info, size),
-            Turn::Tag { comment } => self.add_tag(comment),
-            Turn::Scan => self.scan(alloc, out),
-            Turn::Load => self.load(),
-            Turn::Read => self.read(alloc, out),
-            Turn::Ask => self.ask(out),
-            Turn::First { number } => self.begin_at(alloc, number),
-            Turn::At { moment } => self.tick(alloc, moment, out),
-            Turn::Subscribe => self.subscribe(alloc, out),
+            Turn::Folder { path } => of_memory(self.add_folder(path)),
+            Turn::Track { path, info, size } => of_memory(self.add_track(path, info, size)),
+            Turn::Tag { comment } => of_memory(self.add_tag(comment)),
+            Turn::Scan => of_memory(self.scan(alloc, out)),
+            Turn::Load => of_memory(self.load()),
+            Turn::Read => self.read(alloc, wire, out),
+            Turn::Ask => of_memory(self.ask(out)),
+            Turn::First { number } => of_memory(self.begin_at(alloc, number)),
+            Turn::At { moment } => of_memory(self.tick(alloc, moment, out)),
+            Turn::Subscribe => of_memory(self.subscribe(alloc, out)),
             Turn::Accept => self.accept(alloc, out),
-            Turn::Unsubscribe => self.unsubscribe(out),
+            Turn::Renew => of_memory(self.renew(alloc, out)),
+            Turn::Unsubscribe => of_memory(self.unsubscribe(alloc, out)),
             Turn::Deliver { note } => self.deliver(alloc, note, out),
-            Turn::ReadFault => self.lose_read(out),
+            Turn::ReadFault => of_memory(self.lose_read(out)),
         }
     }
 
@@ -150,13 +201,12 @@ impl Session {
     /// Scans: what was found since the last scan is all that the library has now, and is dropped.
     fn scan(&mut self, alloc: Global, out: &mut String) -> Result<(), Mem>
         requires { length self.old.found < 2 ^ 32 }
-        ensures after { (turns : List TurnValue) → IsAfter self.old turns → OnOk result (IsAfter self.new (Scan ∷ turns)) }
-        ensures written { (turns : List TurnValue) → IsAfter self.old turns →
-            OnOk result (string_bytes out.new ≡ string_bytes out.old ++ written_by turns Scan) }
-        ensures grows { OnOk result (Grows self.old self.new) }
+        ensures after { (steps : List Step) → IsAfter self.old steps → OnOk result (IsAfter self.new (quiet Scan ∷ steps)) }
+        ensures written { (steps : List Step) → IsAfter self.old steps →
+            OnOk result (string_bytes out.new ≡ string_bytes out.old ++ written_on steps (quiet Scan)) }
     {
         let records = self.found.records(alloc)?;
-        let answer = self.server.scan(alloc, &records);
+        let answer = self.server.accept_records(alloc, self.clock, &records);
         if !was_answered(&answer) {
             return Err(Mem);
         }
@@ -167,44 +217,37 @@ impl Session {
 
     /// Begins a load.
     fn load(&mut self) -> Result<(), Mem>
-        ensures after { (turns : List TurnValue) → IsAfter self.old turns → OnOk result (IsAfter self.new (Load ∷ turns)) }
-        ensures grows { OnOk result (Grows self.old self.new) }
+        ensures after { (steps : List Step) → IsAfter self.old steps → OnOk result (IsAfter self.new (quiet Load ∷ steps)) }
     {
         self.replica.begin_load()?;
         self.last = Last::Other;
         Ok(())
     }
 
-    /// Sends the next ask of the replica to the server, where there is one, and takes the reply, which is never refused.
-    fn read(&mut self, alloc: Global, out: &mut String) -> Result<(), Mem>
-        requires { IsPlayed self.old }
-        ensures after { (turns : List TurnValue) → IsAfter self.old turns → OnOk result (IsAfter self.new (Read ∷ turns)) }
-        ensures written { (turns : List TurnValue) → IsAfter self.old turns →
-            OnOk result (string_bytes out.new ≡ string_bytes out.old ++ written_by turns Read) }
-        ensures grows { OnOk result (Grows self.old self.new) }
+    /// Sends the next ask of the replica to the server, where there is one, as a control request, and takes what the wire
+    /// leaves of the reply.
+    fn read<W: Wire>(&mut self, alloc: Global, wire: &W, out: &mut String) -> Result<(), TurnError>
+        ensures taken { (steps : List Step) → IsAfter self.old steps →
+            TurnTaken (W.carried wire.now) steps Read (string_bytes out.old) (string_bytes out.new) self.new result }
     {
         self.last = Last::Other;
         match self.replica.next_ask() {
-            None => put(out, "read none\n"),
+            None => {
+                put(out, "read none\n")?;
+                Ok(())
+            }
             Some(ask) => {
-                let shown = reply(alloc, self.server.store(), ask)?;
-                match self.replica.take(alloc, shown) {
-                    Ok(read) => put_read(out, read),
-                    Err(AnswerError::Mem) => Err(Mem),
-                    Err(AnswerError::Unreadable) => unreachable!(),
-                    Err(AnswerError::Jump { .. }) => unreachable!(),
-                    Err(AnswerError::Torn { .. }) => unreachable!(),
-                }
+                let reply = carried_reply(alloc, &mut self.server, wire, self.clock, ask)?;
+                take_reply(&mut self.replica, alloc, reply.as_slice(), out)
             }
         }
     }
 
     /// Puts what the replica knows, and the rows of its copy where it stands.
     fn ask(&mut self, out: &mut String) -> Result<(), Mem>
-        ensures after { (turns : List TurnValue) → IsAfter self.old turns → OnOk result (IsAfter self.new (Ask ∷ turns)) }
-        ensures written { (turns : List TurnValue) → IsAfter self.old turns →
-            OnOk result (string_bytes out.new ≡ string_bytes out.old ++ written_by turns Ask) }
-        ensures grows { OnOk result (Grows self.old self.new) }
+        ensures after { (steps : List Step) → IsAfter self.old steps → OnOk result (IsAfter self.new (quiet Ask ∷ steps)) }
+        ensures written { (steps : List Step) → IsAfter self.old steps →
+            OnOk result (string_bytes out.new ≡ string_bytes out.old ++ written_on steps (quiet Ask)) }
     {
         self.last = Last::Other;
         put_known(out, self.replica.says(), self.replica.copy())
@@ -213,10 +256,9 @@ impl Session {
     /// Begins again with a server whose first number is another. No turn came before.
     fn begin_at(&mut self, alloc: Global, number: u32) -> Result<(), Mem>
         requires { self.old.last ≡ NoTurn }
-        ensures after { (turns : List TurnValue) → IsAfter self.old turns → OnOk result (IsAfter self.new (First number ∷ turns)) }
-        ensures grows { OnOk result (Grows self.old self.new) }
+        ensures after { (steps : List Step) → IsAfter self.old steps → OnOk result (IsAfter self.new (quiet (First number) ∷ steps)) }
     {
-        self.server = Server::new(alloc, number)?;
+        self.server = Server::new(alloc, BOOT, number)?;
         self.last = Last::Other;
         Ok(())
     }
@@ -225,121 +267,236 @@ impl Session {
     fn tick(&mut self, alloc: Global, moment: u64, out: &mut String) -> Result<(), Mem>
         requires rises { self.old.clock ≤ moment }
         requires within { moment < moment_limit }
-        ensures after { (turns : List TurnValue) → IsAfter self.old turns → OnOk result (IsAfter self.new (At moment ∷ turns)) }
-        ensures written { (turns : List TurnValue) → IsAfter self.old turns →
-            OnOk result (string_bytes out.new ≡ string_bytes out.old ++ written_by turns (At moment)) }
-        ensures grows { OnOk result (Grows self.old self.new) }
+        requires granted { self.old.server.book.subscribed.granted < 2 ^ 32 }
+        ensures after { (steps : List Step) → IsAfter self.old steps → OnOk result (IsAfter self.new (quiet (At moment) ∷ steps)) }
+        ensures written { (steps : List Step) → IsAfter self.old steps →
+            OnOk result (string_bytes out.new ≡ string_bytes out.old ++ written_on steps (quiet (At moment))) }
     {
-        let sent = self.server.sent_len();
-        self.server.tick(alloc, moment)?;
+        let sent = self.sent.len();
+        let notes = self.server.tick(alloc, moment)?;
+        self.sent.send_due(alloc, notes)?;
         self.clock = moment;
         self.last = Last::Other;
-        put_notes(out, &self.server, sent)
+        put_notes(out, &self.sent, sent)
     }
 
     /// A subscribe request of the replica goes out; the server answers it, and the reply is held back.
     fn subscribe(&mut self, alloc: Global, out: &mut String) -> Result<(), Mem>
-        requires granted { self.old.server.subscribed.granted + 1 < 2 ^ 32 }
-        requires moment { self.old.clock + granted_time < 2 ^ 64 }
-        ensures after { (turns : List TurnValue) → IsAfter self.old turns → OnOk result (IsAfter self.new (Subscribe ∷ turns)) }
-        ensures written { (turns : List TurnValue) → IsAfter self.old turns →
-            OnOk result (string_bytes out.new ≡ string_bytes out.old ++ written_by turns Subscribe) }
-        ensures grows { OnOk result (Grows self.old self.new) }
+        requires standing { IsStanding self.old }
+        requires granted { self.old.server.book.subscribed.granted + 1 < 2 ^ 32 }
+        ensures after { (steps : List Step) → IsAfter self.old steps → OnOk result (IsAfter self.new (quiet Subscribe ∷ steps)) }
+        ensures written { (steps : List Step) → IsAfter self.old steps →
+            OnOk result (string_bytes out.new ≡ string_bytes out.old ++ written_on steps (quiet Subscribe)) }
     {
-        let sent = self.server.sent_len();
+        let sent = self.sent.len();
         self.replica.subscribing()?;
-        self.reply = held_reply(self.server.subscribe(self.clock)?);
+        let request = subscribe_request(alloc)?;
+        let mut reply = Vec::new(alloc);
+        let note = answered(
+            alloc,
+            &mut self.server,
+            self.clock,
+            request.as_slice(),
+            &mut reply,
+        )?;
+        let number = self.server.system_update_id();
+        self.sent.send_granted(alloc, note, number)?;
+        let held = Bytes::from(reply);
+        self.reply = Some(held);
         self.last = Last::Other;
-        put_notes(out, &self.server, sent)
+        put_notes(out, &self.sent, sent)
     }
 
-    /// The reply that was held back reaches the replica, which takes it.
-    fn accept(&mut self, alloc: Global, out: &mut String) -> Result<(), Mem>
-        requires { IsPlayed self.old }
-        ensures after { (turns : List TurnValue) → IsAfter self.old turns → OnOk result (IsAfter self.new (Accept ∷ turns)) }
-        ensures written { (turns : List TurnValue) → IsAfter self.old turns →
-            OnOk result (string_bytes out.new ≡ string_bytes out.old ++ written_by turns Accept) }
-        ensures grows { OnOk result (Grows self.old self.new) }
+    /// The reply that was held back reaches the replica, which takes it, or refuses the name where the notes that came early for
+    /// it tell what cannot be.
+    fn accept(&mut self, alloc: Global, out: &mut String) -> Result<(), TurnError>
+        requires { IsStanding self.old }
+        ensures taken { (steps : List Step) → IsAfter self.old steps →
+            QuietTaken steps Accept (string_bytes out.old) (string_bytes out.new) self.new result }
     {
         self.last = Last::Other;
-        let reply = self.reply;
-        self.reply = HeldReply::NoReply;
-        match reply {
-            HeldReply::NoReply => put(out, "accept none\n"),
-            HeldReply::Refusal => {
-                self.replica.not_subscribed();
-                put(out, "accept 503\n")
+        match replace(&mut self.reply, None) {
+            None => {
+                put(out, "accept none\n")?;
+                Ok(())
             }
-            HeldReply::Named { name } => {
-                match self.replica.subscribed(alloc, Sid(u128::from(name))) {
-                    Ok(()) => put(out, "accept 200\n"),
-                    Err(NotifyError::Mem) => Err(Mem),
-                    Err(NotifyError::Unknown) => unreachable!(),
-                    Err(NotifyError::Full { .. }) => unreachable!(),
-                    Err(NotifyError::Jump { .. }) => unreachable!(),
-                    Err(NotifyError::Torn { .. }) => unreachable!(),
-                }
+            Some(reply) => take_lease(&mut self.replica, alloc, reply.as_slice(), out),
+        }
+    }
+
+    /// Renews the subscription that the replica accepted last.
+    fn renew(&mut self, alloc: Global, out: &mut String) -> Result<(), Mem>
+        requires granted { self.old.server.book.subscribed.granted < 2 ^ 32 }
+        ensures after { (steps : List Step) → IsAfter self.old steps → OnOk result (IsAfter self.new (quiet Renew ∷ steps)) }
+        ensures written { (steps : List Step) → IsAfter self.old steps →
+            OnOk result (string_bytes out.new ≡ string_bytes out.old ++ written_on steps (quiet Renew)) }
+    {
+        self.last = Last::Other;
+        match self.replica.accepted() {
+            None => put(out, "renew none\n"),
+            Some(sid) => {
+                let request = renew_request(alloc, sid)?;
+                let status = self.asked(alloc, request.as_slice())?;
+                put_status(out, "renew ", status)
             }
         }
     }
 
     /// Gives up the subscription that the replica accepted last.
-    fn unsubscribe(&mut self, out: &mut String) -> Result<(), Mem>
-        ensures after { (turns : List TurnValue) → IsAfter self.old turns → OnOk result (IsAfter self.new (Unsubscribe ∷ turns)) }
-        ensures written { (turns : List TurnValue) → IsAfter self.old turns →
-            OnOk result (string_bytes out.new ≡ string_bytes out.old ++ written_by turns Unsubscribe) }
-        ensures grows { OnOk result (Grows self.old self.new) }
+    fn unsubscribe(&mut self, alloc: Global, out: &mut String) -> Result<(), Mem>
+        requires granted { self.old.server.book.subscribed.granted < 2 ^ 32 }
+        ensures after { (steps : List Step) → IsAfter self.old steps → OnOk result (IsAfter self.new (quiet Unsubscribe ∷ steps)) }
+        ensures written { (steps : List Step) → IsAfter self.old steps →
+            OnOk result (string_bytes out.new ≡ string_bytes out.old ++ written_on steps (quiet Unsubscribe)) }
     {
         self.last = Last::Other;
         match self.replica.accepted() {
             None => put(out, "unsubscribe none\n"),
             Some(sid) => {
-                let lived = self.server.end(sid.0, self.clock);
-                put_ended(out, lived)
+                let request = unsubscribe_request(alloc, sid)?;
+                let status = self.asked(alloc, request.as_slice())?;
+                put_status(out, "unsubscribe ", status)
             }
         }
     }
 
-    /// The note of a number reaches the replica, which does not refuse it but where its name is not known or there is no room.
-    fn deliver(&mut self, alloc: Global, number: u32, out: &mut String) -> Result<(), Mem>
-        ensures after { (turns : List TurnValue) → IsAfter self.old turns → may_stand turns (Deliver number) ≡ true →
-            OnOk result (IsAfter self.new (Deliver number ∷ turns)) }
-        ensures written { (turns : List TurnValue) → IsAfter self.old turns →
-            OnOk result (string_bytes out.new ≡ string_bytes out.old ++ written_by turns (Deliver number)) }
-        ensures grows { OnOk result (Grows self.old self.new) }
+    /// The status of the server's reply to a request about a subscription that stands.
+    fn asked(&mut self, alloc: Global, request: &[u8]) -> Result<u16, Mem>
+        ensures answered { (start : ServerStart) (commands : List Command) → ServerStandsFor self.old.server start commands →
+            IfOk result (λ status. IsAsked start commands self.old.clock request.now status self.new.server) }
+        ensures kept { self.new ≡ with_server self.old self.new.server }
+    {
+        let mut reply = Vec::new(alloc);
+        let _note = answered(alloc, &mut self.server, self.clock, request, &mut reply)?;
+        status_of(alloc, reply.as_slice())
+    }
+
+    /// The note of a number reaches the replica, which takes it or answers why not; a note that is the next one and tells what
+    /// cannot be is refused.
+    fn deliver(&mut self, alloc: Global, number: u32, out: &mut String) -> Result<(), TurnError>
+        ensures taken { (steps : List Step) → IsAfter self.old steps → may_stand_by steps (Deliver number) ≡ true →
+            QuietTaken steps (Deliver number) (string_bytes out.old) (string_bytes out.new) self.new result }
     {
         self.last = Last::Other;
-        match self.server.note(alloc, number)? {
+        match self.sent.request(alloc, number)? {
             None => Ok(()),
-            Some(note) => {
-                let answer = self.replica.notify(alloc, note);
-                if !was_noticed(&answer) {
-                    return Err(Mem);
-                }
-                put_delivered(out, u64::from(number), answer)
+            Some(request) => {
+                let note = note_of(alloc, &request)?;
+                take_note(&mut self.replica, alloc, number, note, out)
             }
         }
     }
 
     /// The reply to one read is lost.
     fn lose_read(&mut self, out: &mut String) -> Result<(), Mem>
-        ensures after { (turns : List TurnValue) → IsAfter self.old turns → OnOk result (IsAfter self.new (ReadFault ∷ turns)) }
+        ensures after { (steps : List Step) → IsAfter self.old steps → OnOk result (IsAfter self.new (quiet ReadFault ∷ steps)) }
         ensures written { OnOk result (string_bytes out.new ≡ string_bytes out.old ++ codes "readfault\n") }
-        ensures grows { OnOk result (Grows self.old self.new) }
     {
         self.last = Last::Other;
         put(out, "readfault\n")
     }
 }
 
-/// The reply to a subscribe request, by the name under which it was granted.
-fn held_reply(name: Option<u32>) -> HeldReply
-    ensures { result ≡ held_reply name }
+/// An answer that only want of memory stands in the way of, as the answer to a turn.
+fn of_memory(answer: Result<(), Mem>) -> Result<(), TurnError>
+    ensures { result ≡ of_memory answer }
 {
-    match name {
-        Some(name) => HeldReply::Named { name },
-        None => HeldReply::Refusal,
+    match answer {
+        Ok(()) => Ok(()),
+        Err(Mem) => Err(TurnError::Mem),
     }
+}
+
+/// The replica takes the bytes of the reply to its next ask, condition: there is one. It refuses them where they show nothing, or
+/// what it cannot take.
+fn take_reply(
+    replica: &mut Replica,
+    alloc: Global,
+    reply: &[u8],
+    out: &mut String,
+) -> Result<(), TurnError>
+    requires { IsSome (phase_ask replica.old.known.phase) }
+    ensures { (turns : List ReplicaTurn) → StandsFor replica.old (named script_names turns) →
+        ReplyTaken turns reply.now (string_bytes out.old) (string_bytes out.new) replica.new result }
+{
+    match replica.answer(alloc, reply) {
+        Ok(read) => {
+            put_read(out, read)?;
+            Ok(())
+        }
+        Err(AnswerError::Mem) => Err(TurnError::Mem),
+        Err(AnswerError::Unreadable) => Err(TurnError::Refused),
+        Err(AnswerError::Jump { .. }) => Err(TurnError::Refused),
+        Err(AnswerError::Torn { .. }) => Err(TurnError::Refused),
+    }
+}
+
+/// The replica takes the reply to its subscribe request, condition: the request is out. A reply that grants nothing is a refusal.
+fn take_lease(
+    replica: &mut Replica,
+    alloc: Global,
+    reply: &[u8],
+    out: &mut String,
+) -> Result<(), TurnError>
+    requires { IsTrue replica.old.inbox.out }
+    ensures { (turns : List ReplicaTurn) (held : HeldReply) → StandsFor replica.old (named script_names turns) → IsHeldAs (Some reply.now) held →
+        HeldTaken turns held (string_bytes out.old) (string_bytes out.new) replica.new result }
+{
+    match lease_of(alloc, reply)? {
+        Some(lease) => take_name(replica, alloc, Sid(lease.sid.0), out),
+        None => {
+            replica.not_subscribed();
+            put_status(out, "accept ", status_of(alloc, reply)?)?;
+            Ok(())
+        }
+    }
+}
+
+/// The replica takes the name under which its subscribe request was granted, condition: the request is out. `Unknown` and `Full` are
+/// no answers to a name.
+fn take_name(
+    replica: &mut Replica,
+    alloc: Global,
+    sid: Sid,
+    out: &mut String,
+) -> Result<(), TurnError>
+    requires { IsTrue replica.old.inbox.out }
+    ensures { (turns : List ReplicaTurn) (name : ℕ) → StandsFor replica.old (named script_names turns) → sid.0 ≡ script_names name →
+        NameTaken turns name (string_bytes out.old) (string_bytes out.new) replica.new result }
+{
+    match replica.subscribed(alloc, sid) {
+        Ok(()) => {
+            put(out, "accept 200\n")?;
+            Ok(())
+        }
+        Err(NotifyError::Mem) => Err(TurnError::Mem),
+        Err(NotifyError::Unknown) => Err(TurnError::Refused),
+        Err(NotifyError::Full { .. }) => Err(TurnError::Refused),
+        Err(NotifyError::Jump { .. }) => Err(TurnError::Refused),
+        Err(NotifyError::Torn { .. }) => Err(TurnError::Refused),
+    }
+}
+
+/// The replica takes the note of a number, or answers why not.
+fn take_note(
+    replica: &mut Replica,
+    alloc: Global,
+    number: u32,
+    note: Note,
+    out: &mut String,
+) -> Result<(), TurnError>
+    ensures { (turns : List ReplicaTurn) (told : Told) → StandsFor replica.old (named script_names turns) → note ≡ named_note script_names told →
+        NoteTaken turns number told (string_bytes out.old) (string_bytes out.new) replica.new result }
+{
+    let answer = replica.notify(alloc, note);
+    if !was_noticed(&answer) {
+        return Err(TurnError::Mem);
+    }
+    if !can_be_told(&answer) {
+        return Err(TurnError::Refused);
+    }
+    put_delivered(out, u64::from(number), answer)?;
+    Ok(())
 }
 
 /// What the turn was that found something.

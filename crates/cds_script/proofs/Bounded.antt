@@ -15,14 +15,14 @@ use Rattle.cds_load.specs.declared.exchange.Ask.{Ask as Asked}
 use Rattle.cds_load.specs.declared.exchange.Shown.{Shown}
 use Rattle.cds_load.specs.Server.{Moment, reply_to}
 use Rattle.cds_load.specs.Stages.{Held, Idle, Begun, HasToken, HasNumber, HasRoot, Lists, HasPage, HasCopy, taken, held_after, held_by, next_ask as load_ask, Begins as LoadBegins, Shows as LoadShows}
-use Rattle.cds_script.specs.Report.{script_token, number_of, first_of, clock_of, records_since, Played, after_reply, after_note, sent_note, given_up, lives, play, played, history_of, answer_text}
+use Rattle.cds_script.specs.Report.{script_token, number_of, first_of, clock_of, records_since, Played, after_reply, after_note, sent_note, given_up, with_renewal, lives, play, played, history_of, answer_text}
 use Rattle.cds_load.specs.Loads.{load_reads, held_with, read_once}
 use Rattle.cds_script.specs.LoadBounds.{answered, drops, reply_drops, note_drops, answered_after, answered_since, loads_are_bounded, all_turns_bound_loads}
 use Rattle.cds_load.proofs.Honest.{IsServed, IsGiven as IsHeldGiven}
 use Rattle.cds_load.proofs.Servers.{StoodAt, server-serves}
 use Rattle.cds_load.proofs.Ends.{Left, read-left, none-left}
 use Rattle.cds_load.proofs.Bounds.{Stale, Owes, read-stale, scan-stale}
-use Rattle.cds_commands.specs.Commands.{Command, Ends, scans_of}
+use Rattle.cds_commands.specs.Commands.{Command, Renews, Ends, scans_of}
 use Rattle.cds_commands.specs.Notes.{Note, has_room, notes_of}
 use Rattle.cds_commands.specs.Subscriptions.{granted}
 use Rattle.cds_follow.specs.Copy.{least_unread, read_up_to}
@@ -40,12 +40,12 @@ use Rattle.cds_follow.proofs.Stages.{following-later}
 use Rattle.cds_follow.proofs.Honest.{entries-served}
 use Rattle.cds_follow.proofs.LoadTurns.{loads-are-of-turns}
 use Rattle.cds_script.specs.declared.turn.Turn.{Turn}
-use Rattle.cds_script.specs.declared.turn.Turn.TheVariants.{Folder, Track, Tag, Scan, Load, Read, Ask, First, At, Subscribe, Accept, Unsubscribe, Deliver, ReadFault}
+use Rattle.cds_script.specs.declared.turn.Turn.TheVariants.{Folder, Track, Tag, Scan, Load, Read, Ask, First, At, Subscribe, Accept, Renew, Unsubscribe, Deliver, ReadFault}
 use Rattle.cds_script.proofs.Given.{Kept, ScannedCases, scanned-cases, oldest-all, turns-kept}
 use Rattle.cds_script.proofs.Stood.{read-taken, note-taken, name-taken, may-before_ask, letter_at}
 use Rattle.cds_script.specs.declared.reply.HeldReply.{HeldReply}
 use Rattle.cds_script.specs.declared.reply.HeldReply.TheVariants.{NoReply, Named, Refusal}
-use Rattle.cds_script.specs.Script.{grant_at}
+use Rattle.cds_script.specs.Script.{grant_at, granted_seconds}
 
 -- ---- what is owed
 
@@ -310,6 +310,15 @@ given_up-same first now commands (Some name) = by (lives name first now commands
     by true = refl
     by false = refl
 
+renewal-same : (first now : ℕ) (commands : List Command) (o : Option ℕ) →
+    moment_after script_token first (with_renewal o first now commands) ≡ moment_after script_token first commands
+renewal-same first now commands None = refl
+renewal-same first now commands (Some name) = by (lives name first now commands)
+  where
+    by : (b : Bool) → moment_after script_token first (cond b (Renews now name granted_seconds ∷ commands) commands) ≡ moment_after script_token first commands
+    by true = refl
+    by false = refl
+
 step : (first now : ℕ) (records : List Record) (p : Played) → Kept first p → (n : ℕ) → Bound (moment_after script_token first p.commands) p.replica n → (turn : Turn) →
     Bound (moment_after script_token first (play first now records p turn).commands) (play first now records p turn).replica (answered_after first records p n turn)
 step first now records p kept n bound (Folder path) = bound
@@ -332,6 +341,7 @@ step first now records p kept n bound Subscribe = by (has_room now p.commands (n
     by true = called
     by false = called
 step first now records p kept n bound Accept = reply-bound first (moment_after script_token first p.commands) p kept n bound p.reply refl
+step first now records p kept n bound Renew = subst (λ m. Bound m p.replica n) (sym (renewal-same first now p.commands (accepted p.replica))) bound
 step first now records p kept n bound Unsubscribe =
     subst (λ m. Bound m p.replica n) (sym (given_up-same first now p.commands (accepted p.replica))) bound
 step first now records p kept n bound (Deliver note) = note-bound first (moment_after script_token first p.commands) p kept n note bound (sent_note note (notes_of first p.commands)) refl
@@ -353,6 +363,7 @@ first-bound Ask low = nothing-bound (moment_after script_token 0 [])
 first-bound (At moment) low = step 0 0 [] (played []) (turns-kept [] low) 0 (nothing-bound (moment_after script_token 0 [])) (At moment)
 first-bound Subscribe low = step 0 0 [] (played []) (turns-kept [] low) 0 (nothing-bound (moment_after script_token 0 [])) Subscribe
 first-bound Accept low = step 0 0 [] (played []) (turns-kept [] low) 0 (nothing-bound (moment_after script_token 0 [])) Accept
+first-bound Renew low = step 0 0 [] (played []) (turns-kept [] low) 0 (nothing-bound (moment_after script_token 0 [])) Renew
 first-bound Unsubscribe low = step 0 0 [] (played []) (turns-kept [] low) 0 (nothing-bound (moment_after script_token 0 [])) Unsubscribe
 first-bound (Deliver note) low = step 0 0 [] (played []) (turns-kept [] low) 0 (nothing-bound (moment_after script_token 0 [])) (Deliver note)
 first-bound ReadFault low = nothing-bound (moment_after script_token 0 [])

@@ -9,11 +9,11 @@ use Rattle.cds_object.specs.declared.record.Record.{Record}
 use Rattle.cds_object.specs.Object.{ObjectRow, is_folder}
 use Rattle.cds_object.specs.Tree.{row_of, children_of}
 use Rattle.cds_load.specs.Server.{Moment, page_size, update_of, reply_to, metadata_reply, children_reply}
-use Rattle.cds_script.specs.Report.{read_text, reply_text, first_of, clock_of, records_since, Played, after_reply, after_note, sent_note, lives, given_up, play, played, script_token}
+use Rattle.cds_script.specs.Report.{read_text, reply_text, first_of, clock_of, records_since, Played, after_reply, after_note, sent_note, lives, given_up, with_renewal, play, played, script_token}
 use Rattle.cds_load.specs.declared.exchange.Ask.{Ask as Asked}
 use Rattle.cds_load.specs.declared.exchange.Ask.TheVariants.{Token, Number as AskNumber, Metadata, Children}
 use Rattle.cds_load.specs.declared.exchange.Shown.TheVariants.{Page, Fault}
-use Rattle.cds_commands.specs.Commands.{Command, Ends, Ticks, scans_of}
+use Rattle.cds_commands.specs.Commands.{Command, Renews, Ends, Ticks, scans_of}
 use Rattle.cds_commands.specs.Notes.{Note, has_room, notes_of, sent_by}
 use Rattle.cds_commands.specs.Subscriptions.{granted}
 use Rattle.cds_follow.specs.Inbox.{ReplicaTurn, Begins, Shows, Requests, Accepts, Delivers, Arrival, IsUnknown, IsRepeat, IsTooMany, IsEarly, IsHeld, IsNext, is_out, accepted, is_accepted, is_early, early_notes, received, has_seq, next_seq, held_notes, held_limit, is_repeat, is_next, taken_by, arrival}
@@ -22,14 +22,14 @@ use Rattle.cds_follow.specs.Given.{moment_after, asked_at}
 use Rattle.cds_commands.proofs.Among.{Among, among-contained, among-all, among-filter}
 use Rattle.cds_commands.proofs.Sent.{Sound, all-sound}
 use Rattle.cds_script.specs.declared.turn.Turn.{Turn}
-use Rattle.cds_script.specs.declared.turn.Turn.TheVariants.{Folder, Track, Tag, Scan, Load, Read, Ask, First, At, Subscribe, Accept, Unsubscribe, Deliver, ReadFault}
+use Rattle.cds_script.specs.declared.turn.Turn.TheVariants.{Folder, Track, Tag, Scan, Load, Read, Ask, First, At, Subscribe, Accept, Renew, Unsubscribe, Deliver, ReadFault}
 use Rattle.cds_script.specs.Played.{AllStand}
 use Rattle.cds_script.specs.Complete.{is_full, delivered_notes_are_received, is_quiet, nothing_is_to_be_read, all_answers_are_complete}
 use Rattle.cds_script.proofs.Given.{Waits, Kept, ScannedCases, scanned-cases, granted-rises, sent-place, sent-contained, turns-kept}
 use Rattle.cds_script.proofs.Stood.{note-taken, name-taken, may-before_ask, answers-are_complete}
 use Rattle.cds_script.specs.declared.reply.HeldReply.{HeldReply}
 use Rattle.cds_script.specs.declared.reply.HeldReply.TheVariants.{NoReply, Named, Refusal}
-use Rattle.cds_script.specs.Script.{grant_at}
+use Rattle.cds_script.specs.Script.{grant_at, granted_seconds}
 
 -- ---- the note of a number
 
@@ -148,6 +148,15 @@ step-named first now records p kept named Subscribe = by (has_room now p.command
 step-named first now records p kept named Accept = reply-named first p.commands p.replica p.reply
     (record { accepted = kept.accepted; entries = kept.entries; given = kept.given; are = kept.are; within = kept.within; waits = kept.waits })
     (record { granted_one = named.granted_one; before = named.before })
+step-named first now records p kept named Renew = by (accepted p.replica)
+  where
+    on : (name : ℕ) (b : Bool) → NamesRise (record p { commands = cond b (Renews now name granted_seconds ∷ p.commands) p.commands })
+    on name true = command-named p (Renews now name granted_seconds) named
+    on name false = same-named p p.commands refl named
+
+    by : (o : Option ℕ) → NamesRise (record p { commands = with_renewal o first now p.commands })
+    by None = same-named p p.commands refl named
+    by (Some name) = on name (lives name first now p.commands)
 step-named first now records p kept named Unsubscribe = by (accepted p.replica)
   where
     on : (name : ℕ) (b : Bool) → NamesRise (record p { commands = cond b (Ends now name ∷ p.commands) p.commands })
@@ -336,6 +345,15 @@ step-sent first now number records p note e Subscribe = by (has_room now p.comma
     by true = sent-append number (notes_of first p.commands) (sent_by first p.commands (notes_of first p.commands) (grant_at now)) note e
     by false = e
 step-sent first now number records p note e Accept = e
+step-sent first now number records p note e Renew = by (accepted p.replica)
+  where
+    on : (name : ℕ) (b : Bool) → sent_note number (notes_of first (cond b (Renews now name granted_seconds ∷ p.commands) p.commands)) ≡ Some note
+    on name true = sent-append number (notes_of first p.commands) [] note e
+    on name false = e
+
+    by : (o : Option ℕ) → sent_note number (notes_of first (with_renewal o first now p.commands)) ≡ Some note
+    by None = e
+    by (Some name) = on name (lives name first now p.commands)
 step-sent first now number records p note e Unsubscribe = by (accepted p.replica)
   where
     on : (name : ℕ) (b : Bool) → sent_note number (notes_of first (cond b (Ends now name ∷ p.commands) p.commands)) ≡ Some note
@@ -379,6 +397,7 @@ step-got first now number records p note kept e got Subscribe = by (has_room now
     }
     by false = record { taken = got.taken; early = λ f. absurd (cc) }
 step-got first now number records p note kept e got Accept = reply-got first p note kept got p.reply refl
+step-got first now number records p note kept e got Renew = record { taken = got.taken; early = got.early }
 step-got first now number records p note kept e got Unsubscribe = record { taken = got.taken; early = got.early }
 step-got first now number records p note kept e got (Deliver other) =
     keeps-got p (after_note (sent_note other (notes_of first p.commands)) p.replica) note (noted-keeps (sent_note other (notes_of first p.commands)) p.replica) got
@@ -527,6 +546,7 @@ step-quiet first now records p Subscribe q e = by (has_room now p.commands (note
     by true = e
     by false = e
 step-quiet first now records p Accept q e = absurd (cc)
+step-quiet first now records p Renew q e = e
 step-quiet first now records p Unsubscribe q e = e
 step-quiet first now records p (Deliver note) q e = absurd (cc)
 step-quiet first now records p ReadFault q e = e

@@ -17,12 +17,12 @@ use Rattle.cds_follow.specs.Inbox.{ReplicaTurn, Begins, Shows, Requests, Accepts
 use Rattle.cds_follow.specs.Follow.{is_refused, and_turn, known_by, next_ask}
 use Rattle.cds_follow.specs.Given.{moment_after, Entry, Starts, Asks, Calls, Granted, Denied, Gets, asked_at, given_by, latest_length, length_before_call, IsGiven}
 use Rattle.cds_script.specs.declared.turn.Turn.{Turn}
-use Rattle.cds_script.specs.declared.turn.Turn.TheVariants.{Folder, Track, Tag, Scan, Load, Read, Ask, First, At, Subscribe, Accept, Unsubscribe, Deliver, ReadFault}
-use Rattle.cds_script.specs.Report.{number_of, first_of, clock_of, records_since, Played, scanned, after_reply, after_note, sent_note, lives, given_up, play, played, script_token}
+use Rattle.cds_script.specs.declared.turn.Turn.TheVariants.{Folder, Track, Tag, Scan, Load, Read, Ask, First, At, Subscribe, Accept, Renew, Unsubscribe, Deliver, ReadFault}
+use Rattle.cds_script.specs.Report.{number_of, first_of, clock_of, records_since, Played, scanned, after_reply, after_note, sent_note, lives, given_up, with_renewal, play, played, script_token}
 use Rattle.cds_script.specs.ScriptGiven.{scripts_are_given}
 use Rattle.cds_script.specs.declared.reply.HeldReply.{HeldReply}
 use Rattle.cds_script.specs.declared.reply.HeldReply.TheVariants.{NoReply, Named, Refusal}
-use Rattle.cds_script.specs.Script.{grant_at}
+use Rattle.cds_script.specs.Script.{grant_at, granted_seconds}
 
 -- ---- the oldest commands
 
@@ -143,7 +143,7 @@ scanned-cases history records commands = by (bad_record records) refl
     by (Some line) e = inl refl
     by None e = by_test _ _ refl refl e
 
-scan-accepted : (first : ℕ) (records : List Record) (commands : List Command) → AreAccepted first commands → bad_record records ≡ None → length records ≤ 65535 →
+pub scan-accepted : (first : ℕ) (records : List Record) (commands : List Command) → AreAccepted first commands → bad_record records ≡ None → length records ≤ 65535 →
     end_of (scans_of first commands) + needed_by (scans_of first commands) records ≤ 4294967295 → AreAccepted first (Scans (map_of records) ∷ commands)
 scan-accepted first records commands a good few most =
     let map = accepted_map records good in
@@ -342,6 +342,16 @@ given_up-kept first now p (Some name) kept = by (lives name first now p.commands
     by true = let a = kept.accepted in more-command first p (Ends now name) kept (record { libraries = a.libraries; few = a.few; numbers = a.numbers })
     by false = same-commands first p p.commands refl kept
 
+renewal-kept : (first now : ℕ) (p : Played) (o : Option ℕ) → Kept first p → Kept first (record p { commands = with_renewal o first now p.commands })
+renewal-kept first now p None kept = same-commands first p p.commands refl kept
+renewal-kept first now p (Some name) kept = by (lives name first now p.commands)
+  where
+    by : (b : Bool) → Kept first (record p { commands = cond b (Renews now name granted_seconds ∷ p.commands) p.commands })
+    by true =
+        let a = kept.accepted in
+        more-command first p (Renews now name granted_seconds) kept (record { libraries = a.libraries; few = a.few; numbers = a.numbers })
+    by false = same-commands first p p.commands refl kept
+
 step : (first now : ℕ) (records : List Record) (p : Played) → Kept first p → (turn : Turn) → Kept first (play first now records p turn)
 step first now records p kept (Folder path) = kept
 step first now records p kept (Track path info size) = kept
@@ -367,6 +377,7 @@ step first now records p kept Accept = accept-kept first p.commands p.replica p.
   within = kept.within;
   waits = kept.waits;
 })
+step first now records p kept Renew = renewal-kept first now p (accepted p.replica) kept
 step first now records p kept Unsubscribe = given_up-kept first now p (accepted p.replica) kept
 step first now records p kept (Deliver note) =
     note-kept first p (sent_note note (notes_of first p.commands)) (λ n e. sent-contained note (notes_of first p.commands) n e) kept
@@ -394,6 +405,7 @@ first-kept Ask low = nothing-kept 0 low
 first-kept (At moment) low = step 0 0 [] (played []) (nothing-kept 0 low) (At moment)
 first-kept Subscribe low = step 0 0 [] (played []) (nothing-kept 0 low) Subscribe
 first-kept Accept low = step 0 0 [] (played []) (nothing-kept 0 low) Accept
+first-kept Renew low = step 0 0 [] (played []) (nothing-kept 0 low) Renew
 first-kept Unsubscribe low = step 0 0 [] (played []) (nothing-kept 0 low) Unsubscribe
 first-kept (Deliver note) low = step 0 0 [] (played []) (nothing-kept 0 low) (Deliver note)
 first-kept ReadFault low = nothing-kept 0 low

@@ -36,7 +36,7 @@ lines-last b (next ∷ bytes) whole =
     ∙ ap (onto_first b) (lines-last next bytes (and_parts _ _ whole).1)
 
 -- a front that reaches past a line
-take-past : (line after : List ℕ) (room : ℕ) → length line + 1 ≤ room → take room (line ++ 10 ∷ after) ≡ line ++ 10 ∷ take (room - (length line + 1)) after
+pub take-past : (line after : List ℕ) (room : ℕ) → length line + 1 ≤ room → take room (line ++ 10 ∷ after) ≡ line ++ 10 ∷ take (room - (length line + 1)) after
 take-past [] after zero enough = absurd (omega (arith, enough))
 take-past [] after (suc room) enough = ap (λ n. 10 ∷ take n after) (let e : room ≡ suc room - (0 + 1) = omega arith in e)
 take-past (b ∷ line) after zero enough = absurd (omega (arith, enough))
@@ -101,7 +101,7 @@ ending-over turns number room bytes whole over =
     ∙ ap (λ lines. ending_from turns number lines false) (ended-none (take room bytes) whole)
 
 -- what begins with bytes without an LF has a first line that begins with them
-lines-begin : (b : ℕ) (front more : List ℕ) → is_unbroken (b ∷ front) ≡ true →
+pub lines-begin : (b : ℕ) (front more : List ℕ) → is_unbroken (b ∷ front) ≡ true →
     (rest : List ℕ) × (lines : List (List ℕ)) × (lines_of ((b ∷ front) ++ more) ≡ ((b ∷ front) ++ rest) ∷ lines)
 lines-begin b [] more whole = by (lines_of more) refl
   where
@@ -123,7 +123,7 @@ lines-begin b (next ∷ front) more whole = by (lines-begin next front more (and
     )
 
 -- likewise where only what an LF ended counts, if any line was
-ended-begin : (b : ℕ) (front more : List ℕ) → is_unbroken (b ∷ front) ≡ true →
+pub ended-begin : (b : ℕ) (front more : List ℕ) → is_unbroken (b ∷ front) ≡ true →
     (ended_lines ((b ∷ front) ++ more) ≡ [])
     ⊎ ((rest : List ℕ) × (lines : List (List ℕ)) × (ended_lines ((b ∷ front) ++ more) ≡ ((b ∷ front) ++ rest) ∷ lines))
 ended-begin b [] more whole = by (ended_lines more) refl
@@ -148,14 +148,14 @@ ended-begin b (next ∷ front) more whole = by (ended-begin next front more (and
     by (inr t) = inr (t.0, t.1, head ∙ ap (onto_line b) t.2)
 
 -- a front that reaches past what comes first
-take-through : (front more : List ℕ) (room : ℕ) → length front ≤ room → take room (front ++ more) ≡ front ++ take (room - length front) more
+pub take-through : (front more : List ℕ) (room : ℕ) → length front ≤ room → take room (front ++ more) ≡ front ++ take (room - length front) more
 take-through [] more room enough = ap (λ n. take n more) (let e : room ≡ room - 0 = omega arith in e)
 take-through (b ∷ front) more zero enough = absurd (omega (arith, enough))
 take-through (b ∷ front) more (suc room) enough =
     ap (λ bytes. b ∷ bytes) (take-through front more room (omega (arith, enough)))
     ∙ ap (λ n. b ∷ (front ++ take n more)) (let e : room - length front ≡ suc room - suc (length front) = omega arith in e)
 
-take-within : (front more : List ℕ) (room : ℕ) → room < length front → is_unbroken front ≡ true → is_unbroken (take room (front ++ more)) ≡ true
+pub take-within : (front more : List ℕ) (room : ℕ) → room < length front → is_unbroken front ≡ true → is_unbroken (take room (front ++ more)) ≡ true
 take-within [] more room small whole = absurd (omega (arith, small))
 take-within (b ∷ front) more zero small whole = refl
 take-within (b ∷ front) more (suc room) small whole =

@@ -3,21 +3,22 @@
 use Rattle.std.proofs.Common.{◌≡◌, ℕ, zero, suc, ◌+◌, ◌<◌, ◌≤◌, List, [], ◌∷◌, length, Bool, true, false, cond, ◌&&◌, nat_eq, nat_lt, refl, ap, sym, subst, ◌∙◌, arith, true≢false, inl, inr, Option, Some, None, is_some}
 use Rattle.std.specs.Prelude.{filter}
 use Rattle.std.specs.List.{range_with_len}
-use Rattle.std.proofs.lemmas.Bool.{and_parts, leb-true, ltb-true, lt-ltb, ne_eqb}
+use Rattle.std.proofs.lemmas.Bool.{and_parts, eqb-true, leb-true, ltb-true, lt-ltb, ne_eqb}
 use Rattle.cds_object.specs.declared.record.Record.{Record}
 use Rattle.cds_catalog.specs.Library.{map_of}
 use Rattle.cds_catalog.specs.Scans.{scan_answer}
-use Rattle.cds_commands.specs.Commands.{Command, Scans, Ends, Ticks, scans_of}
-use Rattle.cds_commands.specs.Subscriptions.{granted, end_after, unless_past, runs_until, is_alive, subscription_limit}
+use Rattle.cds_commands.specs.Commands.{Command, Scans, Renews, Ends, Ticks, scans_of}
+use Rattle.cds_commands.specs.Subscriptions.{granted, end_after, renewed_until, unless_past, runs_until, is_alive, subscription_limit}
 use Rattle.cds_commands.specs.Notes.{next_seq_of, seq_limit, alive_names, has_room, sent_by, notes_of}
 use Rattle.cds_follow.specs.Inbox.{Requests, accepted}
-use Rattle.cds_commands.proofs.Among.{seq-append}
+use Rattle.cds_commands.proofs.Among.{among-contained, filter-among, seq-append}
 use Rattle.cds_script.specs.declared.turn.Turn.{Turn}
-use Rattle.cds_script.specs.declared.turn.Turn.TheVariants.{Folder, Track, Tag, Scan, Load, Read, Ask, First, At, Subscribe, Accept, Unsubscribe, Deliver, ReadFault}
-use Rattle.cds_script.specs.Report.{number_of, first_of, clock_of, records_since, Played, scanned, lives, given_up, play, played, may_stand}
+use Rattle.cds_script.specs.declared.turn.Turn.TheVariants.{Folder, Track, Tag, Scan, Load, Read, Ask, First, At, Subscribe, Accept, Renew, Unsubscribe, Deliver, ReadFault}
+use Rattle.cds_script.specs.Report.{number_of, first_of, clock_of, records_since, Played, scanned, lives, given_up, with_renewal, play, played, may_stand}
 use Rattle.cds_script.specs.Played.{AllStand}
 use Rattle.cds_script.specs.ScriptGiven.{subscriptions_are_few}
 use Rattle.cds_script.proofs.Given.{ScannedCases, scanned-cases}
+use Rattle.cds_script.proofs.Stood.{any-contained}
 use Rattle.cds_script.specs.declared.reply.HeldReply.TheVariants.{Named, Refusal}
 use Rattle.cds_script.specs.Script.{grant_at, granted_seconds}
 
@@ -99,6 +100,26 @@ ends-alive now name other older = by (nat_eq name other)
     by true e = absurd (cc)
     by false e = e
 
+-- only one that lives is renewed, so it lived before
+lives-alive : (name first now : ℕ) (commands : List Command) → lives name first now commands ≡ true → is_alive name now commands ≡ true
+lives-alive name first now commands living =
+    let names : List ℕ = alive_names now commands (notes_of first commands) in
+    let among = among-contained names name (any-contained name names living) in
+    let passes = filter-among (Lives first now commands) (range_with_len 1 (granted commands)) name among in
+    (and_parts (is_alive name now commands) (nat_lt (next_seq_of name (notes_of first commands)) seq_limit) passes.1).0
+
+renews-alive : (now name other : ℕ) (older : List Command) → is_alive name now older ≡ true → is_alive other now (Renews now name granted_seconds ∷ older) ≡ true →
+    is_alive other now older ≡ true
+renews-alive now name other older alive = by (nat_eq other name) refl
+  where
+    ends : Option ℕ
+    ends = runs_until other older
+
+    by : (b : Bool) → nat_eq other name ≡ b → is_some (unless_past now (cond b (renewed_until (end_after now granted_seconds) ends) ends)) ≡ true →
+        is_some (unless_past now ends) ≡ true
+    by true same e = ap (λ (n : ℕ). is_alive n now older) (eqb-true other name same) ∙ alive
+    by false same e = e
+
 -- after a tick at the same moment or a later one
 tick-alive : (now moment : ℕ) → now ≤ moment → (o : Option ℕ) → is_some (unless_past moment (unless_past moment o)) ≡ true → is_some (unless_past now o) ≡ true
 tick-alive now moment late None e = e
@@ -150,6 +171,17 @@ given_up-few first now commands (Some name) few = by (lives name first now comma
     by true = let fewer = scans-few first now commands (Ends now name) refl (λ other alive. ends-alive now other name commands alive) in omega (arith, fewer, few)
     by false = few
 
+renewal-few : (first now : ℕ) (commands : List Command) (o : Option ℕ) → AreFew first now commands → AreFew first now (with_renewal o first now commands)
+renewal-few first now commands None few = few
+renewal-few first now commands (Some name) few = by (lives name first now commands) refl
+  where
+    by : (b : Bool) → lives name first now commands ≡ b → AreFew first now (cond b (Renews now name granted_seconds ∷ commands) commands)
+    by true living =
+        let before = lives-alive name first now commands living in
+        let fewer = scans-few first now commands (Renews now name granted_seconds) refl (λ other alive. renews-alive now name other commands before alive) in
+        omega (arith, fewer, few)
+    by false living = few
+
 step : (first : ℕ) (older : List Turn) (turn : Turn) → may_stand older turn ≡ true → AreFew first (clock_of older) (played older).commands →
     AreFew first (clock_of (turn ∷ older)) (play first (clock_of older) (records_since older) (played older) turn).commands
 step first older (Folder path) stands few = few
@@ -174,6 +206,7 @@ step first older Subscribe stands few = by (has_room (clock_of older) (played ol
     by true room = grant-few first (clock_of older) p.commands room
     by false room = few
 step first older Accept stands few = few
+step first older Renew stands few = renewal-few first (clock_of older) (played older).commands (accepted (played older).replica) few
 step first older Unsubscribe stands few = given_up-few first (clock_of older) (played older).commands (accepted (played older).replica) few
 step first older (Deliver note) stands few = few
 step first older ReadFault stands few = few
@@ -193,6 +226,7 @@ first-few Ask stands = none-few 0 0
 first-few (At moment) stands = step 0 [] (At moment) stands (none-few 0 0)
 first-few Subscribe stands = step 0 [] Subscribe stands (none-few 0 0)
 first-few Accept stands = none-few 0 0
+first-few Renew stands = step 0 [] Renew stands (none-few 0 0)
 first-few Unsubscribe stands = step 0 [] Unsubscribe stands (none-few 0 0)
 first-few (Deliver note) stands = none-few 0 0
 first-few ReadFault stands = none-few 0 0

@@ -3,6 +3,7 @@ use Rattle.std.proofs.Common.{◌≡◌, ℕ, suc, ◌+◌, ◌<◌, ◌≤◌, 
 use Rattle.std.specs.Prelude.{nat_lt, codes}
 use Rattle.std.specs.List.{AllByRecursion, cons_option}
 use Rattle.std.specs.Str.{is_utf8}
+use Rattle.std.specs.Option.{option_and_then}
 use Rattle.std.proofs.lemmas.Bool.{and_parts, ltb-true}
 use mathlib.Core.List.{reverse_aux}
 use Rattle.cds_base.specs.Number.{plain_below, has_leading_zero, is_number_in, value_in}
@@ -10,12 +11,12 @@ use Rattle.cds_object.specs.declared.info.FlacInfo.{FlacInfo}
 use Rattle.cds_object.specs.Content.{same_text}
 use Rattle.cds_script.specs.Lines.{words_of}
 use Rattle.cds_script.specs.Word.{words_said}
-use Rattle.cds_script.specs.Script.{number_from_to, info_from, path_said, folder_turn, track_turn, plain_turn, moment_limit, first_turn, at_turn, deliver_turn, number_turn, folder_line, track_line, tag_line, plain_line, turn_of, meaning_of_turn, meaning_of_said, meaning_of_words, meaning_of, IsInRange, MeansInRange, lines_mean_in_range}
+use Rattle.cds_script.specs.Script.{number_from_to, info_from, path_said, folder_turn, track_turn, plain_turn, moment_limit, first_turn, at_turn, deliver_turn, number_turn, folder_line, track_line, tag_line, plain_line, turn_of, meaning_of_turn, meaning_of_said, meaning_of_words, meaning_of, IsInfoInRange, IsInRange, MeansInRange, lines_mean_in_range}
 use Rattle.cds_script.specs.Played.{script_lines, turn_in, is_within, is_answered, and_meant, answered_lines, AllStand, script_turns_may_be}
 use Rattle.cds_script.specs.declared.turn.Meaning.{Meaning}
 use Rattle.cds_script.specs.declared.turn.Meaning.TheVariants.{Nothing, Means, Outside}
 use Rattle.cds_script.specs.declared.turn.Turn.{Turn}
-use Rattle.cds_script.specs.declared.turn.Turn.TheVariants.{Folder, Track, Tag, Scan, Load, Read, Ask, First, At, Subscribe, Accept, Unsubscribe, Deliver, ReadFault}
+use Rattle.cds_script.specs.declared.turn.Turn.TheVariants.{Folder, Track, Tag, Scan, Load, Read, Ask, First, At, Subscribe, Accept, Renew, Unsubscribe, Deliver, ReadFault}
 use Rattle.cds_script.specs.Report.{number_of, first_of, may_stand}
 use Rattle.cds_script.proofs.Played.{turns_in}
 use Rattle.cds_object.specs.ContentOf.{bare_info}
@@ -48,6 +49,7 @@ low-number (First number) f = f
 low-number (At moment) f = omega arith
 low-number Subscribe f = omega arith
 low-number Accept f = omega arith
+low-number Renew f = omega arith
 low-number Unsubscribe f = omega arith
 low-number (Deliver note) f = omega arith
 low-number ReadFault f = omega arith
@@ -72,20 +74,38 @@ folder-fine : (o : Option (List (List ℕ))) → Fine (folder_turn o)
 folder-fine (Some path) = tt
 folder-fine None = tt
 
--- what a file says has as many samples as its word
-info-few : (r c b s : Option ℕ) → ((n : ℕ) → s ≡ Some n → n < 2 ^ 36) → (info : FlacInfo) → info_from r c b s ≡ Some info → info.samples < 2 ^ 36
-info-few (Some rate) (Some channels) (Some bits) (Some samples) few info e =
-    let same : bare_info rate channels bits samples ≡ info = cc in subst (λ (i : FlacInfo). i.samples < 2 ^ 36) same (few samples refl)
-info-few None c b s few info e = absurd (cc)
-info-few (Some rate) None b s few info e = absurd (cc)
-info-few (Some rate) (Some channels) None s few info e = absurd (cc)
-info-few (Some rate) (Some channels) (Some bits) None few info e = absurd (cc)
+-- a number up to another is no greater
+from-high : (low high : ℕ) (word : List ℕ) (n : ℕ) → number_from_to low high word ≡ Some n → n < high + 1
+from-high low high word n = by (plain_below (high + 1) word) refl
+  where
+    at : (m : ℕ) (b : Bool) → plain_below (high + 1) word ≡ Some m → cond b None (Some m) ≡ Some n → n < high + 1
+    at m true below e = absurd (cc)
+    at m false below e = let is : m ≡ n = cc in subst (λ (k : ℕ). k < high + 1) is (below-limit (high + 1) word m below)
 
-track-fine : (o : Option (List (List ℕ))) (size : Option ℕ) (says : Option FlacInfo) → ((info : FlacInfo) → says ≡ Some info → info.samples < 2 ^ 36) → Fine (track_turn o size says)
-track-fine (Some path) (Some size) (Some info) few = few info refl
-track-fine (Some path) (Some size) None few = tt
-track-fine (Some path) None says few = tt
-track-fine None size says few = tt
+    by : (o : Option ℕ) → plain_below (high + 1) word ≡ o → option_and_then (λ m. cond (nat_lt m low) None (Some m)) o ≡ Some n → n < high + 1
+    by None below e = absurd (cc)
+    by (Some m) below e = at m (nat_lt m low) below e
+
+-- what a file says is what its words are
+info-fine : (r c b s : Option ℕ) → ((n : ℕ) → r ≡ Some n → n < 2 ^ 20) → ((n : ℕ) → c ≡ Some n → n < 9) → ((n : ℕ) → b ≡ Some n → n < 33) →
+    ((n : ℕ) → s ≡ Some n → n < 2 ^ 36) → (info : FlacInfo) → info_from r c b s ≡ Some info → IsInfoInRange info
+info-fine (Some rate) (Some channels) (Some bits) (Some samples) rs cs bs few info e =
+    let same : bare_info rate channels bits samples ≡ info = cc in
+    let low : rate < 1048576 = rs rate refl in
+    let eight : channels < 9 = cs channels refl in
+    let wide : bits < 33 = bs bits refl in
+    subst IsInfoInRange same (omega (arith, low), omega (arith, eight), omega (arith, wide), few samples refl)
+info-fine None c b s rs cs bs few info e = absurd (cc)
+info-fine (Some rate) None b s rs cs bs few info e = absurd (cc)
+info-fine (Some rate) (Some channels) None s rs cs bs few info e = absurd (cc)
+info-fine (Some rate) (Some channels) (Some bits) None rs cs bs few info e = absurd (cc)
+
+track-fine : (o : Option (List (List ℕ))) (size : Option ℕ) (says : Option FlacInfo) → ((n : ℕ) → size ≡ Some n → n < 2 ^ 64) →
+    ((info : FlacInfo) → says ≡ Some info → IsInfoInRange info) → Fine (track_turn o size says)
+track-fine (Some path) (Some size) (Some info) fits fine = (fine info refl, fits size refl)
+track-fine (Some path) (Some size) None fits fine = tt
+track-fine (Some path) None says fits fine = tt
+track-fine None size says fits fine = tt
 
 folder_line-fine : (words : List (List ℕ)) → Fine (folder_line words)
 folder_line-fine [] = tt
@@ -99,9 +119,11 @@ track_line-fine (a ∷ b ∷ []) = tt
 track_line-fine (a ∷ b ∷ c ∷ []) = tt
 track_line-fine (a ∷ b ∷ c ∷ d ∷ []) = tt
 track_line-fine (a ∷ b ∷ c ∷ d ∷ f ∷ []) = tt
-track_line-fine (a ∷ b ∷ c ∷ d ∷ f ∷ g ∷ []) = track-fine (path_said a) (plain_below (2 ^ 64) b)
-    (info_from (plain_below (2 ^ 20) c) (number_from_to 1 8 d) (number_from_to 1 32 f) (plain_below (2 ^ 36) g))
-    (info-few (plain_below (2 ^ 20) c) (number_from_to 1 8 d) (number_from_to 1 32 f) (plain_below (2 ^ 36) g) (below-limit (2 ^ 36) g))
+track_line-fine (a ∷ b ∷ c ∷ d ∷ f ∷ g ∷ []) =
+    track-fine (path_said a) (plain_below (2 ^ 64) b)
+    (info_from (plain_below (2 ^ 20) c) (number_from_to 1 8 d) (number_from_to 1 32 f) (plain_below (2 ^ 36) g)) (below-limit (2 ^ 64) b)
+    (info-fine (plain_below (2 ^ 20) c) (number_from_to 1 8 d) (number_from_to 1 32 f) (plain_below (2 ^ 36) g) (below-limit (2 ^ 20) c) (from-high 1 8 d) (from-high 1 32 f)
+    (below-limit (2 ^ 36) g))
 track_line-fine (a ∷ b ∷ c ∷ d ∷ f ∷ g ∷ h ∷ words) = tt
 
 tag_line-fine : (words : List (List ℕ)) → Fine (tag_line words)
@@ -124,8 +146,9 @@ plain-fine word =
     (cond-fine (same_text word (codes "ask")) (Some Ask) _ tt
     (cond-fine (same_text word (codes "subscribe")) (Some Subscribe) _ tt
     (cond-fine (same_text word (codes "accept")) (Some Accept) _ tt
+    (cond-fine (same_text word (codes "renew")) (Some Renew) _ tt
     (cond-fine (same_text word (codes "unsubscribe")) (Some Unsubscribe) _ tt
-    (cond-fine (same_text word (codes "readfault")) (Some ReadFault) None tt tt)))))))
+    (cond-fine (same_text word (codes "readfault")) (Some ReadFault) None tt tt))))))))
 
 plain_line-fine : (word : List ℕ) (words : List (List ℕ)) → Fine (plain_line word words)
 plain_line-fine word [] = plain-fine word

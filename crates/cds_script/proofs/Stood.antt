@@ -159,7 +159,7 @@ turns-stand turns may newer older rest parts wrote =
 
 -- ---- the answer is complete
 
-any-contained : (name : ℕ) (names : List ℕ) → list_any (λ other. nat_eq other name) names ≡ true → Contains names name
+pub any-contained : (name : ℕ) (names : List ℕ) → list_any (λ other. nat_eq other name) names ≡ true → Contains names name
 any-contained name [] e = absurd (true≢false (sym e))
 any-contained name (other ∷ names) e = by (nat_eq other name) refl e (λ f. any-contained name names f)
   where

@@ -83,13 +83,13 @@ note_never_sent =
     × Leaves (codes "subscribe\ndeliver 0\n") 1 (codes "note 1 seq 0 at 0\nerror line 2\n")
     × Leaves (codes "subscribe\ndeliver 2\n") 1 (codes "note 1 seq 0 at 0\nerror line 2\n")
 
--- moments never fall, and are below 1,800,000
+-- moments never fall, and have 64 bits
 abbrev pub moments_rise : Type 0
 moments_rise =
     Leaves (codes "at 5\nat 5\n") 0 []
     × Leaves (codes "at 5\nat 4\n") 1 (codes "error line 2\n")
-    × Leaves (codes "at 1799999\n") 0 []
-    × Leaves (codes "at 1800000\n") 1 (codes "error line 1\n")
+    × Leaves (codes "at 18446744073709551615\n") 0 []
+    × Leaves (codes "at 18446744073709551616\n") 1 (codes "error line 1\n")
     × Leaves (codes "at 05\n") 1 (codes "error line 1\n")
 
 -- the first number comes before all else that does something

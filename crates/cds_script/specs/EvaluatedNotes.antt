@@ -132,6 +132,20 @@ abbrev pub given_up_once : Type 0
 given_up_once = Leaves (codes "unsubscribe\nsubscribe\nunsubscribe\naccept\nunsubscribe\nunsubscribe\n") 0
     (codes "unsubscribe none\nnote 1 seq 0 at 0\nunsubscribe none\naccept 200\nunsubscribe 200\nunsubscribe 412\n")
 
+-- a subscription at the moment 0, and its renewal at another
+abbrev pub renewal_at : List ℕ → List ℕ
+renewal_at moment = codes "subscribe\naccept\nat " ++ moment ++ codes "\nrenew\n"
+
+-- it is renewed while it lives, which is 1,799,999 milliseconds after its grant and not 1,800,000; before a reply is accepted there
+-- is none to be renewed. From a renewal on it lives as long again, and gets notes
+abbrev pub subscriptions_are_renewed : Type 0
+subscriptions_are_renewed =
+    Leaves (renewal_at (codes "1799999")) 0 (codes "note 1 seq 0 at 0\naccept 200\nrenew 200\n")
+    × Leaves (renewal_at (codes "1800000")) 0 (codes "note 1 seq 0 at 0\naccept 200\nrenew 412\n")
+    × Leaves (codes "renew\nsubscribe\nrenew\n") 0 (codes "renew none\nnote 1 seq 0 at 0\nrenew none\n")
+    × Leaves (renewal_at (codes "1799999") ++ one_track ++ codes "scan\nat 3599998\nrenew\nat 5399998\nrenew\n") 0
+    (codes "note 1 seq 0 at 0\naccept 200\nrenew 200\nscan 1\nnote 2 seq 1 at 1\nrenew 200\nrenew 412\n")
+
 -- early notes of two requests: the second drops those of the first, and a note of the name that the first would have given is
 -- unknown once the second is accepted
 abbrev pub early_notes_are_dropped : Type 0

@@ -17,7 +17,7 @@ use Rattle.cds_load.specs.Server.{Moment, reply_to}
 use Rattle.cds_load.specs.declared.exchange.Ask.{Ask as Asked}
 use Rattle.cds_load.specs.declared.exchange.Shown.{Shown}
 use Rattle.cds_load.specs.declared.exchange.Shown.TheVariants.{Text, Number, Page, Fault}
-use Rattle.cds_commands.specs.Commands.{Command, Scans, Ends, Ticks, scans_of}
+use Rattle.cds_commands.specs.Commands.{Command, Scans, Renews, Ends, Ticks, scans_of}
 use Rattle.cds_commands.specs.Notes.{Note, alive_names, has_room, notes_of, sent_by}
 use Rattle.cds_commands.specs.Subscriptions.{granted}
 use Rattle.cds_follow.specs.Inbox.{ReplicaTurn, Begins, Requests, Accepts, Refuses, Delivers, Arrival, IsUnknown, IsRepeat, IsTooMany, IsEarly, IsHeld, IsNext, accepted, arrival}
@@ -28,13 +28,13 @@ use Rattle.cds_follow.specs.declared.says.Says.TheVariants.{Gap, BehindLoad, Beh
 use Rattle.cds_script.specs.FoundFile.{with_comment, track_record}
 use Rattle.cds_script.specs.declared.found.Found.{Found}
 use Rattle.cds_script.specs.declared.found.Found.TheVariants.{Folder as FolderFound, Track as TrackFound}
-use Rattle.cds_script.specs.Script.{grant_at, meaning_of}
+use Rattle.cds_script.specs.Script.{grant_at, granted_seconds, meaning_of}
 use Rattle.cds_script.specs.declared.reply.HeldReply.{HeldReply}
 use Rattle.cds_script.specs.declared.reply.HeldReply.TheVariants.{NoReply, Named, Refusal}
 use Rattle.cds_script.specs.declared.turn.Meaning.{Meaning}
 use Rattle.cds_script.specs.declared.turn.Meaning.TheVariants.{Nothing, Means, Outside}
 use Rattle.cds_script.specs.declared.turn.Turn.{Turn}
-use Rattle.cds_script.specs.declared.turn.Turn.TheVariants.{Folder, Track, Tag, Scan, Load, Read, Ask, First, At, Subscribe, Accept, Unsubscribe, Deliver, ReadFault}
+use Rattle.cds_script.specs.declared.turn.Turn.TheVariants.{Folder, Track, Tag, Scan, Load, Read, Ask, First, At, Subscribe, Accept, Renew, Unsubscribe, Deliver, ReadFault}
 
 -- a comment put to the last thing that was found, where it is a file
 abbrev pub commented : Comment → Found → Found
@@ -121,6 +121,11 @@ abbrev pub given_up : Option ℕ → ℕ → ℕ → List Command → List Comma
 given_up None first now commands = commands
 given_up (Some name) first now commands = cond (lives name first now commands) (Ends now name ∷ commands) commands
 
+-- the commands after the subscription of a name was renewed at a moment, if there is one and it lives then: its time begins anew
+abbrev pub with_renewal : Option ℕ → ℕ → ℕ → List Command → List Command
+with_renewal None first now commands = commands
+with_renewal (Some name) first now commands = cond (lives name first now commands) (Renews now name granted_seconds ∷ commands) commands
+
 -- the reset token of a script's server
 abbrev pub script_token : List ℕ
 script_token = codes "00000000-0000-8000-8000-000000000000"
@@ -141,6 +146,7 @@ play first now records p Subscribe =
     (record { commands = grant_at now ∷ p.commands; replica = Requests ∷ p.replica; reply = Named (granted p.commands + 1) })
     (record { commands = p.commands; replica = Requests ∷ p.replica; reply = Refusal })
 play first now records p Accept = record { commands = p.commands; replica = after_reply p.reply p.replica; reply = NoReply }
+play first now records p Renew = record p { commands = with_renewal (accepted p.replica) first now p.commands }
 play first now records p Unsubscribe = record p { commands = given_up (accepted p.replica) first now p.commands }
 play first now records p (Deliver note) = record p { replica = after_note (sent_note note (notes_of first p.commands)) p.replica }
 play first now records p ReadFault = p
@@ -189,6 +195,11 @@ accept_text NoReply = codes "accept none\n"
 accept_text (Named name) = codes "accept 200\n"
 accept_text Refusal = codes "accept 503\n"
 
+-- what renewing the subscription of a name writes
+abbrev pub renew_text : Option ℕ → ℕ → ℕ → List Command → List ℕ
+renew_text None first now commands = codes "renew none\n"
+renew_text (Some name) first now commands = cond (lives name first now commands) (codes "renew 200\n") (codes "renew 412\n")
+
 -- what giving up the subscription of a name writes
 abbrev pub unsubscribe_text : Option ℕ → ℕ → ℕ → List Command → List ℕ
 unsubscribe_text None first now commands = codes "unsubscribe none\n"
@@ -232,6 +243,7 @@ written first now records p (First number) = []
 written first now records p (At moment) = sent_text first p.commands (Ticks moment)
 written first now records p Subscribe = cond (has_room now p.commands (notes_of first p.commands)) (sent_text first p.commands (grant_at now)) []
 written first now records p Accept = accept_text p.reply
+written first now records p Renew = renew_text (accepted p.replica) first now p.commands
 written first now records p Unsubscribe = unsubscribe_text (accepted p.replica) first now p.commands
 written first now records p (Deliver note) = deliver_text note (sent_note note (notes_of first p.commands)) p.replica
 written first now records p ReadFault = codes "readfault\n"

@@ -12,7 +12,7 @@ use Rattle.cds_script.specs.Lines.{words_of}
 use Rattle.cds_script.specs.Word.{words_said}
 use Rattle.cds_commands.specs.Commands.{Command, Grants}
 use Rattle.cds_script.specs.declared.turn.Turn.{Turn}
-use Rattle.cds_script.specs.declared.turn.Turn.TheVariants.{Folder, Track, Tag, Scan, Load, Read, Ask, First, At, Subscribe, Accept, Unsubscribe, Deliver, ReadFault}
+use Rattle.cds_script.specs.declared.turn.Turn.TheVariants.{Folder, Track, Tag, Scan, Load, Read, Ask, First, At, Subscribe, Accept, Renew, Unsubscribe, Deliver, ReadFault}
 use Rattle.cds_script.specs.declared.turn.Meaning.{Meaning}
 use Rattle.cds_script.specs.declared.turn.Meaning.TheVariants.{Nothing, Means, Outside}
 
@@ -52,10 +52,11 @@ plain_turn word =
     (cond (same_text word (codes "ask")) (Some Ask)
     (cond (same_text word (codes "subscribe")) (Some Subscribe)
     (cond (same_text word (codes "accept")) (Some Accept)
+    (cond (same_text word (codes "renew")) (Some Renew)
     (cond (same_text word (codes "unsubscribe")) (Some Unsubscribe)
-    (cond (same_text word (codes "readfault")) (Some ReadFault) None)))))))
+    (cond (same_text word (codes "readfault")) (Some ReadFault) None))))))))
 
--- each subscription of a script is granted so many seconds, and has this callback
+-- each subscription of a script is granted and renewed for so many seconds, and has this callback
 abbrev pub granted_seconds : ℕ
 granted_seconds = 1800
 
@@ -69,9 +70,9 @@ grant_at now = Grants now script_callback granted_seconds
 abbrev pub granted_time : ℕ
 granted_time = 1800000
 
--- a moment is below this one, in milliseconds: no subscription runs out before it
+-- a moment is below this one, in milliseconds: it has 64 bits
 abbrev pub moment_limit : ℕ
-moment_limit = granted_time
+moment_limit = 2 ^ 64
 
 -- the turns of lines that name a number, if they do
 abbrev pub first_turn : Option ℕ → Option Turn
@@ -144,9 +145,13 @@ abbrev pub meaning_of : List ℕ → Meaning
 meaning_of [] = Nothing
 meaning_of (b ∷ rest) = cond (nat_eq b 35) Nothing (meaning_of_words (words_of (b ∷ rest)))
 
+-- the numbers of what a file says are in the ranges of their types, and its samples below 2^36
+abbrev pub IsInfoInRange : FlacInfo → Type 0
+IsInfoInRange info = (info.rate < 2 ^ 32) × (info.channels < 2 ^ 8) × (info.bits < 2 ^ 8) × (info.samples < 2 ^ 36)
+
 -- the numbers of a turn are within their ranges
 abbrev pub IsInRange : Turn → Type 0
-IsInRange (Track path info size) = info.samples < 2 ^ 36
+IsInRange (Track path info size) = IsInfoInRange info × (size < 2 ^ 64)
 IsInRange (First number) = number ≤ 4294967295
 IsInRange (At moment) = moment < moment_limit
 IsInRange turn = Unit {0}

@@ -48,7 +48,7 @@ pub fn note_never_sent()
     ensures { evaluated.note_never_sent }
 {}
 
-/// Moments never fall, and end before a subscription would run out.
+/// Moments never fall, and have 64 bits.
 pub fn moments_rise()
     ensures { evaluated.moments_rise }
 {}
@@ -131,6 +131,11 @@ pub fn subscriptions_are_limited()
 /// A subscription is given up once.
 pub fn given_up_once()
     ensures { noted.given_up_once }
+{}
+
+/// A subscription is renewed where it has not run out, and then lives on.
+pub fn subscriptions_are_renewed()
+    ensures { noted.subscriptions_are_renewed }
 {}
 
 /// A second subscribe request drops the early notes of the first.

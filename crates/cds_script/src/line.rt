@@ -113,6 +113,8 @@ fn plain(word: &[u8]) -> Option<Turn>
         Some(Turn::Subscribe)
     } else if is_text(word, "accept") {
         Some(Turn::Accept)
+    } else if is_text(word, "renew") {
+        Some(Turn::Renew)
     } else if is_text(word, "unsubscribe") {
         Some(Turn::Unsubscribe)
     } else if is_text(word, "readfault") {
@@ -149,14 +151,11 @@ fn first(number: &[u8]) -> Option<Turn>
     }
 }
 
-/// No subscription runs out before this moment, in milliseconds.
-const MOMENT_LIMIT: u64 = 1_800_000;
-
 /// The turn of a line that names a moment.
 fn at(moment: &[u8]) -> Option<Turn>
     ensures { result ≡ at_turn (plain_below moment_limit moment.now) }
 {
-    match number_below(moment, MOMENT_LIMIT) {
+    match read_plain(moment) {
         Some(moment) => Some(Turn::At { moment }),
         None => None,
     }

@@ -29,7 +29,8 @@ pub enum Turn {
     First {
         number: u32,
     },
-    /// The current moment is this one from now on, in milliseconds; then the server releases what is due.
+    /// The current moment is this one from now on, in milliseconds; then the server ends the subscriptions that have run out, and
+    /// releases what is due.
     At {
         moment: u64,
     },
@@ -37,6 +38,8 @@ pub enum Turn {
     Subscribe,
     /// The reply that was held back reaches the replica.
     Accept,
+    /// The subscription that the replica accepted last is renewed.
+    Renew,
     /// The subscription that the replica accepted last is given up.
     Unsubscribe,
     /// The note of this number among all that the server sent, counted from 1, reaches the replica.

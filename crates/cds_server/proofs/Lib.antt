@@ -1,7 +1,16 @@
 pub mod Hosts
 pub mod PageRows
+pub mod EventCauses
 pub mod Causes
 pub mod Passing
 pub mod OneReply
 pub mod PagesRows
 pub mod Whole
+pub mod Done
+pub mod Stands
+pub mod Handled
+pub mod Ticked
+pub mod Heads
+pub mod Short
+pub mod Told
+pub mod Controls

@@ -16,7 +16,7 @@ use Rattle.cds_browse.specs.declared.page.Page.{Page}
 use Rattle.cds_server.specs.Route.{Route, Controls}
 use Rattle.cds_server.specs.Published.{Published, published_by}
 use Rattle.cds_server.specs.Answering.{page_answer, answer_to}
-use Rattle.cds_server.specs.Replies.{IsReplyTo, IsReplyBy}
+use Rattle.cds_server.specs.Replies.{IsReplyTo, IsReplyBy, IsReplyOf}
 use Rattle.cds_server.specs.Laws.{HasStatus, Passes, passed_checks_get_200, what_is_asked_is_answered}
 
 answered-200 : (published : Published) (host text : List ℕ) (asked : Action) (version : ℕ) → Passes published asked
@@ -46,8 +46,8 @@ read-is one published m host asked text reading is =
 
 pub answers-it : OneAsk → what_is_asked_is_answered
 answers-it one start commands now m host asked text way reading = (
-  λ is. read-is one (published_by start commands) m host asked text reading (subst (λ (r : Route). IsReplyBy (published_by start commands) m r text) way is),
-  λ e. subst (λ (r : Route). IsReplyBy (published_by start commands) m r text) (sym way) (Ok asked, reading, e),
+  λ is. read-is one (published_by start commands) m host asked text reading (subst (λ (r : Route). IsReplyOf start commands now m r text) way is),
+  λ e. subst (λ (r : Route). IsReplyOf start commands now m r text) (sym way) (Ok asked, reading, e),
 )
 
 pub passed : OneAsk → passed_checks_get_200

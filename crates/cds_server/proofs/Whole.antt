@@ -1,8 +1,8 @@
 -- Records that can all stand are not refused for one that cannot.
-use Rattle.std.proofs.Common.{◌≡◌, ◌+◌, ℕ, Bool, true, false, cond, nat_lt, List, length, Option, Some, None, Result, Ok, Err, IfErr, sym, ◌∙◌, ap}
+use Rattle.std.proofs.Common.{◌≡◌, ◌+◌, ℕ, Bool, true, false, cond, nat_lt, List, length, None, Result, Ok, Err, IfErr, sym, ◌∙◌, ap}
 use Rattle.cds_object.specs.declared.record.Record.{Record}
 use Rattle.cds_catalog.specs.History.{History, end_of}
-use Rattle.cds_catalog.specs.Scans.{ScanAnswer, BadRecord, TooMany, NoNumbers, Accepted, answer_by, bad_record, needed_by, scan_answer}
+use Rattle.cds_catalog.specs.Scans.{BadRecord, TooMany, NoNumbers, Accepted, answer_by, bad_record, needed_by}
 use Rattle.cds_store.specs.Applied.{Applied, IsRefusal}
 use Rattle.cds_store.specs.Stands.{Stored}
 use Rattle.cds_store.specs.declared.error.ApplyError.{ApplyError}

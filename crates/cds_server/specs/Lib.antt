@@ -1,6 +1,8 @@
 pub mod Route
 pub mod Published
 pub mod Answering
+pub mod Outcome
+pub mod Due
 pub mod Serving
 pub mod Replies
 pub mod Laws

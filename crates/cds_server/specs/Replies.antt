@@ -1,6 +1,6 @@
--- The one reply that a server writes to a message, by the commands that it accepted (UPnP Device Architecture 2.0 on control;
--- UPnP ContentDirectory:4).
-use Rattle.std.specs.Prelude.{◌≡◌, ℕ, List, [], ◌++◌, None, Result, Ok, Err}
+-- The one reply that a server writes to a message, by the commands that it accepted (UPnP Device Architecture 2.0 on control and on
+-- eventing; UPnP ContentDirectory:4).
+use Rattle.std.specs.Prelude.{◌≡◌, ℕ, List, ◌++◌, Option, None, Result, Ok, Err}
 use Rattle.cds_http.specs.declared.message.Message.{Message}
 use Rattle.cds_http.specs.Written.{written_reply}
 use Rattle.cds_soap.specs.declared.action.Asked.{Asked}
@@ -9,13 +9,11 @@ use Rattle.cds_soap.specs.declared.error.SoapError.TheVariants.{Markup, InvalidA
 use Rattle.cds_soap.specs.Control.{AnswersAsk}
 use Rattle.cds_soap.specs.Written.{enveloped, fault_text, answer_fields, written_answer}
 use Rattle.cds_commands.specs.Commands.{Command, Start}
-use Rattle.cds_server.specs.Route.{Route, Answers, Controls, route}
+use Rattle.cds_server.specs.Route.{Way, Answers, Controls, Route, Subscribes, Goes, route}
 use Rattle.cds_server.specs.Published.{Published, published_by}
 use Rattle.cds_server.specs.Answering.{answer_to}
-
--- a reply without a body
-abbrev pub empty_reply : ℕ → List ℕ
-empty_reply status = written_reply status [] []
+use Rattle.cds_server.specs.Outcome.{Outcome, command_of, empty_reply, event_reply, first_of, outcome}
+use Rattle.cds_server.specs.declared.notes.FirstNote.{FirstNote}
 
 -- a reply with a fault, which is the same for every action and version
 abbrev pub fault_reply : ℕ → List ℕ
@@ -37,17 +35,40 @@ abbrev pub IsControlReply : Published → List ℕ → Message → List ℕ → 
 IsControlReply published host m text = (read : Result Asked SoapError) × AnswersAsk m read × IsReplyTo published host read text
 
 -- it replies to a message that goes this way
-abbrev pub IsReplyBy : Published → Message → Route → List ℕ → Type 0
+abbrev pub IsReplyBy : Published → Message → Way → List ℕ → Type 0
 IsReplyBy published m (Answers status) text = text ≡ empty_reply status
 IsReplyBy published m (Controls host) text = IsControlReply published host m text
 
--- the reply to a message at a moment, which until subscriptions are built says nothing
+-- the reply to a message at a moment: to a request about a subscription what comes of it, and to any other by its way, whatever the
+-- moment is
+abbrev pub IsReplyOf : Start → List Command → ℕ → Message → Route → List ℕ → Type 0
+IsReplyOf start commands now m Subscribes text = text ≡ event_reply start commands now m
+IsReplyOf start commands now m (Goes way) text = IsReplyBy (published_by start commands) m way text
+
 abbrev pub IsReply : Start → List Command → ℕ → Message → List ℕ → Type 0
-IsReply start commands now m text = IsReplyBy (published_by start commands) m (route m) text
+IsReply start commands now m text = IsReplyOf start commands now m (route m) text
 
 -- a reply was appended
-abbrev pub RepliesBy : Published → Message → Route → List ℕ → List ℕ → Type 0
+abbrev pub RepliesBy : Published → Message → Way → List ℕ → List ℕ → Type 0
 RepliesBy published m way old new = (text : List ℕ) × IsReplyBy published m way text × (new ≡ old ++ text)
 
 abbrev pub Replied : Start → List Command → ℕ → Message → List ℕ → List ℕ → Type 0
 Replied start commands now m old new = (text : List ℕ) × IsReply start commands now m text × (new ≡ old ++ text)
+
+-- ---- what is done
+
+-- the command that is accepted of a message: of a request about a subscription what comes of it, and of any other none
+abbrev pub command_by : Route → ℕ → Outcome → Option Command
+command_by Subscribes now come = command_of now come
+command_by (Goes way) now come = None
+
+abbrev pub command_at : Start → List Command → ℕ → Message → Option Command
+command_at start commands now m = command_by (route m) now (outcome start commands now m)
+
+-- the first note, which goes with a subscription that is granted alone
+abbrev pub note_by : Route → Option FirstNote → Option FirstNote
+note_by Subscribes first = first
+note_by (Goes way) first = None
+
+abbrev pub note_at : Start → List Command → ℕ → Message → Option FirstNote
+note_at start commands now m = note_by (route m) (first_of start commands now m)

@@ -1,5 +1,5 @@
 -- What a server keeps, and which commands it stands for.
-use Rattle.std.specs.Prelude.{◌≡◌, ℕ, List, ◌∷◌, Result, Ok, Err, ⊤}
+use Rattle.std.specs.Prelude.{◌≡◌, ◌+◌, ◌≤◌, ◌<◌, ◌^◌, ℕ, List, ◌∷◌, Some, Result, Ok, Err, ⊤}
 use Rattle.cds_object.specs.declared.record.Record.{Record}
 use Rattle.cds_catalog.specs.Library.{map_of}
 use Rattle.cds_catalog.specs.History.{end_of, with_scan}
@@ -10,25 +10,39 @@ use Rattle.cds_store.specs.Stands.{Stored, StandsFor as StoreStandsFor}
 use Rattle.cds_store.specs.declared.error.ApplyError.{ApplyError}
 use Rattle.cds_store.specs.declared.error.ApplyError.TheVariants.{BadRecords, Full, Spent, Mem}
 use Rattle.cds_store.specs.declared.span.Span.{Span}
-use Rattle.cds_commands.specs.Commands.{Command, Start, Scans, scans_of}
-use Rattle.cds_commands.specs.Names.{names_of}
+use Rattle.cds_commands.specs.Commands.{Command, Start, Scans, AreAccepted, scans_of}
+use Rattle.cds_commands.specs.Releases.{released_to, releases_of}
+use Rattle.cds_gena.specs.Subscribed.{Booked, StandsFor as BookStandsFor}
+use Rattle.cds_moderator.specs.Moderating.{Moderated, moderated_by, scan_size}
 use Rattle.cds_server.specs.Published.{Published, token_of}
 
--- the name of number 0, and the catalog with the changes that are not forgotten
+-- the catalog with the changes that are not released yet, the subscriptions with the name of number 0, and what waits for its release
 pub record Serving : Type 0 where
-  pub names : ℕ
   pub store : Stored
+  pub book : Booked
+  pub moderated : Moderated
 
--- a server stands for the commands that it accepted from its start on, the newest of which stands first: its names are those of
--- its start, and its store stands for the history of the scans
+-- a server stands for the commands that it accepted from its start on, the newest of which stands first: its store stands for the
+-- history of the scans, and has forgotten the changes up to the end of the last release and no others; its names, its subscriptions and
+-- what waits for its release are what the commands say
 pub record StandsFor (serving : Serving) (start : Start) (commands : List Command) : Type 0 where
-  pub names : serving.names ≡ names_of start
   pub store : StoreStandsFor serving.store (scans_of start.first commands)
+  pub kept : serving.store.forgotten ≡ released_to start.first (releases_of start.first commands)
+  pub book : BookStandsFor serving.book start commands
+  pub moderated : serving.moderated ≡ moderated_by start.first commands
+
+-- what every server keeps: it stands for some commands, whose scans were accepted, and all its names have 128 bits
+pub record IsServing (serving : Serving) : Type 0 where
+  pub start : Start
+  pub commands : List Command
+  pub stands : StandsFor serving start commands
+  pub accepted : AreAccepted start.first commands
+  pub room : serving.book.names + 2 ^ 32 ≤ 2 ^ 128
 
 -- what is kept, as it is published
 abbrev pub published_of : Serving → Published
 published_of serving = record {
-  token = token_of serving.names;
+  token = token_of serving.book.names;
   number = serving.store.standing.number;
   rows = rows_of serving.store.standing.rows;
 }
@@ -48,3 +62,7 @@ IsOfWhole (BadRecords line) = ⊥
 IsOfWhole (Full objects) = ⊤
 IsOfWhole (Spent needed) = ⊤
 IsOfWhole Mem = ⊤
+
+-- a span with changes can be told to a moderator: it has no more than one scan, and begins where the last one ended
+abbrev pub CanFollow : Span → Moderated → Type 0
+CanFollow span m = span.from < span.to → (span.to ≤ span.from + scan_size) × ((end : ℕ) → m.end ≡ Some end → span.from ≡ end)

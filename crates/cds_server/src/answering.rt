@@ -24,7 +24,7 @@ pub fn answer_to(alloc: Global, server: &Server, host: &str, action: &Action) ->
     match action {
         Action::Browse(asked) => browsed(alloc, server, host, asked),
         Action::GetSystemUpdateId => Ok(Answer::Number(server.system_update_id())),
-        Action::GetServiceResetToken => token_answer(alloc, server.names),
+        Action::GetServiceResetToken => token_answer(alloc, server.book.names()),
         Action::Search(_) => Ok(Answer::Fault { code: 401 }),
         Action::GetSearchCapabilities => Ok(Answer::Fault { code: 401 }),
         Action::GetSortCapabilities => Ok(Answer::Fault { code: 401 }),

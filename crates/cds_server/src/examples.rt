@@ -1,6 +1,6 @@
 //! Small requests, evaluated by the definitions.
 
-ghost use Rattle.cds_server.specs.Evaluated.{RequestsAreRouted, ActionsAreAnswered};
+ghost use Rattle.cds_server.specs.Evaluated.{RequestsAreRouted, ActionsAreAnswered, SubscriptionsAreAnswered};
 
 /// Where requests go.
 pub fn requests_are_routed()
@@ -10,4 +10,9 @@ pub fn requests_are_routed()
 /// What actions are answered over a folder with one track.
 pub fn actions_are_answered()
     ensures { ActionsAreAnswered }
+{}
+
+/// What comes of requests about subscriptions, and what a release sends.
+pub fn subscriptions_are_answered()
+    ensures { SubscriptionsAreAnswered }
 {}

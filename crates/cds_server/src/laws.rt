@@ -27,3 +27,13 @@ pub fn pages_have_their_rows()
 pub fn what_is_asked_is_answered()
     ensures { laws.what_is_asked_is_answered }
 {}
+
+/// Each note that a tick sends has the number and the changes that the one body of its notes tells.
+pub fn notes_are_sent()
+    ensures { laws.notes_are_sent }
+{}
+
+/// The body of the notes of a release has fewer than 66,000,000 bytes.
+pub fn bodies_are_short()
+    ensures { laws.bodies_are_short }
+{}

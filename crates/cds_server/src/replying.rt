@@ -2,10 +2,11 @@
 
 ghost use Rattle.std.specs.Prelude.{◌≡◌, ◌++◌, None, IsTrue, OnOk, OnErr, option_map};
 ghost use Rattle.cds_soap.specs.Written.{is_known_code, written_answer};
-ghost use Rattle.cds_server.specs.Route.{Answers, Controls, control_at, control_by, request_to, route};
+ghost use Rattle.cds_server.specs.Route.{Answers, Controls, control_at, control_by, request_to, status_elsewhere, way_by};
 ghost use Rattle.cds_server.specs.Serving.{published_of};
 ghost use Rattle.cds_server.specs.Answering.{answer_to};
-ghost use Rattle.cds_server.specs.Replies.{empty_reply, fault_reply, RepliesBy};
+ghost use Rattle.cds_server.specs.Outcome.{empty_reply};
+ghost use Rattle.cds_server.specs.Replies.{fault_reply, RepliesBy};
 
 use crate::Server;
 use crate::answering::answer_to;
@@ -16,14 +17,15 @@ use cds_http::{Fields, Message, Start, write_reply};
 use cds_soap::{Action, Answer, Asked, SoapError, read_action, write_answer};
 use std::alloc::Global;
 
-/// Appends the reply to a message.
+/// Appends the reply to a message that asks of no subscription.
 pub fn reply(
     alloc: Global,
     server: &Server,
     message: &Message,
     out: &mut Vec<u8>,
 ) -> Result<(), Mem>
-    ensures ok { OnOk result (RepliesBy (published_of server.now) message.now (route message.now) out.old.items out.new.items) }
+    ensures ok { OnOk result (RepliesBy (published_of server.now) message.now (way_by message.now.start message.now.fields)
+        out.old.items out.new.items) }
     ensures err { OnErr result (out.new.items ≡ out.old.items) }
 {
     match &message.start {
@@ -57,8 +59,15 @@ fn request_to(
     if target == "/control" {
         control_by(alloc, server, method, message, out)
     } else {
-        empty(alloc, server, message, 404, out)
+        empty(alloc, server, message, status_elsewhere(target), out)
     }
+}
+
+/// The status of a target that is not that of control, for a request that asks of no subscription.
+fn status_elsewhere(target: &str) -> u16
+    ensures { result ≡ status_elsewhere target.now }
+{
+    if target == "/event" { 405 } else { 404 }
 }
 
 /// Appends the reply to a request to the target of control, by its method.
@@ -141,7 +150,7 @@ fn control(
 }
 
 /// Appends a reply of a status without a body.
-fn put_empty(alloc: Global, status: u16, out: &mut Vec<u8>) -> Result<(), Mem>
+pub fn put_empty(alloc: Global, status: u16, out: &mut Vec<u8>) -> Result<(), Mem>
     ensures ok { OnOk result (out.new.items ≡ out.old.items ++ empty_reply status) }
     ensures err { OnErr result (out.new.items ≡ out.old.items) }
 {

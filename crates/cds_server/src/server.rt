@@ -1,44 +1,49 @@
 //! The server.
 
-ghost use Rattle.std.specs.Prelude.{◌≡◌, ◌<◌, ◌^◌, List, [], length, slice_index, None, IfOk, IfErr, OnOk, OnErr};
+ghost use Rattle.std.specs.Prelude.{◌≡◌, ◌<◌, ◌^◌, ◌∷◌, List, [], length, false, true, slice_index, Some, None, IfOk, IfErr, IfSome, OnOk, OnErr};
 ghost use Rattle.cds_catalog.specs.History.{end_of};
-ghost use Rattle.cds_commands.specs.Commands.{Command, Start, scans_of};
 ghost use Rattle.cds_catalog.specs.Scans.{bad_record};
+ghost use Rattle.cds_commands.specs.Commands.{Command, Start, Ticks, scans_of};
+ghost use Rattle.cds_moderator.specs.Moderating.{next_span};
+ghost use Rattle.cds_server.specs.Due.{AllGoOut, due};
+ghost use Rattle.cds_server.specs.Outcome.{GoesOut, and_command};
+ghost use Rattle.cds_server.specs.Replies.{Replied, command_at, note_at};
+ghost use Rattle.cds_server.specs.Route.{asks_events};
 ghost use Rattle.cds_server.specs.Serving.{StandsFor, Scanned, IsOfWhole};
-ghost use Rattle.cds_server.specs.Replies.{Replied};
 
+use crate::events::{answer_event, asks_events};
+use crate::notes::{FirstNote, Notes};
 use crate::replying::reply;
-use cds_base::{Bytes, Mem};
-use cds_gena::{Address, Book};
+use crate::ticking::{note_body, tell};
+use cds_base::Mem;
+use cds_gena::{Addresses, Book};
 use cds_http::Message;
+use cds_moderator::Moderator;
 use cds_object::Records;
 use cds_scan::Scan;
 use cds_store::{ApplyError, Span, Store};
 use std::alloc::Global;
 use std::marker::Model;
 
-/// The first note of a subscription: where it goes, and the body that it has (UPnP Device Architecture 2.0 on eventing).
-#[derive(Drop, Debug)]
-pub struct FirstNote {
-    pub to: Address,
-    pub body: Bytes,
-}
-
-/// A server that has accepted some commands: until subscriptions are built, scans alone. It keeps no list of them, but always
-/// stands for one.
-#[derive(Drop, Debug)]
+/// A server that has accepted some commands: scans, subscriptions, their renewals and ends, and ticks. It keeps no list of
+/// them, but always stands for one.
+#[derive(Drop)]
 pub struct Server {
-    /// The name of number 0, of which the reset token is the text.
-    pub(crate) names: u128,
     pub(crate) store: Store,
+    /// The subscriptions, and the name of number 0, of which the reset token is the text.
+    pub(crate) book: Book,
+    /// The changes that are not released yet.
+    moderator: Moderator,
 }
 
 impl Model for Server {
-    ghost use Rattle.cds_server.specs.Serving.{Serving};
+    ghost use Rattle.cds_server.specs.Serving.{Serving, IsServing};
 
     ghost Value = { Serving };
 
-    ghost view = { λ s. record { names = s.names; store = s.store } };
+    ghost view = { λ s. record { store = s.store; book = s.book; moderated = s.moderator.moderated } };
+
+    ghost invariant = { λ s. IsServing (record { store = s.store; book = s.book; moderated = s.moderator.moderated }) };
 }
 
 impl Server {
@@ -47,16 +52,22 @@ impl Server {
     pub fn new(alloc: Global, boot: [u64; 2], first: u32) -> Result<Server, Mem>
         ensures { IfOk result (λ server. StandsFor server (record { high = slice_index boot 0; low = slice_index boot 1; first = first }) []) }
     {
-        let names = Book::new(alloc, boot).names();
+        let book = Book::new(alloc, boot);
         let store = Store::new(alloc, first)?;
-        Ok(Server { names, store })
+        Ok(Server {
+            store,
+            book,
+            moderator: Moderator::new(alloc),
+        })
     }
 
-    /// Appends the reply to a message that came at a moment in milliseconds. A message to another target than `/control` is
-    /// answered 404, one of another method than POST 405, one without a HOST of 1 to 255 ASCII letters, digits, `.`, `-`, `:`,
-    /// `[` and `]` 400, with an empty body each, in this order; then the body decides. The note is that of a subscription that
-    /// was accepted: until subscriptions are built, there is none. No message changes the server. Where there is no memory,
-    /// nothing is appended.
+    /// Appends the reply to a message that came at a moment in milliseconds. A message to another target than `/control` and
+    /// `/event` is answered 404, one of another method than POST to the first, or than SUBSCRIBE and UNSUBSCRIBE to the second,
+    /// 405. A control request without a HOST of 1 to 255 ASCII letters, digits, `.`, `-`, `:`, `[` and `]` is answered 400, and
+    /// then its body decides. A request about a subscription is answered 400 where SID stands beside CALLBACK or NT, then 412
+    /// where a field is missing or not in its form or no subscription of the name lives, then 503 where none can be granted; else
+    /// it is accepted, and where it grants one, the answer is its first note. All other messages leave the server as it was.
+    /// Where there is no memory, nothing is appended, and the server is as it was.
     pub fn handle(
         &mut self,
         alloc: Global,
@@ -66,13 +77,49 @@ impl Server {
     ) -> Result<Option<FirstNote>, Mem>
         ensures replied { (start : Start) (commands : List Command) → StandsFor self.old start commands
             → OnOk result (Replied start commands now message.now out.old.items out.new.items) }
-        ensures note { IfOk result (λ note. note ≡ None) }
-        ensures same { self.new ≡ self.old }
+        ensures stands { (start : Start) (commands : List Command) → StandsFor self.old start commands
+            → OnOk result (StandsFor self.new start (and_command (command_at start commands now message.now) commands)) }
+        ensures note { (start : Start) (commands : List Command) → StandsFor self.old start commands
+            → IfOk result (λ note. note ≡ note_at start commands now message.now) }
+        ensures unaccepted { (start : Start) (commands : List Command) → StandsFor self.old start commands
+            → command_at start commands now message.now ≡ None → self.new ≡ self.old }
+        ensures same { asks_events message.now.start ≡ false → self.new ≡ self.old }
+        ensures none { asks_events message.now.start ≡ false → IfOk result (λ note. note ≡ None) }
+        ensures delivered { IfOk result GoesOut }
         ensures kept { OnErr result (out.new.items ≡ out.old.items) }
+        ensures stays { OnErr result (self.new ≡ self.old) }
     {
-        let _ = now;
-        reply(alloc, self, message, out)?;
-        Ok(None)
+        if asks_events(message) {
+            self.handle_event(alloc, now, message, out)
+        } else {
+            reply(alloc, self, message, out)?;
+            Ok(None)
+        }
+    }
+
+    /// Appends the reply to a request about a subscription.
+    fn handle_event(
+        &mut self,
+        alloc: Global,
+        now: u64,
+        message: &Message,
+        out: &mut Vec<u8>,
+    ) -> Result<Option<FirstNote>, Mem>
+        requires asks { asks_events message.now.start ≡ true }
+        ensures replied { (start : Start) (commands : List Command) → StandsFor self.old start commands
+            → OnOk result (Replied start commands now message.now out.old.items out.new.items) }
+        ensures stands { (start : Start) (commands : List Command) → StandsFor self.old start commands
+            → OnOk result (StandsFor self.new start (and_command (command_at start commands now message.now) commands)) }
+        ensures note { (start : Start) (commands : List Command) → StandsFor self.old start commands
+            → IfOk result (λ note. note ≡ note_at start commands now message.now) }
+        ensures unaccepted { (start : Start) (commands : List Command) → StandsFor self.old start commands
+            → command_at start commands now message.now ≡ None → self.new ≡ self.old }
+        ensures delivered { IfOk result GoesOut }
+        ensures kept { OnErr result (out.new.items ≡ out.old.items) }
+        ensures stays { OnErr result (self.new ≡ self.old) }
+    {
+        let number = self.store.system_update_id();
+        answer_event(alloc, &mut self.book, number, now, message, out)
     }
 
     /// Takes what a scan found as the whole library, at a moment in milliseconds, and answers the numbers of its changes. The
@@ -91,8 +138,10 @@ impl Server {
         ensures kept { OnErr result (self.new ≡ self.old) }
     {
         let _ = now;
-        self.store.facts();
-        self.store.apply(alloc, records)
+        self.moderator.reserve()?;
+        let span = self.store.apply(alloc, records)?;
+        tell(&mut self.moderator, span);
+        Ok(span)
     }
 
     /// Takes what a scan of a folder found as the whole library, at a moment in milliseconds, and answers the numbers of its
@@ -106,6 +155,50 @@ impl Server {
         ensures kept { OnErr result (self.new ≡ self.old) }
     {
         self.accept_records(alloc, now, &scan.records)
+    }
+
+    /// A tick at a moment in milliseconds: the subscriptions that have run out end, and where a release is due, the answer is
+    /// its notes: one to each of the others, in the order in which they were granted. One whose note has the last SEQ ends, and
+    /// the changes that were released are forgotten. `None` exactly where no release is due. The body of the notes has fewer than
+    /// 66,000,000 bytes. Where there is no memory, the server is as it was.
+    pub fn tick(&mut self, alloc: Global, now: u64) -> Result<Option<Notes>, Mem>
+        ensures stands { (start : Start) (commands : List Command) → StandsFor self.old start commands
+            → OnOk result (StandsFor self.new start (Ticks now ∷ commands)) }
+        ensures notes { (start : Start) (commands : List Command) → StandsFor self.old start commands
+            → IfOk result (λ notes. notes ≡ due start commands now) }
+        ensures delivered { IfOk result (λ notes. IfSome notes AllGoOut) }
+        ensures short { IfOk result (λ notes. IfSome notes (λ notes. length notes.body < 66000000)) }
+        ensures kept { OnErr result (self.new ≡ self.old) }
+    {
+        match self.moderator.next_span(now) {
+            None => {
+                self.book.expire(now);
+                Ok(None)
+            }
+            Some(span) => {
+                let notes = self.release(alloc, now, span)?;
+                Ok(Some(notes))
+            }
+        }
+    }
+
+    /// The notes of a release that is due.
+    fn release(&mut self, alloc: Global, now: u64, span: Span) -> Result<Notes, Mem>
+        requires due { next_span now self.old.moderated ≡ Some span }
+        ensures stands { (start : Start) (commands : List Command) → StandsFor self.old start commands
+            → OnOk result (StandsFor self.new start (Ticks now ∷ commands)) }
+        ensures notes { (start : Start) (commands : List Command) → StandsFor self.old start commands
+            → IfOk result (λ notes. Some notes ≡ due start commands now) }
+        ensures delivered { IfOk result AllGoOut }
+        ensures short { IfOk result (λ notes. length notes.body < 66000000) }
+        ensures kept { OnErr result (self.new ≡ self.old) }
+    {
+        let body = note_body(alloc, &self.store, span)?;
+        let mut to = Addresses::new(alloc);
+        self.book.next_notes(alloc, now, &mut to)?;
+        let _ = self.moderator.release(now);
+        self.store.forget(span.to);
+        Ok(Notes { span, body, to })
     }
 
     /// The number of the last change, or the first number (UPnP ContentDirectory:4 on SystemUpdateID).

@@ -73,7 +73,7 @@ const STATUSES: [Row; 21] = [
         "SUBSCRIBE /event",
         NUMBER_FIELDS,
         NUMBER,
-        "HTTP/1.1 404 Not Found\r\n",
+        "HTTP/1.1 412 Precondition Failed\r\n",
         "CONTENT-LENGTH: 0\r\n",
     ),
     (
@@ -385,7 +385,7 @@ fn request(alloc: Global, line: &str, fields: &str, body: &str) -> Result<String
 }
 
 /// The message of bytes.
-fn message(alloc: Global, bytes: &[u8]) -> Result<Option<Message>, Fail> {
+pub fn message(alloc: Global, bytes: &[u8]) -> Result<Option<Message>, Fail> {
     let mut reader = MessageReader::new(alloc, Side::Request)?;
     if reader.feed(alloc, bytes).is_err() {
         return Ok(None);
@@ -394,7 +394,7 @@ fn message(alloc: Global, bytes: &[u8]) -> Result<Option<Message>, Fail> {
 }
 
 /// The reply to the message of bytes; nothing where they are none.
-fn replied(alloc: Global, server: &mut Server, bytes: &[u8]) -> Result<Vec<u8>, Fail> {
+pub fn replied(alloc: Global, server: &mut Server, bytes: &[u8]) -> Result<Vec<u8>, Fail> {
     let mut out = Vec::new(alloc);
     if let Some(message) = message(alloc, bytes)? {
         let _note = server.handle(alloc, 0, &message, &mut out)?;
@@ -403,7 +403,7 @@ fn replied(alloc: Global, server: &mut Server, bytes: &[u8]) -> Result<Vec<u8>, 
 }
 
 /// A track or, where its path ends in `/`, a folder.
-fn record_of(alloc: Global, word: &str) -> Result<Record, Fail> {
+pub fn record_of(alloc: Global, word: &str) -> Result<Record, Fail> {
     if let Some(folder) = word.strip_suffix("/") {
         let path = Path::read(alloc, folder)?;
         let title = Text::read(alloc, folder)?;
@@ -431,7 +431,7 @@ fn record_of(alloc: Global, word: &str) -> Result<Record, Fail> {
 }
 
 /// A server that took one scan of these, parted by spaces.
-fn server_with(alloc: Global, words: &str) -> Result<Server, Fail> {
+pub fn server_with(alloc: Global, words: &str) -> Result<Server, Fail> {
     let mut server = Server::new(alloc, [0, 0], 0)?;
     let mut records = Records::new(alloc);
     for word in words.split_whitespace() {
@@ -444,7 +444,7 @@ fn server_with(alloc: Global, words: &str) -> Result<Server, Fail> {
 }
 
 /// Whether a reply begins with a text, and has another in it.
-fn is_reply(reply: &[u8], front: &str, part: &str) -> bool {
+pub fn is_reply(reply: &[u8], front: &str, part: &str) -> bool {
     match std::str::from_utf8(reply) {
         Ok(text) => text.starts_with(front) && text.contains(part),
         Err(_) => false,

@@ -12,7 +12,6 @@ mod Printed
 mod Replies
 mod RequestBodies
 pub mod RequestsBack
-mod Runs
 mod Saying
 mod Shells
 mod Visible

@@ -1,6 +1,5 @@
 -- The body of an answer round its page.
-use Rattle.std.specs.Prelude.{◌≡◌, ℕ, List, [], ◌++◌, codes}
-use Rattle.cds_base.specs.Escape.{escaped}
+use Rattle.std.specs.Prelude.{ℕ, List, [], ◌++◌, codes}
 use Rattle.cds_base.specs.Writing.{text_element, number_element}
 use Rattle.cds_soap.specs.declared.action.ActionName.{ActionName}
 use Rattle.cds_soap.specs.declared.answer.Answer.{Answer}
@@ -40,7 +39,3 @@ front_of action_name version given = envelope_start ++ front_inside action_name 
 
 abbrev pub back_of : ActionName → Answer → List ℕ
 back_of action_name given = back_inside action_name given ++ envelope_end
-
--- Some of a text was put behind the bytes that were there, escaped, and this is left of it.
-abbrev pub PutsSome : List ℕ → List ℕ → List ℕ → List ℕ → Type 0
-PutsSome before text after rest = (done : List ℕ) × (after ≡ before ++ done) × (done ++ escaped rest ≡ escaped text)

@@ -37,7 +37,8 @@ pub fn write_answer(
     let front = front_of(alloc, action.name(), version, answer)?;
     let back = back_of(alloc, action.name(), answer)?;
     let page = page_of(answer);
-    let count = body_length(front.as_str(), page, back.as_str())?;
+    let size = escaped_length(page)?;
+    let count = body_length(front.as_str(), page, size, back.as_str())?;
     let fields = answer_fields(alloc, token)?;
     let mut head = Vec::new(alloc);
     write_reply_head(status_of(answer), &fields, count as u64, &mut head)?;
@@ -45,6 +46,7 @@ pub fn write_answer(
         head.as_slice(),
         front.as_bytes(),
         page,
+        size,
         back.as_bytes(),
         out,
     )
@@ -324,30 +326,32 @@ fn put_fault(out: &mut String, code: u16) -> Result<(), Mem>
     Ok(())
 }
 
-/// How many bytes the body has.
-fn body_length(front: &str, page: &[u8], back: &str) -> Result<usize, Mem>
+/// How many bytes the body has with a page that is escaped to so many.
+fn body_length(front: &str, page: &[u8], size: usize, back: &str) -> Result<usize, Mem>
+    requires { size ≡ length (escaped page.now) }
     ensures { IfOk result (λ count. count ≡ length (front.now ++ (escaped page.now ++ back.now))) }
 {
-    let inside = escaped_length(page)?;
-    match inside.checked_add(front.len()) {
+    match size.checked_add(front.len()) {
         Some(sum) => sum.checked_add(back.len()).ok_or(Mem),
         None => Err(Mem),
     }
 }
 
-/// Appends a head and a body, or nothing.
+/// Appends a head and a body, or nothing. The page is escaped to so many bytes.
 fn append_reply(
     head: &[u8],
     front: &[u8],
     page: &[u8],
+    size: usize,
     back: &[u8],
     out: &mut Vec<u8>,
 ) -> Result<(), Mem>
+    requires { size ≡ length (escaped page.now) }
     ensures ok { OnOk result (out.new.items ≡ out.old.items ++ (head.now ++ (front.now ++ (escaped page.now ++ back.now)))) }
     ensures err { OnErr result (out.new.items ≡ out.old.items) }
 {
     let before = out.len();
-    match put_reply(head, front, page, back, out) {
+    match put_reply(head, front, page, size, back, out) {
         Ok(()) => Ok(()),
         Err(Mem) => {
             out.truncate(before);
@@ -356,20 +360,25 @@ fn append_reply(
     }
 }
 
-/// Puts a head and a body at the end. A refusal may leave some of them.
+/// Puts a head and a body at the end. The page is escaped to so many bytes. A refusal may leave some of them.
 fn put_reply(
     head: &[u8],
     front: &[u8],
     page: &[u8],
+    size: usize,
     back: &[u8],
     out: &mut Vec<u8>,
 ) -> Result<(), Mem>
+    requires { size ≡ length (escaped page.now) }
     ensures ok { OnOk result (out.new.items ≡ out.old.items ++ (head.now ++ (front.now ++ (escaped page.now ++ back.now)))) }
     ensures err { OnErr result ((some : List ℕ) × (out.new.items ≡ out.old.items ++ some)) }
 {
+    let around = front.len().saturating_add(back.len());
+    out.reserve(head.len().saturating_add(around).saturating_add(size))?;
     out.extend_from_slice(head)?;
     out.extend_from_slice(front)?;
-    put_escaped(page, out)?;
+    out.reserve(size)?;
+    put_escaped(page, out);
     out.extend_from_slice(back)?;
     Ok(())
 }

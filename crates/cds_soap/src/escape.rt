@@ -1,10 +1,9 @@
 //! Bytes that are escaped where they are put, with no copy of them between.
 
-ghost use Rattle.std.specs.Prelude.{◌≡◌, ◌++◌, ◌≤◌, ◌<◌, ◌∷◌, [], List, ℕ, length, IfOk, OnOk, OnErr, MatchOption};
+ghost use Rattle.std.specs.Prelude.{◌≡◌, ◌+◌, ◌++◌, ◌≤◌, ◌∷◌, [], length, vec_len, vec_capacity, IfOk, MatchOption};
 ghost use Rattle.cds_base.specs.Escape.{escaped, escaped_byte};
-ghost use Rattle.cds_soap.specs.Shell.{PutsSome};
 
-use cds_base::{Mem, plain_run};
+use cds_base::Mem;
 
 /// What stands for a byte that cannot stand for itself.
 fn replacement(byte: u8) -> Option<&'static [u8]>
@@ -23,15 +22,16 @@ fn replacement(byte: u8) -> Option<&'static [u8]>
     }
 }
 
-/// How many bytes stand for one.
-fn escaped_size(byte: u8) -> usize
-    ensures { result ≡ length (escaped_byte byte) }
+/// How many more bytes than one stand for a byte.
+fn escaped_more(byte: u8) -> usize
+    ensures size { 1 + result ≡ length (escaped_byte byte) }
+    ensures most { result ≤ 5 }
 {
     match byte {
-        b'<' | b'>' | b'\t' => 4,
-        b'&' | b'\n' | b'\r' => 5,
-        b'"' | b'\'' => 6,
-        _ => 1,
+        b'<' | b'>' | b'\t' => 3,
+        b'&' | b'\n' | b'\r' => 4,
+        b'"' | b'\'' => 5,
+        _ => 0,
     }
 }
 
@@ -39,51 +39,47 @@ fn escaped_size(byte: u8) -> usize
 pub fn escaped_length(text: &[u8]) -> Result<usize, Mem>
     ensures { IfOk result (λ size. size ≡ length (escaped text.now)) }
 {
-    let mut size: usize = 0;
-    for byte in text {
-        size = size.checked_add(escaped_size(*byte)).ok_or(Mem)?;
+    if usize::MAX / 6 < text.len() {
+        return Err(Mem);
     }
-    Ok(size)
+    let mut more: usize = 0;
+    for byte in text {
+        if *byte <= b'>' {
+            more += escaped_more(*byte);
+        }
+    }
+    Ok(text.len() + more)
 }
 
-/// Puts what stands for a byte at the end. A refusal leaves what was there.
-fn put_byte(byte: u8, out: &mut Vec<u8>) -> Result<(), Mem>
-    ensures ok { OnOk result (out.new.items ≡ out.old.items ++ escaped_byte byte) }
-    ensures err { OnErr result (out.new.items ≡ out.old.items) }
+/// Puts some bytes at the end, where there is room for them.
+fn put_reserved(bytes: &[u8], out: &mut Vec<u8>)
+    requires room { vec_len out.old + length bytes.now ≤ vec_capacity out.old }
+    ensures items { out.new.items ≡ out.old.items ++ bytes.now }
+    ensures capacity { vec_capacity out.new ≡ vec_capacity out.old }
+{
+    for byte in bytes {
+        out.push_reserved(*byte);
+    }
+}
+
+/// Puts what stands for a byte at the end, where there is room for it.
+fn put_byte(byte: u8, out: &mut Vec<u8>)
+    requires room { vec_len out.old + length (escaped_byte byte) ≤ vec_capacity out.old }
+    ensures items { out.new.items ≡ out.old.items ++ escaped_byte byte }
+    ensures capacity { vec_capacity out.new ≡ vec_capacity out.old }
 {
     match replacement(byte) {
-        Some(text) => out.extend_from_slice(text)?,
-        None => out.push(byte)?,
-    }
-    Ok(())
-}
-
-/// Puts the front of a text without bytes that are replaced at the end, with what stands for the byte behind it, and gives
-/// the rest. A refusal leaves what was there, and may leave some of it.
-fn put_run<'a>(text: &'a [u8], out: &mut Vec<u8>) -> Result<&'a [u8], Mem>
-    requires { 1 ≤ length text.now }
-    ensures ok { IfOk result (λ rest. PutsSome out.old.items text.now out.new.items rest.now × (length rest.now < length text.now)) }
-    ensures err { OnErr result ((some : List ℕ) × (out.new.items ≡ out.old.items ++ some)) }
-{
-    let (plain, behind) = text.split_at(plain_run(text));
-    out.extend_from_slice(plain)?;
-    match behind.split_first() {
-        Some((byte, more)) => {
-            put_byte(*byte, out)?;
-            Ok(more)
-        }
-        None => Ok(behind),
+        Some(text) => put_reserved(text, out),
+        None => out.push_reserved(byte),
     }
 }
 
-/// Puts a text at the end, escaped. A refusal leaves what was there, and may leave some of it.
-pub fn put_escaped(text: &[u8], out: &mut Vec<u8>) -> Result<(), Mem>
-    ensures ok { OnOk result (out.new.items ≡ out.old.items ++ escaped text.now) }
-    ensures err { OnErr result ((some : List ℕ) × (out.new.items ≡ out.old.items ++ some)) }
+/// Puts a text at the end, escaped, where there is room for it.
+pub fn put_escaped(text: &[u8], out: &mut Vec<u8>)
+    requires room { vec_len out.old + length (escaped text.now) ≤ vec_capacity out.old }
+    ensures items { out.new.items ≡ out.old.items ++ escaped text.now }
 {
-    let mut rest = text;
-    while !rest.is_empty() {
-        rest = put_run(rest, out)?;
+    for byte in text {
+        put_byte(*byte, out);
     }
-    Ok(())
 }

@@ -7,7 +7,7 @@ use std::test::Fail;
 /// The lines of a script and of its report, in short forms parted by `|`.
 type Vector = (&'static str, &'static str);
 
-const VECTORS: [Vector; 21] = [
+const VECTORS: [Vector; 23] = [
     // loads
     (
         "scan * 2|load|read * 6|ask",
@@ -66,6 +66,14 @@ const VECTORS: [Vector; 21] = [
         "scan 1|scan 2|read ok * 6|note 1 seq 0 at 2|deliver 1 early|accept 200|note 2 seq 1 at 2|deliver 2 took|stands 2|root 0 2 1",
     ),
     ("P|deliver 1", "Q|deliver 1 repeat"),
+    (
+        "renew|subscribe|accept|at 1799999|renew|at 3599998|T|scan|renew|at 3600198",
+        "renew none|note 1 seq 0 at 0|accept 200|renew 200|scan 1|renew 200|note 2 seq 1 at 1",
+    ),
+    (
+        "subscribe|accept|at 1800000|renew|unsubscribe|subscribe|accept|renew",
+        "note 1 seq 0 at 0|accept 200|renew 412|unsubscribe 412|note 2 seq 0 at 0|accept 200|renew 200",
+    ),
     ("load|readfault|read", "readfault|read ok"),
     // texts of tags, escaped; a byte that no document has is replaced
     (

@@ -1,6 +1,5 @@
 use Rattle.std.proofs.Common.{inr, ◌+◌, ◌++◌, drop, sym, ap, ◌∙◌, arith, string_bytes, append_assoc}
-use Rattle.cds_script.specs.Report.{notes_text}
-use Rattle.cds_replay.specs.Lines.{note_line}
+use Rattle.cds_replay.specs.Lines.{note_line, sent_lines}
 use Rattle.cds_replay.proofs.Noticed.{next-line-one, no-line-one}
 use Rattle.cds_replay.proofs.report.put_notes.Goals as goal
 use Rattle.cds_replay.proofs.report.put_notes.Goals.{in-Some+in_ok-put_note, in_default}
@@ -8,17 +7,17 @@ use Rattle.cds_replay.proofs.report.put_notes.Goals.{in-Some+in_ok-put_note, in_
 pub loop-at-preserved : goal.loop-at-preserved
 loop-at-preserved c = record {
   told =
-      elim c.match-sent.branch [
+      elim c.match-head.branch [
         | in-Some+in_ok-put_note w ↦
-            ap (λ o. string_bytes o ++ notes_text (c.loop-at.at + 1 + 1) (drop (c.loop-at.at + 1) c.args.server.now.sent)) w.out-is
-            ∙ ap (λ v. v ++ notes_text (c.loop-at.at + 1 + 1) (drop (c.loop-at.at + 1) c.args.server.now.sent)) w.in_ok-put_note.ensures
-            ∙ append_assoc (string_bytes c.loop-at.out) (note_line (c.loop-at.at + 1) w.in-Some.head) (notes_text (c.loop-at.at + 1 + 1) (drop (c.loop-at.at + 1) c.args.server.now.sent))
-            ∙ ap (λ v. string_bytes c.loop-at.out ++ v) (sym (next-line-one c.loop-at.at c.args.server.now.sent w.in-Some.head (sym w.in-Some.is ∙ c.sent.ensures)))
+            ap (λ o. string_bytes o ++ sent_lines (c.loop-at.at + 1 + 1) (drop (c.loop-at.at + 1) c.args.sent.now)) w.out-is
+            ∙ ap (λ v. v ++ sent_lines (c.loop-at.at + 1 + 1) (drop (c.loop-at.at + 1) c.args.sent.now)) w.in_ok-put_note.ensures
+            ∙ append_assoc (string_bytes c.loop-at.out) (note_line (c.loop-at.at + 1) w.in-Some.head) (sent_lines (c.loop-at.at + 1 + 1) (drop (c.loop-at.at + 1) c.args.sent.now))
+            ∙ ap (λ v. string_bytes c.loop-at.out ++ v) (sym (next-line-one c.loop-at.at c.args.sent.now w.in-Some.head (sym w.in-Some.is ∙ c.head.ensures)))
             ∙ c.loop-at.invariant.told
         | in_default w ↦
-            ap (λ o. string_bytes o ++ notes_text (c.loop-at.at + 1 + 1) (drop (c.loop-at.at + 1) c.args.server.now.sent)) w.out-is
-            ∙ ap (λ v. string_bytes c.loop-at.out ++ v) (no-line-one c.loop-at.at c.args.server.now.sent (sym w.in_default.is ∙ c.sent.ensures))
+            ap (λ o. string_bytes o ++ sent_lines (c.loop-at.at + 1 + 1) (drop (c.loop-at.at + 1) c.args.sent.now)) w.out-is
+            ∙ ap (λ v. string_bytes c.loop-at.out ++ v) (no-line-one c.loop-at.at c.args.sent.now (sym w.in_default.is ∙ c.head.ensures))
             ∙ c.loop-at.invariant.told
       ];
-  within = inr (omega (arith, c.loop-at-test.true, c.sent_len-at-end.ensures));
+  within = inr (omega (arith, c.loop-at-test.true, c.len-at-end.ensures));
 }

@@ -1,10 +1,6 @@
--- What was put and the rest, escaped, are the text, escaped.
-use Rattle.std.proofs.Common.{◌≡◌, ◌++◌, List, ℕ, length}
-use Rattle.cds_soap.specs.Shell.{PutsSome}
+use Rattle.std.proofs.Common.{◌≡◌, ◌++◌, take, vec_capacity}
+use Rattle.cds_base.specs.Escape.{escaped}
 use Rattle.cds_soap.proofs.escape.put_escaped.Given as goal
 
-abbrev pub invariant-loop-rest : goal.invariant-loop-rest
-invariant-loop-rest l = PutsSome l.fn.out.items l.text l.out.items l.rest
-
-abbrev pub decreases-loop-rest : goal.decreases-loop-rest
-decreases-loop-rest l = length l.rest
+abbrev pub invariant-loop-byte : goal.invariant-loop-byte
+invariant-loop-byte l = (l.out.items ≡ l.fn.out.items ++ escaped (take l.byte-index l.text)) × (vec_capacity l.out ≡ vec_capacity l.fn.out)

@@ -1,54 +1,35 @@
-use Rattle.std.proofs.Common.{◌≡◌, ◌++◌, true, Some, None, ap, sym, subst, ◌∙◌, string_bytes}
-use Rattle.std.specs.Prelude.{OnOk}
-use Rattle.std.proofs.lemmas.List.{append-nil}
-use Rattle.std.proofs.lemmas.Result.{on_ok_weaker}
+-- The note of a number reaches the replica, where there is one.
+use Rattle.std.proofs.Common.{sym, subst, string_bytes}
 use Rattle.cds_commands.specs.Notes.{notes_of}
-use Rattle.cds_script.specs.Report.{first_of, deliver_text, sent_note, played}
-use Rattle.cds_replay.specs.Lines.{delivered_line, was_noticed}
-use Rattle.cds_replay.specs.Session.{Playing, IsAfter}
-use Rattle.cds_replay.proofs.Answered.{noticed, notice-written, written-as}
-use Rattle.cds_replay.proofs.Turns.{deliver-after, no-note-after}
+use Rattle.cds_follow.specs.Named.{named_note}
+use Rattle.cds_script.specs.Report.{first_of, sent_note}
+use Rattle.cds_replay.specs.Sending.{sent_of}
+use Rattle.cds_replay.specs.Session.{Playing, IsAfter, script_names}
+use Rattle.cds_replay.specs.Wired.{turns_in, played_by}
+use Rattle.cds_replay.proofs.SentNotes.{number-at}
+use Rattle.cds_replay.proofs.Taking.{none-sent, some-sent, deliver-turn, no-note-turn}
+use Rattle.cds_replay.specs.Sending.{is_request_of}
 use Rattle.cds_replay.proofs.session.Session.deliver.Goals as goal
 
-pub returns-in-None-clause-after : goal.returns-in-None-clause-after
-returns-in-None-clause-after c = λ turns after may.
-    let was : Playing = record { server = c.self.inside.server; replica = c.self.inside.replica; found = c.self.inside.found; clock = c.self.inside.clock; reply = c.self.inside.reply; last = c.self.inside.last } in
-    let old : IsAfter was turns = subst (λ p. IsAfter p turns) (sym c.self.view_is) after in
-    let sent : sent_note c.args.number (notes_of (first_of turns) (played turns).commands) ≡ None =
-    sym (ap (sent_note c.args.number) old.server.sent)
-    ∙ sym c.in_ok-note.ensures ∙ c.in-None.is in
-    no-note-after was c.args.number turns old may sent
+pub returns-in-None : goal.returns-in-None
+returns-in-None c = record {
+  taken = λ steps after may.
+      let was : Playing = record { server = c.self.inside.server; replica = c.self.inside.replica; sent = c.self.inside.sent; found = c.self.inside.found; clock = c.self.inside.clock; reply = c.self.inside.reply; last = c.self.inside.last } in
+      let old : IsAfter was steps = subst (λ p. IsAfter p steps) (sym c.self.view_is) after in
+      let notes = notes_of (first_of (turns_in steps)) (played_by steps).commands in
+      let none = none-sent (sent_of c.args.number was.sent) (sent_note c.args.number notes) (number-at was.sent notes old.sent c.args.number)
+      (subst (is_request_of (sent_of c.args.number was.sent)) c.in-None.is c.in_ok-request.ensures) in
+      no-note-turn was c.args.number steps (string_bytes c.args.out.now) old may none;
+}
 
-pub returns-in-None-clause-written : goal.returns-in-None-clause-written
-returns-in-None-clause-written c = λ turns after.
-    let was : Playing = record { server = c.self.inside.server; replica = c.self.inside.replica; found = c.self.inside.found; clock = c.self.inside.clock; reply = c.self.inside.reply; last = c.self.inside.last } in
-    let old : IsAfter was turns = subst (λ p. IsAfter p turns) (sym c.self.view_is) after in
-    let sent : sent_note c.args.number (notes_of (first_of turns) (played turns).commands) ≡ None =
-    sym (ap (sent_note c.args.number) old.server.sent)
-    ∙ sym c.in_ok-note.ensures ∙ c.in-None.is in
-    sym (append-nil (string_bytes c.args.out.now)) ∙ sym (ap (λ o. string_bytes c.args.out.now ++ deliver_text c.args.number o (played turns).replica) sent)
-
-pub returns-else-not-was_noticed-clause-after : goal.returns-else-not-was_noticed-clause-after
-returns-else-not-was_noticed-clause-after c = λ turns after may.
-    let was : Playing = record { server = c.self.inside.server; replica = c.self.inside.replica; found = c.self.inside.found; clock = c.self.inside.clock; reply = c.self.inside.reply; last = c.self.inside.last } in
-    let old : IsAfter was turns = subst (λ p. IsAfter p turns) (sym c.self.view_is) after in
-    let sent : sent_note c.args.number (notes_of (first_of turns) (played turns).commands) ≡ Some c.in-Some.note =
-    sym (ap (sent_note c.args.number) old.server.sent)
-    ∙ sym c.in_ok-note.ensures ∙ c.in-Some.is in
-    let told : was_noticed c.notify-answer.result ≡ true = sym c.was_noticed.ensures ∙ c.if-not-was_noticed.false in
-    let now = deliver-after was c.notify-answer.new.self c.args.number c.in-Some.note turns old may sent (noticed c.notify-answer.result told c.notify-answer.ensures.stands) in
-    on_ok_weaker c.put_delivered.result (λ written. now) c.put_delivered.ensures
-
-pub returns-else-not-was_noticed-clause-written : goal.returns-else-not-was_noticed-clause-written
-returns-else-not-was_noticed-clause-written c = λ turns after.
-    let was : Playing = record { server = c.self.inside.server; replica = c.self.inside.replica; found = c.self.inside.found; clock = c.self.inside.clock; reply = c.self.inside.reply; last = c.self.inside.last } in
-    let old : IsAfter was turns = subst (λ p. IsAfter p turns) (sym c.self.view_is) after in
-    let sent : sent_note c.args.number (notes_of (first_of turns) (played turns).commands) ≡ Some c.in-Some.note =
-    sym (ap (sent_note c.args.number) old.server.sent)
-    ∙ sym c.in_ok-note.ensures ∙ c.in-Some.is in
-    let told : was_noticed c.notify-answer.result ≡ true = sym c.was_noticed.ensures ∙ c.if-not-was_noticed.false in
-    let same = notice-written turns c.args.number c.in-Some.note c.notify-answer.result old.may sent told (c.notify-answer.ensures.answer (played turns).replica old.replica) in
-    written-as c.put_delivered.result (string_bytes c.put_delivered.new.out) (string_bytes c.args.out.now)
-    (delivered_line c.args.number c.notify-answer.result)
-    (deliver_text c.args.number (sent_note c.args.number (notes_of (first_of turns) (played turns).commands)) (played turns).replica) same
-    (subst (λ n. OnOk c.put_delivered.result (string_bytes c.put_delivered.new.out ≡ string_bytes c.args.out.now ++ delivered_line n c.notify-answer.result)) c.from.ensures c.put_delivered.ensures)
+pub returns-in_ok-note-in-Some : goal.returns-in_ok-note-in-Some
+returns-in_ok-note-in-Some c = record {
+  taken = λ steps after may.
+      let was : Playing = record { server = c.self.inside.server; replica = c.self.inside.replica; sent = c.self.inside.sent; found = c.self.inside.found; clock = c.self.inside.clock; reply = c.self.inside.reply; last = c.self.inside.last } in
+      let old : IsAfter was steps = subst (λ p. IsAfter p steps) (sym c.self.view_is) after in
+      let notes = notes_of (first_of (turns_in steps)) (played_by steps).commands in
+      let some = some-sent (sent_of c.args.number was.sent) (sent_note c.args.number notes) c.in-Some.request (number-at was.sent notes old.sent c.args.number)
+      (subst (is_request_of (sent_of c.args.number was.sent)) c.in-Some.is c.in_ok-request.ensures) in
+      deliver-turn was c.take_note.new.replica c.args.number some.note steps (string_bytes c.args.out.now) (string_bytes c.take_note.new.out) c.take_note.result old may some.is
+      (c.take_note.ensures (played_by steps).replica some.note old.replica (c.in_ok-note-in-Some.ensures (named_note script_names some.note) some.carried));
+}

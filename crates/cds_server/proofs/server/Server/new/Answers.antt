@@ -1,8 +1,30 @@
-use Rattle.std.proofs.Common.{◌∙◌}
+use Rattle.std.proofs.Common.{[], refl, ap, arith, slice_index}
+use Rattle.cds_commands.specs.Commands.{Start}
+use Rattle.cds_gena.specs.Subscribed.{Booked}
 use Rattle.cds_server.proofs.server.Server.new.Goals as goal
 
+pub invariant_of-result : goal.invariant_of-result
+invariant_of-result c =
+    let start : Start = record { high = slice_index c.args.boot 0; low = slice_index c.args.boot 1; first = c.args.first } in
+    record {
+      start = start;
+      commands = [];
+      stands = record {
+        store = c.in_ok-store.ensures.stands;
+        kept = c.in_ok-store.ensures.forgotten;
+        book = c.new-book.ensures.stands start refl refl;
+        moderated = c.new-2.ensures.stands c.args.first;
+      };
+      accepted = record { libraries = tt; few = tt; numbers = omega arith };
+      room = omega (arith, c.book.invariant.room, ap (λ (b : Booked). b.names) c.book.view_is);
+    }
+
 pub returns : goal.returns
-returns c = record {
-  names = c.names-names.ensures ∙ c.new.ensures.names c.args.first;
-  store = c.in_ok-store.ensures.stands;
-}
+returns c =
+    let start : Start = record { high = slice_index c.args.boot 0; low = slice_index c.args.boot 1; first = c.args.first } in
+    record {
+      store = c.in_ok-store.ensures.stands;
+      kept = c.in_ok-store.ensures.forgotten;
+      book = c.new-book.ensures.stands start refl refl;
+      moderated = c.new-2.ensures.stands c.args.first;
+    }

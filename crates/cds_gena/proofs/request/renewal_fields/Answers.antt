@@ -1,0 +1,10 @@
+use Rattle.std.proofs.Common.{rules, ◌≡◌, subst, sym}
+use Rattle.cds_http.specs.Written.{CanBeWritten}
+use Rattle.cds_gena.specs.Written.{renewal_fields}
+use Rattle.cds_gena.proofs.Requests.{renewal-can}
+use Rattle.cds_gena.proofs.request.renewal_fields.Goals as goal
+
+pub returns-clause-can : goal.returns-clause-can
+returns-clause-can c =
+    let same : c.push-3.new.self ≡ renewal_fields c.args.url.now c.args.sid.0 = search rules in
+    subst CanBeWritten (sym same) (renewal-can c.args.url.now c.args.sid.0 c.slice-host.ensures.valid)

@@ -1,0 +1,232 @@
+-- A tick, and the requests of a replica to the server, as the steps that they are, with what they write.
+use Rattle.std.proofs.Common.{◌≡◌, ℕ, ◌+◌, ◌≤◌, ◌<◌, ◌^◌, Bool, true, false, cond, List, [], ◌∷◌, ◌++◌, length, drop, Option, Some, None, refl, ap, sym, subst, ◌∙◌, arith}
+use Rattle.std.specs.Prelude.{codes}
+use Rattle.std.specs.Fmt.{digits}
+use Rattle.cds_catalog.specs.History.{end_of}
+use Rattle.cds_commands.specs.Commands.{Command, Start, Ticks, scans_of}
+use Rattle.cds_commands.specs.Notes.{has_room, first_note, sent_by, notes_of}
+use Rattle.cds_commands.specs.Subscriptions.{granted}
+use Rattle.cds_follow.specs.Inbox.{Requests, accepted}
+use Rattle.cds_follow.specs.Named.{named}
+use Rattle.cds_gena.specs.Written.{subscribe_text, renewal_text, unsubscribe_text}
+use Rattle.cds_notify.specs.Laws.{AreNumbers}
+use Rattle.cds_notify.proofs.Lengths.{bodies-short}
+use Rattle.cds_replica.specs.Calls.{GoesOn}
+use Rattle.cds_replica.specs.State.{ReplicaState}
+use Rattle.cds_script.specs.Report.{first_of, clock_of, sent_text, renew_text, unsubscribe_text as end_text, lives, given_up, with_renewal}
+use Rattle.cds_script.specs.Script.{grant_at, moment_limit, script_callback}
+use Rattle.cds_script.specs.declared.turn.Turn.TheVariants.{At, Subscribe, Renew, Unsubscribe}
+use Rattle.cds_server.specs.Due.{due}
+use Rattle.cds_server.specs.Outcome.{noted}
+use Rattle.cds_server.specs.Serving.{Serving, StandsFor}
+use Rattle.cds_server.specs.declared.notes.FirstNote.{FirstNote}
+use Rattle.cds_server.specs.declared.notes.Notes.{Notes}
+use Rattle.cds_replay.specs.Events.{IsAnswered, IsAsked, event_url, callback_url}
+use Rattle.cds_replay.specs.Lines.{numbered_line, sent_lines}
+use Rattle.cds_replay.specs.Sending.{SentNote, sent_to, sent_notes, first_sent}
+use Rattle.cds_replay.specs.Session.{Playing, IsAfter, IsSentAs, AreSentAs, quiet, script_start, script_names}
+use Rattle.cds_replay.specs.Wired.{Step, turns_in, played_by, written_on}
+use Rattle.cds_replay.specs.declared.last.Last.TheVariants.{Other}
+use Rattle.cds_replay.proofs.Apart.{none-accepted, some-accepted}
+use Rattle.cds_replay.proofs.EventAnswers.{IsSubscribed, subscribe-answered}
+use Rattle.cds_replay.proofs.EventReads.{renewal-asked, unsubscribe-asked}
+use Rattle.cds_replay.proofs.NamesLow.{accepted-short}
+use Rattle.cds_replay.proofs.PlainScans.{steps-accepted}
+use Rattle.cds_replay.proofs.SentNotes.{steps-call, tick-sent, IsShort, lines-added}
+use Rattle.cds_replay.proofs.Turned.{granted-is}
+use Rattle.cds_replay.proofs.Turns.{tick-after, Subscribes, subscribe-after, renew-after, end-after}
+
+-- ---- a tick
+
+pub tick-turn : (was : Playing) (server : Serving) (notes : Option Notes) (sent : List SentNote) (moment : ℕ) (steps : List Step) → IsAfter was steps → was.clock ≤ moment →
+    moment < moment_limit → was.server.book.subscribed.granted < 2 ^ 32 →
+    ((start : Start) (commands : List Command) → StandsFor was.server start commands → StandsFor server start (Ticks moment ∷ commands)) →
+    ((start : Start) (commands : List Command) → StandsFor was.server start commands → notes ≡ due start commands moment) → IsShort notes →
+    sent ≡ was.sent ++ sent_notes notes →
+    IsAfter (record was { server = server; sent = sent; clock = moment; last = Other }) (quiet (At moment) ∷ steps)
+    × (sent_lines (length was.sent + 1) (drop (length was.sent) sent) ≡ written_on steps (quiet (At moment)))
+tick-turn was server notes sent moment steps after low within few stands told short is = (
+  subst (λ (s : List SentNote). IsAfter (record was { server = server; sent = s; clock = moment; last = Other }) (quiet (At moment) ∷ steps)) (sym is)
+      (tick-after was server (sent_notes notes) moment steps after low within (stands (script_start first) commands after.server) sends),
+  ap (λ (s : List SentNote). sent_lines (length was.sent + 1) (drop (length was.sent) s)) is
+      ∙ lines-added was.sent (sent_notes notes) (notes_of first commands) (sent_by first commands (notes_of first commands) (Ticks moment)) after.sent sends,
+)
+  where
+    first : ℕ
+    first = first_of (turns_in steps)
+
+    commands : List Command
+    commands = (played_by steps).commands
+
+    sends : AreSentAs (sent_notes notes) (sent_by first commands (notes_of first commands) (Ticks moment))
+    sends =
+        tick-sent first moment commands notes (steps-call steps) (subst (λ n. n < 2 ^ 32) (granted-is was steps after) few) (steps-accepted steps after.may.number)
+        (told (script_start first) commands after.server) short
+
+-- ---- a subscribe request
+
+first-is-sent : (name number : ℕ) → name < 2 ^ 32 → number < 2 ^ 32 →
+    IsSentAs (sent_to number (noted (script_names name) script_callback (first_note name number)).body (noted (script_names name) script_callback (first_note name number)).to) (first_note name number)
+first-is-sent name number few low =
+    let numbers : AreNumbers number [] [] = record { update = low; pairs = tt; changes = tt } in
+    record {
+      to = refl;
+      number = refl;
+      containers = [];
+      body = refl;
+      numbers = numbers;
+      short = bodies-short number [] [] numbers (omega arith) (omega arith);
+      name = few;
+      seq = omega arith;
+    }
+
+pub subscribe-turn : (was : Playing) (server : Serving) (replica : ReplicaState) (reply : List ℕ) (note : Option FirstNote) (number : ℕ) (sent : List SentNote) (steps : List Step) →
+    IsAfter was steps → GoesOn was.replica Requests replica → was.server.book.subscribed.granted + 1 < 2 ^ 32 →
+    ((start : Start) (commands : List Command) → StandsFor was.server start commands →
+    IsAnswered start commands was.clock (subscribe_text event_url callback_url) [] reply note server) →
+    ((start : Start) (commands : List Command) → StandsFor server start commands → number ≡ end_of (scans_of start.first commands)) →
+    sent ≡ was.sent ++ first_sent number note →
+    IsAfter (record was { server = server; replica = replica; sent = sent; reply = Some reply; last = Other }) (quiet Subscribe ∷ steps)
+    × (sent_lines (length was.sent + 1) (drop (length was.sent) sent) ≡ written_on steps (quiet Subscribe))
+subscribe-turn was server replica reply note number sent steps after goes few answered counted is = (
+  subst (λ (s : List SentNote). IsAfter (record was { server = server; replica = replica; sent = s; reply = Some reply; last = Other }) (quiet Subscribe ∷ steps)) (sym is)
+      (subscribe-after was server replica reply (first_sent number note) steps after goes (subscribes room comes)),
+  ap (λ (s : List SentNote). sent_lines (length was.sent + 1) (drop (length was.sent) s)) is ∙ writes room comes,
+)
+  where
+    first : ℕ
+    first = first_of (turns_in steps)
+
+    now : ℕ
+    now = clock_of (turns_in steps)
+
+    commands : List Command
+    commands = (played_by steps).commands
+
+    room : Bool
+    room = has_room now commands (notes_of first commands)
+
+    low : granted commands + 1 < 2 ^ 32
+    low = subst (λ n. n + 1 < 2 ^ 32) (granted-is was steps after) few
+
+    comes : IsSubscribed room first now commands reply note server
+    comes =
+        subscribe-answered first now commands reply note server low
+        (subst (λ at. IsAnswered (script_start first) commands at (subscribe_text event_url callback_url) [] reply note server) after.clock
+        (answered (script_start first) commands after.server))
+
+    sends : IsSubscribed true first now commands reply note server → AreSentAs (first_sent number note) (sent_by first commands (notes_of first commands) (grant_at now))
+    sends c =
+        subst (λ (n : ℕ). AreSentAs (first_sent n note) (sent_by first commands (notes_of first commands) (grant_at now)))
+        (sym (counted (script_start first) (grant_at now ∷ commands) c.2))
+        (subst (λ (o : Option FirstNote). AreSentAs (first_sent (end_of (scans_of first commands)) o) (sent_by first commands (notes_of first commands) (grant_at now))) (sym c.1) (
+          first-is-sent (granted commands + 1) (end_of (scans_of first commands)) low
+              (let most = (steps-accepted steps after.may.number).numbers in omega (arith, most)),
+          tt,
+        ))
+
+    nothing : IsSubscribed false first now commands reply note server → AreSentAs (first_sent number note) []
+    nothing c = subst (λ (o : Option FirstNote). AreSentAs (first_sent number o) []) (sym c.1) tt
+
+    subscribes : (b : Bool) → IsSubscribed b first now commands reply note server → Subscribes b first now commands reply (first_sent number note) server
+    subscribes true c = (c.0, low, sends c, c.2)
+    subscribes false c = (c.0, nothing c, c.2)
+
+    writes : (b : Bool) → IsSubscribed b first now commands reply note server →
+        sent_lines (length was.sent + 1) (drop (length was.sent) (was.sent ++ first_sent number note)) ≡ cond b (sent_text first commands (grant_at now)) []
+    writes true c = lines-added was.sent (first_sent number note) (notes_of first commands) (sent_by first commands (notes_of first commands) (grant_at now)) after.sent (sends c)
+    writes false c = lines-added was.sent (first_sent number note) (notes_of first commands) [] after.sent (nothing c)
+
+-- ---- a renewal and an end
+
+renew-line : (b : Bool) → numbered_line (codes "renew ") (cond b 200 412) ≡ cond b (codes "renew 200\n") (codes "renew 412\n")
+unfolding digits
+renew-line true = refl
+renew-line false = refl
+
+end-line : (b : Bool) → numbered_line (codes "unsubscribe ") (cond b 200 412) ≡ cond b (codes "unsubscribe 200\n") (codes "unsubscribe 412\n")
+unfolding digits
+end-line true = refl
+end-line false = refl
+
+pub no-renewal : (was : Playing) (steps : List Step) → IsAfter was steps → accepted (named script_names (played_by steps).replica) ≡ None →
+    IsAfter (record was { last = Other }) (quiet Renew ∷ steps) × (codes "renew none\n" ≡ written_on steps (quiet Renew))
+no-renewal was steps after none =
+    let is : accepted (played_by steps).replica ≡ None = none-accepted (played_by steps).replica none in (
+      renew-after was was.server steps after
+          (subst (λ o. StandsFor was.server (script_start (first_of (turns_in steps))) (with_renewal o (first_of (turns_in steps)) (clock_of (turns_in steps)) (played_by steps).commands))
+          (sym is) after.server),
+      ap (λ o. renew_text o (first_of (turns_in steps)) (clock_of (turns_in steps)) (played_by steps).commands) (sym is),
+    )
+
+pub renewal-turn : (was : Playing) (server : Serving) (sid status : ℕ) (steps : List Step) → IsAfter was steps → accepted (named script_names (played_by steps).replica) ≡ Some sid →
+    was.server.book.subscribed.granted < 2 ^ 32 →
+    ((start : Start) (commands : List Command) → StandsFor was.server start commands → IsAsked start commands was.clock (renewal_text event_url sid) status server) →
+    IsAfter (record was { server = server; last = Other }) (quiet Renew ∷ steps) × (numbered_line (codes "renew ") status ≡ written_on steps (quiet Renew))
+renewal-turn was server sid status steps after is few asked = (
+  renew-after was server steps after
+      (subst (λ o. StandsFor server (script_start first) (with_renewal o first now commands)) (sym name.1) came.0),
+  ap (numbered_line (codes "renew ")) came.1 ∙ renew-line (lives name.0 first now commands) ∙ ap (λ o. renew_text o first now commands) (sym name.1),
+)
+  where
+    first : ℕ
+    first = first_of (turns_in steps)
+
+    now : ℕ
+    now = clock_of (turns_in steps)
+
+    commands : List Command
+    commands = (played_by steps).commands
+
+    low : granted commands < 2 ^ 32
+    low = subst (λ n. n < 2 ^ 32) (granted-is was steps after) few
+
+    name : (n : ℕ) × (accepted (played_by steps).replica ≡ Some n) × (sid ≡ script_names n)
+    name = some-accepted (played_by steps).replica sid is
+
+    came : StandsFor server (script_start first) (with_renewal (Some name.0) first now commands) × (status ≡ cond (lives name.0 first now commands) 200 412)
+    came =
+        renewal-asked first now name.0 status commands server low (accepted-short steps name.0 name.1 low)
+        (subst (λ n. IsAsked (script_start first) commands now (renewal_text event_url n) status server) name.2
+        (subst (λ at. IsAsked (script_start first) commands at (renewal_text event_url sid) status server) after.clock (asked (script_start first) commands after.server)))
+
+pub no-end : (was : Playing) (steps : List Step) → IsAfter was steps → accepted (named script_names (played_by steps).replica) ≡ None →
+    IsAfter (record was { last = Other }) (quiet Unsubscribe ∷ steps) × (codes "unsubscribe none\n" ≡ written_on steps (quiet Unsubscribe))
+no-end was steps after none =
+    let is : accepted (played_by steps).replica ≡ None = none-accepted (played_by steps).replica none in (
+      end-after was was.server steps after
+          (subst (λ o. StandsFor was.server (script_start (first_of (turns_in steps))) (given_up o (first_of (turns_in steps)) (clock_of (turns_in steps)) (played_by steps).commands))
+          (sym is) after.server),
+      ap (λ o. end_text o (first_of (turns_in steps)) (clock_of (turns_in steps)) (played_by steps).commands) (sym is),
+    )
+
+pub end-turn : (was : Playing) (server : Serving) (sid status : ℕ) (steps : List Step) → IsAfter was steps → accepted (named script_names (played_by steps).replica) ≡ Some sid →
+    was.server.book.subscribed.granted < 2 ^ 32 →
+    ((start : Start) (commands : List Command) → StandsFor was.server start commands → IsAsked start commands was.clock (unsubscribe_text event_url sid) status server) →
+    IsAfter (record was { server = server; last = Other }) (quiet Unsubscribe ∷ steps) × (numbered_line (codes "unsubscribe ") status ≡ written_on steps (quiet Unsubscribe))
+end-turn was server sid status steps after is few asked = (
+  end-after was server steps after
+      (subst (λ o. StandsFor server (script_start first) (given_up o first now commands)) (sym name.1) came.0),
+  ap (numbered_line (codes "unsubscribe ")) came.1 ∙ end-line (lives name.0 first now commands) ∙ ap (λ o. end_text o first now commands) (sym name.1),
+)
+  where
+    first : ℕ
+    first = first_of (turns_in steps)
+
+    now : ℕ
+    now = clock_of (turns_in steps)
+
+    commands : List Command
+    commands = (played_by steps).commands
+
+    low : granted commands < 2 ^ 32
+    low = subst (λ n. n < 2 ^ 32) (granted-is was steps after) few
+
+    name : (n : ℕ) × (accepted (played_by steps).replica ≡ Some n) × (sid ≡ script_names n)
+    name = some-accepted (played_by steps).replica sid is
+
+    came : StandsFor server (script_start first) (given_up (Some name.0) first now commands) × (status ≡ cond (lives name.0 first now commands) 200 412)
+    came =
+        unsubscribe-asked first now name.0 status commands server low (accepted-short steps name.0 name.1 low)
+        (subst (λ n. IsAsked (script_start first) commands now (unsubscribe_text event_url n) status server) name.2
+        (subst (λ at. IsAsked (script_start first) commands at (unsubscribe_text event_url sid) status server) after.clock (asked (script_start first) commands after.server)))

@@ -1,0 +1,123 @@
+-- What turns lead to by what the replies to their reads were read as, whatever that is: the replica takes or refuses this, and all
+-- else is played as in every script (this project's profile).
+use Rattle.std.specs.Prelude.{◌≡◌, ◌≤◌, ℕ, Bool, true, false, nat_lt, nat_le, ◌&&◌, List, [], ◌∷◌, length, Option, Some, None, codes}
+use Rattle.cds_object.specs.declared.record.Record.{Record}
+use Rattle.cds_load.specs.Server.{Moment}
+use Rattle.cds_load.specs.declared.exchange.Ask.{Ask as Asked}
+use Rattle.cds_load.specs.declared.exchange.Shown.{Shown}
+use Rattle.cds_commands.specs.Notes.{Note, notes_of}
+use Rattle.cds_follow.specs.Inbox.{ReplicaTurn, Shows, Accepts, Delivers, Arrival, IsUnknown, IsRepeat, IsTooMany, IsEarly, IsHeld, IsNext, arrival, taken_by}
+use Rattle.cds_follow.specs.Follow.{Outcome, known_by, next_ask, says, copied, with_notes, is_no, is_refused}
+use Rattle.cds_follow.specs.Given.{moment_after}
+use Rattle.cds_replica.specs.Replies.{and_shown}
+use Rattle.cds_script.specs.Report.{Played, script_token, first_of, clock_of, records_since, sent_note, play, reply_text, written, may_stand}
+use Rattle.cds_script.specs.declared.reply.HeldReply.{HeldReply}
+use Rattle.cds_script.specs.declared.reply.HeldReply.TheVariants.{NoReply, Named, Refusal}
+use Rattle.cds_script.specs.declared.turn.Turn.{Turn}
+use Rattle.cds_script.specs.declared.turn.Turn.TheVariants.{Read, Ask, Accept, Deliver}
+use Rattle.cds_script.specs.Script.{IsInRange}
+use Rattle.cds_replay.specs.Lines.{known_text}
+
+-- a turn, and what the reply to it was read as: it may be nothing, and only a read that asks for something has a reply
+pub record Step : Type 0 where
+  pub turn : Turn
+  pub read : Option Shown
+
+-- the turns of steps; of both the newest is the first
+abbrev pub turns_in : List Step → List Turn
+turns_in [] = []
+turns_in (step ∷ older) = step.turn ∷ turns_in older
+
+-- ---- what steps lead to
+
+-- the replica's turns after a read: what cannot be read is no turn, nor is what is refused; where nothing is asked no reply comes
+abbrev pub and_read : Option Asked → Option Shown → List ReplicaTurn → List ReplicaTurn
+and_read None read turns = turns
+and_read (Some ask) read turns = and_shown read turns
+
+abbrev pub play_read : Option Shown → ℕ → ℕ → List Record → Played → Turn → Played
+play_read read first now records p Read = record p { replica = and_read (next_ask (known_by p.replica)) read p.replica }
+play_read read first now records p turn = play first now records p turn
+
+abbrev pub played_by : List Step → Played
+played_by [] = record { commands = []; replica = []; reply = NoReply }
+played_by (step ∷ older) =
+    play_read step.read (first_of (turns_in older)) (clock_of (turns_in older)) (records_since (turns_in older)) (played_by older) step.turn
+
+-- what the server has after steps
+abbrev pub moment_by : List Step → Moment
+moment_by steps = moment_after script_token (first_of (turns_in steps)) (played_by steps).commands
+
+-- whether a turn may stand after the older ones: a note that is delivered was sent
+abbrev pub may_stand_by : List Step → Turn → Bool
+may_stand_by older (Deliver note) =
+    nat_lt 0 note && nat_le note (length (notes_of (first_of (turns_in older)) (played_by older).commands))
+may_stand_by older turn = may_stand (turns_in older) turn
+
+-- ---- what the replica refuses
+
+-- what was read of a reply to its ask: nothing, or what it does not take
+abbrev pub refuses_read : Option Asked → Option Shown → List ReplicaTurn → Bool
+refuses_read None read turns = false
+refuses_read (Some ask) None turns = true
+refuses_read (Some ask) (Some shown) turns = is_refused (Shows shown) turns
+
+-- the name in the reply to its subscribe request, where the notes that came early for it tell what cannot be
+abbrev pub refuses_reply : HeldReply → List ReplicaTurn → Bool
+refuses_reply NoReply turns = false
+refuses_reply (Named name) turns = is_refused (Accepts name) turns
+refuses_reply Refusal turns = false
+
+-- a note that is the next one, where it or those that follow it tell what cannot be. To a note of another name, and to one too
+-- many, the replica has its answers
+abbrev pub refuses_arrival : Arrival → Outcome → Bool
+refuses_arrival IsUnknown outcome = false
+refuses_arrival IsRepeat outcome = false
+refuses_arrival (IsTooMany held) outcome = false
+refuses_arrival IsEarly outcome = false
+refuses_arrival (IsHeld missing) outcome = false
+refuses_arrival IsNext outcome = is_no outcome
+
+abbrev pub refuses_note : Option Note → List ReplicaTurn → Bool
+refuses_note None turns = false
+refuses_note (Some note) turns = refuses_arrival (arrival note turns) (with_notes (taken_by (Delivers note) turns) (known_by turns))
+
+-- what a turn gives it, after the older ones
+abbrev pub refuses_turn : Option Shown → ℕ → Played → Turn → Bool
+refuses_turn read first p Read = refuses_read (next_ask (known_by p.replica)) read p.replica
+refuses_turn read first p Accept = refuses_reply p.reply p.replica
+refuses_turn read first p (Deliver note) = refuses_note (sent_note note (notes_of first p.commands)) p.replica
+refuses_turn read first p turn = false
+
+abbrev pub refuses : List Step → Step → Bool
+refuses older step = refuses_turn step.read (first_of (turns_in older)) (played_by older) step.turn
+
+-- ---- what steps write
+
+-- a read: what was read, where it is taken
+abbrev pub read_text_by : Option Asked → Option Shown → List ℕ
+read_text_by None read = codes "read none\n"
+read_text_by (Some ask) None = []
+read_text_by (Some ask) (Some shown) = reply_text shown
+
+-- an ask writes what the replica says, and where it stands the rows of its copy
+abbrev pub written_read : Option Shown → ℕ → ℕ → List Record → Played → Turn → List ℕ
+written_read read first now records p Read = read_text_by (next_ask (known_by p.replica)) read
+written_read read first now records p Ask = known_text (says p.replica) (copied (known_by p.replica))
+written_read read first now records p turn = written first now records p turn
+
+abbrev pub written_on : List Step → Step → List ℕ
+written_on older step =
+    written_read step.read (first_of (turns_in older)) (clock_of (turns_in older)) (records_since (turns_in older)) (played_by older) step.turn
+
+-- ---- steps that may be a script's
+
+-- the numbers of each turn are in their ranges, it may stand after the older ones, nothing was refused, and the first number is one of
+-- the server's
+abbrev pub AllStandBy : List Step → Type 0
+AllStandBy [] = Unit {0}
+AllStandBy (step ∷ older) = (may_stand_by older step.turn ≡ true) × IsInRange step.turn × (refuses older step ≡ false) × AllStandBy older
+
+pub record MayBeBy (steps : List Step) : Type 0 where
+  pub stand : AllStandBy steps
+  pub number : first_of (turns_in steps) ≤ 4294967295

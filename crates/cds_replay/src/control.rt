@@ -1,0 +1,104 @@
+//! An ask as a control request to a script's server, and the bytes of its reply (UPnP Device Architecture 2.0 on control).
+
+ghost use Rattle.std.specs.Prelude.{◌≡◌, ℕ, false, List, [], None, Ok as Gave, codes, IfOk};
+ghost use Rattle.url.specs.Parser.{parse_url};
+ghost use Rattle.cds_commands.specs.Commands.{Command};
+ghost use Rattle.cds_http.specs.declared.message.Message.{Message as MessageValue};
+ghost use Rattle.cds_http.specs.declared.message.Side.TheVariants.{Request};
+ghost use Rattle.cds_http.specs.Decided.{Decides};
+ghost use Rattle.cds_http.specs.Known.{Whole};
+ghost use Rattle.cds_exchange.specs.Honest.{IsInRange, IsPlainMoment};
+ghost use Rattle.cds_follow.specs.Given.{moment_after};
+ghost use Rattle.cds_server.specs.Serving.{StandsFor};
+ghost use Rattle.cds_script.specs.Report.{script_token};
+ghost use Rattle.cds_replay.specs.Session.{script_start};
+ghost use Rattle.cds_replay.specs.Wire.{server_reply};
+
+use crate::wire::Wire;
+use cds_base::Mem;
+use cds_http::{Fed, Message, MessageReader, Side};
+use cds_replica::{Ask, Replica};
+use cds_server::Server;
+use std::alloc::Global;
+use url::Url;
+
+/// Where a script's server is asked.
+const CONTROL: &str = "http://127.0.0.1:49152/control";
+
+/// What a wire leaves of the bytes that a server replies to an ask, which goes to it as a control request at a moment in
+/// milliseconds.
+pub fn carried_reply<W: Wire>(
+    alloc: Global,
+    server: &mut Server,
+    wire: &W,
+    now: u64,
+    ask: Ask,
+) -> Result<Vec<u8>, Mem>
+    ensures replies { (first : ℕ) (commands : List Command) → StandsFor server.old (script_start first) commands →
+        IsPlainMoment (moment_after script_token first commands) →
+        IfOk result (λ reply. reply.items ≡ W.carried wire.now (server_reply (moment_after script_token first commands) ask)) }
+    ensures same { server.new ≡ server.old }
+{
+    cds_exchange::laws::asks_are_read();
+    cds_server::laws::what_is_asked_is_answered();
+    asks_fit(ask);
+    let url = control_url(alloc)?;
+    let mut request = Vec::new(alloc);
+    Replica::ask_bytes(&ask, &url, &mut request)?;
+    let message = message_of(alloc, Side::Request, request.as_slice())?;
+    let mut reply = Vec::new(alloc);
+    let _note = server.handle(alloc, now, &message, &mut reply)?;
+    carry_over(wire, &mut reply);
+    Ok(reply)
+}
+
+/// Carries the bytes of a reply over a wire.
+fn carry_over<W: Wire>(wire: &W, reply: &mut Vec<u8>)
+    ensures { reply.new.items ≡ W.carried wire.now reply.old.items }
+{
+    wire.carry(reply.as_mut_slice());
+}
+
+/// The ids and places of an ask are of 32 bits.
+fn asks_fit(ask: Ask)
+    ensures { IsInRange ask }
+{
+    match ask {
+        Ask::Token => {}
+        Ask::Number => {}
+        Ask::Metadata { id } => {
+            let _ = id;
+        }
+        Ask::Children { id, start } => {
+            let _ = id;
+            let _ = start;
+        }
+    }
+}
+
+/// The address that is asked. It is one, so that no other cause is left for a refusal than memory.
+fn control_url(alloc: Global) -> Result<Url, Mem>
+    ensures { IfOk result (λ url. parse_url None (codes "http://127.0.0.1:49152/control") ≡ Gave url) }
+{
+    match Url::parse(alloc, CONTROL) {
+        Ok(url) => Ok(url),
+        Err(_) => Err(Mem),
+    }
+}
+
+/// The message that bytes are. They are one, whole and with nothing behind it, so that no other cause is left for
+/// a refusal than memory.
+pub fn message_of(alloc: Global, side: Side, bytes: &[u8]) -> Result<Message, Mem>
+    ensures { (message : MessageValue) → Decides false side bytes.now (Whole message []) → IfOk result (λ m. m ≡ message) }
+{
+    let mut reader = MessageReader::new(alloc, side)?;
+    match reader.feed(alloc, bytes) {
+        Ok(Fed::Whole { .. }) => {}
+        Ok(Fed::More) => return Err(Mem),
+        Err(_) => return Err(Mem),
+    }
+    match reader.finish() {
+        Ok(message) => Ok(message),
+        Err(_) => Err(Mem),
+    }
+}

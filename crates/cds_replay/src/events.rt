@@ -1,0 +1,138 @@
+//! Requests about a script's subscriptions, the replies to them, and the notes that are read, all as bytes (UPnP Device
+//! Architecture 2.0 on eventing).
+
+ghost use Rattle.std.specs.Prelude.{◌≡◌, ℕ, false, List, [], None, Ok as Gave, codes, IfOk};
+ghost use Rattle.url.specs.Parser.{parse_url};
+ghost use Rattle.cds_commands.specs.Commands.{Command, Start as ServerStart};
+ghost use Rattle.cds_commands.specs.Notes.{Note as Told};
+ghost use Rattle.cds_http.specs.declared.message.Message.{Message as MessageValue};
+ghost use Rattle.cds_http.specs.declared.message.Side.TheVariants.{Reply as of_reply};
+ghost use Rattle.cds_http.specs.declared.message.Start.TheVariants.{Reply as start_reply};
+ghost use Rattle.cds_http.specs.Decided.{Decides};
+ghost use Rattle.cds_http.specs.Known.{Whole};
+ghost use Rattle.cds_gena.specs.Written.{subscribe_text, renewal_text, unsubscribe_text};
+ghost use Rattle.cds_server.specs.Serving.{StandsFor};
+ghost use Rattle.cds_replay.specs.Events.{IsAnswered, IsNoteRequest, event_url, callback_url, HasStatus, HasLease};
+
+use crate::control::message_of;
+use cds_base::{Bytes, Mem};
+use cds_gena::{Lease, Sid, read_lease, write_renewal, write_subscribe, write_unsubscribe};
+use cds_http::{Message, Side, Start};
+use cds_notify::{NoteError, read_notify};
+use cds_replica::{Note, Sid as ReplicaSid};
+use cds_server::{FirstNote, Server};
+use std::alloc::Global;
+use url::Url;
+
+/// Where a script's server is asked about subscriptions.
+const EVENT: &str = "http://127.0.0.1:49152/event";
+
+/// Where the notes to a script's replica go.
+const CALLBACK: &str = "http://127.0.0.1:49153/notify";
+
+/// The URL that a text is. It is one, so that no other cause is left for a refusal than memory.
+fn url_of(alloc: Global, text: &str) -> Result<Url, Mem>
+    ensures { IfOk result (λ url. parse_url None text.now ≡ Gave url) }
+{
+    match Url::parse(alloc, text) {
+        Ok(url) => Ok(url),
+        Err(_) => Err(Mem),
+    }
+}
+
+/// The request for a subscription.
+pub fn subscribe_request(alloc: Global) -> Result<Vec<u8>, Mem>
+    ensures { IfOk result (λ request. request.items ≡ subscribe_text event_url callback_url) }
+{
+    let url = url_of(alloc, EVENT)?;
+    let callback = url_of(alloc, CALLBACK)?;
+    let mut request = Vec::new(alloc);
+    write_subscribe(alloc, &url, &callback, &mut request)?;
+    Ok(request)
+}
+
+/// The request that renews a subscription.
+pub fn renew_request(alloc: Global, sid: ReplicaSid) -> Result<Vec<u8>, Mem>
+    ensures { IfOk result (λ request. request.items ≡ renewal_text event_url sid.0) }
+{
+    let url = url_of(alloc, EVENT)?;
+    let mut request = Vec::new(alloc);
+    write_renewal(alloc, &url, Sid(sid.0), &mut request)?;
+    Ok(request)
+}
+
+/// The request that ends a subscription.
+pub fn unsubscribe_request(alloc: Global, sid: ReplicaSid) -> Result<Vec<u8>, Mem>
+    ensures { IfOk result (λ request. request.items ≡ unsubscribe_text event_url sid.0) }
+{
+    let url = url_of(alloc, EVENT)?;
+    let mut request = Vec::new(alloc);
+    write_unsubscribe(alloc, &url, Sid(sid.0), &mut request)?;
+    Ok(request)
+}
+
+/// What a server does with the bytes of a request at a moment: the bytes of its reply, and the first note of a subscription that
+/// it granted.
+pub fn answered(
+    alloc: Global,
+    server: &mut Server,
+    now: u64,
+    request: &[u8],
+    reply: &mut Vec<u8>,
+) -> Result<Option<FirstNote>, Mem>
+    ensures { (start : ServerStart) (commands : List Command) → StandsFor server.old start commands → IfOk result
+        (λ note. IsAnswered start commands now request.now reply.old.items reply.new.items note server.new) }
+{
+    let message = message_of(alloc, Side::Request, request)?;
+    server.handle(alloc, now, &message, reply)
+}
+
+/// The message of a reply.
+fn reply_of(alloc: Global, reply: &[u8]) -> Result<Message, Mem>
+    ensures { (message : MessageValue) → Decides false of_reply reply.now (Whole message []) → IfOk result (λ m. m ≡ message) }
+{
+    message_of(alloc, Side::Reply, reply)
+}
+
+/// The status of a message that is a reply; that of one that is none is 0.
+fn status_in(message: &Message) -> u16
+    ensures { (code : ℕ) → message.now.start ≡ start_reply code → result ≡ code }
+{
+    match &message.start {
+        Start::Request { .. } => 0,
+        Start::Reply { status } => *status,
+    }
+}
+
+/// The status of a reply.
+pub fn status_of(alloc: Global, reply: &[u8]) -> Result<u16, Mem>
+    ensures { IfOk result (λ status. HasStatus reply.now status) }
+{
+    let message = reply_of(alloc, reply)?;
+    Ok(status_in(&message))
+}
+
+/// What a reply to a subscribe request grants.
+pub fn lease_of(alloc: Global, reply: &[u8]) -> Result<Option<Lease>, Mem>
+    ensures { IfOk result (λ lease. HasLease reply.now lease) }
+{
+    let message = reply_of(alloc, reply)?;
+    Ok(read_lease(&message))
+}
+
+/// The note that the bytes of a request carry. They carry one, so that no other cause is left for a refusal than memory.
+pub fn note_of(alloc: Global, request: &Bytes) -> Result<Note, Mem>
+    ensures { (note : Told) → IsNoteRequest request.now note → IfOk result (λ read. read ≡ note) }
+{
+    let message = message_of(alloc, Side::Request, request.as_slice())?;
+    match read_notify(alloc, &message) {
+        Ok(note) => Ok(Note {
+            sid: ReplicaSid(note.sid.0),
+            seq: note.seq,
+            number: note.number,
+            events: note.events,
+        }),
+        Err(NoteError::Mem) => Err(Mem),
+        Err(_) => Err(Mem),
+    }
+}

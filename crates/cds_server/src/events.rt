@@ -1,0 +1,278 @@
+//! Requests about subscriptions.
+
+ghost use Rattle.std.specs.Prelude.{◌≡◌, ◌≢◌, ◌+◌, ◌≤◌, ◌<◌, ◌^◌, ◌++◌, ℕ, length, take, codes, Some, None, IsTrue, IfOk, OnOk, OnErr, MatchOption, string_bytes};
+ghost use Rattle.std.specs.Fmt.{decimal};
+ghost use Rattle.url.specs.Parts.{serialize};
+ghost use Rattle.cds_commands.specs.Notes.{first_note};
+ghost use Rattle.cds_gena.specs.Asked.{asks_of_subscription, gena_of, is_deliverable};
+ghost use Rattle.cds_gena.specs.Subscribed.{grant_refusal, last_number, living_named};
+ghost use Rattle.cds_gena.specs.declared.error.GenaError.TheVariants as gena_error;
+ghost use Rattle.cds_server.specs.Route.{asks_events, goes_to};
+ghost use Rattle.cds_server.specs.Outcome.{IsDone, GoesOut, empty_reply, ending, granting, lease_fields, lease_reply, noted, outcome_in, renewing, status_of};
+
+use crate::notes::FirstNote;
+use crate::replying::put_empty;
+use cds_base::{Bytes, Mem, Text};
+use cds_event::Events;
+use cds_gena::{Address, Book, Gena, GenaError, Sid, asks_of_subscription, read_gena};
+use cds_http::{Fields, Message, Start, write_reply};
+use cds_notify::write_propertyset;
+use std::alloc::Global;
+use url::Url;
+
+/// Whether a message is a request to a target.
+fn goes_to(message: &Message, name: &str) -> bool
+    ensures { result ≡ goes_to name.now message.now.start }
+{
+    match &message.start {
+        Start::Request { target, .. } => target.as_str() == name,
+        Start::Reply { .. } => false,
+    }
+}
+
+/// Whether a message asks of a subscription at the target of events.
+pub fn asks_events(message: &Message) -> bool
+    ensures { result ≡ asks_events message.now.start }
+{
+    goes_to(message, "/event") && asks_of_subscription(message)
+}
+
+/// The name that the next subscription gets, where a number is left.
+fn next_sid(book: &Book) -> Option<Sid>
+    requires room { book.now.names + 2 ^ 32 ≤ 2 ^ 128 }
+    ensures { MatchOption result (book.now.subscribed.granted ≡ last_number)
+        (λ sid. sid.0 ≡ book.now.names + (book.now.subscribed.granted + 1)) }
+{
+    let granted = book.granted();
+    if granted == u32::MAX {
+        return None;
+    }
+    Some(Sid(book.names() + (u128::from(granted) + 1)))
+}
+
+/// The first note to a name at a callback, which tells the number of the last change.
+fn first_note(alloc: Global, sid: Sid, callback: &Url, number: u32) -> Result<FirstNote, Mem>
+    requires delivered { IsTrue (is_deliverable callback.now) }
+    ensures note { IfOk result (λ note. note ≡ noted sid.0 (serialize callback.now) (first_note sid.0 number)) }
+    ensures delivered { IfOk result (λ note. GoesOut (Some note)) }
+{
+    let callback = Text::read(alloc, callback.as_str())?;
+    let containers = Vec::new(alloc);
+    let events = Events::new(alloc);
+    let mut body = Vec::new(alloc);
+    write_propertyset(
+        alloc,
+        number,
+        containers.as_slice(),
+        events.as_slice(),
+        &mut body,
+    )?;
+    Ok(FirstNote {
+        to: Address {
+            sid,
+            callback,
+            seq: 0,
+        },
+        body: Bytes::from(body),
+    })
+}
+
+/// The text of TIMEOUT.
+fn timeout_text(alloc: Global, seconds: u32) -> Result<String, Mem>
+    ensures { IfOk result (λ text. string_bytes text ≡ codes "Second-" ++ decimal seconds) }
+{
+    let digits = seconds.to_string(alloc)?;
+    let mut text = String::from_str(alloc, "Second-")?;
+    text.push_str(digits.as_str())?;
+    Ok(text)
+}
+
+/// The given fields of the reply to a SUBSCRIBE that is accepted.
+fn lease_fields(alloc: Global, sid: Sid, seconds: u32) -> Result<Fields, Mem>
+    ensures fields { IfOk result (λ fields. fields ≡ lease_fields sid.0 seconds) }
+    ensures few { seconds < 2 ^ 32 }
+{
+    let sid = sid.text(alloc)?;
+    let timeout = timeout_text(alloc, seconds)?;
+    let mut fields = Fields::new(alloc);
+    fields.push(alloc, "SID", sid.as_str())?;
+    fields.push(alloc, "TIMEOUT", timeout.as_str())?;
+    Ok(fields)
+}
+
+/// Appends the reply to a SUBSCRIBE that is accepted.
+fn put_lease(alloc: Global, sid: Sid, seconds: u32, out: &mut Vec<u8>) -> Result<(), Mem>
+    ensures ok { OnOk result (out.new.items ≡ out.old.items ++ lease_reply sid.0 seconds) }
+    ensures err { OnErr result (out.new.items ≡ out.old.items) }
+{
+    let fields = lease_fields(alloc, sid, seconds)?;
+    write_reply(200, &fields, b"", out)
+}
+
+/// Appends the reply to a request that is refused; where memory ran out, nothing.
+fn refuse(alloc: Global, refusal: GenaError, out: &mut Vec<u8>) -> Result<(), Mem>
+    ensures ok { OnOk result (out.new.items ≡ out.old.items ++ empty_reply (status_of refusal)) }
+    ensures cause { OnOk result (refusal ≢ gena_error.Mem) }
+    ensures err { OnErr result (out.new.items ≡ out.old.items) }
+{
+    match refusal {
+        GenaError::Mem => Err(Mem),
+        GenaError::Incompatible => put_empty(alloc, 400, out),
+        GenaError::Precondition => put_empty(alloc, 412, out),
+        GenaError::Spent => put_empty(alloc, 503, out),
+        GenaError::Full { .. } => put_empty(alloc, 503, out),
+    }
+}
+
+/// Appends the reply to a request that is refused, which has no first note.
+fn refused(alloc: Global, refusal: GenaError, out: &mut Vec<u8>) -> Result<Option<FirstNote>, Mem>
+    ensures ok { OnOk result (out.new.items ≡ out.old.items ++ empty_reply (status_of refusal)) }
+    ensures cause { OnOk result (refusal ≢ gena_error.Mem) }
+    ensures none { IfOk result (λ note. note ≡ None) }
+    ensures err { OnErr result (out.new.items ≡ out.old.items) }
+{
+    refuse(alloc, refusal, out)?;
+    Ok(None)
+}
+
+/// Takes back what was appended behind a place, and refuses the request in its stead.
+fn refused_instead(
+    alloc: Global,
+    before: usize,
+    refusal: GenaError,
+    out: &mut Vec<u8>,
+) -> Result<Option<FirstNote>, Mem>
+    requires inside { before ≤ length out.old.items }
+    ensures ok { OnOk result (out.new.items ≡ take before out.old.items ++ empty_reply (status_of refusal)) }
+    ensures cause { OnOk result (refusal ≢ gena_error.Mem) }
+    ensures none { IfOk result (λ note. note ≡ None) }
+    ensures err { OnErr result (out.new.items ≡ take before out.old.items) }
+{
+    out.truncate(before);
+    refused(alloc, refusal, out)
+}
+
+/// Grants a subscription, where one more is granted, and answers its first note.
+fn grant(
+    alloc: Global,
+    book: &mut Book,
+    number: u32,
+    now: u64,
+    callback: &Url,
+    seconds: u32,
+    out: &mut Vec<u8>,
+) -> Result<Option<FirstNote>, Mem>
+    requires room { book.old.names + 2 ^ 32 ≤ 2 ^ 128 }
+    requires delivered { IsTrue (is_deliverable callback.now) }
+    ensures answers { IfOk result (λ note. IsDone book.old number now
+        (granting (grant_refusal now book.old.subscribed) (serialize callback.now) seconds) out.old.items out.new.items note book.new) }
+    ensures delivered { IfOk result GoesOut }
+    ensures stays { OnErr result (book.new ≡ book.old) }
+    ensures kept { OnErr result (out.new.items ≡ out.old.items) }
+{
+    match next_sid(book) {
+        None => refused(alloc, GenaError::Spent, out),
+        Some(sid) => grant_named(alloc, book, number, now, sid, callback, seconds, out),
+    }
+}
+
+/// Grants a subscription under the next name, where one more is granted.
+fn grant_named(
+    alloc: Global,
+    book: &mut Book,
+    number: u32,
+    now: u64,
+    sid: Sid,
+    callback: &Url,
+    seconds: u32,
+    out: &mut Vec<u8>,
+) -> Result<Option<FirstNote>, Mem>
+    requires named { sid.0 ≡ book.old.names + (book.old.subscribed.granted + 1) }
+    requires delivered { IsTrue (is_deliverable callback.now) }
+    ensures answers { IfOk result (λ note. IsDone book.old number now
+        (granting (grant_refusal now book.old.subscribed) (serialize callback.now) seconds) out.old.items out.new.items note book.new) }
+    ensures delivered { IfOk result GoesOut }
+    ensures stays { OnErr result (book.new ≡ book.old) }
+    ensures kept { OnErr result (out.new.items ≡ out.old.items) }
+{
+    let note = first_note(alloc, sid, callback, number)?;
+    let before = out.len();
+    put_lease(alloc, sid, seconds, out)?;
+    match book.subscribe(alloc, now, callback, seconds) {
+        Ok(_) => Ok(Some(note)),
+        Err(refusal) => refused_instead(alloc, before, refusal, out),
+    }
+}
+
+/// Renews the subscription of a name, where it lives.
+fn renew(
+    alloc: Global,
+    book: &mut Book,
+    now: u64,
+    sid: Sid,
+    seconds: u32,
+    out: &mut Vec<u8>,
+) -> Result<Option<FirstNote>, Mem>
+    ensures answers { IfOk result (λ note. (number : ℕ) → IsDone book.old number now
+        (renewing (living_named now sid.0 book.old) seconds) out.old.items out.new.items note book.new) }
+    ensures none { IfOk result (λ note. note ≡ None) }
+    ensures stays { OnErr result (book.new ≡ book.old) }
+    ensures kept { OnErr result (out.new.items ≡ out.old.items) }
+{
+    let place = out.len();
+    put_lease(alloc, sid, seconds, out)?;
+    match book.renew(now, sid, seconds) {
+        Ok(()) => Ok(None),
+        Err(refusal) => refused_instead(alloc, place, refusal, out),
+    }
+}
+
+/// Ends the subscription of a name, where it lives.
+fn end(
+    alloc: Global,
+    book: &mut Book,
+    now: u64,
+    sid: Sid,
+    out: &mut Vec<u8>,
+) -> Result<Option<FirstNote>, Mem>
+    ensures answers { IfOk result (λ note. (number : ℕ) → IsDone book.old number now
+        (ending (living_named now sid.0 book.old)) out.old.items out.new.items note book.new) }
+    ensures none { IfOk result (λ note. note ≡ None) }
+    ensures stays { OnErr result (book.new ≡ book.old) }
+    ensures kept { OnErr result (out.new.items ≡ out.old.items) }
+{
+    let begin = out.len();
+    put_empty(alloc, 200, out)?;
+    match book.unsubscribe(now, sid) {
+        Ok(()) => Ok(None),
+        Err(refusal) => refused_instead(alloc, begin, refusal, out),
+    }
+}
+
+/// Does what a request about a subscription asks for at a moment, appends the reply, and answers the first note of a
+/// subscription that was granted. Where there is no memory, nothing is done.
+pub fn answer_event(
+    alloc: Global,
+    book: &mut Book,
+    number: u32,
+    now: u64,
+    message: &Message,
+    out: &mut Vec<u8>,
+) -> Result<Option<FirstNote>, Mem>
+    requires method { IsTrue (asks_of_subscription message.now.start) }
+    requires room { book.old.names + 2 ^ 32 ≤ 2 ^ 128 }
+    ensures answers { IfOk result (λ note. IsDone book.old number now (outcome_in book.old now (gena_of message.now))
+        out.old.items out.new.items note book.new) }
+    ensures delivered { IfOk result GoesOut }
+    ensures stays { OnErr result (book.new ≡ book.old) }
+    ensures kept { OnErr result (out.new.items ≡ out.old.items) }
+{
+    match read_gena(alloc, message) {
+        Ok(Gena::Subscribe { callback, seconds }) => {
+            grant(alloc, book, number, now, &callback, seconds, out)
+        }
+        Ok(Gena::Renew { sid, seconds }) => renew(alloc, book, now, sid, seconds, out),
+        Ok(Gena::Unsubscribe { sid }) => end(alloc, book, now, sid, out),
+        Err(refusal) => refused(alloc, refusal, out),
+    }
+}
