@@ -13,7 +13,9 @@
 #   flat at the root: user time and peak memory per object against those at 4,000 (goal: at most 1.4 and 1.1 times);
 # - ten scans of 64,000 objects in folders with 2 % changed in each: the user time of each after the first against the first's
 #   (goal: at most 0.7 times), and a scan of 64,000 tracks that changes one of them against one that changes none (goal: at
-#   most 1.3 times).
+#   most 1.3 times);
+# - a release of 131,070 changes (65,535 tracks that came and went), as notes to one subscription: user time and peak memory for
+#   each change, beside the same script without the tick.
 # Needs bash, python3 and GNU time (/usr/bin/time), which tells the program's own peak memory.
 set -eu
 top=$(cd "$(dirname "$0")/.." && pwd)
@@ -86,6 +88,9 @@ for count in (4000, 16000, 64000):
         write(f"load-{where}{count}", library(count, flat) + ["scan", "load"] + ["read"] * library_reads(count, flat) + ["ask"])
 write("ten64000", [line for scan in range(10) for line in library(64000, scan=scan) + ["scan"]])
 write("none64000", (library(64000, True) + ["scan"]) * 2)
+gone = ["subscribe", "accept", *library(65535, True), "scan", "scan"]
+write("kept131070", gone)
+write("released131070", gone + ["at 200"])
 write("one64000", library(64000, True) + ["scan"] + library(64000, True, grown=32000) + ["scan"])
 PY
 
@@ -129,5 +134,7 @@ for where in ("folders", "flat"):
 one, ten = timed(play, "scan-folders64000", 3), timed(play, "ten64000", 3)
 print(f"ten scans of 64,000 objects, 2 % changed in each: {ten[1] * 1000:.0f} ms user; each after the first {(ten[1] - one[1]) / 9 / one[1]:.2f} times the first")
 flat, none, some = (timed(play, name, 3) for name in ("scan-flat64000", "none64000", "one64000"))
+kept, gone = timed(play, "kept131070", 5), timed(play, "released131070", 5)
+print(f"a release of 131,070 changes: {(gone[1] - kept[1]) * 1000:.0f} ms user, {(gone[1] - kept[1]) / 131.070 * 1000:.2f} us a change; peak {gone[2]:.1f} MiB against {kept[2]:.1f} MiB without it, {(gone[2] - kept[2]) * 1048576 / 131070:.0f} bytes a change")
 print(f"a scan of 64,000 tracks that changes one: {(some[1] - flat[1]) * 1000:.0f} ms user, {(some[1] - flat[1]) / (none[1] - flat[1]):.2f} times one that changes none")
 PY

@@ -14,3 +14,4 @@ pub mod Heads
 pub mod Short
 pub mod Told
 pub mod Controls
+pub mod Accepting

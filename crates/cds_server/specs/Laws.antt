@@ -1,5 +1,5 @@
 -- Laws of replies.
-use Rattle.std.specs.Prelude.{◌≡◌, ◌≢◌, ◌⊎◌, ◌↔◌, ◌≤◌, ◌<◌, ℕ, IsTrue, Bool, true, List, length, map, filter, take, drop, codes, None, Some, Ok, Err, IsOk, IsSome, ⊤}
+use Rattle.std.specs.Prelude.{◌≡◌, ◌≢◌, ◌⊎◌, ◌↔◌, ◌≤◌, ◌<◌, ℕ, IsTrue, Bool, true, List, ◌∷◌, length, map, filter, take, drop, codes, None, Some, Ok, Err, IsOk, IsSome, ⊤}
 use Rattle.std.specs.List.{AllByRecursion}
 use Rattle.url.specs.Parts.{Parts}
 use Rattle.cds_http.specs.declared.fields.Field.{Field}
@@ -9,7 +9,7 @@ use Rattle.cds_http.specs.Written.{written_reply}
 use Rattle.cds_markup.specs.declared.error.MarkupError.{MarkupError}
 use Rattle.cds_markup.specs.Refusal.{IsRefused}
 use Rattle.cds_gena.specs.Asked.{field_of, gena_of}
-use Rattle.cds_gena.specs.Served.{lives_at}
+use Rattle.cds_gena.specs.Served.{Served, lives_at}
 use Rattle.cds_gena.specs.Subscribed.{last_number}
 use Rattle.cds_gena.specs.declared.sid.Sid.{Sid}
 use Rattle.cds_gena.specs.declared.error.GenaError.TheVariants.{Incompatible, Precondition}
@@ -155,6 +155,12 @@ HasEventCause start commands now m text =
     ⊎ ((text ≡ empty_reply 412) × ((gena_of m ≡ Err Precondition) ⊎ NamesNoneLiving start commands now m))
     ⊎ ((text ≡ empty_reply 503) × FindsNoRoom start commands now m)
     ⊎ (HasStatus 200 text × IsAccepted start commands now m)
+
+-- where moments never fall, what is accepted is served: a subscription is granted where there is room, and renewed where it lives, so
+-- that at most 64 live
+abbrev pub accepted_are_served : Type 0
+accepted_are_served = (start : Start) (older : List Command) (before now : ℕ) (m : Message) (command : Command) →
+    Served start.first before older → before ≤ now → command_at start older now m ≡ Some command → Served start.first now (command ∷ older)
 
 -- each reply has its status for its cause, and no message is answered otherwise
 abbrev pub replies_have_causes : Type 0

@@ -4,6 +4,7 @@ use crate::tests::{is_reply, message, record_of, replied, server_with};
 use crate::{FirstNote, Notes, Server};
 use cds_gena::Address;
 use cds_object::Records;
+use cds_scan::{Refused, Scan};
 use std::alloc::Global;
 use std::test::Fail;
 
@@ -205,14 +206,17 @@ fn sixty_four_are_granted(rt: HostRuntime) -> Result<(), Fail> {
     Ok(())
 }
 
-/// A scan of these tracks at the root, parted by spaces.
+/// A scan of a folder with these tracks at its root, parted by spaces.
 fn scan(alloc: Global, server: &mut Server, words: &str) -> Result<(), Fail> {
-    let mut records = Records::new(alloc);
+    let mut scan = Scan {
+        records: Records::new(alloc),
+        refused: Refused::new(alloc),
+    };
     for word in words.split_whitespace() {
-        records.push(record_of(alloc, word)?)?;
+        scan.records.push(record_of(alloc, word)?)?;
     }
-    if records.len() < 10_000 {
-        let _span = server.accept_records(alloc, 0, &records)?;
+    if scan.records.len() < 10_000 {
+        let _span = server.accept_scan(alloc, 0, &scan)?;
     }
     Ok(())
 }

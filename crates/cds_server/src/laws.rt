@@ -37,3 +37,8 @@ pub fn notes_are_sent()
 pub fn bodies_are_short()
     ensures { laws.bodies_are_short }
 {}
+
+/// Where moments never fall, a subscription is granted where there is room, and renewed where it lives: so at most 64 live.
+pub fn accepted_are_served()
+    ensures { laws.accepted_are_served }
+{}
