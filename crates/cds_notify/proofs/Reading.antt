@@ -3,6 +3,7 @@ use Rattle.std.proofs.Common.{◌≡◌, ◌≢◌, ◌⊎◌, inl, inr, ℕ, Bo
 use Rattle.std.specs.List.{flat_map}
 use Rattle.std.specs.Prelude.{option_and_then}
 use Rattle.std.proofs.lemmas.List.Elements.{filter-append}
+use Rattle.cds_commands.specs.Notes.{Note}
 use Rattle.cds_event.specs.declared.Event.{Event}
 use Rattle.cds_http.specs.declared.message.Message.{Message}
 use Rattle.cds_markup.specs.declared.element.Node.{Node}
@@ -20,7 +21,6 @@ use Rattle.cds_lastchange.specs.Refusal.{Decides}
 use Rattle.cds_lastchange.specs.StateEvent.{IsStateEvent}
 use Rattle.cds_lastchange.proofs.Deciding.{one-list}
 use Rattle.cds_gena.specs.Asked.{has_method, field_of}
-use Rattle.cds_notify.specs.declared.note.Note.{Note}
 use Rattle.cds_notify.specs.declared.note.NoteError.{NoteError}
 use Rattle.cds_notify.specs.declared.note.NoteError.TheVariants.{Mem, Head, Precondition, Body}
 use Rattle.cds_notify.specs.declared.heading.Heading.{Heading}
@@ -211,9 +211,9 @@ heading-same a b r e f = cc
 
 note-same : (message : Message) (a b : Note) → IsNote message a → IsNote message b → a ≡ b
 note-same message a b h k =
-    let heading = heading-same (record { sid = a.sid; seq = a.seq }) (record { sid = b.sid; seq = b.seq }) (heading_of message) h.heading k.heading in
+    let heading = heading-same (record { sid = record { 0 = a.name }; seq = a.seq }) (record { sid = record { 0 = b.name }; seq = b.seq }) (heading_of message) h.heading k.heading in
     let said = said-once message.body a.number b.number a.events b.events h.body k.body in
-    λ i. record { sid = (heading i).sid; seq = (heading i).seq; number = said.numbers i; events = said.lists i }
+    λ i. record { name = (heading i).sid.0; seq = (heading i).seq; number = said.numbers i; events = said.lists i }
 
 pub one-answer : (message : Message) (one other : Result Note NoteError) → Answers message one → Answers message other → one ≢ Err Mem → other ≢ Err Mem → one ≡ other
 one-answer message (Ok a) (Ok b) h k p q = ap Ok (note-same message a b h k)

@@ -4,6 +4,7 @@ use Rattle.std.specs.List.{AllByRecursion}
 use Rattle.url.specs.Parts.{Parts, IsValid}
 use Rattle.cds_base.specs.declared.limits.TheConstants.{INPUT_LIMIT}
 use Rattle.cds_catalog.specs.History.{History}
+use Rattle.cds_commands.specs.Notes.{Note}
 use Rattle.cds_commands.specs.Releases.{Release, release_size, released_containers}
 use Rattle.cds_event.specs.declared.Event.{Event}
 use Rattle.cds_http.specs.declared.message.Message.{Message}
@@ -18,7 +19,6 @@ use Rattle.cds_http.specs.Returned.{given_pair, last_pairs}
 use Rattle.cds_lastchange.specs.Spelled.{IsNumbered}
 use Rattle.cds_gena.specs.declared.address.Address.{Address}
 use Rattle.cds_gena.specs.Asked.{is_deliverable}
-use Rattle.cds_notify.specs.declared.note.Note.{Note}
 use Rattle.cds_notify.specs.declared.note.NoteError.{NoteError}
 use Rattle.cds_notify.specs.declared.note.NoteError.TheVariants.{Mem}
 use Rattle.cds_notify.specs.Propertyset.{propertyset_text}
@@ -59,7 +59,7 @@ NotesAreReadBack =
     → length (propertyset_text number containers events) ≤ body_limit
     → Decides ended Request (notify_text url to (propertyset_text number containers events) ++ more)
     (Whole (note_message url to (propertyset_text number containers events)) more)
-    × IsNote (note_message url to (propertyset_text number containers events)) (record { sid = to.sid; seq = to.seq; number = number; events = events })
+    × IsNote (note_message url to (propertyset_text number containers events)) (record { name = to.sid.0; seq = to.seq; number = number; events = events })
 
 -- with so many events, and two containers for each, a body is far below the limit of bytes
 abbrev pub most_events : ℕ

@@ -3,6 +3,7 @@
 use Rattle.std.specs.Prelude.{◌≡◌, ◌^◌, ℕ, Bool, true, false, ◌&&◌, List, codes, bytes_eq, Option, Some, None, is_some, option_map, option_and_then, Result, Ok, Err, ⊤, if◌then◌else◌}
 use Rattle.std.specs.List.{flat_map}
 use Rattle.cds_base.specs.Number.{number_below}
+use Rattle.cds_commands.specs.Notes.{Note}
 use Rattle.cds_event.specs.declared.Event.{Event}
 use Rattle.cds_http.specs.declared.message.Message.{Message}
 use Rattle.cds_markup.specs.declared.element.Node.{Node}
@@ -11,7 +12,6 @@ use Rattle.cds_markup.specs.Children.{nodes_in, texts_in, is_named, named, calle
 use Rattle.cds_lastchange.specs.StateEvent.{IsStateEvent}
 use Rattle.cds_gena.specs.Asked.{has_method, field_of}
 use Rattle.cds_gena.specs.SidText.{sid_in}
-use Rattle.cds_notify.specs.declared.note.Note.{Note}
 use Rattle.cds_notify.specs.declared.note.NoteError.{NoteError}
 use Rattle.cds_notify.specs.declared.note.NoteError.TheVariants.{Mem, Head, Precondition, Body}
 use Rattle.cds_notify.specs.declared.heading.Heading.{Heading}
@@ -98,7 +98,7 @@ pub record Says (body : List ℕ) (number : ℕ) (events : List Event) : Type 0 
 -- ---- the note
 
 pub record IsNote (message : Message) (note : Note) : Type 0 where
-  pub heading : heading_of message ≡ Ok (record { sid = note.sid; seq = note.seq })
+  pub heading : heading_of message ≡ Ok (record { sid = record { 0 = note.name }; seq = note.seq })
   pub body : Says message.body note.number note.events
 
 -- its fields are those of a note, and its body says no number and events

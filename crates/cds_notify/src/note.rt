@@ -1,13 +1,14 @@
 //! Notes, and why a message is none.
 
-ghost use Rattle.std.specs.Prelude.{◌≡◌};
+ghost use Rattle.std.specs.Prelude.{◌≡◌, ◌+◌, ◌^◌, ◌≤◌, ◌&&◌, nat_eq, nat_lt};
 
 use cds_base::Mem;
+use cds_event::Events;
 use cds_gena::Sid;
-use cds_lastchange::Events;
+use std::marker::Model;
 use thiserror::Error;
 
-/// A note that was read.
+/// A note.
 #[derive(Drop, Debug)]
 pub struct Note {
     /// The name of its subscription.
@@ -18,6 +19,66 @@ pub struct Note {
     pub number: u32,
     /// The changes.
     pub events: Events,
+}
+
+impl Model for Note {
+    ghost use Rattle.cds_commands.specs.Notes.{Note as Told};
+
+    ghost Value = { Told };
+
+    ghost view = { λ n. record { name = n.sid.0; seq = n.seq; number = n.number; events = n.events } };
+}
+
+impl Note {
+    /// Its name.
+    pub fn name(&self) -> Sid
+        ensures { result.0 ≡ self.now.name }
+    {
+        self.sid
+    }
+
+    /// The SEQ after its own.
+    pub fn next_seq(&self) -> u64
+        ensures next { result ≡ self.now.seq + 1 }
+        ensures within { result ≤ 2 ^ 32 }
+    {
+        u64::from(self.seq) + 1
+    }
+
+    /// Whether it is a first note above a position, which drops the copy.
+    pub fn drops(&self, position: u32) -> bool
+        ensures { result ≡ (nat_eq self.now.seq 0 && nat_lt position self.now.number) }
+    {
+        self.seq == 0 && position < self.number
+    }
+
+    /// Whether it is one of this name.
+    pub fn is_of(&self, sid: Sid) -> bool
+        ensures { result ≡ nat_eq self.now.name sid.0 }
+    {
+        self.sid.0 == sid.0
+    }
+
+    /// Whether it has this SEQ.
+    pub fn has_seq(&self, seq: u64) -> bool
+        ensures { result ≡ nat_eq self.now.seq seq }
+    {
+        u64::from(self.seq) == seq
+    }
+
+    /// Whether it is one of this name with this SEQ.
+    pub fn is_at(&self, sid: Sid, seq: u64) -> bool
+        ensures { result ≡ (nat_eq self.now.name sid.0 && nat_eq self.now.seq seq) }
+    {
+        self.is_of(sid) && self.has_seq(seq)
+    }
+
+    /// Whether it has the name and the SEQ of another.
+    pub fn is_same(&self, other: &Note) -> bool
+        ensures { result ≡ (nat_eq self.now.name other.now.name && nat_eq self.now.seq other.now.seq) }
+    {
+        self.sid.0 == other.sid.0 && self.seq == other.seq
+    }
 }
 
 /// Why a message is no note.

@@ -12,8 +12,9 @@ ghost use Rattle.cds_replica.specs.Inboxed.{IsInbox, inbox_of, accepts, repeats,
 ghost use Rattle.cds_replica.specs.NewChanges.{nothing_told, tells, drops_first};
 
 use crate::new_changes::{NewChanges, note_of, run_end};
-use crate::note::{Note, Sid};
 use cds_base::Mem;
+use cds_gena::Sid;
+use cds_notify::Note;
 use std::alloc::{AllocError, Global};
 use std::marker::Model;
 use std::mem;

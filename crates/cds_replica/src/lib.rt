@@ -25,10 +25,12 @@ mod stage;
 mod taking;
 
 pub use cds_follow::Says;
+pub use cds_gena::Sid;
 pub use cds_load::{Ask, Read, Shown};
+pub use cds_notify::Note;
 pub use copy_row::CopyRow;
 pub use error::AnswerError;
-pub use note::{Note, Sid, Taken};
+pub use note::Taken;
 pub use notify_error::NotifyError;
 pub use replica::Replica;
 

@@ -7,9 +7,10 @@ ghost use Rattle.cds_replica.specs.Inboxed.{run_end, of_name};
 ghost use Rattle.cds_replica.specs.NewChanges.{nothing_told, tells, tells_note};
 
 use crate::changes::add_changes_above;
-use crate::note::{Note, Sid};
 use cds_base::Mem;
 use cds_event::Event;
+use cds_gena::Sid;
+use cds_notify::Note;
 use std::alloc::Global;
 use std::marker::Model;
 
