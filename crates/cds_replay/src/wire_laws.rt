@@ -1,10 +1,17 @@
 //! What holds of wires as definitions say them: each function's contract is one law, and calling it gives the law.
 
+ghost use Rattle.cds_replay.specs.Reported as reported;
 ghost use Rattle.cds_replay.specs.Wire as wire;
 
 /// A script ends over a wire in one way.
 pub fn wires_end_once()
     ensures { wire.wires_end_once }
+{}
+
+/// The steps that it comes to are the turns of its first lines, each read as the wire left its reply and taken, but for the newest where
+/// that was refused; and what it writes is what each of the others writes, one after the other, and a last line.
+pub fn wires_report_steps()
+    ensures { reported.wires_report_steps }
 {}
 
 /// After `stands` an ask writes rows each of which a reply, as the wire left it, showed with its content and its objectUpdateID.
