@@ -1,5 +1,6 @@
 //! What holds of wires as definitions say them: each function's contract is one law, and calling it gives the law.
 
+ghost use Rattle.cds_replay.specs.Replied as replied;
 ghost use Rattle.cds_replay.specs.Reported as reported;
 ghost use Rattle.cds_replay.specs.Wire as wire;
 
@@ -27,4 +28,24 @@ pub fn straight_wires_are_taken()
 /// So a script ends over it as scripts do.
 pub fn straight_reports_are_the_scripts()
     ensures { wire.straight_reports_are_the_scripts }
+{}
+
+/// The reply to an ask is the one that a server of the same scans gives to the message of the ask's control request.
+pub fn asks_are_replied()
+    ensures { replied.asks_are_replied }
+{}
+
+/// A script's subscribe request gets the status 200 exactly where there is room, and else 503.
+pub fn subscriptions_are_replied()
+    ensures { replied.subscriptions_are_replied }
+{}
+
+/// A renewal gets the status 200 exactly where the subscription lives, and else 412.
+pub fn renewals_are_replied()
+    ensures { replied.renewals_are_replied }
+{}
+
+/// So does a request to end it.
+pub fn ends_are_replied()
+    ensures { replied.ends_are_replied }
 {}
