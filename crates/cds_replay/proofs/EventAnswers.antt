@@ -40,8 +40,9 @@ use Rattle.cds_server.specs.declared.notes.FirstNote.{FirstNote}
 use Rattle.cds_server.proofs.Stands.{asks-way}
 use Rattle.cds_script.specs.Report.{lives}
 use Rattle.cds_script.specs.Script.{grant_at, granted_seconds, script_callback}
-use Rattle.cds_replay.specs.Events.{HasStatus, IsAnswered, IsAsked, event_url, callback_url}
+use Rattle.cds_replay.specs.Events.{HasStatus, IsAnswered, IsAsked, IsMessage, event_url, callback_url}
 use Rattle.cds_replay.specs.Session.{script_names, script_start}
+use Rattle.cds_replay.proofs.Controlled.{one-message}
 use Rattle.cds_replay.proofs.EventUrls.{event-goes, event-host, event-target, event-valid, callback-goes, callback-text, callback-valid}
 use Rattle.cds_replay.proofs.Living.{living-alive, lives-granted}
 
@@ -131,16 +132,18 @@ short-unsubscribe name =
 
 -- a message that was handled, as the bytes of it were answered
 pub handled : (result : Result (Option FirstNote) Memory) (start : Start) (commands : List Command) (now : ℕ) (request old new : List ℕ) (m : Message) (after : Serving) →
-    ((r : Message) → Decides false Request request (Whole r []) → m ≡ r) → OnOk result (Replied start commands now m old new) →
+    IsMessage Request request → ((r : Message) → Decides false Request request (Whole r []) → m ≡ r) → OnOk result (Replied start commands now m old new) →
     OnOk result (StandsFor after start (and_command (command_at start commands now m) commands)) → IfOk result (λ (sent : Option FirstNote). sent ≡ note_at start commands now m) →
     IfOk result GoesOut → IfOk result (λ (sent : Option FirstNote). IsAnswered start commands now request old new sent after)
-handled (Ok sent) start commands now request old new m after is replied stands noted goes = record {
-  replied = λ r whole. subst (λ (n : Message). Replied start commands now n old new) (is r whole) replied;
-  stands = λ r whole. subst (λ (n : Message). StandsFor after start (and_command (command_at start commands now n) commands)) (is r whole) stands;
-  noted = λ r whole. noted ∙ ap (note_at start commands now) (is r whole);
+handled (Ok sent) start commands now request old new m after one is replied stands noted goes = record {
+  message = m;
+  whole = subst (λ (n : Message). Decides false Request request (Whole n [])) (sym (is one.0 one.1)) one.1;
+  replied = replied;
+  stands = stands;
+  noted = noted;
   goes = goes;
 }
-handled (Err memory) start commands now request old new m after is replied stands noted goes = tt
+handled (Err memory) start commands now request old new m after one is replied stands noted goes = tt
 
 -- with the status of the reply
 pub asked-by : (result : Result ℕ Memory) (start : Start) (commands : List Command) (now : ℕ) (request old reply bytes : List ℕ) (note : Option FirstNote) (after : Serving) →
@@ -162,6 +165,9 @@ module _ (start : Start) (commands : List Command) (now : ℕ) (request old new 
   abbrev m : Message
   m = asked.message
 
+  same : answered.message ≡ m
+  same = one-message Request request answered.message m answered.whole asked.whole
+
   way : route m ≡ Subscribes
   way = asks-way m (ap asks_events (asked.start ∙ ap (of_request method) event-target) ∙ events)
 
@@ -170,20 +176,21 @@ module _ (start : Start) (commands : List Command) (now : ℕ) (request old new 
 
   replied-so : new ≡ old ++ outcome_reply (names_of start) (granted commands) come
   replied-so =
-      let r : Replied start commands now m old new = answered.replied m asked.whole in
+      let r : Replied start commands now m old new = subst (λ (n : Message). Replied start commands now n old new) same answered.replied in
       let text : IsReplyOf start commands now m Subscribes r.0 = subst (λ (w : Route). IsReplyOf start commands now m w r.0) way r.1 in
       r.2 ∙ ap (λ t. old ++ t) (text ∙ ap (outcome_reply (names_of start) (granted commands)) is)
 
   noted-so : note ≡ outcome_note (names_of start) (granted commands) (end_of (scans_of start.first commands)) come
   noted-so =
-      answered.noted m asked.whole
+      answered.noted ∙ ap (note_at start commands now) same
       ∙ ap (λ (w : Route). note_by w (outcome_note (names_of start) (granted commands) (end_of (scans_of start.first commands)) (outcome start commands now m))) way
       ∙ ap (outcome_note (names_of start) (granted commands) (end_of (scans_of start.first commands))) is
 
   stands-so : StandsFor after start (and_command (command_of now come) commands)
   stands-so =
       subst (λ (c : Option Command). StandsFor after start (and_command c commands))
-      (ap (λ (w : Route). command_by w now (outcome start commands now m)) way ∙ ap (command_of now) is) (answered.stands m asked.whole)
+      (ap (λ (w : Route). command_by w now (outcome start commands now m)) way ∙ ap (command_of now) is)
+      (subst (λ (n : Message). StandsFor after start (and_command (command_at start commands now n) commands)) same answered.stands)
 
   comes-so : (new ≡ old ++ outcome_reply (names_of start) (granted commands) come)
       × (note ≡ outcome_note (names_of start) (granted commands) (end_of (scans_of start.first commands)) come)
@@ -192,20 +199,20 @@ module _ (start : Start) (commands : List Command) (now : ℕ) (request old new 
 
 -- ---- a subscription is granted where there is room
 
-abbrev asked-whole : List ℕ → List ℕ → Gena → Type 0
+abbrev pub asked-whole : List ℕ → List ℕ → Gena → Type 0
 asked-whole request method gena = AreAsked false request method event_url gena []
 
-subscribe-is : asked-whole (subscribe_text event_url callback_url) (codes "SUBSCRIBE") (Subscribe callback_url 1800)
+pub subscribe-is : asked-whole (subscribe_text event_url callback_url) (codes "SUBSCRIBE") (Subscribe callback_url 1800)
 subscribe-is =
     subst (λ r. asked-whole r (codes "SUBSCRIBE") (Subscribe callback_url 1800)) (append-nil (subscribe_text event_url callback_url))
     (subscribes-read event_url callback_url [] false event-valid event-goes callback-valid callback-goes short-subscribe)
 
-renewal-is : (name : ℕ) → name < 2 ^ 128 → asked-whole (renewal_text event_url name) (codes "SUBSCRIBE") (Renew (record { 0 = name }) 1800)
+pub renewal-is : (name : ℕ) → name < 2 ^ 128 → asked-whole (renewal_text event_url name) (codes "SUBSCRIBE") (Renew (record { 0 = name }) 1800)
 renewal-is name low =
     subst (λ r. asked-whole r (codes "SUBSCRIBE") (Renew (record { 0 = name }) 1800)) (append-nil (renewal_text event_url name))
     (renewals-read event_url (record { 0 = name }) [] false event-valid event-goes low (short-renewal name))
 
-unsubscribe-is : (name : ℕ) → name < 2 ^ 128 → asked-whole (unsubscribe_text event_url name) (codes "UNSUBSCRIBE") (Unsubscribe (record { 0 = name }))
+pub unsubscribe-is : (name : ℕ) → name < 2 ^ 128 → asked-whole (unsubscribe_text event_url name) (codes "UNSUBSCRIBE") (Unsubscribe (record { 0 = name }))
 unsubscribe-is name low =
     subst (λ r. asked-whole r (codes "UNSUBSCRIBE") (Unsubscribe (record { 0 = name }))) (append-nil (unsubscribe_text event_url name))
     (unsubscribes-read event_url (record { 0 = name }) [] false event-valid event-goes low (short-unsubscribe name))
@@ -219,7 +226,7 @@ full-or : (live : ℕ) (b : Bool) → nat_lt live subscription_limit ≡ b → g
 full-or live true e = ap (λ t. granting (cond t None (Some (Full live))) (serialize callback_url) 1800) e ∙ ap (λ c. Granted c 1800) callback-text
 full-or live false e = ap (λ t. granting (cond t None (Some (Full live))) (serialize callback_url) 1800) e
 
-subscribe-comes : (first now : ℕ) (commands : List Command) → granted commands < last_number → (number : ℕ → Option ℕ) →
+pub subscribe-comes : (first now : ℕ) (commands : List Command) → granted commands < last_number → (number : ℕ → Option ℕ) →
     outcome_of (refusal_of first now commands) number (Ok (Subscribe callback_url 1800)) ≡ grant_of (has_room now commands (notes_of first commands))
 subscribe-comes first now commands left number =
     ap (λ b. granting (cond b (Some Spent) (if_full (length (alive_names now commands (notes_of first commands))))) (serialize callback_url) 1800)
@@ -308,11 +315,11 @@ abbrev pub EndedSo : Bool → ℕ → ℕ → ℕ → List Command → List ℕ 
 EndedSo true number first now commands reply after = (reply ≡ empty_reply 200) × StandsFor after (script_start first) (Ends now number ∷ commands)
 EndedSo false number first now commands reply after = (reply ≡ empty_reply 412) × StandsFor after (script_start first) commands
 
-abbrev renewal_of : ℕ → Bool → Outcome
+abbrev pub renewal_of : ℕ → Bool → Outcome
 renewal_of number true = Renewed number 1800
 renewal_of number false = Refused 412
 
-abbrev end_so : ℕ → Bool → Outcome
+abbrev pub end_so : ℕ → Bool → Outcome
 end_so number true = Ended number
 end_so number false = Refused 412
 
@@ -320,14 +327,14 @@ module _ (first now number : ℕ) (commands : List Command) (few : granted comma
   abbrev start : Start
   start = script_start first
 
-  renewal-comes : (refusal : Option GenaError) (b : Bool) → lives number first now commands ≡ b →
+  pub renewal-comes : (refusal : Option GenaError) (b : Bool) → lives number first now commands ≡ b →
       outcome_of refusal (living_number start now commands) (Ok (Renew (record { 0 = script_names number }) 1800)) ≡ renewal_of number b
   renewal-comes refusal true e =
       ap (λ o. renewing o 1800) (living-is first now number commands few ∙ ap (λ b. cond b (Some number) None) e)
   renewal-comes refusal false e =
       ap (λ o. renewing o 1800) (living-is first now number commands few ∙ ap (λ b. cond b (Some number) None) e)
 
-  end-comes : (refusal : Option GenaError) (b : Bool) → lives number first now commands ≡ b →
+  pub end-comes : (refusal : Option GenaError) (b : Bool) → lives number first now commands ≡ b →
       outcome_of refusal (living_number start now commands) (Ok (Unsubscribe (record { 0 = script_names number }))) ≡ end_so number b
   end-comes refusal true e = ap ending (living-is first now number commands few ∙ ap (λ b. cond b (Some number) None) e)
   end-comes refusal false e = ap ending (living-is first now number commands few ∙ ap (λ b. cond b (Some number) None) e)

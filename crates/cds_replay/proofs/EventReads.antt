@@ -1,5 +1,5 @@
 -- What is read of a server's replies about subscriptions, and of the requests that carry notes.
-use Rattle.std.proofs.Common.{◌≡◌, ◌≢◌, ℕ, ◌+◌, ◌<◌, ◌≤◌, ◌^◌, ◌==◌, Bool, true, false, cond, IfSome, List, [], ◌∷◌, ◌++◌, length, Option, Some, None, is_some, option_map, option_and_then, Result, Ok, refl, ap, sym, subst, ◌∙◌, arith, true≢false, eqb-true, append-nil, length-append}
+use Rattle.std.proofs.Common.{◌≡◌, ◌≢◌, ℕ, ◌+◌, ◌<◌, ◌≤◌, ◌^◌, ◌==◌, Bool, true, false, cond, IfSome, List, [], ◌∷◌, ◌++◌, length, Option, Some, None, is_some, option_map, option_and_then, Result, Ok, Err, refl, ap, sym, subst, ◌∙◌, arith, true≢false, eqb-true, append-nil, length-append}
 use Rattle.std.specs.Prelude.{codes}
 use Rattle.std.specs.Fmt.{decimal, digits}
 use Rattle.std.proofs.lemmas.Fmt.{length-decimal-le}
@@ -31,12 +31,16 @@ use Rattle.cds_gena.proofs.Leases.{leases-read, others-grant-nothing}
 use Rattle.cds_notify.specs.Laws.{note_message}
 use Rattle.cds_notify.specs.Notify.{field, host_of, note_fields, notify_text, target_of}
 use Rattle.cds_notify.specs.Propertyset.{propertyset_text}
-use Rattle.cds_notify.specs.Said.{Answers, IsNote}
+use Rattle.cds_notify.specs.Said.{Answers, IsNote, heading_of}
+use Rattle.cds_notify.specs.declared.heading.Heading.{Heading}
 use Rattle.cds_notify.specs.declared.note.Note.{Note as ReadNote}
+use Rattle.cds_notify.specs.declared.note.NoteError.{NoteError}
+use Rattle.cds_notify.specs.declared.note.NoteError.TheVariants.{Mem as NoMemory, Head, Precondition, Body}
 use Rattle.cds_notify.proofs.Notes.{notes-read}
 use Rattle.cds_notify.proofs.Reading.{one-answer}
 use Rattle.cds_server.specs.Outcome.{empty_reply, lease_reply}
 use Rattle.cds_server.specs.Serving.{Serving, StandsFor as ServerStandsFor}
+use Rattle.cds_server.specs.declared.notes.FirstNote.{FirstNote}
 use Rattle.cds_script.specs.Report.{given_up, lives, with_renewal}
 use Rattle.cds_script.specs.Script.{granted_seconds, script_callback}
 use Rattle.cds_script.specs.declared.reply.HeldReply.{HeldReply}
@@ -45,14 +49,19 @@ use Rattle.cds_follow.specs.Inbox.{ReplicaTurn, Refuses}
 use Rattle.cds_follow.specs.Named.{named, named_note}
 use Rattle.cds_replica.specs.Calls.{GoesOn}
 use Rattle.cds_replica.specs.State.{ReplicaState, StandsFor}
-use Rattle.cds_replay.specs.Events.{HasLease, HasStatus, IsAsked, IsNoteRequest, callback_url, event_url}
+use Rattle.cds_replay.specs.Events.{CarriesNote, HasLease, HasSomeStatus, HasStatus, IsAnswered, IsAsked, IsNoteRequest, callback_url, event_url}
 use Rattle.cds_replay.specs.Lines.{numbered_line}
 use Rattle.cds_replay.specs.Sending.{SentNote, carries}
 use Rattle.cds_replay.specs.Session.{HeldTaken, IsHeldAs, IsSentAs, NameTaken, script_names, script_start}
 use Rattle.cds_replay.specs.declared.session.TurnError.{TurnError}
+use Rattle.cds_replay.proofs.Controlled.{one-message}
 use Rattle.cds_replay.proofs.Heard.{refusal-taken}
 use Rattle.cds_replay.proofs.EventAnswers.{EndedSo, RenewedSo, end-answered, length-head, length-line, length-lines, long-sid, renewal-answered}
 use Rattle.cds_replay.proofs.EventUrls.{callback-goes, callback-host, callback-in, callback-target, callback-valid}
+
+abbrev is-headed : Result Heading NoteError → Bool
+is-headed (Ok heading) = true
+is-headed (Err e) = false
 
 -- ---- replies without a body
 
@@ -86,17 +95,29 @@ whole-412 = let l = long-412 in empty-whole 412 (omega arith) (omega arith) (ome
 whole-503 : Decides false Reply (empty_reply 503) (Whole (empty-message 503) [])
 whole-503 = let l = long-503 in empty-whole 503 (omega arith) (omega arith) (omega (arith, l))
 
+-- bytes have one status, and grant one thing
+same-status : (a b : ℕ) → of_reply a ≡ of_reply b → a ≡ b
+same-status a b e = cc
+
+status-one : (reply : List ℕ) (m : Message) (code status : ℕ) → Decides false Reply reply (Whole m []) → m.start ≡ of_reply code → HasStatus reply status → status ≡ code
+status-one reply m code status whole start has =
+    same-status status code (sym has.2 ∙ ap (λ (n : Message). n.start) (one-message Reply reply has.0 m has.1 whole) ∙ start)
+
+lease-one : (reply : List ℕ) (m : Message) (lease : Option Lease) → Decides false Reply reply (Whole m []) → HasLease reply lease → lease ≡ lease_in m
+lease-one reply m lease whole has = has.2 ∙ ap lease_in (one-message Reply reply has.0 m has.1 whole)
+
 pub empty-status-200 : (status : ℕ) → HasStatus (empty_reply 200) status → status ≡ 200
-empty-status-200 status has = has (empty-message 200) 200 whole-200 refl
+empty-status-200 status has = status-one (empty_reply 200) (empty-message 200) 200 status whole-200 refl has
 
 pub empty-status-412 : (status : ℕ) → HasStatus (empty_reply 412) status → status ≡ 412
-empty-status-412 status has = has (empty-message 412) 412 whole-412 refl
+empty-status-412 status has = status-one (empty_reply 412) (empty-message 412) 412 status whole-412 refl has
 
 pub empty-status-503 : (status : ℕ) → HasStatus (empty_reply 503) status → status ≡ 503
-empty-status-503 status has = has (empty-message 503) 503 whole-503 refl
+empty-status-503 status has = status-one (empty_reply 503) (empty-message 503) 503 status whole-503 refl has
 
 pub no-lease : (lease : Option Lease) → HasLease (empty_reply 503) lease → lease ≡ None
-no-lease lease has = has (empty-message 503) whole-503 ∙ others-grant-nothing (empty-message 503) 503 refl (λ e. omega (arith, e))
+no-lease lease has =
+    lease-one (empty_reply 503) (empty-message 503) lease whole-503 has ∙ others-grant-nothing (empty-message 503) 503 refl (λ e. omega (arith, e))
 
 -- ---- replies that grant
 
@@ -138,15 +159,34 @@ granting-start m lease grants = by m.start refl
 pub lease-status : (name status : ℕ) → name < 2 ^ 128 → HasStatus (lease_reply name granted_seconds) status → status ≡ 200
 lease-status name status low has =
     let g = granting-message name low in
-    has g.message 200 g.whole (granting-start g.message (lease-for name) g.grants)
+    status-one (lease_reply name granted_seconds) g.message 200 status g.whole (granting-start g.message (lease-for name) g.grants) has
 
 pub lease-named : (name : ℕ) (lease : Option Lease) → name < 2 ^ 128 → HasLease (lease_reply name granted_seconds) lease → lease ≡ Some (lease-for name)
-lease-named name lease low has = let g = granting-message name low in has g.message g.whole ∙ g.grants
+lease-named name lease low has = let g = granting-message name low in lease-one (lease_reply name granted_seconds) g.message lease g.whole has ∙ g.grants
+
+-- so each of these replies has a status
+pub lease-has : (name : ℕ) → name < 2 ^ 128 → HasStatus (lease_reply name granted_seconds) 200
+lease-has name low = let g = granting-message name low in (g.message, g.whole, granting-start g.message (lease-for name) g.grants)
+
+pub empty-has-200 : HasStatus (empty_reply 200) 200
+empty-has-200 = (empty-message 200, whole-200, refl)
+
+pub empty-has-412 : HasStatus (empty_reply 412) 412
+empty-has-412 = (empty-message 412, whole-412, refl)
+
+pub empty-has-503 : HasStatus (empty_reply 503) 503
+empty-has-503 = (empty-message 503, whole-503, refl)
 
 -- ---- the reply that is held back
 
 same-lease : (a b : Lease) → Some a ≡ Some b → a ≡ b
 same-lease a b e = cc
+
+-- it is a reply
+pub held-has : (reply : List ℕ) (held : HeldReply) → IsHeldAs (Some reply) held → HasSomeStatus reply
+held-has reply NoReply held = absurd held
+held-has reply (Named name) held = subst HasSomeStatus (sym held.0) (200, lease-has (script_names name) (names-short name held.1))
+held-has reply Refusal held = subst HasSomeStatus (sym held) (503, empty-has-503)
 
 -- what grants something grants the name
 pub held-name : (reply : List ℕ) (lease : Lease) (name : ℕ) → IsHeldAs (Some reply) (Named name) → HasLease reply (Some lease) → lease.sid.0 ≡ script_names name
@@ -213,6 +253,17 @@ renewal-asked first now name status commands after few short asked =
     renewed-by (lives name first now commands) first now name commands asked.reply status after short refl
     (renewal-answered first now name commands (omega (arith, few)) short asked.reply asked.note after asked.answered) asked.has
 
+renewed-has : (lived : Bool) (first now number : ℕ) (commands : List Command) (reply : List ℕ) (after : Serving) → script_names number < 2 ^ 128 →
+    RenewedSo lived number first now commands reply after → HasSomeStatus reply
+renewed-has true first now number commands reply after short so = subst HasSomeStatus (sym so.0) (200, lease-has (script_names number) short)
+renewed-has false first now number commands reply after short so = subst HasSomeStatus (sym so.0) (412, empty-has-412)
+
+pub renewal-replies : (first now name : ℕ) (commands : List Command) (reply : List ℕ) (note : Option FirstNote) (after : Serving) → granted commands < 2 ^ 32 →
+    script_names name < 2 ^ 128 → IsAnswered (script_start first) commands now (renewal_text event_url (script_names name)) [] reply note after → HasSomeStatus reply
+renewal-replies first now name commands reply note after few short answered =
+    renewed-has (lives name first now commands) first now name commands reply after short
+    (renewal-answered first now name commands (omega (arith, few)) short reply note after answered)
+
 ended-by : (lived : Bool) (first now number : ℕ) (commands : List Command) (reply : List ℕ) (status : ℕ) (after : Serving) →
     lives number first now commands ≡ lived → EndedSo lived number first now commands reply after → HasStatus reply status →
     ServerStandsFor after (script_start first) (given_up (Some number) first now commands) × (status ≡ cond lived 200 412)
@@ -231,6 +282,17 @@ pub unsubscribe-asked : (first now name status : ℕ) (commands : List Command) 
 unsubscribe-asked first now name status commands after few short asked =
     ended-by (lives name first now commands) first now name commands asked.reply status after refl
     (end-answered first now name commands (omega (arith, few)) short asked.reply asked.note after asked.answered) asked.has
+
+ended-has : (lived : Bool) (first now number : ℕ) (commands : List Command) (reply : List ℕ) (after : Serving) →
+    EndedSo lived number first now commands reply after → HasSomeStatus reply
+ended-has true first now number commands reply after so = subst HasSomeStatus (sym so.0) (200, empty-has-200)
+ended-has false first now number commands reply after so = subst HasSomeStatus (sym so.0) (412, empty-has-412)
+
+pub unsubscribe-replies : (first now name : ℕ) (commands : List Command) (reply : List ℕ) (note : Option FirstNote) (after : Serving) → granted commands < 2 ^ 32 →
+    script_names name < 2 ^ 128 → IsAnswered (script_start first) commands now (unsubscribe_text event_url (script_names name)) [] reply note after → HasSomeStatus reply
+unsubscribe-replies first now name commands reply note after few short answered =
+    ended-has (lives name first now commands) first now name commands reply after
+    (end-answered first now name commands (omega (arith, few)) short reply note after answered)
 
 -- ---- notes
 
@@ -295,10 +357,10 @@ carried-text : (to : Address) (body request : List ℕ) → to.callback ≡ scri
 carried-text to body request at goes =
     subst (λ (o : Option Parts). IfSome o (λ (url : Parts). request ≡ notify_text url to body)) (ap url_in at ∙ callback-in) goes
 
-pub note-read : (sent : SentNote) (note : Note) (request : List ℕ) → IsSentAs sent note →
+pub note-read : (sent : SentNote) (note : Note) (containers : List (ℕ × ℕ)) (request : List ℕ) → IsSentAs sent note containers →
     carries sent.to sent.body request → IsNoteRequest request (named_note script_names note)
-note-read sent note request is goes =
-    let r = notes-read callback_url to note.number is.containers note.events [] false callback-valid callback-goes (names-short note.name is.name) is.seq is.numbers
+note-read sent note containers request is goes =
+    let r = notes-read callback_url to note.number containers note.events [] false callback-valid callback-goes (names-short note.name is.name) is.seq is.numbers
     (let long = is.short in let same : length sent.body ≡ length body = ap length is.body in short-note (script_names note.name) note.seq (length body) is.seq (omega (arith, long, same)))
     (let long = is.short in let same : length sent.body ≡ length body = ap length is.body in omega (arith, long, same)) in
     record {
@@ -312,12 +374,26 @@ note-read sent note request is goes =
     to = record { sid = record { 0 = script_names note.name }; callback = script_callback; seq = note.seq }
 
     body : List ℕ
-    body = propertyset_text note.number is.containers note.events
+    body = propertyset_text note.number containers note.events
 
     text : request ≡ notify_text callback_url to body
     text =
         carried-text sent.to sent.body request (ap (λ (a : Address). a.callback) is.to) goes
         ∙ (λ i. notify_text callback_url (is.to i) (is.body i))
+
+-- a request that carries a note is answered with it, or by want of memory
+pub note-refused : (request : List ℕ) (m : Message) (e : NoteError) → CarriesNote request → ((r : Message) → Decides false Request request (Whole r []) → m ≡ r) →
+    Answers m (Err e) → e ≡ NoMemory
+note-refused request m e some same answers = by e (subst (λ (n : Message). Answers n (Err e)) (same some.1.message some.1.whole) answers)
+  where
+    headed : (r : Result Heading NoteError) → heading_of some.1.message ≡ r → is-headed r ≡ true
+    headed r is = ap is-headed (sym is ∙ some.1.is.heading)
+
+    by : (e : NoteError) → Answers some.1.message (Err e) → e ≡ NoMemory
+    by NoMemory answers = refl
+    by Head answers = absurd (true≢false (sym (headed (Err Head) answers)))
+    by Precondition answers = absurd (true≢false (sym (headed (Err Precondition) answers)))
+    by Body answers = absurd (answers.none some.0.number some.0.events some.1.is.body)
 
 -- the note that a request carries is the one that is read
 pub one-note : (m : Message) (read note : ReadNote) → Answers m (Ok read) → IsNote m note → read ≡ note

@@ -4,10 +4,11 @@ use Rattle.std.specs.Prelude.{codes}
 use Rattle.std.specs.Fmt.{digits}
 use Rattle.cds_catalog.specs.History.{end_of}
 use Rattle.cds_commands.specs.Commands.{Command, Start, Ticks, scans_of}
-use Rattle.cds_commands.specs.Notes.{has_room, first_note, sent_by, notes_of}
+use Rattle.cds_commands.specs.Notes.{has_room, first_note, notes_of}
 use Rattle.cds_commands.specs.Subscriptions.{granted}
 use Rattle.cds_follow.specs.Inbox.{Requests, accepted}
 use Rattle.cds_follow.specs.Named.{named}
+use Rattle.cds_http.specs.declared.message.Side.TheVariants.{Request}
 use Rattle.cds_gena.specs.Written.{subscribe_text, renewal_text, unsubscribe_text}
 use Rattle.cds_notify.specs.Laws.{AreNumbers}
 use Rattle.cds_notify.proofs.Lengths.{bodies-short}
@@ -21,18 +22,18 @@ use Rattle.cds_server.specs.Outcome.{noted}
 use Rattle.cds_server.specs.Serving.{Serving, StandsFor}
 use Rattle.cds_server.specs.declared.notes.FirstNote.{FirstNote}
 use Rattle.cds_server.specs.declared.notes.Notes.{Notes}
-use Rattle.cds_replay.specs.Events.{IsAnswered, IsAsked, event_url, callback_url}
+use Rattle.cds_replay.specs.Events.{IsAnswered, IsAsked, IsMessage, RepliesTo, event_url, callback_url}
 use Rattle.cds_replay.specs.Lines.{numbered_line, sent_lines}
 use Rattle.cds_replay.specs.Sending.{SentNote, sent_to, sent_notes, first_sent}
-use Rattle.cds_replay.specs.Session.{Playing, IsAfter, IsSentAs, AreSentAs, quiet, script_start, script_names}
+use Rattle.cds_replay.specs.Session.{Playing, IsAfter, IsSentAs, AreSentAs, tellings_by, quiet, script_start, script_names}
 use Rattle.cds_replay.specs.Wired.{Step, turns_in, played_by, written_on}
 use Rattle.cds_replay.specs.declared.last.Last.TheVariants.{Other}
 use Rattle.cds_replay.proofs.Apart.{none-accepted, some-accepted}
-use Rattle.cds_replay.proofs.EventAnswers.{IsSubscribed, subscribe-answered}
-use Rattle.cds_replay.proofs.EventReads.{renewal-asked, unsubscribe-asked}
+use Rattle.cds_replay.proofs.EventAnswers.{IsSubscribed, subscribe-answered, renewal-is, unsubscribe-is}
+use Rattle.cds_replay.proofs.EventReads.{renewal-asked, renewal-replies, unsubscribe-asked, unsubscribe-replies}
 use Rattle.cds_replay.proofs.NamesLow.{accepted-short}
 use Rattle.cds_replay.proofs.PlainScans.{steps-accepted}
-use Rattle.cds_replay.proofs.SentNotes.{steps-call, tick-sent, IsShort, lines-added}
+use Rattle.cds_replay.proofs.SentNotes.{steps-call, tick-sent, IsShort, lines-added, lines-none}
 use Rattle.cds_replay.proofs.Turned.{granted-is}
 use Rattle.cds_replay.proofs.Turns.{tick-after, Subscribes, subscribe-after, renew-after, end-after}
 
@@ -49,7 +50,7 @@ tick-turn was server notes sent moment steps after low within few stands told sh
   subst (λ (s : List SentNote). IsAfter (record was { server = server; sent = s; clock = moment; last = Other }) (quiet (At moment) ∷ steps)) (sym is)
       (tick-after was server (sent_notes notes) moment steps after low within (stands (script_start first) commands after.server) sends),
   ap (λ (s : List SentNote). sent_lines (length was.sent + 1) (drop (length was.sent) s)) is
-      ∙ lines-added was.sent (sent_notes notes) (notes_of first commands) (sent_by first commands (notes_of first commands) (Ticks moment)) after.sent sends,
+      ∙ lines-added was.sent (sent_notes notes) first commands (Ticks moment) after.sent sends,
 )
   where
     first : ℕ
@@ -58,7 +59,7 @@ tick-turn was server notes sent moment steps after low within few stands told sh
     commands : List Command
     commands = (played_by steps).commands
 
-    sends : AreSentAs (sent_notes notes) (sent_by first commands (notes_of first commands) (Ticks moment))
+    sends : AreSentAs (sent_notes notes) (tellings_by first commands (Ticks moment))
     sends =
         tick-sent first moment commands notes (steps-call steps) (subst (λ n. n < 2 ^ 32) (granted-is was steps after) few) (steps-accepted steps after.may.number)
         (told (script_start first) commands after.server) short
@@ -66,13 +67,12 @@ tick-turn was server notes sent moment steps after low within few stands told sh
 -- ---- a subscribe request
 
 first-is-sent : (name number : ℕ) → name < 2 ^ 32 → number < 2 ^ 32 →
-    IsSentAs (sent_to number (noted (script_names name) script_callback (first_note name number)).body (noted (script_names name) script_callback (first_note name number)).to) (first_note name number)
+    IsSentAs (sent_to number (noted (script_names name) script_callback (first_note name number)).body (noted (script_names name) script_callback (first_note name number)).to) (first_note name number) []
 first-is-sent name number few low =
     let numbers : AreNumbers number [] [] = record { update = low; pairs = tt; changes = tt } in
     record {
       to = refl;
       number = refl;
-      containers = [];
       body = refl;
       numbers = numbers;
       short = bodies-short number [] [] numbers (omega arith) (omega arith);
@@ -115,11 +115,11 @@ subscribe-turn was server replica reply note number sent steps after goes few an
         (subst (λ at. IsAnswered (script_start first) commands at (subscribe_text event_url callback_url) [] reply note server) after.clock
         (answered (script_start first) commands after.server))
 
-    sends : IsSubscribed true first now commands reply note server → AreSentAs (first_sent number note) (sent_by first commands (notes_of first commands) (grant_at now))
+    sends : IsSubscribed true first now commands reply note server → AreSentAs (first_sent number note) (tellings_by first commands (grant_at now))
     sends c =
-        subst (λ (n : ℕ). AreSentAs (first_sent n note) (sent_by first commands (notes_of first commands) (grant_at now)))
+        subst (λ (n : ℕ). AreSentAs (first_sent n note) (tellings_by first commands (grant_at now)))
         (sym (counted (script_start first) (grant_at now ∷ commands) c.2))
-        (subst (λ (o : Option FirstNote). AreSentAs (first_sent (end_of (scans_of first commands)) o) (sent_by first commands (notes_of first commands) (grant_at now))) (sym c.1) (
+        (subst (λ (o : Option FirstNote). AreSentAs (first_sent (end_of (scans_of first commands)) o) (tellings_by first commands (grant_at now))) (sym c.1) (
           first-is-sent (granted commands + 1) (end_of (scans_of first commands)) low
               (let most = (steps-accepted steps after.may.number).numbers in omega (arith, most)),
           tt,
@@ -134,8 +134,8 @@ subscribe-turn was server replica reply note number sent steps after goes few an
 
     writes : (b : Bool) → IsSubscribed b first now commands reply note server →
         sent_lines (length was.sent + 1) (drop (length was.sent) (was.sent ++ first_sent number note)) ≡ cond b (sent_text first commands (grant_at now)) []
-    writes true c = lines-added was.sent (first_sent number note) (notes_of first commands) (sent_by first commands (notes_of first commands) (grant_at now)) after.sent (sends c)
-    writes false c = lines-added was.sent (first_sent number note) (notes_of first commands) [] after.sent (nothing c)
+    writes true c = lines-added was.sent (first_sent number note) first commands (grant_at now) after.sent (sends c)
+    writes false c = lines-none was.sent (first_sent number note) first commands after.sent (nothing c)
 
 -- ---- a renewal and an end
 
@@ -158,6 +158,33 @@ no-renewal was steps after none =
           (sym is) after.server),
       ap (λ o. renew_text o (first_of (turns_in steps)) (clock_of (turns_in steps)) (played_by steps).commands) (sym is),
     )
+
+-- the request is one message, to which the server replies
+pub renewal-ready : (was : Playing) (sid : ℕ) (steps : List Step) → IsAfter was steps → accepted (named script_names (played_by steps).replica) ≡ Some sid →
+    was.server.book.subscribed.granted < 2 ^ 32 → IsMessage Request (renewal_text event_url sid) × RepliesTo was.server was.clock (renewal_text event_url sid)
+renewal-ready was sid steps after is few = (
+  subst (λ n. IsMessage Request (renewal_text event_url n)) (sym name.2) (let r = renewal-is (script_names name.0) short in (r.message, r.whole)),
+  record {
+    start = script_start (first_of (turns_in steps));
+    commands = commands;
+    stands = after.server;
+    replies = λ reply note server answered.
+        renewal-replies (first_of (turns_in steps)) was.clock name.0 commands reply note server low short
+        (subst (λ n. IsAnswered (script_start (first_of (turns_in steps))) commands was.clock (renewal_text event_url n) [] reply note server) name.2 answered);
+  },
+)
+  where
+    commands : List Command
+    commands = (played_by steps).commands
+
+    low : granted commands < 2 ^ 32
+    low = subst (λ n. n < 2 ^ 32) (granted-is was steps after) few
+
+    name : (n : ℕ) × (accepted (played_by steps).replica ≡ Some n) × (sid ≡ script_names n)
+    name = some-accepted (played_by steps).replica sid is
+
+    short : script_names name.0 < 2 ^ 128
+    short = accepted-short steps name.0 name.1 low
 
 pub renewal-turn : (was : Playing) (server : Serving) (sid status : ℕ) (steps : List Step) → IsAfter was steps → accepted (named script_names (played_by steps).replica) ≡ Some sid →
     was.server.book.subscribed.granted < 2 ^ 32 →
@@ -199,6 +226,33 @@ no-end was steps after none =
           (sym is) after.server),
       ap (λ o. end_text o (first_of (turns_in steps)) (clock_of (turns_in steps)) (played_by steps).commands) (sym is),
     )
+
+-- the request is one message, to which the server replies
+pub end-ready : (was : Playing) (sid : ℕ) (steps : List Step) → IsAfter was steps → accepted (named script_names (played_by steps).replica) ≡ Some sid →
+    was.server.book.subscribed.granted < 2 ^ 32 → IsMessage Request (unsubscribe_text event_url sid) × RepliesTo was.server was.clock (unsubscribe_text event_url sid)
+end-ready was sid steps after is few = (
+  subst (λ n. IsMessage Request (unsubscribe_text event_url n)) (sym name.2) (let r = unsubscribe-is (script_names name.0) short in (r.message, r.whole)),
+  record {
+    start = script_start (first_of (turns_in steps));
+    commands = commands;
+    stands = after.server;
+    replies = λ reply note server answered.
+        unsubscribe-replies (first_of (turns_in steps)) was.clock name.0 commands reply note server low short
+        (subst (λ n. IsAnswered (script_start (first_of (turns_in steps))) commands was.clock (unsubscribe_text event_url n) [] reply note server) name.2 answered);
+  },
+)
+  where
+    commands : List Command
+    commands = (played_by steps).commands
+
+    low : granted commands < 2 ^ 32
+    low = subst (λ n. n < 2 ^ 32) (granted-is was steps after) few
+
+    name : (n : ℕ) × (accepted (played_by steps).replica ≡ Some n) × (sid ≡ script_names n)
+    name = some-accepted (played_by steps).replica sid is
+
+    short : script_names name.0 < 2 ^ 128
+    short = accepted-short steps name.0 name.1 low
 
 pub end-turn : (was : Playing) (server : Serving) (sid status : ℕ) (steps : List Step) → IsAfter was steps → accepted (named script_names (played_by steps).replica) ≡ Some sid →
     was.server.book.subscribed.granted < 2 ^ 32 →

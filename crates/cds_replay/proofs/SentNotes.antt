@@ -5,7 +5,6 @@ use Rattle.std.specs.Fmt.{decimal}
 use Rattle.std.specs.List.{AllByRecursion, range_with_len}
 use Rattle.std.proofs.Math.Seq.{drop-append_seam}
 use Rattle.std.proofs.lemmas.Bool.{and_parts, cases_lt, eqb-false}
-use Rattle.std.proofs.lemmas.List.{append-nil}
 use Rattle.cds_object.specs.declared.record.Record.{Record}
 use Rattle.cds_catalog.specs.Scans.{ScanAnswer, Accepted, BadRecord, TooMany, NoNumbers, scan_answer}
 use Rattle.cds_catalog.specs.History.{History}
@@ -21,34 +20,51 @@ use Rattle.cds_server.specs.declared.notes.Notes.{Notes}
 use Rattle.cds_script.specs.declared.reply.HeldReply.TheVariants.{Named, Refusal}
 use Rattle.cds_script.specs.declared.turn.Turn.{Turn}
 use Rattle.cds_script.specs.declared.turn.Turn.TheVariants.{Folder, Track, Tag, Scan, Load, Read, Ask, First, At, Subscribe, Accept, Renew, Unsubscribe, Deliver, ReadFault}
-use Rattle.cds_script.specs.Report.{Played, first_of, clock_of, records_since, notes_text, sent_note, scanned, given_up, with_renewal, lives}
+use Rattle.cds_script.specs.Report.{Played, first_of, clock_of, records_since, notes_text, sent_note, sent_text, scanned, given_up, with_renewal, lives}
 use Rattle.cds_script.specs.Script.{grant_at, granted_seconds, script_callback}
 use Rattle.cds_replay.specs.Lines.{note_line, sent_lines}
 use Rattle.cds_replay.specs.Sending.{SentNote, sent_to, sent_notes, sent_of}
-use Rattle.cds_replay.specs.Session.{IsSentAs, AreSentAs, script_start, script_names}
+use Rattle.cds_replay.specs.Session.{IsSentAs, AreSentAs, Telling, all_telling, containers_told, release_tells, tellings_by, tellings_of, script_start, script_names}
 use Rattle.cds_replay.specs.Wired.{Step, turns_in, play_read, played_by}
 use Rattle.cds_replay.proofs.Numbers.{release-numbers}
 
 -- ---- lists of them
 
-pub sent-append : (one more : List SentNote) (notes others : List Note) → AreSentAs one notes → AreSentAs more others → AreSentAs (one ++ more) (notes ++ others)
+pub sent-append : (one more : List SentNote) (notes others : List Telling) → AreSentAs one notes → AreSentAs more others → AreSentAs (one ++ more) (notes ++ others)
 sent-append [] more [] others are too = too
 sent-append [] more (note ∷ notes) others are too = absurd are
 sent-append (s ∷ one) more [] others are too = absurd are
 sent-append (s ∷ one) more (note ∷ notes) others are too = (are.0, sent-append one more notes others are.1 too)
 
-pub sent-same : (sent : List SentNote) (notes others : List Note) → notes ≡ others → AreSentAs sent notes → AreSentAs sent others
+pub sent-same : (sent : List SentNote) (notes others : List Telling) → notes ≡ others → AreSentAs sent notes → AreSentAs sent others
 sent-same sent notes others same are = subst (AreSentAs sent) same are
 
--- where a command sends nothing
-pub sent-nothing : (sent : List SentNote) (notes : List Note) → AreSentAs sent notes → AreSentAs sent (notes ++ [])
-sent-nothing sent notes are = subst (AreSentAs sent) (sym (append-nil notes)) are
+-- without their containers they are the notes
+abbrev plain : List Telling → List Note
+plain tellings = map (λ (telling : Telling). telling.note) tellings
 
-pub sent-length : (sent : List SentNote) (notes : List Note) → AreSentAs sent notes → length sent ≡ length notes
+telling-notes : (containers : List (ℕ × ℕ)) (notes : List Note) → plain (all_telling containers notes) ≡ notes
+telling-notes containers [] = refl
+telling-notes containers (note ∷ notes) = ap (λ l. note ∷ l) (telling-notes containers notes)
+
+plain-append : (one more : List Telling) → plain (one ++ more) ≡ plain one ++ plain more
+plain-append [] more = refl
+plain-append (telling ∷ one) more = ap (λ l. telling.note ∷ l) (plain-append one more)
+
+tellings-notes : (first : ℕ) (commands : List Command) → plain (tellings_of first commands) ≡ notes_of first commands
+tellings-notes first [] = refl
+tellings-notes first (command ∷ older) =
+    plain-append (tellings_of first older) (tellings_by first older command)
+    ∙ (λ i. tellings-notes first older i ++ telling-notes (containers_told first older command) (sent_by first older (notes_of first older) command) i)
+
+sent-length : (sent : List SentNote) (notes : List Telling) → AreSentAs sent notes → length sent ≡ length (plain notes)
 sent-length [] [] are = refl
 sent-length [] (note ∷ notes) are = absurd are
 sent-length (s ∷ sent) [] are = absurd are
 sent-length (s ∷ sent) (note ∷ notes) are = ap suc (sent-length sent notes are.1)
+
+pub sent-count : (sent : List SentNote) (first : ℕ) (commands : List Command) → AreSentAs sent (tellings_of first commands) → length sent ≡ length (notes_of first commands)
+sent-count sent first commands are = sent-length sent (tellings_of first commands) are ∙ ap length (tellings-notes first commands)
 
 -- ---- their lines
 
@@ -60,21 +76,32 @@ line-told : (k seq number : ℕ) (rest : List ℕ) →
     ≡ note_line k (record { seq = seq; number = number }) ++ rest
 line-told k seq number rest = last-three (codes "note " ++ decimal k ++ codes " seq " ++ decimal seq) (codes " at ") (decimal number) (codes "\n") rest
 
-pub lines-told : (k : ℕ) (sent : List SentNote) (notes : List Note) → AreSentAs sent notes → sent_lines k sent ≡ notes_text k notes
+lines-told : (k : ℕ) (sent : List SentNote) (notes : List Telling) → AreSentAs sent notes → sent_lines k sent ≡ notes_text k (plain notes)
 lines-told k [] [] are = refl
 lines-told k [] (note ∷ notes) are = absurd are
 lines-told k (s ∷ sent) [] are = absurd are
 lines-told k (s ∷ sent) (note ∷ notes) are =
     (λ i. note_line k (record { seq = (are.0.to i).seq; number = are.0.number i }) ++ lines-told (k + 1) sent notes are.1 i)
-    ∙ sym (line-told k note.seq note.number (notes_text (k + 1) notes))
+    ∙ sym (line-told k note.note.seq note.note.number (notes_text (k + 1) (plain notes)))
 
 -- the lines of those that were added
-pub lines-added : (sent more : List SentNote) (notes others : List Note) → AreSentAs sent notes → AreSentAs more others →
-    sent_lines (length sent + 1) (drop (length sent) (sent ++ more)) ≡ notes_text (length notes + 1) others
-lines-added sent more notes others are too =
+lines-after : (sent more : List SentNote) (notes others : List Telling) → AreSentAs sent notes → AreSentAs more others →
+    sent_lines (length sent + 1) (drop (length sent) (sent ++ more)) ≡ notes_text (length (plain notes) + 1) (plain others)
+lines-after sent more notes others are too =
     ap (sent_lines (length sent + 1)) (drop-append_seam sent more)
     ∙ lines-told (length sent + 1) more others too
-    ∙ ap (λ n. notes_text (n + 1) others) (sent-length sent notes are)
+    ∙ ap (λ n. notes_text (n + 1) (plain others)) (sent-length sent notes are)
+
+pub lines-added : (sent more : List SentNote) (first : ℕ) (commands : List Command) (command : Command) → AreSentAs sent (tellings_of first commands) →
+    AreSentAs more (tellings_by first commands command) → sent_lines (length sent + 1) (drop (length sent) (sent ++ more)) ≡ sent_text first commands command
+lines-added sent more first commands command are too =
+    lines-after sent more (tellings_of first commands) (tellings_by first commands command) are too
+    ∙ (λ i. notes_text (length (tellings-notes first commands i) + 1)
+    (telling-notes (containers_told first commands command) (sent_by first commands (notes_of first commands) command) i))
+
+pub lines-none : (sent more : List SentNote) (first : ℕ) (commands : List Command) → AreSentAs sent (tellings_of first commands) → AreSentAs more [] →
+    sent_lines (length sent + 1) (drop (length sent) (sent ++ more)) ≡ []
+lines-none sent more first commands are too = lines-after sent more (tellings_of first commands) [] are too
 
 -- ---- the one of a number
 
@@ -82,21 +109,23 @@ abbrev pub IsAt : Option SentNote → Option Note → Type 0
 IsAt None None = Unit {0}
 IsAt None (Some note) = ⊥
 IsAt (Some sent) None = ⊥
-IsAt (Some sent) (Some note) = IsSentAs sent note
+IsAt (Some sent) (Some note) = (containers : List (ℕ × ℕ)) × IsSentAs sent note containers
 
-place-at : (sent : List SentNote) (notes : List Note) → AreSentAs sent notes → (n : ℕ) → IsAt (slice_get sent n) (slice_get notes n)
+place-at : (sent : List SentNote) (notes : List Telling) → AreSentAs sent notes → (n : ℕ) → IsAt (slice_get sent n) (slice_get (plain notes) n)
 place-at [] [] are n = tt
 place-at [] (note ∷ notes) are n = absurd are
 place-at (s ∷ sent) [] are n = absurd are
-place-at (s ∷ sent) (note ∷ notes) are zero = are.0
+place-at (s ∷ sent) (note ∷ notes) are zero = (note.containers, are.0)
 place-at (s ∷ sent) (note ∷ notes) are (suc n) = place-at sent notes are.1 n
 
-pub number-at : (sent : List SentNote) (notes : List Note) → AreSentAs sent notes → (number : ℕ) → IsAt (sent_of number sent) (sent_note number notes)
-number-at sent notes are number = by (nat_eq number 0)
+pub number-at : (sent : List SentNote) (first : ℕ) (commands : List Command) → AreSentAs sent (tellings_of first commands) → (number : ℕ) →
+    IsAt (sent_of number sent) (sent_note number (notes_of first commands))
+number-at sent first commands are number =
+    subst (λ (notes : List Note). IsAt (sent_of number sent) (sent_note number notes)) (tellings-notes first commands) (by (nat_eq number 0))
   where
-    by : (b : Bool) → IsAt (cond b None (slice_get sent (number - 1))) (cond b None (slice_get notes (number - 1)))
+    by : (b : Bool) → IsAt (cond b None (slice_get sent (number - 1))) (cond b None (slice_get (plain (tellings_of first commands)) (number - 1)))
     by true = tt
-    by false = place-at sent notes are (number - 1)
+    by false = place-at sent (tellings_of first commands) are (number - 1)
 
 -- ---- each grant of a script has its callback
 
@@ -223,12 +252,11 @@ module _ (first : ℕ) (commands : List Command) (release : Release) (all : AllC
 
   one-sent : (name : ℕ) → IsLiving commands notes name →
       IsSentAs (sent_to release.to (body_of (script_start first) commands release) (address_to (script_start first) commands (released_note (scans_of first commands) release notes name)))
-      (released_note (scans_of first commands) release notes name)
+      (released_note (scans_of first commands) release notes name) (released_containers (scans_of first commands) release)
   one-sent name is = record {
     to = ap (λ (o : Option (List ℕ)). record { sid = record { 0 = script_names name }; callback = unwrap_or o []; seq = next_seq_of name notes })
         (called name commands all is.some is.low);
     number = refl;
-    containers = released_containers (scans_of first commands) release;
     body = refl;
     numbers = numbers;
     short = short;
@@ -239,7 +267,7 @@ module _ (first : ℕ) (commands : List Command) (release : Release) (all : AllC
   pub all-sent : (names : List ℕ) → AllByRecursion (IsLiving commands notes) names →
       AreSentAs
       (map (sent_to release.to (body_of (script_start first) commands release)) (map (address_to (script_start first) commands) (map (released_note (scans_of first commands) release notes) names)))
-      (map (released_note (scans_of first commands) release notes) names)
+      (all_telling (released_containers (scans_of first commands) release) (map (released_note (scans_of first commands) release notes) names))
   all-sent [] living = tt
   all-sent (name ∷ names) living = (one-sent name living.0, all-sent names living.1)
 
@@ -248,7 +276,7 @@ abbrev pub IsShort : Option Notes → Type 0
 IsShort o = IfSome o (λ (notes : Notes). length notes.body < 66000000)
 
 pub tick-sent : (first now : ℕ) (commands : List Command) (o : Option Notes) → AllCall commands → granted commands < 2 ^ 32 → AreAccepted first commands →
-    o ≡ due (script_start first) commands now → IsShort o → AreSentAs (sent_notes o) (sent_by first commands (notes_of first commands) (Ticks now))
+    o ≡ due (script_start first) commands now → IsShort o → AreSentAs (sent_notes o) (tellings_by first commands (Ticks now))
 tick-sent first now commands o all few accepted is short =
     by (release_at now history (releases_of first commands)) refl (subst (λ (n : Option Notes). IsShort n) is short)
     (λ (r : Option Release) (e : release_at now history (releases_of first commands) ≡ r).
@@ -263,15 +291,18 @@ tick-sent first now commands o all few accepted is short =
     sends : (r : Option Release) → List Note
     sends r = released_notes history r (notes_of first commands) names
 
+    tells : (r : Option Release) → List Telling
+    tells r = all_telling (release_tells history r) (sends r)
+
     by : (r : Option Release) → release_at now history (releases_of first commands) ≡ r → IsShort (due (script_start first) commands now) →
         ((r : Option Release) → release_at now history (releases_of first commands) ≡ r → o ≡ option_map (notes_at (script_start first) commands now) r) →
-        AreSentAs (sent_notes o) (sent_by first commands (notes_of first commands) (Ticks now))
-    by None e s told = subst (λ (x : Option Notes). AreSentAs (sent_notes x) (sends (release_at now history (releases_of first commands)))) (sym (told None e))
-        (subst (λ (x : Option Release). AreSentAs [] (sends x)) (sym e) tt)
+        AreSentAs (sent_notes o) (tellings_by first commands (Ticks now))
+    by None e s told = subst (λ (x : Option Notes). AreSentAs (sent_notes x) (tells (release_at now history (releases_of first commands)))) (sym (told None e))
+        (subst (λ (x : Option Release). AreSentAs [] (tells x)) (sym e) tt)
     by (Some release) e s told =
-        subst (λ (x : Option Notes). AreSentAs (sent_notes x) (sends (release_at now history (releases_of first commands)))) (sym (told (Some release) e))
-        (subst (λ (x : Option Release). AreSentAs (sent_notes (Some (notes_at (script_start first) commands now release))) (sends x)) (sym e)
-        (subst (λ (l : List Note). AreSentAs (map (sent_to release.to (body_of (script_start first) commands release)) (map (address_to (script_start first) commands) l)) (sends (Some release)))
+        subst (λ (x : Option Notes). AreSentAs (sent_notes x) (tells (release_at now history (releases_of first commands)))) (sym (told (Some release) e))
+        (subst (λ (x : Option Release). AreSentAs (sent_notes (Some (notes_at (script_start first) commands now release))) (tells x)) (sym e)
+        (subst (λ (l : List Note). AreSentAs (map (sent_to release.to (body_of (script_start first) commands release)) (map (address_to (script_start first) commands) l)) (tells (Some release)))
         (ap sends (sym e))
         (all-sent first commands release all few (release-numbers now history (releases_of first commands) release accepted.numbers e)
         (subst (λ (x : Option Release). IsShort (option_map (notes_at (script_start first) commands now) x)) e s)

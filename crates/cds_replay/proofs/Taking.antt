@@ -147,4 +147,4 @@ pub record IsCarried (request : List ℕ) (n : Option Note) : Type 0 where
 pub some-sent : (o : Option SentNote) (n : Option Note) (request : List ℕ) → IsAt o n → is_request_of o (Some request) → IsCarried request n
 some-sent None n request at is = absurd (cc)
 some-sent (Some sent) None request at is = absurd at
-some-sent (Some sent) (Some note) request at is = record { note = note; is = refl; carried = note-read sent note request at is }
+some-sent (Some sent) (Some note) request at is = record { note = note; is = refl; carried = note-read sent note at.0 request at.1 is }

@@ -21,7 +21,7 @@ use Rattle.cds_script.specs.Script.{IsInRange, grant_at, granted_seconds, moment
 use Rattle.cds_server.specs.Serving.{StandsFor as ServerStandsFor}
 use Rattle.cds_replay.specs.declared.last.Last.TheVariants.{NoTurn}
 use Rattle.cds_replay.specs.Wired.{Step, turns_in, play_read, played_by, may_stand_by, refuses}
-use Rattle.cds_replay.specs.Session.{Playing, IsAfter, Grows, AreSentAs, IsHeldAs, last_of, script_start, script_names}
+use Rattle.cds_replay.specs.Session.{Playing, IsAfter, Grows, AreSentAs, IsHeldAs, tellings_of, last_of, script_start, script_names}
 
 -- the first number is that of the oldest turn
 pub first-more : (turn : Turn) (turns : List Turn) → number_of turn ≡ 0 → first_of (turn ∷ turns) ≡ first_of turns
@@ -51,7 +51,7 @@ pub turned : (was new : Playing) (step : Step) (steps : List Step) → IsAfter w
     IsInRange step.turn → refuses steps step ≡ false →
     ServerStandsFor new.server (script_start (first_of (turns_in steps))) (played_by (step ∷ steps)).commands →
     StandsFor new.replica (named script_names (played_by (step ∷ steps)).replica) →
-    AreSentAs new.sent (notes_of (first_of (turns_in steps)) (played_by (step ∷ steps)).commands) →
+    AreSentAs new.sent (tellings_of (first_of (turns_in steps)) (played_by (step ∷ steps)).commands) →
     new.found ≡ found_since (turns_in (step ∷ steps)) → new.clock ≡ clock_of (turns_in (step ∷ steps)) → IsHeldAs new.reply (played_by (step ∷ steps)).reply →
     new.last ≡ last_of (turns_in (step ∷ steps)) → IsAfter new (step ∷ steps)
 turned was new step steps after none stands plain takes server replica sent found clock reply last = record {
@@ -61,7 +61,7 @@ turned was new step steps after none stands plain takes server replica sent foun
   };
   server = subst (λ n. ServerStandsFor new.server (script_start n) (played_by (step ∷ steps)).commands) (sym (first-more step.turn (turns_in steps) none)) server;
   replica = replica;
-  sent = subst (λ n. AreSentAs new.sent (notes_of n (played_by (step ∷ steps)).commands)) (sym (first-more step.turn (turns_in steps) none)) sent;
+  sent = subst (λ n. AreSentAs new.sent (tellings_of n (played_by (step ∷ steps)).commands)) (sym (first-more step.turn (turns_in steps) none)) sent;
   found = found;
   clock = clock;
   reply = reply;

@@ -12,7 +12,7 @@ use Rattle.cds_store.specs.declared.error.ApplyError.TheVariants.{BadRecords, Fu
 use Rattle.cds_script.specs.Report.{last_commented, records_since, first_of, clock_of, scanned, after_reply, after_note, sent_note, given_up, with_renewal, lives, Played}
 use Rattle.cds_load.specs.declared.exchange.Shown.{Shown}
 use Rattle.cds_commands.specs.Commands.{Command, Renews, Ends, Ticks, scans_of}
-use Rattle.cds_commands.specs.Notes.{Note, has_room, sent_by, notes_of}
+use Rattle.cds_commands.specs.Notes.{Note, has_room, notes_of}
 use Rattle.cds_commands.specs.Subscriptions.{granted}
 use Rattle.cds_follow.specs.Inbox.{Begins, Requests, accepted}
 use Rattle.cds_follow.specs.Follow.{known_by, next_ask}
@@ -29,7 +29,7 @@ use Rattle.cds_server.specs.Serving.{Serving, StandsFor as ServerStandsFor, Scan
 use Rattle.cds_replay.specs.Lines.{was_answered}
 use Rattle.cds_replay.specs.Sending.{SentNote}
 use Rattle.cds_replay.specs.Wired.{Step, turns_in, played_by, and_read, refuses_read, refuses_reply, refuses_note, may_stand_by}
-use Rattle.cds_replay.specs.Session.{Playing, IsAfter, AreSentAs, IsHeldAs, quiet, script_start, script_names, with_found, with_tag}
+use Rattle.cds_replay.specs.Session.{Playing, IsAfter, AreSentAs, IsHeldAs, tellings_by, tellings_of, quiet, script_start, script_names, with_found, with_tag}
 use Rattle.cds_replay.specs.declared.last.Last.TheVariants.{NoTurn, Other}
 use Rattle.cds_replay.proofs.Turned.{last-some, turned}
 use Rattle.cds_replay.proofs.SentNotes.{sent-same, sent-append}
@@ -87,8 +87,8 @@ scan-serves first commands records (Err (Spent needed)) old new stands applied t
 scan-serves first commands records (Err NoMemory) old new stands applied told = absurd (cc)
 
 -- which sends nothing
-scanned-notes : (first : ℕ) (records : List Record) (commands : List Command) (answer : ScanAnswer) → notes_of first commands ≡ notes_of first (scanned answer records commands)
-scanned-notes first records commands Accepted = sym (append-nil (notes_of first commands))
+scanned-notes : (first : ℕ) (records : List Record) (commands : List Command) (answer : ScanAnswer) → tellings_of first commands ≡ tellings_of first (scanned answer records commands)
+scanned-notes first records commands Accepted = sym (append-nil (tellings_of first commands))
 scanned-notes first records commands (BadRecord line) = refl
 scanned-notes first records commands (TooMany objects) = refl
 scanned-notes first records commands (NoNumbers needed) = refl
@@ -103,7 +103,7 @@ scan-after was server answer steps after scans told =
     turned was (record was { server = server; found = []; last = Other }) (quiet Scan) steps after refl refl tt refl
     (scan-serves first commands records answer was.server server after.server scans told)
     after.replica
-    (sent-same was.sent (notes_of first commands) (notes_of first (scanned (scan_answer (scans_of first commands) records) records commands))
+    (sent-same was.sent (tellings_of first commands) (tellings_of first (scanned (scan_answer (scans_of first commands) records) records commands))
     (scanned-notes first records commands (scan_answer (scans_of first commands) records)) after.sent)
     refl after.clock after.reply refl
 
@@ -125,20 +125,20 @@ begin-after was server number (step ∷ older) after none low stands = absurd (l
 -- a tick at a moment that is not before the current one
 pub tick-after : (was : Playing) (server : Serving) (sent : List SentNote) (moment : ℕ) (steps : List Step) → IsAfter was steps → was.clock ≤ moment → moment < moment_limit →
     ServerStandsFor server (script_start (first_of (turns_in steps))) (Ticks moment ∷ (played_by steps).commands) →
-    AreSentAs sent (sent_by (first_of (turns_in steps)) (played_by steps).commands (notes_of (first_of (turns_in steps)) (played_by steps).commands) (Ticks moment)) →
+    AreSentAs sent (tellings_by (first_of (turns_in steps)) (played_by steps).commands (Ticks moment)) →
     IsAfter (record was { server = server; sent = was.sent ++ sent; clock = moment; last = Other }) (quiet (At moment) ∷ steps)
 tick-after was server sent moment steps after low within stands sends =
     turned was (record was { server = server; sent = was.sent ++ sent; clock = moment; last = Other }) (quiet (At moment)) steps after refl
     (ap (λ n. nat_le n moment) (sym after.clock) ∙ le-leb was.clock moment low) within refl stands after.replica
-    (sent-append was.sent sent (notes_of (first_of (turns_in steps)) (played_by steps).commands)
-    (sent_by (first_of (turns_in steps)) (played_by steps).commands (notes_of (first_of (turns_in steps)) (played_by steps).commands) (Ticks moment)) after.sent sends)
+    (sent-append was.sent sent (tellings_of (first_of (turns_in steps)) (played_by steps).commands)
+    (tellings_by (first_of (turns_in steps)) (played_by steps).commands (Ticks moment)) after.sent sends)
     after.found refl after.reply refl
 
 -- a subscribe request, with its answer: it grants a name or refuses, and the first note is sent with the grant alone
 abbrev pub Subscribes : Bool → ℕ → ℕ → List Command → List ℕ → List SentNote → Serving → Type 0
 Subscribes true first now commands reply sent server =
     (reply ≡ lease_reply (script_names (granted commands + 1)) granted_seconds) × (granted commands + 1 < 2 ^ 32)
-    × AreSentAs sent (sent_by first commands (notes_of first commands) (grant_at now)) × ServerStandsFor server (script_start first) (grant_at now ∷ commands)
+    × AreSentAs sent (tellings_by first commands (grant_at now)) × ServerStandsFor server (script_start first) (grant_at now ∷ commands)
 Subscribes false first now commands reply sent server = (reply ≡ empty_reply 503) × AreSentAs sent [] × ServerStandsFor server (script_start first) commands
 
 pub subscribe-after : (was : Playing) (server : Serving) (replica : ReplicaState) (reply : List ℕ) (sent : List SentNote) (steps : List Step) → IsAfter was steps →
@@ -175,17 +175,17 @@ subscribe-after was server replica reply sent steps after goes subscribes = by r
         turned was (record was { server = server; replica = replica; sent = was.sent ++ sent; reply = Some reply; last = Other }) (quiet Subscribe) steps after refl refl tt refl
         (subst (λ b. ServerStandsFor server (script_start first) (cond b granting refusing).commands) (sym e) s.2)
         (subst (λ b. StandsFor replica (named script_names (cond b granting refusing).replica)) (sym e) replica-on)
-        (subst (λ b. AreSentAs (was.sent ++ sent) (notes_of first (cond b granting refusing).commands)) (sym e)
-        (sent-same (was.sent ++ sent) (notes_of first p.commands ++ []) (notes_of first p.commands) (append-nil (notes_of first p.commands))
-        (sent-append was.sent sent (notes_of first p.commands) [] after.sent s.1)))
+        (subst (λ b. AreSentAs (was.sent ++ sent) (tellings_of first (cond b granting refusing).commands)) (sym e)
+        (sent-same (was.sent ++ sent) (tellings_of first p.commands ++ []) (tellings_of first p.commands) (append-nil (tellings_of first p.commands))
+        (sent-append was.sent sent (tellings_of first p.commands) [] after.sent s.1)))
         after.found after.clock
         (subst (λ b. IsHeldAs (Some reply) (cond b granting refusing).reply) (sym e) s.0) refl
     by true e s =
         turned was (record was { server = server; replica = replica; sent = was.sent ++ sent; reply = Some reply; last = Other }) (quiet Subscribe) steps after refl refl tt refl
         (subst (λ b. ServerStandsFor server (script_start first) (cond b granting refusing).commands) (sym e) s.3)
         (subst (λ b. StandsFor replica (named script_names (cond b granting refusing).replica)) (sym e) replica-on)
-        (subst (λ b. AreSentAs (was.sent ++ sent) (notes_of first (cond b granting refusing).commands)) (sym e)
-        (sent-append was.sent sent (notes_of first p.commands) (sent_by first p.commands (notes_of first p.commands) (grant_at now)) after.sent s.2))
+        (subst (λ b. AreSentAs (was.sent ++ sent) (tellings_of first (cond b granting refusing).commands)) (sym e)
+        (sent-append was.sent sent (tellings_of first p.commands) (tellings_by first p.commands (grant_at now)) after.sent s.2))
         after.found after.clock
         (subst (λ b. IsHeldAs (Some reply) (cond b granting refusing).reply) (sym e) (s.0, s.1)) refl
 
@@ -214,20 +214,20 @@ accept-after was replica steps after takes stands =
     after.sent after.found after.clock tt refl
 
 -- the subscription that was accepted last is renewed or given up, if there is one
-renewed-notes : (first now : ℕ) (commands : List Command) (o : Option ℕ) → notes_of first commands ≡ notes_of first (with_renewal o first now commands)
+renewed-notes : (first now : ℕ) (commands : List Command) (o : Option ℕ) → tellings_of first commands ≡ tellings_of first (with_renewal o first now commands)
 renewed-notes first now commands None = refl
 renewed-notes first now commands (Some name) = by (lives name first now commands)
   where
-    by : (b : Bool) → notes_of first commands ≡ notes_of first (cond b (Renews now name granted_seconds ∷ commands) commands)
-    by true = sym (append-nil (notes_of first commands))
+    by : (b : Bool) → tellings_of first commands ≡ tellings_of first (cond b (Renews now name granted_seconds ∷ commands) commands)
+    by true = sym (append-nil (tellings_of first commands))
     by false = refl
 
-ended-notes : (first now : ℕ) (commands : List Command) (o : Option ℕ) → notes_of first commands ≡ notes_of first (given_up o first now commands)
+ended-notes : (first now : ℕ) (commands : List Command) (o : Option ℕ) → tellings_of first commands ≡ tellings_of first (given_up o first now commands)
 ended-notes first now commands None = refl
 ended-notes first now commands (Some name) = by (lives name first now commands)
   where
-    by : (b : Bool) → notes_of first commands ≡ notes_of first (cond b (Ends now name ∷ commands) commands)
-    by true = sym (append-nil (notes_of first commands))
+    by : (b : Bool) → tellings_of first commands ≡ tellings_of first (cond b (Ends now name ∷ commands) commands)
+    by true = sym (append-nil (tellings_of first commands))
     by false = refl
 
 pub renew-after : (was : Playing) (server : Serving) (steps : List Step) → IsAfter was steps →
@@ -239,7 +239,7 @@ renew-after was server steps after stands =
     let now = clock_of (turns_in steps) in
     let p = played_by steps in
     turned was (record was { server = server; last = Other }) (quiet Renew) steps after refl refl tt refl stands after.replica
-    (sent-same was.sent (notes_of first p.commands) (notes_of first (with_renewal (accepted p.replica) first now p.commands))
+    (sent-same was.sent (tellings_of first p.commands) (tellings_of first (with_renewal (accepted p.replica) first now p.commands))
     (renewed-notes first now p.commands (accepted p.replica)) after.sent)
     after.found after.clock after.reply refl
 
@@ -252,7 +252,7 @@ end-after was server steps after stands =
     let now = clock_of (turns_in steps) in
     let p = played_by steps in
     turned was (record was { server = server; last = Other }) (quiet Unsubscribe) steps after refl refl tt refl stands after.replica
-    (sent-same was.sent (notes_of first p.commands) (notes_of first (given_up (accepted p.replica) first now p.commands))
+    (sent-same was.sent (tellings_of first p.commands) (tellings_of first (given_up (accepted p.replica) first now p.commands))
     (ended-notes first now p.commands (accepted p.replica)) after.sent)
     after.found after.clock after.reply refl
 

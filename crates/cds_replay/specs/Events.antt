@@ -6,6 +6,7 @@ use Rattle.url.specs.declared.host.Host.TheVariants.{Ipv4}
 use Rattle.cds_commands.specs.Commands.{Command, Start}
 use Rattle.cds_commands.specs.Notes.{Note}
 use Rattle.cds_http.specs.declared.message.Message.{Message}
+use Rattle.cds_http.specs.declared.message.Side.{Side}
 use Rattle.cds_http.specs.declared.message.Side.TheVariants.{Request, Reply}
 use Rattle.cds_http.specs.declared.message.Start.TheVariants.{Reply as of_reply}
 use Rattle.cds_http.specs.Decided.{Decides}
@@ -31,27 +32,48 @@ local_url port path = record {
   fragment = None;
 }
 
--- where a script's server is asked about subscriptions, and where the notes to its replica go
+-- where a script's server is asked
+abbrev pub control_url : Parts
+control_url = local_url 49152 (codes "/control")
+
+-- where it is asked about subscriptions, and where the notes to its replica go
 abbrev pub event_url : Parts
 event_url = local_url 49152 (codes "/event")
 
 abbrev pub callback_url : Parts
 callback_url = local_url 49153 (codes "/notify")
 
+-- bytes are one message of a side, whole and with nothing behind it
+abbrev pub IsMessage : Side → List ℕ → Type 0
+IsMessage side bytes = (m : Message) × Decides false side bytes (Whole m [])
+
 -- a server that stood for commands answered the bytes of a request, which are a message, at a moment: what it replied and accepted,
 -- and the first note, are those of the message
 pub record IsAnswered (start : Start) (commands : List Command) (now : ℕ) (request old new : List ℕ) (note : Option FirstNote) (after : Serving) : Type 0 where
-  pub replied : (m : Message) → Decides false Request request (Whole m []) → Replied start commands now m old new
-  pub stands : (m : Message) → Decides false Request request (Whole m []) → StandsFor after start (and_command (command_at start commands now m) commands)
-  pub noted : (m : Message) → Decides false Request request (Whole m []) → note ≡ note_at start commands now m
+  pub message : Message
+  pub whole : Decides false Request request (Whole message [])
+  pub replied : Replied start commands now message old new
+  pub stands : StandsFor after start (and_command (command_at start commands now message) commands)
+  pub noted : note ≡ note_at start commands now message
   pub goes : GoesOut note
 
--- bytes that are a reply have a status; and what it grants
+-- bytes are a reply with a status, or with some
 abbrev pub HasStatus : List ℕ → ℕ → Type 0
-HasStatus reply status = (m : Message) (code : ℕ) → Decides false Reply reply (Whole m []) → m.start ≡ of_reply code → status ≡ code
+HasStatus reply status = (m : Message) × Decides false Reply reply (Whole m []) × (m.start ≡ of_reply status)
 
+abbrev pub HasSomeStatus : List ℕ → Type 0
+HasSomeStatus reply = (status : ℕ) × HasStatus reply status
+
+-- bytes are a reply that grants this
 abbrev pub HasLease : List ℕ → Option Lease → Type 0
-HasLease reply lease = (m : Message) → Decides false Reply reply (Whole m []) → lease ≡ lease_in m
+HasLease reply lease = (m : Message) × Decides false Reply reply (Whole m []) × (lease ≡ lease_in m)
+
+-- a server that stands for some commands replies to the bytes of a request at a moment, with a status
+pub record RepliesTo (server : Serving) (now : ℕ) (request : List ℕ) : Type 0 where
+  pub start : Start
+  pub commands : List Command
+  pub stands : StandsFor server start commands
+  pub replies : (reply : List ℕ) (note : Option FirstNote) (after : Serving) → IsAnswered start commands now request [] reply note after → HasSomeStatus reply
 
 -- a server that stood for commands was asked by the bytes of a request at a moment, and replied with a status
 pub record IsAsked (start : Start) (commands : List Command) (now : ℕ) (request : List ℕ) (status : ℕ) (after : Serving) : Type 0 where
@@ -60,8 +82,11 @@ pub record IsAsked (start : Start) (commands : List Command) (now : ℕ) (reques
   pub answered : IsAnswered start commands now request [] reply note after
   pub has : HasStatus reply status
 
--- bytes are the request that carries a note, under the name that it has there
+-- bytes are the request that carries a note, under the name that it has there; or some note
 pub record IsNoteRequest (request : List ℕ) (note : Note) : Type 0 where
   pub message : Message
   pub whole : Decides false Request request (Whole message [])
   pub is : IsNote message (record { sid = record { 0 = note.name }; seq = note.seq; number = note.number; events = note.events })
+
+abbrev pub CarriesNote : List ℕ → Type 0
+CarriesNote request = (note : Note) × IsNoteRequest request note

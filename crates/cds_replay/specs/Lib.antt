@@ -2,6 +2,8 @@ pub mod Events
 pub mod Flipped
 pub mod Lines
 pub mod Replay
+pub mod Replied
+pub mod Reported
 pub mod Script
 pub mod Sending
 pub mod Session

@@ -11,7 +11,8 @@ use Rattle.cds_replay.specs.declared.script.Script.{Script}
 use Rattle.cds_replay.specs.declared.script.Stop.{Stop}
 use Rattle.cds_replay.specs.declared.script.Stop.TheVariants.{Outside, Limit, Refused}
 
--- the status of a script that stops before its last byte
+-- the status of a script that stops before its last byte. A refusal by the replica is no status of a script's: 0 stands for none, and the
+-- line's number in `refused` says why it stops
 abbrev pub stop_status : Stop → ℕ
 stop_status (Outside line) = 1
 stop_status Limit = 6

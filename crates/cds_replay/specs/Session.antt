@@ -1,8 +1,9 @@
 -- What a session of a script has, and for which turns it stands.
-use Rattle.std.specs.Prelude.{◌≡◌, ◌+◌, ◌<◌, ◌≤◌, ◌^◌, ℕ, Bool, true, false, List, [], ◌∷◌, ◌++◌, length, Option, Some, None, Result, Ok, Err}
+use Rattle.std.specs.Prelude.{◌≡◌, ◌+◌, ◌<◌, ◌≤◌, ◌^◌, ℕ, Bool, true, false, List, [], ◌∷◌, ◌++◌, map, length, Option, Some, None, Result, Ok, Err}
 use Rattle.cds_object.specs.declared.info.Comment.{Comment}
 use Rattle.cds_load.specs.declared.exchange.Shown.{Shown}
-use Rattle.cds_commands.specs.Commands.{Start}
+use Rattle.cds_catalog.specs.History.{History}
+use Rattle.cds_commands.specs.Commands.{Command, Start, Ticks, scans_of}
 use Rattle.cds_notify.specs.Laws.{AreNumbers}
 use Rattle.cds_notify.specs.Propertyset.{propertyset_text}
 use Rattle.cds_server.specs.Outcome.{empty_reply, lease_reply}
@@ -23,7 +24,8 @@ use Rattle.cds_replay.specs.Wired.{Step, turns_in, played_by, and_read, refuses_
 use Rattle.cds_replay.specs.Wire.{IsReadBy, AreReadBy}
 use Rattle.cds_base.specs.declared.mem.Mem.{Mem}
 use Rattle.cds_commands.specs.Names.{name_of}
-use Rattle.cds_commands.specs.Notes.{Note, notes_of}
+use Rattle.cds_commands.specs.Notes.{Note, notes_of, sent_by}
+use Rattle.cds_commands.specs.Releases.{Release, release_at, released_containers, releases_of}
 use Rattle.cds_follow.specs.Inbox.{ReplicaTurn}
 use Rattle.cds_follow.specs.Named.{named}
 use Rattle.cds_follow.specs.Follow.{known_by, next_ask}
@@ -57,12 +59,37 @@ script_start first = record { high = 0; low = 0; first = first }
 abbrev pub script_names : ℕ → ℕ
 script_names number = name_of (script_start 0) number
 
+-- a note, and the containers that it tells
+pub record Telling : Type 0 where
+  pub note : Note
+  pub containers : List (ℕ × ℕ)
+
+-- notes that all tell these containers
+abbrev pub all_telling : List (ℕ × ℕ) → List Note → List Telling
+all_telling containers notes = map (λ (note : Note). record { note = note; containers = containers }) notes
+
+-- the containers that the notes of a command tell: those of the release, where a tick makes one; a first note tells none
+abbrev pub release_tells : History → Option Release → List (ℕ × ℕ)
+release_tells history None = []
+release_tells history (Some release) = released_containers history release
+
+abbrev pub containers_told : ℕ → List Command → Command → List (ℕ × ℕ)
+containers_told first older (Ticks moment) = release_tells (scans_of first older) (release_at moment (scans_of first older) (releases_of first older))
+containers_told first older command = []
+
+-- the notes that a command sends, after the older ones; and all notes that were sent, the oldest first
+abbrev pub tellings_by : ℕ → List Command → Command → List Telling
+tellings_by first older command = all_telling (containers_told first older command) (sent_by first older (notes_of first older) command)
+
+abbrev pub tellings_of : ℕ → List Command → List Telling
+tellings_of first [] = []
+tellings_of first (command ∷ older) = tellings_of first older ++ tellings_by first older command
+
 -- a note that was sent, as it goes over the wire: to the callback of a script, under the name and the SEQ of the note, with a body that
--- tells its number, its changes, and some containers
-pub record IsSentAs (sent : SentNote) (note : Note) : Type 0 where
+-- tells its number, its changes, and these containers
+pub record IsSentAs (sent : SentNote) (note : Note) (containers : List (ℕ × ℕ)) : Type 0 where
   pub to : sent.to ≡ record { sid = record { 0 = script_names note.name }; callback = script_callback; seq = note.seq }
   pub number : sent.number ≡ note.number
-  pub containers : List (ℕ × ℕ)
   pub body : sent.body ≡ propertyset_text note.number containers note.events
   pub numbers : AreNumbers note.number containers note.events
   pub short : length sent.body < 66000000
@@ -70,11 +97,11 @@ pub record IsSentAs (sent : SentNote) (note : Note) : Type 0 where
   pub seq : note.seq < 2 ^ 32
 
 -- so each of them, in order
-abbrev pub AreSentAs : List SentNote → List Note → Type 0
+abbrev pub AreSentAs : List SentNote → List Telling → Type 0
 AreSentAs [] [] = Unit {0}
-AreSentAs [] (note ∷ notes) = ⊥
+AreSentAs [] (telling ∷ tellings) = ⊥
 AreSentAs (one ∷ sent) [] = ⊥
-AreSentAs (one ∷ sent) (note ∷ notes) = IsSentAs one note × AreSentAs sent notes
+AreSentAs (one ∷ sent) (telling ∷ tellings) = IsSentAs one telling.note telling.containers × AreSentAs sent tellings
 
 -- the bytes of a reply to a subscribe request that is held back: they grant the name of a number of 32 bits, or refuse
 abbrev pub IsHeldAs : Option (List ℕ) → HeldReply → Type 0
@@ -91,7 +118,7 @@ pub record IsAfter (playing : Playing) (steps : List Step) : Type 0 where
   pub may : MayBeBy steps
   pub server : ServerStandsFor playing.server (script_start (first_of (turns_in steps))) (played_by steps).commands
   pub replica : StandsFor playing.replica (named script_names (played_by steps).replica)
-  pub sent : AreSentAs playing.sent (notes_of (first_of (turns_in steps)) (played_by steps).commands)
+  pub sent : AreSentAs playing.sent (tellings_of (first_of (turns_in steps)) (played_by steps).commands)
   pub found : playing.found ≡ found_since (turns_in steps)
   pub clock : playing.clock ≡ clock_of (turns_in steps)
   pub reply : IsHeldAs playing.reply (played_by steps).reply
@@ -102,12 +129,6 @@ pub record IsPlayed (carried : List ℕ → List ℕ) (playing : Playing) : Type
   pub steps : List Step
   pub read : AreReadBy carried steps
   pub after : IsAfter playing steps
-
--- what holds of the answer to a turn where the replica refused what it was given
-abbrev pub WhenRefused : Result (Unit {0}) TurnError → Type 0 → Type 0
-WhenRefused (Ok done) P = Unit {0}
-WhenRefused (Err Refused) P = P
-WhenRefused (Err NoMemory) P = Unit {0}
 
 -- a step was taken: the session stands for it too, and what it writes was added
 pub record StepTaken (older : List Step) (step : Step) (old new : List ℕ) (playing : Playing) : Type 0 where

@@ -52,7 +52,7 @@ AreReadBy carried (step ∷ older) = IsReadBy carried older step.turn step.read 
 -- ---- how a script ends
 
 -- the steps that it came to, the newest first, with the one that the replica refused; the number of that one's line; and the status
--- and all that was written, which for a refused line is what the lines before it wrote
+-- and all that was written, which for a refused line are no status, told as 0, and what the lines before it wrote
 pub record WiredEnding : Type 0 where
   pub steps : List Step
   pub refused : Option ℕ
@@ -62,7 +62,7 @@ pub record WiredEnding : Type 0 where
 abbrev pub unrefused : List Step → Ending → WiredEnding
 unrefused steps ending = record { steps = steps; refused = None; ending = ending }
 
--- the step of a line was
+-- the step of a line was. The status 0 stands for none here: why the script ends, `refused` says
 abbrev pub refused_at : List Step → ℕ → WiredEnding
 refused_at steps number = record { steps = steps; refused = Some number; ending = record { status = 0; text = [] } }
 

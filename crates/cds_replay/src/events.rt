@@ -6,13 +6,14 @@ ghost use Rattle.url.specs.Parser.{parse_url};
 ghost use Rattle.cds_commands.specs.Commands.{Command, Start as ServerStart};
 ghost use Rattle.cds_commands.specs.Notes.{Note as Told};
 ghost use Rattle.cds_http.specs.declared.message.Message.{Message as MessageValue};
-ghost use Rattle.cds_http.specs.declared.message.Side.TheVariants.{Reply as of_reply};
+ghost use Rattle.cds_http.specs.declared.message.Side.TheVariants.{Request as of_request, Reply as of_reply};
 ghost use Rattle.cds_http.specs.declared.message.Start.TheVariants.{Reply as start_reply};
 ghost use Rattle.cds_http.specs.Decided.{Decides};
 ghost use Rattle.cds_http.specs.Known.{Whole};
 ghost use Rattle.cds_gena.specs.Written.{subscribe_text, renewal_text, unsubscribe_text};
+ghost use Rattle.cds_notify.specs.declared.note.NoteError.TheVariants.{Mem as OutOfMemory};
 ghost use Rattle.cds_server.specs.Serving.{StandsFor};
-ghost use Rattle.cds_replay.specs.Events.{IsAnswered, IsNoteRequest, event_url, callback_url, HasStatus, HasLease};
+ghost use Rattle.cds_replay.specs.Events.{CarriesNote, IsAnswered, IsMessage, IsNoteRequest, event_url, callback_url, HasSomeStatus, HasStatus, HasLease};
 
 use crate::control::message_of;
 use cds_base::{Bytes, Mem};
@@ -71,8 +72,8 @@ pub fn unsubscribe_request(alloc: Global, sid: ReplicaSid) -> Result<Vec<u8>, Me
     Ok(request)
 }
 
-/// What a server does with the bytes of a request at a moment: the bytes of its reply, and the first note of a subscription that
-/// it granted.
+/// What a server does with the bytes of a request at a moment, condition: they are one message. The bytes of its reply, and the
+/// first note of a subscription that it granted.
 pub fn answered(
     alloc: Global,
     server: &mut Server,
@@ -80,6 +81,7 @@ pub fn answered(
     request: &[u8],
     reply: &mut Vec<u8>,
 ) -> Result<Option<FirstNote>, Mem>
+    requires { IsMessage of_request request.now }
     ensures { (start : ServerStart) (commands : List Command) → StandsFor server.old start commands → IfOk result
         (λ note. IsAnswered start commands now request.now reply.old.items reply.new.items note server.new) }
 {
@@ -87,41 +89,46 @@ pub fn answered(
     server.handle(alloc, now, &message, reply)
 }
 
-/// The message of a reply.
+/// The message of a reply, condition: the bytes are one.
 fn reply_of(alloc: Global, reply: &[u8]) -> Result<Message, Mem>
+    requires { IsMessage of_reply reply.now }
     ensures { (message : MessageValue) → Decides false of_reply reply.now (Whole message []) → IfOk result (λ m. m ≡ message) }
 {
     message_of(alloc, Side::Reply, reply)
 }
 
-/// The status of a message that is a reply; that of one that is none is 0.
+/// The status of a message, condition: it is a reply.
 fn status_in(message: &Message) -> u16
+    requires { (code : ℕ) × (message.now.start ≡ start_reply code) }
     ensures { (code : ℕ) → message.now.start ≡ start_reply code → result ≡ code }
 {
     match &message.start {
-        Start::Request { .. } => 0,
+        Start::Request { .. } => unreachable!(),
         Start::Reply { status } => *status,
     }
 }
 
-/// The status of a reply.
+/// The status of a reply, condition: the bytes are one.
 pub fn status_of(alloc: Global, reply: &[u8]) -> Result<u16, Mem>
+    requires { HasSomeStatus reply.now }
     ensures { IfOk result (λ status. HasStatus reply.now status) }
 {
     let message = reply_of(alloc, reply)?;
     Ok(status_in(&message))
 }
 
-/// What a reply to a subscribe request grants.
+/// What a reply to a subscribe request grants, condition: the bytes are one.
 pub fn lease_of(alloc: Global, reply: &[u8]) -> Result<Option<Lease>, Mem>
+    requires { IsMessage of_reply reply.now }
     ensures { IfOk result (λ lease. HasLease reply.now lease) }
 {
     let message = reply_of(alloc, reply)?;
     Ok(read_lease(&message))
 }
 
-/// The note that the bytes of a request carry. They carry one, so that no other cause is left for a refusal than memory.
+/// The note that the bytes of a request carry, condition: they carry one.
 pub fn note_of(alloc: Global, request: &Bytes) -> Result<Note, Mem>
+    requires { CarriesNote request.now }
     ensures { (note : Told) → IsNoteRequest request.now note → IfOk result (λ read. read ≡ note) }
 {
     let message = message_of(alloc, Side::Request, request.as_slice())?;
@@ -132,7 +139,18 @@ pub fn note_of(alloc: Global, request: &Bytes) -> Result<Note, Mem>
             number: note.number,
             events: note.events,
         }),
-        Err(NoteError::Mem) => Err(Mem),
-        Err(_) => Err(Mem),
+        Err(refusal) => Err(of_memory(refusal)),
+    }
+}
+
+/// Want of memory, condition: a refusal is no other.
+fn of_memory(refusal: NoteError) -> Mem
+    requires { refusal ≡ OutOfMemory }
+{
+    match refusal {
+        NoteError::Mem => Mem,
+        NoteError::Head => unreachable!(),
+        NoteError::Precondition => unreachable!(),
+        NoteError::Body => unreachable!(),
     }
 }

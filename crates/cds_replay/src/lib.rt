@@ -1,4 +1,4 @@
-//! Scripts, played: a server's store and a replica take the turns of a script, and the report is written line by line.
+//! Scripts, played: a server and a replica take the turns of a script, and the report is written line by line.
 #![tactic(auto)]
 
 mod control;
@@ -10,7 +10,7 @@ mod script;
 mod sent;
 mod session;
 mod wire;
-mod wire_laws;
+pub mod wire_laws;
 
 pub use play::{ReplayError, replay, replay_by};
 pub use wire::{Straight, Wire};

@@ -9,6 +9,7 @@ ghost use Rattle.cds_script.specs.Complete.{AnswersAreComplete};
 ghost use Rattle.cds_script.specs.LoadBounds.{BoundsLoads};
 ghost use Rattle.cds_script.specs.Played.{script_turns, script_stop, IsReportOf};
 ghost use Rattle.cds_script.specs.ScriptGiven.{StandsAtScanEnds};
+ghost use Rattle.cds_replay.specs.Reported.{IsReported, IsTheScripts};
 ghost use Rattle.cds_replay.specs.Script.{left_in, Sound, GoesOn};
 ghost use Rattle.cds_replay.specs.Wire.{WiredEnding, EndsOver, OnWire, AsksShow};
 ghost use Rattle.cds_replay.specs.Replay.{OnLine, OnRefused, OnLimit, OnReadFault, OnWriteFault, Holds, Reports, EndsWith, EndsIn, Played, Stopped, answer_of};
@@ -102,9 +103,10 @@ pub fn replay<S: Source, K: Sink>(
 /// Plays a script whose server and replica have a wire between them: each read goes to the server as a control request, and the
 /// replica takes the bytes that the wire leaves of the reply.
 ///
-/// The report is what the script's turns write by what the bytes, as the wire left them, are read as; each line `stands` in it
-/// is followed by rows each of which has the content and the objectUpdateID that one of these replies showed for its id. Where the
-/// replica refuses what a line gives it, the report of the lines before is written, and the replay ends.
+/// The report is what the script's turns write, one after the other, by what the bytes, as the wire left them, are read as, and then
+/// its last line (`reported`); each line `stands` in it is followed by rows each of which has the content and the objectUpdateID that
+/// one of these replies showed for its id (`asks`). Where the replica refuses what a line gives it, the report of the lines before is
+/// written, and the replay ends. Over a wire that leaves each reply as it is the report is the script's (`straight_report`).
 pub fn replay_by<S: Source, K: Sink, W: Wire>(
     alloc: Global,
     source: &mut S,
@@ -132,9 +134,15 @@ pub fn replay_by<S: Source, K: Sink, W: Wire>(
     ensures asks { WhereTold (S.left source.old) (λ script. (ending : WiredEnding) → EndsOver (W.carried wire.now) script ending → AsksShow ending.steps) }
     ensures once { WhereTold (S.left source.old) (λ script. (one other : WiredEnding) → EndsOver (W.carried wire.now) script one →
         EndsOver (W.carried wire.now) script other → one ≡ other) }
+    ensures reported { WhereTold (S.left source.old) (λ script. (ending : WiredEnding) → EndsOver (W.carried wire.now) script ending →
+        IsReported (W.carried wire.now) script ending) }
+    ensures straight_report { ((bytes : List ℕ) → W.carried wire.now bytes ≡ bytes) → WhereTold (S.left source.old)
+        (λ script. (ending : WiredEnding) → EndsOver (W.carried wire.now) script ending → IsTheScripts script ending) }
 {
     crate::wire_laws::asks_write_what_was_left();
     crate::wire_laws::wires_end_once();
+    crate::wire_laws::wires_report_steps();
+    crate::wire_laws::straight_reports_are_the_scripts();
     let mut buffer = empty_piece(alloc)?;
     let mut script = Script::new(alloc)?;
     play_on(

@@ -6,7 +6,8 @@ ghost use Rattle.cds_script.specs.Script.{IsInRange, moment_limit};
 ghost use Rattle.cds_script.specs.declared.reply.HeldReply.{HeldReply};
 ghost use Rattle.cds_commands.specs.Commands.{Command, Start as ServerStart};
 ghost use Rattle.cds_server.specs.Serving.{StandsFor as ServerStandsFor};
-ghost use Rattle.cds_replay.specs.Events.{IsAsked};
+ghost use Rattle.cds_http.specs.declared.message.Side.TheVariants.{Request};
+ghost use Rattle.cds_replay.specs.Events.{HasSomeStatus, IsAsked, IsMessage, RepliesTo};
 ghost use Rattle.cds_follow.specs.Named.{named, named_note};
 ghost use Rattle.cds_commands.specs.Notes.{Note as Told};
 ghost use Rattle.cds_script.specs.declared.found.Found.TheVariants.{Folder as FolderFound, Track as TrackFound};
@@ -107,8 +108,8 @@ impl Session {
         })
     }
 
-    /// Whether a turn may stand after those so far: the first number comes before all else, moments never fall, and a note
-    /// that is delivered was sent.
+    /// Whether a turn may stand after those so far: the first number comes before all else, a comment stands behind a track or
+    /// another comment, moments never fall, and a note that is delivered was sent.
     pub fn may_stand(&self, turn: &Turn) -> bool
         ensures { (steps : List Step) → IsAfter self.now steps → result ≡ may_stand_by steps turn.now }
     {
@@ -326,6 +327,7 @@ impl Session {
 
     /// Renews the subscription that the replica accepted last.
     fn renew(&mut self, alloc: Global, out: &mut String) -> Result<(), Mem>
+        requires standing { IsStanding self.old }
         requires granted { self.old.server.book.subscribed.granted < 2 ^ 32 }
         ensures after { (steps : List Step) → IsAfter self.old steps → OnOk result (IsAfter self.new (quiet Renew ∷ steps)) }
         ensures written { (steps : List Step) → IsAfter self.old steps →
@@ -344,6 +346,7 @@ impl Session {
 
     /// Gives up the subscription that the replica accepted last.
     fn unsubscribe(&mut self, alloc: Global, out: &mut String) -> Result<(), Mem>
+        requires standing { IsStanding self.old }
         requires granted { self.old.server.book.subscribed.granted < 2 ^ 32 }
         ensures after { (steps : List Step) → IsAfter self.old steps → OnOk result (IsAfter self.new (quiet Unsubscribe ∷ steps)) }
         ensures written { (steps : List Step) → IsAfter self.old steps →
@@ -360,8 +363,11 @@ impl Session {
         }
     }
 
-    /// The status of the server's reply to a request about a subscription that stands.
+    /// The status of the server's reply to a request about a subscription that stands, condition: the bytes are one request, to
+    /// which the server replies.
     fn asked(&mut self, alloc: Global, request: &[u8]) -> Result<u16, Mem>
+        requires whole { IsMessage Request request.now }
+        requires replies { RepliesTo self.old.server self.old.clock request.now }
         ensures answered { (start : ServerStart) (commands : List Command) → ServerStandsFor self.old.server start commands →
             IfOk result (λ status. IsAsked start commands self.old.clock request.now status self.new.server) }
         ensures kept { self.new ≡ with_server self.old self.new.server }
@@ -374,6 +380,7 @@ impl Session {
     /// The note of a number reaches the replica, which takes it or answers why not; a note that is the next one and tells what
     /// cannot be is refused.
     fn deliver(&mut self, alloc: Global, number: u32, out: &mut String) -> Result<(), TurnError>
+        requires { IsStanding self.old }
         ensures taken { (steps : List Step) → IsAfter self.old steps → may_stand_by steps (Deliver number) ≡ true →
             QuietTaken steps (Deliver number) (string_bytes out.old) (string_bytes out.new) self.new result }
     {
@@ -431,14 +438,16 @@ fn take_reply(
     }
 }
 
-/// The replica takes the reply to its subscribe request, condition: the request is out. A reply that grants nothing is a refusal.
+/// The replica takes the reply to its subscribe request, conditions: the request is out, and the bytes are a reply. One that grants
+/// nothing is a refusal.
 fn take_lease(
     replica: &mut Replica,
     alloc: Global,
     reply: &[u8],
     out: &mut String,
 ) -> Result<(), TurnError>
-    requires { IsTrue replica.old.inbox.out }
+    requires out { IsTrue replica.old.inbox.out }
+    requires reply { HasSomeStatus reply.now }
     ensures { (turns : List ReplicaTurn) (held : HeldReply) → StandsFor replica.old (named script_names turns) → IsHeldAs (Some reply.now) held →
         HeldTaken turns held (string_bytes out.old) (string_bytes out.new) replica.new result }
 {

@@ -70,3 +70,27 @@ returns-in_err-script-clause-once g c = λ bytes told. c.wires_end_once.ensures 
 
 pub returns-in_err-buffer-clause-once : goal.returns-in_err-buffer-clause-once
 returns-in_err-buffer-clause-once g c = λ bytes told. c.wires_end_once.ensures (g.W.Wire.carried c.args.wire.now) bytes
+
+pub returns-clause-reported : goal.returns-clause-reported
+returns-clause-reported g c = λ bytes told. c.wires_report_steps.ensures (g.W.Wire.carried c.args.wire.now) bytes
+
+pub returns-clause-straight_report : goal.returns-clause-straight_report
+returns-clause-straight_report g c = λ same bytes told ending ends.
+    let law = c.straight_reports_are_the_scripts.ensures (g.W.Wire.carried c.args.wire.now) bytes ending same ends in
+    record { none = law.0; ends = law.1 }
+
+pub returns-in_err-script-clause-reported : goal.returns-in_err-script-clause-reported
+returns-in_err-script-clause-reported g c = λ bytes told. c.wires_report_steps.ensures (g.W.Wire.carried c.args.wire.now) bytes
+
+pub returns-in_err-script-clause-straight_report : goal.returns-in_err-script-clause-straight_report
+returns-in_err-script-clause-straight_report g c = λ same bytes told ending ends.
+    let law = c.straight_reports_are_the_scripts.ensures (g.W.Wire.carried c.args.wire.now) bytes ending same ends in
+    record { none = law.0; ends = law.1 }
+
+pub returns-in_err-buffer-clause-reported : goal.returns-in_err-buffer-clause-reported
+returns-in_err-buffer-clause-reported g c = λ bytes told. c.wires_report_steps.ensures (g.W.Wire.carried c.args.wire.now) bytes
+
+pub returns-in_err-buffer-clause-straight_report : goal.returns-in_err-buffer-clause-straight_report
+returns-in_err-buffer-clause-straight_report g c = λ same bytes told ending ends.
+    let law = c.straight_reports_are_the_scripts.ensures (g.W.Wire.carried c.args.wire.now) bytes ending same ends in
+    record { none = law.0; ends = law.1 }

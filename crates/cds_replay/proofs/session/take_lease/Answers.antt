@@ -4,6 +4,9 @@ use Rattle.cds_replay.specs.Events.{HasLease}
 use Rattle.cds_replay.proofs.EventReads.{lease-taken, refusal-held}
 use Rattle.cds_replay.proofs.session.take_lease.Goals as goal
 
+pub lease_of-requires : goal.lease_of-requires
+lease_of-requires c = (c.requires.reply.1.0, c.requires.reply.1.1)
+
 pub returns-in-Some : goal.returns-in-Some
 returns-in-Some c = λ turns held stood is.
     lease-taken turns held c.args.reply.now c.in-Some.lease (string_bytes c.args.out.now) (string_bytes c.take_name.new.out) c.take_name.new.replica c.take_name.result is

@@ -2,16 +2,26 @@
 use Rattle.std.proofs.Common.{◌≡◌, ap, sym, subst, ◌∙◌, Some, Ok, string_bytes}
 use Rattle.cds_replica.specs.State.{ReplicaState}
 use Rattle.cds_script.specs.declared.turn.Turn.TheVariants.{Accept}
+use Rattle.cds_replay.specs.Events.{HasSomeStatus}
 use Rattle.cds_replay.specs.Session.{Playing, IsAfter, IsHeldAs, QuietTaken}
 use Rattle.cds_replay.specs.Wired.{played_by}
 use Rattle.cds_replay.specs.declared.last.Last.TheVariants.{Other}
 use Rattle.cds_replay.proofs.Apart.{out-named}
+use Rattle.cds_replay.proofs.EventReads.{held-has}
 use Rattle.cds_replay.proofs.Taking.{held-turn, none-turn}
 use Rattle.cds_replay.proofs.Waits.{reply-waits}
 use Rattle.cds_replay.proofs.session.Session.accept.Goals as goal
 
-pub take_lease-requires : goal.take_lease-requires
-take_lease-requires c =
+pub take_lease-requires-clause-reply : goal.take_lease-requires-clause-reply
+take_lease-requires-clause-reply c =
+    let steps = c.requires.0 in
+    let was : Playing = record { server = c.self.inside.server; replica = c.self.inside.replica; sent = c.self.inside.sent; found = c.self.inside.found; clock = c.self.inside.clock; reply = c.self.inside.reply; last = c.self.inside.last } in
+    let old : IsAfter was steps = subst (λ p. IsAfter p steps) (sym c.self.view_is) c.requires.1 in
+    subst HasSomeStatus (sym c.as_slice.ensures)
+    (held-has c.in-Some.reply (played_by steps).reply (subst (λ r. IsHeldAs r (played_by steps).reply) (sym c.replace.ensures.value ∙ c.in-Some.is) old.reply))
+
+pub take_lease-requires-clause-out : goal.take_lease-requires-clause-out
+take_lease-requires-clause-out c =
     let steps = c.requires.0 in
     let after = c.requires.1 in
     let was : Playing = record { server = c.self.inside.server; replica = c.self.inside.replica; sent = c.self.inside.sent; found = c.self.inside.found; clock = c.self.inside.clock; reply = c.self.inside.reply; last = c.self.inside.last } in

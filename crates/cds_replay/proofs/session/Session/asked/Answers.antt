@@ -1,10 +1,19 @@
 -- The request is answered, and its reply has a status.
-use Rattle.std.proofs.Common.{IfOk, sym, subst}
+use Rattle.std.proofs.Common.{ℕ, List, IfOk, sym, subst}
 use Rattle.cds_server.specs.Serving.{StandsFor}
-use Rattle.cds_replay.specs.Events.{IsAsked}
+use Rattle.cds_replay.specs.Events.{HasSomeStatus, IsAnswered, IsAsked, RepliesTo}
 use Rattle.cds_replay.specs.Session.{Playing}
 use Rattle.cds_replay.proofs.EventAnswers.{asked-by}
 use Rattle.cds_replay.proofs.session.Session.asked.Goals as goal
+
+pub status_of-requires : goal.status_of-requires
+status_of-requires c =
+    let r : RepliesTo c.self.inside.server c.self.inside.clock c.args.request.now =
+    subst (λ (p : Playing). RepliesTo p.server p.clock c.args.request.now) (sym c.self.view_is) c.requires.replies in
+    subst HasSomeStatus (sym c.as_slice.ensures.value)
+    (r.replies c.answered.new.reply.items c.in_ok-_note._note c.answered.new.server
+    (subst (λ (o : List ℕ). IsAnswered r.start r.commands c.self.inside.clock c.args.request.now o c.answered.new.reply.items c.in_ok-_note._note c.answered.new.server) c.new-reply.ensures.items
+    (c.in_ok-_note.ensures r.start r.commands r.stands)))
 
 pub returns-clause-answered : goal.returns-clause-answered
 returns-clause-answered c = λ start commands stands.

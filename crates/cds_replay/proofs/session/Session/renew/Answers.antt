@@ -5,16 +5,35 @@ use Rattle.std.proofs.lemmas.Result.{on_ok_weaker}
 use Rattle.cds_commands.specs.Commands.{Command, Start}
 use Rattle.cds_follow.specs.Inbox.{accepted}
 use Rattle.cds_follow.specs.Named.{named}
+use Rattle.cds_http.specs.declared.message.Side.TheVariants.{Request}
 use Rattle.cds_gena.specs.Written.{renewal_text}
 use Rattle.cds_server.specs.Serving.{StandsFor}
 use Rattle.cds_script.specs.declared.turn.Turn.TheVariants.{Renew}
-use Rattle.cds_replay.specs.Events.{IsAsked, event_url}
+use Rattle.cds_replay.specs.Events.{IsAsked, IsMessage, RepliesTo, event_url}
 use Rattle.cds_replay.specs.Lines.{numbered_line}
 use Rattle.cds_replay.specs.Session.{Playing, IsAfter, quiet, script_names}
 use Rattle.cds_replay.specs.Wired.{played_by, written_on}
 use Rattle.cds_replay.proofs.Answered.{written-as}
-use Rattle.cds_replay.proofs.Requested.{renewal-turn, no-renewal}
+use Rattle.cds_replay.proofs.Requested.{renewal-ready, renewal-turn, no-renewal}
 use Rattle.cds_replay.proofs.session.Session.renew.Goals as goal
+
+pub asked-requires-clause-whole : goal.asked-requires-clause-whole
+asked-requires-clause-whole c =
+    let was : Playing = record { server = c.self.inside.server; replica = c.self.inside.replica; sent = c.self.inside.sent; found = c.self.inside.found; clock = c.self.inside.clock; reply = c.self.inside.reply; last = c.self.inside.last } in
+    let old : IsAfter was c.requires.standing.0 = subst (λ p. IsAfter p c.requires.standing.0) (sym c.self.view_is) c.requires.standing.1 in
+    let some : accepted (named script_names (played_by c.requires.standing.0).replica) ≡ Some c.in-Some.sid.0 =
+    sym (c.accepted.ensures.name (named script_names (played_by c.requires.standing.0).replica) old.replica) ∙ ap (option_map (λ sid. sid.0)) c.in-Some.is in
+    let ready = renewal-ready was c.in-Some.sid.0 c.requires.standing.0 old some (subst (λ (p : Playing). p.server.book.subscribed.granted < 2 ^ 32) (sym c.self.view_is) c.requires.granted) in
+    subst (IsMessage Request) (sym (c.as_slice.ensures.value ∙ c.in_ok-request-in-Some.ensures)) ready.0
+
+pub asked-requires-clause-replies : goal.asked-requires-clause-replies
+asked-requires-clause-replies c =
+    let was : Playing = record { server = c.self.inside.server; replica = c.self.inside.replica; sent = c.self.inside.sent; found = c.self.inside.found; clock = c.self.inside.clock; reply = c.self.inside.reply; last = c.self.inside.last } in
+    let old : IsAfter was c.requires.standing.0 = subst (λ p. IsAfter p c.requires.standing.0) (sym c.self.view_is) c.requires.standing.1 in
+    let some : accepted (named script_names (played_by c.requires.standing.0).replica) ≡ Some c.in-Some.sid.0 =
+    sym (c.accepted.ensures.name (named script_names (played_by c.requires.standing.0).replica) old.replica) ∙ ap (option_map (λ sid. sid.0)) c.in-Some.is in
+    let ready = renewal-ready was c.in-Some.sid.0 c.requires.standing.0 old some (subst (λ (p : Playing). p.server.book.subscribed.granted < 2 ^ 32) (sym c.self.view_is) c.requires.granted) in
+    subst (RepliesTo was.server was.clock) (sym (c.as_slice.ensures.value ∙ c.in_ok-request-in-Some.ensures)) ready.1
 
 pub returns-in-None-clause-after : goal.returns-in-None-clause-after
 returns-in-None-clause-after c = λ steps after.

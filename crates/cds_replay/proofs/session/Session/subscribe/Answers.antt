@@ -2,18 +2,23 @@
 use Rattle.std.proofs.Common.{ℕ, ◌+◌, ◌<◌, ◌^◌, List, [], ◌∷◌, Some, drop, sym, ap, subst, ◌∙◌, string_bytes}
 use Rattle.std.proofs.lemmas.Result.{on_ok_weaker}
 use Rattle.cds_commands.specs.Commands.{Command, Start}
+use Rattle.cds_http.specs.declared.message.Side.TheVariants.{Request}
 use Rattle.cds_gena.specs.Written.{subscribe_text}
 use Rattle.cds_server.specs.Serving.{StandsFor}
 use Rattle.cds_script.specs.declared.turn.Turn.TheVariants.{Subscribe}
 use Rattle.cds_script.specs.Report.{first_of}
-use Rattle.cds_replay.specs.Events.{IsAnswered, event_url, callback_url}
+use Rattle.cds_replay.specs.Events.{IsAnswered, IsMessage, event_url, callback_url}
 use Rattle.cds_replay.specs.Lines.{sent_lines}
 use Rattle.cds_replay.specs.Session.{Playing, IsAfter, quiet, script_start}
 use Rattle.cds_replay.specs.Wired.{turns_in, played_by, written_on}
 use Rattle.cds_replay.specs.declared.last.Last.TheVariants.{Other}
 use Rattle.cds_replay.proofs.Answered.{written-as}
+use Rattle.cds_replay.proofs.EventAnswers.{subscribe-is}
 use Rattle.cds_replay.proofs.Requested.{subscribe-turn}
 use Rattle.cds_replay.proofs.session.Session.subscribe.Goals as goal
+
+pub answered-requires : goal.answered-requires
+answered-requires c = subst (IsMessage Request) (sym (c.as_slice.ensures.value ∙ c.in_ok-request.ensures)) (subscribe-is.message, subscribe-is.whole)
 
 pub send_granted-requires : goal.send_granted-requires
 send_granted-requires c =
