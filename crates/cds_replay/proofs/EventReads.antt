@@ -33,7 +33,6 @@ use Rattle.cds_notify.specs.Notify.{field, host_of, note_fields, notify_text, ta
 use Rattle.cds_notify.specs.Propertyset.{propertyset_text}
 use Rattle.cds_notify.specs.Said.{Answers, IsNote, heading_of}
 use Rattle.cds_notify.specs.declared.heading.Heading.{Heading}
-use Rattle.cds_notify.specs.declared.note.Note.{Note as ReadNote}
 use Rattle.cds_notify.specs.declared.note.NoteError.{NoteError}
 use Rattle.cds_notify.specs.declared.note.NoteError.TheVariants.{Mem as NoMemory, Head, Precondition, Body}
 use Rattle.cds_notify.proofs.Notes.{notes-read}
@@ -396,15 +395,11 @@ note-refused request m e some same answers = by e (subst (λ (n : Message). Answ
     by Body answers = absurd (answers.none some.0.number some.0.events some.1.is.body)
 
 -- the note that a request carries is the one that is read
-pub one-note : (m : Message) (read note : ReadNote) → Answers m (Ok read) → IsNote m note → read ≡ note
+pub one-note : (m : Message) (read note : Note) → Answers m (Ok read) → IsNote m note → read ≡ note
 one-note m read note answers is =
     let e : Ok read ≡ Ok note = one-answer m (Ok read) (Ok note) answers is (λ e. cc) (λ e. cc) in cc
 
-pub read-is-note : (request : List ℕ) (note : Note) (m : Message) (read : ReadNote) → IsNoteRequest request note →
-    ((r : Message) → Decides false Request request (Whole r []) → m ≡ r) → Answers m (Ok read) →
-    record { name = read.sid.0; seq = read.seq; number = read.number; events = read.events } ≡ note
+pub read-is-note : (request : List ℕ) (note : Note) (m : Message) (read : Note) → IsNoteRequest request note →
+    ((r : Message) → Decides false Request request (Whole r []) → m ≡ r) → Answers m (Ok read) → read ≡ note
 read-is-note request note m read is same answers =
-    ap (λ (n : ReadNote). record { name = n.sid.0; seq = n.seq; number = n.number; events = n.events })
-    (one-note m read (record { sid = record { 0 = note.name }; seq = note.seq; number = note.number; events = note.events }) answers
-    (subst (λ (x : Message). IsNote x (record { sid = record { 0 = note.name }; seq = note.seq; number = note.number; events = note.events }))
-    (sym (same is.message is.whole)) is.is))
+    one-note m read note answers (subst (λ (x : Message). IsNote x note) (sym (same is.message is.whole)) is.is)

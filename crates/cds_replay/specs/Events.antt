@@ -86,7 +86,7 @@ pub record IsAsked (start : Start) (commands : List Command) (now : ℕ) (reques
 pub record IsNoteRequest (request : List ℕ) (note : Note) : Type 0 where
   pub message : Message
   pub whole : Decides false Request request (Whole message [])
-  pub is : IsNote message (record { sid = record { 0 = note.name }; seq = note.seq; number = note.number; events = note.events })
+  pub is : IsNote message note
 
 abbrev pub CarriesNote : List ℕ → Type 0
 CarriesNote request = (note : Note) × IsNoteRequest request note

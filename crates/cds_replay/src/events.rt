@@ -19,8 +19,7 @@ use crate::control::message_of;
 use cds_base::{Bytes, Mem};
 use cds_gena::{Lease, Sid, read_lease, write_renewal, write_subscribe, write_unsubscribe};
 use cds_http::{Message, Side, Start};
-use cds_notify::{NoteError, read_notify};
-use cds_replica::{Note, Sid as ReplicaSid};
+use cds_notify::{Note, NoteError, read_notify};
 use cds_server::{FirstNote, Server};
 use std::alloc::Global;
 use url::Url;
@@ -53,22 +52,22 @@ pub fn subscribe_request(alloc: Global) -> Result<Vec<u8>, Mem>
 }
 
 /// The request that renews a subscription.
-pub fn renew_request(alloc: Global, sid: ReplicaSid) -> Result<Vec<u8>, Mem>
+pub fn renew_request(alloc: Global, sid: Sid) -> Result<Vec<u8>, Mem>
     ensures { IfOk result (λ request. request.items ≡ renewal_text event_url sid.0) }
 {
     let url = url_of(alloc, EVENT)?;
     let mut request = Vec::new(alloc);
-    write_renewal(alloc, &url, Sid(sid.0), &mut request)?;
+    write_renewal(alloc, &url, sid, &mut request)?;
     Ok(request)
 }
 
 /// The request that ends a subscription.
-pub fn unsubscribe_request(alloc: Global, sid: ReplicaSid) -> Result<Vec<u8>, Mem>
+pub fn unsubscribe_request(alloc: Global, sid: Sid) -> Result<Vec<u8>, Mem>
     ensures { IfOk result (λ request. request.items ≡ unsubscribe_text event_url sid.0) }
 {
     let url = url_of(alloc, EVENT)?;
     let mut request = Vec::new(alloc);
-    write_unsubscribe(alloc, &url, Sid(sid.0), &mut request)?;
+    write_unsubscribe(alloc, &url, sid, &mut request)?;
     Ok(request)
 }
 
@@ -133,12 +132,7 @@ pub fn note_of(alloc: Global, request: &Bytes) -> Result<Note, Mem>
 {
     let message = message_of(alloc, Side::Request, request.as_slice())?;
     match read_notify(alloc, &message) {
-        Ok(note) => Ok(Note {
-            sid: ReplicaSid(note.sid.0),
-            seq: note.seq,
-            number: note.number,
-            events: note.events,
-        }),
+        Ok(note) => Ok(note),
         Err(refusal) => Err(of_memory(refusal)),
     }
 }

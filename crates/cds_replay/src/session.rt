@@ -452,7 +452,7 @@ fn take_lease(
         HeldTaken turns held (string_bytes out.old) (string_bytes out.new) replica.new result }
 {
     match lease_of(alloc, reply)? {
-        Some(lease) => take_name(replica, alloc, Sid(lease.sid.0), out),
+        Some(lease) => take_name(replica, alloc, lease.sid, out),
         None => {
             replica.not_subscribed();
             put_status(out, "accept ", status_of(alloc, reply)?)?;
