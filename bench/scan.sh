@@ -2,6 +2,7 @@
 # Figures of `cds scan`, by hand and not by the gate, on FLAC files of 8 KiB with comments, ten in a folder:
 # - user time for a file against a C program of a few lines over libFLAC's metadata interface, made and built here, where
 #   libflac-dev is there (goal: at most 3 times);
+# - user time for a track against `minidlnad -R` on 2,500 of the files, where it is there (goal: at most a tenth);
 # - peak memory at 10,000 files (goal: at most 30 MiB), and growth per doubling in user time and memory (goal: at most 2.1);
 # - user time on a file of 500 MiB against one of 8 KiB with the same metadata (goal: no more).
 # Needs bash, python3 and GNU time (/usr/bin/time), which tells the program's own peak memory.
@@ -39,7 +40,7 @@ else
 fi
 
 PYTHONPATH=$top/bench python3 -B - "$work" "$program" "$peer" <<'PY'
-import os, struct, sys
+import os, shutil, struct, subprocess, sys, time
 from measure import memory, once
 work, program, peer = sys.argv[1:]
 
@@ -89,4 +90,27 @@ for count, command, user in zip(sizes, commands, users):
 print(f"one file of 8 KiB: {users[3] * 1000:.1f} ms user; of 500 MiB: {users[4] * 1000:.1f} ms")
 if peer:
     print(f"libFLAC on {sizes[-1]} files: {users[5] * 1000:.0f} ms user; cds scan takes {users[2] / users[5]:.2f} times that")
+
+# User time until minidlnad says that it has looked at every file of a folder, with that of the process that does it.
+def indexed(folder):
+    for kept in ("db", "log"):
+        os.makedirs(f"{work}/{kept}", exist_ok=True)
+    with open(f"{work}/minidlna.conf", "w") as file:
+        file.write(f"media_dir=A,{folder}\ndb_dir={work}/db\nlog_dir={work}/log\ninotify=no\nport=18200\nnetwork_interface=lo\n")
+    command = ["minidlnad", "-d", "-R", "-f", f"{work}/minidlna.conf", "-P", f"{work}/minidlna.pid"]
+    with subprocess.Popen(command, stdout=subprocess.PIPE, stderr=subprocess.STDOUT) as server:
+        while (line := server.stdout.readline()) and b"finished" not in line:
+            pass
+        # Its process for the files ends by itself, and is waited for by the other.
+        time.sleep(2)
+        server.terminate()
+        _, _, usage = os.wait4(server.pid, 0)
+        server.returncode = 0
+    return usage.ru_utime
+
+if shutil.which("minidlnad"):
+    each = indexed(f"{work}/of{sizes[0]}") / sizes[0]
+    print(f"minidlnad -R on {sizes[0]} files: {each * 1e6:.0f} us user a track; cds scan takes {users[0] / sizes[0] / each:.3f} times that")
+else:
+    print("minidlnad is not there, so nothing is compared with it")
 PY
