@@ -1,4 +1,7 @@
-use crate::{Fed, Fields, HttpError, MessageReader, Side, write_reply, write_request};
+use crate::{
+    Fed, Fields, HttpError, Message, MessageReader, Side, Start, write_reply, write_reply_head,
+    write_request,
+};
 use std::alloc::{AllocError, Global};
 use std::process::Abort;
 use std::test::Fail;
@@ -36,11 +39,8 @@ const REQUESTS: [(&str, usize, &str); 8] = [
 ];
 
 /// Replies, the number of bytes behind each, and its body.
-const REPLIES: [(&str, usize, &str); 6] = [
+const REPLIES: [(&str, usize, &str); 3] = [
     ("HTTP/1.1 200 OK\r\nCONTENT-LENGTH: 2\r\n\r\nokay", 2, "ok"),
-    ("HTTP/1.1 200 OK\r\nEXT:\r\n\r\nto the end", 0, "to the end"),
-    ("HTTP/1.1 204\r\n\r\n", 0, ""),
-    ("HTTP/1.0 500 \r\nA: b\r\nA: c\r\n\r\n\r\n", 0, "\r\n"),
     (
         "HTTP/1.1 200 OK\r\nCONTENT-LENGTH: 0\r\n\r\nHTTP/1.1 200",
         12,
@@ -53,8 +53,15 @@ const REPLIES: [(&str, usize, &str); 6] = [
     ),
 ];
 
+/// Replies that end with the connection, and the body of each.
+const OPEN_REPLIES: [(&str, &str); 3] = [
+    ("HTTP/1.1 200 OK\r\nEXT:\r\n\r\nto the end", "to the end"),
+    ("HTTP/1.1 204\r\n\r\n", ""),
+    ("HTTP/1.0 500 \r\nA: b\r\nA: c\r\n\r\n\r\n", "\r\n"),
+];
+
 /// Requests that are refused, and the cause.
-const REFUSED: [(&str, HttpError); 31] = [
+const REFUSED: [(&str, HttpError); 35] = [
     ("", HttpError::Truncated),
     ("GET / HTTP/1.1\r\nA: b\r\n", HttpError::Truncated),
     ("GET / HTTP/1.1\rA: b\r\n\r\n", HttpError::BadHead),
@@ -131,12 +138,28 @@ const REFUSED: [(&str, HttpError); 31] = [
         HttpError::BadChunk,
     ),
     (
+        "GET / HTTP/1.1\r\nTRANSFER-ENCODING: chunked\r\n\r\n5\r\nhello\rx",
+        HttpError::BadChunk,
+    ),
+    (
         "GET / HTTP/1.1\r\nTRANSFER-ENCODING: chunked\r\n\r\n5\nhello\r\n0\r\n\r\n",
         HttpError::BadChunk,
     ),
     (
         "GET / HTTP/1.1\r\nTRANSFER-ENCODING: chunked\r\n\r\n10000000000000000\r\n",
         HttpError::BadChunk,
+    ),
+    (
+        "GET / HTTP/1.1\r\nTRANSFER-ENCODING: chunked\r\n\r\n4000000\r\n",
+        HttpError::Truncated,
+    ),
+    (
+        "GET / HTTP/1.1\r\nTRANSFER-ENCODING: chunked\r\n\r\n4000001\r\n",
+        HttpError::TooLong,
+    ),
+    (
+        "GET / HTTP/1.1\r\nTRANSFER-ENCODING: chunked\r\n\r\n2\r\nab\r\n3fffffe\r\n",
+        HttpError::Truncated,
     ),
     (
         "GET / HTTP/1.1\r\nTRANSFER-ENCODING: chunked\r\n\r\n2\r\nab\r\n3ffffff\r\n",
@@ -148,8 +171,54 @@ const REFUSED: [(&str, HttpError); 31] = [
     ),
 ];
 
+/// Replies that are refused, and the cause.
+const REFUSED_REPLIES: [(&str, HttpError); 12] = [
+    ("", HttpError::Truncated),
+    (
+        "HTTP/1.1 200 OK\r\nCONTENT-LENGTH: 5\r\n",
+        HttpError::Truncated,
+    ),
+    (
+        "HTTP/1.1 200 OK\r\nCONTENT-LENGTH: 5\r\n\r\nhell",
+        HttpError::Truncated,
+    ),
+    (
+        "HTTP/1.1 200 OK\r\nTRANSFER-ENCODING: chunked\r\n\r\n5\r\nhello\r\n",
+        HttpError::Truncated,
+    ),
+    ("HTTP/1.1 20\r\n\r\n", HttpError::BadHead),
+    (
+        "HTTP/1.1 200 OK\r\nCONTENT-LENGTH: 1\r\nContent-Length: 1\r\n\r\na",
+        HttpError::BadLength,
+    ),
+    (
+        "HTTP/1.1 200 OK\r\nCONTENT-LENGTH: 1\r\nTRANSFER-ENCODING: chunked\r\n\r\na",
+        HttpError::BadLength,
+    ),
+    (
+        "HTTP/1.1 200 OK\r\nTRANSFER-ENCODING: gzip\r\n\r\n",
+        HttpError::BadLength,
+    ),
+    (
+        "HTTP/1.1 200 OK\r\nTRANSFER-ENCODING: chunked\r\n\r\n5\r\nhello\rx",
+        HttpError::BadChunk,
+    ),
+    (
+        "HTTP/1.1 200 OK\r\nTRANSFER-ENCODING: chunked\r\n\r\nx\r\n",
+        HttpError::BadChunk,
+    ),
+    (
+        "HTTP/1.1 200 OK\r\nCONTENT-LENGTH: 67108865\r\n\r\na",
+        HttpError::TooLong,
+    ),
+    (
+        "HTTP/1.1 200 OK\r\nTRANSFER-ENCODING: chunked\r\n\r\n2\r\nab\r\n3ffffff\r\n",
+        HttpError::TooLong,
+    ),
+];
+
 /// A front, a piece, how many copies of it, an end, and why the request is refused.
-const LIMITS: [(&str, &str, usize, &str, Option<HttpError>); 12] = [
+const LIMITS: [(&str, &str, usize, &str, Option<HttpError>); 18] = [
     ("GET / HTTP/1.1\r\n", "A: b\r\n", 64, "\r\n", None),
     (
         "GET / HTTP/1.1\r\n",
@@ -164,6 +233,20 @@ const LIMITS: [(&str, &str, usize, &str, Option<HttpError>); 12] = [
         "b",
         16_362,
         "\r\n\r\n",
+        Some(HttpError::HeadTooLong),
+    ),
+    (
+        "GET / HTTP/1.1\r\nA: ",
+        "b",
+        16_364,
+        "",
+        Some(HttpError::Truncated),
+    ),
+    (
+        "GET / HTTP/1.1\r\nA: ",
+        "b",
+        16_365,
+        "",
         Some(HttpError::HeadTooLong),
     ),
     ("", "\r\n", 9_000, "", Some(HttpError::HeadTooLong)),
@@ -186,6 +269,20 @@ const LIMITS: [(&str, &str, usize, &str, Option<HttpError>); 12] = [
         "x",
         4_093,
         "\r\n\r\n",
+        Some(HttpError::BadChunk),
+    ),
+    (
+        "GET / HTTP/1.1\r\nTRANSFER-ENCODING: chunked\r\n\r\n0;",
+        "x",
+        4_093,
+        "",
+        Some(HttpError::Truncated),
+    ),
+    (
+        "GET / HTTP/1.1\r\nTRANSFER-ENCODING: chunked\r\n\r\n0;",
+        "x",
+        4_094,
+        "",
         Some(HttpError::BadChunk),
     ),
     (
@@ -214,6 +311,20 @@ const LIMITS: [(&str, &str, usize, &str, Option<HttpError>); 12] = [
         "b",
         16_378,
         "\r\n\r\n",
+        Some(HttpError::BadChunk),
+    ),
+    (
+        "GET / HTTP/1.1\r\nTRANSFER-ENCODING: chunked\r\n\r\n0\r\nA: ",
+        "b",
+        16_380,
+        "",
+        Some(HttpError::Truncated),
+    ),
+    (
+        "GET / HTTP/1.1\r\nTRANSFER-ENCODING: chunked\r\n\r\n0\r\nA: ",
+        "b",
+        16_381,
+        "",
         Some(HttpError::BadChunk),
     ),
 ];
@@ -252,6 +363,63 @@ const CONTROL_POINTS: [(&str, &str, &str); 6] = [
     ),
 ];
 
+/// Requests, and the method and the target of each.
+const STARTS: [(&str, &str, &str); 3] = [
+    ("GET / HTTP/1.1\r\n\r\n", "GET", "/"),
+    ("\r\nM-SEARCH * HTTP/1.1\r\nA: b\r\n\r\n", "M-SEARCH", "*"),
+    (
+        "POST http://192.168.0.2:8200/control?a=%20b HTTP/1.0\r\n\r\n",
+        "POST",
+        "http://192.168.0.2:8200/control?a=%20b",
+    ),
+];
+
+/// Replies, and the status of each.
+const STATUSES: [(&str, u16); 3] = [
+    ("HTTP/1.1 200 OK\r\nCONTENT-LENGTH: 0\r\n\r\n", 200),
+    ("HTTP/1.0 412 Precondition Failed\r\n\r\n", 412),
+    ("HTTP/1.1 503\r\nCONTENT-LENGTH: 0\r\n\r\n", 503),
+];
+
+/// Messages, a field and its two values.
+const VALUES: [(Side, &str, &str, [&str; 2]); 3] = [
+    (
+        Side::Request,
+        "GET / HTTP/1.1\r\nA: b\r\nC: d\r\na:\te \r\n\r\n",
+        "A",
+        ["b", "e"],
+    ),
+    (
+        Side::Request,
+        "SUBSCRIBE /event HTTP/1.1\r\nCALLBACK: <http://192.168.0.9:2/>\r\nNT: upnp:event\r\nCallback: <http://192.168.0.9:1/>\r\n\r\n",
+        "Callback",
+        ["<http://192.168.0.9:2/>", "<http://192.168.0.9:1/>"],
+    ),
+    (
+        Side::Reply,
+        "HTTP/1.0 500 \r\nA: b\r\nA:\r\n\r\n",
+        "a",
+        ["b", ""],
+    ),
+];
+
+/// Statuses, and the first line of a reply that is written with each.
+const STATUS_LINES: [(u16, &str); 9] = [
+    (200, "HTTP/1.1 200 OK\r\n"),
+    (204, "HTTP/1.1 204 \r\n"),
+    (400, "HTTP/1.1 400 Bad Request\r\n"),
+    (404, "HTTP/1.1 404 Not Found\r\n"),
+    (405, "HTTP/1.1 405 Method Not Allowed\r\n"),
+    (412, "HTTP/1.1 412 Precondition Failed\r\n"),
+    (413, "HTTP/1.1 413 Content Too Large\r\n"),
+    (500, "HTTP/1.1 500 Internal Server Error\r\n"),
+    (503, "HTTP/1.1 503 Service Unavailable\r\n"),
+];
+
+/// What comes behind the first line of a reply with no other fields and a body of five bytes, up to the body.
+const OTHER_LINES: &str =
+    "EXT:\r\nSERVER: unix/1.0 UPnP/2.0 cds/1.0\r\nCONTENT-LENGTH: 5\r\nCONNECTION: close\r\n\r\n";
+
 /// Feeds a piece, and says how many bytes of it are behind the message.
 fn feed(alloc: Global, reader: &mut MessageReader, piece: &[u8]) -> Result<usize, HttpError> {
     match reader.feed(alloc, piece)? {
@@ -280,6 +448,24 @@ fn read(
     Ok((behind, message.body.into_vec()))
 }
 
+/// Whether a message with a first piece of so many bytes and others of so many is read, or refused, as expected.
+fn is_read(
+    alloc: Global,
+    side: Side,
+    bytes: &[u8],
+    pieces: (usize, usize),
+    expected: Result<(usize, &str), HttpError>,
+) -> bool {
+    let (first, step) = pieces;
+    match (read(alloc, side, bytes, first, step), expected) {
+        (Ok((behind, body)), Ok((rest, text))) => {
+            behind == rest && body.as_slice() == text.as_bytes()
+        }
+        (Err(refusal), Err(cause)) => refusal == cause,
+        _ => false,
+    }
+}
+
 /// The same for every cut into two, whole and for single bytes.
 fn reads(
     rt: &impl Abort,
@@ -290,19 +476,53 @@ fn reads(
 ) {
     let bytes = text.as_bytes();
     for cut in 0..400 {
-        let (first, step) = match cut {
+        let pieces = match cut {
             399 => (0, 1),
             398 => (bytes.len(), 1),
             _ => (cut, bytes.len()),
         };
-        let is_right = match (read(alloc, side, bytes, first, step), expected) {
-            (Ok((behind, body)), Ok((rest, text))) => {
-                behind == rest && body.as_slice() == text.as_bytes()
-            }
-            (Err(refusal), Err(cause)) => refusal == cause,
-            _ => false,
+        assert!(rt; is_read(alloc, side, bytes, pieces, expected), "{text}");
+    }
+}
+
+/// The same of a long text for the cuts near its front and near its end, whole and for single bytes.
+fn long_reads(
+    rt: &impl Abort,
+    alloc: Global,
+    text: &str,
+    expected: Result<(usize, &str), HttpError>,
+) {
+    let bytes = text.as_bytes();
+    let count = bytes.len();
+    for cut in 0..161 {
+        let pieces = match cut {
+            160 => (0, 1),
+            80..160 => (count.saturating_sub(cut - 80), count),
+            _ => (cut, count),
         };
-        assert!(rt; is_right, "{text}");
+        assert!(rt;
+            is_read(alloc, Side::Request, bytes, pieces, expected),
+            "{text}"
+        );
+    }
+}
+
+/// The answer to bytes that come in one piece.
+fn fed(alloc: Global, side: Side, bytes: &[u8]) -> Result<Fed, HttpError> {
+    let mut reader = MessageReader::new(alloc, side)?;
+    reader.feed(alloc, bytes)
+}
+
+/// A message is whole from so many bytes on, and not before.
+fn ends_at(rt: &impl Abort, alloc: Global, side: Side, text: &str, end: usize) {
+    let bytes = text.as_bytes();
+    for count in 0..bytes.len().saturating_add(1) {
+        let (front, _) = bytes.split_at(count.min(bytes.len()));
+        let expected = match count.checked_sub(end) {
+            Some(rest) => Fed::Whole { rest },
+            None => Fed::More,
+        };
+        assert_eq!(rt; fed(alloc, side, front), Ok(expected), "{text}");
     }
 }
 
@@ -330,6 +550,25 @@ fn messages_are_read(rt: HostRuntime) -> Result<(), Fail> {
     for (text, behind, body) in REPLIES {
         reads(&rt, rt.alloc(), Side::Reply, text, Ok((behind, body)));
     }
+    for (text, body) in OPEN_REPLIES {
+        reads(&rt, rt.alloc(), Side::Reply, text, Ok((0, body)));
+    }
+    Ok(())
+}
+
+#[test]
+fn ends_are_told(rt: HostRuntime) -> Result<(), Fail> {
+    for (text, behind, _) in REQUESTS {
+        let end = text.len().saturating_sub(behind);
+        ends_at(&rt, rt.alloc(), Side::Request, text, end);
+    }
+    for (text, behind, _) in REPLIES {
+        let end = text.len().saturating_sub(behind);
+        ends_at(&rt, rt.alloc(), Side::Reply, text, end);
+    }
+    for (text, _) in OPEN_REPLIES {
+        ends_at(&rt, rt.alloc(), Side::Reply, text, usize::MAX);
+    }
     Ok(())
 }
 
@@ -337,6 +576,9 @@ fn messages_are_read(rt: HostRuntime) -> Result<(), Fail> {
 fn others_are_refused(rt: HostRuntime) -> Result<(), Fail> {
     for (text, refusal) in REFUSED {
         reads(&rt, rt.alloc(), Side::Request, text, Err(refusal));
+    }
+    for (text, refusal) in REFUSED_REPLIES {
+        reads(&rt, rt.alloc(), Side::Reply, text, Err(refusal));
     }
     Ok(())
 }
@@ -350,7 +592,7 @@ fn limits_are_kept(rt: HostRuntime) -> Result<(), Fail> {
             Some(refusal) => Err(refusal),
             None => Ok((0, "")),
         };
-        reads(&rt, alloc, Side::Request, text.as_str(), expected);
+        long_reads(&rt, alloc, text.as_str(), expected);
     }
     Ok(())
 }
@@ -376,11 +618,66 @@ fn refusals_and_ends_stay(rt: HostRuntime) -> Result<(), Fail> {
     Ok(())
 }
 
+/// A message that comes in one piece.
+fn message_of(alloc: Global, side: Side, text: &str) -> Result<Message, HttpError> {
+    let mut reader = MessageReader::new(alloc, side)?;
+    feed(alloc, &mut reader, text.as_bytes())?;
+    reader.finish()
+}
+
+/// Whether a first line is that of a request of this method for this target.
+fn is_request(start: &Start, name: &str, place: &str) -> bool {
+    match start {
+        Start::Request { method, target } => method.as_str() == name && target.as_str() == place,
+        Start::Reply { .. } => false,
+    }
+}
+
+/// Whether a first line is that of a reply of this status.
+fn is_reply(start: &Start, number: u16) -> bool {
+    match start {
+        Start::Request { .. } => false,
+        Start::Reply { status } => *status == number,
+    }
+}
+
+/// Whether a field has just these two values, in this order.
+fn has_values(message: &Message, name: &str, values: [&str; 2]) -> bool {
+    let mut found = message.fields.get_all(name).into_iter();
+    for value in values {
+        match found.next() {
+            Some(next) if next.as_bytes() == value.as_bytes() => {}
+            _ => return false,
+        }
+    }
+    found.next().is_none()
+}
+
+#[test]
+fn first_lines_are_kept(rt: HostRuntime) -> Result<(), Fail> {
+    for (text, method, target) in STARTS {
+        let message = message_of(rt.alloc(), Side::Request, text)?;
+        assert!(rt; is_request(&message.start, method, target), "{text}");
+    }
+    for (text, status) in STATUSES {
+        let message = message_of(rt.alloc(), Side::Reply, text)?;
+        assert!(rt; is_reply(&message.start, status), "{text}");
+    }
+    Ok(())
+}
+
+#[test]
+fn values_are_kept_in_order(rt: HostRuntime) -> Result<(), Fail> {
+    for (side, text, name, values) in VALUES {
+        let message = message_of(rt.alloc(), side, text)?;
+        assert!(rt; has_values(&message, name, values), "{text}");
+    }
+    Ok(())
+}
+
 /// The first value of a field of a request.
 fn field_of(alloc: Global, request: &str, name: &str) -> Result<String, HttpError> {
-    let mut reader = MessageReader::new(alloc, Side::Request)?;
-    feed(alloc, &mut reader, request.as_bytes())?;
-    let message = reader.finish()?;
+    let message = message_of(alloc, Side::Request, request)?;
     match message.fields.get(name) {
         Some(value) => match value.to_str() {
             Ok(text) => Ok(String::from_str(alloc, text)?),
@@ -416,5 +713,36 @@ fn messages_are_written(rt: HostRuntime) -> Result<(), Fail> {
     let mut broken = Fields::new(alloc);
     broken.push(alloc, "A", "b\r\nC: d")?;
     assert!(rt; !broken.can_be_written());
+    Ok(())
+}
+
+/// A reply with no other fields and the body `hello`, and then its head alone.
+fn reply_and_head(alloc: Global, status: u16) -> Result<Vec<u8>, HttpError> {
+    let fields = Fields::new(alloc);
+    let mut out = Vec::new(alloc);
+    if fields.can_be_written() {
+        write_reply(status, &fields, b"hello", &mut out)?;
+        write_reply_head(status, &fields, 5, &mut out)?;
+    }
+    Ok(out)
+}
+
+/// The same as it has to be.
+fn expected_reply(alloc: Global, line: &str) -> Result<String, AllocError> {
+    let mut text = String::from_str(alloc, line)?;
+    text.push_str(OTHER_LINES)?;
+    text.push_str("hello")?;
+    text.push_str(line)?;
+    text.push_str(OTHER_LINES)?;
+    Ok(text)
+}
+
+#[test]
+fn reasons_are_written(rt: HostRuntime) -> Result<(), Fail> {
+    for (status, line) in STATUS_LINES {
+        let expected = expected_reply(rt.alloc(), line)?;
+        let written = reply_and_head(rt.alloc(), status)?;
+        assert_eq!(rt; written.as_slice(), expected.as_str().as_bytes());
+    }
     Ok(())
 }
