@@ -2,7 +2,7 @@
 # Want of memory in turn, by hand and not by the gate: a server grants a subscription, takes five scans and sends what is due,
 # and a book of 64 subscriptions gives its next notes. Each allocation fails in its turn, once; a call that answers want of memory
 # is made again, and then all that is printed must be what it is where none fails. So no call that fails leaves a trace.
-# An allocation before the calls ends the program with status 1.
+# An allocation outside these calls ends the program with status 1.
 # The program is proved and built in a folder of its own, with all crates below it. That takes a minute or two where earlier
 # checks on this machine left their work, and else as long as a first check of these crates.
 # Needs bash, python3, gcc and rt.
@@ -303,5 +303,5 @@ for at in range(1, count + 1):
         print(f"the allocation {at} of {count}: status {status}")
         print(out.decode(errors="replace"))
         sys.exit(1)
-print(f"{count} allocations failed in turn: {same} by calls that were made again, with the same answers; {ended} before the calls")
+print(f"{count} allocations failed in turn: with {same} the program went on, with the same answers; {ended} outside the calls ended it")
 PY
