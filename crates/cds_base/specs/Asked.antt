@@ -4,9 +4,13 @@ use Rattle.cds_base.specs.declared.exterior.OutsideFault.{OutsideFault}
 use Rattle.cds_base.specs.declared.exterior.OutsideFault.TheVariants.{Failed, Mem}
 use Rattle.cds_base.specs.Outside.{Rose}
 
--- What the outside was asked for: a folder at a path.
+-- What the outside was asked for: a folder at a path, a link, a clock, a door at a port or a spawner.
 pub data Asked : Type 0 where
   ForFolder : List ℕ → Asked
+  ForLink : Asked
+  ForClock : Asked
+  ForDoor : ℕ → Asked
+  ForSpawner : Asked
 
 -- A count of faults after a call: it rose where the call failed, and stays where it did not.
 abbrev pub OutsideRose : {A : Type 0} → Result A OutsideFault → ℕ → ℕ → Type 0

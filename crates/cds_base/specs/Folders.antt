@@ -1,5 +1,5 @@
 -- What callers see of the folders in memory.
-use Rattle.std.specs.Prelude.{◌≡◌, ℕ, Bool, true, ◌&&◌, if◌then◌else◌, Option, Some, None, List, [], ◌∷◌, map, take}
+use Rattle.std.specs.Prelude.{ℕ, Bool, true, ◌&&◌, if◌then◌else◌, Option, Some, None, List, [], ◌∷◌, map, take}
 use Rattle.std.specs.Option.{option_map}
 use Rattle.std.specs.Ordering.{is_lt, nat_cmp}
 use Rattle.std.specs.Cmp.Lexicographic.{slice_cmp}
@@ -80,25 +80,6 @@ told_of folder = record {
   entry_faults = folder.entry_faults;
   file_faults = folder.file_faults;
 }
-
--- What gives folders in memory.
-pub record OutsideState : Type 0 where
-  -- the folders that it has left, the next one first
-  pub folders : List FolderState
-  -- the paths that it was asked for
-  pub asked : List (List ℕ)
-  -- the folders that came back
-  pub ended : List FolderState
-  -- how many calls of `folder` it answered, and how many faults there were
-  pub calls : ℕ
-  pub faults : ℕ
-  -- the numbers, counted from 1, of the calls of `folder` that are to fail
-  pub fails : List ℕ
-
--- The first folder of a list, before anything was asked of it, and the others.
-abbrev pub IsFirstOf : FolderState → List FolderState → List FolderState → Type 0
-IsFirstOf folder [] left = ⊥
-IsFirstOf folder (first ∷ others) left = (folder ≡ fresh_folder first.items first.fails) × (left ≡ others)
 
 -- An item's path.
 abbrev pub item_path : MemItem → List ℕ

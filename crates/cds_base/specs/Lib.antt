@@ -1,8 +1,12 @@
 pub mod Asked
 pub mod Characters
+pub mod Clocks
+pub mod Doors
 pub mod Entries
 pub mod Escape
+pub mod Exterior
 pub mod Folders
+pub mod Links
 pub mod Memory
 pub mod Number
 pub mod Outside

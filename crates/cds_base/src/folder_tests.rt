@@ -1,6 +1,6 @@
 use crate::{
-    Bytes, Entry, Folder, FolderFault, MemFolder, MemItem, MemOutside, MemSource, Numbers, Outside,
-    Sequence, Source, Text, are_tree,
+    Bytes, Entry, Folder, FolderFault, MemFolder, MemItem, MemObjects, MemOutside, MemSource,
+    Numbers, Outside, Sequence, Source, Text, are_tree,
 };
 use std::alloc::Global;
 use std::convert::From;
@@ -126,10 +126,10 @@ fn files_in_memory_are_opened_and_come_back(rt: HostRuntime) -> Result<(), Fail>
 #[test]
 fn the_outside_in_memory_gives_its_folders(rt: HostRuntime) -> Result<(), Fail> {
     let alloc = rt.alloc();
-    let mut folders = Sequence::new(alloc);
-    folders.push(folder(alloc, "x", &[1])?)?;
-    folders.push(folder(alloc, "a/", &[])?)?;
-    let mut outside = MemOutside::new(folders, Numbers::from(Vec::from_slice(alloc, &[2])?));
+    let mut objects: MemObjects<HostRuntime> = MemObjects::new(alloc);
+    objects.folders.push(folder(alloc, "x", &[1])?)?;
+    objects.folders.push(folder(alloc, "a/", &[])?)?;
+    let mut outside = MemOutside::new(objects, Numbers::from(Vec::from_slice(alloc, &[2])?));
     for (fails, faults) in [(true, 2), (false, 3)] {
         let mut tree = outside.folder(alloc, "music")?;
         assert!(rt; tree.entry(alloc).is_err() == fails);

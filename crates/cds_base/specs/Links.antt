@@ -1,0 +1,70 @@
+-- The words of links: requests sent, replies that came, and what callers see of the links in memory.
+use Rattle.std.specs.Prelude.{◌≡◌, ◌<◌, ℕ, Bool, true, false, Option, Some, Result, Ok, Err, List, [], ◌∷◌, ◌++◌, length}
+use Rattle.cds_base.specs.declared.link.LinkFault.{LinkFault}
+use Rattle.cds_base.specs.declared.link.LinkFault.TheVariants.{Failed, Mem, Over}
+use Rattle.cds_base.specs.declared.link.LinkRequest.{LinkRequest}
+use Rattle.cds_base.specs.Outside.{Rose}
+
+-- What was sent after an exchange: the request besides, but where memory ran out.
+abbrev pub requests_after : {A : Type 0} → Result A LinkFault → LinkRequest → List LinkRequest → List LinkRequest
+requests_after (Ok reply) request sent = sent ++ request ∷ []
+requests_after (Err Failed) request sent = sent ++ request ∷ []
+requests_after (Err Mem) request sent = sent
+requests_after (Err Over) request sent = sent ++ request ∷ []
+
+-- A reply is the first of those that were left, and the others are left.
+abbrev pub IsFirstReply : List ℕ → List (List ℕ) → Option (List (List ℕ)) → Type 0
+IsFirstReply reply replies left = (others : List (List ℕ)) × (replies ≡ reply ∷ others) × (left ≡ Some others)
+
+-- The first of the replies that were left is longer than the limit, and the others are left.
+abbrev pub PassesFirst : ℕ → List (List ℕ) → Option (List (List ℕ)) → Type 0
+PassesFirst limit replies left = (reply : List ℕ) × (limit < length reply) × IsFirstReply reply replies left
+
+-- What holds where a reply was too long.
+abbrev pub WhereOver : {A : Type 0} → Result A LinkFault → Type 0 → Type 0
+WhereOver (Ok reply) P = Unit {0}
+WhereOver (Err Failed) P = Unit {0}
+WhereOver (Err Mem) P = Unit {0}
+WhereOver (Err Over) P = P
+
+-- A count of faults after an exchange: it rose where the link failed or the reply was too long, and stays elsewhere.
+abbrev pub LinkRose : {A : Type 0} → Result A LinkFault → ℕ → ℕ → Type 0
+LinkRose (Ok reply) old new = new ≡ old
+LinkRose (Err Failed) old new = Rose old new
+LinkRose (Err Mem) old new = new ≡ old
+LinkRose (Err Over) old new = Rose old new
+
+-- Whether a link failed.
+abbrev pub has_no_reply : {A : Type 0} → Result A LinkFault → Bool
+has_no_reply (Ok reply) = false
+has_no_reply (Err Failed) = true
+has_no_reply (Err Mem) = false
+has_no_reply (Err Over) = false
+
+-- What a link tells of itself.
+pub record LinkTold : Type 0 where
+  -- the requests that it sent and the replies that are left, where it tells them
+  pub requests : Option (List LinkRequest)
+  pub replies : Option (List (List ℕ))
+  -- how many faults there were
+  pub faults : ℕ
+
+-- A link in memory.
+pub record LinkState : Type 0 where
+  -- the replies that it has left, the next one first
+  pub replies : List (List ℕ)
+  -- the requests that it took
+  pub requests : List LinkRequest
+  -- how many calls it answered, and how many faults there were
+  pub calls : ℕ
+  pub faults : ℕ
+  -- the numbers, counted from 1, of the calls that are to fail
+  pub fails : List ℕ
+
+-- The same link before anything was asked of it.
+abbrev pub fresh_link : LinkState → LinkState
+fresh_link link = record { replies = link.replies; requests = []; calls = 0; faults = 0; fails = link.fails }
+
+-- What a link in memory tells of itself.
+abbrev pub link_told_of : LinkState → LinkTold
+link_told_of link = record { requests = Some link.requests; replies = Some link.replies; faults = link.faults }

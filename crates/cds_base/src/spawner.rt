@@ -1,0 +1,133 @@
+ghost use Rattle.std.specs.Prelude.{◌≡◌, IfSome};
+
+use crate::Failed;
+use std::marker::{Model, Send};
+use std::snapshot::Snapshot;
+use std::thread::{Promise, PromisedHandle, SpawnError, Threads, spawn_with};
+
+/// Work that is done once, in a thread of its own.
+pub trait Job: Send + Drop + 'static {
+    type Out: Send + Drop + 'static;
+
+    // What its answer may be.
+    ghost answers: { Self → Self.Out → Type 0 };
+
+    /// Does the work, and gives its answer.
+    fn run(self) -> Self::Out
+        ensures { answers self result };
+}
+
+/// What the answer of a started job keeps.
+#[derive(Drop)]
+struct AnswerOf<J> {
+    job: Snapshot<J>,
+}
+
+impl<J: Job> Promise<J::Out> for AnswerOf<J> {
+    ghost kept_by = { λ promise answer. J.answers promise.job.value answer };
+}
+
+/// A job that was started. Contracts see the job. One that is dropped runs on.
+#[derive(Drop)]
+pub struct Running<J: Job> {
+    handle: PromisedHandle<J::Out, AnswerOf<J>>,
+}
+
+impl<J: Job> Model for Running<J> {
+    ghost Value = { J };
+
+    ghost view = { λ r. r.handle.promise.job.value };
+}
+
+impl<J: Job> Running<J> {
+    /// The job's answer, once it has ended. It may wait for that.
+    pub fn join<R: Threads>(self, rt: &R) -> J::Out
+        ensures { J.answers self result }
+    {
+        self.handle.join(rt)
+    }
+}
+
+/// Starts the job in a thread of its own. `None` comes where no thread can be made; the job is dropped then, and was
+/// not run.
+fn start_job<J: Job, R: Threads>(rt: &R, job: J) -> Option<Running<J>>
+    ensures { IfSome result (λ running. running ≡ job) }
+{
+    let promise = AnswerOf {
+        job: Snapshot::of(&job),
+    };
+    match spawn_with(rt, promise, move || job.run()) {
+        Ok(handle) => Some(Running { handle }),
+        Err(SpawnError { value: _ }) => None,
+    }
+}
+
+/// How an attempt to make a thread ended. Nothing but `Spawner::start` makes one.
+#[derive(Drop, Debug)]
+pub struct Attempt {
+    is_made: bool,
+}
+
+impl Model for Attempt {
+    ghost use Rattle.std.specs.Prelude.{Bool};
+
+    ghost Value = { Bool };
+
+    ghost view = { λ a. a.is_made };
+}
+
+impl Attempt {
+    /// Whether there is a thread, which runs the job.
+    pub fn is_made(&self) -> bool
+        ensures { result ≡ self.now }
+    {
+        self.is_made
+    }
+}
+
+/// What starts jobs. A spawner says whether the next job may be started, and counts how that ended; `start` is the
+/// same for all of them.
+pub trait Spawner {
+    ghost use Rattle.std.specs.Prelude.{◌≡◌, ℕ, ◌≤◌, if◌then◌else◌, IfOk, IsFalse, OnErr};
+    ghost use Rattle.cds_base.specs.Outside.{raised, Rose};
+
+    // How many jobs it started so far.
+    ghost started: { Self → ℕ };
+
+    // How many calls failed so far.
+    ghost faults: { Self → ℕ };
+
+    /// Whether the next job may be started. `Failed` comes only where the count of faults rises.
+    fn may_start(&mut self) -> Result<(), Failed>
+        ensures started_stays { started self.new ≡ started self.old }
+        ensures rose { OnErr result (Rose (faults self.old) (faults self.new)) }
+        ensures never_falls { faults self.old ≤ faults self.new };
+
+    /// Counts a job that was started, or a fault where no thread could be made for it.
+    fn count(&mut self, attempt: Attempt)
+        ensures started { started self.new ≡ (if attempt then raised (started self.old) 1 else started self.old) }
+        ensures rose { IsFalse attempt → Rose (faults self.old) (faults self.new) }
+        ensures never_falls { faults self.old ≤ faults self.new };
+
+    /// Starts the job in a thread of its own. A refused job is dropped and was not run. `Failed` comes only where the
+    /// count of faults rises.
+    final fn start<J: Job, R: Threads>(&mut self, rt: &R, job: J) -> Result<Running<J>, Failed>
+        ensures job { IfOk result (λ running. running ≡ job) }
+        ensures started { IfOk result (λ _. started self.new ≡ raised (started self.old) 1) }
+        ensures started_stays { OnErr result (started self.new ≡ started self.old) }
+        ensures rose { OnErr result (Rose (faults self.old) (faults self.new)) }
+        ensures never_falls { faults self.old ≤ faults self.new }
+    {
+        self.may_start()?;
+        match start_job(rt, job) {
+            Some(running) => {
+                self.count(Attempt { is_made: true });
+                Ok(running)
+            }
+            None => {
+                self.count(Attempt { is_made: false });
+                Err(Failed)
+            }
+        }
+    }
+}
