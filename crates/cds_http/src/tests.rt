@@ -382,7 +382,7 @@ const STATUSES: [(&str, u16); 3] = [
 ];
 
 /// Messages, a field and its two values.
-const VALUES: [(Side, &str, &str, [&str; 2]); 3] = [
+const VALUES: [(Side, &str, &str, [&str; 2]); 5] = [
     (
         Side::Request,
         "GET / HTTP/1.1\r\nA: b\r\nC: d\r\na:\te \r\n\r\n",
@@ -400,6 +400,18 @@ const VALUES: [(Side, &str, &str, [&str; 2]); 3] = [
         "HTTP/1.0 500 \r\nA: b\r\nA:\r\n\r\n",
         "a",
         ["b", ""],
+    ),
+    (
+        Side::Request,
+        "POST /control HTTP/1.1\r\nA: b\r\nTRANSFER-ENCODING: chunked\r\nA: c\r\n\r\n1\r\nx\r\n0\r\nA: d\r\nE: f\r\n\r\n",
+        "A",
+        ["b", "c"],
+    ),
+    (
+        Side::Reply,
+        "HTTP/1.1 200 OK\r\nA: b\r\nTRANSFER-ENCODING: chunked\r\nA: c\r\n\r\n0\r\na: d\r\n\r\n",
+        "A",
+        ["b", "c"],
     ),
 ];
 
@@ -485,7 +497,7 @@ fn reads(
     }
 }
 
-/// The same of a long text for the cuts near its front and near its end, whole and for single bytes.
+/// The same of a long text: for its first 398 cuts into two and its last 80, and for single bytes.
 fn long_reads(
     rt: &impl Abort,
     alloc: Global,
@@ -494,10 +506,10 @@ fn long_reads(
 ) {
     let bytes = text.as_bytes();
     let count = bytes.len();
-    for cut in 0..161 {
+    for cut in 0..479 {
         let pieces = match cut {
-            160 => (0, 1),
-            80..160 => (count.saturating_sub(cut - 80), count),
+            478 => (0, 1),
+            398..478 => (count.saturating_sub(cut - 398), count),
             _ => (cut, count),
         };
         assert!(rt;
