@@ -46,7 +46,7 @@ fn links_in_memory_keep_all_requests(rt: HostRuntime) -> Result<(), Fail> {
         replies.push(bytes(alloc, reply)?)?;
     }
     let mut link = MemLink::new(alloc, replies, numbers(alloc, &[4])?);
-    let mut sent = 0;
+    let mut sent: usize = 0;
     for (limit, want, faults) in [
         (3, "reply of 3", 0),
         (3, "a reply is longer than its limit", 1),
@@ -58,7 +58,7 @@ fn links_in_memory_keep_all_requests(rt: HostRuntime) -> Result<(), Fail> {
         let answer = link.exchange(alloc, "http://127.0.0.1/", b"GET", limit);
         assert_eq!(rt; shown(alloc, answer)?.as_str(), want);
         assert_eq!(rt; link.faults(), faults);
-        sent += 1;
+        sent = sent.saturating_add(1);
         assert_eq!(rt; link.requests().len(), sent);
     }
     for (request, limit) in link.requests().iter().zip([3, 3, 0, 3, 4, 4]) {
