@@ -24,7 +24,7 @@ pub asks-method : (line : Line) → asks_events line ≡ true → IsTrue (asks_o
 asks-method line e = second (goes_to _ line) (asks_of_subscription line) e
 
 abbrev pub with_book : Serving → Booked → Serving
-with_book serving after = record { store = serving.store; book = after; moderated = serving.moderated }
+with_book serving after = record { store = serving.store; book = after; moderated = serving.moderated; stopped = serving.stopped }
 
 module _ (serving : Serving) (now : ℕ) (m : Message) (old new : List ℕ) (after : Booked) (asked : asks_events m.start ≡ true) (number : ℕ)
     (is : number ≡ serving.store.standing.number) where

@@ -13,7 +13,7 @@ use Rattle.cds_store.specs.Rows.{rows_of}
 use Rattle.cds_store.specs.Stands.{Stored, StandsFor as StoreStandsFor}
 use Rattle.cds_store.specs.declared.span.Span.{Span}
 use Rattle.cds_http.specs.declared.message.Message.{Message}
-use Rattle.cds_commands.specs.Commands.{Command, Start, Scans, AreAccepted, scans_of}
+use Rattle.cds_commands.specs.Commands.{Command, Start, Scans, Stops, AreAccepted, scans_of}
 use Rattle.cds_commands.specs.Names.{names_of}
 use Rattle.cds_commands.specs.Subscriptions.{granted}
 use Rattle.cds_gena.specs.Asked.{gena_of}
@@ -22,7 +22,7 @@ use Rattle.cds_commands.specs.Subscriptions.{end_after}
 use Rattle.cds_gena.specs.declared.error.GenaError.{GenaError}
 use Rattle.cds_gena.specs.declared.error.GenaError.TheVariants.{Spent}
 use Rattle.cds_gena.specs.declared.gena.Gena.{Gena}
-use Rattle.cds_gena.proofs.Commands.{as-many, number-alive, booked-scan, booked-grant, booked-renewal, booked-end}
+use Rattle.cds_gena.proofs.Commands.{as-many, number-alive, booked-scan, booked-grant, booked-renewal, booked-end, booked-stop}
 use Rattle.cds_moderator.specs.Moderating.{Moderated, moderated_by, reached}
 use Rattle.cds_server.specs.declared.notes.FirstNote.{FirstNote}
 use Rattle.cds_server.specs.Route.{Route, Subscribes, Goes, asks_events, route, way_by}
@@ -100,11 +100,11 @@ done-stands book start commands now (Ended number) s = record {
 
 with-book : (serving : Serving) (start : Start) (commands : List Command) (now : ℕ) (o : Outcome) (after : Booked) → StandsFor serving start commands
     → BookStandsFor after start (and_command (command_of now o) commands)
-    → StandsFor (record { store = serving.store; book = after; moderated = serving.moderated }) start (and_command (command_of now o) commands)
-with-book serving start commands now (Refused status) after s b = record { store = s.store; kept = s.kept; book = b; moderated = s.moderated }
-with-book serving start commands now (Granted callback seconds) after s b = record { store = s.store; kept = s.kept; book = b; moderated = s.moderated }
-with-book serving start commands now (Renewed number seconds) after s b = record { store = s.store; kept = s.kept; book = b; moderated = s.moderated }
-with-book serving start commands now (Ended number) after s b = record { store = s.store; kept = s.kept; book = b; moderated = s.moderated }
+    → StandsFor (record { store = serving.store; book = after; moderated = serving.moderated; stopped = serving.stopped }) start (and_command (command_of now o) commands)
+with-book serving start commands now (Refused status) after s b = record { store = s.store; kept = s.kept; book = b; moderated = s.moderated; stopped = s.stopped }
+with-book serving start commands now (Granted callback seconds) after s b = record { store = s.store; kept = s.kept; book = b; moderated = s.moderated; stopped = s.stopped }
+with-book serving start commands now (Renewed number seconds) after s b = record { store = s.store; kept = s.kept; book = b; moderated = s.moderated; stopped = s.stopped }
+with-book serving start commands now (Ended number) after s b = record { store = s.store; kept = s.kept; book = b; moderated = s.moderated; stopped = s.stopped }
 
 accepted-done : (first : ℕ) (commands : List Command) (now : ℕ) (o : Outcome) → AreAccepted first commands → AreAccepted first (and_command (command_of now o) commands)
 accepted-done first commands now (Refused status) a = a
@@ -120,7 +120,7 @@ keeps now (Ended number) book e = absurd (true≢false (ap is_some e))
 
 -- a server whose book was given a request keeps what every server keeps
 pub event-serving : (serving : Serving) (now : ℕ) (o : Outcome) (after : Booked) → IsServing serving → after ≡ done now o serving.book
-    → IsServing (record { store = serving.store; book = after; moderated = serving.moderated })
+    → IsServing (record { store = serving.store; book = after; moderated = serving.moderated; stopped = serving.stopped })
 event-serving serving now o after kept is =
     let names : after.names ≡ serving.book.names = ap (λ (b : Booked). b.names) is ∙ done-names now o serving.book in
     let room = kept.room in
@@ -158,9 +158,9 @@ module _ (serving : Serving) (start : Start) (commands : List Command) (now : �
     is.replied ∙ (λ i. old ++ outcome_reply (s.book.names i) (many i) (come i)),
   )
 
-  pub event-stands : StandsFor (record { store = serving.store; book = after; moderated = serving.moderated }) start (and_command (command_at start commands now m) commands)
+  pub event-stands : StandsFor (record { store = serving.store; book = after; moderated = serving.moderated; stopped = serving.stopped }) start (and_command (command_at start commands now m) commands)
   event-stands =
-      subst (λ (c : Option Command). StandsFor (record { store = serving.store; book = after; moderated = serving.moderated }) start (and_command c commands)) (sym commanded)
+      subst (λ (c : Option Command). StandsFor (record { store = serving.store; book = after; moderated = serving.moderated; stopped = serving.stopped }) start (and_command c commands)) (sym commanded)
       (with-book serving start commands now (outcome start commands now m) after s
       (subst (λ (b : Booked). BookStandsFor b start (and_command (command_of now (outcome start commands now m)) commands)) (sym kept-is)
       (done-stands serving.book start commands now (outcome start commands now m) s.book)))
@@ -275,23 +275,50 @@ scan-follows serving records span kept e is =
 pub scan-stands : (serving : Serving) (start : Start) (commands : List Command) (records : List Record) (store : Stored) (moderated : Moderated)
     → StandsFor serving start commands → StoreStandsFor store (with_scan (scans_of start.first commands) (map_of records)) → store.forgotten ≡ serving.store.forgotten
     → moderated ≡ moderated_by start.first (Scans (map_of records) ∷ commands)
-    → StandsFor (record { store = store; book = serving.book; moderated = moderated }) start (Scans (map_of records) ∷ commands)
+    → StandsFor (record { store = store; book = serving.book; moderated = moderated; stopped = serving.stopped }) start (Scans (map_of records) ∷ commands)
 scan-stands serving start commands records store moderated s stored same told = record {
   store = stored;
   kept = same ∙ s.kept;
   book = record { names = s.book.names; subscribed = s.book.subscribed ∙ sym (booked-scan start.first commands (map_of records)) };
   moderated = told;
+  stopped = s.stopped;
 }
 
 pub scan-serving : (serving : Serving) (records : List Record) (store : Stored) (moderated : Moderated) (kept : IsServing serving)
     → scan_answer (scans_of kept.start.first kept.commands) records ≡ Accepted
     → StoreStandsFor store (with_scan (scans_of kept.start.first kept.commands) (map_of records)) → store.forgotten ≡ serving.store.forgotten
     → moderated ≡ moderated_by kept.start.first (Scans (map_of records) ∷ kept.commands)
-    → IsServing (record { store = store; book = serving.book; moderated = moderated })
+    → IsServing (record { store = store; book = serving.book; moderated = moderated; stopped = serving.stopped })
 scan-serving serving records store moderated kept e stored same told = record {
   start = kept.start;
   commands = Scans (map_of records) ∷ kept.commands;
   stands = scan-stands serving kept.start kept.commands records store moderated kept.stands stored same told;
   accepted = scan-accepted kept.start.first records kept.commands kept.accepted e;
+  room = kept.room;
+}
+
+-- ---- the end
+
+-- a server that was told to stop
+abbrev pub stopping : Serving → Serving
+stopping serving = record { store = serving.store; book = serving.book; moderated = serving.moderated; stopped = true }
+
+-- it stands for that too
+pub stop-stands : (serving : Serving) (start : Start) (commands : List Command) → StandsFor serving start commands
+    → StandsFor (stopping serving) start (Stops ∷ commands)
+stop-stands serving start commands s = record {
+  store = s.store;
+  kept = s.kept;
+  book = record { names = s.book.names; subscribed = s.book.subscribed ∙ sym (booked-stop start.first commands) };
+  moderated = s.moderated;
+  stopped = refl;
+}
+
+pub stop-serving : (serving : Serving) → IsServing serving → IsServing (stopping serving)
+stop-serving serving kept = record {
+  start = kept.start;
+  commands = Stops ∷ kept.commands;
+  stands = stop-stands serving kept.start kept.commands kept.stands;
+  accepted = record { libraries = kept.accepted.libraries; few = kept.accepted.few; numbers = kept.accepted.numbers };
   room = kept.room;
 }

@@ -116,7 +116,7 @@ module _ (serving : Serving) (start : Start) (commands : List Command) (now : �
 
   -- nothing is due
   pub silent : next_span now serving.moderated ≡ None → (after : Booked) → BookStandsFor after start (Ticks now ∷ commands)
-      → StandsFor (record { store = serving.store; book = after; moderated = serving.moderated }) start (Ticks now ∷ commands)
+      → StandsFor (record { store = serving.store; book = after; moderated = serving.moderated; stopped = serving.stopped }) start (Ticks now ∷ commands)
   silent e after b = record {
     store = s.store;
     kept = s.kept ∙ ap (λ (o : Option Release). released_to start.first (and_release o releases)) (sym (no-release e));
@@ -127,6 +127,7 @@ module _ (serving : Serving) (start : Start) (commands : List Command) (now : �
           moment = last_moment (and_release o releases);
           end = reached start.first (end_of history);
         }) (sym (no-release e));
+    stopped = s.stopped;
   }
 
   pub none-due : next_span now serving.moderated ≡ None → due start commands now ≡ None
@@ -162,7 +163,7 @@ module _ (serving : Serving) (start : Start) (commands : List Command) (now : �
 
     pub stands-after : (store : Stored) (book : Booked) (moderated : Moderated) → span.from < span.to → StoreStandsFor store history
         → store.forgotten ≡ max serving.store.forgotten span.to → BookStandsFor book start (Ticks now ∷ commands) → moderated ≡ moderated_by start.first (Ticks now ∷ commands)
-        → StandsFor (record { store = store; book = book; moderated = moderated }) start (Ticks now ∷ commands)
+        → StandsFor (record { store = store; book = book; moderated = moderated; stopped = serving.stopped }) start (Ticks now ∷ commands)
     stands-after store book moderated some stored forgotten b m = record {
       store = stored;
       kept =
@@ -173,6 +174,7 @@ module _ (serving : Serving) (start : Start) (commands : List Command) (now : �
           ∙ ap (λ (o : Option Release). released_to start.first (and_release o releases)) (sym is);
       book = b;
       moderated = m;
+      stopped = s.stopped;
     }
 
     -- the body of its notes

@@ -1,5 +1,5 @@
 -- What a server keeps, and which commands it stands for.
-use Rattle.std.specs.Prelude.{◌≡◌, ◌+◌, ◌≤◌, ◌<◌, ◌^◌, ℕ, List, ◌∷◌, Some, Result, Ok, Err, ⊤}
+use Rattle.std.specs.Prelude.{◌≡◌, ◌+◌, ◌≤◌, ◌<◌, ◌^◌, ℕ, Bool, List, ◌∷◌, Some, Result, Ok, Err, ⊤}
 use Rattle.cds_object.specs.declared.record.Record.{Record}
 use Rattle.cds_catalog.specs.Library.{map_of}
 use Rattle.cds_catalog.specs.History.{end_of, with_scan}
@@ -10,26 +10,29 @@ use Rattle.cds_store.specs.Stands.{Stored, StandsFor as StoreStandsFor}
 use Rattle.cds_store.specs.declared.error.ApplyError.{ApplyError}
 use Rattle.cds_store.specs.declared.error.ApplyError.TheVariants.{BadRecords, Full, Spent, Mem}
 use Rattle.cds_store.specs.declared.span.Span.{Span}
-use Rattle.cds_commands.specs.Commands.{Command, Start, Scans, AreAccepted, scans_of}
+use Rattle.cds_commands.specs.Commands.{Command, Start, Scans, AreAccepted, is_stopped, scans_of}
 use Rattle.cds_commands.specs.Releases.{released_to, releases_of}
 use Rattle.cds_gena.specs.Subscribed.{Booked, StandsFor as BookStandsFor}
 use Rattle.cds_moderator.specs.Moderating.{Moderated, moderated_by, scan_size}
 use Rattle.cds_server.specs.Published.{Published, token_of}
 
--- the catalog with the changes that are not released yet, the subscriptions with the name of number 0, and what waits for its release
+-- the catalog with the changes that are not released yet, the subscriptions with the name of number 0, what waits for its release, and
+-- whether it was told to stop
 pub record Serving : Type 0 where
   pub store : Stored
   pub book : Booked
   pub moderated : Moderated
+  pub stopped : Bool
 
 -- a server stands for the commands that it accepted from its start on, the newest of which stands first: its store stands for the
--- history of the scans, and has forgotten the changes up to the end of the last release and no others; its names, its subscriptions and
--- what waits for its release are what the commands say
+-- history of the scans, and has forgotten the changes up to the end of the last release and no others; its names, its subscriptions,
+-- what waits for its release and whether it was told to stop are what the commands say
 pub record StandsFor (serving : Serving) (start : Start) (commands : List Command) : Type 0 where
   pub store : StoreStandsFor serving.store (scans_of start.first commands)
   pub kept : serving.store.forgotten ≡ released_to start.first (releases_of start.first commands)
   pub book : BookStandsFor serving.book start commands
   pub moderated : serving.moderated ≡ moderated_by start.first commands
+  pub stopped : serving.stopped ≡ is_stopped commands
 
 -- what every server keeps: it stands for some commands, whose scans were accepted, and all its names have 128 bits
 pub record IsServing (serving : Serving) : Type 0 where

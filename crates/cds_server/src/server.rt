@@ -3,7 +3,7 @@
 ghost use Rattle.std.specs.Prelude.{◌≡◌, ◌<◌, ◌^◌, ◌∷◌, List, [], length, false, true, slice_index, Some, None, IfOk, IfErr, IfSome, OnOk, OnErr};
 ghost use Rattle.cds_catalog.specs.History.{end_of};
 ghost use Rattle.cds_catalog.specs.Scans.{bad_record};
-ghost use Rattle.cds_commands.specs.Commands.{Command, Start, Ticks, scans_of};
+ghost use Rattle.cds_commands.specs.Commands.{Command, Start, Stops, Ticks, is_stopped, scans_of};
 ghost use Rattle.cds_moderator.specs.Moderating.{next_span};
 ghost use Rattle.cds_server.specs.Due.{AllGoOut, due};
 ghost use Rattle.cds_server.specs.Outcome.{GoesOut, and_command};
@@ -34,6 +34,8 @@ pub struct Server {
     pub(crate) book: Book,
     /// The changes that are not released yet.
     moderator: Moderator,
+    /// Whether it was told to stop.
+    stopped: bool,
 }
 
 impl Model for Server {
@@ -41,9 +43,9 @@ impl Model for Server {
 
     ghost Value = { Serving };
 
-    ghost view = { λ s. record { store = s.store; book = s.book; moderated = s.moderator.moderated } };
+    ghost view = { λ s. record { store = s.store; book = s.book; moderated = s.moderator.moderated; stopped = s.stopped } };
 
-    ghost invariant = { λ s. IsServing (record { store = s.store; book = s.book; moderated = s.moderator.moderated }) };
+    ghost invariant = { λ s. IsServing (record { store = s.store; book = s.book; moderated = s.moderator.moderated; stopped = s.stopped }) };
 }
 
 impl Server {
@@ -58,6 +60,7 @@ impl Server {
             store,
             book,
             moderator: Moderator::new(alloc),
+            stopped: false,
         })
     }
 
@@ -208,5 +211,23 @@ impl Server {
             → result ≡ end_of (scans_of start.first commands) }
     {
         self.store.system_update_id()
+    }
+
+    /// Tells the server to stop. It keeps what it has, and goes on to do whatever it is called for. It takes no memory.
+    pub fn stop(&mut self)
+        ensures stands { (start : Start) (commands : List Command) → StandsFor self.old start commands
+            → StandsFor self.new start (Stops ∷ commands) }
+        ensures same { self.new ≡ record self.old { stopped = true } }
+    {
+        self.stopped = true;
+    }
+
+    /// Whether it was told to stop.
+    pub fn stopped(&self) -> bool
+        ensures kept { result ≡ self.now.stopped }
+        ensures counted { (start : Start) (commands : List Command) → StandsFor self.now start commands
+            → result ≡ is_stopped commands }
+    {
+        self.stopped
     }
 }

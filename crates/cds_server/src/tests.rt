@@ -582,6 +582,16 @@ fn browse_is_answered(rt: HostRuntime) -> Result<(), Fail> {
     Ok(())
 }
 
+#[test]
+fn a_server_is_told_to_stop(rt: HostRuntime) -> Result<(), Fail> {
+    let alloc = rt.alloc();
+    let mut server = server_with(alloc, "Rock/")?;
+    assert!(rt; !server.stopped());
+    server.stop();
+    assert!(rt; server.stopped());
+    Ok(())
+}
+
 /// The words of a library of so many folders with so many tracks each.
 fn library(alloc: Global, folders: u32, tracks: u32) -> Result<String, AllocError> {
     let mut words = String::new(alloc);

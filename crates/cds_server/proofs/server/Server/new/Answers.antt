@@ -14,6 +14,7 @@ invariant_of-result c =
         kept = c.in_ok-store.ensures.forgotten;
         book = c.new-book.ensures.stands start refl refl;
         moderated = c.new-2.ensures.stands c.args.first;
+        stopped = refl;
       };
       accepted = record { libraries = tt; few = tt; numbers = omega arith };
       room = omega (arith, c.book.invariant.room, ap (λ (b : Booked). b.names) c.book.view_is);
@@ -27,4 +28,5 @@ returns c =
       kept = c.in_ok-store.ensures.forgotten;
       book = c.new-book.ensures.stands start refl refl;
       moderated = c.new-2.ensures.stands c.args.first;
+      stopped = refl;
     }

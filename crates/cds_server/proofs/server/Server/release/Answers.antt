@@ -18,7 +18,7 @@ more span (Some other) e h = let same : other ≡ span = cc in subst (λ (s : Sp
 
 pub note_body-requires : goal.note_body-requires
 note_body-requires c =
-    let inside : Serving = record { store = c.self.inside.store; book = c.self.inside.book; moderated = c.self.inside.moderator.moderated } in
+    let inside : Serving = record { store = c.self.inside.store; book = c.self.inside.book; moderated = c.self.inside.moderator.moderated; stopped = c.self.inside.stopped } in
     let kept = c.self.invariant in
     let due : next_span c.args.now inside.moderated ≡ Some c.args.span = ap (λ (z : Serving). next_span c.args.now z.moderated) c.self.view_is ∙ c.requires.due in
     let begin = begins inside kept.start kept.commands c.args.now kept.stands c.args.span due in
@@ -26,18 +26,18 @@ note_body-requires c =
 
 pub forget-requires : goal.forget-requires
 forget-requires c =
-    let inside : Serving = record { store = c.self.inside.store; book = c.self.inside.book; moderated = c.self.inside.moderator.moderated } in
+    let inside : Serving = record { store = c.self.inside.store; book = c.self.inside.book; moderated = c.self.inside.moderator.moderated; stopped = c.self.inside.stopped } in
     let kept = c.self.invariant in
     let due : next_span c.args.now inside.moderated ≡ Some c.args.span = ap (λ (z : Serving). next_span c.args.now z.moderated) c.self.view_is ∙ c.requires.due in
     ends inside kept.start kept.commands c.args.now kept.stands c.args.span due
 
 pub invariant_of-self : goal.invariant_of-self
 invariant_of-self c =
-    subst (λ (b : Booked). IsServing (record { store = c.self.inside.store; book = b; moderated = c.self.inside.moderator.moderated })) (sym c.in_err-next_notes.ensures.kept.0) c.self.invariant
+    subst (λ (b : Booked). IsServing (record { store = c.self.inside.store; book = b; moderated = c.self.inside.moderator.moderated; stopped = c.self.inside.stopped })) (sym c.in_err-next_notes.ensures.kept.0) c.self.invariant
 
 pub invariant_of-self-2 : goal.invariant_of-self-2
 invariant_of-self-2 c =
-    let inside : Serving = record { store = c.self.inside.store; book = c.self.inside.book; moderated = c.self.inside.moderator.moderated } in
+    let inside : Serving = record { store = c.self.inside.store; book = c.self.inside.book; moderated = c.self.inside.moderator.moderated; stopped = c.self.inside.stopped } in
     let kept = c.self.invariant in
     let due : next_span c.args.now inside.moderated ≡ Some c.args.span = ap (λ (z : Serving). next_span c.args.now z.moderated) c.self.view_is ∙ c.requires.due in
     let some : c.args.span.from < c.args.span.to = more c.args.span c.release.result (c.release.ensures.step ∙ due) c.release.ensures.size in
@@ -49,7 +49,7 @@ invariant_of-self-2 c =
 
 pub returns-clause-stands : goal.returns-clause-stands
 returns-clause-stands c start commands stands =
-    let inside : Serving = record { store = c.self.inside.store; book = c.self.inside.book; moderated = c.self.inside.moderator.moderated } in
+    let inside : Serving = record { store = c.self.inside.store; book = c.self.inside.book; moderated = c.self.inside.moderator.moderated; stopped = c.self.inside.stopped } in
     let due : next_span c.args.now inside.moderated ≡ Some c.args.span = ap (λ (z : Serving). next_span c.args.now z.moderated) c.self.view_is ∙ c.requires.due in
     let here = subst (λ (z : Serving). StandsFor z start commands) (sym c.self.view_is) stands in
     let some : c.args.span.from < c.args.span.to = more c.args.span c.release.result (c.release.ensures.step ∙ due) c.release.ensures.size in
@@ -60,7 +60,7 @@ returns-clause-stands c start commands stands =
 
 pub returns-clause-notes : goal.returns-clause-notes
 returns-clause-notes c start commands stands =
-    let inside : Serving = record { store = c.self.inside.store; book = c.self.inside.book; moderated = c.self.inside.moderator.moderated } in
+    let inside : Serving = record { store = c.self.inside.store; book = c.self.inside.book; moderated = c.self.inside.moderator.moderated; stopped = c.self.inside.stopped } in
     let due : next_span c.args.now inside.moderated ≡ Some c.args.span = ap (λ (z : Serving). next_span c.args.now z.moderated) c.self.view_is ∙ c.requires.due in
     let here = subst (λ (z : Serving). StandsFor z start commands) (sym c.self.view_is) stands in
     let to : c.next_notes.new.out ≡ map (address_of c.self.inside.book.names) (alive c.args.now c.self.inside.book.subscribed.living) =
@@ -75,7 +75,7 @@ returns-clause-delivered c =
 
 pub returns-clause-short : goal.returns-clause-short
 returns-clause-short c =
-    let inside : Serving = record { store = c.self.inside.store; book = c.self.inside.book; moderated = c.self.inside.moderator.moderated } in
+    let inside : Serving = record { store = c.self.inside.store; book = c.self.inside.book; moderated = c.self.inside.moderator.moderated; stopped = c.self.inside.stopped } in
     let kept = c.self.invariant in
     let due : next_span c.args.now inside.moderated ≡ Some c.args.span = ap (λ (z : Serving). next_span c.args.now z.moderated) c.self.view_is ∙ c.requires.due in
     told-short inside kept c.args.now c.args.span due _ (c.in_ok-body.ensures (scans_of kept.start.first kept.commands) kept.stands.store)

@@ -5,7 +5,7 @@ use Rattle.cds_server.proofs.server.Server.tick.Goals as goal
 
 pub invariant_of-self : goal.invariant_of-self
 invariant_of-self c =
-    let inside : Serving = record { store = c.self.inside.store; book = c.self.inside.book; moderated = c.self.inside.moderator.moderated } in
+    let inside : Serving = record { store = c.self.inside.store; book = c.self.inside.book; moderated = c.self.inside.moderator.moderated; stopped = c.self.inside.stopped } in
     let none = sym c.next_span.ensures.step ∙ c.in-None.is in
     let kept = c.self.invariant in
     ticked-serving inside _ c.args.now kept c.expire.ensures.names
@@ -14,7 +14,7 @@ invariant_of-self c =
 
 pub returns-in-None-clause-stands : goal.returns-in-None-clause-stands
 returns-in-None-clause-stands c start commands stands =
-    let inside : Serving = record { store = c.self.inside.store; book = c.self.inside.book; moderated = c.self.inside.moderator.moderated } in
+    let inside : Serving = record { store = c.self.inside.store; book = c.self.inside.book; moderated = c.self.inside.moderator.moderated; stopped = c.self.inside.stopped } in
     let here = subst (λ (z : Serving). StandsFor z start commands) (sym c.self.view_is) stands in
     let none = sym c.next_span.ensures.step ∙ c.in-None.is in
     silent inside start commands c.args.now here none _
@@ -22,6 +22,6 @@ returns-in-None-clause-stands c start commands stands =
 
 pub returns-in-None-clause-notes : goal.returns-in-None-clause-notes
 returns-in-None-clause-notes c start commands stands =
-    let inside : Serving = record { store = c.self.inside.store; book = c.self.inside.book; moderated = c.self.inside.moderator.moderated } in
+    let inside : Serving = record { store = c.self.inside.store; book = c.self.inside.book; moderated = c.self.inside.moderator.moderated; stopped = c.self.inside.stopped } in
     let here = subst (λ (z : Serving). StandsFor z start commands) (sym c.self.view_is) stands in
     sym (none-due inside start commands c.args.now here (sym c.next_span.ensures.step ∙ c.in-None.is))
