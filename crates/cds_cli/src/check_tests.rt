@@ -2,6 +2,8 @@
 
 use crate::tests::play;
 use std::alloc::Global;
+use std::marker::Send;
+use std::sync::Wait;
 use std::test::Fail;
 
 /// A StateEvent, and the status and the text that it is to give.
@@ -113,9 +115,13 @@ const REFUSED: [Case; 13] = [
 ];
 
 /// The first input that gives another status or another text.
-fn first_wrong<'a>(alloc: Global, cases: &[Case<'a>]) -> Result<Option<&'a str>, Fail> {
+fn first_wrong<'a, R: Wait + Clone + Send + Drop + 'static>(
+    rt: &R,
+    alloc: Global,
+    cases: &[Case<'a>],
+) -> Result<Option<&'a str>, Fail> {
     for (input, status, text) in cases {
-        let (answered, written) = play(alloc, &["check"], input.as_bytes(), &[], &[])?;
+        let (answered, written) = play(rt, alloc, &["check"], input.as_bytes(), &[], &[])?;
         if answered != *status || written.as_slice() != text.as_bytes() {
             return Ok(Some(*input));
         }
@@ -125,23 +131,23 @@ fn first_wrong<'a>(alloc: Global, cases: &[Case<'a>]) -> Result<Option<&'a str>,
 
 #[test]
 fn state_events_have_one_written_form(rt: HostRuntime) -> Result<(), Fail> {
-    assert_eq!(rt; first_wrong(rt.alloc(), &READ)?, None);
+    assert_eq!(rt; first_wrong(&rt, rt.alloc(), &READ)?, None);
     Ok(())
 }
 
 #[test]
 fn other_input_is_refused_at_its_first_fault(rt: HostRuntime) -> Result<(), Fail> {
-    assert_eq!(rt; first_wrong(rt.alloc(), &REFUSED)?, None);
+    assert_eq!(rt; first_wrong(&rt, rt.alloc(), &REFUSED)?, None);
     Ok(())
 }
 
 #[test]
 fn faults_of_the_streams_have_their_statuses(rt: HostRuntime) -> Result<(), Fail> {
     let alloc = rt.alloc();
-    let (status, written) = play(alloc, &["check"], b" ", &[2], &[])?;
+    let (status, written) = play(&rt, alloc, &["check"], b" ", &[2], &[])?;
     assert_eq!(rt; status, 2);
     assert_eq!(rt; written.as_slice(), b"".as_slice());
-    let (status, written) = play(alloc, &["check"], b" ", &[], &[1])?;
+    let (status, written) = play(&rt, alloc, &["check"], b" ", &[], &[1])?;
     assert_eq!(rt; status, 3);
     assert_eq!(rt; written.as_slice(), b"".as_slice());
     Ok(())

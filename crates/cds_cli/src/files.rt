@@ -7,11 +7,10 @@ ghost use Rattle.cds_cli.specs.Given.{GivesEntry, IsPathOf};
 use crate::given::Given;
 use crate::streams::Input;
 use crate::walk::{Walk, joined};
-use cds_base::{Entry, Folder, FolderFault, Mem, Outside, OutsideFault, Text};
+use cds_base::{Entry, Folder, FolderFault, Mem, Text};
 use std::alloc::Global;
 use std::fs;
 use std::io::{BufReader, ErrorKind};
-use std::marker::Send;
 use std::rt::Files;
 
 /// How many bytes of a file are read at once.
@@ -32,6 +31,13 @@ pub struct RealFolder<R: Files + AllocGlobal + Clone + Drop> {
 }
 
 impl<R: Files + AllocGlobal + Clone + Drop> RealFolder<R> {
+    /// How many calls of `entry` failed.
+    pub fn entry_faults(&self) -> u64
+        ensures { result ≡ self.now.entry_faults }
+    {
+        self.entry_faults
+    }
+
     /// The next entry of the walk, where there is room for it.
     #[tactic(auto, using(crate::proofs::Guarded::gives_entry))]
     fn give(&mut self, alloc: Global) -> Result<Entry, FolderFault>
@@ -176,24 +182,8 @@ fn open_file<R: Files + AllocGlobal + Clone + Drop>(
     }
 }
 
-/// What gives folders of the real file system.
-#[derive(Drop)]
-pub struct RealOutside<R: Files + AllocGlobal + Clone + Drop> {
-    rt: R,
-    faults: u64,
-}
-
-impl<R: Files + AllocGlobal + Clone + Drop> RealOutside<R> {
-    /// No call has failed.
-    pub fn new(rt: R) -> Self
-        ensures { result.faults ≡ 0 }
-    {
-        RealOutside { rt, faults: 0 }
-    }
-}
-
 /// The folder at a path, of which nothing was asked yet.
-fn real_folder<R: Files + AllocGlobal + Clone + Drop>(
+pub fn real_folder<R: Files + AllocGlobal + Clone + Drop>(
     rt: &R,
     alloc: Global,
     path: &str,
@@ -218,29 +208,4 @@ fn real_folder<R: Files + AllocGlobal + Clone + Drop>(
         entry_faults: 0,
         file_faults: 0,
     })
-}
-
-impl<R: Files + AllocGlobal + Clone + Drop + Send + 'static> Outside for RealOutside<R>
-where
-    R::File: Send + 'static,
-    R::Dir: Send + 'static,
-{
-    ghost use Rattle.std.specs.Prelude.{None};
-
-    type F = RealFolder<R>;
-
-    ghost faults = { λ s. s.faults };
-
-    ghost asked = { λ _. None };
-
-    ghost ended = { λ _. None };
-
-    fn folder(&mut self, alloc: Global, path: &str) -> Result<RealFolder<R>, OutsideFault> {
-        let folder = real_folder(&self.rt, alloc, path)?;
-        Ok(folder)
-    }
-
-    fn end_folder(&mut self, folder: RealFolder<R>) {
-        self.faults = self.faults.saturating_add(folder.entry_faults.min(1));
-    }
 }

@@ -5,13 +5,23 @@
 #[cfg(test)]
 mod check_tests;
 mod checking;
+mod clocks;
 mod command;
+mod conns;
+mod doors;
+mod exterior;
 mod files;
 mod given;
+mod links;
+mod lobby;
+#[cfg(test)]
+mod outside_tests;
+mod reach;
 mod run;
 #[cfg(test)]
 mod scan_tests;
 mod scanning;
+mod spawners;
 mod streams;
 #[cfg(test)]
 mod tests;
@@ -19,7 +29,7 @@ mod walk;
 mod written;
 
 use cds_base::{Mem, Text, Words};
-use files::RealOutside;
+use exterior::RealOutside;
 use run::run;
 use std::alloc::Global;
 use std::env;

@@ -3,11 +3,13 @@
 use crate::run::run;
 use crate::tests::words_of;
 use cds_base::{
-    Bytes, Mem, MemFolder, MemItem, MemOutside, MemSink, MemSource, Numbers, Sequence, Text,
-    are_tree,
+    Bytes, Mem, MemFolder, MemItem, MemObjects, MemOutside, MemSink, MemSource, Numbers, Sequence,
+    Text, are_tree,
 };
 use std::alloc::Global;
 use std::convert::From;
+use std::marker::Send;
+use std::sync::Wait;
 use std::test::Fail;
 
 /// 44,100 Hz, 2 channels, 16 bits, 441,000 samples, and the comment `TITLE=Z`, whose block begins at byte 42.
@@ -70,14 +72,19 @@ fn folder(alloc: Global, items: &[(&str, usize)], fails: &[u32]) -> Result<MemFo
 }
 
 /// What `scan x` answers and writes to an outside that has this folder, and how many faults the outside counts.
-fn scanned(alloc: Global, folder: MemFolder, writes: &[u32]) -> Result<(u8, Vec<u8>, u64), Fail> {
+fn scanned<R: Wait + Clone + Send + Drop + 'static>(
+    _rt: &R,
+    alloc: Global,
+    folder: MemFolder,
+    writes: &[u32],
+) -> Result<(u8, Vec<u8>, u64), Fail> {
     let words = words_of(alloc, &["scan", "x"])?;
     let mut source = MemSource::new(Bytes::new(alloc), Numbers::new(alloc));
     let writes = Numbers::from(Vec::from_slice(alloc, writes)?);
     let mut sink = MemSink::new(Bytes::new(alloc), writes);
-    let mut folders = Sequence::new(alloc);
-    folders.push(folder)?;
-    let mut outside = MemOutside::new(folders, Numbers::new(alloc));
+    let mut objects = MemObjects::new(alloc);
+    objects.folders.push(folder)?;
+    let mut outside: MemOutside<R> = MemOutside::new(objects, Numbers::new(alloc));
     let status = run(alloc, &words, &mut source, &mut sink, &mut outside);
     let written = Vec::from_slice(alloc, sink.as_slice())?;
     Ok((status, written, outside.faults()))
@@ -95,10 +102,14 @@ type Case<'a> = (
 );
 
 /// Whether a case comes out so.
-fn is_scanned(alloc: Global, case: &Case) -> Result<bool, Fail> {
+fn is_scanned<R: Wait + Clone + Send + Drop + 'static>(
+    rt: &R,
+    alloc: Global,
+    case: &Case,
+) -> Result<bool, Fail> {
     let (items, fails, writes, status, faults, text) = case;
     let folder = folder(alloc, items, fails)?;
-    let (answered, written, counted) = scanned(alloc, folder, writes)?;
+    let (answered, written, counted) = scanned(rt, alloc, folder, writes)?;
     Ok(answered == *status && counted == *faults && written.as_slice() == text.as_bytes())
 }
 
@@ -131,7 +142,7 @@ fn folders_have_their_listing(rt: HostRuntime) -> Result<(), Fail> {
         (&[], &[], &[1], 3, 0, ""),
     ];
     for case in cases {
-        let is = is_scanned(rt.alloc(), &case)?;
+        let is = is_scanned(&rt, rt.alloc(), &case)?;
         assert!(rt; is);
     }
     Ok(())

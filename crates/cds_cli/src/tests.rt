@@ -1,8 +1,10 @@
 //! Scripts and command lines whose answers are known from outside: the rules of the report, worked by hand.
 
 use crate::run::run;
-use cds_base::{Bytes, MemOutside, MemSink, MemSource, Numbers, Sequence, Text, Words};
+use cds_base::{Bytes, MemObjects, MemOutside, MemSink, MemSource, Numbers, Text, Words};
 use std::alloc::Global;
+use std::marker::Send;
+use std::sync::Wait;
 use std::test::Fail;
 
 /// The words of a command line.
@@ -15,7 +17,8 @@ pub fn words_of(alloc: Global, words: &[&str]) -> Result<Words, Fail> {
 }
 
 /// What a run answers and leaves written, where these reads and these writes fail, counted from 1.
-pub fn play(
+pub fn play<R: Wait + Clone + Send + Drop + 'static>(
+    _rt: &R,
     alloc: Global,
     words: &[&str],
     script: &[u8],
@@ -29,7 +32,7 @@ pub fn play(
         Bytes::new(alloc),
         Numbers::from(Vec::from_slice(alloc, writes)?),
     );
-    let mut outside = MemOutside::new(Sequence::new(alloc), Numbers::new(alloc));
+    let mut outside: MemOutside<R> = MemOutside::new(MemObjects::new(alloc), Numbers::new(alloc));
     let status = run(alloc, &words, &mut source, &mut sink, &mut outside);
     let written = Vec::from_slice(alloc, sink.as_slice())?;
     Ok((status, written))
@@ -39,9 +42,13 @@ pub fn play(
 pub type Case<'a> = (&'a str, u8, &'a str);
 
 /// The first script that gives another status or another report.
-pub fn first_wrong<'a>(alloc: Global, cases: &[Case<'a>]) -> Result<Option<&'a str>, Fail> {
+pub fn first_wrong<'a, R: Wait + Clone + Send + Drop + 'static>(
+    rt: &R,
+    alloc: Global,
+    cases: &[Case<'a>],
+) -> Result<Option<&'a str>, Fail> {
     for (script, status, report) in cases {
-        let (answered, written) = play(alloc, &["replay"], script.as_bytes(), &[], &[])?;
+        let (answered, written) = play(rt, alloc, &["replay"], script.as_bytes(), &[], &[])?;
         if answered != *status || written.as_slice() != report.as_bytes() {
             return Ok(Some(*script));
         }
@@ -65,7 +72,7 @@ fn short_and_broken_scripts_give_their_reports(rt: HostRuntime) -> Result<(), Fa
         ("read\nask ", 1, "read none\nerror line 2\n"),
         ("at 5\nat 4\n", 1, "error line 2\n"),
     ];
-    assert_eq!(rt; first_wrong(alloc, &cases)?, None);
+    assert_eq!(rt; first_wrong(&rt, alloc, &cases)?, None);
     Ok(())
 }
 
@@ -76,20 +83,20 @@ fn limits_and_faults_have_their_statuses(rt: HostRuntime) -> Result<(), Fail> {
     for _ in 1..4096 {
         line.push(b'x')?;
     }
-    let (status, written) = play(alloc, &["replay"], line.as_slice(), &[], &[])?;
+    let (status, written) = play(&rt, alloc, &["replay"], line.as_slice(), &[], &[])?;
     assert_eq!(rt; status, 0);
     assert_eq!(rt; written.as_slice(), b"".as_slice());
     line.push(b'x')?;
-    let (status, written) = play(alloc, &["replay"], line.as_slice(), &[], &[])?;
+    let (status, written) = play(&rt, alloc, &["replay"], line.as_slice(), &[], &[])?;
     assert_eq!(rt; status, 6);
     assert_eq!(rt; written.as_slice(), b"error limit\n".as_slice());
-    let (status, written) = play(alloc, &["replay"], b"ask\n", &[1], &[])?;
+    let (status, written) = play(&rt, alloc, &["replay"], b"ask\n", &[1], &[])?;
     assert_eq!(rt; status, 2);
     assert_eq!(rt; written.as_slice(), b"".as_slice());
-    let (status, written) = play(alloc, &["replay"], b"ask\n", &[2], &[])?;
+    let (status, written) = play(&rt, alloc, &["replay"], b"ask\n", &[2], &[])?;
     assert_eq!(rt; status, 2);
     assert_eq!(rt; written.as_slice(), b"behind load\n".as_slice());
-    let (status, written) = play(alloc, &["replay"], b"ask\n", &[], &[1])?;
+    let (status, written) = play(&rt, alloc, &["replay"], b"ask\n", &[], &[1])?;
     assert_eq!(rt; status, 3);
     assert_eq!(rt; written.as_slice(), b"".as_slice());
     Ok(())
@@ -110,13 +117,13 @@ fn words_are_commands_or_not(rt: HostRuntime) -> Result<(), Fail> {
         (&["replay"], 0, ""),
     ];
     for (words, status, text) in cases {
-        let (answered, written) = play(alloc, words, b"", &[], &[])?;
+        let (answered, written) = play(&rt, alloc, words, b"", &[], &[])?;
         assert_eq!(rt; answered, status);
         assert_eq!(rt; written.as_slice(), text.as_bytes());
-        let (answered, _) = play(alloc, words, b"ask", &[], &[1])?;
+        let (answered, _) = play(&rt, alloc, words, b"ask", &[], &[1])?;
         assert_eq!(rt; answered, 3);
     }
-    let (status, written) = play(alloc, &["--help"], b"", &[], &[])?;
+    let (status, written) = play(&rt, alloc, &["--help"], b"", &[], &[])?;
     assert_eq!(rt; status, 0);
     assert!(rt; written.as_slice().starts_with(usage.as_bytes()));
     Ok(())

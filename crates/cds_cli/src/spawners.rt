@@ -1,0 +1,57 @@
+//! What starts threads of the system. That a thread runs what it was given is trusted.
+
+ghost use Rattle.std.specs.Prelude.{◌≡◌};
+
+use cds_base::{Attempt, Failed, Spawner};
+
+/// What starts threads of the system, and counts how often none could be made.
+#[derive(Drop)]
+pub struct RealSpawner {
+    started: u64,
+    faults: u64,
+}
+
+impl RealSpawner {
+    /// Nothing was started yet, and no call has failed.
+    pub fn new() -> Self
+        ensures started { result.started ≡ 0 }
+        ensures faults { result.faults ≡ 0 }
+    {
+        RealSpawner {
+            started: 0,
+            faults: 0,
+        }
+    }
+
+    /// How many jobs it started.
+    pub fn started(&self) -> u64
+        ensures { result ≡ self.now.started }
+    {
+        self.started
+    }
+
+    /// How many calls failed.
+    pub fn faults(&self) -> u64
+        ensures { result ≡ self.now.faults }
+    {
+        self.faults
+    }
+}
+
+impl Spawner for RealSpawner {
+    ghost started = { λ s. s.started };
+
+    ghost faults = { λ s. s.faults };
+
+    fn may_start(&mut self) -> Result<(), Failed> {
+        Ok(())
+    }
+
+    fn count(&mut self, attempt: Attempt) {
+        if attempt.is_made() {
+            self.started = self.started.saturating_add(1);
+        } else {
+            self.faults = self.faults.saturating_add(1);
+        }
+    }
+}
