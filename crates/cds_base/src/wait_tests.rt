@@ -1,6 +1,7 @@
 use crate::{
-    Bytes, Clock, Door, Failed, Gate, Job, Link, LinkFault, MemClock, MemConn, MemDoor, MemLink,
-    MemSink, MemSource, MemSpawner, Moments, NoGate, Numbers, Sequence, Sink, Source, Spawner,
+    Bytes, Clock, Door, Failed, Gate, Job, Link, LinkFault, LinkRequest, MemClock, MemConn,
+    MemDoor, MemLink, MemSink, MemSource, MemSpawner, Moments, NoGate, Numbers, Sequence, Sink,
+    Source, Spawner,
 };
 use std::alloc::Global;
 use std::convert::From;
@@ -38,33 +39,49 @@ fn shown(alloc: Global, answer: Result<Vec<u8>, LinkFault>) -> Result<String, Fa
     }
 }
 
+/// A link that gives these replies, and whose fourth call fails.
+fn link(alloc: Global, texts: [&str; 4]) -> Result<MemLink, Fail> {
+    let mut replies = Sequence::new(alloc);
+    for text in texts {
+        replies.push(bytes(alloc, text)?)?;
+    }
+    Ok(MemLink::new(alloc, replies, numbers(alloc, &[4])?))
+}
+
+/// Sends a request once, and shows what came of it.
+fn exchanged(alloc: Global, link: &mut MemLink, limit: usize) -> Result<String, Fail> {
+    let answer = link.exchange(alloc, "http://127.0.0.1/", b"GET", limit);
+    shown(alloc, answer)
+}
+
+/// Whether these are the requests that were sent with these limits.
+fn are_kept(requests: &[LinkRequest], limits: [usize; 6]) -> bool {
+    for (request, limit) in requests.iter().zip(limits) {
+        let is_same = request.url.as_str() == "http://127.0.0.1/" && request.limit == limit;
+        if !is_same || request.bytes.as_slice() != b"GET".as_slice() {
+            return false;
+        }
+    }
+    requests.len() == 6
+}
+
 #[test]
 fn links_in_memory_keep_all_requests(rt: HostRuntime) -> Result<(), Fail> {
     let alloc = rt.alloc();
-    let mut replies = Sequence::new(alloc);
-    for reply in ["abc", "abcd", "", "abc"] {
-        replies.push(bytes(alloc, reply)?)?;
-    }
-    let mut link = MemLink::new(alloc, replies, numbers(alloc, &[4])?);
-    let mut sent: usize = 0;
-    for (limit, want, faults) in [
-        (3, "reply of 3", 0),
-        (3, "a reply is longer than its limit", 1),
-        (0, "reply of 0", 1),
-        (3, "a link failed", 2),
-        (4, "reply of 3", 2),
-        (4, "a link failed", 3),
+    let mut link = link(alloc, ["abc", "abcd", "", "abc"])?;
+    for (limit, want, faults, sent) in [
+        (3, "reply of 3", 0, 1),
+        (3, "a reply is longer than its limit", 1, 2),
+        (0, "reply of 0", 1, 3),
+        (3, "a link failed", 2, 4),
+        (4, "reply of 3", 2, 5),
+        (4, "a link failed", 3, 6),
     ] {
-        let answer = link.exchange(alloc, "http://127.0.0.1/", b"GET", limit);
-        assert_eq!(rt; shown(alloc, answer)?.as_str(), want);
-        assert_eq!(rt; link.faults(), faults);
-        sent = sent.saturating_add(1);
-        assert_eq!(rt; link.requests().len(), sent);
+        let answer = exchanged(alloc, &mut link, limit)?;
+        assert_eq!(rt; answer.as_str(), want);
+        assert!(rt; link.faults() == faults && link.requests().len() == sent);
     }
-    for (request, limit) in link.requests().iter().zip([3, 3, 0, 3, 4, 4]) {
-        assert!(rt; request.url.as_str() == "http://127.0.0.1/" && request.limit == limit);
-        assert!(rt; request.bytes.as_slice() == b"GET".as_slice());
-    }
+    assert!(rt; are_kept(link.requests(), [3, 3, 0, 3, 4, 4]));
     Ok(())
 }
 
