@@ -29,6 +29,7 @@ pub fn scan<F: Folder>(alloc: Global, folder: &mut F) -> Result<Scan, ScanError>
     ensures refused { IfErr result (λ e. IsRefused (F.tree folder.old) (F.contents folder.old) (F.entry_faults folder.old) (F.entry_faults folder.new) e) }
     ensures read_faults { IfOk result (λ scan. Covers (count_by (λ file. is_read_fault file.error) scan.refused) (F.file_faults folder.old) (F.file_faults folder.new)) }
     ensures never_falls { F.file_faults folder.old ≤ F.file_faults folder.new }
+    ensures entry_faults_rise { F.entry_faults folder.old ≤ F.entry_faults folder.new }
     ensures ends { F.entries folder.new ≤ F.entries folder.old + 1048577 }
     ensures back { CameBack (F.opened folder.old) (F.opened folder.new) (F.returned folder.old) (F.returned folder.new) }
     ensures tree_stays { F.tree folder.new ≡ F.tree folder.old }
@@ -46,6 +47,7 @@ fn walk<F: Folder>(alloc: Global, folder: &mut F) -> Result<Found, ScanError>
     ensures walked { IfOk result (λ found. Walked (F.tree folder.old) (F.contents folder.old) found (F.file_faults folder.old) (F.file_faults folder.new)) }
     ensures refused { IfErr result (λ e. IsRefused (F.tree folder.old) (F.contents folder.old) (F.entry_faults folder.old) (F.entry_faults folder.new) e) }
     ensures never_falls { F.file_faults folder.old ≤ F.file_faults folder.new }
+    ensures entry_faults_rise { F.entry_faults folder.old ≤ F.entry_faults folder.new }
     ensures ends { F.entries folder.new ≤ F.entries folder.old + 1048577 }
     ensures back { CameBack (F.opened folder.old) (F.opened folder.new) (F.returned folder.old) (F.returned folder.new) }
     ensures tree_stays { F.tree folder.new ≡ F.tree folder.old }
@@ -73,6 +75,7 @@ fn take_next<F: Folder>(alloc: Global, folder: &mut F, found: &mut Found) -> Res
     ensures err { IfErr result (λ e. IsStepFault (F.tree folder.old) (F.contents folder.old) (F.given folder.old) found.old (F.entry_faults folder.old) (F.entry_faults folder.new) e) }
     ensures entry_faults_stay { IfOk result (λ _. F.entry_faults folder.new ≡ F.entry_faults folder.old) }
     ensures never_falls { F.file_faults folder.old ≤ F.file_faults folder.new }
+    ensures entry_faults_rise { F.entry_faults folder.old ≤ F.entry_faults folder.new }
     ensures ends { F.entries folder.new ≤ F.entries folder.old + 1 }
     ensures back { CameBack (F.opened folder.old) (F.opened folder.new) (F.returned folder.old) (F.returned folder.new) }
     ensures tree_stays { F.tree folder.new ≡ F.tree folder.old }
@@ -91,6 +94,7 @@ fn is_over<F: Folder>(alloc: Global, folder: &mut F) -> Result<bool, ScanError>
     ensures ok { IfOk result (λ over. IsOver over (F.tree folder.old) (F.given folder.old)) }
     ensures err { IfErr result (λ e. IsFolderFault (F.entry_faults folder.old) (F.entry_faults folder.new) e) }
     ensures ends { F.entries folder.new ≤ F.entries folder.old + 1 }
+    ensures entry_faults_rise { F.entry_faults folder.old ≤ F.entry_faults folder.new }
     ensures file_faults_stay { F.file_faults folder.new ≡ F.file_faults folder.old }
     ensures opened_stays { F.opened folder.new ≡ F.opened folder.old }
     ensures returned_stays { F.returned folder.new ≡ F.returned folder.old }
