@@ -1,0 +1,12 @@
+pub mod Adding
+pub mod Coming
+pub mod Counting
+pub mod Courses
+pub mod Crossing
+pub mod Few
+pub mod Free
+pub mod Lives
+pub mod Looks
+pub mod Rounds
+pub mod Scans
+pub mod Sends

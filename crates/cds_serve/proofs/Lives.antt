@@ -1,0 +1,565 @@
+-- The life of a server that listens, put together from its parts.
+use Rattle.std.proofs.Common.{◌≡◌, ◌≢◌, ◌⊎◌, inl, inr, ℕ, zero, suc, Bool, true, false, true≢false, ◌+◌, ◌-◌, ◌*◌, ◌/◌, ◌%◌, ◌^◌, ◌<◌, ◌≤◌, min, List, [], ◌∷◌, ◌++◌, length, take, Option, Some, None, Result, Ok, Err, IsErrAnd, IfErr, IfOk, OnOk, OnErr, refl, sym, ap, subst, ◌∙◌, append_assoc, append-nil, cond, nat_lt, is_some, unwrap_or, sum_by, div-add-mod', mod-lt, IfNone, IfSome, IsTrue, IsFalse, IsNone, arith, le_trans, length-append}
+use Rattle.std.proofs.lemmas.List.Sums.{sum_by-cons}
+use Rattle.std.specs.Prelude.{⊤}
+use Rattle.std.specs.List.{AllByRecursion}
+use Rattle.cds_base.specs.Asked.{Asked, ForClock, ForLink, OutsideRose}
+use Rattle.cds_base.specs.declared.exterior.OutsideFault.{OutsideFault}
+use Rattle.cds_base.specs.declared.exterior.OutsideFault.TheVariants as outside_fault
+use Rattle.cds_base.specs.Entries.{Told}
+use Rattle.cds_base.specs.Outside.{HoldsPart, Rose, raised}
+use Rattle.cds_serve.specs.Jobs.{DoorTold}
+use Rattle.cds_serve.specs.Life.{AreCounts, Asks, AsksFor, Counts, EndsLife, IsCaused, Outer, OutsideTold, Served, Stops, Takes, WritesLife, WritesLine, fault_of, life_asks, life_text, served_line, serving_line, share_of, status_of, worker_asks}
+use Rattle.cds_serve.specs.declared.life.Fault.{Fault}
+use Rattle.cds_serve.specs.declared.life.Fault.TheVariants as fault
+use Rattle.cds_serve.proofs.Rounds.{rose-more, rose-on}
+
+-- ---- fronts of lists
+
+take-front : {A : Type 0} (xs ys : List A) (n : ℕ) → take (length xs + n) (xs ++ ys) ≡ xs ++ take n ys
+take-front [] ys n = ap (λ k. take k ys) (zero-plus n)
+  where
+    zero-plus : (n : ℕ) → 0 + n ≡ n
+    zero-plus n = omega arith
+take-front (x ∷ xs) ys n = ap (λ k. take k (x ∷ xs ++ ys)) (one-up (length xs) n) ∙ ap (λ l. x ∷ l) (take-front xs ys n)
+  where
+    one-up : (k n : ℕ) → suc k + n ≡ suc (k + n)
+    one-up k n = omega arith
+
+-- a front of a list is one of a longer list
+front-more : {A : Type 0} (n : ℕ) (xs ys : List A) → (m : ℕ) × (take m (xs ++ ys) ≡ take n xs)
+front-more zero xs ys = (0, refl)
+front-more (suc n) [] ys = (0, refl)
+front-more (suc n) (x ∷ xs) ys = let r = front-more n xs ys in (suc r.0, ap (λ l. x ∷ l) r.1)
+
+-- ---- what the outside was asked for
+
+pub asks-all : {A B : Type 0} (r : Result B Fault) (v : A) (xs ys : List Asked) (old mid new : Option (List Asked)) → AsksFor {A = A} (Ok v) xs old mid
+    → AsksFor r ys mid new → AsksFor r (xs ++ ys) old new
+asks-all (Ok w) v xs ys old mid new one other = λ list told. other (list ++ xs) (one list told) ∙ ap Some (append_assoc list xs ys)
+asks-all (Err e) v xs ys old mid new one other = λ list told.
+    let h = other (list ++ xs) (one list told) in
+    (length xs + h.0, h.1 ∙ ap Some (append_assoc list xs (take h.0 ys) ∙ ap (λ l. list ++ l) (sym (take-front xs ys h.0))))
+
+pub asks-front : (e : Fault) (xs ys : List Asked) (old new : Option (List Asked)) → AsksFor {A = ⊤} (Err e) xs old new
+    → AsksFor {A = ⊤} (Err e) (xs ++ ys) old new
+asks-front e xs ys old new one = λ list told.
+    let h = one list told in
+    let m = front-more h.0 xs ys in
+    (m.0, h.1 ∙ ap (λ l. Some (list ++ l)) (sym m.1))
+
+-- all of these, before an end
+pub asks-stopped : {A : Type 0} (e : Fault) (v : A) (xs ys : List Asked) (old new : Option (List Asked)) → AsksFor {A = A} (Ok v) xs old new
+    → AsksFor {A = ⊤} (Err e) (xs ++ ys) old new
+asks-stopped e v xs ys old new one = λ list told.
+    (length xs + 0, one list told ∙ ap (λ l. Some (list ++ l)) (sym (append-nil xs) ∙ sym (take-front xs ys 0)))
+
+-- nothing yet
+pub asks-none : (e : Fault) (xs : List Asked) (old : Option (List Asked)) → AsksFor {A = ⊤} (Err e) xs old old
+asks-none e xs old = λ list told. (0, told ∙ ap Some (sym (append-nil list)))
+
+-- ---- causes
+
+pub caused-as : (e : Fault) (P Q P' Q' : Type 0) → IsCaused {A = ⊤} (Err e) P Q → (P → P') → (Q → Q') → IsCaused {A = ⊤} (Err e) P' Q'
+caused-as fault.Sink P Q P' Q' c f g = f c
+caused-as fault.Mem P Q P' Q' c f g = tt
+caused-as fault.Outside P Q P' Q' c f g = g c
+
+pub cause-as : {A : Type 0} (r : Result A Fault) (P Q P' Q' : Type 0) → IsCaused r P Q → (P → P') → (Q → Q') → IsCaused r P' Q'
+cause-as (Ok v) P Q P' Q' c f g = tt
+cause-as {A} (Err e) P Q P' Q' c f g = caused-as e P Q P' Q' c f g
+
+never : {P : Type 0} → ⊥ → P
+never n = absurd n
+
+-- at the exit of a `?`
+pub exit : {B : Type 0} (P : Result B Fault → Type 0) (result : Result B Fault) (e : Fault) → IsErrAnd result (λ x. x ≡ e) → P (Err e) → P result
+exit P (Ok v) e err p = absurd err
+exit P (Err x) e err p = subst (λ (z : Fault). P (Err z)) (sym err) p
+
+pub on-ok : {B : Type 0} (result : Result B Fault) (P : Type 0) → P → OnOk result P
+on-ok (Ok v) P p = p
+on-ok (Err e) P p = tt
+
+pub regroup : {P Q S : Type 0} → P ⊎ Q → P ⊎ (Q ⊎ S)
+regroup (inl p) = inl p
+regroup (inr q) = inr (inl q)
+
+-- all of these, whatever comes then
+pub asks-over : {A B : Type 0} (result : Result B Fault) (v : A) (xs : List Asked) (old new : Option (List Asked)) → AsksFor {A = A} (Ok v) xs old new
+    → AsksFor result xs old new
+asks-over (Ok w) v xs old new one = one
+asks-over {A} {B} (Err e) v xs old new one = subst (λ l. AsksFor {A = B} (Err e) l old new) (append-nil xs) (asks-stopped e v xs [] old new one)
+
+-- ---- single asks
+
+module _ {A : Type 0} (a : Asked) (old new : OutsideTold) (told : Told old.asked (λ list. new.asked ≡ Some (list ++ a ∷ [])))
+    (up : old.faults ≤ new.faults) (connections : new.connections ≡ old.connections) (started : new.started ≡ old.started) where
+  asks-ok : (v : A) → Asks {A = A} (Ok v) (a ∷ []) old new
+  asks-ok v = record { asked = told; cause = tt; connections = connections; started = started; never_falls = up }
+
+  asks-err : (e : OutsideFault) → OutsideRose {A = A} (Err e) old.faults new.faults → Asks {A = A} (Err (fault_of e)) (a ∷ []) old new
+  asks-err outside_fault.Failed rose = record { asked = λ list is. (1, told list is); cause = rose; connections = connections; started = started; never_falls = up }
+  asks-err outside_fault.Mem rose = record { asked = λ list is. (1, told list is); cause = tt; connections = connections; started = started; never_falls = up }
+
+  pub asks-one : (answer : Result A OutsideFault) (result : Result A Fault) → IfOk answer (λ object. result ≡ Ok object)
+      → IfErr answer (λ f. result ≡ Err (fault_of f)) → OutsideRose answer old.faults new.faults → Asks result (a ∷ []) old new
+  asks-one (Ok v) result ok err rose = subst (λ r. Asks r (a ∷ []) old new) (sym ok) (asks-ok v)
+  asks-one (Err e) result ok err rose = subst (λ r. Asks r (a ∷ []) old new) (sym err) (asks-err e rose)
+
+-- what holds of an object that was given
+pub same-fact : {A : Type 0} (answer : Result A OutsideFault) (result : Result A Fault) (P : A → Type 0) → IfOk answer (λ object. result ≡ Ok object)
+    → IfErr answer (λ f. result ≡ Err (fault_of f)) → IfOk answer P → IfOk result P
+same-fact (Ok v) result P ok err p = subst (λ r. IfOk r P) (sym ok) p
+same-fact (Err e) result P ok err p = subst (λ r. IfOk r P) (sym err) tt
+
+pub both-facts : {A E : Type 0} (answer : Result A E) (P Q : A → Type 0) → IfOk answer P → IfOk answer Q → IfOk answer (λ object. P object × Q object)
+both-facts (Ok v) P Q p q = (p, q)
+both-facts (Err e) P Q p q = tt
+
+-- ---- asks one after another
+
+pub beside-door : {A : Type 0} (r : Result A Fault) (xs : List Asked) (old new : OutsideTold) (door : DoorTold) → Asks r xs old new
+    → Takes r xs old new door door
+beside-door r xs old new door a = record {
+  asked = a.asked;
+  cause = cause-as r ⊥ (Rose old.faults new.faults) ⊥ _ a.cause (λ n. n) inl;
+  connections = a.connections;
+  started = a.started;
+  never_falls = a.never_falls;
+  none_given = refl;
+  door_never_falls = omega arith;
+}
+
+pub takes-then : {A B : Type 0} (r : Result B Fault) (v : A) (xs ys : List Asked) (old mid new : OutsideTold) (door between after : DoorTold)
+    → Takes {A = A} (Ok v) xs old mid door between → Takes r ys mid new between after → Takes r (xs ++ ys) old new door after
+takes-then r v xs ys old mid new door between after a b = record {
+  asked = asks-all r v xs ys old.asked mid.asked new.asked a.asked b.asked;
+  cause = cause-as r ⊥ (Rose mid.faults new.faults ⊎ Rose between.faults after.faults) ⊥ _ b.cause (λ n. n) on;
+  connections = b.connections ∙ a.connections;
+  started = b.started ∙ a.started;
+  never_falls = le_trans a.never_falls b.never_falls;
+  none_given = b.none_given ∙ a.none_given;
+  door_never_falls = le_trans a.door_never_falls b.door_never_falls;
+}
+  where
+    on : Rose mid.faults new.faults ⊎ Rose between.faults after.faults → Rose old.faults new.faults ⊎ Rose door.faults after.faults
+    on (inl rose) = inl (rose-on old.faults mid.faults new.faults a.never_falls rose)
+    on (inr rose) = inr (rose-on door.faults between.faults after.faults a.door_never_falls rose)
+
+pub takes-front : {A B : Type 0} (e : Fault) (xs ys : List Asked) (old new : OutsideTold) (door after : DoorTold) → Takes {A = A} (Err e) xs old new door after
+    → Takes {A = B} (Err e) (xs ++ ys) old new door after
+takes-front e xs ys old new door after a = record {
+  asked = asks-front e xs ys old.asked new.asked a.asked;
+  cause = caused-as e ⊥ _ ⊥ _ a.cause (λ n. n) (λ q. q);
+  connections = a.connections;
+  started = a.started;
+  never_falls = a.never_falls;
+  none_given = a.none_given;
+  door_never_falls = a.door_never_falls;
+}
+
+-- at an exit
+pub takes-exit : {A B : Type 0} (result : Result B Fault) (e : Fault) (xs ys : List Asked) (old new : OutsideTold) (door after : DoorTold)
+    → IsErrAnd result (λ x. x ≡ e) → Takes {A = A} (Err e) xs old new door after → Takes result (xs ++ ys) old new door after
+takes-exit {A} {B} (Ok v) e xs ys old new door after err a = absurd err
+takes-exit {A} {B} (Err x) e xs ys old new door after err a =
+    subst (λ (z : Fault). Takes {A = B} (Err z) (xs ++ ys) old new door after) (sym err) (takes-front e xs ys old new door after a)
+
+-- want of memory at an exit, after all these
+pub takes-no-memory : {A B : Type 0} (result : Result B Fault) (v : A) (xs ys : List Asked) (old new : OutsideTold) (door after : DoorTold)
+    → IsErrAnd result (λ x. x ≡ fault.Mem) → Takes {A = A} (Ok v) xs old new door after → Takes result (xs ++ ys) old new door after
+takes-no-memory {A} {B} (Ok w) v xs ys old new door after err a = absurd err
+takes-no-memory {A} {B} (Err x) v xs ys old new door after err a =
+    subst (λ (z : Fault). Takes {A = B} (Err z) (xs ++ ys) old new door after) (sym err) (record {
+      asked = asks-stopped fault.Mem v xs ys old.asked new.asked a.asked;
+      cause = tt;
+      connections = a.connections;
+      started = a.started;
+      never_falls = a.never_falls;
+      none_given = a.none_given;
+      door_never_falls = a.door_never_falls;
+    })
+
+-- a handle of the door, after all these
+pub takes-handle : {A B : Type 0} (r : Result B Fault) (v : A) (xs : List Asked) (old new : OutsideTold) (door after : DoorTold)
+    → Takes {A = A} (Ok v) xs old new door door → IsCaused r ⊥ (Rose door.faults after.faults) → after.connections ≡ door.connections
+    → door.faults ≤ after.faults → Takes r xs old new door after
+takes-handle (Ok w) v xs old new door after a cause same up = record {
+  asked = a.asked;
+  cause = tt;
+  connections = a.connections;
+  started = a.started;
+  never_falls = a.never_falls;
+  none_given = same;
+  door_never_falls = up;
+}
+takes-handle {A} {B} (Err e) v xs old new door after a cause same up = record {
+  asked = subst (λ l. AsksFor {A = B} (Err e) l old.asked new.asked) (append-nil xs) (asks-stopped e v xs [] old.asked new.asked a.asked);
+  cause = caused-as e ⊥ (Rose door.faults after.faults) ⊥ _ cause (λ n. n) inr;
+  connections = a.connections;
+  started = a.started;
+  never_falls = a.never_falls;
+  none_given = same;
+  door_never_falls = up;
+}
+
+pub takes-none : (old : OutsideTold) (door : DoorTold) → Takes {A = ⊤} (Ok tt) [] old old door door
+takes-none old door = record {
+  asked = λ list told. told ∙ ap Some (sym (append-nil list));
+  cause = tt;
+  connections = refl;
+  started = refl;
+  never_falls = omega arith;
+  none_given = refl;
+  door_never_falls = omega arith;
+}
+
+pub takes-ok : {A B : Type 0} (v : A) (w : B) (xs : List Asked) (old new : OutsideTold) (door after : DoorTold) → Takes {A = A} (Ok v) xs old new door after
+    → Takes {A = B} (Ok w) xs old new door after
+takes-ok v w xs old new door after a = record {
+  asked = a.asked;
+  cause = tt;
+  connections = a.connections;
+  started = a.started;
+  never_falls = a.never_falls;
+  none_given = a.none_given;
+  door_never_falls = a.door_never_falls;
+}
+
+pub takes-as : {A : Type 0} (r : Result A Fault) (xs ys : List Asked) (old new : OutsideTold) (door after : DoorTold) → xs ≡ ys
+    → Takes r xs old new door after → Takes r ys old new door after
+takes-as r xs ys old new door after same a = subst (λ l. Takes r l old new door after) same a
+
+-- so many workers, and as many more
+pub workers-more : (m n : ℕ) → worker_asks m ++ worker_asks n ≡ worker_asks (m + n)
+workers-more zero n = ap worker_asks (zero-plus n)
+  where
+    zero-plus : (n : ℕ) → n ≡ 0 + n
+    zero-plus n = omega arith
+workers-more (suc m) n = ap (λ l. ForClock ∷ ForLink ∷ l) (workers-more m n) ∙ ap worker_asks (one-up m n)
+  where
+    one-up : (m n : ℕ) → suc (m + n) ≡ suc m + n
+    one-up m n = omega arith
+
+-- those of the first so many, of the next one, and of the others
+pub worker-next : (k : ℕ) → k < 4 → (worker_asks k ++ (ForClock ∷ ForLink ∷ [])) ++ worker_asks (3 - k) ≡ worker_asks 4
+worker-next k within =
+    ap (λ l. l ++ worker_asks (3 - k)) (workers-more k 1) ∙ workers-more (k + 1) (3 - k) ∙ ap worker_asks (four k within)
+  where
+    four : (k : ℕ) → k < 4 → (k + 1) + (3 - k) ≡ 4
+    four k within = omega (arith, within)
+
+-- one element more, of which the same holds
+pub all-more : {A : Type 0} (P : A → Type 0) (xs : List A) (x : A) → AllByRecursion P xs → P x → AllByRecursion P (xs ++ x ∷ [])
+all-more P [] x all p = (p, tt)
+all-more P (y ∷ ys) x all p = (all.0, all-more P ys x all.1 p)
+
+pub all-front : {A : Type 0} (P : A → Type 0) (n : ℕ) (xs : List A) → AllByRecursion P xs → AllByRecursion P (take n xs)
+all-front P zero xs all = tt
+all-front P (suc n) [] all = tt
+all-front P (suc n) (x ∷ xs) all = (all.0, all-front P n xs all.1)
+
+-- of the first, and of the others
+pub all-first : {A : Type 0} (P : A → Type 0) (xs ys : List A) (x : A) → xs ≡ x ∷ ys → AllByRecursion P xs → P x × AllByRecursion P ys
+all-first P xs ys x is all = subst (AllByRecursion P) is all
+
+pub all-at : {A : Type 0} (P : A → Type 0) (xs ys : List A) (x : A) → AllByRecursion P (xs ++ x ∷ ys) → P x
+all-at P [] ys x all = all.0
+all-at P (y ∷ xs) ys x all = all-at P xs ys x all.1
+
+-- of one among all of which it holds
+pub all-from : {A : Type 0} (P : A → Type 0) (all xs ys : List A) (x : A) → xs ++ x ∷ ys ≡ all → AllByRecursion P all → P x
+all-from P all xs ys x is h = all-at P xs ys x (subst (AllByRecursion P) (sym is) h)
+
+-- the workers that were taken so far, and one more
+pub takes-next : {A : Type 0} (k : ℕ) (n : ℕ) (v : A) (old mid new : OutsideTold) (door between after : DoorTold) → n ≡ k + 1
+    → Takes {A = ⊤} (Ok tt) (worker_asks k) old mid door between → Takes {A = A} (Ok v) (ForClock ∷ ForLink ∷ []) mid new between after
+    → Takes {A = ⊤} (Ok tt) (worker_asks n) old new door after
+takes-next k n v old mid new door between after is one next =
+    takes-as (Ok tt) (worker_asks k ++ (ForClock ∷ ForLink ∷ [])) (worker_asks n) old new door after
+    (workers-more k 1 ∙ ap worker_asks (sym is))
+    (takes-ok v tt _ old new door after (takes-then (Ok v) tt (worker_asks k) (ForClock ∷ ForLink ∷ []) old mid new door between after one next))
+
+-- ---- counts that come back
+
+pub raised-twice : (old one two : ℕ) → raised (raised old one) two ≡ raised old (one + two)
+raised-twice old one two = twice old one two (2 ^ 64 - 1)
+  where
+    twice : (old one two top : ℕ) → min (min (old + one) top + two) top ≡ min (old + (one + two)) top
+    twice old one two top = omega arith
+
+pub rose-spawned : (old mid new door door' spawner spawner' : ℕ) → old ≤ mid → Rose mid new ⊎ Rose spawner spawner'
+    → Rose old new ⊎ (Rose door door' ⊎ Rose spawner spawner')
+rose-spawned old mid new door door' spawner spawner' up (inl rose) = inl (rose-on old mid new up rose)
+rose-spawned old mid new door door' spawner spawner' up (inr rose) = inr (inr rose)
+
+pub on-ok-as : {B : Type 0} (result : Result B Fault) (P Q : Type 0) → (P → Q) → OnOk result P → OnOk result Q
+on-ok-as (Ok v) P Q f p = f p
+on-ok-as (Err e) P Q f p = tt
+
+-- an object with faults came back
+pub rose-back : (old mid new before faults : ℕ) → before ≡ 0 → Rose before faults → new ≡ raised mid (min 1 faults) → old ≤ mid → Rose old new
+rose-back old mid new before faults none (inl some) is up = once old mid new before faults (2 ^ 64 - 1) none some is up
+  where
+    once : (old mid new before faults top : ℕ) → before ≡ 0 → before < faults → new ≡ min (mid + min 1 faults) top → old ≤ mid → (old < new) ⊎ (top ≤ new)
+    once old mid new before faults top none some is up = grind (arith, none, some, is, up)
+rose-back old mid new before faults none (inr most) is up = once old mid new faults (2 ^ 64 - 1) most is up
+  where
+    once : (old mid new faults top : ℕ) → 2 ^ 64 - 1 ≤ faults → new ≡ min (mid + min 1 faults) top → old ≤ mid → (old < new) ⊎ (top ≤ new)
+    once old mid new faults top most is up = grind (arith, most, is, up)
+
+pub rose-door : (old mid now new door door' spawner spawner' : ℕ) → old ≤ mid → mid ≤ now → now ≤ new → spawner ≡ 0
+    → new ≡ raised now (min 1 spawner') → Rose mid now ⊎ (Rose door door' ⊎ Rose spawner spawner') → Rose old new ⊎ Rose door door'
+rose-door old mid now new door door' spawner spawner' up on later none is (inl rose) =
+    inl (rose-on old mid new up (rose-more mid now new rose later))
+rose-door old mid now new door door' spawner spawner' up on later none is (inr (inl rose)) = inr rose
+rose-door old mid now new door door' spawner spawner' up on later none is (inr (inr rose)) =
+    inl (rose-back old now new spawner spawner' none rose is (le_trans up on))
+
+-- the door came back
+pub rose-whole : (old mid now new door door' : ℕ) → old ≤ mid → mid ≤ now → now ≤ new → door ≡ 0 → new ≡ raised now (min 1 door')
+    → Rose mid now ⊎ Rose door door' → Rose old new
+rose-whole old mid now new door door' up on later none is (inl rose) = rose-on old mid new up (rose-more mid now new rose later)
+rose-whole old mid now new door door' up on later none is (inr rose) = rose-back old now new door door' none rose is (le_trans up on)
+
+pub up-back : (old mid new by : ℕ) → old < 2 ^ 64 → new ≡ raised mid by → old ≤ mid → old ≤ new
+up-back old mid new by small is up = omega (arith, small, is, up)
+
+-- six jobs were started
+pub six-started : (old new started none : ℕ) → none ≡ 0 → ((n : ℕ) → raised started n ≡ raised none (6 + n)) → new ≡ raised old started → new ≡ raised old 6
+six-started old new started none empty six is = is ∙ ap (raised old) (by started none empty (six 0))
+  where
+    by : (started none : ℕ) → none ≡ 0 → raised started 0 ≡ raised none (6 + 0) → started ≡ 6
+    by started none empty e = omega (arith, empty, e)
+
+-- a door that gave nothing came back
+pub gave-none : (old mid new requests given : ℕ) → given ≡ 0 → ((n : ℕ) → raised mid n ≡ raised old (requests + n)) → new ≡ raised mid given
+    → new ≡ raised old requests
+gave-none old mid new requests given empty all is =
+    is ∙ ap (raised mid) empty ∙ all 0 ∙ ap (raised old) (plus-none requests)
+  where
+    plus-none : (n : ℕ) → n + 0 ≡ n
+    plus-none n = omega arith
+
+-- ---- what was written
+
+some-is : {A : Type 0} (a b : List A) → Some a ≡ Some b → a ≡ b
+some-is a b e = ap (λ o. unwrap_or o []) e
+
+none-is-no : {A P : Type 0} (b : List A) → None ≡ Some b → P
+none-is-no b e = absurd (true≢false (sym (ap is_some e)))
+
+-- counts that are some, where nothing is told
+abbrev once : Counts
+once = record { accepted = 1; refused = 0; memory = 0 }
+
+once-are : AreCounts once
+once-are =
+    let some : 1 ≤ 1 + 0 + 0 = omega arith in
+    let one : 1 < 2 ^ 64 = omega arith in
+    let none : 0 < 2 ^ 64 = omega arith in
+    record { some = some; accepted = one; refused = none; memory = none }
+
+module _ (port requests : ℕ) where
+  all-counts : (before after : Option (List ℕ)) → WritesLife {A = ⊤} (Ok tt) port requests before after
+      → (counts : Counts) × AreCounts counts × Told before (λ held. after ≡ Some (held ++ life_text port requests counts))
+  all-counts None after w = (once, once-are, λ held told. none-is-no held told)
+  all-counts (Some bytes) after w =
+      let c = w bytes refl in
+      (c.0, c.1, λ held told. c.2 ∙ ap (λ h. Some (h ++ life_text port requests c.0)) (some-is bytes held told))
+
+  front-counts : (e : Fault) (before after : Option (List ℕ)) → WritesLife {A = ⊤} (Err e) port requests before after
+      → (counts : Counts) × AreCounts counts × Told before (λ held. HoldsPart held (life_text port requests counts) after)
+  front-counts e None after w = (once, once-are, λ held told. none-is-no held told)
+  front-counts e (Some bytes) after w =
+      let c = w bytes refl in
+      (c.0, c.1, λ held told. subst (λ h. HoldsPart h (life_text port requests c.0) after) (some-is bytes held told) c.2)
+
+  -- nothing
+  pub writes-none : (e : Fault) (before : Option (List ℕ)) → WritesLife {A = ⊤} (Err e) port requests before before
+  writes-none e before = λ held told. (once, once-are, (0, omega arith, told ∙ ap Some (sym (append-nil held))))
+
+  -- a front of the first line
+  pub writes-first : (e : Fault) (before after : Option (List ℕ)) → WritesLine {A = ⊤} (Err e) (serving_line port) before after
+      → WritesLife {A = ⊤} (Err e) port requests before after
+  writes-first e before after w = λ held told.
+      let h = w held told in
+      let line = serving_line port in
+      let more = served_line requests once in
+      (once, once-are, (h.0, omega (arith, h.1, length-append line more), h.2 ∙ ap (λ l. Some (held ++ l)) (sym (take-within h.0 line more h.1))))
+    where
+      take-within : {A : Type 0} (n : ℕ) (xs ys : List A) → n ≤ length xs → take n (xs ++ ys) ≡ take n xs
+      take-within zero xs ys within = refl
+      take-within (suc n) [] ys within = absurd (omega (arith, within))
+      take-within (suc n) (x ∷ xs) ys within = ap (λ l. x ∷ l) (take-within n xs ys (omega (arith, within)))
+
+  -- the first line
+  pub writes-one : {A : Type 0} (e : Fault) (v : A) (before after : Option (List ℕ)) → WritesLine {A = A} (Ok v) (serving_line port) before after
+      → WritesLife {A = ⊤} (Err e) port requests before after
+  writes-one e v before after w = λ held told.
+      let line = serving_line port in
+      let more = served_line requests once in (
+        once,
+        once-are,
+        (
+          length line + 0,
+          omega (arith, length-append line more),
+          w held told ∙ ap (λ l. Some (held ++ l)) (sym (append-nil line) ∙ sym (take-front line more 0)),
+        ),
+      )
+
+  -- both lines, or the first and a front of the second
+  pub writes-both : {A B : Type 0} (result : Result B Fault) (v : A) (counts : Counts) (before mid after : Option (List ℕ)) → AreCounts counts
+      → WritesLine {A = A} (Ok v) (serving_line port) before mid → WritesLine result (served_line requests counts) mid after
+      → WritesLife result port requests before after
+  writes-both (Ok w) v counts before mid after are one other = λ held told.
+      (counts, are, other (held ++ serving_line port) (one held told) ∙ ap Some (append_assoc held (serving_line port) (served_line requests counts)))
+  writes-both (Err e) v counts before mid after are one other = λ held told.
+      let h = other (held ++ serving_line port) (one held told) in
+      let line = serving_line port in
+      let more = served_line requests counts in (
+        counts,
+        are,
+        (
+          length line + h.0,
+          omega (arith, h.1, length-append line more),
+          h.2 ∙ ap Some (append_assoc held line (take h.0 more) ∙ ap (λ l. held ++ l) (sym (take-front line more h.0))),
+        ),
+      )
+
+-- nothing of a line
+pub line-none : (e : Fault) (line : List ℕ) (before : Option (List ℕ)) → WritesLine {A = ⊤} (Err e) line before before
+line-none e line before = λ held told. (0, omega arith, told ∙ ap Some (sym (append-nil held)))
+
+pub line-as : {A : Type 0} (result : Result A Fault) (text line : List ℕ) (before after : Option (List ℕ)) → text ≡ line
+    → WritesLine result text before after → WritesLine result line before after
+line-as result text line before after same w = subst (λ l. WritesLine result l before after) same w
+
+-- ---- the whole
+
+module _ (port requests : ℕ) (path : List ℕ) (old new : Outer) where
+  stops : (e : Fault) → WritesLife {A = ⊤} (Err e) port requests old.holds new.holds → AsksFor {A = ⊤} (Err e) (life_asks port path) old.asked new.asked
+      → Stops port path requests old new
+  stops e w a =
+      let c = front-counts port requests e old.holds new.holds w in
+      record { counts = c.0; are_counts = c.1; written = c.2; asked = a }
+
+  by-result : (result : Result ⊤ Fault) → IsCaused result (Rose old.sink_faults new.sink_faults) (Rose old.faults new.faults)
+      → WritesLife result port requests old.holds new.holds → AsksFor result (life_asks port path) old.asked new.asked
+      → OnOk result (new.connections ≡ raised old.connections requests) → OnOk result (new.started ≡ raised old.started 6)
+      → EndsLife port path requests (status_of result) old new
+  by-result (Ok value) cause w a connections started =
+      let c = all-counts port requests old.holds new.holds w in
+      inl (refl, record { counts = c.0; are_counts = c.1; written = c.2; connections = connections; started = started; asked = a })
+  by-result (Err fault.Sink) cause w a connections started = inr (inl (refl, cause, stops fault.Sink w a))
+  by-result (Err fault.Mem) cause w a connections started = inr (inr (inl (refl, stops fault.Mem w a)))
+  by-result (Err fault.Outside) cause w a connections started = inr (inr (inr (refl, cause, stops fault.Outside w a)))
+
+  pub ends-life : (result : Result ⊤ Fault) (status : ℕ) → status ≡ status_of result
+      → IsCaused result (Rose old.sink_faults new.sink_faults) (Rose old.faults new.faults)
+      → WritesLife result port requests old.holds new.holds → AsksFor result (life_asks port path) old.asked new.asked
+      → OnOk result (new.connections ≡ raised old.connections requests) → OnOk result (new.started ≡ raised old.started 6)
+      → EndsLife port path requests status old new
+  ends-life result status is cause w a connections started =
+      subst (λ n. EndsLife port path requests n old new) (sym is) (by-result result cause w a connections started)
+
+-- ---- the shares
+
+abbrev pub shares_below : ℕ → ℕ → ℕ
+shares_below requests zero = 0
+shares_below requests (suc n) = shares_below requests n + share_of requests n
+
+shares-by : ℕ → ℕ → ℕ
+shares-by q m =
+    0 + (q + (cond (nat_lt 0 m) 1 0)) + (q + (cond (nat_lt 1 m) 1 0)) + (q + (cond (nat_lt 2 m) 1 0)) + (q + (cond (nat_lt 3 m) 1 0))
+
+pub all-shares : (requests : ℕ) → shares_below requests 4 ≡ requests
+unfolding shares-by
+all-shares requests = four (requests / 4) (requests % 4) (mod-lt requests (omega arith)) ∙ whole requests
+  where
+    whole : (n : ℕ) → (n / 4) * 4 + n % 4 ≡ n
+    whole n = div-add-mod' n 4
+
+    four : (q m : ℕ) → m < 4 → shares-by q m ≡ q * 4 + m
+    four q zero small = let sum : shares-by q 0 ≡ 0 + (q + 0) + (q + 0) + (q + 0) + (q + 0) = refl in omega (arith, sum)
+    four q (suc zero) small = let sum : shares-by q 1 ≡ 0 + (q + 1) + (q + 0) + (q + 0) + (q + 0) = refl in omega (arith, sum)
+    four q (suc (suc zero)) small = let sum : shares-by q 2 ≡ 0 + (q + 1) + (q + 1) + (q + 0) + (q + 0) = refl in omega (arith, sum)
+    four q (suc (suc (suc zero))) small = let sum : shares-by q 3 ≡ 0 + (q + 1) + (q + 1) + (q + 1) + (q + 0) = refl in omega (arith, sum)
+    four q (suc (suc (suc (suc m)))) small = absurd (omega (arith, small))
+
+pub shares-next : (requests n : ℕ) → shares_below requests (n + 1) ≡ shares_below requests n + share_of requests n
+shares-next requests n = ap (shares_below requests) (one-up n)
+  where
+    one-up : (n : ℕ) → n + 1 ≡ suc n
+    one-up n = omega arith
+
+-- ---- all jobs
+
+-- a job that is what was passed has what that had
+pub some-as : {A : Type 0} (o : Option A) (x : A) (P : A → Type 0) → IfSome o (λ r. r ≡ x) → P x → IfSome o P
+some-as (Some v) x P same p = subst P (sym same) p
+some-as None x P same p = tt
+
+-- one worker more was joined, and its door came back
+pub joined-more : (total served sum share whole : ℕ) (old mid new before faults : ℕ) → (total ≡ sum) ⊎ Rose old mid
+    → (served ≡ share) ⊎ Rose before faults → before ≡ 0 → new ≡ raised mid (min 1 faults) → old ≤ mid → mid ≤ new → whole ≡ sum + share
+    → (total + served ≡ whole) ⊎ Rose old new
+joined-more total served sum share whole old mid new before faults (inl all) (inl its) none is up on sums = inl (omega (arith, all, its, sums))
+joined-more total served sum share whole old mid new before faults (inl all) (inr rose) none is up on sums = inr (rose-back old mid new before faults none rose is up)
+joined-more total served sum share whole old mid new before faults (inr rose) its none is up on sums = inr (rose-more old mid new rose on)
+
+-- the connections of one door more
+pub gave-more : (old mid new total served before gave : ℕ) → ((n : ℕ) → raised mid n ≡ raised old (total + n)) → before ≡ 0
+    → raised gave 0 ≡ raised before served → new ≡ raised mid gave → (n : ℕ) → raised new n ≡ raised old ((total + served) + n)
+gave-more old mid new total served before gave so-far none its is n =
+    more mid new served before gave n (2 ^ 64 - 1) none its is ∙ so-far (served + n) ∙ ap (raised old) (regrouped total served n)
+  where
+    more : (mid new served before gave n top : ℕ) → before ≡ 0 → min (gave + 0) top ≡ min (before + served) top → new ≡ min (mid + gave) top
+        → min (new + n) top ≡ min (mid + (served + n)) top
+    more mid new served before gave n top none its is = omega (arith, none, its, is)
+
+    regrouped : (a b c : ℕ) → a + (b + c) ≡ (a + b) + c
+    regrouped a b c = omega arith
+
+pub front-sum : {A : Type 0} (f : A → ℕ) (n : ℕ) (xs : List A) → sum_by f (take n xs) ≤ sum_by f xs
+front-sum f zero xs = let none : sum_by f [] ≡ 0 = refl in omega (arith, none)
+front-sum f (suc n) [] = omega arith
+front-sum f (suc n) (x ∷ xs) = let h = front-sum f n xs in omega (arith, h, sum_by-cons f x xs, sum_by-cons f x (take n xs))
+
+pub six-jobs : (k n : ℕ) → k ≡ 4 → k + 2 + n ≡ 6 + n
+six-jobs k n four = omega (arith, four)
+
+-- where none is there
+pub none-then : {A : Type 0} (o : Option A) (P : Type 0) → is_some o ≡ false → IfNone o P → P
+none-then (Some v) P is p = absurd (true≢false is)
+none-then None P is p = p
+
+-- fewer connections were served than all the shares
+pub served-cut : (served sum requests : ℕ) (P : Type 0) → (served ≡ sum) ⊎ P → sum ≡ requests → served ≢ requests → P
+served-cut served sum requests P (inl all) whole few = absurd (few (all ∙ whole))
+served-cut served sum requests P (inr p) whole few = p
+
+-- what comes of all jobs
+module _ {A : Type 0} (started : Bool) (served requests : ℕ) (counts : Option A) where
+  pub counts-given : (result : Result A Fault) (P : A → Type 0) → IfOk result (λ given. (counts ≡ Some given) × IsTrue started × (served ≡ requests))
+      → IfSome counts P → IfOk result P
+  counts-given (Ok v) P h p = subst (λ o. IfSome o P) h.0 p
+  counts-given (Err e) P h p = tt
+
+  pub well-given : (result : Result A Fault) (P : Type 0) → IfOk result (λ given. (counts ≡ Some given) × IsTrue started × (served ≡ requests))
+      → (IsTrue started → served ≡ requests → P) → OnOk result P
+  well-given (Ok v) P h f = f h.1 h.2
+  well-given (Err e) P h f = tt
+
+  module _ (P Q : Type 0) (off : IsFalse started → Q) (cut : IsTrue started → served ≢ requests → P) (none : IsTrue started → IsNone counts → ⊥) where
+    why : (b : Bool) → started ≡ b → IsFalse started ⊎ ((served ≢ requests) ⊎ IsNone counts) → P ⊎ Q
+    why false is h = inr (off is)
+    why true is (inl not-started) = inr (off not-started)
+    why true is (inr (inl few)) = inl (cut is few)
+    why true is (inr (inr nothing)) = absurd (none is nothing)
+
+    pub crew-cause : (result : Result A Fault)
+        → IfErr result (λ e. (e ≡ fault.Outside) × (IsFalse started ⊎ ((served ≢ requests) ⊎ IsNone counts))) → IsCaused result ⊥ (P ⊎ Q)
+    crew-cause (Ok v) h = tt
+    crew-cause (Err e) h = subst (λ (z : Fault). IsCaused {A = A} (Err z) ⊥ (P ⊎ Q)) (sym h.0) (why started refl h.1)

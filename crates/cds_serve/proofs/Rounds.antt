@@ -1,0 +1,277 @@
+-- Scans one after another: what the counts of a scanner say of them.
+use Rattle.std.proofs.Common.{◌≡◌, ◌≢◌, ◌⊎◌, inl, inr, ℕ, Bool, true, false, true≢false, ◌+◌, ◌-◌, ◌^◌, ◌<◌, ◌≤◌, min, List, [], ◌∷◌, ◌++◌, Result, Ok, Err, IfErr, IsTrue, OnOk, refl, sym, ap, subst, ◌∙◌, append_assoc, arith, le_trans}
+use Rattle.std.proofs.Math.Nat.{le-min, min-le_left}
+use Rattle.cds_base.specs.Entries.{FolderTold}
+use Rattle.cds_base.specs.Outside.{Rose, raised}
+use Rattle.cds_catalog.specs.Library.{map_of}
+use Rattle.cds_catalog.specs.Scans.{Accepted, BadRecord, NoNumbers, ScanAnswer, TooMany, scan_answer}
+use Rattle.cds_commands.specs.Commands.{Command, Start, Scans, Grants, Renews, Ends, Ticks, Stops, is_stopped, scans_of}
+use Rattle.cds_scan.specs.Scanning.{Covers, IsScan, IsStop}
+use Rattle.cds_scan.specs.declared.error.ScanError.{ScanError}
+use Rattle.cds_scan.specs.declared.error.ScanError.TheVariants as scan_error
+use Rattle.cds_scan.specs.declared.scanned.Scan.{Scan}
+use Rattle.cds_store.specs.declared.error.ApplyError.{ApplyError}
+use Rattle.cds_store.specs.declared.error.ApplyError.TheVariants as apply_error
+use Rattle.cds_turn.specs.Line.{Extends}
+use Rattle.cds_serve.specs.Counted.{counted}
+use Rattle.cds_serve.specs.Jobs.{CanRefuse, EndsScanning, IsUnacceptable, ScansSoFar, scans_in}
+use Rattle.cds_serve.specs.Scanned.{Across, Accepts, Declines, IsApplyRefusal, IsScanRefusal, MayGive, ScansOnce, TakesNone, TakesOne}
+use Rattle.cds_serve.specs.Told.{SeatTold}
+use Rattle.cds_serve.specs.declared.scanner.Counts.{Counts}
+use Rattle.cds_serve.specs.declared.scanning.ScanRefused.{ScanRefused}
+use Rattle.cds_serve.specs.declared.scanning.ScanRefused.TheVariants as refused
+use Rattle.cds_serve.proofs.Looks.{begun-through}
+
+-- ---- counts of faults
+
+pub rose-on : (old mid new : ℕ) → old ≤ mid → Rose mid new → Rose old new
+rose-on old mid new up (inl less) = inl (omega (arith, up, less))
+rose-on old mid new up (inr last) = inr last
+
+pub rose-more : (old mid new : ℕ) → Rose old mid → mid ≤ new → Rose old new
+rose-more old mid new (inl less) up = inl (omega (arith, up, less))
+rose-more old mid new (inr last) up = inr (le_trans last up)
+
+covers-on : (n old mid new : ℕ) → old ≤ mid → Covers n mid new → Covers n old new
+covers-on n old mid new up (inl less) = inl (omega (arith, up, less))
+covers-on n old mid new up (inr last) = inr last
+
+covers-more : (n old mid new : ℕ) → Covers n old mid → mid ≤ new → Covers n old new
+covers-more n old mid new (inl less) up = inl (omega (arith, up, less))
+covers-more n old mid new (inr last) up = inr (le_trans last up)
+
+-- ---- how many scans stand among commands
+
+more-scans : (added seen : List Command) → scans_in seen ≤ scans_in (added ++ seen)
+more-scans [] seen = omega arith
+more-scans (Scans library ∷ added) seen = let h = more-scans added seen in omega (arith, h)
+more-scans (Grants moment callback seconds ∷ added) seen = more-scans added seen
+more-scans (Renews moment name seconds ∷ added) seen = more-scans added seen
+more-scans (Ends moment name ∷ added) seen = more-scans added seen
+more-scans (Ticks moment ∷ added) seen = more-scans added seen
+more-scans (Stops ∷ added) seen = more-scans added seen
+
+pub scans-kept : (list seen : List Command) → Extends list seen → scans_in seen ≤ scans_in list
+scans-kept list seen e = subst (λ (l : List Command). scans_in seen ≤ scans_in l) (sym e.1) (more-scans e.0 seen)
+
+pub extends-itself : (seen list : List Command) → list ≡ seen → Extends list seen
+extends-itself seen list same = ([], same)
+
+-- whether an answer accepts a scan
+abbrev accepts : ScanAnswer → Bool
+accepts Accepted = true
+accepts (BadRecord line) = false
+accepts (TooMany objects) = false
+accepts (NoNumbers needed) = false
+
+-- ---- one scan more
+
+module _ (start : Start) (told old new : FolderTold) (tree : new.tree ≡ old.tree) (contents : new.contents ≡ old.contents)
+    (entries : old.entry_faults ≤ new.entry_faults) (files : old.file_faults ≤ new.file_faults) (tree_told : old.tree ≡ told.tree)
+    (contents_told : old.contents ≡ told.contents) (entries_told : told.entry_faults ≤ old.entry_faults)
+    (files_told : told.file_faults ≤ old.file_faults) where
+  -- a cause stays one
+  gives-later : (scan : Scan) → MayGive told old scan → MayGive told new scan
+  gives-later scan given = record { found = given.found; unread = covers-more _ told.file_faults old.file_faults new.file_faults given.unread files }
+
+  still-unacceptable : (seen later : List Command) → Extends later seen → IsUnacceptable start told old seen → IsUnacceptable start told new later
+  still-unacceptable seen later more u = record {
+    scan = u.scan;
+    given = gives-later u.scan u.given;
+    older = u.older;
+    begun = begun-through later seen u.older more u.begun;
+    refused = u.refused;
+  }
+
+  still-refuses : (seen later : List Command) → Extends later seen → CanRefuse start told old seen → CanRefuse start told new later
+  still-refuses seen later more (inl rose) = inl (rose-more told.entry_faults old.entry_faults new.entry_faults rose entries)
+  still-refuses seen later more (inr (inl stop)) = inr (inl stop)
+  still-refuses seen later more (inr (inr u)) = inr (inr (still-unacceptable seen later more u))
+
+  -- what a scan gave now, or why it was refused, is of the folder as it was told
+  stop-told : (error : ScanError) → IsStop old.tree old.contents error → IsStop told.tree told.contents error
+  stop-told error stop = subst (λ k. IsStop told.tree k error) contents_told (subst (λ t. IsStop t old.contents error) tree_told stop)
+
+  scan-told : (scan : Scan) → IsScan old.tree old.contents scan → IsScan told.tree told.contents scan
+  scan-told scan is = subst (λ k. IsScan told.tree k scan) contents_told (subst (λ t. IsScan t old.contents scan) tree_told is)
+
+  gives-told : (scan : Scan) → MayGive old new scan → MayGive told new scan
+  gives-told scan given = record {
+    found = scan-told scan given.found;
+    unread = covers-on _ told.file_faults old.file_faults new.file_faults files_told given.unread;
+  }
+
+  scan-refuses : (later : List Command) (error : ScanError) → IsScanRefusal old new error → CanRefuse start told new later
+  scan-refuses later scan_error.FolderFault rose = inl (rose-on told.entry_faults old.entry_faults new.entry_faults entries_told rose)
+  scan-refuses later (scan_error.TooDeep bytes) stop = inr (inl (scan_error.TooDeep bytes, stop-told (scan_error.TooDeep bytes) stop))
+  scan-refuses later (scan_error.Full objects) stop = inr (inl (scan_error.Full objects, stop-told (scan_error.Full objects) stop))
+  scan-refuses later scan_error.TooMany stop = inr (inl (scan_error.TooMany, stop-told scan_error.TooMany stop))
+  scan-refuses later scan_error.Mem none = absurd none
+
+  not-accepted : (found : List Command) (scan : Scan) (error : ApplyError) → IsApplyRefusal start found scan error
+      → scan_answer (scans_of start.first found) scan.records ≢ Accepted
+  not-accepted found scan (apply_error.BadRecords line) none = absurd none
+  not-accepted found scan (apply_error.Full objects) is = λ accepted. true≢false (sym (ap accepts accepted) ∙ ap accepts is)
+  not-accepted found scan (apply_error.Spent needed) is = λ accepted. true≢false (sym (ap accepts accepted) ∙ ap accepts is)
+  not-accepted found scan apply_error.Mem none = absurd none
+
+  server-refuses : (later found : List Command) (scan : Scan) (error : ApplyError) → MayGive old new scan → IsApplyRefusal start found scan error
+      → Extends later found → CanRefuse start told new later
+  server-refuses later found scan error given is more = inr (inr (record {
+    scan = scan;
+    given = gives-told scan given;
+    older = found;
+    begun = more;
+    refused = not-accepted found scan error is;
+  }))
+
+  -- so far with what a scan adds
+  with-scan : (first seen later : List Command) (accepted refused accepted' refused' : ℕ) → ScansSoFar start told old first seen accepted refused
+      → Extends later seen → scans_in first + accepted' ≤ scans_in later → (0 < refused' → CanRefuse start told new later)
+      → ScansSoFar start told new first later accepted' refused'
+  with-scan first seen later accepted refused accepted' refused' s more stands cause = record {
+    begun = begun-through later seen first more s.begun;
+    stands = stands;
+    cause = cause;
+    tree = tree ∙ s.tree;
+    contents = contents ∙ s.contents;
+    entry_faults = le_trans s.entry_faults entries;
+    file_faults = le_trans s.file_faults files;
+  }
+
+raised-some : (n : ℕ) → 1 ≤ raised n 1
+raised-some n = le-min (omega arith) (omega arith)
+
+raised-least : (n : ℕ) → raised n 1 ≤ n + 1
+raised-least n = min-le_left (n + 1) (2 ^ 64 - 1)
+
+-- what a scan makes of what was so far, by how it ended
+module _ (start : Start) (told : FolderTold) (first : List Command) (before now : ℕ) (old new : Across) (a b : Counts)
+    (tree : new.folder.tree ≡ old.folder.tree) (contents : new.folder.contents ≡ old.folder.contents)
+    (entries : old.folder.entry_faults ≤ new.folder.entry_faults) (files : old.folder.file_faults ≤ new.folder.file_faults)
+    (s : ScansSoFar start told old.folder first old.seat.seen a.accepted a.refused) where
+  same-cause : Extends new.seat.seen old.seat.seen → b.refused ≡ a.refused → 0 < b.refused → CanRefuse start told new.folder new.seat.seen
+  same-cause more same some =
+      still-refuses start told old.folder new.folder tree contents entries files s.tree s.contents s.entry_faults s.file_faults
+      old.seat.seen new.seat.seen more (s.cause (subst (λ n. 0 < n) same some))
+
+  so-far-accepted : Accepts start before now old new → b ≡ record a { accepted = raised a.accepted 1 }
+      → ScansSoFar start told new.folder first new.seat.seen b.accepted b.refused
+  so-far-accepted c is =
+      let seen : new.seat.seen ≡ Scans (map_of c.scan.records) ∷ c.found = ap (λ (t : SeatTold). t.seen) c.turn.seat in
+      let more : Extends new.seat.seen old.seat.seen =
+      (Scans (map_of c.scan.records) ∷ c.turn.begun.0, seen ∙ ap (λ l. Scans (map_of c.scan.records) ∷ l) c.turn.begun.1) in
+      let counted-once : b.accepted ≤ a.accepted + 1 = subst (λ n. n ≤ a.accepted + 1) (sym (ap (λ (k : Counts). k.accepted) is)) (raised-least a.accepted) in
+      let kept = scans-kept c.found old.seat.seen c.turn.begun in
+      let one : scans_in new.seat.seen ≡ scans_in c.found + 1 = ap scans_in seen in
+      with-scan start told old.folder new.folder tree contents entries files s.tree s.contents s.entry_faults s.file_faults
+      first old.seat.seen new.seat.seen a.accepted a.refused b.accepted b.refused s more
+      (omega (arith, s.stands, kept, one, counted-once)) (same-cause more (ap (λ (k : Counts). k.refused) is))
+
+  -- what was seen is the same, and no scan is counted as accepted
+  so-far-same : new.seat.seen ≡ old.seat.seen → b.accepted ≡ a.accepted → (0 < b.refused → CanRefuse start told new.folder new.seat.seen)
+      → ScansSoFar start told new.folder first new.seat.seen b.accepted b.refused
+  so-far-same seen accepted cause =
+      with-scan start told old.folder new.folder tree contents entries files s.tree s.contents s.entry_faults s.file_faults
+      first old.seat.seen new.seat.seen a.accepted a.refused b.accepted b.refused s (extends-itself old.seat.seen new.seat.seen seen)
+      (omega (arith, s.stands, accepted, ap scans_in seen)) cause
+
+  -- it begins with what was seen, and no scan is counted as accepted
+  so-far-more : Extends new.seat.seen old.seat.seen → b.accepted ≡ a.accepted → (0 < b.refused → CanRefuse start told new.folder new.seat.seen)
+      → ScansSoFar start told new.folder first new.seat.seen b.accepted b.refused
+  so-far-more more accepted cause =
+      let kept = scans-kept new.seat.seen old.seat.seen more in
+      with-scan start told old.folder new.folder tree contents entries files s.tree s.contents s.entry_faults s.file_faults
+      first old.seat.seen new.seat.seen a.accepted a.refused b.accepted b.refused s more (omega (arith, s.stands, accepted, kept)) cause
+
+  pub one-more : {A : Type 0} (result : Result A ScanRefused) → ScansOnce start result before now old new
+      → OnOk result (b ≡ record a { accepted = raised a.accepted 1 }) → IfErr result (λ refusal. b ≡ counted a refusal)
+      → ScansSoFar start told new.folder first new.seat.seen b.accepted b.refused
+  one-more (Ok value) c is none = so-far-accepted c is
+  one-more (Err (refused.Scan error)) c none is =
+      so-far-same (ap (λ (t : SeatTold). t.seen) c.1.0) (ap (λ (k : Counts). k.accepted) is)
+      (λ some. scan-refuses start told old.folder new.folder tree contents entries files s.tree s.contents s.entry_faults s.file_faults
+      new.seat.seen error c.0)
+  one-more (Err (refused.Apply error)) c none is =
+      let seen : new.seat.seen ≡ c.found = ap (λ (t : SeatTold). t.seen) c.turn.seat in
+      so-far-more (subst (λ l. Extends l old.seat.seen) (sym seen) c.turn.begun) (ap (λ (k : Counts). k.accepted) is)
+      (λ some. server-refuses start told old.folder new.folder tree contents entries files s.tree s.contents s.entry_faults s.file_faults
+      new.seat.seen c.found c.scan error c.given c.refused (extends-itself c.found new.seat.seen seen))
+  one-more (Err refused.Mem) (inl none-taken) none is =
+      let seen : new.seat.seen ≡ old.seat.seen = ap (λ (t : SeatTold). t.seen) none-taken.0 in
+      so-far-same seen (ap (λ (k : Counts). k.accepted) is) (same-cause (extends-itself old.seat.seen new.seat.seen seen) (ap (λ (k : Counts). k.refused) is))
+  one-more (Err refused.Mem) (inr taken) none is =
+      let seen : new.seat.seen ≡ taken.0 = ap (λ (t : SeatTold). t.seen) taken.1.seat in
+      let more : Extends new.seat.seen old.seat.seen = subst (λ l. Extends l old.seat.seen) (sym seen) taken.1.begun in
+      so-far-more more (ap (λ (k : Counts). k.accepted) is) (same-cause more (ap (λ (k : Counts). k.refused) is))
+
+-- each scan is counted
+pub some-counted : {A : Type 0} (result : Result A ScanRefused) (a b : Counts) → OnOk result (b ≡ record a { accepted = raised a.accepted 1 })
+    → IfErr result (λ refusal. b ≡ counted a refusal) → 1 ≤ b.accepted + b.refused + b.memory
+some-counted (Ok value) a b is none =
+    let one : 1 ≤ b.accepted = subst (λ n. 1 ≤ n) (sym (ap (λ (k : Counts). k.accepted) is)) (raised-some a.accepted) in
+    omega (arith, one)
+some-counted (Err (refused.Scan error)) a b none is =
+    let one : 1 ≤ b.refused = subst (λ n. 1 ≤ n) (sym (ap (λ (k : Counts). k.refused) is)) (raised-some a.refused) in
+    omega (arith, one)
+some-counted (Err (refused.Apply error)) a b none is =
+    let one : 1 ≤ b.refused = subst (λ n. 1 ≤ n) (sym (ap (λ (k : Counts). k.refused) is)) (raised-some a.refused) in
+    omega (arith, one)
+some-counted (Err refused.Mem) a b none is =
+    let one : 1 ≤ b.memory = subst (λ n. 1 ≤ n) (sym (ap (λ (k : Counts). k.memory) is)) (raised-some a.memory) in
+    omega (arith, one)
+
+-- ---- before the first scan and after the last
+
+pub so-far-none : (start : Start) (told : FolderTold) (first : List Command) → ScansSoFar start told told first first 0 0
+so-far-none start told first = record {
+  begun = ([], refl);
+  stands = omega arith;
+  cause = λ some. absurd (omega (arith, some));
+  tree = refl;
+  contents = refl;
+  entry_faults = omega arith;
+  file_faults = omega arith;
+}
+
+-- so far with what was seen later
+pub so-far-later : (start : Start) (told new : FolderTold) (first seen later : List Command) (accepted refused : ℕ)
+    → ScansSoFar start told new first seen accepted refused → Extends later seen → ScansSoFar start told new first later accepted refused
+so-far-later start told new first seen later accepted refused s more =
+    let kept = scans-kept later seen more in
+    record {
+      begun = begun-through later seen first more s.begun;
+      stands = omega (arith, s.stands, kept);
+      cause = λ some. later-refuses (s.cause some);
+      tree = s.tree;
+      contents = s.contents;
+      entry_faults = s.entry_faults;
+      file_faults = s.file_faults;
+    }
+  where
+    later-refuses : CanRefuse start told new seen → CanRefuse start told new later
+    later-refuses (inl rose) = inl rose
+    later-refuses (inr (inl stop)) = inr (inl stop)
+    later-refuses (inr (inr u)) = inr (inr (record {
+      scan = u.scan;
+      given = u.given;
+      older = u.older;
+      begun = begun-through later seen u.older more u.begun;
+      refused = u.refused;
+    }))
+
+pub ends-scanning : (start : Start) (told new : FolderTold) (first seen : List Command) (accepted refused memory : ℕ)
+    → ScansSoFar start told new first seen accepted refused → IsTrue (is_stopped seen) → 1 ≤ accepted + refused + memory
+    → EndsScanning start told new first seen accepted refused memory
+ends-scanning start told new first seen accepted refused memory s stopped some = record {
+  begun = s.begun;
+  stands = s.stands;
+  stopped = stopped;
+  some = some;
+  cause = s.cause;
+}
+
+-- a turn that appends nothing
+pub read-later : (new old : List Command) (found : List Command) (first : List Command) → new ≡ [] ++ found → Extends found old → Extends old first
+    → Extends new first
+read-later new old found first is more begun = begun-through new old first (subst (λ l. Extends l old) (sym is) more) begun

@@ -1,0 +1,16 @@
+-- Each write takes a front part of what is left of the text.
+use Rattle.std.proofs.Common.{Some, ap, ◌∙◌, arith}
+use Rattle.cds_base.proofs.Parts.{append_on}
+use Rattle.cds_serve.proofs.connection.send_all.Goals as goal
+
+pub pieces-preserved : goal.pieces-preserved
+pieces-preserved g c =
+    let text = c.args.text.now in
+    let at = c.pieces.at in
+    let n = c.in_ok-at.field-0 in
+    record {
+      within = omega (arith, c.in_ok-at.ensures.room);
+      taken = λ held told. rw c.split_at.ensures.back at (c.in_ok-at.ensures.content _ (c.pieces.invariant.taken held told)) ∙ ap Some (append_on held text at n);
+      never_falls = omega (arith, c.in_ok-at.ensures.never_falls, c.pieces.invariant.never_falls);
+      read_faults_stay = c.in_ok-at.ensures.read_faults_stay ∙ c.pieces.invariant.read_faults_stay;
+    }

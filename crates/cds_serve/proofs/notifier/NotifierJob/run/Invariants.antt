@@ -1,0 +1,13 @@
+-- So far each look left a seat of the turn, which has seen what it had seen before.
+use Rattle.std.proofs.Common.{◌≡◌}
+use Rattle.std.specs.Arc.{arc_value}
+use Rattle.cds_turn.specs.Line.{Extends}
+use Rattle.cds_turn.specs.Turn.{IsSeatOf, passes_of, seen_by}
+use Rattle.cds_serve.proofs.notifier.NotifierJob.run.Given as goal
+
+abbrev pub invariant-looks : goal.invariant-looks
+invariant-looks g l = record {
+  seat : IsSeatOf (arc_value l.turn) l.seat;
+  passes : passes_of l.seat ≡ passes_of l.initial.seat;
+  begun : Extends (seen_by l.seat) (seen_by l.initial.seat);
+}

@@ -1,0 +1,14 @@
+use Rattle.std.proofs.Common.{[], refl}
+use Rattle.cds_serve.specs.Requested.{ComesTo}
+use Rattle.cds_serve.proofs.request.read_message.Goals as goal
+
+pub returns-clause-request : goal.returns-clause-request
+returns-clause-request g c = λ bytes told known d.
+    let comes : ComesTo bytes (g.C.Source.left c.args.conn.now) c.in_ok-reader.reader = record {
+      came = [];
+      rest = bytes;
+      all = refl;
+      told = told;
+      stands = c.in_ok-reader.ensures;
+    } in
+    c.request_of.ensures.request bytes (c.fill-filled.ensures.filled bytes comes) known d

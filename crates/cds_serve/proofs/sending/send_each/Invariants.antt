@@ -1,0 +1,10 @@
+-- So far the notes to the addresses before the one that the loop is at were given.
+use Rattle.std.proofs.Common.{◌≤◌, map, take}
+use Rattle.cds_serve.specs.Sent.{GivesEach, note_request}
+use Rattle.cds_serve.proofs.sending.send_each.Given as goal
+
+abbrev pub invariant-notes : goal.invariant-notes
+invariant-notes g l = record {
+  given : GivesEach (map (note_request l.body) (take l.address-index l.to)) (g.L.Link.requests l.initial.link) (g.L.Link.requests l.link);
+  never_falls : g.L.Link.faults l.initial.link ≤ g.L.Link.faults l.link;
+}

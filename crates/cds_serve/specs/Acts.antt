@@ -1,0 +1,62 @@
+-- The jobs on a shared server, each done in one turn: the commands that it appends, and what it answers.
+use Rattle.std.specs.Prelude.{◌≡◌, ℕ, Bool, List, [], ◌∷◌, Result, Ok, Err, IfSome, ⊤}
+use Rattle.cds_base.specs.declared.link.LinkRequest.{LinkRequest}
+use Rattle.cds_base.specs.declared.mem.Mem.{Mem}
+use Rattle.cds_catalog.specs.Library.{map_of}
+use Rattle.cds_catalog.specs.Scans.{Accepted, scan_answer}
+use Rattle.cds_commands.specs.Commands.{Command, Start, Scans, Ticks, is_stopped, scans_of}
+use Rattle.cds_http.specs.declared.message.Message.{Message}
+use Rattle.cds_object.specs.declared.record.Record.{Record}
+use Rattle.cds_store.specs.Applied.{IsRefusal}
+use Rattle.cds_store.specs.declared.error.ApplyError.{ApplyError}
+use Rattle.cds_store.specs.declared.span.Span.{Span}
+use Rattle.cds_server.specs.Due.{AllGoOut, due}
+use Rattle.cds_server.specs.Outcome.{GoesOut, empty_reply}
+use Rattle.cds_server.specs.Replies.{IsReply, command_at, note_at}
+use Rattle.cds_serve.specs.declared.acts.Look.{Look}
+use Rattle.cds_serve.specs.declared.acts.Reply.{Reply}
+use Rattle.cds_serve.specs.Answered.{no_memory_reply}
+use Rattle.cds_serve.specs.Sent.{first_requests}
+use Rattle.cds_serve.specs.Served.{added}
+
+-- a message is handled: the server's reply to it, and its first note, by the list found
+abbrev pub reply_adds : Start → List Command → ℕ → Message → Result Reply Mem → List Command
+reply_adds start found now m (Ok reply) = added (command_at start found now m)
+reply_adds start found now m (Err memory) = []
+
+abbrev pub IsReplyGiven : Start → List Command → ℕ → Message → Result Reply Mem → Type 0
+IsReplyGiven start found now m (Ok reply) =
+    IsReply start found now m reply.text × (reply.note ≡ note_at start found now m) × GoesOut reply.note
+IsReplyGiven start found now m (Err memory) = ⊤
+
+-- what is written and sent of it
+abbrev pub reply_text : Result Reply Mem → List ℕ
+reply_text (Ok reply) = reply.text
+reply_text (Err memory) = no_memory_reply
+
+abbrev pub reply_requests : Result Reply Mem → List LinkRequest
+reply_requests (Ok reply) = first_requests reply.note
+reply_requests (Err memory) = []
+
+-- what is written where no turn is taken
+abbrev pub free_text : {A : Type 0} → ℕ → Result A Mem → List ℕ
+free_text status (Ok value) = empty_reply status
+free_text status (Err memory) = no_memory_reply
+
+-- a tick: the notes that are due, and whether the server was stopped
+abbrev pub look_adds : ℕ → Result Look Mem → List Command
+look_adds now (Ok look) = Ticks now ∷ []
+look_adds now (Err memory) = []
+
+abbrev pub IsLook : Start → List Command → ℕ → Result Look Mem → Type 0
+IsLook start found now (Ok look) = (look.notes ≡ due start found now) × (look.stopped ≡ is_stopped found) × IfSome look.notes AllGoOut
+IsLook start found now (Err memory) = ⊤
+
+-- what a scan found is accepted, or refused as the store refuses it
+abbrev pub scan_adds : List Record → Result Span ApplyError → List Command
+scan_adds records (Ok span) = Scans (map_of records) ∷ []
+scan_adds records (Err refusal) = []
+
+abbrev pub IsScanAnswer : Start → List Command → List Record → Result Span ApplyError → Type 0
+IsScanAnswer start found records (Ok span) = scan_answer (scans_of start.first found) records ≡ Accepted
+IsScanAnswer start found records (Err refusal) = IsRefusal (scans_of start.first found) records refusal

@@ -1,0 +1,147 @@
+-- What a connection is answered, by what its bytes say (RFC 9110 on the statuses 400, 404, 405 and 413; UPnP Device Architecture 2.0 on the
+-- URLs of control and of eventing).
+use Rattle.std.specs.Prelude.{◌≡◌, ◌+◌, ℕ, Bool, true, false, ◌||◌, bytes_eq, codes, if◌then◌else◌, List, [], ◌∷◌, ◌++◌, Option, Some, None, Result, Ok, Err, IsErr, ⊤}
+use Rattle.cds_base.specs.declared.mem.Mem.{Mem as Memory}
+use Rattle.cds_base.specs.declared.link.LinkRequest.{LinkRequest}
+use Rattle.cds_base.specs.Entries.{Told}
+use Rattle.cds_base.specs.Links.{LinkTold}
+use Rattle.cds_base.specs.Outside.{Rose}
+use Rattle.cds_http.specs.declared.error.HttpError.{HttpError}
+use Rattle.cds_http.specs.declared.error.HttpError.TheVariants.{BadHead, HeadTooLong, BadLength, BadChunk, TooLong, Truncated, Failed, Mem}
+use Rattle.cds_http.specs.declared.message.Message.{Message}
+use Rattle.cds_http.specs.declared.message.Side.TheVariants as side
+use Rattle.cds_http.specs.declared.message.Start.{Start as Line}
+use Rattle.cds_http.specs.declared.message.Start.TheVariants as line
+use Rattle.cds_http.specs.Decided.{Decides}
+use Rattle.cds_http.specs.Known.{Known, Whole, Needs, Refused}
+use Rattle.cds_commands.specs.Commands.{Command, Start}
+use Rattle.cds_turn.specs.Line.{Extends}
+use Rattle.cds_server.specs.Outcome.{empty_reply}
+use Rattle.cds_server.specs.Replies.{IsReply, command_at, fault_reply, note_at}
+use Rattle.cds_serve.specs.Sent.{GivesAll, first_requests}
+use Rattle.cds_serve.specs.Served.{added}
+use Rattle.cds_serve.specs.Told.{ClockTold, ConnTold, IsMoment, SeatTold, Writes}
+
+-- ---- answers that need no server
+
+-- a message that is refused as too long is 413, and one that is refused for any other cause 400
+abbrev pub refusal_status : HttpError → ℕ
+refusal_status TooLong = 413
+refusal_status BadHead = 400
+refusal_status HeadTooLong = 400
+refusal_status BadLength = 400
+refusal_status BadChunk = 400
+refusal_status Truncated = 400
+refusal_status Failed = 400
+refusal_status Mem = 400
+
+-- whether a method is one that the target of events takes
+abbrev pub is_event_method : List ℕ → Bool
+is_event_method method = bytes_eq method (codes "SUBSCRIBE") || bytes_eq method (codes "UNSUBSCRIBE")
+
+-- a method that a target does not take is 405
+abbrev pub status_unless : Bool → Option ℕ
+status_unless true = None
+status_unless false = Some 405
+
+-- the target `/control` takes POST, and `/event` SUBSCRIBE and UNSUBSCRIBE; every other target is 404
+abbrev pub status_at : List ℕ → List ℕ → Option ℕ
+status_at target method =
+    if bytes_eq target (codes "/control") then status_unless (bytes_eq method (codes "POST"))
+    else if bytes_eq target (codes "/event") then status_unless (is_event_method method)
+    else Some 404
+
+-- that of a request; what is no request is 400
+abbrev pub request_status : Line → Option ℕ
+request_status (line.Request method target) = status_at target method
+request_status (line.Reply status) = Some 400
+
+-- The status that bytes are answered with no turn. Bytes that end before the message does are refused as cut off
+abbrev pub free_status : Known Message → Option ℕ
+free_status (Whole m rest) = request_status m.start
+free_status Needs = Some 400
+free_status (Refused cause) = Some (refusal_status cause)
+
+-- The bytes begin with the message, and it needs a turn
+abbrev pub NeedsTurn : Message → Known Message → Type 0
+NeedsTurn m known = (free_status known ≡ None) × ((rest : List ℕ) × (known ≡ Whole m rest))
+
+-- the constant reply for want of memory
+abbrev pub no_memory_reply : List ℕ
+no_memory_reply = fault_reply 603
+
+-- ---- how one connection is served
+
+-- its bytes did not come, since it failed; or there was no memory to read them or to answer; or they were answered with a status and no
+-- turn; or in one turn, in which the server stood for a list of commands, it handled the message, or had no memory to
+pub data Course : Type 0 where
+  Broken : Course
+  Starved : Course
+  Free : ℕ → Course
+  Handled : List Command → Message → Course
+  Unhandled : List Command → Message → Course
+
+-- it is the course for what the bytes say
+abbrev pub IsCourseFor : Known Message → Course → Type 0
+IsCourseFor known Broken = ⊤
+IsCourseFor known Starved = ⊤
+IsCourseFor known (Free status) = free_status known ≡ Some status
+IsCourseFor known (Handled found m) = NeedsTurn m known
+IsCourseFor known (Unhandled found m) = NeedsTurn m known
+
+-- a connection that failed counted it, and want of memory is what is answered then
+abbrev pub HasCause : {A : Type 0} → Result A Memory → ConnTold → ConnTold → Course → Type 0
+HasCause result old new Broken = Rose old.read_faults new.read_faults
+HasCause result old new Starved = IsErr result
+HasCause result old new (Free status) = ⊤
+HasCause result old new (Handled found m) = ⊤
+HasCause result old new (Unhandled found m) = IsErr result
+
+-- The turn that was taken: the list found begins with all that the seat had seen; what the message adds to it was appended, and nothing for
+-- want of memory; and this is what the seat has seen then
+abbrev pub TakesTurn : Start → ℕ → Course → SeatTold → SeatTold → Type 0
+TakesTurn start now Broken old new = new ≡ old
+TakesTurn start now Starved old new = new ≡ old
+TakesTurn start now (Free status) old new = new ≡ old
+TakesTurn start now (Handled found m) old new =
+    Extends found old.seen × (new ≡ record { seen = added (command_at start found now m) ++ found; passes = old.passes; turns = old.turns + 1 })
+TakesTurn start now (Unhandled found m) old new =
+    Extends found old.seen × (new ≡ record { seen = found; passes = old.passes; turns = old.turns + 1 })
+
+-- the clock is asked once for a turn, and not without one
+abbrev pub AsksClock : Course → ClockTold → ClockTold → ℕ → ℕ → Type 0
+AsksClock (Handled found m) old new before now = IsMoment old new before now
+AsksClock (Unhandled found m) old new before now = IsMoment old new before now
+AsksClock course old new before now = (now ≡ before) × (new ≡ old)
+
+-- the text that is owed
+abbrev pub IsOwed : Start → ℕ → Course → List ℕ → Type 0
+IsOwed start now Broken text = text ≡ []
+IsOwed start now Starved text = text ≡ no_memory_reply
+IsOwed start now (Free status) text = text ≡ empty_reply status
+IsOwed start now (Handled found m) text = IsReply start found now m text
+IsOwed start now (Unhandled found m) text = text ≡ no_memory_reply
+
+-- the requests that are owed to a link: the first note of a subscription that was accepted
+abbrev pub owed_requests : Start → ℕ → Course → List LinkRequest
+owed_requests start now (Handled found m) = first_requests (note_at start found now m)
+owed_requests start now course = []
+
+-- a seat, a connection, a clock and a link, before or after a call
+pub record Around : Type 0 where
+  pub seat : SeatTold
+  pub conn : ConnTold
+  pub clock : ClockTold
+  pub link : LinkTold
+
+-- One connection was served from one moment up to another
+pub record Serves {A : Type 0} (start : Start) (result : Result A Memory) (before now : ℕ) (old new : Around) : Type 0 where
+  pub course : Course
+  pub for_bytes : Told old.conn.left (λ bytes. (known : Known Message) → Decides true side.Request bytes known → IsCourseFor known course)
+  pub cause : HasCause result old.conn new.conn course
+  pub turn : TakesTurn start now course old.seat new.seat
+  pub moment : AsksClock course old.clock new.clock before now
+  pub text : List ℕ
+  pub owed : IsOwed start now course text
+  pub written : Writes text old.conn new.conn
+  pub notes : GivesAll result (owed_requests start now course) old.link.requests new.link.requests

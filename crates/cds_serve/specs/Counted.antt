@@ -1,0 +1,11 @@
+-- The counts of a scanner after a scan that was refused.
+use Rattle.cds_base.specs.Outside.{raised}
+use Rattle.cds_serve.specs.declared.scanner.Counts.{Counts}
+use Rattle.cds_serve.specs.declared.scanning.ScanRefused.{ScanRefused}
+use Rattle.cds_serve.specs.declared.scanning.ScanRefused.TheVariants as refused
+
+-- want of memory is counted for itself, and every other refusal as one
+abbrev pub counted : Counts → ScanRefused → Counts
+counted counts (refused.Scan error) = record counts { refused = raised counts.refused 1 }
+counted counts (refused.Apply error) = record counts { refused = raised counts.refused 1 }
+counted counts refused.Mem = record counts { memory = raised counts.memory 1 }

@@ -1,0 +1,79 @@
+-- What the three jobs of a server that listens answer.
+use Rattle.std.specs.Prelude.{◌≡◌, ◌≢◌, ◌⊎◌, ◌+◌, ◌<◌, ◌≤◌, ℕ, IsTrue, List, [], ◌∷◌}
+use Rattle.cds_base.specs.Entries.{FolderTold}
+use Rattle.cds_base.specs.Outside.{raised, Rose}
+use Rattle.cds_catalog.specs.Scans.{Accepted, scan_answer}
+use Rattle.cds_commands.specs.Commands.{Command, Start, Scans, Ticks, is_stopped, scans_of}
+use Rattle.cds_scan.specs.Scanning.{IsStop}
+use Rattle.cds_scan.specs.declared.error.ScanError.{ScanError}
+use Rattle.cds_scan.specs.declared.scanned.Scan.{Scan}
+use Rattle.cds_turn.specs.Line.{Extends}
+use Rattle.cds_serve.specs.Scanned.{MayGive}
+
+-- ---- a worker
+
+-- a door: how many connections it gave, and how many of its calls failed
+pub record DoorTold : Type 0 where
+  pub connections : ℕ
+  pub faults : ℕ
+
+-- It served as many connections as its door gave, whose count stops at the last value of a u64: its share, or fewer where the door failed
+pub record EndsWorking (share served : ℕ) (old new : DoorTold) : Type 0 where
+  pub gave : raised new.connections 0 ≡ raised old.connections served
+  pub no_more : served ≤ share
+  pub all : (served ≡ share) ⊎ Rose old.faults new.faults
+  pub never_falls : old.faults ≤ new.faults
+
+-- ---- the scanner
+
+-- how many scans stand among commands
+abbrev pub scans_in : List Command → ℕ
+scans_in [] = 0
+scans_in (Scans library ∷ older) = scans_in older + 1
+scans_in (command ∷ older) = scans_in older
+
+-- a server that stood for the commands refuses what a scan of the folder may give
+pub record IsUnacceptable (start : Start) (old new : FolderTold) (seen : List Command) : Type 0 where
+  pub scan : Scan
+  pub given : MayGive old new scan
+  pub older : List Command
+  pub begun : Extends seen older
+  pub refused : scan_answer (scans_of start.first older) scan.records ≢ Accepted
+
+-- why a scan was refused for another cause than want of memory: the folder's count of faults of entries rose, or a scan refuses its tree, or a
+-- server, at a beginning of what the seat has seen, refuses what a scan of it may give
+abbrev pub CanRefuse : Start → FolderTold → FolderTold → List Command → Type 0
+CanRefuse start old new seen =
+    Rose old.entry_faults new.entry_faults
+    ⊎ (((error : ScanError) × IsStop old.tree old.contents error)
+    ⊎ IsUnacceptable start old new seen)
+
+-- So far: each scan that it counts as accepted stands in what its seat has seen, and each that it counts as refused has a cause. The folder
+-- tells the same of its tree, and its counts of faults never fall
+pub record ScansSoFar (start : Start) (old new : FolderTold) (before seen : List Command) (accepted refused : ℕ) : Type 0 where
+  pub begun : Extends seen before
+  pub stands : scans_in before + accepted ≤ scans_in seen
+  pub cause : 0 < refused → CanRefuse start old new seen
+  pub tree : new.tree ≡ old.tree
+  pub contents : new.contents ≡ old.contents
+  pub entry_faults : old.entry_faults ≤ new.entry_faults
+  pub file_faults : old.file_faults ≤ new.file_faults
+
+-- The scanner ended: it had scanned at least once and seen the stop, and each scan that it counts as accepted stands in what its seat has
+-- seen
+pub record EndsScanning (start : Start) (old new : FolderTold) (before seen : List Command) (accepted refused memory : ℕ) : Type 0 where
+  pub begun : Extends seen before
+  pub stands : scans_in before + accepted ≤ scans_in seen
+  pub stopped : IsTrue (is_stopped seen)
+  pub some : 1 ≤ accepted + refused + memory
+  pub cause : 0 < refused → CanRefuse start old new seen
+
+-- ---- the notifier
+
+-- The notifier ended: its last tick found a server that was stopped
+pub record EndsNotifying (before seen : List Command) : Type 0 where
+  pub moment : ℕ
+  pub found : List Command
+  pub last : seen ≡ Ticks moment ∷ found
+  pub begun : Extends found before
+  pub stopped : IsTrue (is_stopped found)

@@ -1,0 +1,13 @@
+pub mod Acts
+pub mod Answered
+pub mod Counted
+pub mod Evaluated
+pub mod Jobs
+pub mod Laws
+pub mod Life
+pub mod Looked
+pub mod Requested
+pub mod Scanned
+pub mod Sent
+pub mod Served
+pub mod Told

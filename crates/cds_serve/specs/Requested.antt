@@ -1,0 +1,73 @@
+-- How one request is read from a connection.
+use Rattle.std.specs.Prelude.{◌≡◌, ◌⊎◌, ℕ, true, List, [], ◌++◌, Option, Some, None, ⊤}
+use Rattle.cds_base.specs.Outside.{Rose}
+use Rattle.cds_http.specs.declared.error.HttpError.{HttpError}
+use Rattle.cds_http.specs.declared.error.HttpError.TheVariants.{BadHead, HeadTooLong, BadLength, BadChunk, TooLong, Truncated, Failed, Mem}
+use Rattle.cds_http.specs.declared.message.Message.{Message}
+use Rattle.cds_http.specs.declared.message.Side.TheVariants as side
+use Rattle.cds_http.specs.declared.reader.MessageReader.{MessageReader}
+use Rattle.cds_http.specs.Known.{Known, Refused}
+use Rattle.cds_http.specs.Decided.{Decides}
+use Rattle.cds_http.specs.Reading.{IsWhole, Stands}
+use Rattle.cds_serve.specs.Answered.{NeedsTurn, free_status}
+use Rattle.cds_serve.specs.declared.request.Filled.{Filled}
+use Rattle.cds_serve.specs.declared.request.Filled.TheVariants as filled
+use Rattle.cds_serve.specs.declared.request.Request.{Request}
+use Rattle.cds_serve.specs.declared.request.Request.TheVariants as request
+
+-- it is the request of bytes that say this
+abbrev pub IsRequest : Known Message → Request → Type 0
+IsRequest known (request.Needing m) = NeedsTurn m known
+IsRequest known (request.Free status) = free_status known ≡ Some status
+IsRequest known request.Broken = ⊤
+IsRequest known request.Starved = ⊤
+
+-- a connection that failed counts it
+abbrev pub BrokenRose : Request → ℕ → ℕ → Type 0
+BrokenRose (request.Needing m) old new = ⊤
+BrokenRose (request.Free status) old new = ⊤
+BrokenRose request.Broken old new = Rose old new
+BrokenRose request.Starved old new = ⊤
+
+abbrev pub FilledRose : Option Filled → ℕ → ℕ → Type 0
+FilledRose None old new = ⊤
+FilledRose (Some filled.Done) old new = ⊤
+FilledRose (Some (filled.Refused cause)) old new = ⊤
+FilledRose (Some filled.Broken) old new = Rose old new
+
+-- so much of the bytes of a connection came to a reader, and this is left
+pub record ComesTo (bytes : List ℕ) (left : Option (List ℕ)) (reader : MessageReader) : Type 0 where
+  pub came : List ℕ
+  pub rest : List ℕ
+  pub all : bytes ≡ came ++ rest
+  pub told : left ≡ Some rest
+  pub stands : Stands side.Request reader (Some came)
+
+-- a reader has all that the message needs: the connection gave all its bytes, or the message is whole
+pub record HasAll (bytes : List ℕ) (reader : MessageReader) : Type 0 where
+  pub came : List ℕ
+  pub rest : List ℕ
+  pub all : bytes ≡ came ++ rest
+  pub stands : Stands side.Request reader (Some came)
+  pub enough : (rest ≡ []) ⊎ ((m : Message) × IsWhole side.Request came m)
+
+-- bytes are refused for this cause, or memory ran out
+abbrev pub IsCause : HttpError → List ℕ → Type 0
+IsCause Mem bytes = ⊤
+IsCause BadHead bytes = Decides true side.Request bytes (Refused BadHead)
+IsCause HeadTooLong bytes = Decides true side.Request bytes (Refused HeadTooLong)
+IsCause BadLength bytes = Decides true side.Request bytes (Refused BadLength)
+IsCause BadChunk bytes = Decides true side.Request bytes (Refused BadChunk)
+IsCause TooLong bytes = Decides true side.Request bytes (Refused TooLong)
+IsCause Truncated bytes = ⊥
+IsCause Failed bytes = ⊥
+
+abbrev pub IsFilled : Filled → List ℕ → MessageReader → Type 0
+IsFilled filled.Done bytes reader = HasAll bytes reader
+IsFilled (filled.Refused cause) bytes reader = IsCause cause bytes
+IsFilled filled.Broken bytes reader = ⊤
+
+-- after a piece: the reader is done, or goes on
+abbrev pub GoesOn : Option Filled → List ℕ → Option (List ℕ) → MessageReader → Type 0
+GoesOn None bytes left reader = ComesTo bytes left reader
+GoesOn (Some how) bytes left reader = IsFilled how bytes reader

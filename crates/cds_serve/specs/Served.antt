@@ -1,0 +1,23 @@
+-- A server that threads share in turns: which commands it stands for.
+use Rattle.std.specs.Prelude.{◌≡◌, ◌==◌, ℕ, Bool, false, List, [], ◌∷◌, Option, Some, None}
+use Rattle.cds_commands.specs.Commands.{Command, Start}
+use Rattle.cds_server.specs.Serving.{Serving, StandsFor}
+
+-- a server, and what it was opened with
+pub record Opened : Type 0 where
+  pub server : Serving
+  pub start : Start
+
+-- it stands for the commands that the server stands for, from what it was opened with and from nothing else
+abbrev pub Stands : Opened → Start → List Command → Type 0
+Stands opened start commands = (opened.start ≡ start) × StandsFor opened.server start commands
+
+-- the commands that a message adds: one, or none
+abbrev pub added : Option Command → List Command
+added None = []
+added (Some command) = command ∷ []
+
+-- whether a digit is there and is `2`
+abbrev pub is_two : Option ℕ → Bool
+is_two None = false
+is_two (Some digit) = digit == 50

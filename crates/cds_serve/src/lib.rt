@@ -1,0 +1,32 @@
+//! A media server that listens: workers that serve connections, a scanner that takes the library again and again, and a
+//! notifier that sends the notes of its changes, all over one server that they share in turns (UPnP Device Architecture 2.0
+//! on control and on eventing; UPnP ContentDirectory:4).
+#![tactic(auto)]
+
+mod acts;
+mod connection;
+mod examples;
+pub mod laws;
+mod life;
+mod looking;
+mod moment;
+mod notifier;
+mod request;
+mod scanner;
+mod scanning;
+mod sending;
+mod served;
+mod worker;
+
+pub use connection::serve_one;
+pub use examples::{lives_are_written, requests_are_free};
+pub use life::serve;
+pub use looking::notify_once;
+pub use notifier::{Notified, Notifier};
+pub use scanner::{Scanned, Scanner};
+pub use scanning::{ScanRefused, scan_once};
+pub use served::{Opening, Served, ServerCommand};
+pub use worker::{Worked, Worker};
+
+#[cfg(test)]
+mod tests;

@@ -1,0 +1,266 @@
+//! The job of the scanner.
+
+ghost use Rattle.std.specs.Prelude.{◌≡◌, ◌+◌, ◌≤◌, List, IfErr, IsTrue, OnOk};
+ghost use Rattle.std.specs.Arc.{arc_value};
+ghost use Rattle.cds_base.specs.Entries.{FolderTold};
+ghost use Rattle.cds_base.specs.Outside.{raised};
+ghost use Rattle.cds_commands.specs.Commands.{Command, is_stopped};
+ghost use Rattle.cds_turn.specs.Line.{Extends};
+ghost use Rattle.cds_turn.specs.Turn.{IsSeatOf, passes_of, seen_by, start_of};
+ghost use Rattle.cds_serve.specs.Counted.{counted};
+ghost use Rattle.cds_serve.specs.Jobs.{EndsScanning, ScansSoFar};
+
+use crate::acts::IsStopped;
+use crate::moment::ask_moment;
+use crate::scanning::{ScanRefused, scan_once};
+use crate::served::Served;
+use cds_base::{Clock, Folder, Gate, Job};
+use cds_turn::{Seat, Turn};
+use std::alloc::Global;
+use std::marker::Send;
+use std::sync::{Arc, Wait};
+
+/// How many milliseconds after the end of a scan the next one begins.
+const PAUSE: u64 = 10_000;
+
+/// How many milliseconds lie between two looks.
+pub(crate) const REST: u32 = 50;
+
+/// Scans a folder again and again for a server that others share: at the start, and then 10,000 ms after the last scan ended.
+/// Between two scans it looks every 50 ms whether the server was stopped, and then ends.
+#[derive(Drop)]
+pub struct Scanner<R, F, T, G> {
+    pub rt: R,
+    pub alloc: Global,
+    pub turn: Arc<Turn<Served>>,
+    pub seat: Seat<Served>,
+    pub folder: F,
+    pub clock: T,
+    pub gate: G,
+    ghost own: { IsSeatOf (arc_value turn) seat },
+}
+
+/// What the scanner answers. Each count stays at its last value.
+#[derive(Drop)]
+pub struct Scanned<F> {
+    pub folder: F,
+    pub seat: Seat<Served>,
+    /// How many scans were accepted.
+    pub accepted: u64,
+    /// How many were refused for another cause than want of memory.
+    pub refused: u64,
+    /// How many were refused for want of memory.
+    pub memory: u64,
+}
+
+/// How many scans ended in each of three ways.
+#[derive(Clone, Copy)]
+struct Counts {
+    accepted: u64,
+    refused: u64,
+    memory: u64,
+}
+
+impl Counts {
+    /// Counts a scan.
+    fn count(&mut self, scanned: Result<(), ScanRefused>)
+        ensures accepted { OnOk scanned (self.new ≡ record self.old { accepted = raised self.old.accepted 1 }) }
+        ensures refused { IfErr scanned (λ refusal. self.new ≡ counted self.old refusal) }
+    {
+        match scanned {
+            Ok(()) => self.accepted = self.accepted.saturating_add(1),
+            Err(ScanRefused::Mem) => self.memory = self.memory.saturating_add(1),
+            Err(_) => self.refused = self.refused.saturating_add(1),
+        }
+    }
+}
+
+impl<
+    R: Wait + Send + Drop + 'static,
+    F: Folder + Send + Drop + 'static,
+    T: Clock + Send + Drop + 'static,
+    G: Gate + Send + Drop + 'static,
+> Job for Scanner<R, F, T, G> {
+    type Out = Scanned<F>;
+
+    ghost answers = { λ scanner scanned. IsSeatOf (arc_value scanner.turn) scanned.seat
+        × (passes_of scanned.seat ≡ passes_of scanner.seat)
+        × EndsScanning (start_of (arc_value scanner.turn) scanner.seat)
+        (record {
+          tree = F.tree scanner.folder;
+          contents = F.contents scanner.folder;
+          given = F.given scanner.folder;
+          entries = F.entries scanner.folder;
+          opened = F.opened scanner.folder;
+          returned = F.returned scanner.folder;
+          entry_faults = F.entry_faults scanner.folder;
+          file_faults = F.file_faults scanner.folder;
+        })
+        (record {
+          tree = F.tree scanned.folder;
+          contents = F.contents scanned.folder;
+          given = F.given scanned.folder;
+          entries = F.entries scanned.folder;
+          opened = F.opened scanned.folder;
+          returned = F.returned scanned.folder;
+          entry_faults = F.entry_faults scanned.folder;
+          file_faults = F.file_faults scanned.folder;
+        })
+        (seen_by scanner.seat) (seen_by scanned.seat) scanned.accepted scanned.refused scanned.memory };
+
+    fn run(self) -> Scanned<F> {
+        let Scanner {
+            rt,
+            alloc,
+            turn,
+            mut seat,
+            mut folder,
+            mut clock,
+            gate: _,
+        } = self;
+        let counts = scan_until_stopped(&rt, alloc, &turn, &mut seat, &mut folder, &mut clock);
+        ended(folder, seat, counts)
+    }
+}
+
+/// Scans again and again, until the server was stopped. How the scans ended.
+fn scan_until_stopped<R: Wait, F: Folder, T: Clock>(
+    rt: &R,
+    alloc: Global,
+    turn: &Turn<Served>,
+    seat: &mut Seat<Served>,
+    folder: &mut F,
+    clock: &mut T,
+) -> Counts
+    requires { IsSeatOf turn.now seat.old }
+    ensures seat { IsSeatOf turn.now seat.new }
+    ensures passes { passes_of seat.new ≡ passes_of seat.old }
+    ensures ends { EndsScanning (start_of turn.now seat.old)
+        (record {
+          tree = F.tree folder.old;
+          contents = F.contents folder.old;
+          given = F.given folder.old;
+          entries = F.entries folder.old;
+          opened = F.opened folder.old;
+          returned = F.returned folder.old;
+          entry_faults = F.entry_faults folder.old;
+          file_faults = F.file_faults folder.old;
+        })
+        (record {
+          tree = F.tree folder.new;
+          contents = F.contents folder.new;
+          given = F.given folder.new;
+          entries = F.entries folder.new;
+          opened = F.opened folder.new;
+          returned = F.returned folder.new;
+          entry_faults = F.entry_faults folder.new;
+          file_faults = F.file_faults folder.new;
+        })
+        (seen_by seat.old) (seen_by seat.new) result.accepted result.refused result.memory }
+{
+    let mut last = 0;
+    let mut counts = Counts {
+        accepted: 0,
+        refused: 0,
+        memory: 0,
+    };
+    'scans: for _ in rt.forever() {
+        scan_and_count(rt, alloc, turn, seat, folder, clock, &mut last, &mut counts);
+        if wait_for_scan(rt, turn, seat, clock, &mut last) {
+            return counts;
+        }
+    }
+    unreachable!()
+}
+
+/// Scans once, and counts how that ended.
+fn scan_and_count<R: Wait, F: Folder, T: Clock>(
+    rt: &R,
+    alloc: Global,
+    turn: &Turn<Served>,
+    seat: &mut Seat<Served>,
+    folder: &mut F,
+    clock: &mut T,
+    last: &mut u64,
+    counts: &mut Counts,
+)
+    requires { IsSeatOf turn.now seat.old }
+    ensures seat { IsSeatOf turn.now seat.new }
+    ensures passes { passes_of seat.new ≡ passes_of seat.old }
+    ensures so_far { (told : FolderTold) (before : List Command)
+        → ScansSoFar (start_of turn.now seat.old) told
+        (record {
+          tree = F.tree folder.old;
+          contents = F.contents folder.old;
+          given = F.given folder.old;
+          entries = F.entries folder.old;
+          opened = F.opened folder.old;
+          returned = F.returned folder.old;
+          entry_faults = F.entry_faults folder.old;
+          file_faults = F.file_faults folder.old;
+        })
+        before (seen_by seat.old) counts.old.accepted counts.old.refused
+        → ScansSoFar (start_of turn.now seat.old) told
+        (record {
+          tree = F.tree folder.new;
+          contents = F.contents folder.new;
+          given = F.given folder.new;
+          entries = F.entries folder.new;
+          opened = F.opened folder.new;
+          returned = F.returned folder.new;
+          entry_faults = F.entry_faults folder.new;
+          file_faults = F.file_faults folder.new;
+        })
+        before (seen_by seat.new) counts.new.accepted counts.new.refused }
+    ensures some { 1 ≤ counts.new.accepted + counts.new.refused + counts.new.memory }
+{
+    let scanned = scan_once(rt, alloc, turn, seat, folder, clock, last);
+    counts.count(scanned);
+}
+
+/// What is answered at the end.
+fn ended<F>(folder: F, seat: Seat<Served>, counts: Counts) -> Scanned<F>
+    ensures { result ≡ record {
+      folder = folder;
+      seat = seat;
+      accepted = counts.accepted;
+      refused = counts.refused;
+      memory = counts.memory;
+    } }
+{
+    Scanned {
+        folder,
+        seat,
+        accepted: counts.accepted,
+        refused: counts.refused,
+        memory: counts.memory,
+    }
+}
+
+/// Waits until the next scan is due, and looks at the server in the meantime. Whether it was stopped.
+fn wait_for_scan<R: Wait, T: Clock>(
+    rt: &R,
+    turn: &Turn<Served>,
+    seat: &mut Seat<Served>,
+    clock: &mut T,
+    last: &mut u64,
+) -> bool
+    requires { IsSeatOf turn.now seat.old }
+    ensures seat { IsSeatOf turn.now seat.new }
+    ensures passes { passes_of seat.new ≡ passes_of seat.old }
+    ensures begun { Extends (seen_by seat.new) (seen_by seat.old) }
+    ensures stopped { IsTrue result → IsTrue (is_stopped (seen_by seat.new)) }
+{
+    let ended = ask_moment(clock, last);
+    'looks: for _ in rt.forever() {
+        if turn.with(rt, seat, IsStopped) {
+            return true;
+        }
+        let now = ask_moment(clock, last);
+        if now.saturating_sub(ended) >= PAUSE {
+            return false;
+        }
+        clock.rest(REST);
+    }
+    unreachable!()
+}

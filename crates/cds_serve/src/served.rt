@@ -1,0 +1,160 @@
+//! A server that threads share in turns.
+
+ghost use Rattle.std.specs.Prelude.{◌≡◌, ◌<◌, ◌^◌, List, [], ◌∷◌, ◌++◌, length, slice_index, IfOk, IfSome, OnErr, OnOk};
+ghost use Rattle.cds_commands.specs.Commands.{Command, Start, Stops, Ticks, is_stopped};
+ghost use Rattle.cds_server.specs.Due.{AllGoOut, due};
+ghost use Rattle.cds_server.specs.Outcome.{GoesOut};
+ghost use Rattle.cds_server.specs.Replies.{IsReply, command_at, note_at};
+ghost use Rattle.cds_serve.specs.Acts.{IsScanAnswer, scan_adds};
+ghost use Rattle.cds_serve.specs.Served.{Stands, added};
+
+use cds_base::Mem;
+use cds_http::Message;
+use cds_scan::Scan;
+use cds_server::{FirstNote, Notes, Server};
+use cds_store::{ApplyError, Span};
+use cds_turn::StandsFor;
+use std::alloc::Global;
+use std::marker::Model;
+use std::snapshot::Snapshot;
+
+/// What a server is opened with, which no command changes: two boot words, of which its names are made, and its first
+/// number.
+#[derive(Drop, Debug)]
+pub struct Opening {
+    pub boot: [u64; 2],
+    pub first: u32,
+}
+
+impl Model for Opening {
+    ghost use Rattle.std.specs.Prelude.{slice_index};
+    ghost use Rattle.cds_commands.specs.Commands.{Start};
+
+    ghost Value = { Start };
+
+    ghost view = { λ o. record { high = slice_index o.boot 0; low = slice_index o.boot 1; first = o.first } };
+}
+
+/// One command that a server accepted. No value of it is made: contracts alone speak of commands.
+pub struct ServerCommand {}
+
+impl Model for ServerCommand {
+    ghost use Rattle.cds_commands.specs.Commands.{Command, Stops};
+
+    ghost Value = { Command };
+
+    ghost view = { λ _. Stops };
+}
+
+/// A server that threads share in turns. Contracts see the server and what it was opened with.
+#[derive(Drop)]
+pub struct Served {
+    server: Server,
+    /// It takes no memory.
+    opening: Snapshot<Opening>,
+}
+
+impl Model for Served {
+    ghost use Rattle.cds_serve.specs.Served.{Opened};
+
+    ghost Value = { Opened };
+
+    ghost view = { λ s. record { server = s.server; start = s.opening.value } };
+}
+
+impl StandsFor for Served {
+    ghost use Rattle.cds_serve.specs.Served.{Stands};
+
+    type Command = ServerCommand;
+
+    type Start = Opening;
+
+    ghost start = { λ served. served.start };
+
+    ghost stands = { Stands };
+}
+
+impl Served {
+    /// A server before any command, opened with two boot words and its first number.
+    pub fn new(alloc: Global, boot: [u64; 2], first: u32) -> Result<Served, Mem>
+        ensures start { IfOk result (λ served. served.start ≡ record { high = slice_index boot 0; low = slice_index boot 1; first = first }) }
+        ensures stands { IfOk result (λ served. Stands served served.start []) }
+    {
+        let opening = Opening { boot, first };
+        let server = Server::new(alloc, boot, first)?;
+        Ok(Served {
+            server,
+            opening: Snapshot::of(&opening),
+        })
+    }
+
+    /// The server.
+    pub fn server(&self) -> &Server
+        ensures { result.now ≡ self.now.server }
+    {
+        &self.server
+    }
+
+    /// Has the server handle a message, as `Server::handle` says.
+    pub(crate) fn handle(
+        &mut self,
+        alloc: Global,
+        now: u64,
+        message: &Message,
+        out: &mut Vec<u8>,
+    ) -> Result<Option<FirstNote>, Mem>
+        requires empty { out.old.items ≡ [] }
+        ensures replied { (start : Start) (found : List Command) → Stands self.old start found
+            → OnOk result (IsReply start found now message.now out.new.items) }
+        ensures stands { (start : Start) (found : List Command) → Stands self.old start found
+            → OnOk result (Stands self.new start (added (command_at start found now message.now) ++ found)) }
+        ensures note { (start : Start) (found : List Command) → Stands self.old start found
+            → IfOk result (λ note. note ≡ note_at start found now message.now) }
+        ensures delivered { IfOk result GoesOut }
+        ensures stays { OnErr result (self.new ≡ self.old) }
+    {
+        self.server.handle(alloc, now, message, out)
+    }
+
+    /// Has it take what a scan found, as `Server::accept_scan` says.
+    pub(crate) fn accept_scan(
+        &mut self,
+        alloc: Global,
+        now: u64,
+        scan: &Scan,
+    ) -> Result<Span, ApplyError>
+        requires { length scan.now.records < 2 ^ 32 }
+        ensures answer { (start : Start) (found : List Command) → Stands self.old start found
+            → IsScanAnswer start found scan.now.records result }
+        ensures stands { (start : Start) (found : List Command) → Stands self.old start found
+            → Stands self.new start (scan_adds scan.now.records result ++ found) }
+    {
+        self.server.accept_scan(alloc, now, scan)
+    }
+
+    /// Has it tick, as `Server::tick` says.
+    pub(crate) fn tick(&mut self, alloc: Global, now: u64) -> Result<Option<Notes>, Mem>
+        ensures stands { (start : Start) (found : List Command) → Stands self.old start found
+            → OnOk result (Stands self.new start (Ticks now ∷ found)) }
+        ensures notes { (start : Start) (found : List Command) → Stands self.old start found
+            → IfOk result (λ notes. notes ≡ due start found now) }
+        ensures delivered { IfOk result (λ notes. IfSome notes AllGoOut) }
+        ensures stays { OnErr result (self.new ≡ self.old) }
+    {
+        self.server.tick(alloc, now)
+    }
+
+    /// Tells it to stop.
+    pub(crate) fn stop(&mut self)
+        ensures { (start : Start) (found : List Command) → Stands self.old start found → Stands self.new start (Stops ∷ found) }
+    {
+        self.server.stop();
+    }
+
+    /// Whether it was told to stop.
+    pub fn stopped(&self) -> bool
+        ensures { (start : Start) (found : List Command) → Stands self.now start found → result ≡ is_stopped found }
+    {
+        self.server.stopped()
+    }
+}
