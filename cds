@@ -18,5 +18,10 @@ if [ $# -eq 2 ] && [ "$1" = scan ]; then
     /*) ;;
     *) set -- scan "$PWD/$2" ;;
   esac
+elif [ $# -eq 4 ] && [ "$1" = serve ]; then
+  case $3 in
+    /*) ;;
+    *) set -- serve "$2" "$PWD/$3" "$4" ;;
+  esac
 fi
 cd "$crate" && exec rt try -- "$@"

@@ -2,9 +2,10 @@
 
 use crate::tests::play;
 use std::alloc::Global;
-use std::marker::Send;
+use std::marker::{Send, Sync};
 use std::sync::Wait;
 use std::test::Fail;
+use std::thread::Threads;
 
 /// A StateEvent, and the status and the text that it is to give.
 type Case<'a> = (&'a str, u8, &'a str);
@@ -115,7 +116,7 @@ const REFUSED: [Case; 13] = [
 ];
 
 /// The first input that gives another status or another text.
-fn first_wrong<'a, R: Wait + Clone + Send + Drop + 'static>(
+fn first_wrong<'a, R: Threads + Wait + Clone + Drop + Send + Sync + 'static>(
     rt: &R,
     alloc: Global,
     cases: &[Case<'a>],

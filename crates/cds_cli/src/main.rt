@@ -21,6 +21,7 @@ mod run;
 #[cfg(test)]
 mod scan_tests;
 mod scanning;
+mod serving;
 mod spawners;
 mod streams;
 #[cfg(test)]
@@ -61,7 +62,7 @@ fn main(rt: HostRuntime) -> ExitCode {
     let mut sink = Output::new(writer(&rt));
     let mut outside = RealOutside::new(rt);
     let status = match read_words(&rt, alloc) {
-        Ok(words) => run(alloc, &words, &mut source, &mut sink, &mut outside),
+        Ok(words) => run(&rt, alloc, &words, &mut source, &mut sink, &mut outside),
         Err(Mem) => OUT_OF_MEMORY,
     };
     ExitCode::from(status)

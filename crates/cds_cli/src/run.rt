@@ -9,19 +9,24 @@ ghost use Rattle.cds_script.specs.LoadBounds.{BoundsLoads};
 ghost use Rattle.cds_script.specs.Played.{script_turns, script_stop, report_of, IsReportOf};
 ghost use Rattle.cds_script.specs.Report.{script_ending};
 ghost use Rattle.cds_script.specs.ScriptGiven.{StandsAtScanEnds};
+ghost use Rattle.cds_serve.specs.Life.{EndsLife};
 ghost use Rattle.cds_cli.specs.Check.{EndsCheck, WritesCheck};
-ghost use Rattle.cds_cli.specs.Command.{command_of, TakesInput, help_text, version_text, usage_text};
+ghost use Rattle.cds_cli.specs.Command.{command_of, place_in, Serves, TakesInput, help_text, version_text, usage_text};
 ghost use Rattle.cds_cli.specs.Run.{Ends, Writes, EndsText, WritesText};
 ghost use Rattle.cds_cli.specs.Scan.{AsksFor, EndsScan, GivesBack, WritesScan, folder_in};
-ghost use Rattle.cds_cli.specs.declared.command.Command.TheVariants.{Replay, Check, Scan, Help, Version};
+ghost use Rattle.cds_cli.specs.declared.command.Command.TheVariants.{Replay, Check, Scan, Serve, Help, Version};
 
 use crate::checking::check;
-use crate::command::{Command, folder_in, read_command};
+use crate::command::{Command, folder_in, place_in, read_command};
 use crate::scanning::scan_folder;
+use crate::serving::serve_folder;
 use crate::written::write_text;
-use cds_base::{Outside, Sink, Source, Words};
+use cds_base::{Door, Folder, Outside, Sink, Source, Words};
 use cds_replay::{ReplayError, replay};
 use std::alloc::Global;
+use std::marker::{Send, Sync};
+use std::sync::Wait;
+use std::thread::Threads;
 
 /// What is written where the words are no command's.
 pub const USAGE: &str = "usage: cds COMMAND\n";
@@ -36,6 +41,9 @@ Commands:
   replay       play the script on standard input and write its report
   check        read a StateEvent on standard input and write its one written form
   scan FOLDER  scan a folder of FLAC files and write its catalog and the refused files
+  serve PORT FOLDER REQUESTS
+               serve a folder of FLAC files over HTTP until so many connections came;
+               with 4294967295 it goes on until it is interrupted
   --help       write this page
   --version    write the version
 
@@ -47,6 +55,7 @@ Exit status:
   4  memory ran out
   5  the words are no command
   6  the input, or a line of a script, is too long, or the folder has too much
+  7  the port, a connection or a thread could not be had
   8  the input of check is no StateEvent
 ";
 
@@ -104,16 +113,20 @@ fn write_usage<K: Sink>(sink: &mut K) -> u8
 /// limit` where it has more than 67,108,864 bytes without a fault before (6). `scan FOLDER` scans the folder once and
 /// writes each row of its catalog and LF, and `refused PATH` and LF for each file that was refused, in ascending order of
 /// their paths (0), or `error limit` where a path has too many names or bytes, or the folder too many entries or objects
-/// (6). `--help` and `--version`, each alone, write their text (status 0). Other words are no command's: the usage is
+/// (6). `serve PORT FOLDER REQUESTS` listens at the port, in decimal below 65,536, answers so many connections over HTTP, a
+/// number below 2^32, and writes `serving PORT` at the start and `served REQUESTS scans A refused B memory C` at the end (0),
+/// or ends with 7 where the port, a connection or a thread could not be had. `--help` and `--version`, each alone, write their text (status 0). Other words are no command's: the usage is
 /// written (status 5). A source that could not be read is status 2, and so is a folder of the outside; a sink that could
 /// not be written is 3, and 4 is that memory ran out.
-pub fn run<S: Source, K: Sink, O: Outside>(
-    alloc: Global,
-    words: &Words,
-    source: &mut S,
-    sink: &mut K,
-    outside: &mut O,
-) -> u8
+pub fn run<
+    R: Threads + Wait + Clone + Drop + Send + Sync + 'static,
+    S: Source,
+    K: Sink,
+    O: Outside,
+>(rt: &R, alloc: Global, words: &Words, source: &mut S, sink: &mut K, outside: &mut O) -> u8
+where
+    <O::D as Door>::Conn: Send,
+    <O::F as Folder>::File: Send,
     // What was written is exactly the report of the script, up to its end, its broken line or its limit.
     ensures report { command_of words.now ≡ Some Replay → WhereTold (S.left source.old)
         (λ bytes. WhereTold (K.holds sink.old) (λ before. Writes result (script_ending bytes).text before (K.holds sink.new))) }
@@ -158,9 +171,31 @@ pub fn run<S: Source, K: Sink, O: Outside>(
     ensures scan_asks { command_of words.now ≡ Some Scan → AsksFor (folder_in words.now) (O.asked outside.old) (O.asked outside.new) }
     ensures scan_back { command_of words.now ≡ Some Scan → GivesBack (O.ended outside.old) (O.ended outside.new) }
 
+    // `serve` ends by its causes: with 0 both lines are written, its doors gave as many connections as were asked for, and its
+    // spawner started six jobs. It may wait.
+    ensures serve { (port requests : ℕ) → command_of words.now ≡ Some (Serve port requests) →
+        EndsLife port (place_in words.now) requests result
+        (record {
+          faults = O.faults outside.old;
+          asked = O.asked outside.old;
+          connections = O.connections outside.old;
+          started = O.started outside.old;
+          sink_faults = K.faults sink.old;
+          holds = K.holds sink.old;
+        })
+        (record {
+          faults = O.faults outside.new;
+          asked = O.asked outside.new;
+          connections = O.connections outside.new;
+          started = O.started outside.new;
+          sink_faults = K.faults sink.new;
+          holds = K.holds sink.new;
+        }) }
+
     // Faults of the outside come only where their count rose.
     ensures read_fault { TakesInput (command_of words.now) → result ≡ 2 → Rose (S.faults source.old) (S.faults source.new) }
     ensures outside_fault { command_of words.now ≡ Some Scan → result ≡ 2 → Rose (O.faults outside.old) (O.faults outside.new) }
+    ensures service_fault { result ≡ 7 → Rose (O.faults outside.old) (O.faults outside.new) }
     ensures write_fault { result ≡ 3 → Rose (K.faults sink.old) (K.faults sink.new) }
 
     // The other commands, and words that are no command's, write one text and take nothing of the source.
@@ -171,19 +206,25 @@ pub fn run<S: Source, K: Sink, O: Outside>(
     ensures usage { command_of words.now ≡ None → EndsText result 5 × WhereTold (K.holds sink.old)
         (λ before. WritesText result usage_text before (K.holds sink.new)) }
     ensures untouched { (TakesInput (command_of words.now) → ⊥) → source.new ≡ source.old }
-    ensures outside_untouched { command_of words.now ≢ Some Scan → outside.new ≡ outside.old }
+    ensures outside_untouched { command_of words.now ≢ Some Scan → (Serves (command_of words.now) → ⊥) → outside.new ≡ outside.old }
 
     // No other status comes.
     ensures only_usage { result ≡ 5 → command_of words.now ≡ None }
     ensures only_replay { result ≡ 1 → command_of words.now ≡ Some Replay }
     ensures only_check { result ≡ 8 → command_of words.now ≡ Some Check }
-    ensures only_input { (result ≡ 2) ⊎ ((result ≡ 4) ⊎ (result ≡ 6)) → TakesInput (command_of words.now) ⊎ (command_of words.now ≡ Some Scan) }
-    ensures known { (result ≤ 6) ⊎ (result ≡ 8) }
+    ensures only_service { result ≡ 7 → Serves (command_of words.now) }
+    ensures only_input { (result ≡ 2) ⊎ (result ≡ 6) → TakesInput (command_of words.now) ⊎ (command_of words.now ≡ Some Scan) }
+    ensures only_memory { result ≡ 4 → TakesInput (command_of words.now) ⊎ ((command_of words.now ≡ Some Scan) ⊎ Serves (command_of words.now)) }
+    ensures known { result ≤ 8 }
 {
     match read_command(words.as_slice()) {
         Some(Command::Replay) => play(alloc, source, sink),
         Some(Command::Check) => check(alloc, source, sink),
         Some(Command::Scan) => scan_folder(alloc, folder_in(words.as_slice()), outside, sink),
+        Some(Command::Serve { port, requests }) => {
+            let folder = place_in(words.as_slice());
+            serve_folder(rt, alloc, port, folder, requests, sink, outside)
+        }
         Some(Command::Help) => write_help(sink),
         Some(Command::Version) => write_text(sink, VERSION.as_bytes(), 0),
         None => write_usage(sink),

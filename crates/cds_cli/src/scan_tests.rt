@@ -8,9 +8,10 @@ use cds_base::{
 };
 use std::alloc::Global;
 use std::convert::From;
-use std::marker::Send;
+use std::marker::{Send, Sync};
 use std::sync::Wait;
 use std::test::Fail;
+use std::thread::Threads;
 
 /// 44,100 Hz, 2 channels, 16 bits, 441,000 samples, and the comment `TITLE=Z`, whose block begins at byte 42.
 const FILE: [u8; 65] = [
@@ -72,8 +73,8 @@ fn folder(alloc: Global, items: &[(&str, usize)], fails: &[u32]) -> Result<MemFo
 }
 
 /// What `scan x` answers and writes to an outside that has this folder, and how many faults the outside counts.
-fn scanned<R: Wait + Clone + Send + Drop + 'static>(
-    _rt: &R,
+fn scanned<R: Threads + Wait + Clone + Drop + Send + Sync + 'static>(
+    rt: &R,
     alloc: Global,
     folder: MemFolder,
     writes: &[u32],
@@ -85,7 +86,7 @@ fn scanned<R: Wait + Clone + Send + Drop + 'static>(
     let mut objects = MemObjects::new(alloc);
     objects.folders.push(folder)?;
     let mut outside: MemOutside<R> = MemOutside::new(objects, Numbers::new(alloc));
-    let status = run(alloc, &words, &mut source, &mut sink, &mut outside);
+    let status = run(rt, alloc, &words, &mut source, &mut sink, &mut outside);
     let written = Vec::from_slice(alloc, sink.as_slice())?;
     Ok((status, written, outside.faults()))
 }
@@ -102,7 +103,7 @@ type Case<'a> = (
 );
 
 /// Whether a case comes out so.
-fn is_scanned<R: Wait + Clone + Send + Drop + 'static>(
+fn is_scanned<R: Threads + Wait + Clone + Drop + Send + Sync + 'static>(
     rt: &R,
     alloc: Global,
     case: &Case,

@@ -3,9 +3,10 @@
 use crate::run::run;
 use cds_base::{Bytes, MemObjects, MemOutside, MemSink, MemSource, Numbers, Text, Words};
 use std::alloc::Global;
-use std::marker::Send;
+use std::marker::{Send, Sync};
 use std::sync::Wait;
 use std::test::Fail;
+use std::thread::Threads;
 
 /// The words of a command line.
 pub fn words_of(alloc: Global, words: &[&str]) -> Result<Words, Fail> {
@@ -17,8 +18,8 @@ pub fn words_of(alloc: Global, words: &[&str]) -> Result<Words, Fail> {
 }
 
 /// What a run answers and leaves written, where these reads and these writes fail, counted from 1.
-pub fn play<R: Wait + Clone + Send + Drop + 'static>(
-    _rt: &R,
+pub fn play<R: Threads + Wait + Clone + Drop + Send + Sync + 'static>(
+    rt: &R,
     alloc: Global,
     words: &[&str],
     script: &[u8],
@@ -33,7 +34,7 @@ pub fn play<R: Wait + Clone + Send + Drop + 'static>(
         Numbers::from(Vec::from_slice(alloc, writes)?),
     );
     let mut outside: MemOutside<R> = MemOutside::new(MemObjects::new(alloc), Numbers::new(alloc));
-    let status = run(alloc, &words, &mut source, &mut sink, &mut outside);
+    let status = run(rt, alloc, &words, &mut source, &mut sink, &mut outside);
     let written = Vec::from_slice(alloc, sink.as_slice())?;
     Ok((status, written))
 }
@@ -42,7 +43,7 @@ pub fn play<R: Wait + Clone + Send + Drop + 'static>(
 pub type Case<'a> = (&'a str, u8, &'a str);
 
 /// The first script that gives another status or another report.
-pub fn first_wrong<'a, R: Wait + Clone + Send + Drop + 'static>(
+pub fn first_wrong<'a, R: Threads + Wait + Clone + Drop + Send + Sync + 'static>(
     rt: &R,
     alloc: Global,
     cases: &[Case<'a>],
