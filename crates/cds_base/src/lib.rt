@@ -75,12 +75,3 @@ pub type Moments = Sequence<u64>;
 
 /// A list of words, as a command line has them.
 pub type Words = Sequence<Text>;
-
-#[cfg(test)]
-mod folder_tests;
-#[cfg(test)]
-mod outside_tests;
-#[cfg(test)]
-mod tests;
-#[cfg(test)]
-mod wait_tests;

@@ -16,6 +16,3 @@ pub use laws::{an_object_is_one_row, pages_are_bounded, pages_show_each_child_on
 pub use page::{PAGE_LIMIT, Page};
 pub use runs::run_scans;
 pub use sort::SortKeys;
-
-#[cfg(test)]
-mod tests;

@@ -21,6 +21,3 @@ pub use filtering::Filter;
 pub use read::read_didl;
 pub use row_text::put_row;
 pub use write::{put_didl_end, put_didl_start, put_fragment, write_didl, write_fragment};
-
-#[cfg(test)]
-mod tests;

@@ -8,6 +8,3 @@ mod reply;
 
 pub use ask::{action_of, ask_bytes};
 pub use reply::read_reply;
-
-#[cfg(test)]
-mod tests;

@@ -11,6 +11,3 @@ mod read;
 pub use cds_object::{Comment, Comments, FlacInfo};
 pub use error::FlacError;
 pub use read::read_flac;
-
-#[cfg(test)]
-mod tests;

@@ -18,6 +18,3 @@ pub use gena::{Gena, asks_of_subscription, field_of, has_method, is_deliverable,
 pub use lease::{Lease, read_lease};
 pub use request::{write_renewal, write_subscribe, write_unsubscribe};
 pub use sid::Sid;
-
-#[cfg(test)]
-mod tests;

@@ -19,6 +19,3 @@ pub use fields::{Field, Fields};
 pub use message::{Fed, Message, Side, Start};
 pub use reader::MessageReader;
 pub use write::{write_reply, write_reply_head, write_request};
-
-#[cfg(test)]
-mod tests;

@@ -15,6 +15,3 @@ pub use cds_event::{Class, Event, Events};
 pub use error::StateError;
 pub use reader::StateReader;
 pub use write::write_state_event;
-
-#[cfg(test)]
-mod tests;

@@ -35,10 +35,3 @@ pub use read::{give_parts, read_document, read_parts};
 pub use reader::Reader;
 pub use sink::PartSink;
 pub use write::write_document;
-
-#[cfg(test)]
-mod reader_tests;
-#[cfg(test)]
-mod tests;
-#[cfg(test)]
-mod write_tests;

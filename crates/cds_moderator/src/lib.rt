@@ -6,6 +6,3 @@ pub mod laws;
 mod moderator;
 
 pub use moderator::Moderator;
-
-#[cfg(test)]
-mod tests;

@@ -14,6 +14,3 @@ pub use note::{Note, NoteError};
 pub use notify::write_notify;
 pub use propertyset::write_propertyset;
 pub use read::read_notify;
-
-#[cfg(test)]
-mod tests;

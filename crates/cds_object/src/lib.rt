@@ -22,6 +22,3 @@ pub use info::{Comment, Comments, FlacInfo};
 pub use path::Path;
 pub use record::{Record, Records};
 pub use row::{Row, Rows, Trackers};
-
-#[cfg(test)]
-mod tests;

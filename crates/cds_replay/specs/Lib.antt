@@ -1,5 +1,4 @@
 pub mod Events
-pub mod Flipped
 pub mod Lines
 pub mod Replay
 pub mod Replied

@@ -14,8 +14,3 @@ pub mod wire_laws;
 
 pub use play::{ReplayError, replay, replay_by};
 pub use wire::{Straight, Wire};
-
-#[cfg(test)]
-mod play_tests;
-#[cfg(test)]
-mod wire_tests;

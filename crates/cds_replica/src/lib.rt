@@ -28,19 +28,11 @@ pub use cds_follow::Says;
 pub use cds_gena::Sid;
 pub use cds_load::{Ask, Read, Shown};
 pub use cds_notify::Note;
+pub use changes::changes_above;
+pub use copy::CatalogCopy;
 pub use copy_row::CopyRow;
+pub use count_error::CountError;
 pub use error::AnswerError;
 pub use note::Taken;
 pub use notify_error::NotifyError;
 pub use replica::Replica;
-
-#[cfg(test)]
-mod copy_tests;
-#[cfg(test)]
-mod note_tests;
-#[cfg(test)]
-mod served;
-#[cfg(test)]
-mod tests;
-#[cfg(test)]
-mod wire;

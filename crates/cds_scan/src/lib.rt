@@ -11,6 +11,3 @@ mod walk;
 pub use error::ScanError;
 pub use scanned::{Refused, RefusedFile, Scan};
 pub use walk::scan;
-
-#[cfg(test)]
-mod tests;

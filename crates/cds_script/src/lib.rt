@@ -7,8 +7,6 @@ pub mod laws;
 mod line;
 pub mod line_laws;
 mod reply;
-#[cfg(test)]
-mod tests;
 mod turn;
 mod word;
 

@@ -15,8 +15,3 @@ mod ticking;
 pub use examples::{actions_are_answered, requests_are_routed, subscriptions_are_answered};
 pub use notes::{FirstNote, Notes};
 pub use server::Server;
-
-#[cfg(test)]
-mod event_tests;
-#[cfg(test)]
-mod tests;

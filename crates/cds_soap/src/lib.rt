@@ -29,6 +29,3 @@ pub use examples::{
 pub use laws::{answers_are_read, bodies_are_short, one_ask, one_reply, requests_are_read};
 pub use reply::read_answer;
 pub use request_text::write_action;
-
-#[cfg(test)]
-mod tests;

@@ -26,8 +26,3 @@ pub use keeping::Keeping;
 pub use plain::PlainStore;
 pub use span::Span;
 pub use store::Store;
-
-#[cfg(test)]
-mod span_tests;
-#[cfg(test)]
-mod tests;

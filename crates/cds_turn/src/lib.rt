@@ -15,6 +15,3 @@ pub use open::Open;
 pub use seat::Seat;
 pub use stands::{Act, StandsFor};
 pub use turn::Turn;
-
-#[cfg(test)]
-mod tests;

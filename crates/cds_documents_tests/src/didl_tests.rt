@@ -1,0 +1,336 @@
+use cds_didl::{DidlError, Filter, read_didl, write_didl, write_fragment};
+use cds_markup::MarkupError;
+use cds_object::{Content, ObjectId, Row, Rows};
+use std::alloc::{AllocError, Global};
+use std::test::Fail;
+
+/// The start tag of a document.
+const START: &str =
+    "<DIDL-Lite xmlns=\"urn:schemas-upnp-org:metadata-1-0/DIDL-Lite/\" xmlns:dc=\"http://purl.org/dc/elements/1.1/\" xmlns:upnp=\"urn:schemas-upnp-org:metadata-1-0/upnp/\">";
+
+/// A container and an item, as a server shows them.
+const CONTAINER: &str =
+    "<container id=\"1\" parentID=\"0\" restricted=\"1\" searchable=\"1\" childCount=\"1\"><dc:title>Rock</dc:title><upnp:class>object.container</upnp:class><upnp:objectUpdateID>1</upnp:objectUpdateID><upnp:containerUpdateID>2</upnp:containerUpdateID><upnp:totalDeletedChildCount>0</upnp:totalDeletedChildCount></container>";
+
+const ITEM: &str =
+    "<item id=\"2\" parentID=\"1\" restricted=\"1\"><dc:title>a</dc:title><upnp:class>object.item.audioItem.musicTrack</upnp:class><upnp:artist>A &amp; B</upnp:artist><upnp:album>C</upnp:album><upnp:genre>D</upnp:genre><upnp:originalTrackNumber>7</upnp:originalTrackNumber><upnp:objectUpdateID>2</upnp:objectUpdateID><res protocolInfo=\"http-get:*:audio/flac:*\" size=\"1000\" duration=\"0:00:10.000\" sampleFrequency=\"44100\" bitsPerSample=\"16\" nrAudioChannels=\"2\">/media/2</res></item>";
+
+/// What reading a document with these children answers.
+fn read_inside(alloc: Global, parts: &[&str]) -> Result<Result<Rows, DidlError>, AllocError> {
+    let mut text = String::from_str(alloc, START)?;
+    for part in parts {
+        text.push_str(part)?;
+    }
+    text.push_str("</DIDL-Lite>")?;
+    Ok(read_didl(alloc, text.as_str().as_bytes()))
+}
+
+/// The row at a place.
+fn row_at(rows: &Rows, at: usize) -> Result<&Row, Fail> {
+    match rows.get(at) {
+        Some(row) => Ok(row),
+        None => Err(Fail::from(DidlError::Mem)),
+    }
+}
+
+/// The text with one piece replaced by another.
+fn with(alloc: Global, text: &str, from: &str, to: &str) -> Result<String, AllocError> {
+    match text.split_once(from) {
+        Some((front, back)) => format!(in alloc; "{front}{to}{back}"),
+        None => String::from_str(alloc, ""),
+    }
+}
+
+/// Objects that are not as they have to be: of which kind, and the piece that is replaced by another.
+const BAD_OBJECTS: [(&str, &str, &str); 39] = [
+    (ITEM, " id=\"2\"", ""),
+    (ITEM, " id=\"2\"", " id=\"4294967296\""),
+    (ITEM, " id=\"2\"", " id=\"3\""),
+    (ITEM, " parentID=\"1\"", ""),
+    (ITEM, " parentID=\"1\"", " parentID=\"-1\""),
+    (ITEM, "<dc:title>a</dc:title>", ""),
+    (ITEM, "<dc:title>", "<dc:title>b</dc:title><dc:title>"),
+    (ITEM, "dc:title>a</dc:title", "upnp:title>a</upnp:title"),
+    (ITEM, "object.item.audioItem.musicTrack", "object.container"),
+    (ITEM, "<upnp:objectUpdateID>2</upnp:objectUpdateID>", ""),
+    (ITEM, "<upnp:objectUpdateID>2", "<upnp:objectUpdateID>"),
+    (
+        ITEM,
+        "<upnp:artist>",
+        "<upnp:artist>b</upnp:artist><upnp:artist>",
+    ),
+    (ITEM, "<upnp:album>", "<upnp:album/><upnp:album>"),
+    (
+        ITEM,
+        "<upnp:genre>",
+        "<upnp:genre></upnp:genre><upnp:genre>",
+    ),
+    (ITEM, "Number>7", "Number>x"),
+    (ITEM, "<res ", "<res/><res "),
+    (ITEM, "/media/2", "/media/02"),
+    (ITEM, "/media/2", "/media/2/"),
+    (ITEM, " size=\"1000\"", ""),
+    (ITEM, "size=\"1000\"", "size=\"18446744073709551616\""),
+    (ITEM, "size=\"1000\"", "size=\"x\""),
+    (ITEM, "0:00:10.000", "1:60:00"),
+    (ITEM, "0:00:10.000", "0:00:60"),
+    (ITEM, "0:00:10.000", "0:0:10"),
+    (ITEM, "0:00:10.000", ":00:10"),
+    (ITEM, "0:00:10.000", "0:00:10."),
+    (ITEM, "0:00:10.000", "0:00:10.5x"),
+    (ITEM, "0:00:10.000", "5124095576031:00:00"),
+    (ITEM, "\"44100\"", "\"\""),
+    (ITEM, "bitsPerSample=\"16\"", "bitsPerSample=\"256\""),
+    (ITEM, " bitsPerSample=\"16\"", ""),
+    (ITEM, " nrAudioChannels=\"2\"", ""),
+    (CONTAINER, " childCount=\"1\"", ""),
+    (CONTAINER, "<upnp:class>object.container</upnp:class>", ""),
+    (
+        CONTAINER,
+        "object.container",
+        "object.item.audioItem.musicTrack",
+    ),
+    (
+        CONTAINER,
+        "<upnp:containerUpdateID>2</upnp:containerUpdateID>",
+        "",
+    ),
+    (
+        CONTAINER,
+        "<upnp:totalDeletedChildCount>0</upnp:totalDeletedChildCount>",
+        "",
+    ),
+    (
+        CONTAINER,
+        "id=\"1\" parentID=\"0\"",
+        "id=\"0\" parentID=\"0\"",
+    ),
+    (
+        CONTAINER,
+        "id=\"1\" parentID=\"0\"",
+        "id=\"00\" parentID=\"-01\"",
+    ),
+];
+
+#[test]
+fn refusals_have_their_places(rt: HostRuntime) -> Result<(), Fail> {
+    let alloc = rt.alloc();
+    for (kind, from, to) in BAD_OBJECTS {
+        let bad = with(alloc, kind, from, to)?;
+        assert!(rt; bad.len() > 0, "{from}");
+        let at = START.len() + CONTAINER.len() + 1;
+        match read_inside(alloc, &[CONTAINER, " ", bad.as_str(), "<x/>"])? {
+            Ok(_) => assert!(rt; false, "{from} {to}"),
+            Err(error) => assert_eq!(rt; error, DidlError::BadValue { at }, "{from} {to}"),
+        }
+    }
+    for (text, want) in [
+        ("<a/>", DidlError::NotDidl { at: 0 }),
+        (
+            "<?xml version=\"1.0\"?> <DIDL-Lite/>",
+            DidlError::NotDidl { at: 22 },
+        ),
+        ("<a", DidlError::Markup(MarkupError::Bad { at: 2 })),
+        ("", DidlError::Markup(MarkupError::Bad { at: 0 })),
+    ] {
+        match read_didl(alloc, text.as_bytes()) {
+            Ok(_) => assert!(rt; false, "{text}"),
+            Err(error) => assert_eq!(rt; error, want, "{text}"),
+        }
+    }
+    for other in ["<x/>", "<dc:item/>", "<Item/>"] {
+        match read_inside(alloc, &[" x ", other, "<item/>"])? {
+            Ok(_) => assert!(rt; false, "{other}"),
+            Err(error) => assert_eq!(rt;
+                error,
+                DidlError::NotDidl {
+                    at: START.len() + 3
+                },
+                "{other}"
+            ),
+        }
+    }
+    Ok(())
+}
+
+/// Durations: the piece that is replaced, by which, and the milliseconds.
+const DURATIONS: [(&str, &str, Option<u64>); 6] = [
+    ("0:00:10.000", "0:00:10.000", Some(10000)),
+    ("0:00:10.000", "01:02:03", Some(3723000)),
+    ("0:00:10.000", "0:00:00.5", Some(500)),
+    ("0:00:10.000", "0:59:59.98765", Some(3599987)),
+    (
+        "0:00:10.000",
+        "5124095576030:25:51.615",
+        Some(18446744073709551615),
+    ),
+    (" duration=\"0:00:10.000\"", "", None),
+];
+
+#[test]
+fn durations_are_read(rt: HostRuntime) -> Result<(), Fail> {
+    let alloc = rt.alloc();
+    for (from, to, want) in DURATIONS {
+        let item = with(alloc, ITEM, from, to)?;
+        match read_inside(alloc, &[item.as_str()])? {
+            Ok(rows) => match &row_at(&rows, 0)?.content {
+                Content::Track(track) => assert!(rt; track.duration == want, "{to}"),
+                Content::Folder { .. } => assert!(rt; false),
+            },
+            Err(_) => assert!(rt; false, "{to}"),
+        }
+    }
+    Ok(())
+}
+
+#[test]
+fn what_is_not_named_is_passed_over(rt: HostRuntime) -> Result<(), Fail> {
+    let alloc = rt.alloc();
+    let other = with(
+        alloc,
+        ITEM,
+        "<res protocolInfo=\"http-get:*:audio/flac:*\"",
+        "<y z=\"1\"><upnp:genre/></y>x<res a=\"b\"",
+    )?;
+    let other = with(alloc, other.as_str(), " sampleFrequency=\"44100\"", "")?;
+    match read_inside(alloc, &[CONTAINER, other.as_str()])? {
+        Ok(rows) => {
+            assert_eq!(rt; rows.len(), 2);
+            let row = row_at(&rows, 1)?;
+            assert!(rt;
+                row.id == ObjectId(2) && row.parent == Some(ObjectId(1)) && row.object_update == 2
+            );
+            match &row.content {
+                Content::Track(track) => {
+                    assert_eq!(rt; track.title.as_str(), "a");
+                    assert!(rt; track.number == Some(7) && track.rate == 0 && track.bits == 16);
+                }
+                Content::Folder { .. } => assert!(rt; false),
+            }
+        }
+        Err(_) => assert!(rt; false),
+    }
+    Ok(())
+}
+
+/// The rows of a folder and a track.
+fn rows(alloc: Global) -> Result<Rows, Fail> {
+    match read_inside(alloc, &[CONTAINER, ITEM])? {
+        Ok(rows) => Ok(rows),
+        Err(error) => Err(Fail::from(error)),
+    }
+}
+
+#[test]
+fn rows_are_written_and_read_back(rt: HostRuntime) -> Result<(), Fail> {
+    let alloc = rt.alloc();
+    let rows = rows(alloc)?;
+    let mut out = Vec::new(alloc);
+    write_didl(rows.as_slice(), &Filter::all(), "", &mut out)?;
+    let want = format!(in alloc; "{START}{CONTAINER}{ITEM}</DIDL-Lite>")?;
+    assert!(rt; out.as_slice() == want.as_bytes());
+    let mut out = Vec::new(alloc);
+    write_didl(rows.as_slice(), &Filter::all(), "http://h:1/&\"<", &mut out)?;
+    match read_didl(alloc, out.as_slice()) {
+        Ok(again) => {
+            assert_eq!(rt; again.len(), 2);
+            for (one, other) in rows.as_slice().iter().zip(again.as_slice()) {
+                assert!(rt;
+                    one.id == other.id && one.parent == other.parent && one.content == other.content
+                );
+                assert!(rt;
+                    one.object_update == other.object_update && one.trackers == other.trackers
+                );
+            }
+        }
+        Err(_) => assert!(rt; false),
+    }
+    Ok(())
+}
+
+/// A container with nothing that a filter may leave out, and the beginning of such an item.
+const BARE: &str =
+    "<container id=\"1\" parentID=\"0\" restricted=\"1\"><dc:title>Rock</dc:title><upnp:class>object.container</upnp:class></container>";
+
+const FRONT: &str =
+    "<item id=\"2\" parentID=\"1\" restricted=\"1\"><dc:title>a</dc:title><upnp:class>object.item.audioItem.musicTrack</upnp:class>";
+
+/// Filters, the number of a row, and what is written of it, in two parts.
+const FILTERED: [(&str, usize, &str, &str); 11] = [
+    ("", 0, BARE, ""),
+    ("x,*,upnp:Artist,res@x", 0, BARE, ""),
+    (
+        " @childCount , container@searchable ",
+        0,
+        "<container id=\"1\" parentID=\"0\" restricted=\"1\" searchable=\"1\" childCount=\"1\"><dc:title>Rock</dc:title><upnp:class>object.container</upnp:class></container>",
+        "",
+    ),
+    (
+        "upnp:containerUpdateID,upnp:totalDeletedChildCount",
+        0,
+        "<container id=\"1\" parentID=\"0\" restricted=\"1\"><dc:title>Rock</dc:title><upnp:class>object.container</upnp:class><upnp:containerUpdateID>2</upnp:containerUpdateID><upnp:totalDeletedChildCount>0</upnp:totalDeletedChildCount></container>",
+        "",
+    ),
+    ("*", 0, CONTAINER, ""),
+    ("*", 1, ITEM, ""),
+    ("res@y", 1, FRONT, "</item>"),
+    (
+        "upnp:genre,res@size",
+        1,
+        FRONT,
+        "<upnp:genre>D</upnp:genre><res protocolInfo=\"http-get:*:audio/flac:*\" size=\"1000\">/media/2</res></item>",
+    ),
+    (
+        "res@protocolInfo",
+        1,
+        FRONT,
+        "<res protocolInfo=\"http-get:*:audio/flac:*\">/media/2</res></item>",
+    ),
+    (
+        "res,res@size",
+        1,
+        FRONT,
+        "<res protocolInfo=\"http-get:*:audio/flac:*\" size=\"1000\" duration=\"0:00:10.000\" sampleFrequency=\"44100\" bitsPerSample=\"16\" nrAudioChannels=\"2\">/media/2</res></item>",
+    ),
+    (
+        "upnp:artist,upnp:objectUpdateID",
+        1,
+        FRONT,
+        "<upnp:artist>A &amp; B</upnp:artist><upnp:objectUpdateID>2</upnp:objectUpdateID></item>",
+    ),
+];
+
+#[test]
+fn filters_let_through_what_they_name(rt: HostRuntime) -> Result<(), Fail> {
+    let alloc = rt.alloc();
+    let rows = rows(alloc)?;
+    for (text, number, want, more) in FILTERED {
+        let mut out = Vec::new(alloc);
+        let filter = Filter::read(alloc, text)?;
+        write_fragment(row_at(&rows, number)?, &filter, "", &mut out)?;
+        let want = format!(in alloc; "{want}{more}")?;
+        assert!(rt; out.as_slice() == want.as_bytes(), "{text}");
+    }
+    Ok(())
+}
+
+#[test]
+fn texts_are_escaped(rt: HostRuntime) -> Result<(), Fail> {
+    let alloc = rt.alloc();
+    let front =
+        "<item id=\"1\" parentID=\"0\" restricted=\"1\"><dc:title>A &amp; &quot;B&quot; &lt;C&gt;\u{fffd}</dc:title><upnp:class>object.item.audioItem.musicTrack</upnp:class><upnp:objectUpdateID>1</upnp:objectUpdateID><res protocolInfo=\"http-get:*:audio/flac:*\" size=\"10\" bitsPerSample=\"16\" nrAudioChannels=\"2\">";
+    let item = format!(in alloc; "{front}/media/1</res></item>")?;
+    match read_inside(alloc, &[item.as_str()])? {
+        Ok(rows) => {
+            let mut out = Vec::new(alloc);
+            write_fragment(row_at(&rows, 0)?, &Filter::all(), "", &mut out)?;
+            assert!(rt; out.as_slice() == item.as_bytes());
+            let mut out = Vec::new(alloc);
+            write_fragment(row_at(&rows, 0)?, &Filter::all(), "http://h?a&b", &mut out)?;
+            let based = format!(in alloc; "{front}http://h?a&amp;b/media/1</res></item>")?;
+            assert!(rt; out.as_slice() == based.as_bytes());
+        }
+        Err(_) => assert!(rt; false),
+    }
+    Ok(())
+}

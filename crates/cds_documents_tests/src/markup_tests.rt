@@ -1,0 +1,212 @@
+use cds_markup::{MarkupError, Part, Parts, Reader, read_document, read_parts};
+use std::alloc::Global;
+use std::test::Fail;
+
+/// Why these bytes are no document, read one byte at a time; `None` for a document.
+fn refusal_by_bytes(alloc: Global, bytes: &[u8]) -> Option<MarkupError> {
+    let mut reader = match Reader::new(alloc) {
+        Ok(reader) => reader,
+        Err(_) => return Some(MarkupError::Mem),
+    };
+    for byte in bytes {
+        if let Err(refusal) = reader.feed(alloc, &[*byte]) {
+            return Some(refusal);
+        }
+    }
+    reader.finish(alloc).err()
+}
+
+/// The same at once, one byte at a time and as parts. `Failed` where two of these differ.
+pub fn refusal(alloc: Global, bytes: &[u8]) -> Option<MarkupError> {
+    let whole = read_document(alloc, bytes).err();
+    let mut parts = Parts::new(alloc);
+    let told = read_parts(alloc, bytes, &mut parts).err();
+    if refusal_by_bytes(alloc, bytes) == whole && told == whole {
+        whole
+    } else {
+        Some(MarkupError::Failed)
+    }
+}
+
+/// Bytes that are no document, each with the place of its first fault.
+const FAULTS: [(&'static [u8], usize); 47] = [
+    (b"", 0),
+    (b"  ", 2),
+    (b"\xEF\xBB\xBF", 3),
+    (b"\xEF\xBB<a/>", 2),
+    (b"x", 0),
+    (b"<", 1),
+    (b"<1/>", 1),
+    (b"<a", 2),
+    (b"<a/", 3),
+    (b"<a/ >", 3),
+    (b"<a><b></a>", 8),
+    (b"<a></a", 6),
+    (b"<a></ab>", 6),
+    (b"<a/>x", 4),
+    (b"<a/><b/>", 5),
+    (b"<a>]]></a>", 5),
+    (b"<a>\x01</a>", 3),
+    (b"<a>\xC0\x80</a>", 3),
+    (b"<a>\xE2\x82</a>", 5),
+    (b"<a>\xE2\x82", 5),
+    (b"<a>\xEF\xBF\xBE</a>", 5),
+    (b"<a>\xED\xA0\x80</a>", 4),
+    (b"<a>\xF4\x90\x80\x80</a>", 4),
+    (b"<a>&bad;</a>", 4),
+    (b"<a>&amq;</a>", 6),
+    (b"<a>&;</a>", 4),
+    (b"<a>&#;</a>", 5),
+    (b"<a>&#1114112;</a>", 11),
+    (b"<a>&#x110000;</a>", 11),
+    (b"<a>&#xFFFE;</a>", 10),
+    (b"<a b=\"&#xD800;\"/>", 13),
+    (b"<a b=\"<\"/>", 6),
+    (b"<a b=\"&\"/>", 7),
+    (b"<a b/>", 4),
+    (b"<a b=1/>", 5),
+    (b"<a b=\"1\"c=\"2\"/>", 8),
+    (b"<a b=\"1\" b=\"2\"/>", 14),
+    (b"<a x:y=\"1\"/>", 10),
+    (b"<x:a/>", 4),
+    (b"<a xmlns:x=\"\"/>", 13),
+    (b"<a xmlns:xml=\"u\"/>", 16),
+    (b"<a xmlns:x=\"u\" xmlns:y=\"u\" x:b=\"1\" y:b=\"2\"/>", 42),
+    (b"<!-- -- --><a/>", 7),
+    (b"<!DOCTYPE a><a/>", 2),
+    (b"<a x:y='1'/>", 10),
+    (b"<a b='1' b='2'", 14),
+    (b"<a b='1' b='2'/", 14),
+];
+
+/// Documents.
+const DOCUMENTS: [&'static [u8]; 15] = [
+    b"<a/>",
+    b"<a></a>",
+    b"\xEF\xBB\xBF<?xml version='1.0' encoding=\"utf-8\" standalone='no' ?> <!-- x --> <a/> ",
+    b"<?xml version = \"1.0\"?><a/>",
+    b"<a/><!-- a --->",
+    b"<!--->--><a/>",
+    b"<a>]]</a>",
+    b"<a><![CDATA[ <&]]]]></a>",
+    b"<a>&#0000000000000000000038;&#x26;&lt;</a>",
+    b"<x:a xmlns:x='u' xml:lang='en' x:b='' b=''/>",
+    b"<a xmlns='u'><b xmlns=''/></a>",
+    b"<\xC3\xA9.1 \xE2\x82\xAC=''/>",
+    b"<a b='\"&quot;>]]>'/>",
+    b"<a ></a >",
+    b"<a>&#10;</a>\r\n",
+];
+
+/// Seventeen elements, each in the one before.
+const DEEP: &[u8] = b"<a><a><a><a><a><a><a><a><a><a><a><a><a><a><a><a><a>";
+
+#[test]
+fn each_call_gives_the_same_answer(rt: HostRuntime) -> Result<(), Fail> {
+    for (bytes, at) in FAULTS {
+        let answer = refusal(rt.alloc(), bytes);
+        assert!(rt; answer == Some(MarkupError::Bad { at }), "{at}: {answer:?}");
+    }
+    for bytes in DOCUMENTS {
+        let answer = refusal(rt.alloc(), bytes);
+        assert!(rt; answer.is_none(), "{answer:?}");
+    }
+    let answer = refusal(rt.alloc(), DEEP);
+    assert!(rt;
+        answer == Some(MarkupError::TooDeep { at: 49 }),
+        "{answer:?}"
+    );
+    Ok(())
+}
+
+/// Each part in one line.
+fn told(alloc: Global, bytes: &[u8]) -> Result<String, Fail> {
+    let mut parts = Parts::new(alloc);
+    let answer = read_parts(alloc, bytes, &mut parts);
+    let mut lines = String::new(alloc);
+    for part in parts.as_slice() {
+        let line = match part {
+            Part::Start {
+                at,
+                end,
+                name,
+                attrs,
+            } => {
+                let mut line = format!(in alloc;
+                    "start {at} {end} {}:{}",
+                    name.space.as_str(),
+                    name.local.as_str()
+                )?;
+                for attr in attrs.as_slice() {
+                    let more = format!(in alloc;
+                        " {}:{}={}",
+                        attr.name.space.as_str(),
+                        attr.name.local.as_str(),
+                        attr.value.as_str()
+                    )?;
+                    line.push_str(more.as_str())?;
+                }
+                line
+            }
+            Part::End { at } => format!(in alloc; "end {at}")?,
+            Part::Run {
+                at,
+                non_blank,
+                text,
+            } => format!(in alloc; "run {at} {non_blank:?} {}", text.as_str())?,
+        };
+        lines.push_str(line.as_str())?;
+        lines.push('\n')?;
+    }
+    let last = format!(in alloc; "{answer:?}")?;
+    lines.push_str(last.as_str())?;
+    Ok(lines)
+}
+
+#[test]
+fn parts_have_their_places(rt: HostRuntime) -> Result<(), Fail> {
+    let cases: [(&[u8], &str); 13] = [
+        (
+            b"<a xmlns='u' b='1\r\n2'> \r\nx\r<b/>&#13;<![CDATA[]]></a>",
+            "start 0 21 u:a :b=1 2\nrun 22 Some(25)  \nx\n\nstart 27 29 u:b\nend 29\nrun 31 Some(31) \r\nrun 36 Some(36) \nend 48\nOk(())",
+        ),
+        (b"<a/>x", "start 0 2 :a\nend 2\nErr(Bad { at: 4 })"),
+        (
+            b"<a> x&bad",
+            "start 0 2 :a\nrun 3 Some(4)  x\nErr(Bad { at: 6 })",
+        ),
+        (
+            b"<a>]]>",
+            "start 0 2 :a\nrun 3 Some(3) ]]\nErr(Bad { at: 5 })",
+        ),
+        (
+            b"<a>\xE2\x82",
+            "start 0 2 :a\nrun 3 Some(3) \nErr(Bad { at: 5 })",
+        ),
+        (
+            b"<a> \xE2\x82<",
+            "start 0 2 :a\nrun 3 Some(4)  \nErr(Bad { at: 6 })",
+        ),
+        (
+            b"<a>  <b",
+            "start 0 2 :a\nrun 3 None   \nErr(Bad { at: 7 })",
+        ),
+        (b"<a><b/x", "start 0 2 :a\nstart 3 5 :b\nErr(Bad { at: 6 })"),
+        (b"<a><b/", "start 0 2 :a\nstart 3 5 :b\nErr(Bad { at: 6 })"),
+        (b"<a><x:b/>", "start 0 2 :a\nErr(Bad { at: 7 })"),
+        (b"<a></a", "start 0 2 :a\nErr(Bad { at: 6 })"),
+        (
+            b"<a><!-- x --> <![CDATA[y]>",
+            "start 0 2 :a\nrun 13 None  \nErr(Bad { at: 26 })",
+        ),
+        (
+            DEEP,
+            "start 0 2 :a\nstart 3 5 :a\nstart 6 8 :a\nstart 9 11 :a\nstart 12 14 :a\nstart 15 17 :a\nstart 18 20 :a\nstart 21 23 :a\nstart 24 26 :a\nstart 27 29 :a\nstart 30 32 :a\nstart 33 35 :a\nstart 36 38 :a\nstart 39 41 :a\nstart 42 44 :a\nstart 45 47 :a\nErr(TooDeep { at: 49 })",
+        ),
+    ];
+    for (bytes, want) in cases {
+        let lines = told(rt.alloc(), bytes)?;
+        assert!(rt; lines.as_str() == want, "{}", lines.as_str());
+    }
+    Ok(())
+}
