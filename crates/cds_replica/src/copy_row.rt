@@ -119,7 +119,7 @@ fn count_row(row: &mut Row, change: ChildChange, number: u32)
 
 impl CopyRow {
     /// A row that a load has read.
-    pub(crate) fn of(row: Row) -> CopyRow
+    pub fn of(row: Row) -> CopyRow
         ensures { result ≡ loaded_row row }
     {
         CopyRow {
