@@ -14,7 +14,7 @@ use Rattle.cds_turn.specs.Line.{Extends}
 use Rattle.cds_serve.specs.Acts.{IsReplyGiven, free_text, reply_adds, reply_requests, reply_text}
 use Rattle.cds_serve.specs.Answered.{Around, Broken, Free, Handled, NeedsTurn, Serves, Starved, Unhandled, free_status, no_memory_reply}
 use Rattle.cds_serve.specs.Sent.{GivesAll, GivesEach, first_requests}
-use Rattle.cds_serve.specs.Told.{IsMoment, WritesTo}
+use Rattle.cds_serve.specs.Told.{IsAlone, IsMoment, WritesTo}
 use Rattle.cds_serve.specs.declared.acts.Reply.{Reply}
 
 -- ---- what was written
@@ -60,28 +60,28 @@ module _ {A : Type 0} (start : Start) (result : Result A Memory) (before now : �
   WritesHere text = WritesTo text old.conn.holds new.conn.holds old.conn.write_faults new.conn.write_faults
 
   -- a turn was taken
-  pub turned : (found : List Command) (m : Message) (reply : Result Reply Memory) → ForBytes (NeedsTurn m) → Extends found old.seat.seen
+  pub turned : (found : List Command) (m : Message) (reply : Result Reply Memory) → ForBytes (NeedsTurn m) → Extends found old.seat.seen → IsAlone old.seat found
       → IsReplyGiven start found now m reply
-      → new.seat ≡ record { seen = reply_adds start found now m reply ++ found; passes = old.seat.passes; turns = old.seat.turns + 1 }
+      → new.seat ≡ record { seen = reply_adds start found now m reply ++ found; passes = old.seat.passes; turns = old.seat.turns + 1; seats = old.seat.seats }
       → IsMoment old.clock new.clock before now → WritesHere (reply_text reply)
       → GivesAll result (reply_requests reply) old.link.requests new.link.requests → (IsErr reply → IsErr result)
       → Serves start result before now old new
-  turned found m (Ok reply) bytes begun given seat moment written notes starved = record {
+  turned found m (Ok reply) bytes begun alone given seat moment written notes starved = record {
     course = Handled found m;
     for_bytes = bytes;
     cause = tt;
-    turn = (begun, seat);
+    turn = (begun, alone, seat);
     moment = moment;
     text = reply.text;
     owed = given.0;
     written = written;
     notes = subst (λ n. GivesAll result (first_requests n) old.link.requests new.link.requests) given.1 notes;
   }
-  turned found m (Err memory) bytes begun given seat moment written notes starved = record {
+  turned found m (Err memory) bytes begun alone given seat moment written notes starved = record {
     course = Unhandled found m;
     for_bytes = bytes;
     cause = starved refl;
-    turn = (begun, seat);
+    turn = (begun, alone, seat);
     moment = moment;
     text = no_memory_reply;
     owed = refl;
@@ -91,17 +91,18 @@ module _ {A : Type 0} (start : Start) (result : Result A Memory) (before now : �
 
   -- the same of the moment that the turn was given
   pub turned-at : (found : List Command) (m : Message) (reply : Result Reply Memory) (tick : ℕ) → tick ≡ now → ForBytes (NeedsTurn m)
-      → Extends found old.seat.seen → IsReplyGiven start found tick m reply → new.seat.seen ≡ reply_adds start found tick m reply ++ found
-      → new.seat.passes ≡ old.seat.passes → new.seat.turns ≡ old.seat.turns + 1
+      → Extends found old.seat.seen → IsAlone old.seat found → IsReplyGiven start found tick m reply → new.seat.seen ≡ reply_adds start found tick m reply ++ found
+      → new.seat.passes ≡ old.seat.passes → new.seat.turns ≡ old.seat.turns + 1 → new.seat.seats ≡ old.seat.seats
       → IsMoment old.clock new.clock before now → WritesHere (reply_text reply)
       → GivesAll result (reply_requests reply) old.link.requests new.link.requests → (IsErr reply → IsErr result)
       → Serves start result before now old new
-  turned-at found m reply tick same bytes begun given seen passes turns moment written notes starved =
-      turned found m reply bytes begun (subst (λ (n : ℕ). IsReplyGiven start found n m reply) same given)
+  turned-at found m reply tick same bytes begun alone given seen passes turns seats moment written notes starved =
+      turned found m reply bytes begun alone (subst (λ (n : ℕ). IsReplyGiven start found n m reply) same given)
       (λ i. record {
         seen = (seen ∙ ap (λ (n : ℕ). reply_adds start found n m reply ++ found) same) i;
         passes = passes i;
         turns = turns i;
+        seats = seats i;
       }) moment written notes starved
 
   -- none was

@@ -8,10 +8,10 @@ use Rattle.cds_serve.specs.Acts.{IsLook, look_adds}
 use Rattle.cds_serve.specs.Jobs.{EndsNotifying}
 use Rattle.cds_serve.specs.Looked.{Beside, Looks, due_requests}
 use Rattle.cds_serve.specs.Sent.{GivesEach, GivesFront, release_requests}
-use Rattle.cds_serve.specs.Told.{IsMoment}
+use Rattle.cds_serve.specs.Told.{IsAlone, IsMoment}
 use Rattle.cds_serve.specs.declared.acts.Look.{Look}
 
-module _ (start : Start) (before now : ℕ) (old new : Beside) (found : List Command) (begun : Extends found old.seat.seen)
+module _ (start : Start) (before now : ℕ) (old new : Beside) (found : List Command) (begun : Extends found old.seat.seen) (alone : IsAlone old.seat found)
     (passes : new.seat.passes ≡ old.seat.passes) (turns : new.seat.turns ≡ old.seat.turns + 1) (moment : IsMoment old.clock new.clock before now) where
   -- the server ticked, and all notes were given
   pub looks-all : (look : Look) → IsLook start found now (Ok look) → new.seat.seen ≡ look_adds now (Ok look) ++ found
@@ -19,6 +19,7 @@ module _ (start : Start) (before now : ℕ) (old new : Beside) (found : List Com
   looks-all look is seen given = record {
     found = found;
     begun = begun;
+    alone = alone;
     ticked = (is.1, seen, subst (λ (n : Option Notes). GivesEach (release_requests n) old.link.requests new.link.requests) is.0 given);
     passes = passes;
     turns = turns;
@@ -31,6 +32,7 @@ module _ (start : Start) (before now : ℕ) (old new : Beside) (found : List Com
   looks-front look memory is seen given = record {
     found = found;
     begun = begun;
+    alone = alone;
     ticked = inr (seen, subst (λ (n : Option Notes). GivesFront (release_requests n) old.link.requests new.link.requests) is.0 given);
     passes = passes;
     turns = turns;
@@ -66,6 +68,7 @@ module _ (start : Start) (before now : ℕ) (old new : Beside) (found : List Com
   looks-none memory other seen same = record {
     found = found;
     begun = begun;
+    alone = alone;
     ticked = inl (seen, same);
     passes = passes;
     turns = turns;

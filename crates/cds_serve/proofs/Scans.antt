@@ -12,7 +12,7 @@ use Rattle.cds_store.specs.declared.span.Span.{Span}
 use Rattle.cds_turn.specs.Line.{Extends}
 use Rattle.cds_serve.specs.Acts.{IsScanAnswer, scan_adds}
 use Rattle.cds_serve.specs.Scanned.{Across, IsUnscanned, MayGive, ScansOnce, TakesNone, declined}
-use Rattle.cds_serve.specs.Told.{IsMoment, SeatTold}
+use Rattle.cds_serve.specs.Told.{IsAlone, IsMoment, SeatTold}
 use Rattle.cds_serve.specs.declared.scanning.ScanRefused.{ScanRefused}
 use Rattle.cds_serve.specs.declared.scanning.ScanRefused.TheVariants as refused
 
@@ -32,11 +32,8 @@ zero-line history records = by (nat_lt 65535 (length records)) (nat_lt 429496729
     by false false = refl
 
 -- a seat by its parts
-seat-as : (a b : SeatTold) → a.seen ≡ b.seen → a.passes ≡ b.passes → a.turns ≡ b.turns → a ≡ b
-seat-as a b seen passes turns =
-    ap (λ l. record { seen = l; passes = a.passes; turns = a.turns }) seen
-    ∙ ap (λ n. record { seen = b.seen; passes = n; turns = a.turns }) passes
-    ∙ ap (λ n. record { seen = b.seen; passes = b.passes; turns = n }) turns
+seat-as : (a b : SeatTold) → a.seen ≡ b.seen → a.passes ≡ b.passes → a.turns ≡ b.turns → a.seats ≡ b.seats → a ≡ b
+seat-as a b seen passes turns seats = λ i. record { seen = seen i; passes = passes i; turns = turns i; seats = seats i }
 
 module _ (start : Start) (before now : ℕ) (old new : Across) where
   -- the folder was not scanned
@@ -47,22 +44,22 @@ module _ (start : Start) (before now : ℕ) (old new : Across) where
   unscanned A refused.Mem is seat moment clock = inl (seat, moment, clock)
 
   module _ (scan : Scan) (given : MayGive old.folder new.folder scan) (found : List Command) (begun : Extends found old.seat.seen)
-      (moment : IsMoment old.clock new.clock before now) where
+      (alone : IsAlone old.seat found) (moment : IsMoment old.clock new.clock before now) where
     -- it was accepted
     pub accepted : {A : Type 0} (value : A) (span : Span) → IsScanAnswer start found scan.records (Ok span)
-        → new.seat ≡ record { seen = scan_adds scan.records (Ok span) ++ found; passes = old.seat.passes; turns = old.seat.turns + 1 }
+        → new.seat ≡ record { seen = scan_adds scan.records (Ok span) ++ found; passes = old.seat.passes; turns = old.seat.turns + 1; seats = old.seat.seats }
         → ScansOnce start (Ok value) before now old new
     accepted value span is seat = record {
       scan = scan;
       given = given;
       found = found;
       accepted = is;
-      turn = record { begun = begun; seat = seat; moment = moment };
+      turn = record { begun = begun; alone = alone; seat = seat; moment = moment };
     }
 
     -- it was not
     pub refused-by : (A : Type 0) (error : ApplyError) → bad_record scan.records ≡ None → IsScanAnswer start found scan.records (Err error)
-        → new.seat ≡ record { seen = found; passes = old.seat.passes; turns = old.seat.turns + 1 }
+        → new.seat ≡ record { seen = found; passes = old.seat.passes; turns = old.seat.turns + 1; seats = old.seat.seats }
         → ScansOnce {A = A} start (Err (declined error)) before now old new
     refused-by A (apply_error.BadRecords line) good is seat = absurd (never (sym is ∙ ap (answer_by (scans_of start.first found) scan.records) good))
       where
@@ -79,31 +76,31 @@ module _ (start : Start) (before now : ℕ) (old new : Across) where
       given = given;
       found = found;
       refused = is;
-      turn = record { begun = begun; seat = seat; moment = moment };
+      turn = record { begun = begun; alone = alone; seat = seat; moment = moment };
     }
     refused-by A (apply_error.Spent needed) good is seat = record {
       scan = scan;
       given = given;
       found = found;
       refused = is;
-      turn = record { begun = begun; seat = seat; moment = moment };
+      turn = record { begun = begun; alone = alone; seat = seat; moment = moment };
     }
-    refused-by A apply_error.Mem good is seat = inr (found, record { begun = begun; seat = seat; moment = moment })
+    refused-by A apply_error.Mem good is seat = inr (found, record { begun = begun; alone = alone; seat = seat; moment = moment })
 
     -- as it was answered
     pub taken : {A : Type 0} (answer : Result Span ApplyError) (result : Result A ScanRefused) (given_scan : Scan) → given_scan ≡ scan
         → bad_record scan.records ≡ None → IsScanAnswer start found given_scan.records answer
         → new.seat.seen ≡ scan_adds given_scan.records answer ++ found → new.seat.passes ≡ old.seat.passes → new.seat.turns ≡ old.seat.turns + 1
-        → OnOk answer (IsOk result) → IfErr answer (λ refusal. IsErrOf result (declined refusal)) → ScansOnce start result before now old new
-    taken {A} (Ok span) (Ok value) given_scan same good is seen passes turns ok err =
+        → new.seat.seats ≡ old.seat.seats → OnOk answer (IsOk result) → IfErr answer (λ refusal. IsErrOf result (declined refusal)) → ScansOnce start result before now old new
+    taken {A} (Ok span) (Ok value) given_scan same good is seen passes turns seats ok err =
         accepted value span (subst (λ (k : Scan). IsScanAnswer start found k.records (Ok span)) same is)
-        (seat-as new.seat (record { seen = scan_adds scan.records (Ok span) ++ found; passes = old.seat.passes; turns = old.seat.turns + 1 })
-        (seen ∙ ap (λ (k : Scan). scan_adds k.records (Ok span) ++ found) same) passes turns)
-    taken {A} (Ok span) (Err e) given_scan same good is seen passes turns ok err = absurd (true≢false (sym ok))
-    taken {A} (Err error) result given_scan same good is seen passes turns ok err =
+        (seat-as new.seat (record { seen = scan_adds scan.records (Ok span) ++ found; passes = old.seat.passes; turns = old.seat.turns + 1; seats = old.seat.seats })
+        (seen ∙ ap (λ (k : Scan). scan_adds k.records (Ok span) ++ found) same) passes turns seats)
+    taken {A} (Ok span) (Err e) given_scan same good is seen passes turns seats ok err = absurd (true≢false (sym ok))
+    taken {A} (Err error) result given_scan same good is seen passes turns seats ok err =
         subst (λ (r : Result A ScanRefused). ScansOnce start r before now old new) (sym err)
         (refused-by A error good (subst (λ (k : Scan). IsScanAnswer start found k.records (Err error)) same is)
-        (seat-as new.seat (record { seen = found; passes = old.seat.passes; turns = old.seat.turns + 1 }) seen passes turns))
+        (seat-as new.seat (record { seen = found; passes = old.seat.passes; turns = old.seat.turns + 1; seats = old.seat.seats }) seen passes turns seats))
 
   -- the folder was not scanned, at the exit
   pub unscanned-exit : {A : Type 0} (result : Result A ScanRefused) (refusal : ScanRefused) → IsErrAnd result (λ x. x ≡ refusal)

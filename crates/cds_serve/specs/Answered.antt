@@ -20,7 +20,7 @@ use Rattle.cds_server.specs.Outcome.{empty_reply}
 use Rattle.cds_server.specs.Replies.{IsReply, command_at, fault_reply, note_at}
 use Rattle.cds_serve.specs.Sent.{GivesAll, first_requests}
 use Rattle.cds_serve.specs.Served.{added}
-use Rattle.cds_serve.specs.Told.{ClockTold, ConnTold, IsMoment, SeatTold, Writes}
+use Rattle.cds_serve.specs.Told.{ClockTold, ConnTold, IsAlone, IsMoment, SeatTold, Writes}
 
 -- ---- answers that need no server
 
@@ -97,16 +97,17 @@ HasCause result old new (Free status) = ⊤
 HasCause result old new (Handled found m) = ⊤
 HasCause result old new (Unhandled found m) = IsErr result
 
--- The turn that was taken: the list found begins with all that the seat had seen; what the message adds to it was appended, and nothing for
+-- The turn that was taken: the list found begins with all that the seat had seen, and is that where no other seat is out; what the message adds to it was appended, and nothing for
 -- want of memory; and this is what the seat has seen then
 abbrev pub TakesTurn : Start → ℕ → Course → SeatTold → SeatTold → Type 0
 TakesTurn start now Broken old new = new ≡ old
 TakesTurn start now Starved old new = new ≡ old
 TakesTurn start now (Free status) old new = new ≡ old
 TakesTurn start now (Handled found m) old new =
-    Extends found old.seen × (new ≡ record { seen = added (command_at start found now m) ++ found; passes = old.passes; turns = old.turns + 1 })
+    Extends found old.seen × IsAlone old found
+    × (new ≡ record { seen = added (command_at start found now m) ++ found; passes = old.passes; turns = old.turns + 1; seats = old.seats })
 TakesTurn start now (Unhandled found m) old new =
-    Extends found old.seen × (new ≡ record { seen = found; passes = old.passes; turns = old.turns + 1 })
+    Extends found old.seen × IsAlone old found × (new ≡ record { seen = found; passes = old.passes; turns = old.turns + 1; seats = old.seats })
 
 -- the clock is asked once for a turn, and not without one
 abbrev pub AsksClock : Course → ClockTold → ClockTold → ℕ → ℕ → Type 0

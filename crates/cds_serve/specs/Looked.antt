@@ -8,7 +8,7 @@ use Rattle.cds_commands.specs.Commands.{Command, Start, Ticks, is_stopped}
 use Rattle.cds_turn.specs.Line.{Extends}
 use Rattle.cds_server.specs.Due.{due}
 use Rattle.cds_serve.specs.Sent.{GivesEach, GivesFront, release_requests}
-use Rattle.cds_serve.specs.Told.{ClockTold, IsMoment, SeatTold}
+use Rattle.cds_serve.specs.Told.{ClockTold, IsAlone, IsMoment, SeatTold}
 
 -- the requests of the notes that a tick at a moment sends
 abbrev pub due_requests : Start → List Command → ℕ → List LinkRequest
@@ -29,10 +29,11 @@ pub record Beside : Type 0 where
   pub clock : ClockTold
   pub link : LinkTold
 
--- One look, from one moment up to another: the list found begins with all that the seat had seen
+-- One look, from one moment up to another: the list found begins with all that the seat had seen, and is that where no other seat is out
 pub record Looks (start : Start) (result : Result Bool Mem) (before now : ℕ) (old new : Beside) : Type 0 where
   pub found : List Command
   pub begun : Extends found old.seat.seen
+  pub alone : IsAlone old.seat found
   pub ticked : Ticked start found now result new.seat.seen old.link.requests new.link.requests
   pub passes : new.seat.passes ≡ old.seat.passes
   pub turns : new.seat.turns ≡ old.seat.turns + 1

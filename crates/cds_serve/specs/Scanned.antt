@@ -17,7 +17,7 @@ use Rattle.cds_store.specs.declared.error.ApplyError.TheVariants as apply_error
 use Rattle.cds_turn.specs.Line.{Extends}
 use Rattle.cds_serve.specs.declared.scanning.ScanRefused.{ScanRefused}
 use Rattle.cds_serve.specs.declared.scanning.ScanRefused.TheVariants as refused
-use Rattle.cds_serve.specs.Told.{ClockTold, IsMoment, SeatTold}
+use Rattle.cds_serve.specs.Told.{ClockTold, IsAlone, IsMoment, SeatTold}
 
 -- A scan of a folder may give this, where the folder is so before and so after: it is what the entries of its tree come to, and no more
 -- files are left out as not read than its count of faults of files rose by
@@ -54,7 +54,8 @@ TakesNone before now old new = (new.seat ≡ old.seat) × (now ≡ before) × (n
 -- one turn was taken, in which the server stood for a list of commands, and then for this one
 pub record TakesOne (found after : List Command) (before now : ℕ) (old new : Across) : Type 0 where
   pub begun : Extends found old.seat.seen
-  pub seat : new.seat ≡ record { seen = after; passes = old.seat.passes; turns = old.seat.turns + 1 }
+  pub alone : IsAlone old.seat found
+  pub seat : new.seat ≡ record { seen = after; passes = old.seat.passes; turns = old.seat.turns + 1; seats = old.seat.seats }
   pub moment : IsMoment old.clock new.clock before now
 
 -- The scan was accepted exactly where it was appended, with the map of the records that the folder gave

@@ -4,11 +4,17 @@ use Rattle.cds_base.specs.Entries.{Told}
 use Rattle.cds_base.specs.Outside.{HoldsPart, Rose}
 use Rattle.cds_commands.specs.Commands.{Command}
 
--- a seat: the commands that it has seen, newest first, how many seats may be made of it, itself counted, and how many turns it took
+-- a seat: the commands that it has seen, newest first, how many seats may be made of it, itself counted, how many turns it took, and how many
+-- seats there may be in all
 pub record SeatTold : Type 0 where
   pub seen : List Command
   pub passes : ℕ
   pub turns : ℕ
+  pub seats : ℕ
+
+-- The list that a turn finds is what the seat has seen, where it is the only one
+abbrev pub IsAlone : SeatTold → List Command → Type 0
+IsAlone seat found = seat.passes ≡ seat.seats → found ≡ seat.seen
 
 -- a connection: the bytes that are left to read and those that it took, where it tells them, and how many reads and writes failed
 pub record ConnTold : Type 0 where

@@ -2,7 +2,7 @@
 
 ghost use Rattle.std.specs.Prelude.{◌≡◌, ◌≤◌, ◌++◌, Some, IfOk, IsErr, OnErr, OnOk};
 ghost use Rattle.cds_base.specs.Outside.{HoldsPart, Rose, WhereTold};
-ghost use Rattle.cds_turn.specs.Turn.{IsSeatOf, passes_of, seen_by, start_of, turns_of};
+ghost use Rattle.cds_turn.specs.Turn.{IsSeatOf, passes_of, seats_of, seen_by, start_of, turns_of};
 ghost use Rattle.cds_server.specs.Outcome.{GoesOut, empty_reply};
 ghost use Rattle.cds_serve.specs.Answered.{Serves, no_memory_reply};
 ghost use Rattle.cds_serve.specs.Acts.{free_text, reply_requests, reply_text};
@@ -50,7 +50,7 @@ pub fn serve_one<R: Wait, C: Conn, T: Clock, L: Link, G: Gate>(
     ensures seat { IsSeatOf turn.now seat.new }
     ensures served { Serves (start_of turn.now seat.old) result last.old last.new
         (record {
-          seat = record { seen = seen_by seat.old; passes = passes_of seat.old; turns = turns_of seat.old };
+          seat = record { seen = seen_by seat.old; passes = passes_of seat.old; turns = turns_of seat.old; seats = seats_of turn.now };
           conn = record {
             left = C.left conn.old;
             holds = C.holds conn.old;
@@ -61,7 +61,7 @@ pub fn serve_one<R: Wait, C: Conn, T: Clock, L: Link, G: Gate>(
           link = record { requests = L.requests link.old; replies = L.replies link.old; faults = L.faults link.old };
         })
         (record {
-          seat = record { seen = seen_by seat.new; passes = passes_of seat.new; turns = turns_of seat.new };
+          seat = record { seen = seen_by seat.new; passes = passes_of seat.new; turns = turns_of seat.new; seats = seats_of turn.now };
           conn = record {
             left = C.left conn.new;
             holds = C.holds conn.new;

@@ -135,8 +135,8 @@ struct Counts {
 
 /// Serves a library over HTTP: answers the connections that come at the port, scans the folder again and again, and sends the
 /// notes of its changes, until so many connections were served (UPnP ContentDirectory:4). It writes `serving PORT` once it
-/// listens, and `served REQUESTS scans A refused B memory C` at the end: how many scans were accepted, how many were refused,
-/// and how many of these for want of memory alone. Four workers, a scanner and a notifier do the work, each in a thread of its
+/// listens, and `served REQUESTS scans A refused B memory C` at the end: how many scans were accepted, how many were refused
+/// for another cause than want of memory, and how many for that. Four workers, a scanner and a notifier do the work, each in a thread of its
 /// own. The status is 0, or 3 where the sink could not be written, 4 for want of memory, or 7 where the outside, the spawner or
 /// a door failed; the jobs that were started have ended then. A fault of one connection, of a link, of the folder or of a
 /// clock ends nothing.

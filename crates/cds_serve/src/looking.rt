@@ -1,7 +1,7 @@
 //! One look of the notifier.
 
 ghost use Rattle.std.specs.Prelude.{◌≤◌};
-ghost use Rattle.cds_turn.specs.Turn.{IsSeatOf, passes_of, seen_by, start_of, turns_of};
+ghost use Rattle.cds_turn.specs.Turn.{IsSeatOf, passes_of, seats_of, seen_by, start_of, turns_of};
 ghost use Rattle.cds_serve.specs.Looked.{Looks};
 
 use crate::acts::Tick;
@@ -30,12 +30,12 @@ pub fn notify_once<R: Wait, T: Clock, L: Link>(
     ensures seat { IsSeatOf turn.now seat.new }
     ensures looked { Looks (start_of turn.now seat.old) result last.old last.new
         (record {
-          seat = record { seen = seen_by seat.old; passes = passes_of seat.old; turns = turns_of seat.old };
+          seat = record { seen = seen_by seat.old; passes = passes_of seat.old; turns = turns_of seat.old; seats = seats_of turn.now };
           clock = record { last = T.last clock.old; gave = T.gave clock.old; faults = T.faults clock.old };
           link = record { requests = L.requests link.old; replies = L.replies link.old; faults = L.faults link.old };
         })
         (record {
-          seat = record { seen = seen_by seat.new; passes = passes_of seat.new; turns = turns_of seat.new };
+          seat = record { seen = seen_by seat.new; passes = passes_of seat.new; turns = turns_of seat.new; seats = seats_of turn.now };
           clock = record { last = T.last clock.new; gave = T.gave clock.new; faults = T.faults clock.new };
           link = record { requests = L.requests link.new; replies = L.replies link.new; faults = L.faults link.new };
         }) }

@@ -2,7 +2,7 @@
 
 ghost use Rattle.std.specs.Prelude.{◌≡◌, ◌+◌, ◌≤◌, ◌<◌, ◌^◌, length, None, IfErr, IfOk, IsErrOf, IsOk, OnOk};
 ghost use Rattle.cds_scan.specs.Scanning.{CameBack};
-ghost use Rattle.cds_turn.specs.Turn.{IsSeatOf, passes_of, seen_by, start_of, turns_of};
+ghost use Rattle.cds_turn.specs.Turn.{IsSeatOf, passes_of, seats_of, seen_by, start_of, turns_of};
 ghost use Rattle.cds_catalog.specs.Scans.{bad_record};
 ghost use Rattle.cds_serve.specs.Scanned.{IsUnscanned, MayGive, ScansOnce, declined};
 
@@ -47,7 +47,7 @@ pub fn scan_once<R: Wait, F: Folder, T: Clock>(
     ensures seat { IsSeatOf turn.now seat.new }
     ensures scanned { ScansOnce (start_of turn.now seat.old) result last.old last.new
         (record {
-          seat = record { seen = seen_by seat.old; passes = passes_of seat.old; turns = turns_of seat.old };
+          seat = record { seen = seen_by seat.old; passes = passes_of seat.old; turns = turns_of seat.old; seats = seats_of turn.now };
           folder = record {
             tree = F.tree folder.old;
             contents = F.contents folder.old;
@@ -61,7 +61,7 @@ pub fn scan_once<R: Wait, F: Folder, T: Clock>(
           clock = record { last = T.last clock.old; gave = T.gave clock.old; faults = T.faults clock.old };
         })
         (record {
-          seat = record { seen = seen_by seat.new; passes = passes_of seat.new; turns = turns_of seat.new };
+          seat = record { seen = seen_by seat.new; passes = passes_of seat.new; turns = turns_of seat.new; seats = seats_of turn.now };
           folder = record {
             tree = F.tree folder.new;
             contents = F.contents folder.new;

@@ -33,7 +33,7 @@ pub struct Worker<R, D, T, L, G> {
 #[derive(Drop)]
 pub struct Worked<D> {
     pub door: D,
-    /// How many connections it served, which are all that its door gave. They are fewer than its share only where the door
+    /// How many connections its door gave, each of which it was to serve. They are fewer than its share only where the door
     /// failed.
     pub served: u32,
 }

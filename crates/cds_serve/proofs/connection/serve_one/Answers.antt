@@ -8,7 +8,7 @@ pub returns-in-Needing-clause-served : goal.returns-in-Needing-clause-served
 returns-in-Needing-clause-served g c =
     let took = c.with-reply.ensures.found in
     turned-at (start_of c.args.turn.now c.args.seat.now) _ _ _ _ _ took.0 c.in-Needing.message c.with-reply.result _ c.ask_moment-now.ensures.kept
-    (λ bytes told known d. c.in-Needing.ensures.request bytes told known d) took.1 took.3 took.4 c.with-reply.ensures.passes c.with-reply.ensures.turns
+    (λ bytes told known d. c.in-Needing.ensures.request bytes told known d) took.1 took.2 took.3 took.4 c.with-reply.ensures.passes c.with-reply.ensures.turns refl
     c.ask_moment-now.ensures.moment
     (writes-from _ _ _ _ _ _ _ c.read_request.ensures.taken_stay c.read_request.ensures.write_faults_stay c.answer.ensures.written)
     c.answer.ensures.given c.answer.ensures.starved
