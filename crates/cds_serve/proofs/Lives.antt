@@ -10,8 +10,8 @@ use Rattle.cds_base.specs.Entries.{Told}
 use Rattle.cds_base.specs.Outside.{HoldsPart, Rose, raised}
 use Rattle.cds_serve.specs.Jobs.{DoorTold}
 use Rattle.cds_serve.specs.Life.{AreCounts, Asks, AsksFor, Counts, EndsLife, IsCaused, Outer, OutsideTold, Served, Stops, Takes, WritesLife, WritesLine, fault_of, life_asks, life_text, served_line, serving_line, share_of, status_of, worker_asks}
-use Rattle.cds_serve.specs.declared.life.Fault.{Fault}
-use Rattle.cds_serve.specs.declared.life.Fault.TheVariants as fault
+use Rattle.cds_serve.specs.declared.fault.Fault.{Fault}
+use Rattle.cds_serve.specs.declared.fault.Fault.TheVariants as fault
 use Rattle.cds_serve.proofs.Rounds.{rose-more, rose-on}
 
 -- ---- fronts of lists

@@ -7,8 +7,8 @@ use Rattle.cds_base.specs.Outside.{HoldsPart, Rose, raised}
 use Rattle.cds_base.specs.declared.exterior.OutsideFault.{OutsideFault}
 use Rattle.cds_base.specs.declared.exterior.OutsideFault.TheVariants as outside_fault
 use Rattle.cds_serve.specs.Jobs.{DoorTold}
-use Rattle.cds_serve.specs.declared.life.Fault.{Fault}
-use Rattle.cds_serve.specs.declared.life.Fault.TheVariants as fault
+use Rattle.cds_serve.specs.declared.fault.Fault.{Fault}
+use Rattle.cds_serve.specs.declared.fault.Fault.TheVariants as fault
 
 -- ---- what is written
 

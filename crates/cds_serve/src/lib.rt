@@ -5,10 +5,13 @@
 
 mod acts;
 mod connection;
+mod crew;
 mod examples;
+mod fault;
 pub mod laws;
 mod life;
 mod looking;
+mod means;
 mod moment;
 mod notifier;
 mod request;

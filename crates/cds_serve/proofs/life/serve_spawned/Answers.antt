@@ -2,7 +2,7 @@
 use Rattle.std.proofs.Common.{Err, ◌⊎◌, inl, inr, ap, ◌∙◌, ◌+◌, drop, subst, sym}
 use Rattle.std.specs.Prelude.{⊤}
 use Rattle.cds_base.specs.Outside.{Rose, raised}
-use Rattle.cds_serve.specs.declared.life.Fault.TheVariants as fault
+use Rattle.cds_serve.specs.declared.fault.Fault.TheVariants as fault
 use Rattle.cds_serve.specs.Life.{AsksFor, IsCaused, WritesLife, life_asks}
 use Rattle.cds_serve.proofs.Lives.{asks-over, cause-as, caused-as, exit, on-ok, regroup, rose-spawned, writes-both, writes-first, writes-none, writes-one}
 use Rattle.cds_serve.proofs.Rounds.{rose-on}

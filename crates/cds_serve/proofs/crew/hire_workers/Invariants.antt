@@ -1,0 +1,20 @@
+-- So far so many workers have their shares.
+use Rattle.std.proofs.Common.{◌≡◌, ◌+◌, length, sum_by}
+use Rattle.std.specs.Arc.{arc_value}
+use Rattle.std.specs.List.{AllByRecursion}
+use Rattle.std.specs.Vec.Iter.{into_iter_items, into_iter_len}
+use Rattle.cds_turn.specs.Turn.{IsSeatOf, passes_of}
+use Rattle.cds_serve.proofs.Lives.{shares_below}
+use Rattle.cds_serve.proofs.crew.hire_workers.Given as goal
+
+abbrev pub invariant-workers : goal.invariant-workers
+invariant-workers g l = record {
+  seat : IsSeatOf (arc_value l.turn) l.seat;
+  passes : passes_of l.seat + l.number ≡ passes_of l.initial.seat;
+  count : length l.workers.items ≡ l.number;
+  left : l.number + length (into_iter_items l.ends-iterator) ≡ 4;
+  iterator : into_iter_len l.ends-iterator ≡ length (into_iter_items l.ends-iterator);
+  shares : sum_by (λ worker. worker.share) l.workers.items ≡ shares_below l.requests l.number;
+  fresh : AllByRecursion (λ worker. (g.D.Door.connections worker.door ≡ 0) × (g.D.Door.faults worker.door ≡ 0)) l.workers.items;
+  others : AllByRecursion (λ ends. (g.D.Door.connections ends.door ≡ 0) × (g.D.Door.faults ends.door ≡ 0)) (into_iter_items l.ends-iterator);
+}

@@ -1,0 +1,34 @@
+-- One worker more was joined, and its door came back.
+use Rattle.std.proofs.Common.{◌≡◌, ◌+◌, ◌++◌, [], ◌∷◌, ap, sym, ◌∙◌, append_assoc, arith, le_trans, length, sum_by}
+use Rattle.std.proofs.lemmas.List.Sums.{sum_by_push}
+use denote.Param.Send.{sendable}
+use Rattle.std.specs.Vec.Iter.{into_iter_items}
+use Rattle.cds_base.specs.Outside.{raised}
+use Rattle.cds_serve.proofs.Crossing.{worker-send}
+use Rattle.cds_serve.proofs.Lives.{all-from, gave-more, joined-more}
+use Rattle.cds_serve.proofs.crew.join_workers.Goals as goal
+
+pub join-door-requires-send-J : goal.join-door-requires-send-J
+join-door-requires-send-J g c κs within = search (worker-send, sendable) depth 20
+
+pub joined-preserved : goal.joined-preserved
+joined-preserved g c =
+    let step = c.in-Some.ensures.steps in
+    let so = c.joined.invariant in
+    let worker = c.in-Some.worker in
+    let next = into_iter_items c.next.new.self in
+    let order = ap (λ l. c.joined.yielded ++ l) (sym step.0) ∙ so.order in
+    let fresh = all-from _ _ c.joined.yielded next worker order c.requires.fresh in
+    let gave = c.join-door.ensures in
+    let back = c.end_door.ensures in
+    let sums = sum_by_push (λ worker. worker.share) c.joined.yielded worker in
+    record {
+      order = append_assoc c.joined.yielded (worker ∷ []) next ∙ order;
+      iterator = omega (arith, step.1, so.iterator, ap length step.0);
+      no_more = omega (arith, so.no_more, gave.no_more, c.from-total.ensures, sums);
+      all = rw c.from-total.ensures (joined-more c.joined.total c.join-door.result.served _ worker.share _ _ _ _ _ _ so.all gave.all fresh.1 back.faults so.never_falls back.never_falls sums);
+      connections = rw c.from-total.ensures (gave-more _ _ _ c.joined.total c.join-door.result.served _ _ so.connections fresh.0 gave.gave back.connections);
+      never_falls = le_trans so.never_falls back.never_falls;
+      asked_stay = back.asked_stay ∙ so.asked_stay;
+      started_stay = back.started_stay ∙ so.started_stay;
+    }

@@ -1,0 +1,66 @@
+-- One worker more, until there are four.
+use Rattle.std.proofs.Common.{[], ◌∷◌, ◌≡◌, ◌+◌, ◌-◌, length, Ok, Err, ap, ◌∙◌, arith, length-append}
+use Rattle.cds_base.specs.Asked.{ForClock, ForLink}
+use Rattle.cds_serve.specs.Jobs.{DoorTold}
+use Rattle.cds_serve.specs.Life.{OutsideTold, worker_asks}
+use Rattle.cds_serve.proofs.Lives.{all-more, takes-as, takes-exit, takes-next, takes-no-memory, takes-none, takes-ok, takes-then, worker-next, workers-more}
+use Rattle.cds_serve.proofs.means.ask_workers.Goals as goal
+
+pub returns-in_err-all-clause-takes : goal.returns-in_err-all-clause-takes
+returns-in_err-all-clause-takes g c =
+    let old : OutsideTold = record { faults = g.O.Outside.faults c.args.outside.now; asked = g.O.Outside.asked c.args.outside.now; connections = g.O.Outside.connections c.args.outside.now; started = g.O.Outside.started c.args.outside.now } in
+    let door : DoorTold = record { connections = g.O.D.Door.connections c.args.door.now; faults = g.O.D.Door.faults c.args.door.now } in
+    takes-no-memory c.from_residual.result tt [] (worker_asks 4) old old door door c.from_residual.ensures.1 (takes-none old door)
+
+pub returns-in_err-ends-clause-takes : goal.returns-in_err-ends-clause-takes
+returns-in_err-ends-clause-takes g c =
+    let old : OutsideTold = record { faults = g.O.Outside.faults c.args.outside.now; asked = g.O.Outside.asked c.args.outside.now; connections = g.O.Outside.connections c.args.outside.now; started = g.O.Outside.started c.args.outside.now } in
+    let mid : OutsideTold = record { faults = g.O.Outside.faults c.workers.outside; asked = g.O.Outside.asked c.workers.outside; connections = g.O.Outside.connections c.workers.outside; started = g.O.Outside.started c.workers.outside } in
+    let new : OutsideTold = record { faults = g.O.Outside.faults c.ask_ends.new.outside; asked = g.O.Outside.asked c.ask_ends.new.outside; connections = g.O.Outside.connections c.ask_ends.new.outside; started = g.O.Outside.started c.ask_ends.new.outside } in
+    let door : DoorTold = record { connections = g.O.D.Door.connections c.args.door.now; faults = g.O.D.Door.faults c.args.door.now } in
+    let between : DoorTold = record { connections = g.O.D.Door.connections c.workers.door; faults = g.O.D.Door.faults c.workers.door } in
+    let after : DoorTold = record { connections = g.O.D.Door.connections c.ask_ends.new.door; faults = g.O.D.Door.faults c.ask_ends.new.door } in
+    let k = length c.workers.all.items in
+    let e = c.in_err-ends.field-0.0 in
+    takes-as c.from_residual-in_err-ends.result _ _ old new door after (worker-next k (omega (arith, c.workers-test.true)))
+    (takes-exit c.from_residual-in_err-ends.result e _ (worker_asks (3 - k)) old new door after c.from_residual-in_err-ends.ensures.1
+    (takes-then (Err e) tt (worker_asks k) (ForClock ∷ ForLink ∷ []) old mid new door between after c.workers.invariant.takes c.in_err-ends.ensures.takes))
+
+pub returns-in_err-push-clause-takes : goal.returns-in_err-push-clause-takes
+returns-in_err-push-clause-takes g c =
+    let old : OutsideTold = record { faults = g.O.Outside.faults c.args.outside.now; asked = g.O.Outside.asked c.args.outside.now; connections = g.O.Outside.connections c.args.outside.now; started = g.O.Outside.started c.args.outside.now } in
+    let mid : OutsideTold = record { faults = g.O.Outside.faults c.workers.outside; asked = g.O.Outside.asked c.workers.outside; connections = g.O.Outside.connections c.workers.outside; started = g.O.Outside.started c.workers.outside } in
+    let new : OutsideTold = record { faults = g.O.Outside.faults c.ask_ends.new.outside; asked = g.O.Outside.asked c.ask_ends.new.outside; connections = g.O.Outside.connections c.ask_ends.new.outside; started = g.O.Outside.started c.ask_ends.new.outside } in
+    let door : DoorTold = record { connections = g.O.D.Door.connections c.args.door.now; faults = g.O.D.Door.faults c.args.door.now } in
+    let between : DoorTold = record { connections = g.O.D.Door.connections c.workers.door; faults = g.O.D.Door.faults c.workers.door } in
+    let after : DoorTold = record { connections = g.O.D.Door.connections c.ask_ends.new.door; faults = g.O.D.Door.faults c.ask_ends.new.door } in
+    let k = length c.workers.all.items in
+    takes-as c.from_residual-in_err-push.result _ _ old new door after (worker-next k (omega (arith, c.workers-test.true)))
+    (takes-no-memory c.from_residual-in_err-push.result c.in_ok-ends.ends _ (worker_asks (3 - k)) old new door after c.from_residual-in_err-push.ensures.1
+    (takes-then (Ok c.in_ok-ends.ends) tt (worker_asks k) (ForClock ∷ ForLink ∷ []) old mid new door between after c.workers.invariant.takes c.in_ok-ends.ensures.takes))
+
+pub workers-preserved : goal.workers-preserved
+workers-preserved g c =
+    let old : OutsideTold = record { faults = g.O.Outside.faults c.args.outside.now; asked = g.O.Outside.asked c.args.outside.now; connections = g.O.Outside.connections c.args.outside.now; started = g.O.Outside.started c.args.outside.now } in
+    let mid : OutsideTold = record { faults = g.O.Outside.faults c.workers.outside; asked = g.O.Outside.asked c.workers.outside; connections = g.O.Outside.connections c.workers.outside; started = g.O.Outside.started c.workers.outside } in
+    let new : OutsideTold = record { faults = g.O.Outside.faults c.ask_ends.new.outside; asked = g.O.Outside.asked c.ask_ends.new.outside; connections = g.O.Outside.connections c.ask_ends.new.outside; started = g.O.Outside.started c.ask_ends.new.outside } in
+    let door : DoorTold = record { connections = g.O.D.Door.connections c.args.door.now; faults = g.O.D.Door.faults c.args.door.now } in
+    let between : DoorTold = record { connections = g.O.D.Door.connections c.workers.door; faults = g.O.D.Door.faults c.workers.door } in
+    let after : DoorTold = record { connections = g.O.D.Door.connections c.ask_ends.new.door; faults = g.O.D.Door.faults c.ask_ends.new.door } in
+    let k = length c.workers.all.items in
+    let longer = ap length c.in_ok-push.ensures.items ∙ length-append c.workers.all.items (c.with_boot-first.result ∷ []) in
+    record {
+      few = omega (arith, longer, c.workers-test.true);
+      takes = takes-next k (length c.push.new.self.items) c.in_ok-ends.ends old mid new door between after longer c.workers.invariant.takes c.in_ok-ends.ensures.takes;
+      fresh = rw c.in_ok-push.ensures.items (all-more _ c.workers.all.items c.with_boot-first.result c.workers.invariant.fresh
+          (rw c.with_boot-first.ensures c.in_ok-ends.ensures.fresh));
+    }
+
+pub returns-clause-takes : goal.returns-clause-takes
+returns-clause-takes g c =
+    let old : OutsideTold = record { faults = g.O.Outside.faults c.args.outside.now; asked = g.O.Outside.asked c.args.outside.now; connections = g.O.Outside.connections c.args.outside.now; started = g.O.Outside.started c.args.outside.now } in
+    let new : OutsideTold = record { faults = g.O.Outside.faults c.workers.outside; asked = g.O.Outside.asked c.workers.outside; connections = g.O.Outside.connections c.workers.outside; started = g.O.Outside.started c.workers.outside } in
+    let door : DoorTold = record { connections = g.O.D.Door.connections c.args.door.now; faults = g.O.D.Door.faults c.args.door.now } in
+    let after : DoorTold = record { connections = g.O.D.Door.connections c.workers.door; faults = g.O.D.Door.faults c.workers.door } in
+    let four : length c.workers.all.items ≡ 4 = omega (arith, c.workers.invariant.few, c.workers-test.false) in
+    takes-as (Ok c.workers.all) _ _ old new door after (ap worker_asks four) (takes-ok tt c.workers.all _ old new door after c.workers.invariant.takes)

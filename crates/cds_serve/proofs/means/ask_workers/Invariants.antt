@@ -1,0 +1,20 @@
+-- So far so many workers have all that they take.
+use Rattle.std.proofs.Common.{◌≡◌, ◌≤◌, ◌-◌, length, Ok}
+use Rattle.std.specs.List.{AllByRecursion}
+use Rattle.std.specs.Prelude.{⊤}
+use Rattle.cds_serve.specs.Life.{Takes, worker_asks}
+use Rattle.cds_serve.proofs.means.ask_workers.Given as goal
+
+abbrev pub invariant-workers : goal.invariant-workers
+invariant-workers g l = record {
+  few : length l.all.items ≤ 4;
+  takes : Takes {A = ⊤} (Ok tt) (worker_asks (length l.all.items))
+      (record { faults = g.O.Outside.faults l.initial.outside; asked = g.O.Outside.asked l.initial.outside; connections = g.O.Outside.connections l.initial.outside; started = g.O.Outside.started l.initial.outside })
+      (record { faults = g.O.Outside.faults l.outside; asked = g.O.Outside.asked l.outside; connections = g.O.Outside.connections l.outside; started = g.O.Outside.started l.outside })
+      (record { connections = g.O.D.Door.connections l.initial.door; faults = g.O.D.Door.faults l.initial.door })
+      (record { connections = g.O.D.Door.connections l.door; faults = g.O.D.Door.faults l.door });
+  fresh : AllByRecursion (λ ends. (g.O.D.Door.connections ends.door ≡ 0) × (g.O.D.Door.faults ends.door ≡ 0)) l.all.items;
+}
+
+abbrev pub decreases-workers : goal.decreases-workers
+decreases-workers g l = 4 - length l.all.items
