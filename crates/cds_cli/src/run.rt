@@ -192,6 +192,10 @@ where
           holds = K.holds sink.new;
         }) }
 
+    // Only `scan` hands a folder back to the outside, and no command a link, whose faults would count as the outside's.
+    ensures folders_stay { command_of words.now ≢ Some Scan → O.ended outside.new ≡ O.ended outside.old }
+    ensures links_stay { O.ended_links outside.new ≡ O.ended_links outside.old }
+
     // Faults of the outside come only where their count rose.
     ensures read_fault { TakesInput (command_of words.now) → result ≡ 2 → Rose (S.faults source.old) (S.faults source.new) }
     ensures outside_fault { command_of words.now ≡ Some Scan → result ≡ 2 → Rose (O.faults outside.old) (O.faults outside.new) }

@@ -35,6 +35,7 @@ pub fn scan_folder<O: Outside, K: Sink>(
     ensures writes { WhereTold (K.holds sink.old) (λ before. WritesScan (O.ended outside.old) (O.ended outside.new) result before (K.holds sink.new)) }
     ensures asks { AsksFor path.now (O.asked outside.old) (O.asked outside.new) }
     ensures back { GivesBack (O.ended outside.old) (O.ended outside.new) }
+    ensures ended_links_stay { O.ended_links outside.new ≡ O.ended_links outside.old }
     ensures outside_fault { result ≡ 2 → Rose (O.faults outside.old) (O.faults outside.new) }
     ensures write_fault { result ≡ 3 → Rose (K.faults sink.old) (K.faults sink.new) }
     ensures known { (result ≡ 0) ⊎ ((result ≡ 6) ⊎ ((result ≡ 2) ⊎ ((result ≡ 3) ⊎ (result ≡ 4)))) }
@@ -56,6 +57,7 @@ fn scan_given<O: Outside, K: Sink>(alloc: Global, given: O::F, outside: &mut O, 
     ensures ends { EndsScan (O.ended outside.old) (O.ended outside.new) result }
     ensures writes { WhereTold (K.holds sink.old) (λ before. WritesScan (O.ended outside.old) (O.ended outside.new) result before (K.holds sink.new)) }
     ensures asked_stay { O.asked outside.new ≡ O.asked outside.old }
+    ensures ended_links_stay { O.ended_links outside.new ≡ O.ended_links outside.old }
     ensures back { ReturnsDone (O.ended outside.old) (O.ended outside.new) }
     ensures outside_fault { result ≡ 2 → Rose (O.faults outside.old) (O.faults outside.new) }
     ensures write_fault { result ≡ 3 → Rose (K.faults sink.old) (K.faults sink.new) }

@@ -41,6 +41,8 @@ where
           sink_faults = K.faults sink.new;
           holds = K.holds sink.new;
         }) }
+    ensures ended_stay { O.ended outside.new ≡ O.ended outside.old }
+    ensures ended_links_stay { O.ended_links outside.new ≡ O.ended_links outside.old }
     ensures write_fault { result ≡ 3 → Rose (K.faults sink.old) (K.faults sink.new) }
     ensures service_fault { result ≡ 7 → Rose (O.faults outside.old) (O.faults outside.new) }
     ensures known { (result ≡ 0) ⊎ ((result ≡ 3) ⊎ ((result ≡ 4) ⊎ (result ≡ 7))) }

@@ -94,13 +94,14 @@ asks-over {A} {B} (Err e) v xs old new one = subst (λ l. AsksFor {A = B} (Err e
 -- ---- single asks
 
 module _ {A : Type 0} (a : Asked) (old new : OutsideTold) (told : Told old.asked (λ list. new.asked ≡ Some (list ++ a ∷ [])))
-    (up : old.faults ≤ new.faults) (connections : new.connections ≡ old.connections) (started : new.started ≡ old.started) where
+    (up : old.faults ≤ new.faults) (ended : new.ended ≡ old.ended) (ended_links : new.ended_links ≡ old.ended_links)
+    (connections : new.connections ≡ old.connections) (started : new.started ≡ old.started) where
   asks-ok : (v : A) → Asks {A = A} (Ok v) (a ∷ []) old new
-  asks-ok v = record { asked = told; cause = tt; connections = connections; started = started; never_falls = up }
+  asks-ok v = record { asked = told; cause = tt; ended = ended; ended_links = ended_links; connections = connections; started = started; never_falls = up }
 
   asks-err : (e : OutsideFault) → OutsideRose {A = A} (Err e) old.faults new.faults → Asks {A = A} (Err (fault_of e)) (a ∷ []) old new
-  asks-err outside_fault.Failed rose = record { asked = λ list is. (1, told list is); cause = rose; connections = connections; started = started; never_falls = up }
-  asks-err outside_fault.Mem rose = record { asked = λ list is. (1, told list is); cause = tt; connections = connections; started = started; never_falls = up }
+  asks-err outside_fault.Failed rose = record { asked = λ list is. (1, told list is); cause = rose; ended = ended; ended_links = ended_links; connections = connections; started = started; never_falls = up }
+  asks-err outside_fault.Mem rose = record { asked = λ list is. (1, told list is); cause = tt; ended = ended; ended_links = ended_links; connections = connections; started = started; never_falls = up }
 
   pub asks-one : (answer : Result A OutsideFault) (result : Result A Fault) → IfOk answer (λ object. result ≡ Ok object)
       → IfErr answer (λ f. result ≡ Err (fault_of f)) → OutsideRose answer old.faults new.faults → Asks result (a ∷ []) old new
@@ -124,6 +125,8 @@ pub beside-door : {A : Type 0} (r : Result A Fault) (xs : List Asked) (old new :
 beside-door r xs old new door a = record {
   asked = a.asked;
   cause = cause-as r ⊥ (Rose old.faults new.faults) ⊥ _ a.cause (λ n. n) inl;
+  ended = a.ended;
+  ended_links = a.ended_links;
   connections = a.connections;
   started = a.started;
   never_falls = a.never_falls;
@@ -136,6 +139,8 @@ pub takes-then : {A B : Type 0} (r : Result B Fault) (v : A) (xs ys : List Asked
 takes-then r v xs ys old mid new door between after a b = record {
   asked = asks-all r v xs ys old.asked mid.asked new.asked a.asked b.asked;
   cause = cause-as r ⊥ (Rose mid.faults new.faults ⊎ Rose between.faults after.faults) ⊥ _ b.cause (λ n. n) on;
+  ended = b.ended ∙ a.ended;
+  ended_links = b.ended_links ∙ a.ended_links;
   connections = b.connections ∙ a.connections;
   started = b.started ∙ a.started;
   never_falls = le_trans a.never_falls b.never_falls;
@@ -152,6 +157,8 @@ pub takes-front : {A B : Type 0} (e : Fault) (xs ys : List Asked) (old new : Out
 takes-front e xs ys old new door after a = record {
   asked = asks-front e xs ys old.asked new.asked a.asked;
   cause = caused-as e ⊥ _ ⊥ _ a.cause (λ n. n) (λ q. q);
+  ended = a.ended;
+  ended_links = a.ended_links;
   connections = a.connections;
   started = a.started;
   never_falls = a.never_falls;
@@ -174,6 +181,8 @@ takes-no-memory {A} {B} (Err x) v xs ys old new door after err a =
     subst (λ (z : Fault). Takes {A = B} (Err z) (xs ++ ys) old new door after) (sym err) (record {
       asked = asks-stopped fault.Mem v xs ys old.asked new.asked a.asked;
       cause = tt;
+      ended = a.ended;
+      ended_links = a.ended_links;
       connections = a.connections;
       started = a.started;
       never_falls = a.never_falls;
@@ -188,6 +197,8 @@ pub takes-handle : {A B : Type 0} (r : Result B Fault) (v : A) (xs : List Asked)
 takes-handle (Ok w) v xs old new door after a cause same up = record {
   asked = a.asked;
   cause = tt;
+  ended = a.ended;
+  ended_links = a.ended_links;
   connections = a.connections;
   started = a.started;
   never_falls = a.never_falls;
@@ -197,6 +208,8 @@ takes-handle (Ok w) v xs old new door after a cause same up = record {
 takes-handle {A} {B} (Err e) v xs old new door after a cause same up = record {
   asked = subst (λ l. AsksFor {A = B} (Err e) l old.asked new.asked) (append-nil xs) (asks-stopped e v xs [] old.asked new.asked a.asked);
   cause = caused-as e ⊥ (Rose door.faults after.faults) ⊥ _ cause (λ n. n) inr;
+  ended = a.ended;
+  ended_links = a.ended_links;
   connections = a.connections;
   started = a.started;
   never_falls = a.never_falls;
@@ -208,6 +221,8 @@ pub takes-none : (old : OutsideTold) (door : DoorTold) → Takes {A = ⊤} (Ok t
 takes-none old door = record {
   asked = λ list told. told ∙ ap Some (sym (append-nil list));
   cause = tt;
+  ended = refl;
+  ended_links = refl;
   connections = refl;
   started = refl;
   never_falls = omega arith;
@@ -220,6 +235,8 @@ pub takes-ok : {A B : Type 0} (v : A) (w : B) (xs : List Asked) (old new : Outsi
 takes-ok v w xs old new door after a = record {
   asked = a.asked;
   cause = tt;
+  ended = a.ended;
+  ended_links = a.ended_links;
   connections = a.connections;
   started = a.started;
   never_falls = a.never_falls;

@@ -2,7 +2,8 @@
 use Rattle.std.specs.Prelude.{◌≡◌, ◌⊎◌, ◌+◌, ◌*◌, ◌/◌, ◌%◌, ◌^◌, ◌≤◌, ◌<◌, ℕ, codes, nat_lt, if◌then◌else◌, List, [], ◌∷◌, ◌++◌, take, zero, suc, Option, Some, Result, Ok, Err, ⊤}
 use Rattle.std.specs.Fmt.{decimal}
 use Rattle.cds_base.specs.Asked.{Asked, ForClock, ForDoor, ForFolder, ForLink, ForSpawner}
-use Rattle.cds_base.specs.Entries.{Told}
+use Rattle.cds_base.specs.Entries.{FolderTold, Told}
+use Rattle.cds_base.specs.Links.{LinkTold}
 use Rattle.cds_base.specs.Outside.{HoldsPart, Rose, raised}
 use Rattle.cds_base.specs.declared.exterior.OutsideFault.{OutsideFault}
 use Rattle.cds_base.specs.declared.exterior.OutsideFault.TheVariants as outside_fault
@@ -134,10 +135,12 @@ abbrev pub fault_of : OutsideFault → Fault
 fault_of outside_fault.Failed = fault.Outside
 fault_of outside_fault.Mem = fault.Mem
 
--- what the outside tells
+-- what the outside tells: also of the folders and of the links that came back to it
 pub record OutsideTold : Type 0 where
   pub faults : ℕ
   pub asked : Option (List Asked)
+  pub ended : Option (List FolderTold)
+  pub ended_links : Option (List LinkTold)
   pub connections : ℕ
   pub started : ℕ
 
@@ -145,6 +148,8 @@ pub record OutsideTold : Type 0 where
 pub record Asks {A : Type 0} (result : Result A Fault) (asks : List Asked) (old new : OutsideTold) : Type 0 where
   pub asked : AsksFor result asks old.asked new.asked
   pub cause : IsCaused result ⊥ (Rose old.faults new.faults)
+  pub ended : new.ended ≡ old.ended
+  pub ended_links : new.ended_links ≡ old.ended_links
   pub connections : new.connections ≡ old.connections
   pub started : new.started ≡ old.started
   pub never_falls : old.faults ≤ new.faults
@@ -153,6 +158,8 @@ pub record Asks {A : Type 0} (result : Result A Fault) (asks : List Asked) (old 
 pub record Takes {A : Type 0} (result : Result A Fault) (asks : List Asked) (old new : OutsideTold) (door after : DoorTold) : Type 0 where
   pub asked : AsksFor result asks old.asked new.asked
   pub cause : IsCaused result ⊥ (Rose old.faults new.faults ⊎ Rose door.faults after.faults)
+  pub ended : new.ended ≡ old.ended
+  pub ended_links : new.ended_links ≡ old.ended_links
   pub connections : new.connections ≡ old.connections
   pub started : new.started ≡ old.started
   pub never_falls : old.faults ≤ new.faults

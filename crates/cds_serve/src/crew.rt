@@ -316,6 +316,8 @@ where
     ensures started { OnOk result ((n : ℕ) → raised (O.W.started spawner.new) n ≡ raised (O.W.started spawner.old) (6 + n)) }
     ensures cause { IsCaused result ⊥ (Rose (O.faults outside.old) (O.faults outside.new) ⊎ Rose (O.W.faults spawner.old) (O.W.faults spawner.new)) }
     ensures asked_stay { O.asked outside.new ≡ O.asked outside.old }
+    ensures ended_stay { O.ended outside.new ≡ O.ended outside.old }
+    ensures ended_links_stay { O.ended_links outside.new ≡ O.ended_links outside.old }
     ensures ended_none { O.started outside.new ≡ O.started outside.old }
     ensures spawner_never_falls { O.W.faults spawner.old ≤ O.W.faults spawner.new }
     ensures outside_never_falls { O.faults outside.old ≤ O.faults outside.new }
@@ -467,6 +469,8 @@ where
     ensures all { (result ≡ sum_by (λ worker. worker.share) running.items) ⊎ Rose (O.faults outside.old) (O.faults outside.new) }
     ensures never_falls { O.faults outside.old ≤ O.faults outside.new }
     ensures asked_stay { O.asked outside.new ≡ O.asked outside.old }
+    ensures ended_stay { O.ended outside.new ≡ O.ended outside.old }
+    ensures ended_links_stay { O.ended_links outside.new ≡ O.ended_links outside.old }
     ensures started_stay { O.started outside.new ≡ O.started outside.old }
 {
     let mut total = 0;

@@ -17,10 +17,10 @@ use std::thread::Threads;
 /// Serves a library over HTTP: answers the connections that come at the port, scans the folder again and again, and sends the
 /// notes of its changes, until so many connections were served (UPnP ContentDirectory:4). It writes `serving PORT` once it
 /// listens, and `served REQUESTS scans A refused B memory C` at the end: how many scans were accepted, how many were refused
-/// for another cause than want of memory, and how many for that. Four workers, a scanner and a notifier do the work, each in a thread of its
-/// own. The status is 0, or 3 where the sink could not be written, 4 for want of memory, or 7 where the outside, the spawner or
-/// a door failed; the jobs that were started have ended then. A fault of one connection, of a link, of the folder or of a
-/// clock ends nothing.
+/// for another cause than want of memory, and how many for that. Four workers, a scanner and a notifier do the work, each in a
+/// thread of its own. The status is 0, or 3 where the sink could not be written, 4 for want of memory, or 7 where the outside,
+/// the spawner or a door failed; the jobs that were started have ended then. A fault of one connection, of a link, of the
+/// folder or of a clock ends nothing, and neither the folder nor a link is handed back to the outside.
 pub fn serve<
     R: Threads + Wait + Clone + Drop + Send + Sync + 'static,
     K: Sink,
@@ -56,6 +56,8 @@ where
           sink_faults = K.faults sink.new;
           holds = K.holds sink.new;
         }) }
+    ensures ended_stay { O.ended outside.new ≡ O.ended outside.old }
+    ensures ended_links_stay { O.ended_links outside.new ≡ O.ended_links outside.old }
     ensures sink_never_falls { K.faults sink.old ≤ K.faults sink.new }
     ensures outside_never_falls { O.faults outside.old ≤ O.faults outside.new }
 {
@@ -99,6 +101,8 @@ where
     ensures started { OnOk result (O.started outside.new ≡ raised (O.started outside.old) 6) }
     ensures none_given { O.D.connections door.new ≡ O.D.connections door.old }
     ensures door_never_falls { O.D.faults door.old ≤ O.D.faults door.new }
+    ensures ended_stay { O.ended outside.new ≡ O.ended outside.old }
+    ensures ended_links_stay { O.ended_links outside.new ≡ O.ended_links outside.old }
     ensures sink_never_falls { K.faults sink.old ≤ K.faults sink.new }
     ensures outside_never_falls { O.faults outside.old ≤ O.faults outside.new }
 {
@@ -151,6 +155,8 @@ where
     ensures none_given { O.D.connections door.new ≡ O.D.connections door.old }
     ensures door_never_falls { O.D.faults door.old ≤ O.D.faults door.new }
     ensures spawner_never_falls { O.W.faults spawner.old ≤ O.W.faults spawner.new }
+    ensures ended_stay { O.ended outside.new ≡ O.ended outside.old }
+    ensures ended_links_stay { O.ended_links outside.new ≡ O.ended_links outside.old }
     ensures sink_never_falls { K.faults sink.old ≤ K.faults sink.new }
     ensures outside_never_falls { O.faults outside.old ≤ O.faults outside.new }
 {

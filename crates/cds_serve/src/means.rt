@@ -68,8 +68,8 @@ fn given<A: Drop>(answer: Result<A, OutsideFault>) -> Result<A, Fault>
 /// Asks the outside for a clock.
 fn ask_clock<O: Outside>(alloc: Global, outside: &mut O) -> Result<O::C, Fault>
     ensures { Asks result (ForClock ∷ [])
-        (record { faults = O.faults outside.old; asked = O.asked outside.old; connections = O.connections outside.old; started = O.started outside.old })
-        (record { faults = O.faults outside.new; asked = O.asked outside.new; connections = O.connections outside.new; started = O.started outside.new }) }
+        (record { faults = O.faults outside.old; asked = O.asked outside.old; ended = O.ended outside.old; ended_links = O.ended_links outside.old; connections = O.connections outside.old; started = O.started outside.old })
+        (record { faults = O.faults outside.new; asked = O.asked outside.new; ended = O.ended outside.new; ended_links = O.ended_links outside.new; connections = O.connections outside.new; started = O.started outside.new }) }
 {
     given(outside.clock(alloc))
 }
@@ -77,8 +77,8 @@ fn ask_clock<O: Outside>(alloc: Global, outside: &mut O) -> Result<O::C, Fault>
 /// Asks the outside for a link.
 fn ask_link<O: Outside>(alloc: Global, outside: &mut O) -> Result<O::L, Fault>
     ensures { Asks result (ForLink ∷ [])
-        (record { faults = O.faults outside.old; asked = O.asked outside.old; connections = O.connections outside.old; started = O.started outside.old })
-        (record { faults = O.faults outside.new; asked = O.asked outside.new; connections = O.connections outside.new; started = O.started outside.new }) }
+        (record { faults = O.faults outside.old; asked = O.asked outside.old; ended = O.ended outside.old; ended_links = O.ended_links outside.old; connections = O.connections outside.old; started = O.started outside.old })
+        (record { faults = O.faults outside.new; asked = O.asked outside.new; ended = O.ended outside.new; ended_links = O.ended_links outside.new; connections = O.connections outside.new; started = O.started outside.new }) }
 {
     given(outside.link(alloc))
 }
@@ -86,8 +86,8 @@ fn ask_link<O: Outside>(alloc: Global, outside: &mut O) -> Result<O::L, Fault>
 /// Asks the outside for the folder at a path.
 fn ask_folder<O: Outside>(alloc: Global, path: &str, outside: &mut O) -> Result<O::F, Fault>
     ensures { Asks result (ForFolder path.now ∷ [])
-        (record { faults = O.faults outside.old; asked = O.asked outside.old; connections = O.connections outside.old; started = O.started outside.old })
-        (record { faults = O.faults outside.new; asked = O.asked outside.new; connections = O.connections outside.new; started = O.started outside.new }) }
+        (record { faults = O.faults outside.old; asked = O.asked outside.old; ended = O.ended outside.old; ended_links = O.ended_links outside.old; connections = O.connections outside.old; started = O.started outside.old })
+        (record { faults = O.faults outside.new; asked = O.asked outside.new; ended = O.ended outside.new; ended_links = O.ended_links outside.new; connections = O.connections outside.new; started = O.started outside.new }) }
 {
     given(outside.folder(alloc, path))
 }
@@ -95,8 +95,8 @@ fn ask_folder<O: Outside>(alloc: Global, path: &str, outside: &mut O) -> Result<
 /// Asks the outside for the door at a port.
 pub(crate) fn ask_door<O: Outside>(alloc: Global, port: u16, outside: &mut O) -> Result<O::D, Fault>
     ensures asks { Asks result (ForDoor port ∷ [])
-        (record { faults = O.faults outside.old; asked = O.asked outside.old; connections = O.connections outside.old; started = O.started outside.old })
-        (record { faults = O.faults outside.new; asked = O.asked outside.new; connections = O.connections outside.new; started = O.started outside.new }) }
+        (record { faults = O.faults outside.old; asked = O.asked outside.old; ended = O.ended outside.old; ended_links = O.ended_links outside.old; connections = O.connections outside.old; started = O.started outside.old })
+        (record { faults = O.faults outside.new; asked = O.asked outside.new; ended = O.ended outside.new; ended_links = O.ended_links outside.new; connections = O.connections outside.new; started = O.started outside.new }) }
     ensures fresh { IfOk result (λ door. (O.D.connections door ≡ 0) × (O.D.faults door ≡ 0)) }
 {
     given(outside.door(alloc, port))
@@ -105,8 +105,8 @@ pub(crate) fn ask_door<O: Outside>(alloc: Global, port: u16, outside: &mut O) ->
 /// Asks the outside for a spawner.
 pub(crate) fn ask_spawner<O: Outside>(alloc: Global, outside: &mut O) -> Result<O::W, Fault>
     ensures asks { Asks result (ForSpawner ∷ [])
-        (record { faults = O.faults outside.old; asked = O.asked outside.old; connections = O.connections outside.old; started = O.started outside.old })
-        (record { faults = O.faults outside.new; asked = O.asked outside.new; connections = O.connections outside.new; started = O.started outside.new }) }
+        (record { faults = O.faults outside.old; asked = O.asked outside.old; ended = O.ended outside.old; ended_links = O.ended_links outside.old; connections = O.connections outside.old; started = O.started outside.old })
+        (record { faults = O.faults outside.new; asked = O.asked outside.new; ended = O.ended outside.new; ended_links = O.ended_links outside.new; connections = O.connections outside.new; started = O.started outside.new }) }
     ensures fresh { IfOk result (λ spawner. (O.W.started spawner ≡ 0) × (O.W.faults spawner ≡ 0)) }
 {
     given(outside.spawner(alloc))
@@ -132,8 +132,8 @@ fn ask_ends<O: Outside>(
     door: &mut O::D,
 ) -> Result<Ends<O::D, O::C, O::L>, Fault>
     ensures takes { Takes result (ForClock ∷ ForLink ∷ [])
-        (record { faults = O.faults outside.old; asked = O.asked outside.old; connections = O.connections outside.old; started = O.started outside.old })
-        (record { faults = O.faults outside.new; asked = O.asked outside.new; connections = O.connections outside.new; started = O.started outside.new })
+        (record { faults = O.faults outside.old; asked = O.asked outside.old; ended = O.ended outside.old; ended_links = O.ended_links outside.old; connections = O.connections outside.old; started = O.started outside.old })
+        (record { faults = O.faults outside.new; asked = O.asked outside.new; ended = O.ended outside.new; ended_links = O.ended_links outside.new; connections = O.connections outside.new; started = O.started outside.new })
         (record { connections = O.D.connections door.old; faults = O.D.faults door.old })
         (record { connections = O.D.connections door.new; faults = O.D.faults door.new }) }
     ensures fresh { IfOk result (λ ends. (O.D.connections ends.door ≡ 0) × (O.D.faults ends.door ≡ 0)) }
@@ -168,8 +168,8 @@ fn ask_workers<O: Outside>(
     boot: &mut [u64; 2],
 ) -> Result<Vec<Ends<O::D, O::C, O::L>>, Fault>
     ensures takes { Takes result (worker_asks 4)
-        (record { faults = O.faults outside.old; asked = O.asked outside.old; connections = O.connections outside.old; started = O.started outside.old })
-        (record { faults = O.faults outside.new; asked = O.asked outside.new; connections = O.connections outside.new; started = O.started outside.new })
+        (record { faults = O.faults outside.old; asked = O.asked outside.old; ended = O.ended outside.old; ended_links = O.ended_links outside.old; connections = O.connections outside.old; started = O.started outside.old })
+        (record { faults = O.faults outside.new; asked = O.asked outside.new; ended = O.ended outside.new; ended_links = O.ended_links outside.new; connections = O.connections outside.new; started = O.started outside.new })
         (record { connections = O.D.connections door.old; faults = O.D.faults door.old })
         (record { connections = O.D.connections door.new; faults = O.D.faults door.new }) }
     ensures fresh { IfOk result (λ all. AllByRecursion (λ ends. (O.D.connections ends.door ≡ 0) × (O.D.faults ends.door ≡ 0)) all.items) }
@@ -193,8 +193,8 @@ pub(crate) fn ask_means<O: Outside>(
     door: &mut O::D,
 ) -> Result<Means<O::D, O::C, O::L, O::F>, Fault>
     ensures takes { Takes result (drop 2 (life_asks port path.now))
-        (record { faults = O.faults outside.old; asked = O.asked outside.old; connections = O.connections outside.old; started = O.started outside.old })
-        (record { faults = O.faults outside.new; asked = O.asked outside.new; connections = O.connections outside.new; started = O.started outside.new })
+        (record { faults = O.faults outside.old; asked = O.asked outside.old; ended = O.ended outside.old; ended_links = O.ended_links outside.old; connections = O.connections outside.old; started = O.started outside.old })
+        (record { faults = O.faults outside.new; asked = O.asked outside.new; ended = O.ended outside.new; ended_links = O.ended_links outside.new; connections = O.connections outside.new; started = O.started outside.new })
         (record { connections = O.D.connections door.old; faults = O.D.faults door.old })
         (record { connections = O.D.connections door.new; faults = O.D.faults door.new }) }
     ensures fresh { IfOk result (λ means. AllByRecursion (λ ends. (O.D.connections ends.door ≡ 0) × (O.D.faults ends.door ≡ 0)) means.workers.items) }

@@ -30,5 +30,7 @@ joined-preserved g c =
       connections = rw c.from-total.ensures (gave-more _ _ _ c.joined.total c.join-door.result.served _ _ so.connections fresh.0 gave.gave back.connections);
       never_falls = le_trans so.never_falls back.never_falls;
       asked_stay = back.asked_stay ∙ so.asked_stay;
+      ended_stay = back.ended_stay ∙ so.ended_stay;
+      ended_links_stay = back.ended_links_stay ∙ so.ended_links_stay;
       started_stay = back.started_stay ∙ so.started_stay;
     }

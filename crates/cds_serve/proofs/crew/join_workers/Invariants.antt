@@ -13,5 +13,7 @@ invariant-joined g l = record {
   connections : (n : ℕ) → raised (g.O.Outside.connections l.outside) n ≡ raised (g.O.Outside.connections l.initial.outside) (l.total + n);
   never_falls : g.O.Outside.faults l.initial.outside ≤ g.O.Outside.faults l.outside;
   asked_stay : g.O.Outside.asked l.outside ≡ g.O.Outside.asked l.initial.outside;
+  ended_stay : g.O.Outside.ended l.outside ≡ g.O.Outside.ended l.initial.outside;
+  ended_links_stay : g.O.Outside.ended_links l.outside ≡ g.O.Outside.ended_links l.initial.outside;
   started_stay : g.O.Outside.started l.outside ≡ g.O.Outside.started l.initial.outside;
 }

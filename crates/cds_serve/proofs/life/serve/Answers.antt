@@ -40,3 +40,9 @@ returns-in-Ok-clause-ends g c =
 pub returns-in-Ok-clause-outside_never_falls : goal.returns-in-Ok-clause-outside_never_falls
 returns-in-Ok-clause-outside_never_falls g c =
     le_trans c.in-Ok.ensures.asks.never_falls (le_trans c.serve_door-ended.ensures.outside_never_falls c.end_door.ensures.never_falls)
+
+pub returns-in-Ok-clause-ended_stay : goal.returns-in-Ok-clause-ended_stay
+returns-in-Ok-clause-ended_stay g c = c.end_door.ensures.ended_stay ∙ c.serve_door-ended.ensures.ended_stay ∙ c.in-Ok.ensures.asks.ended
+
+pub returns-in-Ok-clause-ended_links_stay : goal.returns-in-Ok-clause-ended_links_stay
+returns-in-Ok-clause-ended_links_stay g c = c.end_door.ensures.ended_links_stay ∙ c.serve_door-ended.ensures.ended_links_stay ∙ c.in-Ok.ensures.asks.ended_links

@@ -62,3 +62,9 @@ returns-clause-started g c =
 pub returns-clause-outside_never_falls : goal.returns-clause-outside_never_falls
 returns-clause-outside_never_falls g c =
     le_trans c.in_ok-spawner.ensures.asks.never_falls (le_trans c.serve_spawned-ended.ensures.outside_never_falls c.end_spawner.ensures.never_falls)
+
+pub returns-clause-ended_stay : goal.returns-clause-ended_stay
+returns-clause-ended_stay g c = c.end_spawner.ensures.ended_stay ∙ c.serve_spawned-ended.ensures.ended_stay ∙ c.in_ok-spawner.ensures.asks.ended
+
+pub returns-clause-ended_links_stay : goal.returns-clause-ended_links_stay
+returns-clause-ended_links_stay g c = c.end_spawner.ensures.ended_links_stay ∙ c.serve_spawned-ended.ensures.ended_links_stay ∙ c.in_ok-spawner.ensures.asks.ended_links

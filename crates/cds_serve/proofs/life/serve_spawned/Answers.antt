@@ -114,3 +114,15 @@ returns-clause-connections g c =
 pub returns-clause-started : goal.returns-clause-started
 returns-clause-started g c =
     on-ok c.write_served.result _ c.in_ok-counts.ensures.started
+
+pub returns-in_err-counts-clause-ended_stay : goal.returns-in_err-counts-clause-ended_stay
+returns-in_err-counts-clause-ended_stay g c = c.in_err-counts.ensures.ended_stay ∙ c.in_ok-means.ensures.takes.ended
+
+pub returns-clause-ended_stay : goal.returns-clause-ended_stay
+returns-clause-ended_stay g c = c.in_ok-counts.ensures.ended_stay ∙ c.in_ok-means.ensures.takes.ended
+
+pub returns-in_err-counts-clause-ended_links_stay : goal.returns-in_err-counts-clause-ended_links_stay
+returns-in_err-counts-clause-ended_links_stay g c = c.in_err-counts.ensures.ended_links_stay ∙ c.in_ok-means.ensures.takes.ended_links
+
+pub returns-clause-ended_links_stay : goal.returns-clause-ended_links_stay
+returns-clause-ended_links_stay g c = c.in_ok-counts.ensures.ended_links_stay ∙ c.in_ok-means.ensures.takes.ended_links

@@ -6,10 +6,10 @@ use Rattle.cds_serve.proofs.means.ask_door.Goals as goal
 
 pub returns-clause-asks : goal.returns-clause-asks
 returns-clause-asks g c =
-    let old : OutsideTold = record { faults = g.O.Outside.faults c.args.outside.now; asked = g.O.Outside.asked c.args.outside.now; connections = g.O.Outside.connections c.args.outside.now; started = g.O.Outside.started c.args.outside.now } in
-    let new : OutsideTold = record { faults = g.O.Outside.faults c.door.new.self; asked = g.O.Outside.asked c.door.new.self; connections = g.O.Outside.connections c.door.new.self; started = g.O.Outside.started c.door.new.self } in
+    let old : OutsideTold = record { faults = g.O.Outside.faults c.args.outside.now; asked = g.O.Outside.asked c.args.outside.now; ended = g.O.Outside.ended c.args.outside.now; ended_links = g.O.Outside.ended_links c.args.outside.now; connections = g.O.Outside.connections c.args.outside.now; started = g.O.Outside.started c.args.outside.now } in
+    let new : OutsideTold = record { faults = g.O.Outside.faults c.door.new.self; asked = g.O.Outside.asked c.door.new.self; ended = g.O.Outside.ended c.door.new.self; ended_links = g.O.Outside.ended_links c.door.new.self; connections = g.O.Outside.connections c.door.new.self; started = g.O.Outside.started c.door.new.self } in
     let one = c.door.ensures in
-    asks-one (ForDoor c.args.port) old new one.asked one.never_falls one.connections_stay one.started_stay c.door.result c.given.result
+    asks-one (ForDoor c.args.port) old new one.asked one.never_falls one.ended_stay one.ended_links_stay one.connections_stay one.started_stay c.door.result c.given.result
     c.given.ensures.ok c.given.ensures.err one.rose
 
 pub returns-clause-fresh : goal.returns-clause-fresh

@@ -9,8 +9,8 @@ use Rattle.cds_serve.proofs.means.ask_ends.Goals as goal
 
 pub returns-in_err-clock-clause-takes : goal.returns-in_err-clock-clause-takes
 returns-in_err-clock-clause-takes g c =
-    let old : OutsideTold = record { faults = g.O.Outside.faults c.args.outside.now; asked = g.O.Outside.asked c.args.outside.now; connections = g.O.Outside.connections c.args.outside.now; started = g.O.Outside.started c.args.outside.now } in
-    let new : OutsideTold = record { faults = g.O.Outside.faults c.ask_clock.new.outside; asked = g.O.Outside.asked c.ask_clock.new.outside; connections = g.O.Outside.connections c.ask_clock.new.outside; started = g.O.Outside.started c.ask_clock.new.outside } in
+    let old : OutsideTold = record { faults = g.O.Outside.faults c.args.outside.now; asked = g.O.Outside.asked c.args.outside.now; ended = g.O.Outside.ended c.args.outside.now; ended_links = g.O.Outside.ended_links c.args.outside.now; connections = g.O.Outside.connections c.args.outside.now; started = g.O.Outside.started c.args.outside.now } in
+    let new : OutsideTold = record { faults = g.O.Outside.faults c.ask_clock.new.outside; asked = g.O.Outside.asked c.ask_clock.new.outside; ended = g.O.Outside.ended c.ask_clock.new.outside; ended_links = g.O.Outside.ended_links c.ask_clock.new.outside; connections = g.O.Outside.connections c.ask_clock.new.outside; started = g.O.Outside.started c.ask_clock.new.outside } in
     let door : DoorTold = record { connections = g.O.D.Door.connections c.args.door.now; faults = g.O.D.Door.faults c.args.door.now } in
     let e = c.in_err-clock.field-0.0 in
     takes-exit c.from_residual.result e (ForClock ∷ []) (ForLink ∷ []) old new door door c.from_residual.ensures.1
@@ -18,9 +18,9 @@ returns-in_err-clock-clause-takes g c =
 
 pub returns-in_err-link-clause-takes : goal.returns-in_err-link-clause-takes
 returns-in_err-link-clause-takes g c =
-    let old : OutsideTold = record { faults = g.O.Outside.faults c.args.outside.now; asked = g.O.Outside.asked c.args.outside.now; connections = g.O.Outside.connections c.args.outside.now; started = g.O.Outside.started c.args.outside.now } in
-    let mid : OutsideTold = record { faults = g.O.Outside.faults c.ask_clock.new.outside; asked = g.O.Outside.asked c.ask_clock.new.outside; connections = g.O.Outside.connections c.ask_clock.new.outside; started = g.O.Outside.started c.ask_clock.new.outside } in
-    let new : OutsideTold = record { faults = g.O.Outside.faults c.ask_link.new.outside; asked = g.O.Outside.asked c.ask_link.new.outside; connections = g.O.Outside.connections c.ask_link.new.outside; started = g.O.Outside.started c.ask_link.new.outside } in
+    let old : OutsideTold = record { faults = g.O.Outside.faults c.args.outside.now; asked = g.O.Outside.asked c.args.outside.now; ended = g.O.Outside.ended c.args.outside.now; ended_links = g.O.Outside.ended_links c.args.outside.now; connections = g.O.Outside.connections c.args.outside.now; started = g.O.Outside.started c.args.outside.now } in
+    let mid : OutsideTold = record { faults = g.O.Outside.faults c.ask_clock.new.outside; asked = g.O.Outside.asked c.ask_clock.new.outside; ended = g.O.Outside.ended c.ask_clock.new.outside; ended_links = g.O.Outside.ended_links c.ask_clock.new.outside; connections = g.O.Outside.connections c.ask_clock.new.outside; started = g.O.Outside.started c.ask_clock.new.outside } in
+    let new : OutsideTold = record { faults = g.O.Outside.faults c.ask_link.new.outside; asked = g.O.Outside.asked c.ask_link.new.outside; ended = g.O.Outside.ended c.ask_link.new.outside; ended_links = g.O.Outside.ended_links c.ask_link.new.outside; connections = g.O.Outside.connections c.ask_link.new.outside; started = g.O.Outside.started c.ask_link.new.outside } in
     let door : DoorTold = record { connections = g.O.D.Door.connections c.args.door.now; faults = g.O.D.Door.faults c.args.door.now } in
     let e = c.in_err-link.field-0.0 in
     takes-exit c.from_residual-in_err-link.result e (ForClock ∷ ForLink ∷ []) [] old new door door c.from_residual-in_err-link.ensures.1
@@ -30,9 +30,9 @@ returns-in_err-link-clause-takes g c =
 
 pub returns-in_err-door-clause-takes : goal.returns-in_err-door-clause-takes
 returns-in_err-door-clause-takes g c =
-    let old : OutsideTold = record { faults = g.O.Outside.faults c.args.outside.now; asked = g.O.Outside.asked c.args.outside.now; connections = g.O.Outside.connections c.args.outside.now; started = g.O.Outside.started c.args.outside.now } in
-    let mid : OutsideTold = record { faults = g.O.Outside.faults c.ask_clock.new.outside; asked = g.O.Outside.asked c.ask_clock.new.outside; connections = g.O.Outside.connections c.ask_clock.new.outside; started = g.O.Outside.started c.ask_clock.new.outside } in
-    let new : OutsideTold = record { faults = g.O.Outside.faults c.ask_link.new.outside; asked = g.O.Outside.asked c.ask_link.new.outside; connections = g.O.Outside.connections c.ask_link.new.outside; started = g.O.Outside.started c.ask_link.new.outside } in
+    let old : OutsideTold = record { faults = g.O.Outside.faults c.args.outside.now; asked = g.O.Outside.asked c.args.outside.now; ended = g.O.Outside.ended c.args.outside.now; ended_links = g.O.Outside.ended_links c.args.outside.now; connections = g.O.Outside.connections c.args.outside.now; started = g.O.Outside.started c.args.outside.now } in
+    let mid : OutsideTold = record { faults = g.O.Outside.faults c.ask_clock.new.outside; asked = g.O.Outside.asked c.ask_clock.new.outside; ended = g.O.Outside.ended c.ask_clock.new.outside; ended_links = g.O.Outside.ended_links c.ask_clock.new.outside; connections = g.O.Outside.connections c.ask_clock.new.outside; started = g.O.Outside.started c.ask_clock.new.outside } in
+    let new : OutsideTold = record { faults = g.O.Outside.faults c.ask_link.new.outside; asked = g.O.Outside.asked c.ask_link.new.outside; ended = g.O.Outside.ended c.ask_link.new.outside; ended_links = g.O.Outside.ended_links c.ask_link.new.outside; connections = g.O.Outside.connections c.ask_link.new.outside; started = g.O.Outside.started c.ask_link.new.outside } in
     let door : DoorTold = record { connections = g.O.D.Door.connections c.args.door.now; faults = g.O.D.Door.faults c.args.door.now } in
     let after : DoorTold = record { connections = g.O.D.Door.connections c.ask_handle.new.door; faults = g.O.D.Door.faults c.ask_handle.new.door } in
     let e = c.in_err-door.field-0.0 in
@@ -46,9 +46,9 @@ returns-in_err-door-clause-takes g c =
 
 pub returns-clause-takes : goal.returns-clause-takes
 returns-clause-takes g c =
-    let old : OutsideTold = record { faults = g.O.Outside.faults c.args.outside.now; asked = g.O.Outside.asked c.args.outside.now; connections = g.O.Outside.connections c.args.outside.now; started = g.O.Outside.started c.args.outside.now } in
-    let mid : OutsideTold = record { faults = g.O.Outside.faults c.ask_clock.new.outside; asked = g.O.Outside.asked c.ask_clock.new.outside; connections = g.O.Outside.connections c.ask_clock.new.outside; started = g.O.Outside.started c.ask_clock.new.outside } in
-    let new : OutsideTold = record { faults = g.O.Outside.faults c.ask_link.new.outside; asked = g.O.Outside.asked c.ask_link.new.outside; connections = g.O.Outside.connections c.ask_link.new.outside; started = g.O.Outside.started c.ask_link.new.outside } in
+    let old : OutsideTold = record { faults = g.O.Outside.faults c.args.outside.now; asked = g.O.Outside.asked c.args.outside.now; ended = g.O.Outside.ended c.args.outside.now; ended_links = g.O.Outside.ended_links c.args.outside.now; connections = g.O.Outside.connections c.args.outside.now; started = g.O.Outside.started c.args.outside.now } in
+    let mid : OutsideTold = record { faults = g.O.Outside.faults c.ask_clock.new.outside; asked = g.O.Outside.asked c.ask_clock.new.outside; ended = g.O.Outside.ended c.ask_clock.new.outside; ended_links = g.O.Outside.ended_links c.ask_clock.new.outside; connections = g.O.Outside.connections c.ask_clock.new.outside; started = g.O.Outside.started c.ask_clock.new.outside } in
+    let new : OutsideTold = record { faults = g.O.Outside.faults c.ask_link.new.outside; asked = g.O.Outside.asked c.ask_link.new.outside; ended = g.O.Outside.ended c.ask_link.new.outside; ended_links = g.O.Outside.ended_links c.ask_link.new.outside; connections = g.O.Outside.connections c.ask_link.new.outside; started = g.O.Outside.started c.ask_link.new.outside } in
     let door : DoorTold = record { connections = g.O.D.Door.connections c.args.door.now; faults = g.O.D.Door.faults c.args.door.now } in
     let after : DoorTold = record { connections = g.O.D.Door.connections c.ask_handle.new.door; faults = g.O.D.Door.faults c.ask_handle.new.door } in
     takes-handle (Ok _) c.in_ok-link.link (ForClock ∷ ForLink ∷ []) old new door after

@@ -8,8 +8,8 @@ use Rattle.cds_serve.proofs.means.ask_means.Goals as goal
 
 pub returns-in_err-folder-clause-takes : goal.returns-in_err-folder-clause-takes
 returns-in_err-folder-clause-takes g c =
-    let o0 : OutsideTold = record { faults = g.O.Outside.faults c.args.outside.now; asked = g.O.Outside.asked c.args.outside.now; connections = g.O.Outside.connections c.args.outside.now; started = g.O.Outside.started c.args.outside.now } in
-    let o1 : OutsideTold = record { faults = g.O.Outside.faults c.ask_folder.new.outside; asked = g.O.Outside.asked c.ask_folder.new.outside; connections = g.O.Outside.connections c.ask_folder.new.outside; started = g.O.Outside.started c.ask_folder.new.outside } in
+    let o0 : OutsideTold = record { faults = g.O.Outside.faults c.args.outside.now; asked = g.O.Outside.asked c.args.outside.now; ended = g.O.Outside.ended c.args.outside.now; ended_links = g.O.Outside.ended_links c.args.outside.now; connections = g.O.Outside.connections c.args.outside.now; started = g.O.Outside.started c.args.outside.now } in
+    let o1 : OutsideTold = record { faults = g.O.Outside.faults c.ask_folder.new.outside; asked = g.O.Outside.asked c.ask_folder.new.outside; ended = g.O.Outside.ended c.ask_folder.new.outside; ended_links = g.O.Outside.ended_links c.ask_folder.new.outside; connections = g.O.Outside.connections c.ask_folder.new.outside; started = g.O.Outside.started c.ask_folder.new.outside } in
     let d0 : DoorTold = record { connections = g.O.D.Door.connections c.args.door.now; faults = g.O.D.Door.faults c.args.door.now } in
     let e = c.in_err-folder.field-0.0 in
     takes-exit c.from_residual.result e (ForFolder c.args.path.now ∷ []) ((worker_asks 4) ++ ((ForClock ∷ []) ++ ((ForClock ∷ []) ++ (ForLink ∷ [])))) o0 o1 d0 d0 c.from_residual.ensures.1
@@ -17,9 +17,9 @@ returns-in_err-folder-clause-takes g c =
 
 pub returns-in_err-workers-clause-takes : goal.returns-in_err-workers-clause-takes
 returns-in_err-workers-clause-takes g c =
-    let o0 : OutsideTold = record { faults = g.O.Outside.faults c.args.outside.now; asked = g.O.Outside.asked c.args.outside.now; connections = g.O.Outside.connections c.args.outside.now; started = g.O.Outside.started c.args.outside.now } in
-    let o1 : OutsideTold = record { faults = g.O.Outside.faults c.ask_folder.new.outside; asked = g.O.Outside.asked c.ask_folder.new.outside; connections = g.O.Outside.connections c.ask_folder.new.outside; started = g.O.Outside.started c.ask_folder.new.outside } in
-    let o2 : OutsideTold = record { faults = g.O.Outside.faults c.ask_workers.new.outside; asked = g.O.Outside.asked c.ask_workers.new.outside; connections = g.O.Outside.connections c.ask_workers.new.outside; started = g.O.Outside.started c.ask_workers.new.outside } in
+    let o0 : OutsideTold = record { faults = g.O.Outside.faults c.args.outside.now; asked = g.O.Outside.asked c.args.outside.now; ended = g.O.Outside.ended c.args.outside.now; ended_links = g.O.Outside.ended_links c.args.outside.now; connections = g.O.Outside.connections c.args.outside.now; started = g.O.Outside.started c.args.outside.now } in
+    let o1 : OutsideTold = record { faults = g.O.Outside.faults c.ask_folder.new.outside; asked = g.O.Outside.asked c.ask_folder.new.outside; ended = g.O.Outside.ended c.ask_folder.new.outside; ended_links = g.O.Outside.ended_links c.ask_folder.new.outside; connections = g.O.Outside.connections c.ask_folder.new.outside; started = g.O.Outside.started c.ask_folder.new.outside } in
+    let o2 : OutsideTold = record { faults = g.O.Outside.faults c.ask_workers.new.outside; asked = g.O.Outside.asked c.ask_workers.new.outside; ended = g.O.Outside.ended c.ask_workers.new.outside; ended_links = g.O.Outside.ended_links c.ask_workers.new.outside; connections = g.O.Outside.connections c.ask_workers.new.outside; started = g.O.Outside.started c.ask_workers.new.outside } in
     let d0 : DoorTold = record { connections = g.O.D.Door.connections c.args.door.now; faults = g.O.D.Door.faults c.args.door.now } in
     let d1 : DoorTold = record { connections = g.O.D.Door.connections c.ask_workers.new.door; faults = g.O.D.Door.faults c.ask_workers.new.door } in
     let e = c.in_err-workers.field-0.0 in
@@ -30,10 +30,10 @@ returns-in_err-workers-clause-takes g c =
 
 pub returns-in_err-scanner-clause-takes : goal.returns-in_err-scanner-clause-takes
 returns-in_err-scanner-clause-takes g c =
-    let o0 : OutsideTold = record { faults = g.O.Outside.faults c.args.outside.now; asked = g.O.Outside.asked c.args.outside.now; connections = g.O.Outside.connections c.args.outside.now; started = g.O.Outside.started c.args.outside.now } in
-    let o1 : OutsideTold = record { faults = g.O.Outside.faults c.ask_folder.new.outside; asked = g.O.Outside.asked c.ask_folder.new.outside; connections = g.O.Outside.connections c.ask_folder.new.outside; started = g.O.Outside.started c.ask_folder.new.outside } in
-    let o2 : OutsideTold = record { faults = g.O.Outside.faults c.ask_workers.new.outside; asked = g.O.Outside.asked c.ask_workers.new.outside; connections = g.O.Outside.connections c.ask_workers.new.outside; started = g.O.Outside.started c.ask_workers.new.outside } in
-    let o3 : OutsideTold = record { faults = g.O.Outside.faults c.ask_clock.new.outside; asked = g.O.Outside.asked c.ask_clock.new.outside; connections = g.O.Outside.connections c.ask_clock.new.outside; started = g.O.Outside.started c.ask_clock.new.outside } in
+    let o0 : OutsideTold = record { faults = g.O.Outside.faults c.args.outside.now; asked = g.O.Outside.asked c.args.outside.now; ended = g.O.Outside.ended c.args.outside.now; ended_links = g.O.Outside.ended_links c.args.outside.now; connections = g.O.Outside.connections c.args.outside.now; started = g.O.Outside.started c.args.outside.now } in
+    let o1 : OutsideTold = record { faults = g.O.Outside.faults c.ask_folder.new.outside; asked = g.O.Outside.asked c.ask_folder.new.outside; ended = g.O.Outside.ended c.ask_folder.new.outside; ended_links = g.O.Outside.ended_links c.ask_folder.new.outside; connections = g.O.Outside.connections c.ask_folder.new.outside; started = g.O.Outside.started c.ask_folder.new.outside } in
+    let o2 : OutsideTold = record { faults = g.O.Outside.faults c.ask_workers.new.outside; asked = g.O.Outside.asked c.ask_workers.new.outside; ended = g.O.Outside.ended c.ask_workers.new.outside; ended_links = g.O.Outside.ended_links c.ask_workers.new.outside; connections = g.O.Outside.connections c.ask_workers.new.outside; started = g.O.Outside.started c.ask_workers.new.outside } in
+    let o3 : OutsideTold = record { faults = g.O.Outside.faults c.ask_clock.new.outside; asked = g.O.Outside.asked c.ask_clock.new.outside; ended = g.O.Outside.ended c.ask_clock.new.outside; ended_links = g.O.Outside.ended_links c.ask_clock.new.outside; connections = g.O.Outside.connections c.ask_clock.new.outside; started = g.O.Outside.started c.ask_clock.new.outside } in
     let d0 : DoorTold = record { connections = g.O.D.Door.connections c.args.door.now; faults = g.O.D.Door.faults c.args.door.now } in
     let d1 : DoorTold = record { connections = g.O.D.Door.connections c.ask_workers.new.door; faults = g.O.D.Door.faults c.ask_workers.new.door } in
     let e = c.in_err-scanner.field-0.0 in
@@ -46,11 +46,11 @@ returns-in_err-scanner-clause-takes g c =
 
 pub returns-in_err-notifier-clause-takes : goal.returns-in_err-notifier-clause-takes
 returns-in_err-notifier-clause-takes g c =
-    let o0 : OutsideTold = record { faults = g.O.Outside.faults c.args.outside.now; asked = g.O.Outside.asked c.args.outside.now; connections = g.O.Outside.connections c.args.outside.now; started = g.O.Outside.started c.args.outside.now } in
-    let o1 : OutsideTold = record { faults = g.O.Outside.faults c.ask_folder.new.outside; asked = g.O.Outside.asked c.ask_folder.new.outside; connections = g.O.Outside.connections c.ask_folder.new.outside; started = g.O.Outside.started c.ask_folder.new.outside } in
-    let o2 : OutsideTold = record { faults = g.O.Outside.faults c.ask_workers.new.outside; asked = g.O.Outside.asked c.ask_workers.new.outside; connections = g.O.Outside.connections c.ask_workers.new.outside; started = g.O.Outside.started c.ask_workers.new.outside } in
-    let o3 : OutsideTold = record { faults = g.O.Outside.faults c.ask_clock.new.outside; asked = g.O.Outside.asked c.ask_clock.new.outside; connections = g.O.Outside.connections c.ask_clock.new.outside; started = g.O.Outside.started c.ask_clock.new.outside } in
-    let o4 : OutsideTold = record { faults = g.O.Outside.faults c.ask_clock-2.new.outside; asked = g.O.Outside.asked c.ask_clock-2.new.outside; connections = g.O.Outside.connections c.ask_clock-2.new.outside; started = g.O.Outside.started c.ask_clock-2.new.outside } in
+    let o0 : OutsideTold = record { faults = g.O.Outside.faults c.args.outside.now; asked = g.O.Outside.asked c.args.outside.now; ended = g.O.Outside.ended c.args.outside.now; ended_links = g.O.Outside.ended_links c.args.outside.now; connections = g.O.Outside.connections c.args.outside.now; started = g.O.Outside.started c.args.outside.now } in
+    let o1 : OutsideTold = record { faults = g.O.Outside.faults c.ask_folder.new.outside; asked = g.O.Outside.asked c.ask_folder.new.outside; ended = g.O.Outside.ended c.ask_folder.new.outside; ended_links = g.O.Outside.ended_links c.ask_folder.new.outside; connections = g.O.Outside.connections c.ask_folder.new.outside; started = g.O.Outside.started c.ask_folder.new.outside } in
+    let o2 : OutsideTold = record { faults = g.O.Outside.faults c.ask_workers.new.outside; asked = g.O.Outside.asked c.ask_workers.new.outside; ended = g.O.Outside.ended c.ask_workers.new.outside; ended_links = g.O.Outside.ended_links c.ask_workers.new.outside; connections = g.O.Outside.connections c.ask_workers.new.outside; started = g.O.Outside.started c.ask_workers.new.outside } in
+    let o3 : OutsideTold = record { faults = g.O.Outside.faults c.ask_clock.new.outside; asked = g.O.Outside.asked c.ask_clock.new.outside; ended = g.O.Outside.ended c.ask_clock.new.outside; ended_links = g.O.Outside.ended_links c.ask_clock.new.outside; connections = g.O.Outside.connections c.ask_clock.new.outside; started = g.O.Outside.started c.ask_clock.new.outside } in
+    let o4 : OutsideTold = record { faults = g.O.Outside.faults c.ask_clock-2.new.outside; asked = g.O.Outside.asked c.ask_clock-2.new.outside; ended = g.O.Outside.ended c.ask_clock-2.new.outside; ended_links = g.O.Outside.ended_links c.ask_clock-2.new.outside; connections = g.O.Outside.connections c.ask_clock-2.new.outside; started = g.O.Outside.started c.ask_clock-2.new.outside } in
     let d0 : DoorTold = record { connections = g.O.D.Door.connections c.args.door.now; faults = g.O.D.Door.faults c.args.door.now } in
     let d1 : DoorTold = record { connections = g.O.D.Door.connections c.ask_workers.new.door; faults = g.O.D.Door.faults c.ask_workers.new.door } in
     let e = c.in_err-notifier.field-0.0 in
@@ -65,12 +65,12 @@ returns-in_err-notifier-clause-takes g c =
 
 pub returns-in_err-link-clause-takes : goal.returns-in_err-link-clause-takes
 returns-in_err-link-clause-takes g c =
-    let o0 : OutsideTold = record { faults = g.O.Outside.faults c.args.outside.now; asked = g.O.Outside.asked c.args.outside.now; connections = g.O.Outside.connections c.args.outside.now; started = g.O.Outside.started c.args.outside.now } in
-    let o1 : OutsideTold = record { faults = g.O.Outside.faults c.ask_folder.new.outside; asked = g.O.Outside.asked c.ask_folder.new.outside; connections = g.O.Outside.connections c.ask_folder.new.outside; started = g.O.Outside.started c.ask_folder.new.outside } in
-    let o2 : OutsideTold = record { faults = g.O.Outside.faults c.ask_workers.new.outside; asked = g.O.Outside.asked c.ask_workers.new.outside; connections = g.O.Outside.connections c.ask_workers.new.outside; started = g.O.Outside.started c.ask_workers.new.outside } in
-    let o3 : OutsideTold = record { faults = g.O.Outside.faults c.ask_clock.new.outside; asked = g.O.Outside.asked c.ask_clock.new.outside; connections = g.O.Outside.connections c.ask_clock.new.outside; started = g.O.Outside.started c.ask_clock.new.outside } in
-    let o4 : OutsideTold = record { faults = g.O.Outside.faults c.ask_clock-2.new.outside; asked = g.O.Outside.asked c.ask_clock-2.new.outside; connections = g.O.Outside.connections c.ask_clock-2.new.outside; started = g.O.Outside.started c.ask_clock-2.new.outside } in
-    let o5 : OutsideTold = record { faults = g.O.Outside.faults c.ask_link.new.outside; asked = g.O.Outside.asked c.ask_link.new.outside; connections = g.O.Outside.connections c.ask_link.new.outside; started = g.O.Outside.started c.ask_link.new.outside } in
+    let o0 : OutsideTold = record { faults = g.O.Outside.faults c.args.outside.now; asked = g.O.Outside.asked c.args.outside.now; ended = g.O.Outside.ended c.args.outside.now; ended_links = g.O.Outside.ended_links c.args.outside.now; connections = g.O.Outside.connections c.args.outside.now; started = g.O.Outside.started c.args.outside.now } in
+    let o1 : OutsideTold = record { faults = g.O.Outside.faults c.ask_folder.new.outside; asked = g.O.Outside.asked c.ask_folder.new.outside; ended = g.O.Outside.ended c.ask_folder.new.outside; ended_links = g.O.Outside.ended_links c.ask_folder.new.outside; connections = g.O.Outside.connections c.ask_folder.new.outside; started = g.O.Outside.started c.ask_folder.new.outside } in
+    let o2 : OutsideTold = record { faults = g.O.Outside.faults c.ask_workers.new.outside; asked = g.O.Outside.asked c.ask_workers.new.outside; ended = g.O.Outside.ended c.ask_workers.new.outside; ended_links = g.O.Outside.ended_links c.ask_workers.new.outside; connections = g.O.Outside.connections c.ask_workers.new.outside; started = g.O.Outside.started c.ask_workers.new.outside } in
+    let o3 : OutsideTold = record { faults = g.O.Outside.faults c.ask_clock.new.outside; asked = g.O.Outside.asked c.ask_clock.new.outside; ended = g.O.Outside.ended c.ask_clock.new.outside; ended_links = g.O.Outside.ended_links c.ask_clock.new.outside; connections = g.O.Outside.connections c.ask_clock.new.outside; started = g.O.Outside.started c.ask_clock.new.outside } in
+    let o4 : OutsideTold = record { faults = g.O.Outside.faults c.ask_clock-2.new.outside; asked = g.O.Outside.asked c.ask_clock-2.new.outside; ended = g.O.Outside.ended c.ask_clock-2.new.outside; ended_links = g.O.Outside.ended_links c.ask_clock-2.new.outside; connections = g.O.Outside.connections c.ask_clock-2.new.outside; started = g.O.Outside.started c.ask_clock-2.new.outside } in
+    let o5 : OutsideTold = record { faults = g.O.Outside.faults c.ask_link.new.outside; asked = g.O.Outside.asked c.ask_link.new.outside; ended = g.O.Outside.ended c.ask_link.new.outside; ended_links = g.O.Outside.ended_links c.ask_link.new.outside; connections = g.O.Outside.connections c.ask_link.new.outside; started = g.O.Outside.started c.ask_link.new.outside } in
     let d0 : DoorTold = record { connections = g.O.D.Door.connections c.args.door.now; faults = g.O.D.Door.faults c.args.door.now } in
     let d1 : DoorTold = record { connections = g.O.D.Door.connections c.ask_workers.new.door; faults = g.O.D.Door.faults c.ask_workers.new.door } in
     let e = c.in_err-link.field-0.0 in
@@ -87,12 +87,12 @@ returns-in_err-link-clause-takes g c =
 
 pub returns-clause-takes : goal.returns-clause-takes
 returns-clause-takes g c =
-    let o0 : OutsideTold = record { faults = g.O.Outside.faults c.args.outside.now; asked = g.O.Outside.asked c.args.outside.now; connections = g.O.Outside.connections c.args.outside.now; started = g.O.Outside.started c.args.outside.now } in
-    let o1 : OutsideTold = record { faults = g.O.Outside.faults c.ask_folder.new.outside; asked = g.O.Outside.asked c.ask_folder.new.outside; connections = g.O.Outside.connections c.ask_folder.new.outside; started = g.O.Outside.started c.ask_folder.new.outside } in
-    let o2 : OutsideTold = record { faults = g.O.Outside.faults c.ask_workers.new.outside; asked = g.O.Outside.asked c.ask_workers.new.outside; connections = g.O.Outside.connections c.ask_workers.new.outside; started = g.O.Outside.started c.ask_workers.new.outside } in
-    let o3 : OutsideTold = record { faults = g.O.Outside.faults c.ask_clock.new.outside; asked = g.O.Outside.asked c.ask_clock.new.outside; connections = g.O.Outside.connections c.ask_clock.new.outside; started = g.O.Outside.started c.ask_clock.new.outside } in
-    let o4 : OutsideTold = record { faults = g.O.Outside.faults c.ask_clock-2.new.outside; asked = g.O.Outside.asked c.ask_clock-2.new.outside; connections = g.O.Outside.connections c.ask_clock-2.new.outside; started = g.O.Outside.started c.ask_clock-2.new.outside } in
-    let o5 : OutsideTold = record { faults = g.O.Outside.faults c.ask_link.new.outside; asked = g.O.Outside.asked c.ask_link.new.outside; connections = g.O.Outside.connections c.ask_link.new.outside; started = g.O.Outside.started c.ask_link.new.outside } in
+    let o0 : OutsideTold = record { faults = g.O.Outside.faults c.args.outside.now; asked = g.O.Outside.asked c.args.outside.now; ended = g.O.Outside.ended c.args.outside.now; ended_links = g.O.Outside.ended_links c.args.outside.now; connections = g.O.Outside.connections c.args.outside.now; started = g.O.Outside.started c.args.outside.now } in
+    let o1 : OutsideTold = record { faults = g.O.Outside.faults c.ask_folder.new.outside; asked = g.O.Outside.asked c.ask_folder.new.outside; ended = g.O.Outside.ended c.ask_folder.new.outside; ended_links = g.O.Outside.ended_links c.ask_folder.new.outside; connections = g.O.Outside.connections c.ask_folder.new.outside; started = g.O.Outside.started c.ask_folder.new.outside } in
+    let o2 : OutsideTold = record { faults = g.O.Outside.faults c.ask_workers.new.outside; asked = g.O.Outside.asked c.ask_workers.new.outside; ended = g.O.Outside.ended c.ask_workers.new.outside; ended_links = g.O.Outside.ended_links c.ask_workers.new.outside; connections = g.O.Outside.connections c.ask_workers.new.outside; started = g.O.Outside.started c.ask_workers.new.outside } in
+    let o3 : OutsideTold = record { faults = g.O.Outside.faults c.ask_clock.new.outside; asked = g.O.Outside.asked c.ask_clock.new.outside; ended = g.O.Outside.ended c.ask_clock.new.outside; ended_links = g.O.Outside.ended_links c.ask_clock.new.outside; connections = g.O.Outside.connections c.ask_clock.new.outside; started = g.O.Outside.started c.ask_clock.new.outside } in
+    let o4 : OutsideTold = record { faults = g.O.Outside.faults c.ask_clock-2.new.outside; asked = g.O.Outside.asked c.ask_clock-2.new.outside; ended = g.O.Outside.ended c.ask_clock-2.new.outside; ended_links = g.O.Outside.ended_links c.ask_clock-2.new.outside; connections = g.O.Outside.connections c.ask_clock-2.new.outside; started = g.O.Outside.started c.ask_clock-2.new.outside } in
+    let o5 : OutsideTold = record { faults = g.O.Outside.faults c.ask_link.new.outside; asked = g.O.Outside.asked c.ask_link.new.outside; ended = g.O.Outside.ended c.ask_link.new.outside; ended_links = g.O.Outside.ended_links c.ask_link.new.outside; connections = g.O.Outside.connections c.ask_link.new.outside; started = g.O.Outside.started c.ask_link.new.outside } in
     let d0 : DoorTold = record { connections = g.O.D.Door.connections c.args.door.now; faults = g.O.D.Door.faults c.args.door.now } in
     let d1 : DoorTold = record { connections = g.O.D.Door.connections c.ask_workers.new.door; faults = g.O.D.Door.faults c.ask_workers.new.door } in
     takes-ok c.in_ok-link.link _ (((((ForFolder c.args.path.now ∷ []) ++ (worker_asks 4)) ++ (ForClock ∷ [])) ++ (ForClock ∷ [])) ++ (ForLink ∷ [])) o0 o5 d0 d1

@@ -8,15 +8,15 @@ use Rattle.cds_serve.proofs.means.ask_workers.Goals as goal
 
 pub returns-in_err-all-clause-takes : goal.returns-in_err-all-clause-takes
 returns-in_err-all-clause-takes g c =
-    let old : OutsideTold = record { faults = g.O.Outside.faults c.args.outside.now; asked = g.O.Outside.asked c.args.outside.now; connections = g.O.Outside.connections c.args.outside.now; started = g.O.Outside.started c.args.outside.now } in
+    let old : OutsideTold = record { faults = g.O.Outside.faults c.args.outside.now; asked = g.O.Outside.asked c.args.outside.now; ended = g.O.Outside.ended c.args.outside.now; ended_links = g.O.Outside.ended_links c.args.outside.now; connections = g.O.Outside.connections c.args.outside.now; started = g.O.Outside.started c.args.outside.now } in
     let door : DoorTold = record { connections = g.O.D.Door.connections c.args.door.now; faults = g.O.D.Door.faults c.args.door.now } in
     takes-no-memory c.from_residual.result tt [] (worker_asks 4) old old door door c.from_residual.ensures.1 (takes-none old door)
 
 pub returns-in_err-ends-clause-takes : goal.returns-in_err-ends-clause-takes
 returns-in_err-ends-clause-takes g c =
-    let old : OutsideTold = record { faults = g.O.Outside.faults c.args.outside.now; asked = g.O.Outside.asked c.args.outside.now; connections = g.O.Outside.connections c.args.outside.now; started = g.O.Outside.started c.args.outside.now } in
-    let mid : OutsideTold = record { faults = g.O.Outside.faults c.workers.outside; asked = g.O.Outside.asked c.workers.outside; connections = g.O.Outside.connections c.workers.outside; started = g.O.Outside.started c.workers.outside } in
-    let new : OutsideTold = record { faults = g.O.Outside.faults c.ask_ends.new.outside; asked = g.O.Outside.asked c.ask_ends.new.outside; connections = g.O.Outside.connections c.ask_ends.new.outside; started = g.O.Outside.started c.ask_ends.new.outside } in
+    let old : OutsideTold = record { faults = g.O.Outside.faults c.args.outside.now; asked = g.O.Outside.asked c.args.outside.now; ended = g.O.Outside.ended c.args.outside.now; ended_links = g.O.Outside.ended_links c.args.outside.now; connections = g.O.Outside.connections c.args.outside.now; started = g.O.Outside.started c.args.outside.now } in
+    let mid : OutsideTold = record { faults = g.O.Outside.faults c.workers.outside; asked = g.O.Outside.asked c.workers.outside; ended = g.O.Outside.ended c.workers.outside; ended_links = g.O.Outside.ended_links c.workers.outside; connections = g.O.Outside.connections c.workers.outside; started = g.O.Outside.started c.workers.outside } in
+    let new : OutsideTold = record { faults = g.O.Outside.faults c.ask_ends.new.outside; asked = g.O.Outside.asked c.ask_ends.new.outside; ended = g.O.Outside.ended c.ask_ends.new.outside; ended_links = g.O.Outside.ended_links c.ask_ends.new.outside; connections = g.O.Outside.connections c.ask_ends.new.outside; started = g.O.Outside.started c.ask_ends.new.outside } in
     let door : DoorTold = record { connections = g.O.D.Door.connections c.args.door.now; faults = g.O.D.Door.faults c.args.door.now } in
     let between : DoorTold = record { connections = g.O.D.Door.connections c.workers.door; faults = g.O.D.Door.faults c.workers.door } in
     let after : DoorTold = record { connections = g.O.D.Door.connections c.ask_ends.new.door; faults = g.O.D.Door.faults c.ask_ends.new.door } in
@@ -28,9 +28,9 @@ returns-in_err-ends-clause-takes g c =
 
 pub returns-in_err-push-clause-takes : goal.returns-in_err-push-clause-takes
 returns-in_err-push-clause-takes g c =
-    let old : OutsideTold = record { faults = g.O.Outside.faults c.args.outside.now; asked = g.O.Outside.asked c.args.outside.now; connections = g.O.Outside.connections c.args.outside.now; started = g.O.Outside.started c.args.outside.now } in
-    let mid : OutsideTold = record { faults = g.O.Outside.faults c.workers.outside; asked = g.O.Outside.asked c.workers.outside; connections = g.O.Outside.connections c.workers.outside; started = g.O.Outside.started c.workers.outside } in
-    let new : OutsideTold = record { faults = g.O.Outside.faults c.ask_ends.new.outside; asked = g.O.Outside.asked c.ask_ends.new.outside; connections = g.O.Outside.connections c.ask_ends.new.outside; started = g.O.Outside.started c.ask_ends.new.outside } in
+    let old : OutsideTold = record { faults = g.O.Outside.faults c.args.outside.now; asked = g.O.Outside.asked c.args.outside.now; ended = g.O.Outside.ended c.args.outside.now; ended_links = g.O.Outside.ended_links c.args.outside.now; connections = g.O.Outside.connections c.args.outside.now; started = g.O.Outside.started c.args.outside.now } in
+    let mid : OutsideTold = record { faults = g.O.Outside.faults c.workers.outside; asked = g.O.Outside.asked c.workers.outside; ended = g.O.Outside.ended c.workers.outside; ended_links = g.O.Outside.ended_links c.workers.outside; connections = g.O.Outside.connections c.workers.outside; started = g.O.Outside.started c.workers.outside } in
+    let new : OutsideTold = record { faults = g.O.Outside.faults c.ask_ends.new.outside; asked = g.O.Outside.asked c.ask_ends.new.outside; ended = g.O.Outside.ended c.ask_ends.new.outside; ended_links = g.O.Outside.ended_links c.ask_ends.new.outside; connections = g.O.Outside.connections c.ask_ends.new.outside; started = g.O.Outside.started c.ask_ends.new.outside } in
     let door : DoorTold = record { connections = g.O.D.Door.connections c.args.door.now; faults = g.O.D.Door.faults c.args.door.now } in
     let between : DoorTold = record { connections = g.O.D.Door.connections c.workers.door; faults = g.O.D.Door.faults c.workers.door } in
     let after : DoorTold = record { connections = g.O.D.Door.connections c.ask_ends.new.door; faults = g.O.D.Door.faults c.ask_ends.new.door } in
@@ -41,9 +41,9 @@ returns-in_err-push-clause-takes g c =
 
 pub workers-preserved : goal.workers-preserved
 workers-preserved g c =
-    let old : OutsideTold = record { faults = g.O.Outside.faults c.args.outside.now; asked = g.O.Outside.asked c.args.outside.now; connections = g.O.Outside.connections c.args.outside.now; started = g.O.Outside.started c.args.outside.now } in
-    let mid : OutsideTold = record { faults = g.O.Outside.faults c.workers.outside; asked = g.O.Outside.asked c.workers.outside; connections = g.O.Outside.connections c.workers.outside; started = g.O.Outside.started c.workers.outside } in
-    let new : OutsideTold = record { faults = g.O.Outside.faults c.ask_ends.new.outside; asked = g.O.Outside.asked c.ask_ends.new.outside; connections = g.O.Outside.connections c.ask_ends.new.outside; started = g.O.Outside.started c.ask_ends.new.outside } in
+    let old : OutsideTold = record { faults = g.O.Outside.faults c.args.outside.now; asked = g.O.Outside.asked c.args.outside.now; ended = g.O.Outside.ended c.args.outside.now; ended_links = g.O.Outside.ended_links c.args.outside.now; connections = g.O.Outside.connections c.args.outside.now; started = g.O.Outside.started c.args.outside.now } in
+    let mid : OutsideTold = record { faults = g.O.Outside.faults c.workers.outside; asked = g.O.Outside.asked c.workers.outside; ended = g.O.Outside.ended c.workers.outside; ended_links = g.O.Outside.ended_links c.workers.outside; connections = g.O.Outside.connections c.workers.outside; started = g.O.Outside.started c.workers.outside } in
+    let new : OutsideTold = record { faults = g.O.Outside.faults c.ask_ends.new.outside; asked = g.O.Outside.asked c.ask_ends.new.outside; ended = g.O.Outside.ended c.ask_ends.new.outside; ended_links = g.O.Outside.ended_links c.ask_ends.new.outside; connections = g.O.Outside.connections c.ask_ends.new.outside; started = g.O.Outside.started c.ask_ends.new.outside } in
     let door : DoorTold = record { connections = g.O.D.Door.connections c.args.door.now; faults = g.O.D.Door.faults c.args.door.now } in
     let between : DoorTold = record { connections = g.O.D.Door.connections c.workers.door; faults = g.O.D.Door.faults c.workers.door } in
     let after : DoorTold = record { connections = g.O.D.Door.connections c.ask_ends.new.door; faults = g.O.D.Door.faults c.ask_ends.new.door } in
@@ -58,8 +58,8 @@ workers-preserved g c =
 
 pub returns-clause-takes : goal.returns-clause-takes
 returns-clause-takes g c =
-    let old : OutsideTold = record { faults = g.O.Outside.faults c.args.outside.now; asked = g.O.Outside.asked c.args.outside.now; connections = g.O.Outside.connections c.args.outside.now; started = g.O.Outside.started c.args.outside.now } in
-    let new : OutsideTold = record { faults = g.O.Outside.faults c.workers.outside; asked = g.O.Outside.asked c.workers.outside; connections = g.O.Outside.connections c.workers.outside; started = g.O.Outside.started c.workers.outside } in
+    let old : OutsideTold = record { faults = g.O.Outside.faults c.args.outside.now; asked = g.O.Outside.asked c.args.outside.now; ended = g.O.Outside.ended c.args.outside.now; ended_links = g.O.Outside.ended_links c.args.outside.now; connections = g.O.Outside.connections c.args.outside.now; started = g.O.Outside.started c.args.outside.now } in
+    let new : OutsideTold = record { faults = g.O.Outside.faults c.workers.outside; asked = g.O.Outside.asked c.workers.outside; ended = g.O.Outside.ended c.workers.outside; ended_links = g.O.Outside.ended_links c.workers.outside; connections = g.O.Outside.connections c.workers.outside; started = g.O.Outside.started c.workers.outside } in
     let door : DoorTold = record { connections = g.O.D.Door.connections c.args.door.now; faults = g.O.D.Door.faults c.args.door.now } in
     let after : DoorTold = record { connections = g.O.D.Door.connections c.workers.door; faults = g.O.D.Door.faults c.workers.door } in
     let four : length c.workers.all.items ≡ 4 = omega (arith, c.workers.invariant.few, c.workers-test.false) in

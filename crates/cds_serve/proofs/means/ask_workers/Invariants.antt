@@ -9,8 +9,8 @@ abbrev pub invariant-workers : goal.invariant-workers
 invariant-workers g l = record {
   few : length l.all.items ≤ 4;
   takes : Takes {A = ⊤} (Ok tt) (worker_asks (length l.all.items))
-      (record { faults = g.O.Outside.faults l.initial.outside; asked = g.O.Outside.asked l.initial.outside; connections = g.O.Outside.connections l.initial.outside; started = g.O.Outside.started l.initial.outside })
-      (record { faults = g.O.Outside.faults l.outside; asked = g.O.Outside.asked l.outside; connections = g.O.Outside.connections l.outside; started = g.O.Outside.started l.outside })
+      (record { faults = g.O.Outside.faults l.initial.outside; asked = g.O.Outside.asked l.initial.outside; ended = g.O.Outside.ended l.initial.outside; ended_links = g.O.Outside.ended_links l.initial.outside; connections = g.O.Outside.connections l.initial.outside; started = g.O.Outside.started l.initial.outside })
+      (record { faults = g.O.Outside.faults l.outside; asked = g.O.Outside.asked l.outside; ended = g.O.Outside.ended l.outside; ended_links = g.O.Outside.ended_links l.outside; connections = g.O.Outside.connections l.outside; started = g.O.Outside.started l.outside })
       (record { connections = g.O.D.Door.connections l.initial.door; faults = g.O.D.Door.faults l.initial.door })
       (record { connections = g.O.D.Door.connections l.door; faults = g.O.D.Door.faults l.door });
   fresh : AllByRecursion (λ ends. (g.O.D.Door.connections ends.door ≡ 0) × (g.O.D.Door.faults ends.door ≡ 0)) l.all.items;
