@@ -54,6 +54,11 @@ def main():
     name = reply.getheader("SID")
     if reply.status != 200 or not name:
         wrong(f"the subscription was answered {reply.status}")
+    # (names are made of the server's first moment, in milliseconds, and its port)
+    digits = name.removeprefix("uuid:").replace("-", "")
+    age = time.time() * 1000 - int(digits[:12], 16)
+    if not 0 <= age < 600_000 or int(digits[20:24], 16) != port:
+        wrong(f"the name {name} is not of the port {port} and of a moment just before")
     fields, _ = receive(listener, 5)
     if fields[b"SID"] != name.encode() or fields[b"SEQ"] != b"0":
         wrong(f"the first note has SID {fields[b'SID']} and SEQ {fields[b'SEQ']}")

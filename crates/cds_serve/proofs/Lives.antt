@@ -1,5 +1,6 @@
 -- The life of a server that listens, put together from its parts.
-use Rattle.std.proofs.Common.{◌≡◌, ◌≢◌, ◌⊎◌, inl, inr, ℕ, zero, suc, Bool, true, false, true≢false, ◌+◌, ◌-◌, ◌*◌, ◌/◌, ◌%◌, ◌^◌, ◌<◌, ◌≤◌, min, List, [], ◌∷◌, ◌++◌, length, take, Option, Some, None, Result, Ok, Err, IsErrAnd, IfErr, IfOk, OnOk, OnErr, refl, sym, ap, subst, ◌∙◌, append_assoc, append-nil, cond, nat_lt, is_some, unwrap_or, sum_by, div-add-mod', mod-lt, IfNone, IfSome, IsTrue, IsFalse, IsNone, arith, le_trans, length-append}
+use Rattle.std.proofs.Common.{◌≡◌, ◌≢◌, ◌⊎◌, inl, inr, ℕ, zero, suc, Bool, true, false, true≢false, ◌+◌, ◌-◌, ◌*◌, ◌/◌, ◌%◌, ◌^◌, ◌<◌, ◌≤◌, ◌==◌, min, List, [], ◌∷◌, ◌++◌, length, take, Option, Some, None, Result, Ok, Err, IsErrAnd, IfErr, IfOk, OnOk, OnErr, refl, sym, ap, subst, ◌∙◌, append_assoc, append-nil, cond, nat_lt, is_some, unwrap_or, sum_by, div-add-mod', mod-lt, IfNone, IfSome, IsTrue, IsFalse, IsNone, arith, le_trans, length-append}
+use Rattle.std.proofs.lemmas.Bool.Decides.{nat_tests}
 use Rattle.std.proofs.lemmas.List.Sums.{sum_by-cons}
 use Rattle.std.specs.Prelude.{⊤}
 use Rattle.std.specs.List.{AllByRecursion}
@@ -9,7 +10,7 @@ use Rattle.cds_base.specs.declared.exterior.OutsideFault.TheVariants as outside_
 use Rattle.cds_base.specs.Entries.{Told}
 use Rattle.cds_base.specs.Outside.{HoldsPart, Rose, raised}
 use Rattle.cds_serve.specs.Jobs.{DoorTold}
-use Rattle.cds_serve.specs.Life.{AreCounts, Asks, AsksFor, Counts, EndsLife, IsCaused, Outer, OutsideTold, Served, Stops, Takes, WritesLife, WritesLine, fault_of, life_asks, life_text, served_line, serving_line, share_of, status_of, worker_asks}
+use Rattle.cds_serve.specs.Life.{AreCounts, Asks, AsksFor, Counts, EndsLife, IsCaused, OfFirst, Outer, OutsideTold, Served, Stops, Takes, WritesLife, WritesLine, fault_of, life_asks, life_text, served_line, serving_line, share_of, status_of, worker_asks}
 use Rattle.cds_serve.specs.declared.fault.Fault.{Fault}
 use Rattle.cds_serve.specs.declared.fault.Fault.TheVariants as fault
 use Rattle.cds_serve.proofs.Rounds.{rose-more, rose-on}
@@ -284,6 +285,21 @@ all-first P xs ys x is all = subst (AllByRecursion P) is all
 pub all-at : {A : Type 0} (P : A → Type 0) (xs ys : List A) (x : A) → AllByRecursion P (xs ++ x ∷ ys) → P x
 all-at P [] ys x all = all.0
 all-at P (y ∷ xs) ys x all = all-at P xs ys x all.1
+
+-- of the first, with one element more behind the others; where there was none, it is the first
+pub first-more : {A : Type 0} (P Q : A → Type 0) (xs : List A) (x : A) (empty : Bool) → empty ≡ (length xs == 0) → (xs ≡ []) ⊎ OfFirst P xs
+    → (IsTrue empty → Q x) → (IsFalse empty → (y : A) → P y → Q y) → OfFirst Q (xs ++ x ∷ [])
+first-more P Q [] x empty is so one others = one is
+first-more P Q (y ∷ ys) x empty is (inl none) one others = absurd (omega (arith, ap length none))
+first-more P Q (y ∷ ys) x empty is (inr p) one others = others (is ∙ some (length ys)) y p
+  where
+    some : (n : ℕ) → (suc n == 0) ≡ false
+    some n = grind (arith, nat_tests)
+
+-- of the first, where there are some
+pub first-there : {A : Type 0} (P : A → Type 0) (xs : List A) (n : ℕ) → length xs ≡ n → 0 < n → (xs ≡ []) ⊎ OfFirst P xs → OfFirst P xs
+first-there P xs n many some (inl none) = absurd (omega (arith, many, some, ap length none))
+first-there P xs n many some (inr p) = p
 
 -- of one among all of which it holds
 pub all-from : {A : Type 0} (P : A → Type 0) (all xs ys : List A) (x : A) → xs ++ x ∷ ys ≡ all → AllByRecursion P all → P x

@@ -1,5 +1,5 @@
 -- A server that listens at a port, from its start to its end (this project's profile).
-use Rattle.std.specs.Prelude.{◌≡◌, ◌⊎◌, ◌+◌, ◌*◌, ◌/◌, ◌%◌, ◌^◌, ◌≤◌, ◌<◌, ℕ, codes, nat_lt, if◌then◌else◌, List, [], ◌∷◌, ◌++◌, take, zero, suc, Option, Some, Result, Ok, Err, ⊤}
+use Rattle.std.specs.Prelude.{◌≡◌, ◌⊎◌, ◌+◌, ◌*◌, ◌/◌, ◌%◌, ◌^◌, ◌≤◌, ◌<◌, ℕ, codes, nat_lt, if◌then◌else◌, slice_index, List, [], ◌∷◌, ◌++◌, take, zero, suc, Option, Some, Result, Ok, Err, ⊤}
 use Rattle.std.specs.Fmt.{decimal}
 use Rattle.cds_base.specs.Asked.{Asked, ForClock, ForDoor, ForFolder, ForLink, ForSpawner}
 use Rattle.cds_base.specs.Entries.{FolderTold, Told}
@@ -7,6 +7,7 @@ use Rattle.cds_base.specs.Links.{LinkTold}
 use Rattle.cds_base.specs.Outside.{HoldsPart, Rose, raised}
 use Rattle.cds_base.specs.declared.exterior.OutsideFault.{OutsideFault}
 use Rattle.cds_base.specs.declared.exterior.OutsideFault.TheVariants as outside_fault
+use Rattle.cds_commands.specs.Commands.{Start}
 use Rattle.cds_serve.specs.Jobs.{DoorTold}
 use Rattle.cds_serve.specs.declared.fault.Fault.{Fault}
 use Rattle.cds_serve.specs.declared.fault.Fault.TheVariants as fault
@@ -56,6 +57,22 @@ first_word moment = (moment % 2 ^ 48) * 2 ^ 16
 
 abbrev pub second_word : ℕ → ℕ
 second_word port = port * 2 ^ 32
+
+-- The boot words of a server at a port, by a clock that was asked for its first moment and had failed so often before: those of what it gave,
+-- which is its last moment since, or of 0 where it failed, as its count says
+pub record AreBootWords (port faults last after : ℕ) (boot : List ℕ) : Type 0 where
+  pub moment : ℕ
+  pub asked : (last ≡ moment) ⊎ (Rose faults after × (moment ≡ 0))
+  pub words : boot ≡ first_word moment ∷ second_word port ∷ []
+
+-- the start of a server with these boot words, at the number 0
+abbrev pub start_with : List ℕ → Start
+start_with boot = record { high = slice_index boot 0; low = slice_index boot 1; first = 0 }
+
+-- a list has a first element, of which this holds
+abbrev pub OfFirst : {A : Type 0} → (A → Type 0) → List A → Type 0
+OfFirst P [] = ⊥
+OfFirst P (x ∷ xs) = P x
 
 -- ---- the shares of the workers
 

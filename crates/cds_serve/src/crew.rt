@@ -4,8 +4,8 @@ ghost use Rattle.std.specs.Prelude.{◌≡◌, ◌≢◌, ◌⊎◌, ◌+◌, �
 ghost use Rattle.std.specs.Arc.{arc_value};
 ghost use Rattle.std.specs.List.{AllByRecursion};
 ghost use Rattle.cds_base.specs.Outside.{Rose, raised};
-ghost use Rattle.cds_turn.specs.Turn.{IsSeatOf, passes_of};
-ghost use Rattle.cds_serve.specs.Life.{AreCounts, IsCaused, share_of};
+ghost use Rattle.cds_turn.specs.Turn.{IsSeatOf, passes_of, start_of};
+ghost use Rattle.cds_serve.specs.Life.{AreCounts, IsCaused, share_of, start_with};
 
 use crate::acts::Stop;
 use crate::fault::Fault;
@@ -101,6 +101,7 @@ pub(crate) fn hire_crew<
     ensures workers { IfOk result (λ crew. sum_by (λ worker. worker.share) crew.workers.items ≡ requests) }
     ensures fresh { IfOk result (λ crew. AllByRecursion (λ worker. (D.connections worker.door ≡ 0) × (D.faults worker.door ≡ 0)) crew.workers.items) }
     ensures few { IfOk result (λ crew. length crew.workers.items ≡ 4) }
+    ensures start { IfOk result (λ crew. start_of (arc_value crew.turn) crew.seat ≡ start_with means.boot) }
 {
     let Means {
         boot,

@@ -1,13 +1,13 @@
 //! What the jobs of a server take of the outside, and the boot words.
 
-ghost use Rattle.std.specs.Prelude.{◌≡◌, ◌≤◌, ◌<◌, [], ◌∷◌, length, take, drop, Ok, Err, IfErr, IfOk};
+ghost use Rattle.std.specs.Prelude.{◌≡◌, ◌≤◌, ◌<◌, [], ◌∷◌, length, take, drop, Ok, Err, IfErr, IfOk, IsFalse, IsTrue};
 ghost use Rattle.std.specs.List.{AllByRecursion};
 ghost use Rattle.cds_base.specs.Asked.{ForClock, ForDoor, ForFolder, ForLink, ForSpawner};
 ghost use Rattle.cds_base.specs.Outside.{Rose};
-ghost use Rattle.cds_serve.specs.Life.{Asks, IsCaused, Takes, fault_of, first_word, life_asks, second_word, worker_asks};
+ghost use Rattle.cds_serve.specs.Life.{AreBootWords, Asks, IsCaused, OfFirst, Takes, fault_of, first_word, life_asks, second_word, worker_asks};
 
 use crate::fault::Fault;
-use cds_base::{Clock, Door, Mem, Outside, OutsideFault};
+use cds_base::{Clock, Door, Failed, Outside, OutsideFault};
 use std::alloc::Global;
 
 /// How many workers there are.
@@ -24,7 +24,7 @@ pub(crate) struct Ends<D, T, L> {
 /// What all jobs take of the outside.
 #[derive(Drop)]
 pub(crate) struct Means<D, T, L, F> {
-    /// The boot words.
+    /// The boot words, by the clock of the first worker.
     pub(crate) boot: [u64; 2],
     pub(crate) folder: F,
     pub(crate) workers: Vec<Ends<D, T, L>>,
@@ -34,8 +34,19 @@ pub(crate) struct Means<D, T, L, F> {
 }
 
 /// The boot words of a server at a port: of the clock's first moment, or 0 where it fails, and of the port.
-fn boot_words<T: Clock>(clock: &mut T, port: u16) -> [u64; 2] {
-    let moment = clock.now().unwrap_or(0);
+fn boot_words<T: Clock>(clock: &mut T, port: u16) -> [u64; 2]
+    ensures { AreBootWords port (T.faults clock.old) (T.last clock.new) (T.faults clock.new) result }
+{
+    match clock.now() {
+        Ok(moment) => words_of(moment, port),
+        Err(Failed) => words_of(0, port),
+    }
+}
+
+/// The boot words of a moment and a port.
+fn words_of(moment: u64, port: u16) -> [u64; 2]
+    ensures { result ≡ first_word moment ∷ second_word port ∷ [] }
+{
     [first_word(moment), second_word(port)]
 }
 
@@ -67,9 +78,10 @@ fn given<A: Drop>(answer: Result<A, OutsideFault>) -> Result<A, Fault>
 
 /// Asks the outside for a clock.
 fn ask_clock<O: Outside>(alloc: Global, outside: &mut O) -> Result<O::C, Fault>
-    ensures { Asks result (ForClock ∷ [])
+    ensures asks { Asks result (ForClock ∷ [])
         (record { faults = O.faults outside.old; asked = O.asked outside.old; ended = O.ended outside.old; ended_links = O.ended_links outside.old; connections = O.connections outside.old; started = O.started outside.old })
         (record { faults = O.faults outside.new; asked = O.asked outside.new; ended = O.ended outside.new; ended_links = O.ended_links outside.new; connections = O.connections outside.new; started = O.started outside.new }) }
+    ensures fresh { IfOk result (λ clock. O.C.faults clock ≡ 0) }
 {
     given(outside.clock(alloc))
 }
@@ -137,6 +149,7 @@ fn ask_ends<O: Outside>(
         (record { connections = O.D.connections door.old; faults = O.D.faults door.old })
         (record { connections = O.D.connections door.new; faults = O.D.faults door.new }) }
     ensures fresh { IfOk result (λ ends. (O.D.connections ends.door ≡ 0) × (O.D.faults ends.door ≡ 0)) }
+    ensures fresh_clock { IfOk result (λ ends. O.C.faults ends.clock ≡ 0) }
 {
     let clock = ask_clock(alloc, outside)?;
     let link = ask_link(alloc, outside)?;
@@ -144,14 +157,16 @@ fn ask_ends<O: Outside>(
     Ok(Ends { door, clock, link })
 }
 
-/// Has the clock of the first worker give the boot words of a server at a port.
+/// Has the clock of the first worker give the boot words of a server at a port. The others leave them.
 fn with_boot<D, T: Clock, L>(
     mut ends: Ends<D, T, L>,
     is_first: bool,
     port: u16,
     boot: &mut [u64; 2],
 ) -> Ends<D, T, L>
-    ensures { result.door ≡ ends.door }
+    ensures door { result.door ≡ ends.door }
+    ensures first { IsTrue is_first → AreBootWords port (T.faults ends.clock) (T.last result.clock) (T.faults result.clock) boot.new }
+    ensures others { IsFalse is_first → boot.new ≡ boot.old }
 {
     if is_first {
         *boot = boot_words(&mut ends.clock, port);
@@ -174,6 +189,7 @@ fn ask_workers<O: Outside>(
         (record { connections = O.D.connections door.new; faults = O.D.faults door.new }) }
     ensures fresh { IfOk result (λ all. AllByRecursion (λ ends. (O.D.connections ends.door ≡ 0) × (O.D.faults ends.door ≡ 0)) all.items) }
     ensures few { IfOk result (λ all. length all.items ≡ 4) }
+    ensures boot { IfOk result (λ all. OfFirst (λ ends. AreBootWords port 0 (O.C.last ends.clock) (O.C.faults ends.clock) boot.new) all.items) }
 {
     let mut all = Vec::with_capacity(alloc, WORKERS)?;
     'workers: while all.len() < WORKERS {
@@ -199,6 +215,7 @@ pub(crate) fn ask_means<O: Outside>(
         (record { connections = O.D.connections door.new; faults = O.D.faults door.new }) }
     ensures fresh { IfOk result (λ means. AllByRecursion (λ ends. (O.D.connections ends.door ≡ 0) × (O.D.faults ends.door ≡ 0)) means.workers.items) }
     ensures few { IfOk result (λ means. length means.workers.items ≡ 4) }
+    ensures boot { IfOk result (λ means. OfFirst (λ ends. AreBootWords port 0 (O.C.last ends.clock) (O.C.faults ends.clock) means.boot) means.workers.items) }
 {
     let folder = ask_folder(alloc, path, outside)?;
     let mut boot = [0, 0];

@@ -14,7 +14,7 @@ returns-in_err-clock-clause-takes g c =
     let door : DoorTold = record { connections = g.O.D.Door.connections c.args.door.now; faults = g.O.D.Door.faults c.args.door.now } in
     let e = c.in_err-clock.field-0.0 in
     takes-exit c.from_residual.result e (ForClock ∷ []) (ForLink ∷ []) old new door door c.from_residual.ensures.1
-    (beside-door (Err e) (ForClock ∷ []) old new door c.in_err-clock.ensures)
+    (beside-door (Err e) (ForClock ∷ []) old new door c.in_err-clock.ensures.asks)
 
 pub returns-in_err-link-clause-takes : goal.returns-in_err-link-clause-takes
 returns-in_err-link-clause-takes g c =
@@ -25,7 +25,7 @@ returns-in_err-link-clause-takes g c =
     let e = c.in_err-link.field-0.0 in
     takes-exit c.from_residual-in_err-link.result e (ForClock ∷ ForLink ∷ []) [] old new door door c.from_residual-in_err-link.ensures.1
     (takes-then (Err e) c.in_ok-clock.clock (ForClock ∷ []) (ForLink ∷ []) old mid new door door door
-    (beside-door (Ok c.in_ok-clock.clock) (ForClock ∷ []) old mid door c.in_ok-clock.ensures)
+    (beside-door (Ok c.in_ok-clock.clock) (ForClock ∷ []) old mid door c.in_ok-clock.ensures.asks)
     (beside-door (Err e) (ForLink ∷ []) mid new door c.in_err-link.ensures))
 
 pub returns-in_err-door-clause-takes : goal.returns-in_err-door-clause-takes
@@ -40,7 +40,7 @@ returns-in_err-door-clause-takes g c =
     takes-exit {A = ⊤} c.from_residual-in_err-door.result e (ForClock ∷ ForLink ∷ []) [] old new door after c.from_residual-in_err-door.ensures.1
     (takes-handle (Err e) c.in_ok-link.link (ForClock ∷ ForLink ∷ []) old new door after
     (takes-then (Ok c.in_ok-link.link) c.in_ok-clock.clock (ForClock ∷ []) (ForLink ∷ []) old mid new door door door
-    (beside-door (Ok c.in_ok-clock.clock) (ForClock ∷ []) old mid door c.in_ok-clock.ensures)
+    (beside-door (Ok c.in_ok-clock.clock) (ForClock ∷ []) old mid door c.in_ok-clock.ensures.asks)
     (beside-door (Ok c.in_ok-link.link) (ForLink ∷ []) mid new door c.in_ok-link.ensures))
     failed.cause failed.connections_stay failed.never_falls)
 
@@ -53,6 +53,6 @@ returns-clause-takes g c =
     let after : DoorTold = record { connections = g.O.D.Door.connections c.ask_handle.new.door; faults = g.O.D.Door.faults c.ask_handle.new.door } in
     takes-handle (Ok _) c.in_ok-link.link (ForClock ∷ ForLink ∷ []) old new door after
     (takes-then (Ok c.in_ok-link.link) c.in_ok-clock.clock (ForClock ∷ []) (ForLink ∷ []) old mid new door door door
-    (beside-door (Ok c.in_ok-clock.clock) (ForClock ∷ []) old mid door c.in_ok-clock.ensures)
+    (beside-door (Ok c.in_ok-clock.clock) (ForClock ∷ []) old mid door c.in_ok-clock.ensures.asks)
     (beside-door (Ok c.in_ok-link.link) (ForLink ∷ []) mid new door c.in_ok-link.ensures))
     tt c.in_ok-door.ensures.connections_stay c.in_ok-door.ensures.never_falls

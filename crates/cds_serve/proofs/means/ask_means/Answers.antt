@@ -42,7 +42,7 @@ returns-in_err-scanner-clause-takes g c =
     (takes-then (Ok c.in_ok-workers.workers) c.in_ok-folder.folder (ForFolder c.args.path.now ∷ []) (worker_asks 4) o0 o1 o2 d0 d0 d1
     (beside-door (Ok c.in_ok-folder.folder) (ForFolder c.args.path.now ∷ []) o0 o1 d0 c.in_ok-folder.ensures)
     c.in_ok-workers.ensures.takes)
-    (beside-door (Err e) (ForClock ∷ []) o2 o3 d1 c.in_err-scanner.ensures))
+    (beside-door (Err e) (ForClock ∷ []) o2 o3 d1 c.in_err-scanner.ensures.asks))
 
 pub returns-in_err-notifier-clause-takes : goal.returns-in_err-notifier-clause-takes
 returns-in_err-notifier-clause-takes g c =
@@ -60,8 +60,8 @@ returns-in_err-notifier-clause-takes g c =
     (takes-then (Ok c.in_ok-workers.workers) c.in_ok-folder.folder (ForFolder c.args.path.now ∷ []) (worker_asks 4) o0 o1 o2 d0 d0 d1
     (beside-door (Ok c.in_ok-folder.folder) (ForFolder c.args.path.now ∷ []) o0 o1 d0 c.in_ok-folder.ensures)
     c.in_ok-workers.ensures.takes)
-    (beside-door (Ok c.in_ok-scanner.scanner) (ForClock ∷ []) o2 o3 d1 c.in_ok-scanner.ensures))
-    (beside-door (Err e) (ForClock ∷ []) o3 o4 d1 c.in_err-notifier.ensures))
+    (beside-door (Ok c.in_ok-scanner.scanner) (ForClock ∷ []) o2 o3 d1 c.in_ok-scanner.ensures.asks))
+    (beside-door (Err e) (ForClock ∷ []) o3 o4 d1 c.in_err-notifier.ensures.asks))
 
 pub returns-in_err-link-clause-takes : goal.returns-in_err-link-clause-takes
 returns-in_err-link-clause-takes g c =
@@ -81,8 +81,8 @@ returns-in_err-link-clause-takes g c =
     (takes-then (Ok c.in_ok-workers.workers) c.in_ok-folder.folder (ForFolder c.args.path.now ∷ []) (worker_asks 4) o0 o1 o2 d0 d0 d1
     (beside-door (Ok c.in_ok-folder.folder) (ForFolder c.args.path.now ∷ []) o0 o1 d0 c.in_ok-folder.ensures)
     c.in_ok-workers.ensures.takes)
-    (beside-door (Ok c.in_ok-scanner.scanner) (ForClock ∷ []) o2 o3 d1 c.in_ok-scanner.ensures))
-    (beside-door (Ok c.in_ok-notifier.notifier) (ForClock ∷ []) o3 o4 d1 c.in_ok-notifier.ensures))
+    (beside-door (Ok c.in_ok-scanner.scanner) (ForClock ∷ []) o2 o3 d1 c.in_ok-scanner.ensures.asks))
+    (beside-door (Ok c.in_ok-notifier.notifier) (ForClock ∷ []) o3 o4 d1 c.in_ok-notifier.ensures.asks))
     (beside-door (Err e) (ForLink ∷ []) o4 o5 d1 c.in_err-link.ensures))
 
 pub returns-clause-takes : goal.returns-clause-takes
@@ -102,6 +102,9 @@ returns-clause-takes g c =
     (takes-then (Ok c.in_ok-workers.workers) c.in_ok-folder.folder (ForFolder c.args.path.now ∷ []) (worker_asks 4) o0 o1 o2 d0 d0 d1
     (beside-door (Ok c.in_ok-folder.folder) (ForFolder c.args.path.now ∷ []) o0 o1 d0 c.in_ok-folder.ensures)
     c.in_ok-workers.ensures.takes)
-    (beside-door (Ok c.in_ok-scanner.scanner) (ForClock ∷ []) o2 o3 d1 c.in_ok-scanner.ensures))
-    (beside-door (Ok c.in_ok-notifier.notifier) (ForClock ∷ []) o3 o4 d1 c.in_ok-notifier.ensures))
+    (beside-door (Ok c.in_ok-scanner.scanner) (ForClock ∷ []) o2 o3 d1 c.in_ok-scanner.ensures.asks))
+    (beside-door (Ok c.in_ok-notifier.notifier) (ForClock ∷ []) o3 o4 d1 c.in_ok-notifier.ensures.asks))
     (beside-door (Ok c.in_ok-link.link) (ForLink ∷ []) o4 o5 d1 c.in_ok-link.ensures))
+
+pub returns-clause-boot : goal.returns-clause-boot
+returns-clause-boot g c = c.in_ok-workers.ensures.boot

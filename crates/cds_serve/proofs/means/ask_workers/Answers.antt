@@ -1,9 +1,9 @@
 -- One worker more, until there are four.
-use Rattle.std.proofs.Common.{[], ◌∷◌, ◌≡◌, ◌+◌, ◌-◌, length, Ok, Err, ap, ◌∙◌, arith, length-append}
+use Rattle.std.proofs.Common.{[], ◌∷◌, ◌≡◌, ◌==◌, ◌+◌, ◌-◌, length, Ok, Err, inr, ap, sym, subst, ◌∙◌, arith, length-append}
 use Rattle.cds_base.specs.Asked.{ForClock, ForLink}
 use Rattle.cds_serve.specs.Jobs.{DoorTold}
-use Rattle.cds_serve.specs.Life.{OutsideTold, worker_asks}
-use Rattle.cds_serve.proofs.Lives.{all-more, takes-as, takes-exit, takes-next, takes-no-memory, takes-none, takes-ok, takes-then, worker-next, workers-more}
+use Rattle.cds_serve.specs.Life.{AreBootWords, OutsideTold, worker_asks}
+use Rattle.cds_serve.proofs.Lives.{all-more, first-more, first-there, takes-as, takes-exit, takes-next, takes-no-memory, takes-none, takes-ok, takes-then, worker-next, workers-more}
 use Rattle.cds_serve.proofs.means.ask_workers.Goals as goal
 
 pub returns-in_err-all-clause-takes : goal.returns-in_err-all-clause-takes
@@ -53,7 +53,11 @@ workers-preserved g c =
       few = omega (arith, longer, c.workers-test.true);
       takes = takes-next k (length c.push.new.self.items) c.in_ok-ends.ends old mid new door between after longer c.workers.invariant.takes c.in_ok-ends.ensures.takes;
       fresh = rw c.in_ok-push.ensures.items (all-more _ c.workers.all.items c.with_boot-first.result c.workers.invariant.fresh
-          (rw c.with_boot-first.ensures c.in_ok-ends.ensures.fresh));
+          (rw c.with_boot-first.ensures.door c.in_ok-ends.ensures.fresh));
+      boot = inr (rw c.in_ok-push.ensures.items (first-more _ _ c.workers.all.items c.with_boot-first.result c.is_empty.result (c.is_empty.ensures ∙ ap (λ n. n == 0) c.workers.all.ok.0) c.workers.invariant.boot
+          (λ yes. subst (λ n. AreBootWords c.args.port n (g.O.C.Clock.last c.with_boot-first.result.clock) (g.O.C.Clock.faults c.with_boot-first.result.clock) c.with_boot-first.new.boot)
+          c.in_ok-ends.ensures.fresh_clock (c.with_boot-first.ensures.first yes))
+          (λ no ends so. subst (λ b. AreBootWords c.args.port 0 (g.O.C.Clock.last ends.clock) (g.O.C.Clock.faults ends.clock) b) (sym (c.with_boot-first.ensures.others no)) so)));
     }
 
 pub returns-clause-takes : goal.returns-clause-takes
@@ -64,3 +68,8 @@ returns-clause-takes g c =
     let after : DoorTold = record { connections = g.O.D.Door.connections c.workers.door; faults = g.O.D.Door.faults c.workers.door } in
     let four : length c.workers.all.items ≡ 4 = omega (arith, c.workers.invariant.few, c.workers-test.false) in
     takes-as (Ok c.workers.all) _ _ old new door after (ap worker_asks four) (takes-ok tt c.workers.all _ old new door after c.workers.invariant.takes)
+
+pub returns-clause-boot : goal.returns-clause-boot
+returns-clause-boot g c =
+    let four : length c.workers.all.items ≡ 4 = omega (arith, c.workers.invariant.few, c.workers-test.false) in
+    first-there _ c.workers.all.items 4 four (omega arith) c.workers.invariant.boot
