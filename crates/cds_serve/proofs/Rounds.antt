@@ -1,11 +1,12 @@
 -- Scans one after another: what the counts of a scanner say of them.
-use Rattle.std.proofs.Common.{◌≡◌, ◌≢◌, ◌⊎◌, inl, inr, ℕ, Bool, true, false, true≢false, ◌+◌, ◌-◌, ◌^◌, ◌<◌, ◌≤◌, min, List, [], ◌∷◌, ◌++◌, Result, Ok, Err, IfErr, IsTrue, OnOk, refl, sym, ap, subst, ◌∙◌, append_assoc, arith, le_trans}
-use Rattle.std.proofs.Math.Nat.{le-min, min-le_left}
+use Rattle.std.proofs.Common.{◌≡◌, ◌≢◌, ◌⊎◌, inl, inr, ℕ, Bool, true, false, true≢false, ◌+◌, ◌-◌, ◌^◌, ◌<◌, ◌≤◌, min, List, [], ◌∷◌, ◌++◌, length, suc, Result, Ok, Err, IfErr, IsTrue, OnOk, refl, sym, ap, subst, ◌∙◌, append_assoc, arith, le_trans}
+use Rattle.std.proofs.Math.Nat.{le-min}
+use Rattle.std.specs.List.{AllByRecursion}
 use Rattle.cds_base.specs.Entries.{FolderTold}
 use Rattle.cds_base.specs.Outside.{Rose, raised}
 use Rattle.cds_catalog.specs.Library.{map_of}
 use Rattle.cds_catalog.specs.Scans.{Accepted, BadRecord, NoNumbers, ScanAnswer, TooMany, scan_answer}
-use Rattle.cds_commands.specs.Commands.{Command, Start, Scans, Grants, Renews, Ends, Ticks, Stops, is_stopped, scans_of}
+use Rattle.cds_commands.specs.Commands.{Command, Start, Scans, is_stopped, scans_of}
 use Rattle.cds_scan.specs.Scanning.{Covers, IsScan, IsStop}
 use Rattle.cds_scan.specs.declared.error.ScanError.{ScanError}
 use Rattle.cds_scan.specs.declared.error.ScanError.TheVariants as scan_error
@@ -14,7 +15,7 @@ use Rattle.cds_store.specs.declared.error.ApplyError.{ApplyError}
 use Rattle.cds_store.specs.declared.error.ApplyError.TheVariants as apply_error
 use Rattle.cds_turn.specs.Line.{Extends}
 use Rattle.cds_serve.specs.Counted.{counted}
-use Rattle.cds_serve.specs.Jobs.{CanRefuse, EndsScanning, IsUnacceptable, ScansSoFar, scans_in}
+use Rattle.cds_serve.specs.Jobs.{AreAccepted, CanRefuse, EndsScanning, IsUnacceptable, ScansSoFar, StandAmong}
 use Rattle.cds_serve.specs.Scanned.{Across, Accepts, Declines, IsApplyRefusal, IsScanRefusal, MayGive, ScansOnce, TakesNone, TakesOne}
 use Rattle.cds_serve.specs.Told.{SeatTold}
 use Rattle.cds_serve.specs.declared.scanner.Counts.{Counts}
@@ -40,19 +41,44 @@ covers-more : (n old mid new : ℕ) → Covers n old mid → mid ≤ new → Cov
 covers-more n old mid new (inl less) up = inl (omega (arith, up, less))
 covers-more n old mid new (inr last) up = inr (le_trans last up)
 
--- ---- how many scans stand among commands
+-- ---- which scans stand among commands
 
-more-scans : (added seen : List Command) → scans_in seen ≤ scans_in (added ++ seen)
-more-scans [] seen = omega arith
-more-scans (Scans library ∷ added) seen = let h = more-scans added seen in omega (arith, h)
-more-scans (Grants moment callback seconds ∷ added) seen = more-scans added seen
-more-scans (Renews moment name seconds ∷ added) seen = more-scans added seen
-more-scans (Ends moment name ∷ added) seen = more-scans added seen
-more-scans (Ticks moment ∷ added) seen = more-scans added seen
-more-scans (Stops ∷ added) seen = more-scans added seen
+among-more : (scans : List Scan) (more since : List Command) → StandAmong scans since → StandAmong scans (more ++ since)
+among-more [] more since stand = tt
+among-more (scan ∷ scans) [] since stand = stand
+among-more (scan ∷ scans) (command ∷ more) since stand = inr (among-more (scan ∷ scans) more since stand)
 
-pub scans-kept : (list seen : List Command) → Extends list seen → scans_in seen ≤ scans_in list
-scans-kept list seen e = subst (λ (l : List Command). scans_in seen ≤ scans_in l) (sym e.1) (more-scans e.0 seen)
+-- what was accepted of a folder may be of it later too
+all-later : (P Q : Scan → Type 0) → ((scan : Scan) → P scan → Q scan) → (scans : List Scan) → AllByRecursion P scans → AllByRecursion Q scans
+all-later P Q f [] all = tt
+all-later P Q f (scan ∷ scans) all = (f scan all.0, all-later P Q f scans all.1)
+
+-- with more that was seen, of a folder that may give the same
+accepted-later : (old mid new : FolderTold) (before seen later : List Command) (accepted : ℕ) → ((scan : Scan) → MayGive old mid scan → MayGive old new scan)
+    → Extends later seen → AreAccepted old mid before seen accepted → AreAccepted old new before later accepted
+accepted-later old mid new before seen later accepted gives more a = record {
+  scans = a.scans;
+  many = a.many;
+  given = all-later (MayGive old mid) (MayGive old new) gives a.scans a.given;
+  since = more.0 ++ a.since;
+  begun = more.1 ∙ ap (λ l. more.0 ++ l) a.begun ∙ sym (append_assoc more.0 a.since before);
+  stand = among-more a.scans more.0 a.since a.stand;
+}
+
+-- one scan more was accepted
+accepted-once : (old new : FolderTold) (before found seen : List Command) (accepted more : ℕ) (scan : Scan) → more ≡ raised accepted 1
+    → seen ≡ Scans (map_of scan.records) ∷ found → MayGive old new scan → AreAccepted old new before found accepted → AreAccepted old new before seen more
+accepted-once old new before found seen accepted more scan counted is given a = record {
+  scans = scan ∷ a.scans;
+  many = one-up accepted more (length a.scans) (2 ^ 64 - 1) counted a.many;
+  given = (given, a.given);
+  since = Scans (map_of scan.records) ∷ a.since;
+  begun = is ∙ ap (λ l. Scans (map_of scan.records) ∷ l) a.begun;
+  stand = inl (refl, a.stand);
+}
+  where
+    one-up : (accepted more n top : ℕ) → more ≡ min (accepted + 1) top → accepted ≡ min (0 + n) top → more ≡ min (0 + suc n) top
+    one-up accepted more n top counted many = omega (arith, counted, many)
 
 pub extends-itself : (seen list : List Command) → list ≡ seen → Extends list seen
 extends-itself seen list same = ([], same)
@@ -127,7 +153,7 @@ module _ (start : Start) (told old new : FolderTold) (tree : new.tree ≡ old.tr
 
   -- so far with what a scan adds
   with-scan : (first seen later : List Command) (accepted refused accepted' refused' : ℕ) → ScansSoFar start told old first seen accepted refused
-      → Extends later seen → scans_in first + accepted' ≤ scans_in later → (0 < refused' → CanRefuse start told new later)
+      → Extends later seen → AreAccepted told new first later accepted' → (0 < refused' → CanRefuse start told new later)
       → ScansSoFar start told new first later accepted' refused'
   with-scan first seen later accepted refused accepted' refused' s more stands cause = record {
     begun = begun-through later seen first more s.begun;
@@ -142,9 +168,6 @@ module _ (start : Start) (told old new : FolderTold) (tree : new.tree ≡ old.tr
 raised-some : (n : ℕ) → 1 ≤ raised n 1
 raised-some n = le-min (omega arith) (omega arith)
 
-raised-least : (n : ℕ) → raised n 1 ≤ n + 1
-raised-least n = min-le_left (n + 1) (2 ^ 64 - 1)
-
 -- what a scan makes of what was so far, by how it ended
 module _ (start : Start) (told : FolderTold) (first : List Command) (before now : ℕ) (old new : Across) (a b : Counts)
     (tree : new.folder.tree ≡ old.folder.tree) (contents : new.folder.contents ≡ old.folder.contents)
@@ -155,34 +178,37 @@ module _ (start : Start) (told : FolderTold) (first : List Command) (before now 
       still-refuses start told old.folder new.folder tree contents entries files s.tree s.contents s.entry_faults s.file_faults
       old.seat.seen new.seat.seen more (s.cause (subst (λ n. 0 < n) same some))
 
+  still-gives : (scan : Scan) → MayGive told old.folder scan → MayGive told new.folder scan
+  still-gives scan given =
+      gives-later start told old.folder new.folder tree contents entries files s.tree s.contents s.entry_faults s.file_faults scan given
+
   so-far-accepted : Accepts start before now old new → b ≡ record a { accepted = raised a.accepted 1 }
       → ScansSoFar start told new.folder first new.seat.seen b.accepted b.refused
   so-far-accepted c is =
       let seen : new.seat.seen ≡ Scans (map_of c.scan.records) ∷ c.found = ap (λ (t : SeatTold). t.seen) c.turn.seat in
       let more : Extends new.seat.seen old.seat.seen =
       (Scans (map_of c.scan.records) ∷ c.turn.begun.0, seen ∙ ap (λ l. Scans (map_of c.scan.records) ∷ l) c.turn.begun.1) in
-      let counted-once : b.accepted ≤ a.accepted + 1 = subst (λ n. n ≤ a.accepted + 1) (sym (ap (λ (k : Counts). k.accepted) is)) (raised-least a.accepted) in
-      let kept = scans-kept c.found old.seat.seen c.turn.begun in
-      let one : scans_in new.seat.seen ≡ scans_in c.found + 1 = ap scans_in seen in
+      let begun : Extends c.found old.seat.seen = c.turn.begun in
       with-scan start told old.folder new.folder tree contents entries files s.tree s.contents s.entry_faults s.file_faults
       first old.seat.seen new.seat.seen a.accepted a.refused b.accepted b.refused s more
-      (omega (arith, s.stands, kept, one, counted-once)) (same-cause more (ap (λ (k : Counts). k.refused) is))
-
-  -- what was seen is the same, and no scan is counted as accepted
-  so-far-same : new.seat.seen ≡ old.seat.seen → b.accepted ≡ a.accepted → (0 < b.refused → CanRefuse start told new.folder new.seat.seen)
-      → ScansSoFar start told new.folder first new.seat.seen b.accepted b.refused
-  so-far-same seen accepted cause =
-      with-scan start told old.folder new.folder tree contents entries files s.tree s.contents s.entry_faults s.file_faults
-      first old.seat.seen new.seat.seen a.accepted a.refused b.accepted b.refused s (extends-itself old.seat.seen new.seat.seen seen)
-      (omega (arith, s.stands, accepted, ap scans_in seen)) cause
+      (accepted-once told new.folder first c.found new.seat.seen a.accepted b.accepted c.scan (ap (λ (k : Counts). k.accepted) is) seen
+      (gives-told start told old.folder new.folder tree contents entries files s.tree s.contents s.entry_faults s.file_faults c.scan c.given)
+      (accepted-later told old.folder new.folder first old.seat.seen c.found a.accepted still-gives begun s.stands))
+      (same-cause more (ap (λ (k : Counts). k.refused) is))
 
   -- it begins with what was seen, and no scan is counted as accepted
   so-far-more : Extends new.seat.seen old.seat.seen → b.accepted ≡ a.accepted → (0 < b.refused → CanRefuse start told new.folder new.seat.seen)
       → ScansSoFar start told new.folder first new.seat.seen b.accepted b.refused
   so-far-more more accepted cause =
-      let kept = scans-kept new.seat.seen old.seat.seen more in
       with-scan start told old.folder new.folder tree contents entries files s.tree s.contents s.entry_faults s.file_faults
-      first old.seat.seen new.seat.seen a.accepted a.refused b.accepted b.refused s more (omega (arith, s.stands, accepted, kept)) cause
+      first old.seat.seen new.seat.seen a.accepted a.refused b.accepted b.refused s more
+      (subst (λ n. AreAccepted told new.folder first new.seat.seen n) (sym accepted)
+      (accepted-later told old.folder new.folder first old.seat.seen new.seat.seen a.accepted still-gives more s.stands)) cause
+
+  -- what was seen is the same
+  so-far-same : new.seat.seen ≡ old.seat.seen → b.accepted ≡ a.accepted → (0 < b.refused → CanRefuse start told new.folder new.seat.seen)
+      → ScansSoFar start told new.folder first new.seat.seen b.accepted b.refused
+  so-far-same seen accepted cause = so-far-more (extends-itself old.seat.seen new.seat.seen seen) accepted cause
 
   pub one-more : {A : Type 0} (result : Result A ScanRefused) → ScansOnce start result before now old new
       → OnOk result (b ≡ record a { accepted = raised a.accepted 1 }) → IfErr result (λ refusal. b ≡ counted a refusal)
@@ -226,22 +252,24 @@ some-counted (Err refused.Mem) a b none is =
 pub so-far-none : (start : Start) (told : FolderTold) (first : List Command) → ScansSoFar start told told first first 0 0
 so-far-none start told first = record {
   begun = ([], refl);
-  stands = omega arith;
+  stands = record { scans = []; many = none; given = tt; since = []; begun = refl; stand = tt };
   cause = λ some. absurd (omega (arith, some));
   tree = refl;
   contents = refl;
   entry_faults = omega arith;
   file_faults = omega arith;
 }
+  where
+    none : 0 ≡ raised 0 0
+    none = omega arith
 
 -- so far with what was seen later
 pub so-far-later : (start : Start) (told new : FolderTold) (first seen later : List Command) (accepted refused : ℕ)
     → ScansSoFar start told new first seen accepted refused → Extends later seen → ScansSoFar start told new first later accepted refused
 so-far-later start told new first seen later accepted refused s more =
-    let kept = scans-kept later seen more in
     record {
       begun = begun-through later seen first more s.begun;
-      stands = omega (arith, s.stands, kept);
+      stands = accepted-later told new new first seen later accepted (λ scan given. given) more s.stands;
       cause = λ some. later-refuses (s.cause some);
       tree = s.tree;
       contents = s.contents;

@@ -1,7 +1,9 @@
 -- What the three jobs of a server that listens answer.
-use Rattle.std.specs.Prelude.{◌≡◌, ◌≢◌, ◌⊎◌, ◌+◌, ◌<◌, ◌≤◌, ℕ, IsTrue, List, [], ◌∷◌}
+use Rattle.std.specs.Prelude.{◌≡◌, ◌≢◌, ◌⊎◌, ◌+◌, ◌<◌, ◌≤◌, ℕ, IsTrue, List, [], ◌∷◌, ◌++◌, length, ⊤}
+use Rattle.std.specs.List.{AllByRecursion}
 use Rattle.cds_base.specs.Entries.{FolderTold}
 use Rattle.cds_base.specs.Outside.{raised, Rose}
+use Rattle.cds_catalog.specs.Library.{map_of}
 use Rattle.cds_catalog.specs.Scans.{Accepted, scan_answer}
 use Rattle.cds_commands.specs.Commands.{Command, Start, Scans, Ticks, is_stopped, scans_of}
 use Rattle.cds_scan.specs.Scanning.{IsStop}
@@ -26,11 +28,22 @@ pub record EndsWorking (share served : ℕ) (old new : DoorTold) : Type 0 where
 
 -- ---- the scanner
 
--- how many scans stand among commands
-abbrev pub scans_in : List Command → ℕ
-scans_in [] = 0
-scans_in (Scans library ∷ older) = scans_in older + 1
-scans_in (command ∷ older) = scans_in older
+-- the maps of what scans gave stand among commands, in this order and each at a place of its own, the newest first
+abbrev pub StandAmong : List Scan → List Command → Type 0
+StandAmong [] commands = ⊤
+StandAmong (scan ∷ scans) [] = ⊥
+StandAmong (scan ∷ scans) (command ∷ older) =
+    ((command ≡ Scans (map_of scan.records)) × StandAmong scans older) ⊎ StandAmong (scan ∷ scans) older
+
+-- So many scans of the folder were accepted, and the count stops at the last value of a u64: the folder may give each of them, and their maps stand
+-- in order among what the seat has seen since the beginning
+pub record AreAccepted (old new : FolderTold) (before seen : List Command) (accepted : ℕ) : Type 0 where
+  pub scans : List Scan
+  pub many : accepted ≡ raised 0 (length scans)
+  pub given : AllByRecursion (MayGive old new) scans
+  pub since : List Command
+  pub begun : seen ≡ since ++ before
+  pub stand : StandAmong scans since
 
 -- a server that stood for the commands refuses what a scan of the folder may give
 pub record IsUnacceptable (start : Start) (old new : FolderTold) (seen : List Command) : Type 0 where
@@ -48,22 +61,22 @@ CanRefuse start old new seen =
     ⊎ (((error : ScanError) × IsStop old.tree old.contents error)
     ⊎ IsUnacceptable start old new seen)
 
--- So far: each scan that it counts as accepted stands in what its seat has seen, and each that it counts as refused has a cause. The folder
--- tells the same of its tree, and its counts of faults never fall
+-- So far: each scan that it counts as accepted is one of its folder and stands in what its seat has seen, and each that it counts as refused has a
+-- cause. The folder tells the same of its tree, and its counts of faults never fall
 pub record ScansSoFar (start : Start) (old new : FolderTold) (before seen : List Command) (accepted refused : ℕ) : Type 0 where
   pub begun : Extends seen before
-  pub stands : scans_in before + accepted ≤ scans_in seen
+  pub stands : AreAccepted old new before seen accepted
   pub cause : 0 < refused → CanRefuse start old new seen
   pub tree : new.tree ≡ old.tree
   pub contents : new.contents ≡ old.contents
   pub entry_faults : old.entry_faults ≤ new.entry_faults
   pub file_faults : old.file_faults ≤ new.file_faults
 
--- The scanner ended: it had scanned at least once and seen the stop, and each scan that it counts as accepted stands in what its seat has
--- seen
+-- The scanner ended: it had scanned at least once and seen the stop, and each scan that it counts as accepted is one of its folder and stands in
+-- what its seat has seen
 pub record EndsScanning (start : Start) (old new : FolderTold) (before seen : List Command) (accepted refused memory : ℕ) : Type 0 where
   pub begun : Extends seen before
-  pub stands : scans_in before + accepted ≤ scans_in seen
+  pub stands : AreAccepted old new before seen accepted
   pub stopped : IsTrue (is_stopped seen)
   pub some : 1 ≤ accepted + refused + memory
   pub cause : 0 < refused → CanRefuse start old new seen
