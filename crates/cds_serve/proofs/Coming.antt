@@ -1,5 +1,6 @@
 -- How one request is read from a connection, piece by piece.
-use Rattle.std.proofs.Common.{◌≡◌, ◌⊎◌, inl, inr, ℕ, true, List, [], ◌++◌, length, take, drop, Option, Some, None, Result, Ok, Err, refl, sym, ◌∙◌, ap, subst, append_assoc}
+use Rattle.std.proofs.Common.{◌≡◌, ◌⊎◌, inl, inr, ℕ, false, true, List, [], ◌++◌, length, take, drop, Option, Some, None, Result, Ok, Err, refl, sym, ◌∙◌, ap, subst, append_assoc, ◌<◌, arith}
+use Rattle.std.specs.Prelude.{⊤}
 use Rattle.std.proofs.lemmas.List.{take-append-drop, append-nil}
 use Rattle.cds_http.specs.declared.error.HttpError.{HttpError}
 use Rattle.cds_http.specs.declared.error.HttpError.TheVariants.{BadHead, HeadTooLong, BadLength, BadChunk, TooLong, Truncated, Failed, Mem}
@@ -13,10 +14,13 @@ use Rattle.cds_http.specs.Known.{Known, Whole, Needs, Refused}
 use Rattle.cds_http.specs.Reading.{Finishes, IsWhole, Stands, Takes, at_end}
 use Rattle.cds_http.specs.Steps.{Explains}
 use Rattle.cds_http.proofs.Once.{one_outcome}
+use Rattle.cds_serve.specs.Answered.{ReadsFrom}
 use Rattle.cds_serve.specs.declared.request.Filled.{Filled}
 use Rattle.cds_serve.specs.declared.request.Filled.TheVariants as filled
 use Rattle.cds_serve.specs.declared.request.Request.{Request}
-use Rattle.cds_serve.specs.Requested.{ComesTo, GoesOn, HasAll, IsCause, IsRequest}
+use Rattle.cds_serve.specs.declared.request.Request.TheVariants as request
+use Rattle.cds_base.specs.Outside.{Rose}
+use Rattle.cds_serve.specs.Requested.{BrokenRose, ComesTo, GoesOn, HasAll, IsCause, IsLastIn, IsRequest}
 
 -- ---- the end of a message
 
@@ -91,6 +95,7 @@ more-needed bytes left after reader next c piece n is told now stands t = record
   all = c.all ∙ sym (next-piece c.came c.rest piece n is);
   told = told;
   stands = subst (λ o. Stands side.Request next o) t.0.1 stands;
+  needed = t.0.0;
 }
 
 pub whole-now : (bytes : List ℕ) (left : Option (List ℕ)) (reader next : MessageReader) (c : ComesTo bytes left reader) (piece : List ℕ) (n behind : ℕ)
@@ -135,3 +140,64 @@ pub refused-now : (bytes : List ℕ) (left : Option (List ℕ)) (reader : Messag
 refused-now bytes left reader c piece n e is now t =
     explained e bytes
     (explains-of e _ _ (λ always. subst (λ b. Decides true side.Request b (Refused e)) (next-piece c.came c.rest piece n is ∙ sym c.all) (always true (drop n c.rest))) t.0.1)
+
+-- ---- how much was read
+
+-- no bytes are no message yet
+pub nothing-said : Decides false side.Request [] Needs
+nothing-said = (Needs, refl, refl)
+
+-- nothing
+pub none-read : (bytes : List ℕ) (after : Option (List ℕ)) (P : List ℕ → Type 0) → after ≡ Some bytes → P [] → ReadsFrom bytes after P
+none-read bytes after P told last = record { came = []; piece = []; rest = bytes; all = refl; told = told; needed = nothing-said; last = last }
+
+-- all that came, and no last piece
+pub came-read : (bytes : List ℕ) (left after : Option (List ℕ)) (reader : MessageReader) (c : ComesTo bytes left reader) (P : List ℕ → Type 0)
+    → after ≡ Some c.rest → P [] → ReadsFrom bytes after P
+came-read bytes left after reader c P told last = record {
+  came = c.came;
+  piece = [];
+  rest = c.rest;
+  all = c.all ∙ ap (λ front. front ++ c.rest) (sym (append-nil c.came));
+  told = told;
+  needed = c.needed;
+  last = last;
+}
+
+-- all that came, and a last piece
+pub piece-read : (bytes : List ℕ) (left after : Option (List ℕ)) (reader : MessageReader) (c : ComesTo bytes left reader) (piece : List ℕ) (n : ℕ)
+    (P : List ℕ → Type 0) → piece ≡ take n c.rest → after ≡ Some (drop n c.rest) → P piece → ReadsFrom bytes after P
+piece-read bytes left after reader c piece n P is told last = record {
+  came = c.came;
+  piece = piece;
+  rest = drop n c.rest;
+  all = c.all ∙ sym (next-piece c.came c.rest piece n is);
+  told = told;
+  needed = c.needed;
+  last = last;
+}
+
+-- all that came, where the connection ended
+pub end-read : (bytes : List ℕ) (left after : Option (List ℕ)) (reader : MessageReader) (c : ComesTo bytes left reader) (room n : ℕ) → 0 < room
+    → (room ≡ 0) ⊎ (c.rest ≡ []) → n ≡ 0 → after ≡ Some (drop n c.rest) → HasAll bytes reader × ReadsFrom bytes after (λ piece. ⊤)
+end-read bytes left after reader c room n some (inl none) zero told = absurd (omega (arith, some, none))
+end-read bytes left after reader c room n some (inr none) zero told = (
+  nothing-left bytes left reader c none,
+  came-read bytes left after reader c (λ piece. ⊤) (told ∙ ap (λ k. Some (drop k c.rest)) zero) tt,
+)
+
+-- another thing that holds of the last piece
+pub reads-as : (bytes : List ℕ) (left : Option (List ℕ)) (P Q : List ℕ → Type 0) → ((piece : List ℕ) → P piece → Q piece) → ReadsFrom bytes left P
+    → ReadsFrom bytes left Q
+reads-as bytes left P Q f r = record { came = r.came; piece = r.piece; rest = r.rest; all = r.all; told = r.told; needed = r.needed; last = f r.piece r.last }
+
+-- what came of a connection that did not fail may be the last piece
+pub no-failure : (request : Request) (piece : List ℕ) → ((old new : ℕ) → BrokenRose request old new) → IsLastIn request piece
+no-failure (request.Needing m) piece rose = tt
+no-failure (request.Free status) piece rose = tt
+no-failure request.Broken piece rose = absurd (never (rose 1 0))
+  where
+    never : Rose 1 0 → ⊥
+    never (inl less) = omega (arith, less)
+    never (inr most) = omega (arith, most)
+no-failure request.Starved piece rose = tt

@@ -1,5 +1,6 @@
 -- How one connection is served, put together from its parts.
 use Rattle.std.proofs.Common.{◌≡◌, ◌+◌, inl, inr, ℕ, true, List, [], ◌++◌, length, Option, Some, Result, Ok, Err, IsErr, IfOk, OnOk, OnErr, refl, sym, ap, subst, ◌∙◌, append-nil, true≢false, arith}
+use Rattle.std.specs.Prelude.{⊤}
 use Rattle.std.proofs.lemmas.List.{take_all}
 use Rattle.cds_base.specs.declared.mem.Mem.{Mem as Memory}
 use Rattle.cds_base.specs.Entries.{Told}
@@ -12,7 +13,7 @@ use Rattle.cds_http.specs.Known.{Known}
 use Rattle.cds_server.specs.Outcome.{GoesOut}
 use Rattle.cds_turn.specs.Line.{Extends}
 use Rattle.cds_serve.specs.Acts.{IsReplyGiven, free_text, reply_adds, reply_requests, reply_text}
-use Rattle.cds_serve.specs.Answered.{Around, Broken, Free, Handled, NeedsTurn, Serves, Starved, Unhandled, free_status, no_memory_reply}
+use Rattle.cds_serve.specs.Answered.{Around, Broken, Free, Handled, NeedsTurn, ReadsFrom, Serves, Starved, Unhandled, free_status, no_memory_reply}
 use Rattle.cds_serve.specs.Sent.{GivesAll, GivesEach, first_requests}
 use Rattle.cds_serve.specs.Told.{IsAlone, IsMoment, WritesTo}
 use Rattle.cds_serve.specs.declared.acts.Reply.{Reply}
@@ -43,6 +44,15 @@ pub free-starved : {A : Type 0} (status : ℕ) (result : Result A Memory) → Is
 free-starved status (Ok value) err = absurd (true≢false (sym err))
 free-starved status (Err memory) err = refl
 
+-- ---- what was read
+
+-- what is read of a connection is what is left of it at the end
+pub reads-on : (left mid after : Option (List ℕ)) (P Q : List ℕ → Type 0) → ((piece : List ℕ) → P piece → Q piece) → after ≡ mid
+    → Told left (λ bytes. ReadsFrom bytes mid P) → Told left (λ bytes. ReadsFrom bytes after Q)
+reads-on left mid after P Q f same read bytes told =
+    let r = read bytes told in
+    record { came = r.came; piece = r.piece; rest = r.rest; all = r.all; told = same ∙ r.told; needed = r.needed; last = f r.piece r.last }
+
 -- ---- the course
 
 -- a first note that was given goes out
@@ -59,16 +69,20 @@ module _ {A : Type 0} (start : Start) (result : Result A Memory) (before now : �
   abbrev pub WritesHere : List ℕ → Type 0
   WritesHere text = WritesTo text old.conn.holds new.conn.holds old.conn.write_faults new.conn.write_faults
 
+  abbrev pub ReadsHere : (List ℕ → Type 0) → Type 0
+  ReadsHere P = Told old.conn.left (λ bytes. ReadsFrom bytes new.conn.left P)
+
   -- a turn was taken
-  pub turned : (found : List Command) (m : Message) (reply : Result Reply Memory) → ForBytes (NeedsTurn m) → Extends found old.seat.seen → IsAlone old.seat found
-      → IsReplyGiven start found now m reply
+  pub turned : (found : List Command) (m : Message) (reply : Result Reply Memory) → ForBytes (NeedsTurn m) → ReadsHere (λ piece. ⊤) → Extends found old.seat.seen
+      → IsAlone old.seat found → IsReplyGiven start found now m reply
       → new.seat ≡ record { seen = reply_adds start found now m reply ++ found; passes = old.seat.passes; turns = old.seat.turns + 1; seats = old.seat.seats }
       → IsMoment old.clock new.clock before now → WritesHere (reply_text reply)
       → GivesAll result (reply_requests reply) old.link.requests new.link.requests → (IsErr reply → IsErr result)
       → Serves start result before now old new
-  turned found m (Ok reply) bytes begun alone given seat moment written notes starved = record {
+  turned found m (Ok reply) bytes read begun alone given seat moment written notes starved = record {
     course = Handled found m;
     for_bytes = bytes;
+    read = read;
     cause = tt;
     turn = (begun, alone, seat);
     moment = moment;
@@ -77,9 +91,10 @@ module _ {A : Type 0} (start : Start) (result : Result A Memory) (before now : �
     written = written;
     notes = subst (λ n. GivesAll result (first_requests n) old.link.requests new.link.requests) given.1 notes;
   }
-  turned found m (Err memory) bytes begun alone given seat moment written notes starved = record {
+  turned found m (Err memory) bytes read begun alone given seat moment written notes starved = record {
     course = Unhandled found m;
     for_bytes = bytes;
+    read = read;
     cause = starved refl;
     turn = (begun, alone, seat);
     moment = moment;
@@ -91,13 +106,13 @@ module _ {A : Type 0} (start : Start) (result : Result A Memory) (before now : �
 
   -- the same of the moment that the turn was given
   pub turned-at : (found : List Command) (m : Message) (reply : Result Reply Memory) (tick : ℕ) → tick ≡ now → ForBytes (NeedsTurn m)
-      → Extends found old.seat.seen → IsAlone old.seat found → IsReplyGiven start found tick m reply → new.seat.seen ≡ reply_adds start found tick m reply ++ found
+      → ReadsHere (λ piece. ⊤) → Extends found old.seat.seen → IsAlone old.seat found → IsReplyGiven start found tick m reply → new.seat.seen ≡ reply_adds start found tick m reply ++ found
       → new.seat.passes ≡ old.seat.passes → new.seat.turns ≡ old.seat.turns + 1 → new.seat.seats ≡ old.seat.seats
       → IsMoment old.clock new.clock before now → WritesHere (reply_text reply)
       → GivesAll result (reply_requests reply) old.link.requests new.link.requests → (IsErr reply → IsErr result)
       → Serves start result before now old new
-  turned-at found m reply tick same bytes begun alone given seen passes turns seats moment written notes starved =
-      turned found m reply bytes begun alone (subst (λ (n : ℕ). IsReplyGiven start found n m reply) same given)
+  turned-at found m reply tick same bytes read begun alone given seen passes turns seats moment written notes starved =
+      turned found m reply bytes read begun alone (subst (λ (n : ℕ). IsReplyGiven start found n m reply) same given)
       (λ i. record {
         seen = (seen ∙ ap (λ (n : ℕ). reply_adds start found n m reply ++ found) same) i;
         passes = passes i;
@@ -117,10 +132,11 @@ module _ {A : Type 0} (start : Start) (result : Result A Memory) (before now : �
         by (Ok value) = kept
         by (Err memory) = kept
 
-    pub broken : Rose old.conn.read_faults new.conn.read_faults → WritesHere [] → Serves start result before now old new
-    broken rose written = record {
+    pub broken : ReadsHere (λ piece. piece ≡ []) → Rose old.conn.read_faults new.conn.read_faults → WritesHere [] → Serves start result before now old new
+    broken read rose written = record {
       course = Broken;
       for_bytes = λ bytes told known d. tt;
+      read = read;
       cause = rose;
       turn = seat;
       moment = (moment, clock);
@@ -130,10 +146,11 @@ module _ {A : Type 0} (start : Start) (result : Result A Memory) (before now : �
       notes = silent;
     }
 
-    pub starved : IsErr result → WritesHere no_memory_reply → Serves start result before now old new
-    starved err written = record {
+    pub starved : ReadsHere (λ piece. ⊤) → IsErr result → WritesHere no_memory_reply → Serves start result before now old new
+    starved read err written = record {
       course = Starved;
       for_bytes = λ bytes told known d. tt;
+      read = read;
       cause = err;
       turn = seat;
       moment = (moment, clock);
@@ -146,10 +163,11 @@ module _ {A : Type 0} (start : Start) (result : Result A Memory) (before now : �
 -- a status was answered, or there was no memory for it
 pub freed : {A : Type 0} (start : Start) (result : Result A Memory) (before now : ℕ) (old new : Around) → new.seat ≡ old.seat → now ≡ before → new.clock ≡ old.clock
     → new.link.requests ≡ old.link.requests → (status : ℕ) → ForBytes start result before now old new (λ known. free_status known ≡ Some status)
-    → WritesHere start result before now old new (free_text status result) → Serves start result before now old new
-freed start (Ok value) before now old new seat moment clock link status bytes written = record {
+    → ReadsHere start result before now old new (λ piece. ⊤) → WritesHere start result before now old new (free_text status result) → Serves start result before now old new
+freed start (Ok value) before now old new seat moment clock link status bytes read written = record {
   course = Free status;
   for_bytes = bytes;
+  read = read;
   cause = tt;
   turn = seat;
   moment = (moment, clock);
@@ -158,5 +176,5 @@ freed start (Ok value) before now old new seat moment clock link status bytes wr
   written = written;
   notes = λ sent told. link ∙ told ∙ ap Some (sym (append-nil sent));
 }
-freed start (Err memory) before now old new seat moment clock link status bytes written =
-    starved start (Err memory) before now old new seat moment clock link refl written
+freed start (Err memory) before now old new seat moment clock link status bytes read written =
+    starved start (Err memory) before now old new seat moment clock link read refl written

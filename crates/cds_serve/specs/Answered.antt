@@ -81,13 +81,32 @@ pub data Course : Type 0 where
   Handled : List Command → Message → Course
   Unhandled : List Command → Message → Course
 
--- it is the course for what the bytes say
+-- it is the course for what the bytes say; a connection may fail, and memory run out, whatever they say
 abbrev pub IsCourseFor : Known Message → Course → Type 0
 IsCourseFor known Broken = ⊤
 IsCourseFor known Starved = ⊤
 IsCourseFor known (Free status) = free_status known ≡ Some status
 IsCourseFor known (Handled found m) = NeedsTurn m known
 IsCourseFor known (Unhandled found m) = NeedsTurn m known
+
+-- Of these bytes so many were read that this is left: before the last piece came they did not tell the message yet, neither a whole one nor a refusal.
+-- Of the last piece this holds
+pub record ReadsFrom (bytes : List ℕ) (left : Option (List ℕ)) (IsLast : List ℕ → Type 0) : Type 0 where
+  pub came : List ℕ
+  pub piece : List ℕ
+  pub rest : List ℕ
+  pub all : bytes ≡ came ++ piece ++ rest
+  pub told : left ≡ Some rest
+  pub needed : Decides false side.Request came Needs
+  pub last : IsLast piece
+
+-- no last piece came of a connection that failed, so that all that came of it did not tell the message
+abbrev pub IsLastOf : Course → List ℕ → Type 0
+IsLastOf Broken piece = piece ≡ []
+IsLastOf Starved piece = ⊤
+IsLastOf (Free status) piece = ⊤
+IsLastOf (Handled found m) piece = ⊤
+IsLastOf (Unhandled found m) piece = ⊤
 
 -- a connection that failed counted it, and want of memory is what is answered then
 abbrev pub HasCause : {A : Type 0} → Result A Memory → ConnTold → ConnTold → Course → Type 0
@@ -97,8 +116,8 @@ HasCause result old new (Free status) = ⊤
 HasCause result old new (Handled found m) = ⊤
 HasCause result old new (Unhandled found m) = IsErr result
 
--- The turn that was taken: the list found begins with all that the seat had seen, and is that where no other seat is out; what the message adds to it was appended, and nothing for
--- want of memory; and this is what the seat has seen then
+-- The turn that was taken: the list found begins with all that the seat had seen, and is just that where no other seat is out; what the message adds
+-- to it was appended, and nothing for want of memory; and this is what the seat has seen then
 abbrev pub TakesTurn : Start → ℕ → Course → SeatTold → SeatTold → Type 0
 TakesTurn start now Broken old new = new ≡ old
 TakesTurn start now Starved old new = new ≡ old
@@ -139,6 +158,7 @@ pub record Around : Type 0 where
 pub record Serves {A : Type 0} (start : Start) (result : Result A Memory) (before now : ℕ) (old new : Around) : Type 0 where
   pub course : Course
   pub for_bytes : Told old.conn.left (λ bytes. (known : Known Message) → Decides true side.Request bytes known → IsCourseFor known course)
+  pub read : Told old.conn.left (λ bytes. ReadsFrom bytes new.conn.left (IsLastOf course))
   pub cause : HasCause result old.conn new.conn course
   pub turn : TakesTurn start now course old.seat new.seat
   pub moment : AsksClock course old.clock new.clock before now

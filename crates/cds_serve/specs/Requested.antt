@@ -1,15 +1,15 @@
 -- How one request is read from a connection.
-use Rattle.std.specs.Prelude.{◌≡◌, ◌⊎◌, ℕ, true, List, [], ◌++◌, Option, Some, None, ⊤}
+use Rattle.std.specs.Prelude.{◌≡◌, ◌⊎◌, ℕ, false, true, List, [], ◌++◌, Option, Some, None, ⊤}
 use Rattle.cds_base.specs.Outside.{Rose}
 use Rattle.cds_http.specs.declared.error.HttpError.{HttpError}
 use Rattle.cds_http.specs.declared.error.HttpError.TheVariants.{BadHead, HeadTooLong, BadLength, BadChunk, TooLong, Truncated, Failed, Mem}
 use Rattle.cds_http.specs.declared.message.Message.{Message}
 use Rattle.cds_http.specs.declared.message.Side.TheVariants as side
 use Rattle.cds_http.specs.declared.reader.MessageReader.{MessageReader}
-use Rattle.cds_http.specs.Known.{Known, Refused}
+use Rattle.cds_http.specs.Known.{Known, Needs, Refused}
 use Rattle.cds_http.specs.Decided.{Decides}
 use Rattle.cds_http.specs.Reading.{IsWhole, Stands}
-use Rattle.cds_serve.specs.Answered.{NeedsTurn, free_status}
+use Rattle.cds_serve.specs.Answered.{NeedsTurn, ReadsFrom, free_status}
 use Rattle.cds_serve.specs.declared.request.Filled.{Filled}
 use Rattle.cds_serve.specs.declared.request.Filled.TheVariants as filled
 use Rattle.cds_serve.specs.declared.request.Request.{Request}
@@ -35,13 +35,26 @@ FilledRose (Some filled.Done) old new = ⊤
 FilledRose (Some (filled.Refused cause)) old new = ⊤
 FilledRose (Some filled.Broken) old new = Rose old new
 
--- so much of the bytes of a connection came to a reader, and this is left
+-- of a connection that failed no last piece came
+abbrev pub IsLastIn : Request → List ℕ → Type 0
+IsLastIn (request.Needing m) piece = ⊤
+IsLastIn (request.Free status) piece = ⊤
+IsLastIn request.Broken piece = piece ≡ []
+IsLastIn request.Starved piece = ⊤
+
+abbrev pub IsLastBy : Filled → List ℕ → Type 0
+IsLastBy filled.Done piece = ⊤
+IsLastBy (filled.Refused cause) piece = ⊤
+IsLastBy filled.Broken piece = piece ≡ []
+
+-- so much of the bytes of a connection came to a reader and did not tell the message yet, and this is left
 pub record ComesTo (bytes : List ℕ) (left : Option (List ℕ)) (reader : MessageReader) : Type 0 where
   pub came : List ℕ
   pub rest : List ℕ
   pub all : bytes ≡ came ++ rest
   pub told : left ≡ Some rest
   pub stands : Stands side.Request reader (Some came)
+  pub needed : Decides false side.Request came Needs
 
 -- a reader has all that the message needs: the connection gave all its bytes, or the message is whole
 pub record HasAll (bytes : List ℕ) (reader : MessageReader) : Type 0 where
@@ -67,7 +80,7 @@ IsFilled filled.Done bytes reader = HasAll bytes reader
 IsFilled (filled.Refused cause) bytes reader = IsCause cause bytes
 IsFilled filled.Broken bytes reader = ⊤
 
--- after a piece: the reader is done, or goes on
+-- after a piece: the reader is done, with this piece as the last, or goes on
 abbrev pub GoesOn : Option Filled → List ℕ → Option (List ℕ) → MessageReader → Type 0
 GoesOn None bytes left reader = ComesTo bytes left reader
-GoesOn (Some how) bytes left reader = IsFilled how bytes reader
+GoesOn (Some how) bytes left reader = IsFilled how bytes reader × ReadsFrom bytes left (IsLastBy how)

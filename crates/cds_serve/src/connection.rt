@@ -109,6 +109,7 @@ fn answer<C: Conn, L: Link, G: Gate>(
     ensures given { GivesAll result (reply_requests reply) (L.requests link.old) (L.requests link.new) }
     ensures starved { IsErr reply → IsErr result }
     ensures write_faults_rise { C.Sink.faults conn.old ≤ C.Sink.faults conn.new }
+    ensures left_stays { C.left conn.new ≡ C.left conn.old }
     ensures read_faults_stay { C.Source.faults conn.new ≡ C.Source.faults conn.old }
     ensures link_faults_rise { L.faults link.old ≤ L.faults link.new }
 {
@@ -130,6 +131,7 @@ fn answer_free<C: Conn, G: Gate>(
 ) -> Result<(), Mem>
     ensures written { WritesTo (free_text status result) (C.holds conn.old) (C.holds conn.new) (C.Sink.faults conn.old) (C.Sink.faults conn.new) }
     ensures write_faults_rise { C.Sink.faults conn.old ≤ C.Sink.faults conn.new }
+    ensures left_stays { C.left conn.new ≡ C.left conn.old }
     ensures read_faults_stay { C.Source.faults conn.new ≡ C.Source.faults conn.old }
 {
     match empty_reply(alloc, status) {
@@ -156,6 +158,7 @@ fn starve<C: Conn, G: Gate>(conn: &mut C, gate: &mut G) -> Result<(), Mem>
     ensures starved { IsErr result }
     ensures written { WritesTo no_memory_reply (C.holds conn.old) (C.holds conn.new) (C.Sink.faults conn.old) (C.Sink.faults conn.new) }
     ensures write_faults_rise { C.Sink.faults conn.old ≤ C.Sink.faults conn.new }
+    ensures left_stays { C.left conn.new ≡ C.left conn.old }
     ensures read_faults_stay { C.Source.faults conn.new ≡ C.Source.faults conn.old }
 {
     write(conn, gate, no_memory_reply());
@@ -173,6 +176,7 @@ pub(crate) fn no_memory_reply() -> &'static [u8]
 fn write<C: Conn, G: Gate>(conn: &mut C, gate: &mut G, text: &[u8])
     ensures written { WritesTo text.now (C.holds conn.old) (C.holds conn.new) (C.Sink.faults conn.old) (C.Sink.faults conn.new) }
     ensures write_faults_rise { C.Sink.faults conn.old ≤ C.Sink.faults conn.new }
+    ensures left_stays { C.left conn.new ≡ C.left conn.old }
     ensures read_faults_stay { C.Source.faults conn.new ≡ C.Source.faults conn.old }
 {
     gate.pass(BEFORE_REPLY);
@@ -186,6 +190,7 @@ fn send_all<C: Conn>(conn: &mut C, text: &[u8]) -> Result<(), Failed>
     ensures part { OnErr result (WhereTold (C.holds conn.old) (λ held. HoldsPart held text.now (C.holds conn.new))) }
     ensures rose { OnErr result (Rose (C.Sink.faults conn.old) (C.Sink.faults conn.new)) }
     ensures never_falls { C.Sink.faults conn.old ≤ C.Sink.faults conn.new }
+    ensures left_stays { C.left conn.new ≡ C.left conn.old }
     ensures read_faults_stay { C.Source.faults conn.new ≡ C.Source.faults conn.old }
 {
     let mut at = 0;

@@ -1,6 +1,6 @@
 //! Requests as they come over a connection.
 
-ghost use Rattle.std.specs.Prelude.{◌≡◌, ◌≤◌, ◌<◌, ℕ, true, List, length, Some, IfOk};
+ghost use Rattle.std.specs.Prelude.{◌≡◌, ◌≤◌, ◌<◌, ℕ, true, List, length, Option, Some, IfOk, OnErr};
 ghost use Rattle.cds_base.specs.Outside.{WhereTold};
 ghost use Rattle.cds_http.specs.declared.error.HttpError.TheVariants as cause;
 ghost use Rattle.cds_http.specs.declared.message.Message.{Message};
@@ -8,8 +8,8 @@ ghost use Rattle.cds_http.specs.declared.message.Side.TheVariants as side;
 ghost use Rattle.cds_http.specs.Decided.{Decides};
 ghost use Rattle.cds_http.specs.Known.{Known, Needs, Refused, Whole};
 ghost use Rattle.cds_http.specs.Reading.{Stands};
-ghost use Rattle.cds_serve.specs.Answered.{is_event_method, request_status, status_at, status_unless};
-ghost use Rattle.cds_serve.specs.Requested.{BrokenRose, ComesTo, FilledRose, GoesOn, HasAll, IsFilled, IsRequest};
+ghost use Rattle.cds_serve.specs.Answered.{ReadsFrom, is_event_method, request_status, status_at, status_unless};
+ghost use Rattle.cds_serve.specs.Requested.{BrokenRose, ComesTo, FilledRose, GoesOn, HasAll, IsFilled, IsLastBy, IsLastIn, IsRequest};
 
 use cds_base::{Conn, Failed, Mem, empty_piece};
 use cds_http::{Fed, HttpError, Message, MessageReader, Side, Start};
@@ -42,6 +42,7 @@ pub(crate) enum Filled {
 /// The request of a connection, of which nothing was read yet.
 pub(crate) fn read_request<C: Conn>(alloc: Global, conn: &mut C) -> Request
     ensures request { WhereTold (C.left conn.old) (λ bytes. (known : Known Message) → Decides true side.Request bytes known → IsRequest known result) }
+    ensures read { WhereTold (C.left conn.old) (λ bytes. ReadsFrom bytes (C.left conn.new) (IsLastIn result)) }
     ensures rose { BrokenRose result (C.Source.faults conn.old) (C.Source.faults conn.new) }
     ensures never_falls { C.Source.faults conn.old ≤ C.Source.faults conn.new }
     ensures taken_stay { C.holds conn.new ≡ C.holds conn.old }
@@ -56,6 +57,8 @@ pub(crate) fn read_request<C: Conn>(alloc: Global, conn: &mut C) -> Request
 /// The request, where there is memory for a piece of it.
 fn read_message<C: Conn>(alloc: Global, conn: &mut C) -> Result<Request, Mem>
     ensures request { IfOk result (λ request. WhereTold (C.left conn.old) (λ bytes. (known : Known Message) → Decides true side.Request bytes known → IsRequest known request)) }
+    ensures read { IfOk result (λ request. WhereTold (C.left conn.old) (λ bytes. ReadsFrom bytes (C.left conn.new) (IsLastIn request))) }
+    ensures unread { OnErr result (C.left conn.new ≡ C.left conn.old) }
     ensures rose { IfOk result (λ request. BrokenRose request (C.Source.faults conn.old) (C.Source.faults conn.new)) }
     ensures never_falls { C.Source.faults conn.old ≤ C.Source.faults conn.new }
     ensures taken_stay { C.holds conn.new ≡ C.holds conn.old }
@@ -76,6 +79,7 @@ fn fill<C: Conn>(
 ) -> Filled
     requires some { 0 < length piece.old }
     ensures filled { (bytes : List ℕ) → ComesTo bytes (C.left conn.old) reader.old → IsFilled result bytes reader.new }
+    ensures read { (bytes : List ℕ) → ComesTo bytes (C.left conn.old) reader.old → ReadsFrom bytes (C.left conn.new) (IsLastBy result) }
     ensures rose { FilledRose (Some result) (C.Source.faults conn.old) (C.Source.faults conn.new) }
     ensures never_falls { C.Source.faults conn.old ≤ C.Source.faults conn.new }
     ensures taken_stay { C.holds conn.new ≡ C.holds conn.old }
@@ -121,6 +125,7 @@ fn fill_once<C: Conn>(
 /// What came, by how the reading of it ended.
 fn request_of(filled: Filled, reader: MessageReader) -> Request
     ensures request { (bytes : List ℕ) → IsFilled filled bytes reader → (known : Known Message) → Decides true side.Request bytes known → IsRequest known result }
+    ensures read { (bytes : List ℕ) (left : Option (List ℕ)) → ReadsFrom bytes left (IsLastBy filled) → ReadsFrom bytes left (IsLastIn result) }
     ensures rose { (old new : ℕ) → FilledRose (Some filled) old new → BrokenRose result old new }
 {
     match filled {

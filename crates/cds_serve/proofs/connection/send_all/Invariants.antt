@@ -8,6 +8,7 @@ invariant-pieces g l = record {
   within : l.at ≤ length l.text;
   taken : WhereTold (g.C.Sink.holds l.initial.conn) (λ held. g.C.Sink.holds l.conn ≡ Some (held ++ take l.at l.text));
   never_falls : g.C.Sink.faults l.initial.conn ≤ g.C.Sink.faults l.conn;
+  left_stays : g.C.Source.left l.conn ≡ g.C.Source.left l.initial.conn;
   read_faults_stay : g.C.Source.faults l.conn ≡ g.C.Source.faults l.initial.conn;
 }
 
