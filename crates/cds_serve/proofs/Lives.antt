@@ -10,7 +10,8 @@ use Rattle.cds_base.specs.declared.exterior.OutsideFault.TheVariants as outside_
 use Rattle.cds_base.specs.Entries.{Told}
 use Rattle.cds_base.specs.Outside.{HoldsPart, Rose, raised}
 use Rattle.cds_serve.specs.Jobs.{DoorTold}
-use Rattle.cds_serve.specs.Life.{AreCounts, Asks, AsksFor, Counts, EndsLife, IsCaused, OfFirst, Outer, OutsideTold, Served, Stops, Takes, WritesLife, WritesLine, fault_of, life_asks, life_text, served_line, serving_line, share_of, status_of, worker_asks}
+use Rattle.cds_serve.specs.Life.{AreCounts, Asks, AsksFor, Counts, EndsLife, IsCaused, IsFresh, OfFirst, Outer, OutsideTold, Served, Stops, Takes, WritesLife, WritesLine, fault_of, life_asks, life_text, served_line, serving_line, share_of, status_of, worker_asks}
+use Rattle.cds_serve.specs.Told.{ClockTold}
 use Rattle.cds_serve.specs.declared.fault.Fault.{Fault}
 use Rattle.cds_serve.specs.declared.fault.Fault.TheVariants as fault
 use Rattle.cds_serve.proofs.Rounds.{rose-more, rose-on}
@@ -118,6 +119,13 @@ same-fact (Err e) result P ok err p = subst (λ r. IfOk r P) (sym err) tt
 pub both-facts : {A E : Type 0} (answer : Result A E) (P Q : A → Type 0) → IfOk answer P → IfOk answer Q → IfOk answer (λ object. P object × Q object)
 both-facts (Ok v) P Q p q = (p, q)
 both-facts (Err e) P Q p q = tt
+
+-- a clock that was given
+pub fresh-clock : {A E : Type 0} (answer : Result A E) (told : A → ClockTold) → IfOk answer (λ clock. (told clock).last ≡ 0)
+    → IfOk answer (λ clock. Told (told clock).gave (λ list. list ≡ [])) → IfOk answer (λ clock. (told clock).faults ≡ 0)
+    → IfOk answer (λ clock. IsFresh (told clock))
+fresh-clock (Ok clock) told last gave faults = record { last = last; gave = gave; faults = faults }
+fresh-clock (Err e) told last gave faults = tt
 
 -- ---- asks one after another
 

@@ -9,6 +9,7 @@ use Rattle.cds_base.specs.declared.exterior.OutsideFault.{OutsideFault}
 use Rattle.cds_base.specs.declared.exterior.OutsideFault.TheVariants as outside_fault
 use Rattle.cds_commands.specs.Commands.{Start}
 use Rattle.cds_serve.specs.Jobs.{DoorTold}
+use Rattle.cds_serve.specs.Told.{ClockTold, IsMoment}
 use Rattle.cds_serve.specs.declared.fault.Fault.{Fault}
 use Rattle.cds_serve.specs.declared.fault.Fault.TheVariants as fault
 
@@ -58,12 +59,23 @@ first_word moment = (moment % 2 ^ 48) * 2 ^ 16
 abbrev pub second_word : ℕ → ℕ
 second_word port = port * 2 ^ 32
 
--- The boot words of a server at a port, by a clock that was asked for its first moment and had failed so often before: those of what it gave,
--- which is its last moment since, or of 0 where it failed, as its count says
-pub record AreBootWords (port faults last after : ℕ) (boot : List ℕ) : Type 0 where
+-- The boot words of a server at a port, by a clock that was asked once: those of the moment that it gave, or of 0 where it failed, as its count says
+pub record AreBootWords (port : ℕ) (old new : ClockTold) (boot : List ℕ) : Type 0 where
   pub moment : ℕ
-  pub asked : (last ≡ moment) ⊎ (Rose faults after × (moment ≡ 0))
+  pub asked : IsMoment old new 0 moment
   pub words : boot ≡ first_word moment ∷ second_word port ∷ []
+
+-- nothing was asked of a clock yet
+pub record IsFresh (clock : ClockTold) : Type 0 where
+  pub last : clock.last ≡ 0
+  pub gave : Told clock.gave (λ list. list ≡ [])
+  pub faults : clock.faults ≡ 0
+
+-- they are those of the first moment of a clock
+pub record AreFirstWords (port : ℕ) (clock : ClockTold) (boot : List ℕ) : Type 0 where
+  pub before : ClockTold
+  pub fresh : IsFresh before
+  pub words : AreBootWords port before clock boot
 
 -- the start of a server with these boot words, at the number 0
 abbrev pub start_with : List ℕ → Start

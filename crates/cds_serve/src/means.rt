@@ -4,7 +4,7 @@ ghost use Rattle.std.specs.Prelude.{◌≡◌, ◌≤◌, ◌<◌, [], ◌∷◌
 ghost use Rattle.std.specs.List.{AllByRecursion};
 ghost use Rattle.cds_base.specs.Asked.{ForClock, ForDoor, ForFolder, ForLink, ForSpawner};
 ghost use Rattle.cds_base.specs.Outside.{Rose};
-ghost use Rattle.cds_serve.specs.Life.{AreBootWords, Asks, IsCaused, OfFirst, Takes, fault_of, first_word, life_asks, second_word, worker_asks};
+ghost use Rattle.cds_serve.specs.Life.{AreBootWords, AreFirstWords, Asks, IsCaused, IsFresh, OfFirst, Takes, fault_of, first_word, life_asks, second_word, worker_asks};
 
 use crate::fault::Fault;
 use cds_base::{Clock, Door, Failed, Outside, OutsideFault};
@@ -35,7 +35,9 @@ pub(crate) struct Means<D, T, L, F> {
 
 /// The boot words of a server at a port: of the clock's first moment, or 0 where it fails, and of the port.
 fn boot_words<T: Clock>(clock: &mut T, port: u16) -> [u64; 2]
-    ensures { AreBootWords port (T.faults clock.old) (T.last clock.new) (T.faults clock.new) result }
+    ensures { AreBootWords port
+        (record { last = T.last clock.old; gave = T.gave clock.old; faults = T.faults clock.old })
+        (record { last = T.last clock.new; gave = T.gave clock.new; faults = T.faults clock.new }) result }
 {
     match clock.now() {
         Ok(moment) => words_of(moment, port),
@@ -81,7 +83,7 @@ fn ask_clock<O: Outside>(alloc: Global, outside: &mut O) -> Result<O::C, Fault>
     ensures asks { Asks result (ForClock ∷ [])
         (record { faults = O.faults outside.old; asked = O.asked outside.old; ended = O.ended outside.old; ended_links = O.ended_links outside.old; connections = O.connections outside.old; started = O.started outside.old })
         (record { faults = O.faults outside.new; asked = O.asked outside.new; ended = O.ended outside.new; ended_links = O.ended_links outside.new; connections = O.connections outside.new; started = O.started outside.new }) }
-    ensures fresh { IfOk result (λ clock. O.C.faults clock ≡ 0) }
+    ensures fresh { IfOk result (λ clock. IsFresh (record { last = O.C.last clock; gave = O.C.gave clock; faults = O.C.faults clock })) }
 {
     given(outside.clock(alloc))
 }
@@ -149,7 +151,7 @@ fn ask_ends<O: Outside>(
         (record { connections = O.D.connections door.old; faults = O.D.faults door.old })
         (record { connections = O.D.connections door.new; faults = O.D.faults door.new }) }
     ensures fresh { IfOk result (λ ends. (O.D.connections ends.door ≡ 0) × (O.D.faults ends.door ≡ 0)) }
-    ensures fresh_clock { IfOk result (λ ends. O.C.faults ends.clock ≡ 0) }
+    ensures fresh_clock { IfOk result (λ ends. IsFresh (record { last = O.C.last ends.clock; gave = O.C.gave ends.clock; faults = O.C.faults ends.clock })) }
 {
     let clock = ask_clock(alloc, outside)?;
     let link = ask_link(alloc, outside)?;
@@ -165,7 +167,9 @@ fn with_boot<D, T: Clock, L>(
     boot: &mut [u64; 2],
 ) -> Ends<D, T, L>
     ensures door { result.door ≡ ends.door }
-    ensures first { IsTrue is_first → AreBootWords port (T.faults ends.clock) (T.last result.clock) (T.faults result.clock) boot.new }
+    ensures first { IsTrue is_first → AreBootWords port
+        (record { last = T.last ends.clock; gave = T.gave ends.clock; faults = T.faults ends.clock })
+        (record { last = T.last result.clock; gave = T.gave result.clock; faults = T.faults result.clock }) boot.new }
     ensures others { IsFalse is_first → boot.new ≡ boot.old }
 {
     if is_first {
@@ -189,7 +193,8 @@ fn ask_workers<O: Outside>(
         (record { connections = O.D.connections door.new; faults = O.D.faults door.new }) }
     ensures fresh { IfOk result (λ all. AllByRecursion (λ ends. (O.D.connections ends.door ≡ 0) × (O.D.faults ends.door ≡ 0)) all.items) }
     ensures few { IfOk result (λ all. length all.items ≡ 4) }
-    ensures boot { IfOk result (λ all. OfFirst (λ ends. AreBootWords port 0 (O.C.last ends.clock) (O.C.faults ends.clock) boot.new) all.items) }
+    ensures boot { IfOk result (λ all. OfFirst (λ ends. AreFirstWords port
+        (record { last = O.C.last ends.clock; gave = O.C.gave ends.clock; faults = O.C.faults ends.clock }) boot.new) all.items) }
 {
     let mut all = Vec::with_capacity(alloc, WORKERS)?;
     'workers: while all.len() < WORKERS {
@@ -215,7 +220,8 @@ pub(crate) fn ask_means<O: Outside>(
         (record { connections = O.D.connections door.new; faults = O.D.faults door.new }) }
     ensures fresh { IfOk result (λ means. AllByRecursion (λ ends. (O.D.connections ends.door ≡ 0) × (O.D.faults ends.door ≡ 0)) means.workers.items) }
     ensures few { IfOk result (λ means. length means.workers.items ≡ 4) }
-    ensures boot { IfOk result (λ means. OfFirst (λ ends. AreBootWords port 0 (O.C.last ends.clock) (O.C.faults ends.clock) means.boot) means.workers.items) }
+    ensures boot { IfOk result (λ means. OfFirst (λ ends. AreFirstWords port
+        (record { last = O.C.last ends.clock; gave = O.C.gave ends.clock; faults = O.C.faults ends.clock }) means.boot) means.workers.items) }
 {
     let folder = ask_folder(alloc, path, outside)?;
     let mut boot = [0, 0];

@@ -1,7 +1,7 @@
 -- One call of the outside.
 use Rattle.cds_base.specs.Asked.{ForClock}
 use Rattle.cds_serve.specs.Life.{OutsideTold}
-use Rattle.cds_serve.proofs.Lives.{asks-one, same-fact}
+use Rattle.cds_serve.proofs.Lives.{asks-one, fresh-clock, same-fact}
 use Rattle.cds_serve.proofs.means.ask_clock.Goals as goal
 
 pub returns-clause-asks : goal.returns-clause-asks
@@ -13,4 +13,7 @@ returns-clause-asks g c =
     c.given.ensures.ok c.given.ensures.err one.rose
 
 pub returns-clause-fresh : goal.returns-clause-fresh
-returns-clause-fresh g c = same-fact c.clock.result c.given.result _ c.given.ensures.ok c.given.ensures.err c.clock.ensures.no_faults
+returns-clause-fresh g c =
+    same-fact c.clock.result c.given.result _ c.given.ensures.ok c.given.ensures.err
+    (fresh-clock c.clock.result (λ clock. record { last = g.O.C.Clock.last clock; gave = g.O.C.Clock.gave clock; faults = g.O.C.Clock.faults clock })
+    c.clock.ensures.last c.clock.ensures.no_moments c.clock.ensures.no_faults)

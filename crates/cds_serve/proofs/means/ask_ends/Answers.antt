@@ -56,3 +56,6 @@ returns-clause-takes g c =
     (beside-door (Ok c.in_ok-clock.clock) (ForClock ∷ []) old mid door c.in_ok-clock.ensures.asks)
     (beside-door (Ok c.in_ok-link.link) (ForLink ∷ []) mid new door c.in_ok-link.ensures))
     tt c.in_ok-door.ensures.connections_stay c.in_ok-door.ensures.never_falls
+
+pub returns-clause-fresh_clock : goal.returns-clause-fresh_clock
+returns-clause-fresh_clock g c = c.in_ok-clock.ensures.fresh

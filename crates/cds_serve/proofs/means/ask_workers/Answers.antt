@@ -2,7 +2,7 @@
 use Rattle.std.proofs.Common.{[], ◌∷◌, ◌≡◌, ◌==◌, ◌+◌, ◌-◌, length, Ok, Err, inr, ap, sym, subst, ◌∙◌, arith, length-append}
 use Rattle.cds_base.specs.Asked.{ForClock, ForLink}
 use Rattle.cds_serve.specs.Jobs.{DoorTold}
-use Rattle.cds_serve.specs.Life.{AreBootWords, OutsideTold, worker_asks}
+use Rattle.cds_serve.specs.Life.{AreFirstWords, OutsideTold, worker_asks}
 use Rattle.cds_serve.proofs.Lives.{all-more, first-more, first-there, takes-as, takes-exit, takes-next, takes-no-memory, takes-none, takes-ok, takes-then, worker-next, workers-more}
 use Rattle.cds_serve.proofs.means.ask_workers.Goals as goal
 
@@ -55,9 +55,13 @@ workers-preserved g c =
       fresh = rw c.in_ok-push.ensures.items (all-more _ c.workers.all.items c.with_boot-first.result c.workers.invariant.fresh
           (rw c.with_boot-first.ensures.door c.in_ok-ends.ensures.fresh));
       boot = inr (rw c.in_ok-push.ensures.items (first-more _ _ c.workers.all.items c.with_boot-first.result c.is_empty.result (c.is_empty.ensures ∙ ap (λ n. n == 0) c.workers.all.ok.0) c.workers.invariant.boot
-          (λ yes. subst (λ n. AreBootWords c.args.port n (g.O.C.Clock.last c.with_boot-first.result.clock) (g.O.C.Clock.faults c.with_boot-first.result.clock) c.with_boot-first.new.boot)
-          c.in_ok-ends.ensures.fresh_clock (c.with_boot-first.ensures.first yes))
-          (λ no ends so. subst (λ b. AreBootWords c.args.port 0 (g.O.C.Clock.last ends.clock) (g.O.C.Clock.faults ends.clock) b) (sym (c.with_boot-first.ensures.others no)) so)));
+          (λ yes. record {
+            before = record { last = g.O.C.Clock.last c.in_ok-ends.ends.clock; gave = g.O.C.Clock.gave c.in_ok-ends.ends.clock; faults = g.O.C.Clock.faults c.in_ok-ends.ends.clock };
+            fresh = c.in_ok-ends.ensures.fresh_clock;
+            words = c.with_boot-first.ensures.first yes;
+          })
+          (λ no ends so. subst (λ b. AreFirstWords c.args.port (record { last = g.O.C.Clock.last ends.clock; gave = g.O.C.Clock.gave ends.clock; faults = g.O.C.Clock.faults ends.clock }) b)
+          (sym (c.with_boot-first.ensures.others no)) so)));
     }
 
 pub returns-clause-takes : goal.returns-clause-takes

@@ -2,7 +2,7 @@
 use Rattle.std.proofs.Common.{◌≡◌, ◌⊎◌, ◌≤◌, ◌-◌, [], length, Ok}
 use Rattle.std.specs.List.{AllByRecursion}
 use Rattle.std.specs.Prelude.{⊤}
-use Rattle.cds_serve.specs.Life.{AreBootWords, OfFirst, Takes, worker_asks}
+use Rattle.cds_serve.specs.Life.{AreFirstWords, OfFirst, Takes, worker_asks}
 use Rattle.cds_serve.proofs.means.ask_workers.Given as goal
 
 abbrev pub invariant-workers : goal.invariant-workers
@@ -14,7 +14,7 @@ invariant-workers g l = record {
       (record { connections = g.O.D.Door.connections l.initial.door; faults = g.O.D.Door.faults l.initial.door })
       (record { connections = g.O.D.Door.connections l.door; faults = g.O.D.Door.faults l.door });
   fresh : AllByRecursion (λ ends. (g.O.D.Door.connections ends.door ≡ 0) × (g.O.D.Door.faults ends.door ≡ 0)) l.all.items;
-  boot : (l.all.items ≡ []) ⊎ OfFirst (λ ends. AreBootWords l.port 0 (g.O.C.Clock.last ends.clock) (g.O.C.Clock.faults ends.clock) l.boot) l.all.items;
+  boot : (l.all.items ≡ []) ⊎ OfFirst (λ ends. AreFirstWords l.port (record { last = g.O.C.Clock.last ends.clock; gave = g.O.C.Clock.gave ends.clock; faults = g.O.C.Clock.faults ends.clock }) l.boot) l.all.items;
 }
 
 abbrev pub decreases-workers : goal.decreases-workers
