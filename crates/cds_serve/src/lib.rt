@@ -30,6 +30,3 @@ pub use scanner::{Scanned, Scanner};
 pub use scanning::{ScanRefused, scan_once};
 pub use served::{Opening, Served, ServerCommand};
 pub use worker::{Worked, Worker};
-
-#[cfg(test)]
-mod tests;
