@@ -1,7 +1,7 @@
 -- How one request is read from a connection, piece by piece.
-use Rattle.std.proofs.Common.{◌≡◌, ◌⊎◌, inl, inr, ℕ, false, true, List, [], ◌++◌, length, take, drop, Option, Some, None, Result, Ok, Err, refl, sym, ◌∙◌, ap, subst, append_assoc, ◌<◌, arith}
+use Rattle.std.proofs.Common.{◌≡◌, ◌⊎◌, inl, inr, ℕ, false, true, List, [], ◌++◌, length, take, drop, Option, Some, None, Result, Ok, Err, refl, sym, ◌∙◌, ap, subst, append_assoc, ◌<◌, ◌≤◌, arith}
 use Rattle.std.specs.Prelude.{⊤}
-use Rattle.std.proofs.lemmas.List.{take-append-drop, append-nil}
+use Rattle.std.proofs.lemmas.List.{take-append-drop, append-nil, length-take}
 use Rattle.cds_http.specs.declared.error.HttpError.{HttpError}
 use Rattle.cds_http.specs.declared.error.HttpError.TheVariants.{BadHead, HeadTooLong, BadLength, BadChunk, TooLong, Truncated, Failed, Mem}
 use Rattle.cds_http.specs.declared.message.Fed.{Fed}
@@ -14,7 +14,7 @@ use Rattle.cds_http.specs.Known.{Known, Whole, Needs, Refused}
 use Rattle.cds_http.specs.Reading.{Finishes, IsWhole, Stands, Takes, at_end}
 use Rattle.cds_http.specs.Steps.{Explains}
 use Rattle.cds_http.proofs.Once.{one_outcome}
-use Rattle.cds_serve.specs.Answered.{ReadsFrom}
+use Rattle.cds_serve.specs.Answered.{ReadsFrom, piece_limit}
 use Rattle.cds_serve.specs.declared.request.Filled.{Filled}
 use Rattle.cds_serve.specs.declared.request.Filled.TheVariants as filled
 use Rattle.cds_serve.specs.declared.request.Request.{Request}
@@ -149,7 +149,7 @@ nothing-said = (Needs, refl, refl)
 
 -- nothing
 pub none-read : (bytes : List ℕ) (after : Option (List ℕ)) (P : List ℕ → Type 0) → after ≡ Some bytes → P [] → ReadsFrom bytes after P
-none-read bytes after P told last = record { came = []; piece = []; rest = bytes; all = refl; told = told; needed = nothing-said; last = last }
+none-read bytes after P told last = record { came = []; piece = []; rest = bytes; all = refl; told = told; needed = nothing-said; short = omega arith; last = last }
 
 -- all that came, and no last piece
 pub came-read : (bytes : List ℕ) (left after : Option (List ℕ)) (reader : MessageReader) (c : ComesTo bytes left reader) (P : List ℕ → Type 0)
@@ -161,19 +161,22 @@ came-read bytes left after reader c P told last = record {
   all = c.all ∙ ap (λ front. front ++ c.rest) (sym (append-nil c.came));
   told = told;
   needed = c.needed;
+  short = omega arith;
   last = last;
 }
 
--- all that came, and a last piece
+-- all that came, and a last piece, which fits the room for it
 pub piece-read : (bytes : List ℕ) (left after : Option (List ℕ)) (reader : MessageReader) (c : ComesTo bytes left reader) (piece : List ℕ) (n : ℕ)
-    (P : List ℕ → Type 0) → piece ≡ take n c.rest → after ≡ Some (drop n c.rest) → P piece → ReadsFrom bytes after P
-piece-read bytes left after reader c piece n P is told last = record {
+    (P : List ℕ → Type 0) (room : List ℕ) → piece ≡ take n room → length room ≤ piece_limit → piece ≡ take n c.rest → after ≡ Some (drop n c.rest) → P piece
+    → ReadsFrom bytes after P
+piece-read bytes left after reader c piece n P room front fits is told last = record {
   came = c.came;
   piece = piece;
   rest = drop n c.rest;
   all = c.all ∙ sym (next-piece c.came c.rest piece n is);
   told = told;
   needed = c.needed;
+  short = omega (arith, ap length front, length-take n room, fits);
   last = last;
 }
 
@@ -189,7 +192,7 @@ end-read bytes left after reader c room n some (inr none) zero told = (
 -- another thing that holds of the last piece
 pub reads-as : (bytes : List ℕ) (left : Option (List ℕ)) (P Q : List ℕ → Type 0) → ((piece : List ℕ) → P piece → Q piece) → ReadsFrom bytes left P
     → ReadsFrom bytes left Q
-reads-as bytes left P Q f r = record { came = r.came; piece = r.piece; rest = r.rest; all = r.all; told = r.told; needed = r.needed; last = f r.piece r.last }
+reads-as bytes left P Q f r = record { came = r.came; piece = r.piece; rest = r.rest; all = r.all; told = r.told; needed = r.needed; short = r.short; last = f r.piece r.last }
 
 -- what came of a connection that did not fail may be the last piece
 pub no-failure : (request : Request) (piece : List ℕ) → ((old new : ℕ) → BrokenRose request old new) → IsLastIn request piece

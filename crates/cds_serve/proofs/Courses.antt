@@ -51,7 +51,7 @@ pub reads-on : (left mid after : Option (List ℕ)) (P Q : List ℕ → Type 0) 
     → Told left (λ bytes. ReadsFrom bytes mid P) → Told left (λ bytes. ReadsFrom bytes after Q)
 reads-on left mid after P Q f same read bytes told =
     let r = read bytes told in
-    record { came = r.came; piece = r.piece; rest = r.rest; all = r.all; told = same ∙ r.told; needed = r.needed; last = f r.piece r.last }
+    record { came = r.came; piece = r.piece; rest = r.rest; all = r.all; told = same ∙ r.told; needed = r.needed; short = r.short; last = f r.piece r.last }
 
 -- ---- the course
 

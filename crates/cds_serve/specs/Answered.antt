@@ -1,6 +1,6 @@
 -- What a connection is answered, by what its bytes say (RFC 9110 on the statuses 400, 404, 405 and 413; UPnP Device Architecture 2.0 on the
 -- URLs of control and of eventing).
-use Rattle.std.specs.Prelude.{◌≡◌, ◌+◌, ℕ, Bool, true, false, ◌||◌, bytes_eq, codes, if◌then◌else◌, List, [], ◌∷◌, ◌++◌, Option, Some, None, Result, Ok, Err, IsErr, ⊤}
+use Rattle.std.specs.Prelude.{◌≡◌, ◌+◌, ◌≤◌, ℕ, Bool, true, false, ◌||◌, bytes_eq, codes, if◌then◌else◌, List, [], ◌∷◌, ◌++◌, length, Option, Some, None, Result, Ok, Err, IsErr, ⊤}
 use Rattle.cds_base.specs.declared.mem.Mem.{Mem as Memory}
 use Rattle.cds_base.specs.declared.link.LinkRequest.{LinkRequest}
 use Rattle.cds_base.specs.Entries.{Told}
@@ -89,8 +89,12 @@ IsCourseFor known (Free status) = free_status known ≡ Some status
 IsCourseFor known (Handled found m) = NeedsTurn m known
 IsCourseFor known (Unhandled found m) = NeedsTurn m known
 
+-- how many bytes are read at once, at most
+abbrev pub piece_limit : ℕ
+piece_limit = 8192
+
 -- Of these bytes so many were read that this is left: before the last piece came they did not tell the message yet, neither a whole one nor a refusal.
--- Of the last piece this holds
+-- The last piece has no more bytes than are read at once, and of it this holds
 pub record ReadsFrom (bytes : List ℕ) (left : Option (List ℕ)) (IsLast : List ℕ → Type 0) : Type 0 where
   pub came : List ℕ
   pub piece : List ℕ
@@ -98,6 +102,7 @@ pub record ReadsFrom (bytes : List ℕ) (left : Option (List ℕ)) (IsLast : Lis
   pub all : bytes ≡ came ++ piece ++ rest
   pub told : left ≡ Some rest
   pub needed : Decides false side.Request came Needs
+  pub short : length piece ≤ piece_limit
   pub last : IsLast piece
 
 -- no last piece came of a connection that failed, so that all that came of it did not tell the message

@@ -8,12 +8,15 @@ ghost use Rattle.cds_http.specs.declared.message.Side.TheVariants as side;
 ghost use Rattle.cds_http.specs.Decided.{Decides};
 ghost use Rattle.cds_http.specs.Known.{Known, Needs, Refused, Whole};
 ghost use Rattle.cds_http.specs.Reading.{Stands};
-ghost use Rattle.cds_serve.specs.Answered.{ReadsFrom, is_event_method, request_status, status_at, status_unless};
+ghost use Rattle.cds_serve.specs.Answered.{ReadsFrom, is_event_method, piece_limit, request_status, status_at, status_unless};
 ghost use Rattle.cds_serve.specs.Requested.{BrokenRose, ComesTo, FilledRose, GoesOn, HasAll, IsFilled, IsLastBy, IsLastIn, IsRequest};
 
-use cds_base::{Conn, Failed, Mem, empty_piece};
+use cds_base::{Conn, Failed, Mem};
 use cds_http::{Fed, HttpError, Message, MessageReader, Side, Start};
 use std::alloc::Global;
+
+/// How many bytes are read at once.
+const PIECE: usize = 8_192;
 
 /// What came over a connection.
 #[derive(Drop)]
@@ -70,6 +73,15 @@ fn read_message<C: Conn>(alloc: Global, conn: &mut C) -> Result<Request, Mem>
     Ok(request_of(filled, reader))
 }
 
+/// Room for a piece, which is not empty.
+fn empty_piece(alloc: Global) -> Result<Vec<u8>, Mem>
+    ensures some { IfOk result (λ piece. 0 < length piece.items) }
+    ensures short { IfOk result (λ piece. length piece.items ≤ piece_limit) }
+{
+    let piece = vec![in alloc; 0; PIECE]?;
+    Ok(piece)
+}
+
 /// Reads until a message is whole, or its bytes are refused, or the connection ends or fails.
 fn fill<C: Conn>(
     alloc: Global,
@@ -78,6 +90,7 @@ fn fill<C: Conn>(
     piece: &mut [u8],
 ) -> Filled
     requires some { 0 < length piece.old }
+    requires short { length piece.old ≤ piece_limit }
     ensures filled { (bytes : List ℕ) → ComesTo bytes (C.left conn.old) reader.old → IsFilled result bytes reader.new }
     ensures read { (bytes : List ℕ) → ComesTo bytes (C.left conn.old) reader.old → ReadsFrom bytes (C.left conn.new) (IsLastBy result) }
     ensures rose { FilledRose (Some result) (C.Source.faults conn.old) (C.Source.faults conn.new) }
@@ -102,6 +115,7 @@ fn fill_once<C: Conn>(
     piece: &mut [u8],
 ) -> Option<Filled>
     requires some { 0 < length piece.old }
+    requires short { length piece.old ≤ piece_limit }
     ensures goes { (bytes : List ℕ) → ComesTo bytes (C.left conn.old) reader.old → GoesOn result bytes (C.left conn.new) reader.new }
     ensures rose { FilledRose result (C.Source.faults conn.old) (C.Source.faults conn.new) }
     ensures never_falls { C.Source.faults conn.old ≤ C.Source.faults conn.new }

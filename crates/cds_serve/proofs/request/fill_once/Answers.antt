@@ -19,7 +19,7 @@ returns-in-Ok-Whole-clause-goes g c bytes comes =
       whole-now bytes _ c.args.reader.now c.feed.new.self comes c.split_at.result.0.now c.in-Ok.count c.in-Ok-Whole.field-0-0
           (c.split_at.ensures.front ∙ c.in-Ok.ensures.content comes.rest comes.told) fed.0 fed.1
           (subst (λ r. Takes side.Request (Some comes.came) c.split_at.result.0.now r fed.0) (c.in-Ok-Whole.is ∙ ap Ok c.in-Ok-Whole.field-0-is) fed.2),
-      piece-read bytes _ _ c.args.reader.now comes c.split_at.result.0.now c.in-Ok.count _
+      piece-read bytes _ _ c.args.reader.now comes c.split_at.result.0.now c.in-Ok.count _ c.receive.new.into c.split_at.ensures.front (omega (arith, c.receive.auto.into, c.requires.short))
           (c.split_at.ensures.front ∙ c.in-Ok.ensures.content comes.rest comes.told) (c.in-Ok.ensures.rest comes.rest comes.told) tt,
     )
 
@@ -29,7 +29,7 @@ returns-in-Err-feed-clause-goes g c bytes comes =
       refused-now bytes _ c.args.reader.now comes c.split_at.result.0.now c.in-Ok.count c.in-Err-feed.refusal
           (c.split_at.ensures.front ∙ c.in-Ok.ensures.content comes.rest comes.told) fed.0
           (subst (λ r. Takes side.Request (Some comes.came) c.split_at.result.0.now r fed.0) c.in-Err-feed.is fed.2),
-      piece-read bytes _ _ c.args.reader.now comes c.split_at.result.0.now c.in-Ok.count _
+      piece-read bytes _ _ c.args.reader.now comes c.split_at.result.0.now c.in-Ok.count _ c.receive.new.into c.split_at.ensures.front (omega (arith, c.receive.auto.into, c.requires.short))
           (c.split_at.ensures.front ∙ c.in-Ok.ensures.content comes.rest comes.told) (c.in-Ok.ensures.rest comes.rest comes.told) tt,
     )
 
