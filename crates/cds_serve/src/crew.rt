@@ -1,11 +1,12 @@
 //! The jobs of a server: how they are hired, started and joined.
 
 ghost use Rattle.std.specs.Prelude.{◌≡◌, ◌≢◌, ◌⊎◌, ◌+◌, ◌^◌, ◌≤◌, ◌<◌, ℕ, [], length, take, sum_by, vec_len, vec_capacity, is_some, nat_lt, if◌then◌else◌, Ok, Err, Some, IfErr, IfNone, IfOk, IfSome, IsFalse, IsNone, IsTrue, OnOk};
+ghost use Rattle.std.proofs.Props.{props};
 ghost use Rattle.std.specs.Arc.{arc_value};
 ghost use Rattle.std.specs.List.{AllByRecursion};
 ghost use Rattle.cds_base.specs.Outside.{Rose, raised};
 ghost use Rattle.cds_turn.specs.Turn.{IsSeatOf, passes_of, start_of};
-ghost use Rattle.cds_serve.specs.Life.{AreCounts, IsCaused, share_of, start_with};
+ghost use Rattle.cds_serve.specs.Life.{AreCounts, AreFirstWords, IsCaused, OfFirst, share_of, start_with};
 
 use crate::acts::Stop;
 use crate::fault::Fault;
@@ -38,6 +39,7 @@ pub(crate) struct Crew<R, D, T, L, F, G> {
     pub(crate) scanner: Scanner<R, F, T, G>,
     pub(crate) notifier: Notifier<R, T, L, G>,
     ghost own: { IsSeatOf (arc_value turn) seat },
+    ghost workers_own: { AllByRecursion (λ worker. arc_value worker.turn ≡ arc_value turn) workers.items } by { Prim.hlevel props },
     ghost scanner_own: { arc_value scanner.turn ≡ arc_value turn },
     ghost notifier_own: { arc_value notifier.turn ≡ arc_value turn },
 }
@@ -81,7 +83,7 @@ fn extra_of(left: u32, number: u32) -> u32
     if number < left { 1 } else { 0 }
 }
 
-/// A server with all its jobs, of which none is started.
+/// A server at a port with all its jobs, of which none is started. It is opened with the boot words of the means.
 pub(crate) fn hire_crew<
     R: Threads + Wait + Clone + Drop + Send + Sync + 'static,
     D: Door + Send + Drop + 'static,
@@ -92,12 +94,15 @@ pub(crate) fn hire_crew<
 >(
     rt: &R,
     alloc: Global,
+    port: u16,
     requests: u32,
     means: Means<D, T, L, F>,
     gate: &mut G,
 ) -> Result<Crew<R, D, T, L, F, G>, Mem>
     requires fresh { AllByRecursion (λ ends. (D.connections ends.door ≡ 0) × (D.faults ends.door ≡ 0)) means.workers.items }
     requires few { length means.workers.items ≡ 4 }
+    requires boot { OfFirst (λ ends. AreFirstWords port
+        (record { last = T.last ends.clock; gave = T.gave ends.clock; faults = T.faults ends.clock }) means.boot) means.workers.items }
     ensures workers { IfOk result (λ crew. sum_by (λ worker. worker.share) crew.workers.items ≡ requests) }
     ensures fresh { IfOk result (λ crew. AllByRecursion (λ worker. (D.connections worker.door ≡ 0) × (D.faults worker.door ≡ 0)) crew.workers.items) }
     ensures few { IfOk result (λ crew. length crew.workers.items ≡ 4) }
@@ -167,6 +172,7 @@ fn hire_workers<
     ensures workers { IfOk result (λ workers. sum_by (λ worker. worker.share) workers.items ≡ requests) }
     ensures fresh { IfOk result (λ workers. AllByRecursion (λ worker. (D.connections worker.door ≡ 0) × (D.faults worker.door ≡ 0)) workers.items) }
     ensures few { IfOk result (λ workers. length workers.items ≡ 4) }
+    ensures turn { IfOk result (λ workers. AllByRecursion (λ worker. arc_value worker.turn ≡ arc_value turn.now) workers.items) }
 {
     let mut workers = Vec::new(alloc);
     let mut number = 0;
@@ -202,6 +208,7 @@ fn hire_worker<
     ensures passes { OnOk result (passes_of seat.new + 1 ≡ passes_of seat.old) }
     ensures share { IfOk result (λ worker. worker.share ≡ share_of requests number) }
     ensures door { IfOk result (λ worker. worker.door ≡ ends.door) }
+    ensures turn { IfOk result (λ worker. arc_value worker.turn ≡ arc_value turn.now) }
 {
     let gate = gate.again(alloc, number)?;
     let rt = rt.clone()?;

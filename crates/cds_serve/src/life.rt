@@ -161,7 +161,7 @@ where
     ensures outside_never_falls { O.faults outside.old ≤ O.faults outside.new }
 {
     let means = ask_means(alloc, port, folder, outside, door)?;
-    let crew = hire_crew(rt, alloc, requests, means, gate)?;
+    let crew = hire_crew(rt, alloc, port, requests, means, gate)?;
     let running = Vec::with_capacity(alloc, WORKERS)?;
     write_serving(alloc, sink, port)?;
     let counts = run_crew(rt, crew, running, requests, outside, spawner)?;

@@ -17,6 +17,7 @@ workers-init g c =
       shares = rw c.new-workers.ensures.items refl;
       fresh = rw c.new-workers.ensures.items tt;
       others = rw gives.0 c.requires.fresh;
+      turns = rw c.new-workers.ensures.items tt;
     }
 
 pub workers-preserved : goal.workers-preserved
@@ -37,6 +38,7 @@ workers-preserved g c =
       shares = omega (arith, sums, so.shares, c.in_ok-worker.ensures.share, shares-next c.args.requests c.workers.number);
       fresh = rw c.in_ok-push.ensures.items (all-more _ c.workers.workers.items worker so.fresh (subst (λ door. (g.D.Door.connections door ≡ 0) × (g.D.Door.faults door ≡ 0)) (sym c.in_ok-worker.ensures.door) both.0));
       others = both.1;
+      turns = rw c.in_ok-push.ensures.items (all-more _ c.workers.workers.items worker so.turns c.in_ok-worker.ensures.turn);
     }
 
 pub returns-clause-workers : goal.returns-clause-workers

@@ -1,4 +1,4 @@
--- So far so many workers have their shares.
+-- So far so many workers have their shares, all of one server.
 use Rattle.std.proofs.Common.{◌≡◌, ◌+◌, length, sum_by}
 use Rattle.std.specs.Arc.{arc_value}
 use Rattle.std.specs.List.{AllByRecursion}
@@ -17,4 +17,5 @@ invariant-workers g l = record {
   shares : sum_by (λ worker. worker.share) l.workers.items ≡ shares_below l.requests l.number;
   fresh : AllByRecursion (λ worker. (g.D.Door.connections worker.door ≡ 0) × (g.D.Door.faults worker.door ≡ 0)) l.workers.items;
   others : AllByRecursion (λ ends. (g.D.Door.connections ends.door ≡ 0) × (g.D.Door.faults ends.door ≡ 0)) (into_iter_items l.ends-iterator);
+  turns : AllByRecursion (λ worker. arc_value worker.turn ≡ arc_value l.turn) l.workers.items;
 }
