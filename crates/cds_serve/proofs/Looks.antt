@@ -5,7 +5,7 @@ use Rattle.cds_commands.specs.Commands.{Command, Start, Ticks}
 use Rattle.cds_server.specs.declared.notes.Notes.{Notes}
 use Rattle.cds_turn.specs.Line.{Extends}
 use Rattle.cds_serve.specs.Acts.{IsLook, look_adds}
-use Rattle.cds_serve.specs.Jobs.{EndsNotifying}
+use Rattle.cds_serve.specs.Jobs.{AddsTicks, EndsNotifying}
 use Rattle.cds_serve.specs.Looked.{Beside, Looks, due_requests}
 use Rattle.cds_serve.specs.Sent.{GivesEach, GivesFront, release_requests}
 use Rattle.cds_serve.specs.Told.{IsAlone, IsMoment}
@@ -95,18 +95,31 @@ looks-begun start (Err memory) before now old new l = by l.ticked
     by (inl none) = subst (λ (z : List Command). Extends z old.seat.seen) (sym none.0) l.begun
     by (inr one) = and-tick now l.found new.seat.seen old.seat.seen one.0 l.begun
 
+-- a look of the only seat adds a tick, or nothing
+pub looks-ticks : (start : Start) (first : List Command) (result : Result Bool Mem) (before now : ℕ) (old new : Beside) → Looks start result before now old new
+    → old.seat.passes ≡ old.seat.seats → AddsTicks first old.seat.seen → AddsTicks first new.seat.seen
+looks-ticks start first (Ok stopped) before now old new l only t = (now ∷ t.0, l.ticked.1 ∙ ap (λ z. Ticks now ∷ z) (l.alone only ∙ t.1))
+looks-ticks start first (Err memory) before now old new l only t = by l.ticked
+  where
+    by : ((new.seat.seen ≡ l.found) × (new.link.requests ≡ old.link.requests))
+        ⊎ ((new.seat.seen ≡ Ticks now ∷ l.found) × GivesFront (due_requests start l.found now) old.link.requests new.link.requests)
+        → AddsTicks first new.seat.seen
+    by (inl none) = (t.0, none.0 ∙ l.alone only ∙ t.1)
+    by (inr one) = (now ∷ t.0, one.0 ∙ ap (λ z. Ticks now ∷ z) (l.alone only ∙ t.1))
+
 -- the last look
-pub ends-notifying : (start : Start) (first : List Command) (before now : ℕ) (old new : Beside) → Looks start (Ok true) before now old new
-    → Extends old.seat.seen first → EndsNotifying first new.seat.seen
-ends-notifying start first before now old new l begun = record {
+pub ends-notifying : (start : Start) (passes seats : ℕ) (first : List Command) (before now : ℕ) (old new : Beside) → Looks start (Ok true) before now old new
+    → Extends old.seat.seen first → (passes ≡ seats → AddsTicks first new.seat.seen) → EndsNotifying passes seats first new.seat.seen
+ends-notifying start passes seats first before now old new l begun alone = record {
   moment = now;
   found = l.found;
   last = l.ticked.1;
   begun = begun-through l.found old.seat.seen first l.begun begun;
   stopped = sym l.ticked.0;
+  alone = alone;
 }
 
-pub ends-looking : (start : Start) (first : List Command) (result : Result Bool Mem) (before now : ℕ) (old new : Beside) → Looks start result before now old new
-    → result ≡ Ok true → Extends old.seat.seen first → EndsNotifying first new.seat.seen
-ends-looking start first result before now old new l is begun =
-    ends-notifying start first before now old new (subst (λ (r : Result Bool Mem). Looks start r before now old new) is l) begun
+pub ends-looking : (start : Start) (passes seats : ℕ) (first : List Command) (result : Result Bool Mem) (before now : ℕ) (old new : Beside) → Looks start result before now old new
+    → result ≡ Ok true → Extends old.seat.seen first → (passes ≡ seats → AddsTicks first new.seat.seen) → EndsNotifying passes seats first new.seat.seen
+ends-looking start passes seats first result before now old new l is begun alone =
+    ends-notifying start passes seats first before now old new (subst (λ (r : Result Bool Mem). Looks start r before now old new) is l) begun alone

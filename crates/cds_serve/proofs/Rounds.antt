@@ -1,5 +1,5 @@
 -- Scans one after another: what the counts of a scanner say of them.
-use Rattle.std.proofs.Common.{◌≡◌, ◌≢◌, ◌⊎◌, inl, inr, ℕ, Bool, true, false, true≢false, ◌+◌, ◌-◌, ◌^◌, ◌<◌, ◌≤◌, min, List, [], ◌∷◌, ◌++◌, length, suc, Result, Ok, Err, IfErr, IsTrue, OnOk, refl, sym, ap, subst, ◌∙◌, append_assoc, arith, le_trans}
+use Rattle.std.proofs.Common.{◌≡◌, ◌≢◌, ◌⊎◌, inl, inr, ℕ, Bool, true, false, true≢false, ◌+◌, ◌-◌, ◌^◌, ◌<◌, ◌≤◌, min, List, [], ◌∷◌, ◌++◌, length, map, suc, Result, Ok, Err, IfErr, IsTrue, OnOk, refl, sym, ap, subst, ◌∙◌, append_assoc, arith, le_trans}
 use Rattle.std.proofs.Math.Nat.{le-min}
 use Rattle.std.specs.List.{AllByRecursion}
 use Rattle.cds_base.specs.Entries.{FolderTold}
@@ -53,28 +53,32 @@ all-later : (P Q : Scan → Type 0) → ((scan : Scan) → P scan → Q scan) �
 all-later P Q f [] all = tt
 all-later P Q f (scan ∷ scans) all = (f scan all.0, all-later P Q f scans all.1)
 
--- with more that was seen, of a folder that may give the same
-accepted-later : (old mid new : FolderTold) (before seen later : List Command) (accepted : ℕ) → ((scan : Scan) → MayGive old mid scan → MayGive old new scan)
-    → Extends later seen → AreAccepted old mid before seen accepted → AreAccepted old new before later accepted
-accepted-later old mid new before seen later accepted gives more a = record {
+-- with more that was seen, and nothing more by the only seat, of a folder that may give the same
+accepted-later : (p q seats : ℕ) (old mid new : FolderTold) (before seen later : List Command) (accepted : ℕ) → ((scan : Scan) → MayGive old mid scan → MayGive old new scan)
+    → q ≡ p → (p ≡ seats → later ≡ seen) → Extends later seen → AreAccepted p seats old mid before seen accepted
+    → AreAccepted q seats old new before later accepted
+accepted-later p q seats old mid new before seen later accepted gives passes same more a = record {
   scans = a.scans;
   many = a.many;
   given = all-later (MayGive old mid) (MayGive old new) gives a.scans a.given;
   since = more.0 ++ a.since;
   begun = more.1 ∙ ap (λ l. more.0 ++ l) a.begun ∙ sym (append_assoc more.0 a.since before);
   stand = among-more a.scans more.0 a.since a.stand;
+  alone = λ only. same (sym passes ∙ only) ∙ a.alone (sym passes ∙ only);
 }
 
 -- one scan more was accepted
-accepted-once : (old new : FolderTold) (before found seen : List Command) (accepted more : ℕ) (scan : Scan) → more ≡ raised accepted 1
-    → seen ≡ Scans (map_of scan.records) ∷ found → MayGive old new scan → AreAccepted old new before found accepted → AreAccepted old new before seen more
-accepted-once old new before found seen accepted more scan counted is given a = record {
+accepted-once : (passes seats : ℕ) (old new : FolderTold) (before found seen : List Command) (accepted more : ℕ) (scan : Scan) → more ≡ raised accepted 1
+    → seen ≡ Scans (map_of scan.records) ∷ found → MayGive old new scan → AreAccepted passes seats old new before found accepted
+    → AreAccepted passes seats old new before seen more
+accepted-once passes seats old new before found seen accepted more scan counted is given a = record {
   scans = scan ∷ a.scans;
   many = one-up accepted more (length a.scans) (2 ^ 64 - 1) counted a.many;
   given = (given, a.given);
   since = Scans (map_of scan.records) ∷ a.since;
   begun = is ∙ ap (λ l. Scans (map_of scan.records) ∷ l) a.begun;
   stand = inl (refl, a.stand);
+  alone = λ only. is ∙ ap (λ l. Scans (map_of scan.records) ∷ l) (a.alone only);
 }
   where
     one-up : (accepted more n top : ℕ) → more ≡ min (accepted + 1) top → accepted ≡ min (0 + n) top → more ≡ min (0 + suc n) top
@@ -152,10 +156,10 @@ module _ (start : Start) (told old new : FolderTold) (tree : new.tree ≡ old.tr
   }))
 
   -- so far with what a scan adds
-  with-scan : (first seen later : List Command) (accepted refused accepted' refused' : ℕ) → ScansSoFar start told old first seen accepted refused
-      → Extends later seen → AreAccepted told new first later accepted' → (0 < refused' → CanRefuse start told new later)
-      → ScansSoFar start told new first later accepted' refused'
-  with-scan first seen later accepted refused accepted' refused' s more stands cause = record {
+  with-scan : (passes seats : ℕ) (first seen later : List Command) (accepted refused accepted' refused' : ℕ)
+      → ScansSoFar start passes seats told old first seen accepted refused → Extends later seen → AreAccepted passes seats told new first later accepted'
+      → (0 < refused' → CanRefuse start told new later) → ScansSoFar start passes seats told new first later accepted' refused'
+  with-scan passes seats first seen later accepted refused accepted' refused' s more stands cause = record {
     begun = begun-through later seen first more s.begun;
     stands = stands;
     cause = cause;
@@ -172,7 +176,7 @@ raised-some n = le-min (omega arith) (omega arith)
 module _ (start : Start) (told : FolderTold) (first : List Command) (before now : ℕ) (old new : Across) (a b : Counts)
     (tree : new.folder.tree ≡ old.folder.tree) (contents : new.folder.contents ≡ old.folder.contents)
     (entries : old.folder.entry_faults ≤ new.folder.entry_faults) (files : old.folder.file_faults ≤ new.folder.file_faults)
-    (s : ScansSoFar start told old.folder first old.seat.seen a.accepted a.refused) where
+    (s : ScansSoFar start old.seat.passes old.seat.seats told old.folder first old.seat.seen a.accepted a.refused) where
   same-cause : Extends new.seat.seen old.seat.seen → b.refused ≡ a.refused → 0 < b.refused → CanRefuse start told new.folder new.seat.seen
   same-cause more same some =
       still-refuses start told old.folder new.folder tree contents entries files s.tree s.contents s.entry_faults s.file_faults
@@ -183,36 +187,38 @@ module _ (start : Start) (told : FolderTold) (first : List Command) (before now 
       gives-later start told old.folder new.folder tree contents entries files s.tree s.contents s.entry_faults s.file_faults scan given
 
   so-far-accepted : Accepts start before now old new → b ≡ record a { accepted = raised a.accepted 1 }
-      → ScansSoFar start told new.folder first new.seat.seen b.accepted b.refused
+      → ScansSoFar start old.seat.passes old.seat.seats told new.folder first new.seat.seen b.accepted b.refused
   so-far-accepted c is =
       let seen : new.seat.seen ≡ Scans (map_of c.scan.records) ∷ c.found = ap (λ (t : SeatTold). t.seen) c.turn.seat in
       let more : Extends new.seat.seen old.seat.seen =
       (Scans (map_of c.scan.records) ∷ c.turn.begun.0, seen ∙ ap (λ l. Scans (map_of c.scan.records) ∷ l) c.turn.begun.1) in
       let begun : Extends c.found old.seat.seen = c.turn.begun in
       with-scan start told old.folder new.folder tree contents entries files s.tree s.contents s.entry_faults s.file_faults
-      first old.seat.seen new.seat.seen a.accepted a.refused b.accepted b.refused s more
-      (accepted-once told new.folder first c.found new.seat.seen a.accepted b.accepted c.scan (ap (λ (k : Counts). k.accepted) is) seen
+      old.seat.passes old.seat.seats first old.seat.seen new.seat.seen a.accepted a.refused b.accepted b.refused s more
+      (accepted-once old.seat.passes old.seat.seats told new.folder first c.found new.seat.seen a.accepted b.accepted c.scan (ap (λ (k : Counts). k.accepted) is) seen
       (gives-told start told old.folder new.folder tree contents entries files s.tree s.contents s.entry_faults s.file_faults c.scan c.given)
-      (accepted-later told old.folder new.folder first old.seat.seen c.found a.accepted still-gives begun s.stands))
+      (accepted-later old.seat.passes old.seat.passes old.seat.seats told old.folder new.folder first old.seat.seen c.found a.accepted still-gives refl
+      c.turn.alone begun s.stands))
       (same-cause more (ap (λ (k : Counts). k.refused) is))
 
-  -- it begins with what was seen, and no scan is counted as accepted
-  so-far-more : Extends new.seat.seen old.seat.seen → b.accepted ≡ a.accepted → (0 < b.refused → CanRefuse start told new.folder new.seat.seen)
-      → ScansSoFar start told new.folder first new.seat.seen b.accepted b.refused
-  so-far-more more accepted cause =
+  -- it begins with what was seen, and is just that where no other seat is out, and no scan is counted as accepted
+  so-far-more : (old.seat.passes ≡ old.seat.seats → new.seat.seen ≡ old.seat.seen) → Extends new.seat.seen old.seat.seen → b.accepted ≡ a.accepted → (0 < b.refused → CanRefuse start told new.folder new.seat.seen)
+      → ScansSoFar start old.seat.passes old.seat.seats told new.folder first new.seat.seen b.accepted b.refused
+  so-far-more only more accepted cause =
       with-scan start told old.folder new.folder tree contents entries files s.tree s.contents s.entry_faults s.file_faults
-      first old.seat.seen new.seat.seen a.accepted a.refused b.accepted b.refused s more
-      (subst (λ n. AreAccepted told new.folder first new.seat.seen n) (sym accepted)
-      (accepted-later told old.folder new.folder first old.seat.seen new.seat.seen a.accepted still-gives more s.stands)) cause
+      old.seat.passes old.seat.seats first old.seat.seen new.seat.seen a.accepted a.refused b.accepted b.refused s more
+      (subst (λ n. AreAccepted old.seat.passes old.seat.seats told new.folder first new.seat.seen n) (sym accepted)
+      (accepted-later old.seat.passes old.seat.passes old.seat.seats told old.folder new.folder first old.seat.seen new.seat.seen a.accepted still-gives refl
+      only more s.stands)) cause
 
   -- what was seen is the same
   so-far-same : new.seat.seen ≡ old.seat.seen → b.accepted ≡ a.accepted → (0 < b.refused → CanRefuse start told new.folder new.seat.seen)
-      → ScansSoFar start told new.folder first new.seat.seen b.accepted b.refused
-  so-far-same seen accepted cause = so-far-more (extends-itself old.seat.seen new.seat.seen seen) accepted cause
+      → ScansSoFar start old.seat.passes old.seat.seats told new.folder first new.seat.seen b.accepted b.refused
+  so-far-same seen accepted cause = so-far-more (λ only. seen) (extends-itself old.seat.seen new.seat.seen seen) accepted cause
 
   pub one-more : {A : Type 0} (result : Result A ScanRefused) → ScansOnce start result before now old new
       → OnOk result (b ≡ record a { accepted = raised a.accepted 1 }) → IfErr result (λ refusal. b ≡ counted a refusal)
-      → ScansSoFar start told new.folder first new.seat.seen b.accepted b.refused
+      → ScansSoFar start old.seat.passes old.seat.seats told new.folder first new.seat.seen b.accepted b.refused
   one-more (Ok value) c is none = so-far-accepted c is
   one-more (Err (refused.Scan error)) c none is =
       so-far-same (ap (λ (t : SeatTold). t.seen) c.1.0) (ap (λ (k : Counts). k.accepted) is)
@@ -220,7 +226,7 @@ module _ (start : Start) (told : FolderTold) (first : List Command) (before now 
       new.seat.seen error c.0)
   one-more (Err (refused.Apply error)) c none is =
       let seen : new.seat.seen ≡ c.found = ap (λ (t : SeatTold). t.seen) c.turn.seat in
-      so-far-more (subst (λ l. Extends l old.seat.seen) (sym seen) c.turn.begun) (ap (λ (k : Counts). k.accepted) is)
+      so-far-more (λ only. seen ∙ c.turn.alone only) (subst (λ l. Extends l old.seat.seen) (sym seen) c.turn.begun) (ap (λ (k : Counts). k.accepted) is)
       (λ some. server-refuses start told old.folder new.folder tree contents entries files s.tree s.contents s.entry_faults s.file_faults
       new.seat.seen c.found c.scan error c.given c.refused (extends-itself c.found new.seat.seen seen))
   one-more (Err refused.Mem) (inl none-taken) none is =
@@ -229,7 +235,7 @@ module _ (start : Start) (told : FolderTold) (first : List Command) (before now 
   one-more (Err refused.Mem) (inr taken) none is =
       let seen : new.seat.seen ≡ taken.0 = ap (λ (t : SeatTold). t.seen) taken.1.seat in
       let more : Extends new.seat.seen old.seat.seen = subst (λ l. Extends l old.seat.seen) (sym seen) taken.1.begun in
-      so-far-more more (ap (λ (k : Counts). k.accepted) is) (same-cause more (ap (λ (k : Counts). k.refused) is))
+      so-far-more (λ only. seen ∙ taken.1.alone only) more (ap (λ (k : Counts). k.accepted) is) (same-cause more (ap (λ (k : Counts). k.refused) is))
 
 -- each scan is counted
 pub some-counted : {A : Type 0} (result : Result A ScanRefused) (a b : Counts) → OnOk result (b ≡ record a { accepted = raised a.accepted 1 })
@@ -249,10 +255,10 @@ some-counted (Err refused.Mem) a b none is =
 
 -- ---- before the first scan and after the last
 
-pub so-far-none : (start : Start) (told : FolderTold) (first : List Command) → ScansSoFar start told told first first 0 0
-so-far-none start told first = record {
+pub so-far-none : (start : Start) (passes seats : ℕ) (told : FolderTold) (first : List Command) → ScansSoFar start passes seats told told first first 0 0
+so-far-none start passes seats told first = record {
   begun = ([], refl);
-  stands = record { scans = []; many = none; given = tt; since = []; begun = refl; stand = tt };
+  stands = record { scans = []; many = none; given = tt; since = []; begun = refl; stand = tt; alone = λ only. refl };
   cause = λ some. absurd (omega (arith, some));
   tree = refl;
   contents = refl;
@@ -263,13 +269,14 @@ so-far-none start told first = record {
     none : 0 ≡ raised 0 0
     none = omega arith
 
--- so far with what was seen later
-pub so-far-later : (start : Start) (told new : FolderTold) (first seen later : List Command) (accepted refused : ℕ)
-    → ScansSoFar start told new first seen accepted refused → Extends later seen → ScansSoFar start told new first later accepted refused
-so-far-later start told new first seen later accepted refused s more =
+-- so far with what was seen later, which is nothing where no other seat is out
+pub so-far-later : (start : Start) (p q seats : ℕ) (told new : FolderTold) (first seen later : List Command) (accepted refused : ℕ)
+    → q ≡ p → (p ≡ seats → later ≡ seen) → ScansSoFar start p seats told new first seen accepted refused → Extends later seen
+    → ScansSoFar start q seats told new first later accepted refused
+so-far-later start p q seats told new first seen later accepted refused passes same s more =
     record {
       begun = begun-through later seen first more s.begun;
-      stands = accepted-later told new new first seen later accepted (λ scan given. given) more s.stands;
+      stands = accepted-later p q seats told new new first seen later accepted (λ scan given. given) passes same more s.stands;
       cause = λ some. later-refuses (s.cause some);
       tree = s.tree;
       contents = s.contents;
@@ -288,10 +295,10 @@ so-far-later start told new first seen later accepted refused s more =
       refused = u.refused;
     }))
 
-pub ends-scanning : (start : Start) (told new : FolderTold) (first seen : List Command) (accepted refused memory : ℕ)
-    → ScansSoFar start told new first seen accepted refused → IsTrue (is_stopped seen) → 1 ≤ accepted + refused + memory
-    → EndsScanning start told new first seen accepted refused memory
-ends-scanning start told new first seen accepted refused memory s stopped some = record {
+pub ends-scanning : (start : Start) (passes seats : ℕ) (told new : FolderTold) (first seen : List Command) (accepted refused memory : ℕ)
+    → ScansSoFar start passes seats told new first seen accepted refused → IsTrue (is_stopped seen) → 1 ≤ accepted + refused + memory
+    → EndsScanning start passes seats told new first seen accepted refused memory
+ends-scanning start passes seats told new first seen accepted refused memory s stopped some = record {
   begun = s.begun;
   stands = s.stands;
   stopped = stopped;

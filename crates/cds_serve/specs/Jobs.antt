@@ -1,5 +1,5 @@
 -- What the three jobs of a server that listens answer.
-use Rattle.std.specs.Prelude.{◌≡◌, ◌≢◌, ◌⊎◌, ◌+◌, ◌<◌, ◌≤◌, ℕ, IsTrue, List, [], ◌∷◌, ◌++◌, length, ⊤}
+use Rattle.std.specs.Prelude.{◌≡◌, ◌≢◌, ◌⊎◌, ◌+◌, ◌<◌, ◌≤◌, ℕ, IsTrue, List, [], ◌∷◌, ◌++◌, length, map, ⊤}
 use Rattle.std.specs.List.{AllByRecursion}
 use Rattle.cds_base.specs.Entries.{FolderTold}
 use Rattle.cds_base.specs.Outside.{raised, Rose}
@@ -19,7 +19,7 @@ pub record DoorTold : Type 0 where
   pub connections : ℕ
   pub faults : ℕ
 
--- It served as many connections as its door gave, whose count stops at the last value of a u64: its share, or fewer where the door failed
+-- It answers how many connections its door gave, whose count stops at the last value of a u64: its share, or fewer where the door failed
 pub record EndsWorking (share served : ℕ) (old new : DoorTold) : Type 0 where
   pub gave : raised new.connections 0 ≡ raised old.connections served
   pub no_more : served ≤ share
@@ -28,7 +28,7 @@ pub record EndsWorking (share served : ℕ) (old new : DoorTold) : Type 0 where
 
 -- ---- the scanner
 
--- the maps of what scans gave stand among commands, in this order and each at a place of its own, the newest first
+-- the maps of what scans gave stand among commands, the newest first and each at a place of its own
 abbrev pub StandAmong : List Scan → List Command → Type 0
 StandAmong [] commands = ⊤
 StandAmong (scan ∷ scans) [] = ⊥
@@ -36,14 +36,15 @@ StandAmong (scan ∷ scans) (command ∷ older) =
     ((command ≡ Scans (map_of scan.records)) × StandAmong scans older) ⊎ StandAmong (scan ∷ scans) older
 
 -- So many scans of the folder were accepted, and the count stops at the last value of a u64: the folder may give each of them, and their maps stand
--- in order among what the seat has seen since the beginning
-pub record AreAccepted (old new : FolderTold) (before seen : List Command) (accepted : ℕ) : Type 0 where
+-- among what the seat has seen since the beginning, each at a place of its own. Of a seat that is the only one they are all that it has seen since
+pub record AreAccepted (passes seats : ℕ) (old new : FolderTold) (before seen : List Command) (accepted : ℕ) : Type 0 where
   pub scans : List Scan
   pub many : accepted ≡ raised 0 (length scans)
   pub given : AllByRecursion (MayGive old new) scans
   pub since : List Command
   pub begun : seen ≡ since ++ before
   pub stand : StandAmong scans since
+  pub alone : passes ≡ seats → seen ≡ map (λ (scan : Scan). Scans (map_of scan.records)) scans ++ before
 
 -- a server that stood for the commands refuses what a scan of the folder may give
 pub record IsUnacceptable (start : Start) (old new : FolderTold) (seen : List Command) : Type 0 where
@@ -61,32 +62,38 @@ CanRefuse start old new seen =
     ⊎ (((error : ScanError) × IsStop old.tree old.contents error)
     ⊎ IsUnacceptable start old new seen)
 
--- So far: each scan that it counts as accepted is one of its folder and stands in what its seat has seen, and each that it counts as refused has a
--- cause. The folder tells the same of its tree, and its counts of faults never fall
-pub record ScansSoFar (start : Start) (old new : FolderTold) (before seen : List Command) (accepted refused : ℕ) : Type 0 where
+-- So far: each scan that it counts as accepted is one of its folder and stands in what its seat has seen, and where it counts one as refused, there
+-- is a cause. The folder tells the same of its tree, and its counts of faults never fall
+pub record ScansSoFar (start : Start) (passes seats : ℕ) (old new : FolderTold) (before seen : List Command) (accepted refused : ℕ) : Type 0 where
   pub begun : Extends seen before
-  pub stands : AreAccepted old new before seen accepted
+  pub stands : AreAccepted passes seats old new before seen accepted
   pub cause : 0 < refused → CanRefuse start old new seen
   pub tree : new.tree ≡ old.tree
   pub contents : new.contents ≡ old.contents
   pub entry_faults : old.entry_faults ≤ new.entry_faults
   pub file_faults : old.file_faults ≤ new.file_faults
 
--- The scanner ended: it had scanned at least once and seen the stop, and each scan that it counts as accepted is one of its folder and stands in
--- what its seat has seen
-pub record EndsScanning (start : Start) (old new : FolderTold) (before seen : List Command) (accepted refused memory : ℕ) : Type 0 where
+-- The scanner ended: it counts at least one scan and has seen the stop, each scan that it counts as accepted is one of its folder and stands in
+-- what its seat has seen, and where it counts one as refused, there is a cause. Where its seat is the only one, it has added nothing but the scans
+-- that it counts as accepted
+pub record EndsScanning (start : Start) (passes seats : ℕ) (old new : FolderTold) (before seen : List Command) (accepted refused memory : ℕ) : Type 0 where
   pub begun : Extends seen before
-  pub stands : AreAccepted old new before seen accepted
+  pub stands : AreAccepted passes seats old new before seen accepted
   pub stopped : IsTrue (is_stopped seen)
   pub some : 1 ≤ accepted + refused + memory
   pub cause : 0 < refused → CanRefuse start old new seen
 
 -- ---- the notifier
 
--- The notifier ended: its last tick found a server that was stopped
-pub record EndsNotifying (before seen : List Command) : Type 0 where
+-- ticks and nothing else were added to a list
+abbrev pub AddsTicks : List Command → List Command → Type 0
+AddsTicks before seen = (moments : List ℕ) × (seen ≡ map Ticks moments ++ before)
+
+-- The notifier ended: its last tick found a server that was stopped. Where its seat is the only one, it has added nothing but ticks
+pub record EndsNotifying (passes seats : ℕ) (before seen : List Command) : Type 0 where
   pub moment : ℕ
   pub found : List Command
   pub last : seen ≡ Ticks moment ∷ found
   pub begun : Extends found before
   pub stopped : IsTrue (is_stopped found)
+  pub alone : passes ≡ seats → AddsTicks before seen

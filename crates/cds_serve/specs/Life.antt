@@ -24,7 +24,7 @@ pub record Counts : Type 0 where
   pub refused : ℕ
   pub memory : ℕ
 
--- counts of a scanner: it scanned at least once, and each stops at the last value of a u64
+-- counts of a scanner: at least one scan is counted, and each stops at the last value of a u64
 pub record AreCounts (counts : Counts) : Type 0 where
   pub some : 1 ≤ counts.accepted + counts.refused + counts.memory
   pub accepted : counts.accepted < 2 ^ 64

@@ -39,14 +39,14 @@ impl<
     G: Gate + Send + Drop + 'static,
 > Job for Notifier<R, T, L, G> {
     ghost use Rattle.std.specs.Prelude.{◌≡◌};
-    ghost use Rattle.cds_turn.specs.Turn.{passes_of, seen_by};
+    ghost use Rattle.cds_turn.specs.Turn.{passes_of, seats_of, seen_by};
     ghost use Rattle.cds_serve.specs.Jobs.{EndsNotifying};
 
     type Out = Notified;
 
     ghost answers = { λ notifier notified. IsSeatOf (arc_value notifier.turn) notified.seat
         × (passes_of notified.seat ≡ passes_of notifier.seat)
-        × EndsNotifying (seen_by notifier.seat) (seen_by notified.seat) };
+        × EndsNotifying (passes_of notifier.seat) (seats_of (arc_value notifier.turn)) (seen_by notifier.seat) (seen_by notified.seat) };
 
     fn run(self) -> Notified {
         let Notifier {

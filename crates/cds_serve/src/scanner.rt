@@ -6,7 +6,7 @@ ghost use Rattle.cds_base.specs.Entries.{FolderTold};
 ghost use Rattle.cds_base.specs.Outside.{raised};
 ghost use Rattle.cds_commands.specs.Commands.{Command, is_stopped};
 ghost use Rattle.cds_turn.specs.Line.{Extends};
-ghost use Rattle.cds_turn.specs.Turn.{IsSeatOf, passes_of, seen_by, start_of};
+ghost use Rattle.cds_turn.specs.Turn.{IsSeatOf, passes_of, seats_of, seen_by, start_of};
 ghost use Rattle.cds_serve.specs.Counted.{counted};
 ghost use Rattle.cds_serve.specs.Jobs.{EndsScanning, ScansSoFar};
 
@@ -85,7 +85,7 @@ impl<
 
     ghost answers = { λ scanner scanned. IsSeatOf (arc_value scanner.turn) scanned.seat
         × (passes_of scanned.seat ≡ passes_of scanner.seat)
-        × EndsScanning (start_of (arc_value scanner.turn) scanner.seat)
+        × EndsScanning (start_of (arc_value scanner.turn) scanner.seat) (passes_of scanner.seat) (seats_of (arc_value scanner.turn))
         (record {
           tree = F.tree scanner.folder;
           contents = F.contents scanner.folder;
@@ -135,7 +135,7 @@ fn scan_until_stopped<R: Wait, F: Folder, T: Clock>(
     requires { IsSeatOf turn.now seat.old }
     ensures seat { IsSeatOf turn.now seat.new }
     ensures passes { passes_of seat.new ≡ passes_of seat.old }
-    ensures ends { EndsScanning (start_of turn.now seat.old)
+    ensures ends { EndsScanning (start_of turn.now seat.old) (passes_of seat.old) (seats_of turn.now)
         (record {
           tree = F.tree folder.old;
           contents = F.contents folder.old;
@@ -188,7 +188,7 @@ fn scan_and_count<R: Wait, F: Folder, T: Clock>(
     ensures seat { IsSeatOf turn.now seat.new }
     ensures passes { passes_of seat.new ≡ passes_of seat.old }
     ensures so_far { (told : FolderTold) (before : List Command)
-        → ScansSoFar (start_of turn.now seat.old) told
+        → ScansSoFar (start_of turn.now seat.old) (passes_of seat.old) (seats_of turn.now) told
         (record {
           tree = F.tree folder.old;
           contents = F.contents folder.old;
@@ -200,7 +200,7 @@ fn scan_and_count<R: Wait, F: Folder, T: Clock>(
           file_faults = F.file_faults folder.old;
         })
         before (seen_by seat.old) counts.old.accepted counts.old.refused
-        → ScansSoFar (start_of turn.now seat.old) told
+        → ScansSoFar (start_of turn.now seat.old) (passes_of seat.old) (seats_of turn.now) told
         (record {
           tree = F.tree folder.new;
           contents = F.contents folder.new;
@@ -249,6 +249,7 @@ fn wait_for_scan<R: Wait, T: Clock>(
     ensures seat { IsSeatOf turn.now seat.new }
     ensures passes { passes_of seat.new ≡ passes_of seat.old }
     ensures begun { Extends (seen_by seat.new) (seen_by seat.old) }
+    ensures alone { passes_of seat.old ≡ seats_of turn.now → seen_by seat.new ≡ seen_by seat.old }
     ensures stopped { IsTrue result → IsTrue (is_stopped (seen_by seat.new)) }
 {
     let ended = ask_moment(clock, last);

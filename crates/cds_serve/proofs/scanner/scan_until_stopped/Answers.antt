@@ -1,12 +1,12 @@
 -- Scan after scan, until the server was stopped.
-use Rattle.std.proofs.Common.{refl, ◌∙◌}
+use Rattle.std.proofs.Common.{refl, sym, ◌∙◌}
 use Rattle.cds_base.specs.Entries.{FolderTold}
 use Rattle.cds_turn.specs.Turn.{seen_by, start_of}
 use Rattle.cds_serve.proofs.Rounds.{ends-scanning, so-far-later, so-far-none}
 use Rattle.cds_serve.proofs.scanner.scan_until_stopped.Goals as goal
 
 pub scans-init : goal.scans-init
-scans-init g c = record { seat = c.requires; passes = refl; so_far = so-far-none _ _ _ }
+scans-init g c = record { seat = c.requires; passes = refl; so_far = so-far-none _ _ _ _ _ }
 
 pub scans-preserved : goal.scans-preserved
 scans-preserved g c =
@@ -18,8 +18,8 @@ scans-preserved g c =
     record {
       seat = later.seat;
       passes = later.passes ∙ one.passes ∙ c.scans.invariant.passes;
-      so_far = so-far-later _ told new first (seen_by c.scan_and_count.new.seat) (seen_by c.wait_for_scan.new.seat)
-          c.scan_and_count.new.counts.accepted c.scan_and_count.new.counts.refused (one.so_far told first c.scans.invariant.so_far) later.begun;
+      so_far = so-far-later _ _ _ _ told new first (seen_by c.scan_and_count.new.seat) (seen_by c.wait_for_scan.new.seat)
+          c.scan_and_count.new.counts.accepted c.scan_and_count.new.counts.refused (later.passes ∙ one.passes) (λ only. later.alone (one.passes ∙ only)) (one.so_far told first c.scans.invariant.so_far) later.begun;
     }
 
 pub returns-then-wait_for_scan-clause-passes : goal.returns-then-wait_for_scan-clause-passes
@@ -33,7 +33,7 @@ returns-then-wait_for_scan-clause-ends g c =
     let one = c.scan_and_count.ensures in
     let later = c.wait_for_scan.ensures in
     let last = c.scan_and_count.new.counts in
-    ends-scanning _ told new first (seen_by c.wait_for_scan.new.seat) last.accepted last.refused last.memory
-    (so-far-later _ told new first (seen_by c.scan_and_count.new.seat) (seen_by c.wait_for_scan.new.seat) last.accepted last.refused
-    (one.so_far told first c.scans.invariant.so_far) later.begun)
+    ends-scanning _ _ _ told new first (seen_by c.wait_for_scan.new.seat) last.accepted last.refused last.memory
+    (so-far-later _ _ _ _ told new first (seen_by c.scan_and_count.new.seat) (seen_by c.wait_for_scan.new.seat) last.accepted last.refused
+    (sym c.scans.invariant.passes) (λ only. later.alone (one.passes ∙ only)) (one.so_far told first c.scans.invariant.so_far) later.begun)
     (later.stopped c.if-wait_for_scan.true) one.some

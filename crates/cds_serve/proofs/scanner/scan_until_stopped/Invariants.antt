@@ -1,6 +1,6 @@
 -- So far each scan is counted, and stands in what the seat has seen where it was accepted.
 use Rattle.std.proofs.Common.{◌≡◌}
-use Rattle.cds_turn.specs.Turn.{IsSeatOf, passes_of, seen_by, start_of}
+use Rattle.cds_turn.specs.Turn.{IsSeatOf, passes_of, seats_of, seen_by, start_of}
 use Rattle.cds_serve.specs.Jobs.{ScansSoFar}
 use Rattle.cds_serve.proofs.scanner.scan_until_stopped.Given as goal
 
@@ -8,7 +8,7 @@ abbrev pub invariant-scans : goal.invariant-scans
 invariant-scans g l = record {
   seat : IsSeatOf l.turn l.seat;
   passes : passes_of l.seat ≡ passes_of l.initial.seat;
-  so_far : ScansSoFar (start_of l.turn l.seat)
+  so_far : ScansSoFar (start_of l.turn l.seat) (passes_of l.seat) (seats_of l.turn)
       (record {
         tree = g.F.Folder.tree l.initial.folder;
         contents = g.F.Folder.contents l.initial.folder;

@@ -5,7 +5,7 @@ use Rattle.cds_serve.proofs.Rounds.{read-later}
 use Rattle.cds_serve.proofs.scanner.wait_for_scan.Goals as goal
 
 pub looks-init : goal.looks-init
-looks-init g c = record { seat = c.requires; passes = refl; begun = ([], refl) }
+looks-init g c = record { seat = c.requires; passes = refl; begun = ([], refl); alone = λ only. refl }
 
 pub looks-preserved : goal.looks-preserved
 looks-preserved g c =
@@ -14,12 +14,18 @@ looks-preserved g c =
       seat = c.with.ensures.seat;
       passes = c.with.ensures.passes ∙ c.looks.invariant.passes;
       begun = read-later _ _ f.0 _ f.4 f.1 c.looks.invariant.begun;
+      alone = λ only. f.4 ∙ f.2 (c.looks.invariant.passes ∙ only) ∙ c.looks.invariant.alone only;
     }
 
 pub returns-then-with-clause-begun : goal.returns-then-with-clause-begun
 returns-then-with-clause-begun g c =
     let f = c.with.ensures.found in
     read-later _ _ f.0 _ f.4 f.1 c.looks.invariant.begun
+
+pub returns-then-with-clause-alone : goal.returns-then-with-clause-alone
+returns-then-with-clause-alone g c =
+    let f = c.with.ensures.found in
+    λ only. f.4 ∙ f.2 (c.looks.invariant.passes ∙ only) ∙ c.looks.invariant.alone only
 
 pub returns-then-with-clause-stopped : goal.returns-then-with-clause-stopped
 returns-then-with-clause-stopped g c =
@@ -30,3 +36,8 @@ pub returns-then-saturating_sub-ge-PAUSE-clause-begun : goal.returns-then-satura
 returns-then-saturating_sub-ge-PAUSE-clause-begun g c =
     let f = c.with.ensures.found in
     read-later _ _ f.0 _ f.4 f.1 c.looks.invariant.begun
+
+pub returns-then-saturating_sub-ge-PAUSE-clause-alone : goal.returns-then-saturating_sub-ge-PAUSE-clause-alone
+returns-then-saturating_sub-ge-PAUSE-clause-alone g c =
+    let f = c.with.ensures.found in
+    λ only. f.4 ∙ f.2 (c.looks.invariant.passes ∙ only) ∙ c.looks.invariant.alone only
