@@ -1,5 +1,5 @@
-//! Links over the system's connections. What a real peer gets and answers is trusted to be what the system says; that a link
-//! goes to near addresses alone is proved.
+//! Links over the system's connections. What a real peer gets and answers is trusted to be what the system says. That the
+//! address is near is the condition of `connect`, the one private call that connects; no clause of `exchange` says it.
 
 ghost use Rattle.std.specs.Prelude.{◌≡◌, ◌<◌, ◌≤◌, length, IfOk};
 ghost use Rattle.std.specs.Net.Socket.{socket_ip};
