@@ -16,3 +16,5 @@ mod life_tests;
 mod made;
 #[cfg(test)]
 mod note_tests;
+#[cfg(test)]
+mod sharing_tests;
