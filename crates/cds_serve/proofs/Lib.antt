@@ -7,6 +7,7 @@ pub mod Few
 pub mod Free
 pub mod Lives
 pub mod Looks
+pub mod Named
 pub mod Rounds
 pub mod Scans
 pub mod Sends

@@ -25,6 +25,7 @@ pub use connection::serve_one;
 pub use examples::{lives_are_written, requests_are_free};
 pub use life::serve;
 pub use looking::notify_once;
+pub use means::boot_words;
 pub use notifier::{Notified, Notifier};
 pub use scanner::{Scanned, Scanner};
 pub use scanning::{ScanRefused, scan_once};

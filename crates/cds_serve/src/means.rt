@@ -33,8 +33,9 @@ pub(crate) struct Means<D, T, L, F> {
     pub(crate) link: L,
 }
 
-/// The boot words of a server at a port: of the clock's first moment, or 0 where it fails, and of the port.
-fn boot_words<T: Clock>(clock: &mut T, port: u16) -> [u64; 2]
+/// The boot words of a server at a port, of which its names are made: of the moment that the clock gives, or of 0 where it
+/// fails, and of the port. `serve` takes them of a clock of which nothing was asked yet.
+pub fn boot_words<T: Clock>(clock: &mut T, port: u16) -> [u64; 2]
     ensures { AreBootWords port
         (record { last = T.last clock.old; gave = T.gave clock.old; faults = T.faults clock.old })
         (record { last = T.last clock.new; gave = T.gave clock.new; faults = T.faults clock.new }) result }
