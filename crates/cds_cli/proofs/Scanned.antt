@@ -188,7 +188,7 @@ rose-once old faults now (inr most) is = once old faults now (2 ^ 64 - 1) most i
 -- what a scan answered of a folder
 abbrev pub IsFound : FolderTold → Result Scan ScanError → Type 0
 IsFound folder (Ok scan) = IsScan folder.tree folder.contents scan × Covers (count_by (λ (file : RefusedFile). is_read_fault file.error) scan.refused) 0 folder.file_faults
-IsFound folder (Err error) = IsRefused folder.tree folder.contents 0 folder.entry_faults error
+IsFound folder (Err error) = IsRefused folder.tree folder.contents 0 folder.entry_faults 0 folder.file_faults error
 
 whole : (before after : Option (List FolderTold)) (folder : FolderTold) (scan : Scan) → Returns before after folder → IsFound folder (Ok scan) →
     IsOwed before after (scan_ending scan)
@@ -199,7 +199,7 @@ whole before after folder scan back is = record {
 }
 
 stopped : (before after : Option (List FolderTold)) (folder : FolderTold) (error : ScanError) → Returns before after folder →
-    IsStop folder.tree folder.contents error → IsOwed before after limit_ending
+    IsStop folder.tree folder.contents 0 folder.file_faults error → IsOwed before after limit_ending
 stopped before after folder error back is = record {
   folder = folder;
   returned = back;
@@ -245,21 +245,22 @@ fault-rose folder found old now is failed rises = rose-once old folder.entry_fau
 
 is-found : (folder : FolderTold) (found : Result Scan ScanError) (tree : Option (List Entry)) (contents : Option Contents) (entry_faults file_faults : ℕ) →
     folder.tree ≡ tree → folder.contents ≡ contents → entry_faults ≡ 0 → file_faults ≡ 0 →
-    IfOk found (λ scan. IsScan tree contents scan) → IfErr found (λ e. IsRefused tree contents entry_faults folder.entry_faults e) →
+    IfOk found (λ scan. IsScan tree contents scan) → IfErr found (λ e. IsRefused tree contents entry_faults folder.entry_faults file_faults folder.file_faults e) →
     IfOk found (λ scan. Covers (count_by (λ (file : RefusedFile). is_read_fault file.error) scan.refused) file_faults folder.file_faults) → IsFound folder found
 is-found folder (Ok scan) tree contents entry_faults file_faults same_tree same_contents no_entry_faults no_file_faults is refused covers = (
   subst (λ t. IsScan t folder.contents scan) (sym same_tree) (subst (λ c. IsScan tree c scan) (sym same_contents) is),
   subst (λ n. Covers (count_by (λ (file : RefusedFile). is_read_fault file.error) scan.refused) n folder.file_faults) no_file_faults covers,
 )
 is-found folder (Err error) tree contents entry_faults file_faults same_tree same_contents no_entry_faults no_file_faults is refused covers =
-    subst (λ t. IsRefused t folder.contents 0 folder.entry_faults error) (sym same_tree)
-    (subst (λ c. IsRefused tree c 0 folder.entry_faults error) (sym same_contents)
-    (subst (λ n. IsRefused tree contents n folder.entry_faults error) no_entry_faults refused))
+    subst (λ t. IsRefused t folder.contents 0 folder.entry_faults 0 folder.file_faults error) (sym same_tree)
+    (subst (λ c. IsRefused tree c 0 folder.entry_faults 0 folder.file_faults error) (sym same_contents)
+    (subst (λ n. IsRefused tree contents n folder.entry_faults 0 folder.file_faults error) no_entry_faults
+    (subst (λ n. IsRefused tree contents entry_faults folder.entry_faults n folder.file_faults error) no_file_faults refused)))
 
 pub scan_ends : (before after : Option (List FolderTold)) (folder : FolderTold) (found : Result Scan ScanError) (status : ℕ)
     (tree : Option (List Entry)) (contents : Option Contents) (entry_faults file_faults : ℕ) → Returns before after folder →
     folder.tree ≡ tree → folder.contents ≡ contents → entry_faults ≡ 0 → file_faults ≡ 0 →
-    IfOk found (λ scan. IsScan tree contents scan) → IfErr found (λ e. IsRefused tree contents entry_faults folder.entry_faults e) →
+    IfOk found (λ scan. IsScan tree contents scan) → IfErr found (λ e. IsRefused tree contents entry_faults folder.entry_faults file_faults folder.file_faults e) →
     IfOk found (λ scan. Covers (count_by (λ (file : RefusedFile). is_read_fault file.error) scan.refused) file_faults folder.file_faults) →
     EndsFound found status → EndsScan before after status
 scan_ends before after folder found status tree contents entry_faults file_faults back same_tree same_contents no_entry_faults no_file_faults is refused covers ends =
@@ -269,7 +270,7 @@ scan_ends before after folder found status tree contents entry_faults file_fault
 pub scan_writes : (before after : Option (List FolderTold)) (folder : FolderTold) (found : Result Scan ScanError) (status : ℕ)
     (tree : Option (List Entry)) (contents : Option Contents) (entry_faults file_faults : ℕ) (held : List ℕ) (holds : Option (List ℕ)) →
     Returns before after folder → folder.tree ≡ tree → folder.contents ≡ contents → entry_faults ≡ 0 → file_faults ≡ 0 →
-    IfOk found (λ scan. IsScan tree contents scan) → IfErr found (λ e. IsRefused tree contents entry_faults folder.entry_faults e) →
+    IfOk found (λ scan. IsScan tree contents scan) → IfErr found (λ e. IsRefused tree contents entry_faults folder.entry_faults file_faults folder.file_faults e) →
     IfOk found (λ scan. Covers (count_by (λ (file : RefusedFile). is_read_fault file.error) scan.refused) file_faults folder.file_faults) →
     EndsFound found status → WritesFound found status held holds → WritesScan before after status held holds
 scan_writes before after folder found status tree contents entry_faults file_faults held holds back same_tree same_contents no_entry_faults no_file_faults is refused covers ends writes =

@@ -41,10 +41,11 @@ pub record IsWhole (folder : FolderTold) (ending : Ending) : Type 0 where
   pub unread : Covers (count_by (λ (file : RefusedFile). is_read_fault file.error) scan.refused) 0 folder.file_faults
   pub owed : ending ≡ scan_ending scan
 
--- a scan stopped at an entry: a path that no object may have, an object or an entry too many
+-- a scan stopped at an entry: a path that no object may have, an object or an entry too many. No more files count as not read until there than
+-- the folder counted faults of files
 pub record IsStopped (folder : FolderTold) (ending : Ending) : Type 0 where
   pub error : ScanError
-  pub stop : IsStop folder.tree folder.contents error
+  pub stop : IsStop folder.tree folder.contents 0 folder.file_faults error
   pub owed : ending ≡ limit_ending
 
 -- a folder came back to the outside, which tells what came back

@@ -19,8 +19,8 @@ use Rattle.cds_scan.specs.declared.scanned.RefusedFile.{RefusedFile}
 use Rattle.cds_scan.specs.Outcomes.{AreOutcomes, IsOutcome, Outcome, Kept, Refused, Passed, kept_of, records_of, refused_of, refusals_of}
 use Rattle.cds_scan.specs.Found.{Adds, FoundState, Refusals, paired, put_refusal, refusals_from}
 use Rattle.cds_scan.specs.Reading.{FaultRose}
-use Rattle.cds_scan.specs.Scanning.{Covers, is_read_fault}
-use Rattle.cds_scan.specs.Walking.{OutcomeRose, Reached, TakesEntry, faults_in}
+use Rattle.cds_scan.specs.Scanning.{Covers, faults_in, is_read_fault}
+use Rattle.cds_scan.specs.Walking.{OutcomeRose, Reached, TakesEntry}
 
 outcomes_more : (contents : Option Contents) (es : List Entry) (os : List Outcome) (e : Entry) (o : Outcome) → AreOutcomes contents es os → IsOutcome contents e o → AreOutcomes contents (es ++ e ∷ []) (os ++ o ∷ [])
 outcomes_more contents [] [] e o all is = (is, tt)

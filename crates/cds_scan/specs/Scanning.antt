@@ -1,5 +1,6 @@
 -- What a scan of a folder answers.
 use Rattle.std.specs.Prelude.{◌≡◌, ◌+◌, ◌-◌, ◌^◌, ◌<◌, ◌≤◌, ◌⊎◌, ℕ, zero, suc, ⊤, Bool, true, false, IsTrue, List, [], ◌∷◌, ◌++◌, length, Option, Err}
+use Rattle.std.specs.List.{count_by}
 use Rattle.cds_base.specs.declared.folder.Entry.{Entry}
 use Rattle.cds_base.specs.declared.folder.Entry.TheVariants.{Folder, File, End}
 use Rattle.cds_base.specs.Entries.{Contents, Told, is_tree}
@@ -13,7 +14,20 @@ use Rattle.cds_scan.specs.declared.scanned.Scan.{Scan}
 use Rattle.cds_scan.specs.declared.error.ScanError.{ScanError}
 use Rattle.cds_scan.specs.declared.error.ScanError.TheVariants.{FolderFault, TooDeep, Full, TooMany, Mem}
 use Rattle.cds_scan.specs.Outcomes.{AreOutcomes, IsOutcome, Kept, Outcome, records_of, refusals_of}
-use Rattle.cds_scan.specs.Found.{paired, placed, refusals_from}
+use Rattle.cds_scan.specs.Found.{Refusals, paired, placed, refusals_from}
+
+-- whether a file could not be read
+abbrev pub is_read_fault : FlacError → Bool
+is_read_fault ReadFault = true
+is_read_fault _ = false
+
+-- a count rose by so many at least, or it stands at the last value of a u64
+abbrev pub Covers : ℕ → ℕ → ℕ → Type 0
+Covers n old new = (old + n ≤ new) ⊎ (2 ^ 64 - 1 ≤ new)
+
+-- how many of the refused files could not be read
+abbrev pub faults_in : Refusals → ℕ
+faults_in refusals = count_by (λ entry. is_read_fault entry.1) refusals
 
 -- a scan got through these entries: each had its outcome, and there were not too many of them, nor too many records
 pub record GotThrough (contents : Option Contents) (seen : List Entry) (outcomes : List Outcome) : Type 0 where
@@ -55,31 +69,25 @@ StopsAt TooMany contents seen outcomes at = length seen ≡ 1048576
 StopsAt FolderFault contents seen outcomes at = ⊥
 StopsAt Mem contents seen outcomes at = ⊥
 
--- a scan stopped at the first entry that is a cause
-pub record IsStop (tree : Option (List Entry)) (contents : Option Contents) (error : ScanError) : Type 0 where
+-- A scan stopped at the first entry that is a cause. No more files until there were left out as not read than the folder's count of faults of
+-- files rose by
+pub record IsStop (tree : Option (List Entry)) (contents : Option Contents) (before now : ℕ) (error : ScanError) : Type 0 where
   pub seen : List Entry
   pub outcomes : List Outcome
   pub at : Entry
   pub told : Told tree (λ entries. (rest : List Entry) × (entries ≡ seen ++ at ∷ rest))
   pub through : GotThrough contents seen outcomes
+  pub unread : Covers (faults_in (refusals_from [] (refusals_of outcomes))) before now
   pub stops : StopsAt error contents seen outcomes at
 
--- a scan is refused for one of its entries, for a fault of its folder, whose count rose, or for want of memory
-abbrev pub IsRefused : Option (List Entry) → Option Contents → ℕ → ℕ → ScanError → Type 0
-IsRefused tree contents old new FolderFault = Rose old new
-IsRefused tree contents old new Mem = ⊤
-IsRefused tree contents old new (TooDeep bytes) = IsStop tree contents (TooDeep bytes)
-IsRefused tree contents old new (Full objects) = IsStop tree contents (Full objects)
-IsRefused tree contents old new TooMany = IsStop tree contents TooMany
-
--- whether a file could not be read
-abbrev pub is_read_fault : FlacError → Bool
-is_read_fault ReadFault = true
-is_read_fault _ = false
-
--- a count rose by so many at least, or it stands at the last value of a u64
-abbrev pub Covers : ℕ → ℕ → ℕ → Type 0
-Covers n old new = (old + n ≤ new) ⊎ (2 ^ 64 - 1 ≤ new)
+-- a scan is refused for one of its entries, for a fault of its folder, whose count rose, or for want of memory. The counts are those of faults of
+-- entries, and those of faults of files
+abbrev pub IsRefused : Option (List Entry) → Option Contents → ℕ → ℕ → ℕ → ℕ → ScanError → Type 0
+IsRefused tree contents old new before now FolderFault = Rose old new
+IsRefused tree contents old new before now Mem = ⊤
+IsRefused tree contents old new before now (TooDeep bytes) = IsStop tree contents before now (TooDeep bytes)
+IsRefused tree contents old new before now (Full objects) = IsStop tree contents before now (Full objects)
+IsRefused tree contents old new before now TooMany = IsStop tree contents before now TooMany
 
 -- a count after it rose by one so many times
 abbrev pub climbed : ℕ → ℕ → ℕ

@@ -1,6 +1,6 @@
 -- The steps of a scan over the entries of a folder.
 use Rattle.std.specs.Prelude.{◌≡◌, ◌≤◌, ℕ, ⊤, Bool, true, false, IsTrue, List, [], ◌∷◌, ◌++◌, length, Option, Result, Ok, Err}
-use Rattle.std.specs.List.{count_by, list_any}
+use Rattle.std.specs.List.{list_any}
 use Rattle.cds_base.specs.declared.folder.Entry.{Entry}
 use Rattle.cds_base.specs.declared.folder.Entry.TheVariants.{Folder, File, End}
 use Rattle.cds_base.specs.Entries.{Contents, Told, is_file_at, is_tree}
@@ -13,9 +13,9 @@ use Rattle.cds_scan.specs.declared.error.ScanError.TheVariants.{FolderFault, Too
 use Rattle.cds_scan.specs.declared.file.Reading.{Reading}
 use Rattle.cds_scan.specs.declared.file.Reading.TheVariants.{Read, Unread}
 use Rattle.cds_scan.specs.Outcomes.{AreOutcomes, IsOutcome, Outcome, Kept, Refused, Passed, folder_record, records_of, refusals_of, track_record}
-use Rattle.cds_scan.specs.Found.{Adds, FoundState, IsKeepFault, Refusals, refusals_from}
+use Rattle.cds_scan.specs.Found.{Adds, FoundState, IsKeepFault, refusals_from}
 use Rattle.cds_scan.specs.Reading.{FaultRose}
-use Rattle.cds_scan.specs.Scanning.{Covers, IsTooDeep, is_read_fault}
+use Rattle.cds_scan.specs.Scanning.{Covers, IsTooDeep, faults_in}
 
 -- the place that a path names, or why there is none
 abbrev pub IsPlaceAnswer : List ℕ → Result (List (List ℕ)) ScanError → Type 0
@@ -86,10 +86,6 @@ IsStepFault tree contents given old before now Mem = ⊤
 IsStepFault tree contents given old before now TooMany = ⊥
 IsStepFault tree contents given old before now (TooDeep bytes) = NotTaken tree contents given old (TooDeep bytes)
 IsStepFault tree contents given old before now (Full objects) = NotTaken tree contents given old (Full objects)
-
--- how many of the refused files could not be read
-abbrev pub faults_in : Refusals → ℕ
-faults_in refusals = count_by (λ entry. is_read_fault entry.1) refusals
 
 -- what was found is that of the entries seen
 pub record Reached (contents : Option Contents) (seen : List Entry) (found : FoundState) (before now : ℕ) : Type 0 where

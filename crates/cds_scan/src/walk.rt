@@ -26,7 +26,7 @@ const MOST_ENTRIES: u32 = 1_048_576;
 pub fn scan<F: Folder>(alloc: Global, folder: &mut F) -> Result<Scan, ScanError>
     ensures found { IfOk result (λ scan. IsScan (F.tree folder.old) (F.contents folder.old) scan) }
     ensures stands { IfOk result (λ scan. bad_record scan.records ≡ None) }
-    ensures refused { IfErr result (λ e. IsRefused (F.tree folder.old) (F.contents folder.old) (F.entry_faults folder.old) (F.entry_faults folder.new) e) }
+    ensures refused { IfErr result (λ e. IsRefused (F.tree folder.old) (F.contents folder.old) (F.entry_faults folder.old) (F.entry_faults folder.new) (F.file_faults folder.old) (F.file_faults folder.new) e) }
     ensures read_faults { IfOk result (λ scan. Covers (count_by (λ file. is_read_fault file.error) scan.refused) (F.file_faults folder.old) (F.file_faults folder.new)) }
     ensures never_falls { F.file_faults folder.old ≤ F.file_faults folder.new }
     ensures entry_faults_rise { F.entry_faults folder.old ≤ F.entry_faults folder.new }
@@ -45,7 +45,7 @@ pub fn scan<F: Folder>(alloc: Global, folder: &mut F) -> Result<Scan, ScanError>
 fn walk<F: Folder>(alloc: Global, folder: &mut F) -> Result<Found, ScanError>
     requires { F.given folder.old ≡ [] }
     ensures walked { IfOk result (λ found. Walked (F.tree folder.old) (F.contents folder.old) found (F.file_faults folder.old) (F.file_faults folder.new)) }
-    ensures refused { IfErr result (λ e. IsRefused (F.tree folder.old) (F.contents folder.old) (F.entry_faults folder.old) (F.entry_faults folder.new) e) }
+    ensures refused { IfErr result (λ e. IsRefused (F.tree folder.old) (F.contents folder.old) (F.entry_faults folder.old) (F.entry_faults folder.new) (F.file_faults folder.old) (F.file_faults folder.new) e) }
     ensures never_falls { F.file_faults folder.old ≤ F.file_faults folder.new }
     ensures entry_faults_rise { F.entry_faults folder.old ≤ F.entry_faults folder.new }
     ensures ends { F.entries folder.new ≤ F.entries folder.old + 1048577 }

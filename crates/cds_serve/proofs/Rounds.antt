@@ -1,8 +1,9 @@
 -- Scans one after another: what the counts of a scanner say of them.
-use Rattle.std.proofs.Common.{◌≡◌, ◌≢◌, ◌⊎◌, inl, inr, ℕ, Bool, true, false, true≢false, ◌+◌, ◌-◌, ◌^◌, ◌<◌, ◌≤◌, min, List, [], ◌∷◌, ◌++◌, length, map, suc, Result, Ok, Err, IfErr, IsTrue, OnOk, refl, sym, ap, subst, ◌∙◌, append_assoc, arith, le_trans}
+use Rattle.std.proofs.Common.{◌≡◌, ◌≢◌, ◌⊎◌, inl, inr, ℕ, Bool, true, false, true≢false, ◌+◌, ◌-◌, ◌^◌, ◌<◌, ◌≤◌, min, List, [], ◌∷◌, ◌++◌, length, map, suc, Option, Result, Ok, Err, IfErr, IsTrue, OnOk, refl, sym, ap, subst, ◌∙◌, append_assoc, arith, le_trans}
 use Rattle.std.proofs.Math.Nat.{le-min}
 use Rattle.std.specs.List.{AllByRecursion}
-use Rattle.cds_base.specs.Entries.{FolderTold}
+use Rattle.cds_base.specs.declared.folder.Entry.{Entry}
+use Rattle.cds_base.specs.Entries.{Contents, FolderTold}
 use Rattle.cds_base.specs.Outside.{Rose, raised}
 use Rattle.cds_catalog.specs.Library.{map_of}
 use Rattle.cds_catalog.specs.Scans.{Accepted, BadRecord, NoNumbers, ScanAnswer, TooMany, scan_answer}
@@ -40,6 +41,19 @@ covers-on n old mid new up (inr last) = inr last
 covers-more : (n old mid new : ℕ) → Covers n old mid → mid ≤ new → Covers n old new
 covers-more n old mid new (inl less) up = inl (omega (arith, up, less))
 covers-more n old mid new (inr last) up = inr (le_trans last up)
+
+-- a stop with other counts of faults of files, which cover as much
+stop-over : (tree : Option (List Entry)) (contents : Option Contents) (before now from to : ℕ) (error : ScanError) → ((n : ℕ) → Covers n before now → Covers n from to)
+    → IsStop tree contents before now error → IsStop tree contents from to error
+stop-over tree contents before now from to error covers stop = record {
+  seen = stop.seen;
+  outcomes = stop.outcomes;
+  at = stop.at;
+  told = stop.told;
+  through = stop.through;
+  unread = covers _ stop.unread;
+  stops = stop.stops;
+}
 
 -- ---- which scans stand among commands
 
@@ -115,12 +129,16 @@ module _ (start : Start) (told old new : FolderTold) (tree : new.tree ≡ old.tr
 
   still-refuses : (seen later : List Command) → Extends later seen → CanRefuse start told old seen → CanRefuse start told new later
   still-refuses seen later more (inl rose) = inl (rose-more told.entry_faults old.entry_faults new.entry_faults rose entries)
-  still-refuses seen later more (inr (inl stop)) = inr (inl stop)
+  still-refuses seen later more (inr (inl stop)) = inr (inl (stop.0, stop-over told.tree told.contents told.file_faults old.file_faults told.file_faults new.file_faults stop.0
+      (λ n covers. covers-more n told.file_faults old.file_faults new.file_faults covers files) stop.1))
   still-refuses seen later more (inr (inr u)) = inr (inr (still-unacceptable seen later more u))
 
   -- what a scan gave now, or why it was refused, is of the folder as it was told
-  stop-told : (error : ScanError) → IsStop old.tree old.contents error → IsStop told.tree told.contents error
-  stop-told error stop = subst (λ k. IsStop told.tree k error) contents_told (subst (λ t. IsStop t old.contents error) tree_told stop)
+  stop-told : (error : ScanError) → IsStop old.tree old.contents old.file_faults new.file_faults error → IsStop told.tree told.contents told.file_faults new.file_faults error
+  stop-told error stop =
+      stop-over told.tree told.contents old.file_faults new.file_faults told.file_faults new.file_faults error
+      (λ n covers. covers-on n told.file_faults old.file_faults new.file_faults files_told covers)
+      (subst (λ k. IsStop told.tree k old.file_faults new.file_faults error) contents_told (subst (λ t. IsStop t old.contents old.file_faults new.file_faults error) tree_told stop))
 
   scan-told : (scan : Scan) → IsScan old.tree old.contents scan → IsScan told.tree told.contents scan
   scan-told scan is = subst (λ k. IsScan told.tree k scan) contents_told (subst (λ t. IsScan t old.contents scan) tree_told is)

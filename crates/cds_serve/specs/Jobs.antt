@@ -59,7 +59,7 @@ pub record IsUnacceptable (start : Start) (old new : FolderTold) (seen : List Co
 abbrev pub CanRefuse : Start → FolderTold → FolderTold → List Command → Type 0
 CanRefuse start old new seen =
     Rose old.entry_faults new.entry_faults
-    ⊎ (((error : ScanError) × IsStop old.tree old.contents error)
+    ⊎ (((error : ScanError) × IsStop old.tree old.contents old.file_faults new.file_faults error)
     ⊎ IsUnacceptable start old new seen)
 
 -- So far: each scan that it counts as accepted is one of its folder and stands in what its seat has seen, and where it counts one as refused, there

@@ -14,7 +14,7 @@ abbrev pub free_answers_are_replies : Type 0
 free_answers_are_replies = (start : Start) (commands : List Command) (now : ℕ) (m : Message) (status : ℕ) (text : List ℕ) →
     request_status m.start ≡ Some status → IsReply start commands now m text ↔ (text ≡ empty_reply status)
 
--- the start of a server that listens at a port, whose clock's first moment this was
+-- the start of a server that listens at a port, with boot words of this moment
 abbrev pub start_at : ℕ → ℕ → Start
 start_at moment port = start_with (first_word moment ∷ second_word port ∷ [])
 

@@ -28,9 +28,9 @@ pub record MayGive (old new : FolderTold) (scan : Scan) : Type 0 where
 -- a refusal of a scan, other than want of memory: the folder's count of faults of entries rose, or the scan stopped at one of its entries
 abbrev pub IsScanRefusal : FolderTold → FolderTold → ScanError → Type 0
 IsScanRefusal old new scan_error.FolderFault = Rose old.entry_faults new.entry_faults
-IsScanRefusal old new (scan_error.TooDeep bytes) = IsStop old.tree old.contents (scan_error.TooDeep bytes)
-IsScanRefusal old new (scan_error.Full objects) = IsStop old.tree old.contents (scan_error.Full objects)
-IsScanRefusal old new scan_error.TooMany = IsStop old.tree old.contents scan_error.TooMany
+IsScanRefusal old new (scan_error.TooDeep bytes) = IsStop old.tree old.contents old.file_faults new.file_faults (scan_error.TooDeep bytes)
+IsScanRefusal old new (scan_error.Full objects) = IsStop old.tree old.contents old.file_faults new.file_faults (scan_error.Full objects)
+IsScanRefusal old new scan_error.TooMany = IsStop old.tree old.contents old.file_faults new.file_faults scan_error.TooMany
 IsScanRefusal old new scan_error.Mem = ⊥
 
 -- a refusal of what a scan gave, other than want of memory, by the list of commands that the server stands for. The records of a scan can all

@@ -8,13 +8,13 @@ pub fn free_answers_are_replies()
     ensures { laws.free_answers_are_replies }
 {}
 
-/// The names of the subscriptions of a server that listens are made of its clock's first moment, its port and the numbers of the
-/// grants.
+/// The names of the subscriptions of a server that listens are made of the moment of its boot words, its port and the numbers of
+/// the grants.
 pub fn names_are_of_the_start()
     ensures { laws.names_are_of_the_start }
 {}
 
-/// Two servers that listen have no name in common, but at one port and from one first moment modulo 2^48.
+/// Two servers that listen have no name of fewer than 2^32 grants in common, but at one port and from one moment modulo 2^48.
 pub fn names_tell_the_server()
     ensures { laws.names_tell_the_server }
 {}

@@ -5,8 +5,8 @@ use Rattle.cds_base.specs.Entries.{Contents}
 use Rattle.cds_catalog.specs.Laws.{IsLibrary}
 use Rattle.cds_catalog.specs.Library.{FolderMap}
 use Rattle.cds_scan.specs.Found.{Refusals}
-use Rattle.cds_scan.specs.Scanning.{Covers, IsRefused}
-use Rattle.cds_scan.specs.Walking.{Walked, faults_in}
+use Rattle.cds_scan.specs.Scanning.{Covers, IsRefused, faults_in}
+use Rattle.cds_scan.specs.Walking.{Walked}
 use Rattle.cds_scan.proofs.Reaching.{count_paired}
 use Rattle.cds_scan.proofs.Steps.{back_from, err_exit}
 use Rattle.cds_scan.proofs.Stops.{scan_of}
@@ -20,12 +20,16 @@ returns-in_err-found-clause-refused g c =
     let after = c.walk.new.folder in
     let e = c.in_err-found.field-0.0 in
     let new = g.F.Folder.entry_faults after in
-    let T : Option (List Entry) → Type 0 = λ t. IsRefused t (g.F.Folder.contents begun) (g.F.Folder.entry_faults begun) new e in
-    let C : Option Contents → Type 0 = λ k. IsRefused (g.F.Folder.tree first) k (g.F.Folder.entry_faults begun) new e in
-    let N : ℕ → Type 0 = λ n. IsRefused (g.F.Folder.tree first) (g.F.Folder.contents first) n new e in
-    err_exit (IsRefused (g.F.Folder.tree first) (g.F.Folder.contents first) (g.F.Folder.entry_faults first) new)
+    let before = g.F.Folder.file_faults begun in
+    let now = g.F.Folder.file_faults after in
+    let T : Option (List Entry) → Type 0 = λ t. IsRefused t (g.F.Folder.contents begun) (g.F.Folder.entry_faults begun) new before now e in
+    let C : Option Contents → Type 0 = λ k. IsRefused (g.F.Folder.tree first) k (g.F.Folder.entry_faults begun) new before now e in
+    let N : ℕ → Type 0 = λ n. IsRefused (g.F.Folder.tree first) (g.F.Folder.contents first) n new before now e in
+    let B : ℕ → Type 0 = λ n. IsRefused (g.F.Folder.tree first) (g.F.Folder.contents first) (g.F.Folder.entry_faults first) new n now e in
+    err_exit (IsRefused (g.F.Folder.tree first) (g.F.Folder.contents first) (g.F.Folder.entry_faults first) new (g.F.Folder.file_faults first) now)
     c.from_residual.result e c.from_residual.ensures.1
-    (subst N c.restart.ensures.entry_faults_stay (subst C c.restart.ensures.contents_stay (subst T c.restart.ensures.tree_stays c.in_err-found.ensures.refused)))
+    (subst B c.restart.ensures.file_faults_stay
+    (subst N c.restart.ensures.entry_faults_stay (subst C c.restart.ensures.contents_stay (subst T c.restart.ensures.tree_stays c.in_err-found.ensures.refused))))
 
 pub returns-in_err-found-clause-back : goal.returns-in_err-found-clause-back
 returns-in_err-found-clause-back g c = back_from _ _ _ _ _ _ c.restart.ensures.opened_stays c.restart.ensures.returned_stays c.in_err-found.ensures.back

@@ -60,11 +60,11 @@ returns-in_err-ended-clause-refused g c =
     let first = c.args.folder.now in
     let folder = c.entries.folder in
     let inv = c.entries.invariant in
-    err_exit (IsRefused (g.F.Folder.tree first) (g.F.Folder.contents first) (g.F.Folder.entry_faults first) (g.F.Folder.entry_faults c.take_next.new.folder))
+    err_exit (IsRefused (g.F.Folder.tree first) (g.F.Folder.contents first) (g.F.Folder.entry_faults first) (g.F.Folder.entry_faults c.take_next.new.folder) (g.F.Folder.file_faults first) (g.F.Folder.file_faults c.take_next.new.folder))
     c.from_residual.result c.in_err-ended.field-0.0 c.from_residual.ensures.1
     (refused_at (g.F.Folder.tree first) (g.F.Folder.tree folder) (g.F.Folder.contents first) (g.F.Folder.contents folder) (g.F.Folder.given folder) c.entries.found
-    (g.F.Folder.file_faults first) (g.F.Folder.file_faults folder) (g.F.Folder.entry_faults first) (g.F.Folder.entry_faults folder) (g.F.Folder.entry_faults c.take_next.new.folder)
-    c.in_err-ended.field-0.0 inv.tree_stays inv.contents_stay inv.entry_faults_stay inv.reached (omega (arith, inv.counted, c.entries-test.true)) c.in_err-ended.ensures.err)
+    (g.F.Folder.file_faults first) (g.F.Folder.file_faults folder) (g.F.Folder.file_faults c.take_next.new.folder) (g.F.Folder.entry_faults first) (g.F.Folder.entry_faults folder) (g.F.Folder.entry_faults c.take_next.new.folder)
+    c.in_err-ended.field-0.0 inv.tree_stays inv.contents_stay inv.entry_faults_stay inv.reached c.in_err-ended.ensures.never_falls (omega (arith, inv.counted, c.entries-test.true)) c.in_err-ended.ensures.err)
 
 pub returns-in_err-ended-clause-back : goal.returns-in_err-ended-clause-back
 returns-in_err-ended-clause-back g c = back_then _ _ _ _ _ _ c.entries.invariant.back c.in_err-ended.ensures.back
@@ -96,9 +96,9 @@ pub returns-in_err-over-clause-refused : goal.returns-in_err-over-clause-refused
 returns-in_err-over-clause-refused g c =
     let first = c.args.folder.now in
     let inv = c.entries.invariant in
-    err_exit (IsRefused (g.F.Folder.tree first) (g.F.Folder.contents first) (g.F.Folder.entry_faults first) (g.F.Folder.entry_faults c.is_over.new.folder))
+    err_exit (IsRefused (g.F.Folder.tree first) (g.F.Folder.contents first) (g.F.Folder.entry_faults first) (g.F.Folder.entry_faults c.is_over.new.folder) (g.F.Folder.file_faults first) (g.F.Folder.file_faults c.is_over.new.folder))
     c.from_residual-in_err-over.result c.in_err-over.field-0.0 c.from_residual-in_err-over.ensures.1
-    (refused_folder (g.F.Folder.tree first) (g.F.Folder.contents first) (g.F.Folder.entry_faults first) (g.F.Folder.entry_faults c.entries.folder) (g.F.Folder.entry_faults c.is_over.new.folder)
+    (refused_folder (g.F.Folder.tree first) (g.F.Folder.contents first) (g.F.Folder.entry_faults first) (g.F.Folder.entry_faults c.entries.folder) (g.F.Folder.entry_faults c.is_over.new.folder) (g.F.Folder.file_faults first) (g.F.Folder.file_faults c.is_over.new.folder)
     c.in_err-over.field-0.0 inv.entry_faults_stay c.in_err-over.ensures.err)
 
 pub returns-in_err-over-clause-back : goal.returns-in_err-over-clause-back
@@ -135,7 +135,10 @@ returns-clause-refused g c =
     let given = g.F.Folder.given folder in
     let S : Bool → Type 0 = λ b. IsOver b (g.F.Folder.tree folder) given in
     let more : IsOver false (g.F.Folder.tree folder) given = subst S c.if-over.false c.in_ok-over.ensures.ok in
-    stop_many (g.F.Folder.tree first) (g.F.Folder.contents first) given c.entries.found (g.F.Folder.file_faults first) (g.F.Folder.file_faults folder) inv.reached more.0
+    let now = g.F.Folder.file_faults c.is_over.new.folder in
+    let reached : Reached (g.F.Folder.contents first) given c.entries.found (g.F.Folder.file_faults first) now =
+    reached_later (g.F.Folder.contents first) given c.entries.found c.entries.found (g.F.Folder.file_faults first) (g.F.Folder.file_faults folder) now inv.reached refl (omega (arith, c.in_ok-over.ensures.file_faults_stay)) in
+    stop_many (g.F.Folder.tree first) (g.F.Folder.contents first) given c.entries.found (g.F.Folder.file_faults first) now reached more.0
     (omega (arith, inv.counted, inv.few, c.entries-test.false))
     (told_on (g.F.Folder.tree first) (g.F.Folder.tree folder) (λ entries. (rest : List Entry) × (entries ≡ given ++ more.0 ∷ rest)) inv.tree_stays more.1)
 
