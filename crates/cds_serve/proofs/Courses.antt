@@ -1,5 +1,5 @@
 -- How one connection is served, put together from its parts.
-use Rattle.std.proofs.Common.{◌≡◌, ◌+◌, inl, inr, ℕ, true, List, [], ◌++◌, length, Option, Some, Result, Ok, Err, IsErr, IfOk, OnOk, OnErr, refl, sym, ap, subst, ◌∙◌, append-nil, true≢false, arith}
+use Rattle.std.proofs.Common.{◌≡◌, ◌+◌, inl, inr, ℕ, true, List, [], ◌++◌, length, Option, Some, Result, Ok, Err, IsErr, IsOk, IsSome, IfOk, OnOk, OnErr, refl, sym, ap, subst, ◌∙◌, append-nil, true≢false, arith}
 use Rattle.std.specs.Prelude.{⊤}
 use Rattle.std.proofs.lemmas.List.{take_all}
 use Rattle.cds_base.specs.declared.mem.Mem.{Mem as Memory}
@@ -78,12 +78,13 @@ module _ {A : Type 0} (start : Start) (result : Result A Memory) (before now : �
       → new.seat ≡ record { seen = reply_adds start found now m reply ++ found; passes = old.seat.passes; turns = old.seat.turns + 1; seats = old.seat.seats }
       → IsMoment old.clock new.clock before now → WritesHere (reply_text reply)
       → GivesAll result (reply_requests reply) old.link.requests new.link.requests → (IsErr reply → IsErr result)
+      → IfOk reply (λ reply. IsErr result → IsSome reply.note)
       → Serves start result before now old new
-  turned found m (Ok reply) bytes read begun alone given seat moment written notes starved = record {
+  turned found m (Ok reply) bytes read begun alone given seat moment written notes starved noted = record {
     course = Handled found m;
     for_bytes = bytes;
     read = read;
-    cause = tt;
+    cause = λ err. subst (λ n. IsSome n) given.1 (noted err);
     turn = (begun, alone, seat);
     moment = moment;
     text = reply.text;
@@ -91,7 +92,7 @@ module _ {A : Type 0} (start : Start) (result : Result A Memory) (before now : �
     written = written;
     notes = subst (λ n. GivesAll result (first_requests n) old.link.requests new.link.requests) given.1 notes;
   }
-  turned found m (Err memory) bytes read begun alone given seat moment written notes starved = record {
+  turned found m (Err memory) bytes read begun alone given seat moment written notes starved noted = record {
     course = Unhandled found m;
     for_bytes = bytes;
     read = read;
@@ -110,15 +111,16 @@ module _ {A : Type 0} (start : Start) (result : Result A Memory) (before now : �
       → new.seat.passes ≡ old.seat.passes → new.seat.turns ≡ old.seat.turns + 1 → new.seat.seats ≡ old.seat.seats
       → IsMoment old.clock new.clock before now → WritesHere (reply_text reply)
       → GivesAll result (reply_requests reply) old.link.requests new.link.requests → (IsErr reply → IsErr result)
+      → IfOk reply (λ reply. IsErr result → IsSome reply.note)
       → Serves start result before now old new
-  turned-at found m reply tick same bytes read begun alone given seen passes turns seats moment written notes starved =
+  turned-at found m reply tick same bytes read begun alone given seen passes turns seats moment written notes starved noted =
       turned found m reply bytes read begun alone (subst (λ (n : ℕ). IsReplyGiven start found n m reply) same given)
       (λ i. record {
         seen = (seen ∙ ap (λ (n : ℕ). reply_adds start found n m reply ++ found) same) i;
         passes = passes i;
         turns = turns i;
         seats = seats i;
-      }) moment written notes starved
+      }) moment written notes starved noted
 
   -- none was
   module _ (seat : new.seat ≡ old.seat) (moment : now ≡ before) (clock : new.clock ≡ old.clock) (link : new.link.requests ≡ old.link.requests) where
@@ -132,12 +134,12 @@ module _ {A : Type 0} (start : Start) (result : Result A Memory) (before now : �
         by (Ok value) = kept
         by (Err memory) = kept
 
-    pub broken : ReadsHere (λ piece. piece ≡ []) → Rose old.conn.read_faults new.conn.read_faults → WritesHere [] → Serves start result before now old new
-    broken read rose written = record {
+    pub broken : IsOk result → ReadsHere (λ piece. piece ≡ []) → Rose old.conn.read_faults new.conn.read_faults → WritesHere [] → Serves start result before now old new
+    broken ok read rose written = record {
       course = Broken;
       for_bytes = λ bytes told known d. tt;
       read = read;
-      cause = rose;
+      cause = (rose, ok);
       turn = seat;
       moment = (moment, clock);
       text = [];
@@ -168,7 +170,7 @@ freed start (Ok value) before now old new seat moment clock link status bytes re
   course = Free status;
   for_bytes = bytes;
   read = read;
-  cause = tt;
+  cause = refl;
   turn = seat;
   moment = (moment, clock);
   text = _;

@@ -1,4 +1,4 @@
--- The names of a server that listens tell its clock's first moment, its port and the number of the grant.
+-- The names of a server that listens tell the moment of its boot words, its port and the number of the grant.
 use Rattle.std.proofs.Common.{arith}
 use Rattle.cds_serve.specs.Laws.{names_are_of_the_start, names_tell_the_server}
 

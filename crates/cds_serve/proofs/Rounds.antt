@@ -129,8 +129,11 @@ module _ (start : Start) (told old new : FolderTold) (tree : new.tree ≡ old.tr
 
   still-refuses : (seen later : List Command) → Extends later seen → CanRefuse start told old seen → CanRefuse start told new later
   still-refuses seen later more (inl rose) = inl (rose-more told.entry_faults old.entry_faults new.entry_faults rose entries)
-  still-refuses seen later more (inr (inl stop)) = inr (inl (stop.0, stop-over told.tree told.contents told.file_faults old.file_faults told.file_faults new.file_faults stop.0
-      (λ n covers. covers-more n told.file_faults old.file_faults new.file_faults covers files) stop.1))
+  still-refuses seen later more (inr (inl stop)) = inr (inl (
+    stop.0,
+    stop-over told.tree told.contents told.file_faults old.file_faults told.file_faults new.file_faults stop.0
+        (λ n covers. covers-more n told.file_faults old.file_faults new.file_faults covers files) stop.1,
+  ))
   still-refuses seen later more (inr (inr u)) = inr (inr (still-unacceptable seen later more u))
 
   -- what a scan gave now, or why it was refused, is of the folder as it was told

@@ -1,6 +1,6 @@
 -- Notes that are given to a link one after another.
-use Rattle.std.proofs.Common.{◌≡◌, ◌+◌, ◌<◌, ◌≤◌, ℕ, List, [], ◌∷◌, ◌++◌, length, map, take, get_or, Option, Some, None, IsSome, IfSome, Result, Err, option_map, unwrap_or, true≢false, refl, sym, ap, ◌∙◌, append_assoc}
-use Rattle.std.proofs.lemmas.List.{append-nil, map-append, take-map, take_all, take_more}
+use Rattle.std.proofs.Common.{◌≡◌, ◌+◌, ◌<◌, ◌≤◌, ℕ, List, [], ◌∷◌, ◌++◌, length, map, take, get_or, Option, Some, None, IsSome, IfSome, Result, Ok, Err, OnErr, option_map, unwrap_or, true≢false, refl, sym, ap, subst, ◌∙◌, append_assoc}
+use Rattle.std.proofs.lemmas.List.{append-nil, length-map, map-append, take-map, take_all, take_more}
 use Rattle.cds_base.specs.declared.link.LinkFault.{LinkFault}
 use Rattle.cds_base.specs.declared.link.LinkFault.TheVariants.{Failed, Mem, Over}
 use Rattle.cds_base.specs.declared.link.LinkRequest.{LinkRequest}
@@ -49,6 +49,11 @@ note-written to body front text delivered none is = by (url_in to.callback) deli
     by None away said = absurd (true≢false (sym away))
     by (Some url) there said = said ∙ ap (λ (l : List ℕ). l ++ notify_text url to body) none
 
+-- what is so at each end is so at a failure
+pub on-err : {A E P : Type 0} (result : Result A E) → P → OnErr result P
+on-err (Ok value) p = tt
+on-err (Err e) p = p
+
 module _ {A : Type 0} (f : A → LinkRequest) (to : List A) (before : Option (List LinkRequest)) where
   -- so many and the next one
   pub gives-next : (i : ℕ) (a : A) (mid after : Option (List LinkRequest)) → i < length to → a ≡ get_or to i a → GivesEach (map f (take i to)) before mid
@@ -57,8 +62,9 @@ module _ {A : Type 0} (f : A → LinkRequest) (to : List A) (before : Option (Li
       gives-more (map f (take i to)) (f a ∷ []) before mid after one other sent told
       ∙ ap (λ l. Some (sent ++ l)) (sym (map-append f (take i to) (a ∷ [])) ∙ ap (map f) (ap (λ z. take i to ++ z ∷ []) is ∙ sym (take_more to i a within)))
 
-  pub gives-front : (i : ℕ) (after : Option (List LinkRequest)) → GivesEach (map f (take i to)) before after → GivesFront (map f to) before after
-  gives-front i after given sent told = (i, given sent told ∙ ap (λ l. Some (sent ++ l)) (sym (take-map f i to)))
+  pub gives-front : (i : ℕ) (after : Option (List LinkRequest)) → i < length to → GivesEach (map f (take i to)) before after → GivesFront (map f to) before after
+  gives-front i after within given sent told =
+      (i, subst (λ n. i < n) (sym (length-map to f)) within, given sent told ∙ ap (λ l. Some (sent ++ l)) (sym (take-map f i to)))
 
   pub gives-all : (i : ℕ) (after : Option (List LinkRequest)) → length to ≤ i → GivesEach (map f (take i to)) before after → GivesEach (map f to) before after
   gives-all i after over given sent told = given sent told ∙ ap (λ l. Some (sent ++ map f l)) (take_all i to over)

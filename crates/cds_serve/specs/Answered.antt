@@ -1,6 +1,6 @@
 -- What a connection is answered, by what its bytes say (RFC 9110 on the statuses 400, 404, 405 and 413; UPnP Device Architecture 2.0 on the
 -- URLs of control and of eventing).
-use Rattle.std.specs.Prelude.{◌≡◌, ◌+◌, ◌≤◌, ℕ, Bool, true, false, ◌||◌, bytes_eq, codes, if◌then◌else◌, List, [], ◌∷◌, ◌++◌, length, Option, Some, None, Result, Ok, Err, IsErr, ⊤}
+use Rattle.std.specs.Prelude.{◌≡◌, ◌+◌, ◌≤◌, ℕ, Bool, true, false, ◌||◌, bytes_eq, codes, if◌then◌else◌, List, [], ◌∷◌, ◌++◌, length, Option, Some, None, IsSome, Result, Ok, Err, IsErr, IsOk, ⊤}
 use Rattle.cds_base.specs.declared.mem.Mem.{Mem as Memory}
 use Rattle.cds_base.specs.declared.link.LinkRequest.{LinkRequest}
 use Rattle.cds_base.specs.Entries.{Told}
@@ -89,12 +89,12 @@ IsCourseFor known (Free status) = free_status known ≡ Some status
 IsCourseFor known (Handled found m) = NeedsTurn m known
 IsCourseFor known (Unhandled found m) = NeedsTurn m known
 
--- how many bytes are read at once, at most
+-- how many bytes come last, at most
 abbrev pub piece_limit : ℕ
 piece_limit = 8192
 
--- Of these bytes so many were read that this is left: before the last piece came they did not tell the message yet, neither a whole one nor a refusal.
--- The last piece has no more bytes than are read at once, and of it this holds
+-- Of these bytes so many were read that this is left. Those before what came last did not tell the message yet, neither a whole one nor a refusal. What came
+-- last has no more bytes than that, and of it this holds
 pub record ReadsFrom (bytes : List ℕ) (left : Option (List ℕ)) (IsLast : List ℕ → Type 0) : Type 0 where
   pub came : List ℕ
   pub piece : List ℕ
@@ -113,13 +113,13 @@ IsLastOf (Free status) piece = ⊤
 IsLastOf (Handled found m) piece = ⊤
 IsLastOf (Unhandled found m) piece = ⊤
 
--- a connection that failed counted it, and want of memory is what is answered then
-abbrev pub HasCause : {A : Type 0} → Result A Memory → ConnTold → ConnTold → Course → Type 0
-HasCause result old new Broken = Rose old.read_faults new.read_faults
-HasCause result old new Starved = IsErr result
-HasCause result old new (Free status) = ⊤
-HasCause result old new (Handled found m) = ⊤
-HasCause result old new (Unhandled found m) = IsErr result
+-- A connection that failed counted it. Want of memory is answered where the constant reply is owed, and elsewhere only where a first note is
+abbrev pub HasCause : {A : Type 0} → Start → ℕ → Result A Memory → ConnTold → ConnTold → Course → Type 0
+HasCause start now result old new Broken = Rose old.read_faults new.read_faults × IsOk result
+HasCause start now result old new Starved = IsErr result
+HasCause start now result old new (Free status) = IsOk result
+HasCause start now result old new (Handled found m) = IsErr result → IsSome (note_at start found now m)
+HasCause start now result old new (Unhandled found m) = IsErr result
 
 -- The turn that was taken: the list found begins with all that the seat had seen, and is just that where no other seat is out; what the message adds
 -- to it was appended, and nothing for want of memory; and this is what the seat has seen then
@@ -164,7 +164,7 @@ pub record Serves {A : Type 0} (start : Start) (result : Result A Memory) (befor
   pub course : Course
   pub for_bytes : Told old.conn.left (λ bytes. (known : Known Message) → Decides true side.Request bytes known → IsCourseFor known course)
   pub read : Told old.conn.left (λ bytes. ReadsFrom bytes new.conn.left (IsLastOf course))
-  pub cause : HasCause result old.conn new.conn course
+  pub cause : HasCause start now result old.conn new.conn course
   pub turn : TakesTurn start now course old.seat new.seat
   pub moment : AsksClock course old.clock new.clock before now
   pub text : List ℕ

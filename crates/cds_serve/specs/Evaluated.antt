@@ -8,7 +8,7 @@ use Rattle.cds_serve.specs.Answered.{free_status, status_at}
 use Rattle.cds_serve.specs.Life.{first_word, life_text, second_word, share_of}
 
 -- what is written by a server that served two connections and scanned once; the shares of its workers; and the name of its first subscription,
--- where the clock's first moment was 1, at the port 49152
+-- by the moment 1, at the port 49152
 abbrev pub LivesAreWritten : Type 0
 LivesAreWritten =
     (life_text 49152 2 (record { accepted = 1; refused = 0; memory = 0 }) ≡ codes "serving 49152\nserved 2 scans 1 refused 0 memory 0\n")

@@ -89,7 +89,8 @@ pub record EndsScanning (start : Start) (passes seats : ℕ) (old new : FolderTo
 abbrev pub AddsTicks : List Command → List Command → Type 0
 AddsTicks before seen = (moments : List ℕ) × (seen ≡ map Ticks moments ++ before)
 
--- The notifier ended: its last tick found a server that was stopped. Where its seat is the only one, it has added nothing but ticks
+-- The notifier ended: the newest command that its seat has seen is a tick, and a stop is among those before it. Where its seat is the only one, it
+-- has added nothing but ticks
 pub record EndsNotifying (passes seats : ℕ) (before seen : List Command) : Type 0 where
   pub moment : ℕ
   pub found : List Command

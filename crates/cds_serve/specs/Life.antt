@@ -52,14 +52,14 @@ life_asks port path =
 
 -- ---- the boot words
 
--- the first is the clock's first moment modulo 2^48, or 0 where it failed, and the second the port; both stand in the bits that names keep
+-- the first is a moment of the clock modulo 2^48, or 0 where it failed, and the second the port; both stand in the bits that names keep
 abbrev pub first_word : ℕ → ℕ
 first_word moment = (moment % 2 ^ 48) * 2 ^ 16
 
 abbrev pub second_word : ℕ → ℕ
 second_word port = port * 2 ^ 32
 
--- The boot words of a server at a port, by a clock that was asked once: those of the moment that it gave, or of 0 where it failed, as its count says
+-- The boot words of a server at a port, by a clock: those of the one moment that it gave, or of 0 where it gave none, as its count says
 pub record AreBootWords (port : ℕ) (old new : ClockTold) (boot : List ℕ) : Type 0 where
   pub moment : ℕ
   pub asked : IsMoment old new 0 moment
@@ -71,7 +71,7 @@ pub record IsFresh (clock : ClockTold) : Type 0 where
   pub gave : Told clock.gave (λ list. list ≡ [])
   pub faults : clock.faults ≡ 0
 
--- they are those of the first moment of a clock
+-- they are those of a moment of a clock that can have been fresh before it was asked, or of 0 where it failed
 pub record AreFirstWords (port : ℕ) (clock : ClockTold) (boot : List ℕ) : Type 0 where
   pub before : ClockTold
   pub fresh : IsFresh before

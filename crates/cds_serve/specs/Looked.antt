@@ -16,7 +16,7 @@ due_requests start found now = release_requests (due start found now)
 
 -- What comes of a tick in one turn, whose list found this is. It is appended, each of its notes is given to the link once and in order, and
 -- the answer is whether the server was stopped. For want of memory nothing is appended and no note given, or the tick is appended and a
--- front of its notes given
+-- front of its notes given, not all
 abbrev pub Ticked : Start → List Command → ℕ → Result Bool Mem → List Command → Option (List LinkRequest) → Option (List LinkRequest) → Type 0
 Ticked start found now (Ok stopped) seen before after =
     (stopped ≡ is_stopped found) × (seen ≡ Ticks now ∷ found) × GivesEach (due_requests start found now) before after

@@ -1,5 +1,5 @@
 -- The requests that carry notes over a link (UPnP Device Architecture 2.0 on event messages).
-use Rattle.std.specs.Prelude.{◌≡◌, ◌⊎◌, ℕ, List, [], ◌∷◌, ◌++◌, map, take, Option, Some, None, Result, Ok, Err, option_map, unwrap_or}
+use Rattle.std.specs.Prelude.{◌≡◌, ◌⊎◌, ◌<◌, ℕ, List, [], ◌∷◌, ◌++◌, length, map, take, Option, Some, None, Result, Ok, Err, option_map, unwrap_or}
 use Rattle.cds_base.specs.declared.mem.Mem.{Mem as Memory}
 use Rattle.cds_base.specs.declared.link.LinkFault.{LinkFault}
 use Rattle.cds_base.specs.declared.link.LinkFault.TheVariants.{Failed, Mem, Over}
@@ -43,9 +43,9 @@ sent_despite Over request = request ∷ []
 abbrev pub GivesEach : List LinkRequest → Option (List LinkRequest) → Option (List LinkRequest) → Type 0
 GivesEach requests before after = Told before (λ sent. after ≡ Some (sent ++ requests))
 
--- It was given the first so many of these and nothing else
+-- It was given the first so many of these, but not all, and nothing else
 abbrev pub GivesFront : List LinkRequest → Option (List LinkRequest) → Option (List LinkRequest) → Type 0
-GivesFront requests before after = Told before (λ sent. (n : ℕ) × (after ≡ Some (sent ++ take n requests)))
+GivesFront requests before after = Told before (λ sent. (n : ℕ) × (n < length requests) × (after ≡ Some (sent ++ take n requests)))
 
 -- It was given these, or none for want of memory
 abbrev pub GivesAll : {A : Type 0} → Result A Memory → List LinkRequest → Option (List LinkRequest) → Option (List LinkRequest) → Type 0

@@ -29,7 +29,7 @@ pub record ClockTold : Type 0 where
   pub gave : Option (List ℕ)
   pub faults : ℕ
 
--- A clock was asked once. The moment is what it gave then; or the clock failed, as its count says, and the moment is that of before
+-- A clock gave one moment, and this is it; or it gave none, as its count says, and the moment is that of before
 abbrev pub IsMoment : ClockTold → ClockTold → ℕ → ℕ → Type 0
 IsMoment old new before moment =
     ((new.last ≡ moment) × Told old.gave (λ gave. new.gave ≡ Some (gave ++ moment ∷ [])))

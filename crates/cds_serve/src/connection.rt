@@ -1,6 +1,6 @@
 //! One connection.
 
-ghost use Rattle.std.specs.Prelude.{◌≡◌, ◌≤◌, ◌++◌, Some, IfOk, IsErr, OnErr, OnOk};
+ghost use Rattle.std.specs.Prelude.{◌≡◌, ◌≤◌, ◌++◌, Some, IfOk, IsErr, IsSome, OnErr, OnOk};
 ghost use Rattle.cds_base.specs.Outside.{HoldsPart, Rose, WhereTold};
 ghost use Rattle.cds_turn.specs.Turn.{IsSeatOf, passes_of, seats_of, seen_by, start_of, turns_of};
 ghost use Rattle.cds_server.specs.Outcome.{GoesOut, empty_reply};
@@ -108,6 +108,7 @@ fn answer<C: Conn, L: Link, G: Gate>(
     ensures written { WritesTo (reply_text reply) (C.holds conn.old) (C.holds conn.new) (C.Sink.faults conn.old) (C.Sink.faults conn.new) }
     ensures given { GivesAll result (reply_requests reply) (L.requests link.old) (L.requests link.new) }
     ensures starved { IsErr reply → IsErr result }
+    ensures noted { IfOk reply (λ reply. IsErr result → IsSome reply.note) }
     ensures write_faults_rise { C.Sink.faults conn.old ≤ C.Sink.faults conn.new }
     ensures left_stays { C.left conn.new ≡ C.left conn.old }
     ensures read_faults_stay { C.Source.faults conn.new ≡ C.Source.faults conn.old }

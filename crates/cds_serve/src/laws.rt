@@ -14,7 +14,8 @@ pub fn names_are_of_the_start()
     ensures { laws.names_are_of_the_start }
 {}
 
-/// Two servers that listen have no name of fewer than 2^32 grants in common, but at one port and from one moment modulo 2^48.
+/// Two servers that listen, each of which grants fewer than 2^32 subscriptions, have no name in common, but at one port and from
+/// one moment modulo 2^48.
 pub fn names_tell_the_server()
     ensures { laws.names_tell_the_server }
 {}

@@ -15,7 +15,7 @@ use std::sync::Wait;
 
 /// One look: has the server tick in one turn, and then sends the notes of the release that was due, each once and in the
 /// order in which the subscriptions were granted. A note that the link refuses is lost, and its SEQ is used. True exactly
-/// where the server was stopped. For want of memory the server may not have ticked, or only a front of the notes was sent.
+/// where the server was stopped. For want of memory the server may not have ticked, or only a front of the notes, not all, was sent.
 /// `last` is the last moment that the clock gave; where the clock fails, it is that of the turn.
 pub fn notify_once<R: Wait, T: Clock, L: Link>(
     rt: &R,

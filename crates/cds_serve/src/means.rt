@@ -36,9 +36,10 @@ pub(crate) struct Means<D, T, L, F> {
 /// The boot words of a server at a port, of which its names are made: of the moment that the clock gives, or of 0 where it
 /// fails, and of the port. `serve` takes them of a clock of which nothing was asked yet.
 pub fn boot_words<T: Clock>(clock: &mut T, port: u16) -> [u64; 2]
-    ensures { AreBootWords port
+    ensures words { AreBootWords port
         (record { last = T.last clock.old; gave = T.gave clock.old; faults = T.faults clock.old })
         (record { last = T.last clock.new; gave = T.gave clock.new; faults = T.faults clock.new }) result }
+    ensures never_falls { T.faults clock.old ≤ T.faults clock.new }
 {
     match clock.now() {
         Ok(moment) => words_of(moment, port),

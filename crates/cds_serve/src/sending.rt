@@ -1,6 +1,6 @@
 //! Notes that go out over a link.
 
-ghost use Rattle.std.specs.Prelude.{◌≡◌, ◌≤◌, List, ◌∷◌, [], map, Option, Some, IfOk, IfSome};
+ghost use Rattle.std.specs.Prelude.{◌≡◌, ◌≤◌, List, ◌∷◌, [], map, Option, Some, IfOk, IfSome, IsErr, IsSome, OnErr};
 ghost use Rattle.std.specs.List.{AllByRecursion};
 ghost use Rattle.cds_base.specs.declared.link.LinkRequest.{LinkRequest};
 ghost use Rattle.cds_base.specs.Entries.{Told};
@@ -62,6 +62,7 @@ pub(crate) fn send_first<L: Link>(
 ) -> Result<(), Mem>
     requires delivered { GoesOut note.now }
     ensures given { GivesAll result (first_requests note.now) (L.requests link.old) (L.requests link.new) }
+    ensures noted { IsErr result → IsSome note.now }
     ensures never_falls { L.faults link.old ≤ L.faults link.new }
 {
     match note {
@@ -70,7 +71,7 @@ pub(crate) fn send_first<L: Link>(
     }
 }
 
-/// Sends the notes of a release, where there is one, in their order. For want of memory a front of them is sent.
+/// Sends the notes of a release, where there is one, in their order. For want of memory a front of them is sent, not all.
 pub(crate) fn send_notes<L: Link>(
     alloc: Global,
     link: &mut L,
@@ -78,7 +79,7 @@ pub(crate) fn send_notes<L: Link>(
 ) -> Result<(), Mem>
     requires delivered { IfSome notes.now AllGoOut }
     ensures given { IfOk result (λ _. GivesEach (release_requests notes.now) (L.requests link.old) (L.requests link.new)) }
-    ensures front { GivesFront (release_requests notes.now) (L.requests link.old) (L.requests link.new) }
+    ensures front { OnErr result (GivesFront (release_requests notes.now) (L.requests link.old) (L.requests link.new)) }
     ensures never_falls { L.faults link.old ≤ L.faults link.new }
 {
     match notes {
@@ -91,7 +92,7 @@ pub(crate) fn send_notes<L: Link>(
 fn send_each<L: Link>(alloc: Global, link: &mut L, to: &[Address], body: &[u8]) -> Result<(), Mem>
     requires delivered { AllByRecursion IsDelivered to.now }
     ensures given { IfOk result (λ _. GivesEach (map (note_request body.now) to.now) (L.requests link.old) (L.requests link.new)) }
-    ensures front { GivesFront (map (note_request body.now) to.now) (L.requests link.old) (L.requests link.new) }
+    ensures front { OnErr result (GivesFront (map (note_request body.now) to.now) (L.requests link.old) (L.requests link.new)) }
     ensures never_falls { L.faults link.old ≤ L.faults link.new }
 {
     'notes: for address in to {

@@ -12,7 +12,7 @@ returns-in-Needing-clause-served g c =
     took.1 took.2 took.3 took.4 c.with-reply.ensures.passes c.with-reply.ensures.turns refl
     c.ask_moment-now.ensures.moment
     (writes-from _ _ _ _ _ _ _ c.read_request.ensures.taken_stay c.read_request.ensures.write_faults_stay c.answer.ensures.written)
-    c.answer.ensures.given c.answer.ensures.starved
+    c.answer.ensures.given c.answer.ensures.starved c.answer.ensures.noted
 
 pub returns-in-Free-clause-served : goal.returns-in-Free-clause-served
 returns-in-Free-clause-served g c =
@@ -22,7 +22,7 @@ returns-in-Free-clause-served g c =
 
 pub returns-in-Broken-clause-served : goal.returns-in-Broken-clause-served
 returns-in-Broken-clause-served g c =
-    broken _ _ _ _ _ _ refl refl refl refl c.in-Broken.ensures.read c.in-Broken.ensures.rose (writes-nothing _ _ _ _ c.read_request.ensures.taken_stay)
+    broken _ _ _ _ _ _ refl refl refl refl refl c.in-Broken.ensures.read c.in-Broken.ensures.rose (writes-nothing _ _ _ _ c.read_request.ensures.taken_stay)
 
 pub returns-in-Starved-clause-served : goal.returns-in-Starved-clause-served
 returns-in-Starved-clause-served g c =
