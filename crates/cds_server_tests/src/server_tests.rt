@@ -569,8 +569,11 @@ fn by_pages(
 fn each_status_has_its_cause(rt: HostRuntime) -> Result<(), Fail> {
     let alloc = rt.alloc();
     let mut server = server_with(alloc, "Rock/ Rock/a.flac")?;
-    assert_eq!(rt; first_wrong(alloc, &mut server, &STATUSES)?, None);
-    assert_eq!(rt; server.system_update_id(), 2);
+    let wrong = first_wrong(alloc, &mut server, &STATUSES)?;
+    assert!(rt;
+        wrong.is_none() && server.system_update_id() == 2,
+        "{wrong:?}"
+    );
     Ok(())
 }
 
@@ -578,7 +581,8 @@ fn each_status_has_its_cause(rt: HostRuntime) -> Result<(), Fail> {
 fn browse_is_answered(rt: HostRuntime) -> Result<(), Fail> {
     let alloc = rt.alloc();
     let mut server = server_with(alloc, "Rock/ Rock/a.flac")?;
-    assert_eq!(rt; first_unlike(alloc, &mut server, &ASKS)?, None);
+    let unlike = first_unlike(alloc, &mut server, &ASKS)?;
+    assert!(rt; unlike.is_none(), "{unlike:?}");
     Ok(())
 }
 
@@ -616,20 +620,50 @@ fn go_up(ids: &[u32], first: u32, count: usize) -> bool {
     ids.len() == count
 }
 
-/// A whole library of 1,000 objects in four folders, by pages of each size.
+/// Folders of a library, and the id of the first track in each.
+const FOLDERS: [(&str, u32); 4] = [("1", 2), ("251", 252), ("501", 502), ("751", 752)];
+
+/// How many rows a page is asked for with, and how many pages a folder has then.
+const PAGES: [(&str, usize); 4] = [("1", 249), ("7", 36), ("256", 1), ("0", 1)];
+
+/// Whether the tracks of a folder come once each, by so many pages.
+fn come_once(
+    alloc: Global,
+    server: &mut Server,
+    object: &str,
+    first: u32,
+    pages: &(&str, usize),
+) -> Result<bool, Fail> {
+    let ids = by_pages(alloc, server, object, pages.0, pages.1)?;
+    Ok(go_up(ids.as_slice(), first, 249))
+}
+
+/// Whether the folders come once each.
+fn folders_come_once(alloc: Global, server: &mut Server) -> Result<bool, Fail> {
+    let ids = by_pages(alloc, server, "0", "3", 2)?;
+    Ok(ids.as_slice() == [1, 251, 501, 751].as_slice())
+}
+
+/// A server with a library of 1,000 objects in four folders.
+fn large_server(alloc: Global) -> Result<Server, Fail> {
+    let words = library(alloc, 4, 249)?;
+    server_with(alloc, words.as_str())
+}
+
+/// The whole library, by pages of each size.
 #[test]
 fn pages_give_each_row_once(rt: HostRuntime) -> Result<(), Fail> {
     let alloc = rt.alloc();
-    let words = library(alloc, 4, 249)?;
-    let mut server = server_with(alloc, words.as_str())?;
-    for (object, first) in [("1", 2), ("251", 252), ("501", 502), ("751", 752)] {
-        for (count, pages) in [("1", 249), ("7", 36), ("256", 1), ("0", 1)] {
-            let ids = by_pages(alloc, &mut server, object, count, pages)?;
-            assert!(rt; go_up(ids.as_slice(), first, 249), "{object} by {count}");
+    let mut server = large_server(alloc)?;
+    for (object, first) in &FOLDERS {
+        for pages in &PAGES {
+            assert!(rt;
+                come_once(alloc, &mut server, object, *first, pages)?,
+                "{object}"
+            );
         }
     }
-    let folders = by_pages(alloc, &mut server, "0", "3", 2)?;
-    assert_eq!(rt; folders.as_slice(), [1, 251, 501, 751].as_slice());
+    assert!(rt; folders_come_once(alloc, &mut server)?);
     Ok(())
 }
 
@@ -640,17 +674,24 @@ const CHUNKED: &str =
 const REPLY: &str =
     "HTTP/1.1 200 OK\r\nEXT:\r\nSERVER: unix/1.0 UPnP/2.0 cds/1.0\r\nCONTENT-TYPE: text/xml; charset=\"utf-8\"\r\nCONTENT-LENGTH: 302\r\nCONNECTION: close\r\n\r\n<?xml version=\"1.0\"?><s:Envelope xmlns:s=\"http://schemas.xmlsoap.org/soap/envelope/\" s:encodingStyle=\"http://schemas.xmlsoap.org/soap/encoding/\"><s:Body><u:GetSystemUpdateIDResponse xmlns:u=\"urn:schemas-upnp-org:service:ContentDirectory:4\"><Id>2</Id></u:GetSystemUpdateIDResponse></s:Body></s:Envelope>";
 
+/// Whether bytes have this reply.
+fn has_reply(alloc: Global, server: &mut Server, bytes: &[u8]) -> Result<bool, Fail> {
+    let reply = replied(alloc, server, bytes)?;
+    Ok(reply.as_slice() == REPLY.as_bytes())
+}
+
+/// The same request with its body in one piece.
+fn whole_request(alloc: Global) -> Result<String, AllocError> {
+    let body = enveloped(alloc, "4", NUMBER)?;
+    request(alloc, "POST /control", NUMBER_FIELDS, body.as_str())
+}
+
 #[test]
 fn bodies_may_come_in_chunks(rt: HostRuntime) -> Result<(), Fail> {
     let alloc = rt.alloc();
     let mut server = server_with(alloc, "Rock/ Rock/a.flac")?;
-    let reply = replied(alloc, &mut server, CHUNKED.as_bytes())?;
-    assert_eq!(rt; reply.as_slice(), REPLY.as_bytes());
-    let body = enveloped(alloc, "4", NUMBER)?;
-    let text = request(alloc, "POST /control", NUMBER_FIELDS, body.as_str())?;
-    assert_eq!(rt;
-        replied(alloc, &mut server, text.as_bytes())?.as_slice(),
-        REPLY.as_bytes()
-    );
+    assert!(rt; has_reply(alloc, &mut server, CHUNKED.as_bytes())?);
+    let text = whole_request(alloc)?;
+    assert!(rt; has_reply(alloc, &mut server, text.as_bytes())?);
     Ok(())
 }

@@ -4,6 +4,7 @@ use cds_base::{
 };
 use std::alloc::Global;
 use std::convert::From;
+use std::marker::Send;
 use std::sync::Wait;
 use std::test::Fail;
 
@@ -25,18 +26,32 @@ fn clock_and_link<R: Drop>(alloc: Global, fails: &[u32]) -> Result<MemOutside<R>
     Ok(MemOutside::new(objects, numbers(alloc, fails)?))
 }
 
+/// Whether a clock is given at the second try, and no other one.
+fn clock_is_given<O: Outside>(alloc: Global, outside: &mut O) -> Result<bool, Fail> {
+    let is_refused = outside.clock(alloc).is_err();
+    let mut clock = outside.clock(alloc)?;
+    let is_told = clock.now() == Ok(7);
+    Ok(is_refused && is_told && outside.clock(alloc).is_err())
+}
+
+/// Whether the faults of a link are counted once it is back.
+fn link_comes_back<R: Wait + Clone + Send + Drop + 'static>(
+    alloc: Global,
+    outside: &mut MemOutside<R>,
+) -> Result<bool, Fail> {
+    let mut link = outside.link(alloc)?;
+    let fails = link.exchange(alloc, "http://127.0.0.1/", b"", 9).is_err();
+    let is_last = outside.link(alloc).is_err();
+    let before = outside.faults();
+    outside.end_link(link);
+    Ok(fails && is_last && before == 3 && outside.faults() == 4)
+}
+
 #[test]
 fn the_outside_in_memory_gives_clocks_and_links(rt: HostRuntime) -> Result<(), Fail> {
     let alloc = rt.alloc();
     let mut outside: MemOutside<HostRuntime> = clock_and_link(alloc, &[1])?;
-    assert!(rt; outside.clock(alloc).is_err());
-    let mut clock = outside.clock(alloc)?;
-    assert!(rt; clock.now() == Ok(7) && outside.clock(alloc).is_err());
-    let mut link = outside.link(alloc)?;
-    assert!(rt; link.exchange(alloc, "http://127.0.0.1/", b"", 9).is_err());
-    assert!(rt; outside.link(alloc).is_err() && outside.faults() == 3);
-    outside.end_link(link);
-    assert_eq!(rt; outside.faults(), 4);
+    assert!(rt; clock_is_given(alloc, &mut outside)? && link_comes_back(alloc, &mut outside)?);
     Ok(())
 }
 
@@ -56,19 +71,34 @@ fn door_and_spawner<R: Wait + Clone + Drop>(rt: R, alloc: Global) -> Result<MemO
     Ok(MemOutside::new(objects, Numbers::new(alloc)))
 }
 
+/// Whether a door gives its one connection, and is taken back with one fault.
+fn door_comes_back<R: Wait + Clone + Send + Drop + 'static>(
+    alloc: Global,
+    outside: &mut MemOutside<R>,
+) -> Result<bool, Fail> {
+    let mut door = outside.door(alloc, 80)?;
+    let gives = door.accept().is_ok() && door.accept().is_err();
+    outside.end_door(door);
+    Ok(gives && outside.connections() == 1 && outside.faults() == 1)
+}
+
+/// Whether a spawner fails, and is taken back with one fault more.
+fn spawner_comes_back<R: Wait + Clone + Send + Drop + 'static>(
+    alloc: Global,
+    outside: &mut MemOutside<R>,
+) -> Result<bool, Fail> {
+    let mut spawner = outside.spawner(alloc)?;
+    let fails = spawner.may_start().is_err();
+    outside.end_spawner(spawner);
+    Ok(fails && outside.started() == 0 && outside.faults() == 2)
+}
+
 #[test]
 fn the_outside_in_memory_takes_doors_and_spawners_back(rt: HostRuntime) -> Result<(), Fail> {
     let alloc = rt.alloc();
     let mut outside = door_and_spawner(rt, alloc)?;
-    let mut door = outside.door(alloc, 80)?;
-    assert!(rt; door.accept().is_ok() && door.accept().is_err());
-    outside.end_door(door);
-    assert!(rt; outside.connections() == 1 && outside.faults() == 1);
-    let mut spawner = outside.spawner(alloc)?;
-    assert!(rt; spawner.may_start().is_err());
-    outside.end_spawner(spawner);
-    assert!(rt; outside.started() == 0 && outside.faults() == 2);
+    assert!(rt; door_comes_back(alloc, &mut outside)? && spawner_comes_back(alloc, &mut outside)?);
     assert!(rt; outside.door(alloc, 80).is_err() && outside.spawner(alloc).is_err());
-    assert_eq!(rt; outside.faults(), 4);
+    assert!(rt; outside.faults() == 4);
     Ok(())
 }
