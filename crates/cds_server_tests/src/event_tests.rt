@@ -175,11 +175,15 @@ fn reply_at(alloc: Global, server: &mut Server, now: u64, text: &str) -> Result<
     Ok(out)
 }
 
+/// The place of the first row that a new server answers otherwise.
+fn first_wrong_event(alloc: Global) -> Result<Option<usize>, Fail> {
+    let mut server = Server::new(alloc, [0, 0], 0)?;
+    first_wrong(alloc, &mut server, &EVENTS)
+}
+
 #[test]
 fn each_event_status_has_its_cause(rt: HostRuntime) -> Result<(), Fail> {
-    let alloc = rt.alloc();
-    let mut server = Server::new(alloc, [0, 0], 0)?;
-    let wrong = first_wrong(alloc, &mut server, &EVENTS)?;
+    let wrong = first_wrong_event(rt.alloc())?;
     assert!(rt; wrong.is_none(), "{wrong:?}");
     Ok(())
 }
@@ -206,13 +210,24 @@ fn is_replied(
     Ok(is_reply(reply.as_slice(), front, part))
 }
 
+/// Whether 64 are granted, no other one until they have run out, and then one.
+fn are_granted(alloc: Global, server: &mut Server) -> Result<bool, Fail> {
+    Ok(
+        subscribe_all(alloc, server, 64)?
+            && is_replied(alloc, server, 1_799_999, FULL, EMPTY)?
+            && is_replied(alloc, server, 1_800_000, OK, "-000000000041")?,
+    )
+}
+
+/// The same of a new server.
+fn new_server_grants(alloc: Global) -> Result<bool, Fail> {
+    let mut server = Server::new(alloc, [0, 0], 0)?;
+    are_granted(alloc, &mut server)
+}
+
 #[test]
 fn sixty_four_are_granted(rt: HostRuntime) -> Result<(), Fail> {
-    let alloc = rt.alloc();
-    let mut server = Server::new(alloc, [0, 0], 0)?;
-    assert!(rt; subscribe_all(alloc, &mut server, 64)?);
-    assert!(rt; is_replied(alloc, &mut server, 1_799_999, FULL, EMPTY)?);
-    assert!(rt; is_replied(alloc, &mut server, 1_800_000, OK, "-000000000041")?);
+    assert!(rt; new_server_grants(rt.alloc())?);
     Ok(())
 }
 
@@ -311,19 +326,28 @@ fn second_is_released(alloc: Global, server: &mut Server) -> Result<bool, Fail> 
     Ok(is_release(&notes, 2, 1, 3) && has_body(&notes, BODY))
 }
 
+/// Whether each tick gives what is due, with scans between them.
+fn are_due(alloc: Global, server: &mut Server) -> Result<bool, Fail> {
+    let begins = first_is_given(alloc, server)? && is_quiet(alloc, server, 0)?;
+    scan(alloc, server, "a.flac")?;
+    let first = first_is_released(alloc, server)?;
+    scan(alloc, server, "a.flac b.flac")?;
+    let waits = is_quiet(alloc, server, 1_100)?;
+    scan(alloc, server, "a.flac b.flac c.flac")?;
+    let second = is_quiet(alloc, server, 1_199)? && second_is_released(alloc, server)?;
+    Ok(begins && first && waits && second && is_quiet(alloc, server, 1_400)?)
+}
+
+/// The same of a new server.
+fn new_server_ticks(alloc: Global) -> Result<bool, Fail> {
+    let mut server = Server::new(alloc, [0, 0], 0)?;
+    are_due(alloc, &mut server)
+}
+
 /// Scans that come faster than notes go out, and what each tick gives.
 #[test]
 fn ticks_give_what_is_due(rt: HostRuntime) -> Result<(), Fail> {
-    let alloc = rt.alloc();
-    let mut server = Server::new(alloc, [0, 0], 0)?;
-    assert!(rt; first_is_given(alloc, &mut server)? && is_quiet(alloc, &mut server, 0)?);
-    scan(alloc, &mut server, "a.flac")?;
-    assert!(rt; first_is_released(alloc, &mut server)?);
-    scan(alloc, &mut server, "a.flac b.flac")?;
-    assert!(rt; is_quiet(alloc, &mut server, 1_100)?);
-    scan(alloc, &mut server, "a.flac b.flac c.flac")?;
-    assert!(rt; is_quiet(alloc, &mut server, 1_199)? && second_is_released(alloc, &mut server)?);
-    assert!(rt; is_quiet(alloc, &mut server, 1_400)?);
+    assert!(rt; new_server_ticks(rt.alloc())?);
     Ok(())
 }
 
@@ -353,12 +377,24 @@ fn renewal_fails(alloc: Global, server: &mut Server) -> Result<bool, Fail> {
     Ok(is_reply(reply.as_slice(), FAILED, EMPTY))
 }
 
+/// Whether a subscription runs out before a tick gives notes.
+fn runs_out(alloc: Global, server: &mut Server) -> Result<bool, Fail> {
+    Ok(
+        is_subscribed(alloc, server)?
+            && gives_no_notes(alloc, server)?
+            && renewal_fails(alloc, server)?,
+    )
+}
+
+/// The same of a server that took a scan.
+fn server_lets_run_out(alloc: Global) -> Result<bool, Fail> {
+    let mut server = server_with(alloc, "Rock/ Rock/a.flac")?;
+    runs_out(alloc, &mut server)
+}
+
 /// A tick gives no note to a subscription that has run out, and none at all where nothing changed.
 #[test]
 fn ticks_expire_first(rt: HostRuntime) -> Result<(), Fail> {
-    let alloc = rt.alloc();
-    let mut server = server_with(alloc, "Rock/ Rock/a.flac")?;
-    assert!(rt; is_subscribed(alloc, &mut server)? && gives_no_notes(alloc, &mut server)?);
-    assert!(rt; renewal_fails(alloc, &mut server)?);
+    assert!(rt; server_lets_run_out(rt.alloc())?);
     Ok(())
 }

@@ -565,34 +565,44 @@ fn by_pages(
     Ok(ids)
 }
 
-#[test]
-fn each_status_has_its_cause(rt: HostRuntime) -> Result<(), Fail> {
-    let alloc = rt.alloc();
+/// The place of the first row that a server with one track answers otherwise, and its number of the last change then.
+fn first_wrong_status(alloc: Global) -> Result<(Option<usize>, u32), Fail> {
     let mut server = server_with(alloc, "Rock/ Rock/a.flac")?;
     let wrong = first_wrong(alloc, &mut server, &STATUSES)?;
-    assert!(rt;
-        wrong.is_none() && server.system_update_id() == 2,
-        "{wrong:?}"
-    );
+    Ok((wrong, server.system_update_id()))
+}
+
+#[test]
+fn each_status_has_its_cause(rt: HostRuntime) -> Result<(), Fail> {
+    let wrong = first_wrong_status(rt.alloc())?;
+    assert!(rt; wrong == (None, 2), "{wrong:?}");
     Ok(())
+}
+
+/// The place of the first ask that such a server answers otherwise.
+fn first_unlike_ask(alloc: Global) -> Result<Option<usize>, Fail> {
+    let mut server = server_with(alloc, "Rock/ Rock/a.flac")?;
+    first_unlike(alloc, &mut server, &ASKS)
 }
 
 #[test]
 fn browse_is_answered(rt: HostRuntime) -> Result<(), Fail> {
-    let alloc = rt.alloc();
-    let mut server = server_with(alloc, "Rock/ Rock/a.flac")?;
-    let unlike = first_unlike(alloc, &mut server, &ASKS)?;
+    let unlike = first_unlike_ask(rt.alloc())?;
     assert!(rt; unlike.is_none(), "{unlike:?}");
     Ok(())
 }
 
+/// Whether a server stops once it is told.
+fn stops(alloc: Global) -> Result<bool, Fail> {
+    let mut server = server_with(alloc, "Rock/")?;
+    let before = server.stopped();
+    server.stop();
+    Ok(!before && server.stopped())
+}
+
 #[test]
 fn a_server_is_told_to_stop(rt: HostRuntime) -> Result<(), Fail> {
-    let alloc = rt.alloc();
-    let mut server = server_with(alloc, "Rock/")?;
-    assert!(rt; !server.stopped());
-    server.stop();
-    assert!(rt; server.stopped());
+    assert!(rt; stops(rt.alloc())?);
     Ok(())
 }
 
@@ -650,20 +660,32 @@ fn large_server(alloc: Global) -> Result<Server, Fail> {
     server_with(alloc, words.as_str())
 }
 
+/// The first folder whose tracks do not come once each, by pages of each size.
+fn first_otherwise(alloc: Global, server: &mut Server) -> Result<Option<&'static str>, Fail> {
+    for (object, first) in &FOLDERS {
+        for pages in &PAGES {
+            if !come_once(alloc, server, object, *first, pages)? {
+                return Ok(Some(*object));
+            }
+        }
+    }
+    Ok(None)
+}
+
+/// The same of the whole library, and of its folders.
+fn library_otherwise(alloc: Global) -> Result<Option<&'static str>, Fail> {
+    let mut server = large_server(alloc)?;
+    if !folders_come_once(alloc, &mut server)? {
+        return Ok(Some("0"));
+    }
+    first_otherwise(alloc, &mut server)
+}
+
 /// The whole library, by pages of each size.
 #[test]
 fn pages_give_each_row_once(rt: HostRuntime) -> Result<(), Fail> {
-    let alloc = rt.alloc();
-    let mut server = large_server(alloc)?;
-    for (object, first) in &FOLDERS {
-        for pages in &PAGES {
-            assert!(rt;
-                come_once(alloc, &mut server, object, *first, pages)?,
-                "{object}"
-            );
-        }
-    }
-    assert!(rt; folders_come_once(alloc, &mut server)?);
+    let object = library_otherwise(rt.alloc())?;
+    assert!(rt; object.is_none(), "{object:?}");
     Ok(())
 }
 
@@ -686,12 +708,20 @@ fn whole_request(alloc: Global) -> Result<String, AllocError> {
     request(alloc, "POST /control", NUMBER_FIELDS, body.as_str())
 }
 
+/// Whether both have this reply.
+fn both_have_reply(alloc: Global, server: &mut Server) -> Result<bool, Fail> {
+    let text = whole_request(alloc)?;
+    Ok(has_reply(alloc, server, CHUNKED.as_bytes())? && has_reply(alloc, server, text.as_bytes())?)
+}
+
+/// The same of a server with one track.
+fn server_replies(alloc: Global) -> Result<bool, Fail> {
+    let mut server = server_with(alloc, "Rock/ Rock/a.flac")?;
+    both_have_reply(alloc, &mut server)
+}
+
 #[test]
 fn bodies_may_come_in_chunks(rt: HostRuntime) -> Result<(), Fail> {
-    let alloc = rt.alloc();
-    let mut server = server_with(alloc, "Rock/ Rock/a.flac")?;
-    assert!(rt; has_reply(alloc, &mut server, CHUNKED.as_bytes())?);
-    let text = whole_request(alloc)?;
-    assert!(rt; has_reply(alloc, &mut server, text.as_bytes())?);
+    assert!(rt; server_replies(rt.alloc())?);
     Ok(())
 }
