@@ -158,16 +158,24 @@ fn files_in_memory_are_opened_and_come_back(rt: HostRuntime) -> Result<(), Fail>
     Ok(())
 }
 
+/// Two folders, whose first entries fail or come.
+fn folders(alloc: Global) -> Result<Sequence<MemFolder>, Fail> {
+    let mut folders = Sequence::new(alloc);
+    folders.push(folder(alloc, "x", &[1])?)?;
+    folders.push(folder(alloc, "a/", &[])?)?;
+    Ok(folders)
+}
+
 /// The outside in memory with two folders, whose second object fails.
 fn two_folders<R: Drop>(alloc: Global) -> Result<MemOutside<R>, Fail> {
-    let mut objects = MemObjects::new(alloc);
-    objects.folders.push(folder(alloc, "x", &[1])?)?;
-    objects.folders.push(folder(alloc, "a/", &[])?)?;
     let fails = Numbers::from(Vec::from_slice(alloc, &[2])?);
+    let folders = folders(alloc)?;
+    let mut objects = MemObjects::new(alloc);
+    objects.folders = folders;
     Ok(MemOutside::new(objects, fails))
 }
 
-/// Whether a folder is given whose first entry fails or comes, and then none, and there are so many faults.
+/// Whether a folder is given whose first entry fails or comes, and none at the next try.
 fn gives_folder<O: Outside>(alloc: Global, outside: &mut O, fails: bool) -> Result<bool, Fail> {
     let mut tree = outside.folder(alloc, "music")?;
     let is_told = tree.entry(alloc).is_err() == fails;

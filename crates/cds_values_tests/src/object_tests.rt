@@ -395,13 +395,29 @@ fn contents_are_cleaned(rt: HostRuntime) -> Result<(), Fail> {
     Ok(())
 }
 
-/// Whether a copy of a path and its parents are what they are to be.
-fn has_copies(alloc: Global, path: &Path) -> Result<bool, Fail> {
+/// Whether a copy of a path is the path.
+fn has_its_copy(alloc: Global, path: &Path) -> Result<bool, Fail> {
     let copy = path.copy(alloc)?;
+    Ok(copy == *path)
+}
+
+/// Whether a path is that of this text.
+fn is_path_of(alloc: Global, path: &Path, text: &str) -> Result<bool, Fail> {
+    let read = Path::read(alloc, text)?;
+    Ok(*path == read)
+}
+
+/// Whether the parent of a path has no name.
+fn parent_is_root(alloc: Global, path: &Path) -> Result<bool, Fail> {
     let parent = path.parent(alloc)?;
-    let root = parent.parent(alloc)?;
-    let rock = Path::read(alloc, "Rock")?;
-    Ok(copy == *path && parent == rock && root == Path::root(alloc))
+    Ok(parent == Path::root(alloc))
+}
+
+/// Whether a path is copied, and its parents are `Rock` and the root.
+fn has_copies(alloc: Global, path: &Path) -> Result<bool, Fail> {
+    let parent = path.parent(alloc)?;
+    let is_rock = is_path_of(alloc, &parent, "Rock")? && parent_is_root(alloc, &parent)?;
+    Ok(is_rock && has_its_copy(alloc, path)?)
 }
 
 /// Whether the root has no name, and is told from a path.

@@ -12,18 +12,31 @@ fn numbers(alloc: Global, listed: &[u32]) -> Result<Numbers, Fail> {
     Ok(Numbers::from(Vec::from_slice(alloc, listed)?))
 }
 
+/// A clock that tells one moment.
+fn clocks(alloc: Global) -> Result<Sequence<MemClock>, Fail> {
+    let moments = Moments::from(Vec::from_slice(alloc, &[7])?);
+    let mut clocks = Sequence::new(alloc);
+    clocks.push(MemClock::new(moments, Numbers::new(alloc)))?;
+    Ok(clocks)
+}
+
+/// A link without replies.
+fn links(alloc: Global) -> Result<Sequence<MemLink>, Fail> {
+    let replies = Sequence::new(alloc);
+    let mut links = Sequence::new(alloc);
+    links.push(MemLink::new(alloc, replies, Numbers::new(alloc)))?;
+    Ok(links)
+}
+
 /// The outside in memory with a clock and a link.
 fn clock_and_link<R: Drop>(alloc: Global, fails: &[u32]) -> Result<MemOutside<R>, Fail> {
+    let fails = numbers(alloc, fails)?;
+    let clocks = clocks(alloc)?;
+    let links = links(alloc)?;
     let mut objects = MemObjects::new(alloc);
-    let moments = Moments::from(Vec::from_slice(alloc, &[7])?);
-    objects
-        .clocks
-        .push(MemClock::new(moments, Numbers::new(alloc)))?;
-    let replies = Sequence::new(alloc);
-    objects
-        .links
-        .push(MemLink::new(alloc, replies, Numbers::new(alloc)))?;
-    Ok(MemOutside::new(objects, numbers(alloc, fails)?))
+    objects.clocks = clocks;
+    objects.links = links;
+    Ok(MemOutside::new(objects, fails))
 }
 
 /// Whether a clock is given at the second try, and no other one.
@@ -47,27 +60,46 @@ fn link_comes_back<R: Wait + Clone + Send + Drop + 'static>(
     Ok(fails && is_last && before == 3 && outside.faults() == 4)
 }
 
+/// Whether an outside gives them so.
+fn gives_clocks_and_links<R: Wait + Clone + Send + Drop + 'static>(
+    alloc: Global,
+    mut outside: MemOutside<R>,
+) -> Result<bool, Fail> {
+    Ok(clock_is_given(alloc, &mut outside)? && link_comes_back(alloc, &mut outside)?)
+}
+
 #[test]
 fn the_outside_in_memory_gives_clocks_and_links(rt: HostRuntime) -> Result<(), Fail> {
-    let alloc = rt.alloc();
-    let mut outside: MemOutside<HostRuntime> = clock_and_link(alloc, &[1])?;
-    assert!(rt; clock_is_given(alloc, &mut outside)? && link_comes_back(alloc, &mut outside)?);
+    let outside: MemOutside<HostRuntime> = clock_and_link(rt.alloc(), &[1])?;
+    assert!(rt; gives_clocks_and_links(rt.alloc(), outside)?);
     Ok(())
 }
 
-/// The outside in memory with a door of one connection and a spawner that fails.
-fn door_and_spawner<R: Wait + Clone + Drop>(rt: R, alloc: Global) -> Result<MemOutside<R>, Fail> {
+/// A door of one connection.
+fn doors<R: Wait + Clone + Drop>(rt: R, alloc: Global) -> Result<Sequence<MemDoor<R>>, Fail> {
     let source = MemSource::new(Bytes::new(alloc), Numbers::new(alloc));
     let sink = MemSink::new(Bytes::new(alloc), Numbers::new(alloc));
     let mut conns = Sequence::new(alloc);
     conns.push(MemConn::new(source, sink))?;
+    let mut doors = Sequence::new(alloc);
+    doors.push(MemDoor::new(rt, alloc, conns, Numbers::new(alloc))?)?;
+    Ok(doors)
+}
+
+/// A spawner that fails.
+fn spawners(alloc: Global) -> Result<Sequence<MemSpawner>, Fail> {
+    let mut spawners = Sequence::new(alloc);
+    spawners.push(MemSpawner::new(numbers(alloc, &[1])?))?;
+    Ok(spawners)
+}
+
+/// The outside in memory with a door and a spawner.
+fn door_and_spawner<R: Wait + Clone + Drop>(rt: R, alloc: Global) -> Result<MemOutside<R>, Fail> {
+    let doors = doors(rt, alloc)?;
+    let spawners = spawners(alloc)?;
     let mut objects = MemObjects::new(alloc);
-    objects
-        .doors
-        .push(MemDoor::new(rt, alloc, conns, Numbers::new(alloc))?)?;
-    objects
-        .spawners
-        .push(MemSpawner::new(numbers(alloc, &[1])?))?;
+    objects.doors = doors;
+    objects.spawners = spawners;
     Ok(MemOutside::new(objects, Numbers::new(alloc)))
 }
 
@@ -93,12 +125,20 @@ fn spawner_comes_back<R: Wait + Clone + Send + Drop + 'static>(
     Ok(fails && outside.started() == 0 && outside.faults() == 2)
 }
 
+/// Whether an outside takes them back, and gives no others.
+fn takes_back<R: Wait + Clone + Send + Drop + 'static>(
+    alloc: Global,
+    mut outside: MemOutside<R>,
+) -> Result<bool, Fail> {
+    let are_back = door_comes_back(alloc, &mut outside)?
+        && spawner_comes_back(alloc, &mut outside)?;
+    let are_last = outside.door(alloc, 80).is_err() && outside.spawner(alloc).is_err();
+    Ok(are_back && are_last && outside.faults() == 4)
+}
+
 #[test]
 fn the_outside_in_memory_takes_doors_and_spawners_back(rt: HostRuntime) -> Result<(), Fail> {
-    let alloc = rt.alloc();
-    let mut outside = door_and_spawner(rt, alloc)?;
-    assert!(rt; door_comes_back(alloc, &mut outside)? && spawner_comes_back(alloc, &mut outside)?);
-    assert!(rt; outside.door(alloc, 80).is_err() && outside.spawner(alloc).is_err());
-    assert!(rt; outside.faults() == 4);
+    let outside = door_and_spawner(rt, rt.alloc())?;
+    assert!(rt; takes_back(rt.alloc(), outside)?);
     Ok(())
 }
