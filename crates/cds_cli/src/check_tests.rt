@@ -1,14 +1,7 @@
 //! StateEvents whose written form, or the place of whose first fault, is known from outside.
 
-use crate::tests::play;
-use std::alloc::Global;
-use std::marker::{Send, Sync};
-use std::sync::Wait;
+use crate::tests::{Case, first_wrong, is_played};
 use std::test::Fail;
-use std::thread::Threads;
-
-/// A StateEvent, and the status and the text that it is to give.
-type Case<'a> = (&'a str, u8, &'a str);
 
 /// StateEvents and their one written form.
 const READ: [Case; 8] = [
@@ -115,41 +108,24 @@ const REFUSED: [Case; 13] = [
     ),
 ];
 
-/// The first input that gives another status or another text.
-fn first_wrong<'a, R: Threads + Wait + Clone + Drop + Send + Sync + 'static>(
-    rt: &R,
-    alloc: Global,
-    cases: &[Case<'a>],
-) -> Result<Option<&'a str>, Fail> {
-    for (input, status, text) in cases {
-        let (answered, written) = play(rt, alloc, &["check"], input.as_bytes(), &[], &[])?;
-        if answered != *status || written.as_slice() != text.as_bytes() {
-            return Ok(Some(*input));
-        }
-    }
-    Ok(None)
-}
-
 #[test]
 fn state_events_have_one_written_form(rt: HostRuntime) -> Result<(), Fail> {
-    assert_eq!(rt; first_wrong(&rt, rt.alloc(), &READ)?, None);
+    let wrong = first_wrong(&rt, rt.alloc(), "check", &READ)?;
+    assert!(rt; wrong.is_none(), "{wrong:?}");
     Ok(())
 }
 
 #[test]
 fn other_input_is_refused_at_its_first_fault(rt: HostRuntime) -> Result<(), Fail> {
-    assert_eq!(rt; first_wrong(&rt, rt.alloc(), &REFUSED)?, None);
+    let wrong = first_wrong(&rt, rt.alloc(), "check", &REFUSED)?;
+    assert!(rt; wrong.is_none(), "{wrong:?}");
     Ok(())
 }
 
 #[test]
 fn faults_of_the_streams_have_their_statuses(rt: HostRuntime) -> Result<(), Fail> {
     let alloc = rt.alloc();
-    let (status, written) = play(&rt, alloc, &["check"], b" ", &[2], &[])?;
-    assert_eq!(rt; status, 2);
-    assert_eq!(rt; written.as_slice(), b"".as_slice());
-    let (status, written) = play(&rt, alloc, &["check"], b" ", &[], &[1])?;
-    assert_eq!(rt; status, 3);
-    assert_eq!(rt; written.as_slice(), b"".as_slice());
+    assert!(rt; is_played(&rt, alloc, &["check"], b" ", (&[2], &[]), (2, b""))?);
+    assert!(rt; is_played(&rt, alloc, &["check"], b" ", (&[], &[1]), (3, b""))?);
     Ok(())
 }

@@ -6,6 +6,7 @@ use crate::links::RealLink;
 use crate::reach::near_address;
 use crate::spawners::RealSpawner;
 use cds_base::{Clock, Door, Failed, Job, Link, LinkFault, Running, Sink, Source, Spawner};
+use std::alloc::Global;
 use std::io;
 use std::io::{Read, Write};
 use std::marker::Send;
@@ -26,42 +27,47 @@ fn the_clock_goes_on(rt: HostRuntime) -> Result<(), Fail> {
     Ok(())
 }
 
+/// Addresses, and whether a link goes there.
+const ADDRESSES: [(&str, bool); 27] = [
+    ("http://127.0.0.1:8200/a", true),
+    ("http://127.255.0.9/", true),
+    ("http://10.255.255.255/", true),
+    ("http://172.16.0.1/", true),
+    ("http://172.31.255.255:1/", true),
+    ("http://192.168.1.2:49152/notify?x=1", true),
+    ("http://169.254.1.1/", true),
+    ("http://[::1]:80/", true),
+    ("http://[fe80::1]/", true),
+    ("http://[fd00::1]/", true),
+    ("http://0.0.0.0/", false),
+    ("http://8.8.8.8/", false),
+    ("http://172.15.255.255/", false),
+    ("http://172.32.0.1/", false),
+    ("http://192.169.0.1/", false),
+    ("http://169.253.1.1/", false),
+    ("http://224.0.0.1/", false),
+    ("http://255.255.255.255/", false),
+    ("http://[2001:db8::1]/", false),
+    ("http://[::ffff:8.8.8.8]/", false),
+    ("http://[::]/", false),
+    ("http://localhost/", false),
+    ("http://example.com/", false),
+    ("https://127.0.0.1/", false),
+    ("ftp://127.0.0.1/", false),
+    ("127.0.0.1", false),
+    ("", false),
+];
+
+/// Whether a link goes to an address.
+fn is_near(alloc: Global, url: &str) -> bool {
+    near_address(alloc, url).is_ok()
+}
+
 #[test]
-fn links_go_to_near_addresses(rt: HostRuntime) -> Result<(), Fail> {
-    let cases = [
-        ("http://127.0.0.1:8200/a", true),
-        ("http://127.255.0.9/", true),
-        ("http://10.255.255.255/", true),
-        ("http://172.16.0.1/", true),
-        ("http://172.31.255.255:1/", true),
-        ("http://192.168.1.2:49152/notify?x=1", true),
-        ("http://169.254.1.1/", true),
-        ("http://[::1]:80/", true),
-        ("http://[fe80::1]/", true),
-        ("http://[fd00::1]/", true),
-        ("http://0.0.0.0/", false),
-        ("http://8.8.8.8/", false),
-        ("http://172.15.255.255/", false),
-        ("http://172.32.0.1/", false),
-        ("http://192.169.0.1/", false),
-        ("http://169.253.1.1/", false),
-        ("http://224.0.0.1/", false),
-        ("http://255.255.255.255/", false),
-        ("http://[2001:db8::1]/", false),
-        ("http://[::ffff:8.8.8.8]/", false),
-        ("http://[::]/", false),
-        ("http://localhost/", false),
-        ("http://example.com/", false),
-        ("https://127.0.0.1/", false),
-        ("ftp://127.0.0.1/", false),
-        ("127.0.0.1", false),
-        ("", false),
-    ];
-    for (url, is_near) in cases {
-        let found = near_address(rt.alloc(), url);
-        assert!(rt; found.is_ok() == is_near, "{url}");
+fn links_go_to_near_addresses(rt: HostRuntime) {
+    for (url, want) in &ADDRESSES {
+        assert!(rt; is_near(rt.alloc(), url) == *want, "{url}");
     }
-    Ok(())
 }
 
 /// A client's connection to a port of this machine, which sent this.

@@ -114,37 +114,37 @@ fn is_scanned<R: Threads + Wait + Clone + Drop + Send + Sync + 'static>(
     Ok(answered == *status && counted == *faults && written.as_slice() == text.as_bytes())
 }
 
+const CASES: [Case; 7] = [
+    (&[], &[], &[], 0, 0, NONE),
+    // A good file and one that is cut off in its comments.
+    (&[("good.flac", 65), ("cut.flac", 48)], &[], &[], 0, 0, ONE),
+    // Odd bytes in paths, and whole paths in the order of their bytes.
+    (
+        &[
+            ("\u{fc}.flac", 48),
+            ("a/", 0),
+            ("a/%.flac", 48),
+            ("a b.flac", 48),
+        ],
+        &[],
+        &[],
+        0,
+        0,
+        ODD,
+    ),
+    // A path that no object may have.
+    (&[("a/", 0), ("a/../", 0)], &[], &[], 6, 0, "error limit\n"),
+    // An entry that fails, at first and later on.
+    (&[("a/", 0)], &[1], &[], 2, 1, ""),
+    (&[("a/", 0)], &[2], &[], 2, 1, ""),
+    // A sink that fails.
+    (&[], &[], &[1], 3, 0, ""),
+];
+
 #[test]
 fn folders_have_their_listing(rt: HostRuntime) -> Result<(), Fail> {
-    let cases: [Case; 7] = [
-        (&[], &[], &[], 0, 0, NONE),
-        // A good file and one that is cut off in its comments.
-        (&[("good.flac", 65), ("cut.flac", 48)], &[], &[], 0, 0, ONE),
-        // Odd bytes in paths, and whole paths in the order of their bytes.
-        (
-            &[
-                ("\u{fc}.flac", 48),
-                ("a/", 0),
-                ("a/%.flac", 48),
-                ("a b.flac", 48),
-            ],
-            &[],
-            &[],
-            0,
-            0,
-            ODD,
-        ),
-        // A path that no object may have.
-        (&[("a/", 0), ("a/../", 0)], &[], &[], 6, 0, "error limit\n"),
-        // An entry that fails, at first and later on.
-        (&[("a/", 0)], &[1], &[], 2, 1, ""),
-        (&[("a/", 0)], &[2], &[], 2, 1, ""),
-        // A sink that fails.
-        (&[], &[], &[1], 3, 0, ""),
-    ];
-    for case in cases {
-        let is = is_scanned(&rt, rt.alloc(), &case)?;
-        assert!(rt; is);
+    for case in &CASES {
+        assert!(rt; is_scanned(&rt, rt.alloc(), case)?);
     }
     Ok(())
 }

@@ -25,6 +25,12 @@ fn read_inside(alloc: Global, parts: &[&str]) -> Result<Result<Rows, DidlError>,
     Ok(read_didl(alloc, text.as_str().as_bytes()))
 }
 
+/// The rows of a document with these children.
+fn rows_of(alloc: Global, parts: &[&str]) -> Result<Rows, Fail> {
+    let rows = read_inside(alloc, parts)??;
+    Ok(rows)
+}
+
 /// The row at a place.
 fn row_at(rows: &Rows, at: usize) -> Result<&Row, Fail> {
     match rows.get(at) {
@@ -112,43 +118,51 @@ const BAD_OBJECTS: [(&str, &str, &str); 39] = [
     ),
 ];
 
+/// Whether a document is refused at an object whose piece is replaced by another.
+fn is_bad_object(alloc: Global, kind: &str, from: &str, to: &str) -> Result<bool, Fail> {
+    let bad = with(alloc, kind, from, to)?;
+    let at = START.len() + CONTAINER.len() + 1;
+    let answer = read_inside(alloc, &[CONTAINER, " ", bad.as_str(), "<x/>"])?;
+    Ok(bad.len() > 0 && answer.err() == Some(DidlError::BadValue { at }))
+}
+
+/// Texts that are no such document, and why.
+const NO_DIDL: [(&str, DidlError); 4] = [
+    ("<a/>", DidlError::NotDidl { at: 0 }),
+    (
+        "<?xml version=\"1.0\"?> <DIDL-Lite/>",
+        DidlError::NotDidl { at: 22 },
+    ),
+    ("<a", DidlError::Markup(MarkupError::Bad { at: 2 })),
+    ("", DidlError::Markup(MarkupError::Bad { at: 0 })),
+];
+
+/// Elements that may not stand in such a document.
+const OTHERS: [&str; 3] = ["<x/>", "<dc:item/>", "<Item/>"];
+
+/// Whether a text is refused for this.
+fn is_refused(alloc: Global, text: &str, want: DidlError) -> bool {
+    read_didl(alloc, text.as_bytes()).err() == Some(want)
+}
+
+/// Whether a document is refused at this element.
+fn is_no_object(alloc: Global, other: &str) -> Result<bool, Fail> {
+    let at = START.len() + 3;
+    let answer = read_inside(alloc, &[" x ", other, "<item/>"])?;
+    Ok(answer.err() == Some(DidlError::NotDidl { at }))
+}
+
 #[test]
 fn refusals_have_their_places(rt: HostRuntime) -> Result<(), Fail> {
     let alloc = rt.alloc();
-    for (kind, from, to) in BAD_OBJECTS {
-        let bad = with(alloc, kind, from, to)?;
-        assert!(rt; bad.len() > 0, "{from}");
-        let at = START.len() + CONTAINER.len() + 1;
-        match read_inside(alloc, &[CONTAINER, " ", bad.as_str(), "<x/>"])? {
-            Ok(_) => assert!(rt; false, "{from} {to}"),
-            Err(error) => assert_eq!(rt; error, DidlError::BadValue { at }, "{from} {to}"),
-        }
+    for (kind, from, to) in &BAD_OBJECTS {
+        assert!(rt; is_bad_object(alloc, kind, from, to)?, "{from} {to}");
     }
-    for (text, want) in [
-        ("<a/>", DidlError::NotDidl { at: 0 }),
-        (
-            "<?xml version=\"1.0\"?> <DIDL-Lite/>",
-            DidlError::NotDidl { at: 22 },
-        ),
-        ("<a", DidlError::Markup(MarkupError::Bad { at: 2 })),
-        ("", DidlError::Markup(MarkupError::Bad { at: 0 })),
-    ] {
-        match read_didl(alloc, text.as_bytes()) {
-            Ok(_) => assert!(rt; false, "{text}"),
-            Err(error) => assert_eq!(rt; error, want, "{text}"),
-        }
+    for (text, want) in &NO_DIDL {
+        assert!(rt; is_refused(alloc, text, *want), "{text}");
     }
-    for other in ["<x/>", "<dc:item/>", "<Item/>"] {
-        match read_inside(alloc, &[" x ", other, "<item/>"])? {
-            Ok(_) => assert!(rt; false, "{other}"),
-            Err(error) => assert_eq!(rt;
-                error,
-                DidlError::NotDidl {
-                    at: START.len() + 3
-                },
-                "{other}"
-            ),
-        }
+    for other in &OTHERS {
+        assert!(rt; is_no_object(alloc, other)?, "{other}");
     }
     Ok(())
 }
@@ -167,84 +181,124 @@ const DURATIONS: [(&str, &str, Option<u64>); 6] = [
     (" duration=\"0:00:10.000\"", "", None),
 ];
 
+/// Whether an item whose piece is replaced by another has this duration.
+fn has_duration(alloc: Global, from: &str, to: &str, want: Option<u64>) -> Result<bool, Fail> {
+    let item = with(alloc, ITEM, from, to)?;
+    let rows = rows_of(alloc, &[item.as_str()])?;
+    match &row_at(&rows, 0)?.content {
+        Content::Track(track) => Ok(track.duration == want),
+        Content::Folder { .. } => Ok(false),
+    }
+}
+
 #[test]
 fn durations_are_read(rt: HostRuntime) -> Result<(), Fail> {
-    let alloc = rt.alloc();
-    for (from, to, want) in DURATIONS {
-        let item = with(alloc, ITEM, from, to)?;
-        match read_inside(alloc, &[item.as_str()])? {
-            Ok(rows) => match &row_at(&rows, 0)?.content {
-                Content::Track(track) => assert!(rt; track.duration == want, "{to}"),
-                Content::Folder { .. } => assert!(rt; false),
-            },
-            Err(_) => assert!(rt; false, "{to}"),
-        }
+    for (from, to, want) in &DURATIONS {
+        assert!(rt; has_duration(rt.alloc(), from, to, *want)?, "{to}");
     }
     Ok(())
 }
 
-#[test]
-fn what_is_not_named_is_passed_over(rt: HostRuntime) -> Result<(), Fail> {
-    let alloc = rt.alloc();
+/// An item with elements and attributes that are not named.
+fn other_item(alloc: Global) -> Result<String, AllocError> {
     let other = with(
         alloc,
         ITEM,
         "<res protocolInfo=\"http-get:*:audio/flac:*\"",
         "<y z=\"1\"><upnp:genre/></y>x<res a=\"b\"",
     )?;
-    let other = with(alloc, other.as_str(), " sampleFrequency=\"44100\"", "")?;
-    match read_inside(alloc, &[CONTAINER, other.as_str()])? {
-        Ok(rows) => {
-            assert_eq!(rt; rows.len(), 2);
-            let row = row_at(&rows, 1)?;
-            assert!(rt;
-                row.id == ObjectId(2) && row.parent == Some(ObjectId(1)) && row.object_update == 2
-            );
-            match &row.content {
-                Content::Track(track) => {
-                    assert_eq!(rt; track.title.as_str(), "a");
-                    assert!(rt; track.number == Some(7) && track.rate == 0 && track.bits == 16);
-                }
-                Content::Folder { .. } => assert!(rt; false),
-            }
+    with(alloc, other.as_str(), " sampleFrequency=\"44100\"", "")
+}
+
+/// Whether a content is that of this item.
+fn is_other(content: &Content) -> bool {
+    match content {
+        Content::Track(track) => {
+            track.title.as_str() == "a"
+                && track.number == Some(7)
+                && track.rate == 0
+                && track.bits == 16
         }
-        Err(_) => assert!(rt; false),
+        Content::Folder { .. } => false,
     }
+}
+
+/// Whether a row is that of this item.
+fn is_other_row(row: &Row) -> bool {
+    row.id == ObjectId(2)
+        && row.parent == Some(ObjectId(1))
+        && row.object_update == 2
+        && is_other(&row.content)
+}
+
+/// Whether that item is read, behind a container.
+fn other_is_read(alloc: Global) -> Result<bool, Fail> {
+    let other = other_item(alloc)?;
+    let rows = rows_of(alloc, &[CONTAINER, other.as_str()])?;
+    Ok(rows.len() == 2 && is_other_row(row_at(&rows, 1)?))
+}
+
+#[test]
+fn what_is_not_named_is_passed_over(rt: HostRuntime) -> Result<(), Fail> {
+    assert!(rt; other_is_read(rt.alloc())?);
     Ok(())
 }
 
 /// The rows of a folder and a track.
 fn rows(alloc: Global) -> Result<Rows, Fail> {
-    match read_inside(alloc, &[CONTAINER, ITEM])? {
-        Ok(rows) => Ok(rows),
-        Err(error) => Err(Fail::from(error)),
+    rows_of(alloc, &[CONTAINER, ITEM])
+}
+
+/// The document of rows, whose addresses begin with this.
+fn written(alloc: Global, rows: &Rows, base: &str) -> Result<Vec<u8>, Fail> {
+    let mut out = Vec::new(alloc);
+    write_didl(rows.as_slice(), &Filter::all(), base, &mut out)?;
+    Ok(out)
+}
+
+/// Whether two rows say the same.
+fn says_the_same(one: &Row, other: &Row) -> bool {
+    one.id == other.id
+        && one.parent == other.parent
+        && one.content == other.content
+        && one.object_update == other.object_update
+        && one.trackers == other.trackers
+}
+
+/// Whether the first rows say the same, and there are so many of the others.
+fn say_the_same(rows: &Rows, others: &Rows, count: usize) -> bool {
+    for (one, other) in rows.as_slice().iter().zip(others.as_slice()) {
+        if !says_the_same(one, other) {
+            return false;
+        }
     }
+    others.len() == count
+}
+
+/// Whether the document of the rows is this.
+fn are_written(alloc: Global, rows: &Rows) -> Result<bool, Fail> {
+    let out = written(alloc, rows, "")?;
+    let want = format!(in alloc; "{START}{CONTAINER}{ITEM}</DIDL-Lite>")?;
+    Ok(out.as_slice() == want.as_bytes())
+}
+
+/// The rows, written and read.
+fn written_and_read(alloc: Global, rows: &Rows) -> Result<Rows, Fail> {
+    let out = written(alloc, rows, "http://h:1/&\"<")?;
+    let again = read_didl(alloc, out.as_slice())?;
+    Ok(again)
+}
+
+/// Whether the rows are written, and read back.
+fn are_read_back(alloc: Global) -> Result<bool, Fail> {
+    let rows = rows(alloc)?;
+    let again = written_and_read(alloc, &rows)?;
+    Ok(say_the_same(&rows, &again, 2) && are_written(alloc, &rows)?)
 }
 
 #[test]
 fn rows_are_written_and_read_back(rt: HostRuntime) -> Result<(), Fail> {
-    let alloc = rt.alloc();
-    let rows = rows(alloc)?;
-    let mut out = Vec::new(alloc);
-    write_didl(rows.as_slice(), &Filter::all(), "", &mut out)?;
-    let want = format!(in alloc; "{START}{CONTAINER}{ITEM}</DIDL-Lite>")?;
-    assert!(rt; out.as_slice() == want.as_bytes());
-    let mut out = Vec::new(alloc);
-    write_didl(rows.as_slice(), &Filter::all(), "http://h:1/&\"<", &mut out)?;
-    match read_didl(alloc, out.as_slice()) {
-        Ok(again) => {
-            assert_eq!(rt; again.len(), 2);
-            for (one, other) in rows.as_slice().iter().zip(again.as_slice()) {
-                assert!(rt;
-                    one.id == other.id && one.parent == other.parent && one.content == other.content
-                );
-                assert!(rt;
-                    one.object_update == other.object_update && one.trackers == other.trackers
-                );
-            }
-        }
-        Err(_) => assert!(rt; false),
-    }
+    assert!(rt; are_read_back(rt.alloc())?);
     Ok(())
 }
 
@@ -300,37 +354,61 @@ const FILTERED: [(&str, usize, &str, &str); 11] = [
     ),
 ];
 
+/// Whether this is written of a row through a filter, in two parts.
+fn is_filtered(
+    alloc: Global,
+    row: &Row,
+    filter: &str,
+    want: &str,
+    more: &str,
+) -> Result<bool, Fail> {
+    let filter = Filter::read(alloc, filter)?;
+    let mut out = Vec::new(alloc);
+    write_fragment(row, &filter, "", &mut out)?;
+    let want = format!(in alloc; "{want}{more}")?;
+    Ok(out.as_slice() == want.as_bytes())
+}
+
+/// The first filter through which something else is written.
+fn first_otherwise(alloc: Global) -> Result<Option<&'static str>, Fail> {
+    let rows = rows(alloc)?;
+    for (text, number, want, more) in &FILTERED {
+        if !is_filtered(alloc, row_at(&rows, *number)?, text, want, more)? {
+            return Ok(Some(*text));
+        }
+    }
+    Ok(None)
+}
+
 #[test]
 fn filters_let_through_what_they_name(rt: HostRuntime) -> Result<(), Fail> {
-    let alloc = rt.alloc();
-    let rows = rows(alloc)?;
-    for (text, number, want, more) in FILTERED {
-        let mut out = Vec::new(alloc);
-        let filter = Filter::read(alloc, text)?;
-        write_fragment(row_at(&rows, number)?, &filter, "", &mut out)?;
-        let want = format!(in alloc; "{want}{more}")?;
-        assert!(rt; out.as_slice() == want.as_bytes(), "{text}");
-    }
+    let filter = first_otherwise(rt.alloc())?;
+    assert!(rt; filter.is_none(), "{filter:?}");
     Ok(())
+}
+
+/// The front of an item whose title has what is escaped.
+const ESCAPED: &str =
+    "<item id=\"1\" parentID=\"0\" restricted=\"1\"><dc:title>A &amp; &quot;B&quot; &lt;C&gt;\u{fffd}</dc:title><upnp:class>object.item.audioItem.musicTrack</upnp:class><upnp:objectUpdateID>1</upnp:objectUpdateID><res protocolInfo=\"http-get:*:audio/flac:*\" size=\"10\" bitsPerSample=\"16\" nrAudioChannels=\"2\">";
+
+/// Whether a row is written as that item, with this in its address.
+fn is_escaped(alloc: Global, row: &Row, base: &str, shown: &str) -> Result<bool, Fail> {
+    let mut out = Vec::new(alloc);
+    write_fragment(row, &Filter::all(), base, &mut out)?;
+    let want = format!(in alloc; "{ESCAPED}{shown}/media/1</res></item>")?;
+    Ok(out.as_slice() == want.as_bytes())
+}
+
+/// Whether that item is read, and written with each address.
+fn both_are_escaped(alloc: Global) -> Result<bool, Fail> {
+    let rows = rows_of(alloc, &[ESCAPED, "/media/1</res></item>"])?;
+    let row = row_at(&rows, 0)?;
+    let is_plain = is_escaped(alloc, row, "", "")?;
+    Ok(is_plain && is_escaped(alloc, row, "http://h?a&b", "http://h?a&amp;b")?)
 }
 
 #[test]
 fn texts_are_escaped(rt: HostRuntime) -> Result<(), Fail> {
-    let alloc = rt.alloc();
-    let front =
-        "<item id=\"1\" parentID=\"0\" restricted=\"1\"><dc:title>A &amp; &quot;B&quot; &lt;C&gt;\u{fffd}</dc:title><upnp:class>object.item.audioItem.musicTrack</upnp:class><upnp:objectUpdateID>1</upnp:objectUpdateID><res protocolInfo=\"http-get:*:audio/flac:*\" size=\"10\" bitsPerSample=\"16\" nrAudioChannels=\"2\">";
-    let item = format!(in alloc; "{front}/media/1</res></item>")?;
-    match read_inside(alloc, &[item.as_str()])? {
-        Ok(rows) => {
-            let mut out = Vec::new(alloc);
-            write_fragment(row_at(&rows, 0)?, &Filter::all(), "", &mut out)?;
-            assert!(rt; out.as_slice() == item.as_bytes());
-            let mut out = Vec::new(alloc);
-            write_fragment(row_at(&rows, 0)?, &Filter::all(), "http://h?a&b", &mut out)?;
-            let based = format!(in alloc; "{front}http://h?a&amp;b/media/1</res></item>")?;
-            assert!(rt; out.as_slice() == based.as_bytes());
-        }
-        Err(_) => assert!(rt; false),
-    }
+    assert!(rt; both_are_escaped(rt.alloc())?);
     Ok(())
 }

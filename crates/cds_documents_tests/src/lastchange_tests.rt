@@ -95,16 +95,41 @@ const EVENTS: [(&'static [Event], &'static [u8]); 3] = [
     ),
 ];
 
+/// In pieces of how many bytes texts are read.
+const SIZES: [usize; 6] = [1, 2, 7, 54, 112, 1000];
+
+/// Whether these bytes are read as these events, in pieces of so many bytes.
+fn is_read(alloc: Global, bytes: &[u8], size: usize, events: &[Event]) -> Result<bool, StateError> {
+    let back = read_again(alloc, bytes, size)?;
+    Ok(back.as_slice() == events)
+}
+
+/// Whether these bytes are read as these events in pieces of each of the sizes.
+fn is_read_in_every_cutting(
+    alloc: Global,
+    bytes: &[u8],
+    events: &[Event],
+) -> Result<bool, StateError> {
+    for size in &SIZES {
+        if !is_read(alloc, bytes, *size, events)? {
+            return Ok(false);
+        }
+    }
+    Ok(true)
+}
+
+/// Whether this is written of events behind the start tag, and is read as the same in every cutting.
+fn is_written_and_read(alloc: Global, events: &[Event], text: &[u8]) -> Result<bool, Fail> {
+    let bytes = written(alloc, events)?;
+    let wanted = begun(alloc, text)?;
+    let is_read = is_read_in_every_cutting(alloc, bytes.as_slice(), events)?;
+    Ok(bytes.as_slice() == wanted.as_slice() && is_read)
+}
+
 #[test]
 fn events_are_written_and_read_in_every_cutting(rt: HostRuntime) -> Result<(), Fail> {
-    for (events, text) in EVENTS {
-        let bytes = written(rt.alloc(), events)?;
-        let wanted = begun(rt.alloc(), text)?;
-        assert_eq!(rt; bytes.as_slice(), wanted.as_slice());
-        for size in [1, 2, 7, 54, 112, 1000] {
-            let back = read_again(rt.alloc(), bytes.as_slice(), size)?;
-            assert_eq!(rt; back.as_slice(), events);
-        }
+    for (events, text) in &EVENTS {
+        assert!(rt; is_written_and_read(rt.alloc(), events, text)?);
     }
     Ok(())
 }
@@ -156,9 +181,8 @@ const OTHER_FORMS: [(&'static [u8], usize); 9] = [
 
 #[test]
 fn other_forms_are_read(rt: HostRuntime) -> Result<(), Fail> {
-    for (bytes, wanted) in OTHER_FORMS {
-        let found = count(rt.alloc(), bytes)?;
-        assert_eq!(rt; found, wanted);
+    for (bytes, wanted) in &OTHER_FORMS {
+        assert!(rt; count(rt.alloc(), bytes)? == *wanted);
     }
     Ok(())
 }
@@ -284,41 +308,61 @@ const NO_STATE_EVENTS: [(&'static [u8], usize, bool); 9] = [
     (b"<!-- x -->", 10, true),
 ];
 
+/// Whether bytes are refused at this place, however they are cut, as a document or not.
+fn is_refused(alloc: Global, bytes: &[u8], at: usize, bad: bool) -> Result<bool, Fail> {
+    let found = places(alloc, bytes)?;
+    Ok(found == (at, at, bad))
+}
+
+/// The same of bytes behind the start tag.
+fn is_refused_behind(alloc: Global, rest: &[u8], at: usize, bad: bool) -> Result<bool, Fail> {
+    let bytes = begun(alloc, rest)?;
+    is_refused(alloc, bytes.as_slice(), at, bad)
+}
+
 #[test]
 fn what_is_no_state_event_is_refused(rt: HostRuntime) -> Result<(), Fail> {
-    for (rest, at, bad) in NO_EVENTS {
-        let bytes = begun(rt.alloc(), rest)?;
-        let found = places(rt.alloc(), bytes.as_slice())?;
-        assert_eq!(rt; found, (at, at, bad));
+    for (rest, at, bad) in &NO_EVENTS {
+        assert!(rt; is_refused_behind(rt.alloc(), rest, *at, *bad)?, "{at}");
     }
-    for (bytes, at, bad) in NO_STATE_EVENTS {
-        let found = places(rt.alloc(), bytes)?;
-        assert_eq!(rt; found, (at, at, bad));
+    for (bytes, at, bad) in &NO_STATE_EVENTS {
+        assert!(rt; is_refused(rt.alloc(), bytes, *at, *bad)?, "{at}");
     }
     Ok(())
 }
 
-#[test]
-fn an_early_fault_is_the_answer_past_the_limit(rt: HostRuntime) -> Result<(), Fail> {
-    let alloc = rt.alloc();
-    let blanks = vec![in alloc; b' '; 1_048_576]?;
+/// A reader behind a fault.
+fn faulty_reader(alloc: Global) -> Result<StateReader, StateError> {
     let mut reader = StateReader::new(alloc)?;
     reader.feed(alloc, START)?;
     reader.feed(alloc, b"<objNew/>&bad;")?;
+    Ok(reader)
+}
+
+/// What the piece that passes the limit is answered, where all before it fit.
+fn past_the_limit(alloc: Global, reader: &mut StateReader) -> Result<Result<(), StateError>, Fail> {
+    let blanks = vec![in alloc; b' '; 1_048_576]?;
     for _ in 0..63 {
         reader.feed(alloc, blanks.as_slice())?;
     }
+    Ok(reader.feed(alloc, blanks.as_slice()))
+}
+
+/// Whether a reader has failed.
+fn has_failed(alloc: Global, mut reader: StateReader) -> bool {
+    let behind = reader.feed(alloc, b"");
+    let end = reader.finish(alloc).err();
+    behind == Err(StateError::Failed) && end == Some(StateError::Failed)
+}
+
+#[test]
+fn an_early_fault_is_the_answer_past_the_limit(rt: HostRuntime) -> Result<(), Fail> {
+    let mut reader = faulty_reader(rt.alloc())?;
+    let answer = past_the_limit(rt.alloc(), &mut reader)?;
+    assert!(rt; has_failed(rt.alloc(), reader), "behind it");
     assert!(rt;
-        reader.feed(alloc, blanks.as_slice()) == Err(StateError::NotStateEvent { at: 54 }),
+        answer == Err(StateError::NotStateEvent { at: 54 }),
         "past the limit"
-    );
-    assert!(rt;
-        reader.feed(alloc, b"") == Err(StateError::Failed),
-        "behind it"
-    );
-    assert!(rt;
-        reader.finish(alloc).err() == Some(StateError::Failed),
-        "at the end"
     );
     Ok(())
 }

@@ -134,13 +134,21 @@ const CUTS: [Cut; 6] = [
     },
 ];
 
+/// The first byte of a document that has not its place, as its marks say, and how many first bytes stand before it.
+fn first_otherwise(alloc: Global, cut: &Cut) -> Result<Option<(u8, usize)>, Fail> {
+    for (byte, marks) in cut.marks {
+        if let Some(place) = otherwise(alloc, cut.document, *byte, marks)? {
+            return Ok(Some((*byte, place)));
+        }
+    }
+    Ok(None)
+}
+
 #[test]
 fn each_byte_has_its_place_behind_every_beginning(rt: HostRuntime) -> Result<(), Fail> {
-    for cut in CUTS {
-        for (byte, marks) in cut.marks {
-            let place = otherwise(rt.alloc(), cut.document, *byte, marks)?;
-            assert!(rt; place.is_none(), "{byte} behind {place:?}");
-        }
+    for cut in &CUTS {
+        let place = first_otherwise(rt.alloc(), cut)?;
+        assert!(rt; place.is_none(), "{place:?}");
     }
     Ok(())
 }
@@ -151,27 +159,29 @@ fn blanks(alloc: Global, count: usize) -> Result<Vec<u8>, Fail> {
     Ok(all)
 }
 
-#[test]
-fn an_early_fault_is_the_answer_past_the_limit(rt: HostRuntime) -> Result<(), Fail> {
-    let alloc = rt.alloc();
+/// What the piece that passes the limit is answered, where all before it fit.
+fn past_the_limit(alloc: Global, reader: &mut Reader) -> Result<Result<(), MarkupError>, Fail> {
     let blanks = blanks(alloc, 1_048_576)?;
-    let mut reader = Reader::new(alloc)?;
     reader.feed(alloc, b"<a>&bad;")?;
     for _ in 0..63 {
         reader.feed(alloc, blanks.as_slice())?;
     }
-    assert!(rt;
-        reader.feed(alloc, blanks.as_slice()) == Err(MarkupError::Bad { at: 4 }),
-        "past the limit"
-    );
-    assert!(rt;
-        reader.feed(alloc, b"") == Err(MarkupError::Failed),
-        "behind it"
-    );
-    assert!(rt;
-        reader.finish(alloc).err() == Some(MarkupError::Failed),
-        "at the end"
-    );
+    Ok(reader.feed(alloc, blanks.as_slice()))
+}
+
+/// Whether a reader has failed.
+fn has_failed(alloc: Global, mut reader: Reader) -> bool {
+    let behind = reader.feed(alloc, b"");
+    let end = reader.finish(alloc).err();
+    behind == Err(MarkupError::Failed) && end == Some(MarkupError::Failed)
+}
+
+#[test]
+fn an_early_fault_is_the_answer_past_the_limit(rt: HostRuntime) -> Result<(), Fail> {
+    let mut reader = Reader::new(rt.alloc())?;
+    let answer = past_the_limit(rt.alloc(), &mut reader)?;
+    assert!(rt; has_failed(rt.alloc(), reader), "behind it");
+    assert!(rt; answer == Err(MarkupError::Bad { at: 4 }), "past the limit");
     Ok(())
 }
 
@@ -206,21 +216,37 @@ const READ: [(&'static [u8], &'static [u8]); 3] = [
     ),
 ];
 
-/// Where one allocation fails, whichever it is, what is tried once more gives the same.
+/// The element, read one byte at a time, once more where memory ran out.
+fn read_again(alloc: Global, bytes: &[u8]) -> Result<Element, MarkupError> {
+    match read_by_bytes(alloc, bytes) {
+        Err(MarkupError::Mem) => read_by_bytes(alloc, bytes),
+        answer => answer,
+    }
+}
+
+/// Whether this is written of an element. Where one allocation fails, whichever it is, nothing was added, and the next
+/// try adds it.
+fn is_written(alloc: Global, element: &Element, want: &[u8]) -> Result<bool, Fail> {
+    let mut out = Vec::new(alloc);
+    if write_document(element, &mut out).is_err() {
+        if !out.is_empty() {
+            return Ok(false);
+        }
+        write_document(element, &mut out)?;
+    }
+    Ok(out.as_slice() == want)
+}
+
+/// Whether this is written of what is read.
+fn is_written_again(alloc: Global, bytes: &[u8], want: &[u8]) -> Result<bool, Fail> {
+    let element = read_again(alloc, bytes)?;
+    is_written(alloc, &element, want)
+}
+
 #[test]
 fn what_is_read_is_written(rt: HostRuntime) -> Result<(), Fail> {
-    let alloc = rt.alloc();
-    for (bytes, want) in READ {
-        let element = match read_by_bytes(alloc, bytes) {
-            Err(MarkupError::Mem) => read_by_bytes(alloc, bytes)?,
-            answer => answer?,
-        };
-        let mut out = Vec::new(alloc);
-        if write_document(&element, &mut out).is_err() {
-            assert!(rt; out.is_empty(), "as it was");
-            write_document(&element, &mut out)?;
-        }
-        assert_eq!(rt; out.as_slice(), want);
+    for (bytes, want) in &READ {
+        assert!(rt; is_written_again(rt.alloc(), bytes, want)?, "{want:?}");
     }
     Ok(())
 }

@@ -1,4 +1,4 @@
-use cds_markup::{MarkupError, Part, Parts, Reader, read_document, read_parts};
+use cds_markup::{Attrs, MarkupError, Name, Part, Parts, Reader, read_document, read_parts};
 use std::alloc::Global;
 use std::test::Fail;
 
@@ -101,112 +101,136 @@ const DOCUMENTS: [&'static [u8]; 15] = [
 /// Seventeen elements, each in the one before.
 const DEEP: &[u8] = b"<a><a><a><a><a><a><a><a><a><a><a><a><a><a><a><a><a>";
 
+/// Whether bytes are refused at this place.
+fn is_bad(alloc: Global, bytes: &[u8], at: usize) -> bool {
+    refusal(alloc, bytes) == Some(MarkupError::Bad { at })
+}
+
 #[test]
-fn each_call_gives_the_same_answer(rt: HostRuntime) -> Result<(), Fail> {
-    for (bytes, at) in FAULTS {
-        let answer = refusal(rt.alloc(), bytes);
-        assert!(rt; answer == Some(MarkupError::Bad { at }), "{at}: {answer:?}");
+fn each_call_gives_the_same_answer(rt: HostRuntime) {
+    for (bytes, at) in &FAULTS {
+        assert!(rt; is_bad(rt.alloc(), bytes, *at), "{at}");
     }
-    for bytes in DOCUMENTS {
-        let answer = refusal(rt.alloc(), bytes);
-        assert!(rt; answer.is_none(), "{answer:?}");
+    for bytes in &DOCUMENTS {
+        assert!(rt; refusal(rt.alloc(), bytes).is_none(), "{bytes:?}");
     }
-    let answer = refusal(rt.alloc(), DEEP);
-    assert!(rt;
-        answer == Some(MarkupError::TooDeep { at: 49 }),
-        "{answer:?}"
-    );
+    assert!(rt; refusal(rt.alloc(), DEEP) == Some(MarkupError::TooDeep { at: 49 }));
+}
+
+/// Where a part begins and ends, and its name.
+fn start_line(alloc: Global, at: usize, end: usize, name: &Name) -> Result<String, Fail> {
+    Ok(format!(in alloc;
+        "start {at} {end} {}:{}",
+        name.space.as_str(),
+        name.local.as_str()
+    )?)
+}
+
+/// Adds each attribute.
+fn add_attrs(alloc: Global, attrs: &Attrs, line: &mut String) -> Result<(), Fail> {
+    for attr in attrs.as_slice() {
+        let more = format!(in alloc;
+            " {}:{}={}",
+            attr.name.space.as_str(),
+            attr.name.local.as_str(),
+            attr.value.as_str()
+        )?;
+        line.push_str(more.as_str())?;
+    }
     Ok(())
 }
 
+/// A part in one line.
+fn line_of(alloc: Global, part: &Part) -> Result<String, Fail> {
+    match part {
+        Part::Start {
+            at,
+            end,
+            name,
+            attrs,
+        } => {
+            let mut line = start_line(alloc, *at, *end, name)?;
+            add_attrs(alloc, attrs, &mut line)?;
+            Ok(line)
+        }
+        Part::End { at } => Ok(format!(in alloc; "end {at}")?),
+        Part::Run {
+            at,
+            non_blank,
+            text,
+        } => Ok(format!(in alloc; "run {at} {non_blank:?} {}", text.as_str())?),
+    }
+}
+
 /// Each part in one line.
-fn told(alloc: Global, bytes: &[u8]) -> Result<String, Fail> {
-    let mut parts = Parts::new(alloc);
-    let answer = read_parts(alloc, bytes, &mut parts);
+fn lines_of(alloc: Global, parts: &Parts) -> Result<String, Fail> {
     let mut lines = String::new(alloc);
     for part in parts.as_slice() {
-        let line = match part {
-            Part::Start {
-                at,
-                end,
-                name,
-                attrs,
-            } => {
-                let mut line = format!(in alloc;
-                    "start {at} {end} {}:{}",
-                    name.space.as_str(),
-                    name.local.as_str()
-                )?;
-                for attr in attrs.as_slice() {
-                    let more = format!(in alloc;
-                        " {}:{}={}",
-                        attr.name.space.as_str(),
-                        attr.name.local.as_str(),
-                        attr.value.as_str()
-                    )?;
-                    line.push_str(more.as_str())?;
-                }
-                line
-            }
-            Part::End { at } => format!(in alloc; "end {at}")?,
-            Part::Run {
-                at,
-                non_blank,
-                text,
-            } => format!(in alloc; "run {at} {non_blank:?} {}", text.as_str())?,
-        };
-        lines.push_str(line.as_str())?;
+        lines.push_str(line_of(alloc, part)?.as_str())?;
         lines.push('\n')?;
     }
-    let last = format!(in alloc; "{answer:?}")?;
-    lines.push_str(last.as_str())?;
     Ok(lines)
 }
 
+/// Each part in one line, and the answer behind them.
+fn told(alloc: Global, bytes: &[u8]) -> Result<String, Fail> {
+    let mut parts = Parts::new(alloc);
+    let answer = read_parts(alloc, bytes, &mut parts);
+    let lines = lines_of(alloc, &parts)?;
+    Ok(format!(in alloc; "{}{answer:?}", lines.as_str())?)
+}
+
+/// Whether this is told of bytes.
+fn is_told(alloc: Global, bytes: &[u8], want: &str) -> Result<bool, Fail> {
+    let lines = told(alloc, bytes)?;
+    Ok(lines.as_str() == want)
+}
+
+/// Bytes, and what is told of them.
+const TOLD: [(&[u8], &str); 13] = [
+    (
+        b"<a xmlns='u' b='1\r\n2'> \r\nx\r<b/>&#13;<![CDATA[]]></a>",
+        "start 0 21 u:a :b=1 2\nrun 22 Some(25)  \nx\n\nstart 27 29 u:b\nend 29\nrun 31 Some(31) \r\nrun 36 Some(36) \nend 48\nOk(())",
+    ),
+    (b"<a/>x", "start 0 2 :a\nend 2\nErr(Bad { at: 4 })"),
+    (
+        b"<a> x&bad",
+        "start 0 2 :a\nrun 3 Some(4)  x\nErr(Bad { at: 6 })",
+    ),
+    (
+        b"<a>]]>",
+        "start 0 2 :a\nrun 3 Some(3) ]]\nErr(Bad { at: 5 })",
+    ),
+    (
+        b"<a>\xE2\x82",
+        "start 0 2 :a\nrun 3 Some(3) \nErr(Bad { at: 5 })",
+    ),
+    (
+        b"<a> \xE2\x82<",
+        "start 0 2 :a\nrun 3 Some(4)  \nErr(Bad { at: 6 })",
+    ),
+    (
+        b"<a>  <b",
+        "start 0 2 :a\nrun 3 None   \nErr(Bad { at: 7 })",
+    ),
+    (b"<a><b/x", "start 0 2 :a\nstart 3 5 :b\nErr(Bad { at: 6 })"),
+    (b"<a><b/", "start 0 2 :a\nstart 3 5 :b\nErr(Bad { at: 6 })"),
+    (b"<a><x:b/>", "start 0 2 :a\nErr(Bad { at: 7 })"),
+    (b"<a></a", "start 0 2 :a\nErr(Bad { at: 6 })"),
+    (
+        b"<a><!-- x --> <![CDATA[y]>",
+        "start 0 2 :a\nrun 13 None  \nErr(Bad { at: 26 })",
+    ),
+    (
+        DEEP,
+        "start 0 2 :a\nstart 3 5 :a\nstart 6 8 :a\nstart 9 11 :a\nstart 12 14 :a\nstart 15 17 :a\nstart 18 20 :a\nstart 21 23 :a\nstart 24 26 :a\nstart 27 29 :a\nstart 30 32 :a\nstart 33 35 :a\nstart 36 38 :a\nstart 39 41 :a\nstart 42 44 :a\nstart 45 47 :a\nErr(TooDeep { at: 49 })",
+    ),
+];
+
 #[test]
 fn parts_have_their_places(rt: HostRuntime) -> Result<(), Fail> {
-    let cases: [(&[u8], &str); 13] = [
-        (
-            b"<a xmlns='u' b='1\r\n2'> \r\nx\r<b/>&#13;<![CDATA[]]></a>",
-            "start 0 21 u:a :b=1 2\nrun 22 Some(25)  \nx\n\nstart 27 29 u:b\nend 29\nrun 31 Some(31) \r\nrun 36 Some(36) \nend 48\nOk(())",
-        ),
-        (b"<a/>x", "start 0 2 :a\nend 2\nErr(Bad { at: 4 })"),
-        (
-            b"<a> x&bad",
-            "start 0 2 :a\nrun 3 Some(4)  x\nErr(Bad { at: 6 })",
-        ),
-        (
-            b"<a>]]>",
-            "start 0 2 :a\nrun 3 Some(3) ]]\nErr(Bad { at: 5 })",
-        ),
-        (
-            b"<a>\xE2\x82",
-            "start 0 2 :a\nrun 3 Some(3) \nErr(Bad { at: 5 })",
-        ),
-        (
-            b"<a> \xE2\x82<",
-            "start 0 2 :a\nrun 3 Some(4)  \nErr(Bad { at: 6 })",
-        ),
-        (
-            b"<a>  <b",
-            "start 0 2 :a\nrun 3 None   \nErr(Bad { at: 7 })",
-        ),
-        (b"<a><b/x", "start 0 2 :a\nstart 3 5 :b\nErr(Bad { at: 6 })"),
-        (b"<a><b/", "start 0 2 :a\nstart 3 5 :b\nErr(Bad { at: 6 })"),
-        (b"<a><x:b/>", "start 0 2 :a\nErr(Bad { at: 7 })"),
-        (b"<a></a", "start 0 2 :a\nErr(Bad { at: 6 })"),
-        (
-            b"<a><!-- x --> <![CDATA[y]>",
-            "start 0 2 :a\nrun 13 None  \nErr(Bad { at: 26 })",
-        ),
-        (
-            DEEP,
-            "start 0 2 :a\nstart 3 5 :a\nstart 6 8 :a\nstart 9 11 :a\nstart 12 14 :a\nstart 15 17 :a\nstart 18 20 :a\nstart 21 23 :a\nstart 24 26 :a\nstart 27 29 :a\nstart 30 32 :a\nstart 33 35 :a\nstart 36 38 :a\nstart 39 41 :a\nstart 42 44 :a\nstart 45 47 :a\nErr(TooDeep { at: 49 })",
-        ),
-    ];
-    for (bytes, want) in cases {
-        let lines = told(rt.alloc(), bytes)?;
-        assert!(rt; lines.as_str() == want, "{}", lines.as_str());
+    for (bytes, want) in &TOLD {
+        assert!(rt; is_told(rt.alloc(), bytes, want)?, "{want}");
     }
     Ok(())
 }

@@ -47,15 +47,18 @@ fn children(alloc: Global) -> Result<Nodes, Mem> {
     Ok(children)
 }
 
-/// Attributes of every kind.
+/// Attributes of every kind: the namespace, the name and the value of each.
+const ATTRS: [(&str, &str, &str); 4] = [
+    ("", "b", "\"1\"\t"),
+    ("urn:u", "b", "2"),
+    ("http://www.w3.org/XML/1998/namespace", "lang", "en"),
+    ("urn:&", "b", "3"),
+];
+
+/// An element's attributes.
 fn attrs(alloc: Global) -> Result<Attrs, Mem> {
     let mut attrs = Attrs::new(alloc);
-    for (space, local, value) in [
-        ("", "b", "\"1\"\t"),
-        ("urn:u", "b", "2"),
-        ("http://www.w3.org/XML/1998/namespace", "lang", "en"),
-        ("urn:&", "b", "3"),
-    ] {
+    for (space, local, value) in &ATTRS {
         attrs.push(attr(alloc, space, local, value)?)?;
     }
     Ok(attrs)
@@ -90,27 +93,41 @@ fn is_written(alloc: Global, element: &Element, want: &str) -> Result<bool, Mem>
     Ok(bytes.as_slice() == want.as_bytes() && read.is_ok())
 }
 
+/// The written form of the element that has nothing, and of the one that has all.
+const EMPTY: &str = "<StateEvent xmlns=\"urn:schemas-upnp-org:av:cds-event\"></StateEvent>";
+
+const ALL: &str =
+    "<a xmlns=\"urn:u\" b=\"&quot;1&quot;&#9;\" xmlns:a1=\"urn:u\" a1:b=\"2\" xml:lang=\"en\" xmlns:a3=\"urn:&amp;\" a3:b=\"3\">]]&gt;<c xmlns=\"\">x&lt;y&gt;&#13;&#10;</c></a>";
+
+/// Whether a text and an element are listed.
+fn are_listed(children: &Nodes) -> bool {
+    let counts = (children.len(), children.as_slice().len());
+    let is_text = match children.get(0) {
+        Some(Node::Text(text)) => text.as_str() == "]]>",
+        _ => false,
+    };
+    let is_child = match children.get(1) {
+        Some(Node::Child(child)) => child.name.local.as_str() == "c",
+        _ => false,
+    };
+    counts == (2, 2) && is_text && is_child && children.get(2).is_none()
+}
+
+/// Whether the element that has nothing is written.
+fn empty_is_written(alloc: Global) -> Result<bool, Mem> {
+    let root = empty(alloc)?;
+    is_written(alloc, &root, EMPTY)
+}
+
+/// Whether the one that has all is written, and its nodes are listed.
+fn sample_is_written(alloc: Global) -> Result<bool, Mem> {
+    let all = sample(alloc)?;
+    Ok(are_listed(&all.children) && is_written(alloc, &all, ALL)?)
+}
+
 #[test]
 fn elements_are_written_and_nodes_listed(rt: HostRuntime) -> Result<(), Fail> {
-    let alloc = rt.alloc();
-    let root = empty(alloc)?;
-    let want = "<StateEvent xmlns=\"urn:schemas-upnp-org:av:cds-event\"></StateEvent>";
-    assert!(rt; is_written(alloc, &root, want)?, "{want}");
-    let all = sample(alloc)?;
-    let want =
-        "<a xmlns=\"urn:u\" b=\"&quot;1&quot;&#9;\" xmlns:a1=\"urn:u\" a1:b=\"2\" xml:lang=\"en\" xmlns:a3=\"urn:&amp;\" a3:b=\"3\">]]&gt;<c xmlns=\"\">x&lt;y&gt;&#13;&#10;</c></a>";
-    assert!(rt; is_written(alloc, &all, want)?, "{want}");
-    let children = &all.children;
-    assert_eq!(rt; children.len(), 2);
-    assert_eq!(rt; children.as_slice().len(), 2);
-    match children.get(0) {
-        Some(Node::Text(text)) => assert_eq!(rt; text.as_str(), "]]>"),
-        _ => assert!(rt; false, "a text"),
-    }
-    match children.get(1) {
-        Some(Node::Child(child)) => assert_eq!(rt; child.name.local.as_str(), "c"),
-        _ => assert!(rt; false, "a child"),
-    }
-    assert!(rt; children.get(2).is_none(), "no third");
+    assert!(rt; empty_is_written(rt.alloc())?, "{EMPTY}");
+    assert!(rt; sample_is_written(rt.alloc())?, "{ALL}");
     Ok(())
 }

@@ -66,17 +66,18 @@ fn give<R: Abort>(rt: &R, moderator: &mut Moderator, end: &mut u32, to: u32) -> 
 fn releases_come_by_the_rule(rt: HostRuntime) -> Result<(), Fail> {
     let mut moderator = Moderator::new(rt.alloc());
     let mut end = 10;
-    for call in CALLS {
-        match call {
+    for call in &CALLS {
+        match *call {
             Call::Changed(to) => give(&rt, &mut moderator, &mut end, to)?,
             Call::Release(now, wanted) => {
                 let wanted = wanted.map(|span| Span {
                     from: span.0,
                     to: span.1,
                 });
-                assert_eq!(rt; moderator.due(now), wanted.is_some());
-                assert_eq!(rt; moderator.next_span(now), wanted);
-                assert_eq!(rt; moderator.release(now), wanted);
+                let is_due = moderator.due(now) == wanted.is_some();
+                let is_next = moderator.next_span(now) == wanted;
+                let released = moderator.release(now);
+                assert!(rt; is_due && is_next && released == wanted, "{now}");
             }
         }
     }

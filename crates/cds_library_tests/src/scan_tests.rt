@@ -224,9 +224,8 @@ fn is_scanned(alloc: Global, texts: &str, fails: &[u32], want: &str) -> Result<b
 
 #[test]
 fn folders_are_scanned(rt: HostRuntime) -> Result<(), Fail> {
-    for (texts, fails, want) in SCANS {
-        let is = is_scanned(rt.alloc(), texts, fails, want)?;
-        assert!(rt; is, "{texts}");
+    for (texts, fails, want) in &SCANS {
+        assert!(rt; is_scanned(rt.alloc(), texts, fails, want)?, "{texts}");
     }
     Ok(())
 }

@@ -1,3 +1,4 @@
+use crate::soap_tests::is_text;
 use cds_base::Mem;
 use cds_exchange::{ask_bytes, read_reply};
 use cds_load::{Ask, Shown};
@@ -66,10 +67,9 @@ fn asked(alloc: Global, ask: Ask) -> Result<String, Mem> {
 
 #[test]
 fn asks_are_written(rt: HostRuntime) -> Result<(), Fail> {
-    let alloc = rt.alloc();
-    for (name, id, start, inside) in ASKS {
-        let text = asked(alloc, ask_named(name, id, start))?;
-        assert_eq!(rt; text.as_str(), inside);
+    for (name, id, start, inside) in &ASKS {
+        let text = asked(rt.alloc(), ask_named(name, *id, *start));
+        assert!(rt; is_text(text, inside)?, "{name}");
     }
     Ok(())
 }
@@ -161,13 +161,21 @@ const REPLIES: [(&str, &str, &str, &str); 8] = [
     ("metadata", "200 OK", "", "none"),
 ];
 
+/// Whether a reply shows this to an ask.
+fn is_shown(alloc: Global, ask: Ask, reply: Result<String, Mem>, want: &str) -> Result<bool, Mem> {
+    let reply = reply?;
+    is_text(read(alloc, ask, reply.as_str()), want)
+}
+
 #[test]
 fn replies_are_read(rt: HostRuntime) -> Result<(), Fail> {
     let alloc = rt.alloc();
-    for (name, status, inside, shown) in REPLIES {
-        let text = reply(alloc, status, inside)?;
-        let line = read(alloc, ask_named(name, 0, 0), text.as_str())?;
-        assert_eq!(rt; line.as_str(), shown);
+    for (name, status, inside, want) in &REPLIES {
+        let reply = reply(alloc, status, inside);
+        assert!(rt;
+            is_shown(alloc, ask_named(name, 0, 0), reply, want)?,
+            "{inside}"
+        );
     }
     Ok(())
 }
@@ -198,14 +206,21 @@ const PAGES: [(&str, &str, &str); 6] = [
     ("", "", "none"),
 ];
 
+/// The answer to Browse with a document in two parts.
+fn page_of(alloc: Global, front: &str, back: &str) -> Result<String, Mem> {
+    let document = format!(in alloc; "{front}{back}")?;
+    page(alloc, document.as_str())
+}
+
 #[test]
 fn pages_are_read(rt: HostRuntime) -> Result<(), Fail> {
     let alloc = rt.alloc();
-    for (front, back, shown) in PAGES {
-        let document = format!(in alloc; "{front}{back}")?;
-        let text = page(alloc, document.as_str())?;
-        let line = read(alloc, Ask::Children { id: 0, start: 0 }, text.as_str())?;
-        assert_eq!(rt; line.as_str(), shown);
+    for (front, back, want) in &PAGES {
+        let ask = Ask::Children { id: 0, start: 0 };
+        assert!(rt;
+            is_shown(alloc, ask, page_of(alloc, front, back), want)?,
+            "{back}"
+        );
     }
     Ok(())
 }

@@ -555,78 +555,87 @@ fn long_text(
 }
 
 #[test]
-fn messages_are_read(rt: HostRuntime) -> Result<(), Fail> {
-    for (text, behind, body) in REQUESTS {
-        reads(&rt, rt.alloc(), Side::Request, text, Ok((behind, body)));
+fn messages_are_read(rt: HostRuntime) {
+    let alloc = rt.alloc();
+    for (text, behind, body) in &REQUESTS {
+        reads(&rt, alloc, Side::Request, text, Ok((*behind, body)));
     }
-    for (text, behind, body) in REPLIES {
-        reads(&rt, rt.alloc(), Side::Reply, text, Ok((behind, body)));
+    for (text, behind, body) in &REPLIES {
+        reads(&rt, alloc, Side::Reply, text, Ok((*behind, body)));
     }
-    for (text, body) in OPEN_REPLIES {
-        reads(&rt, rt.alloc(), Side::Reply, text, Ok((0, body)));
+    for (text, body) in &OPEN_REPLIES {
+        reads(&rt, alloc, Side::Reply, text, Ok((0, body)));
     }
-    Ok(())
 }
 
 #[test]
-fn ends_are_told(rt: HostRuntime) -> Result<(), Fail> {
-    for (text, behind, _) in REQUESTS {
-        let end = text.len().saturating_sub(behind);
-        ends_at(&rt, rt.alloc(), Side::Request, text, end);
+fn ends_are_told(rt: HostRuntime) {
+    let alloc = rt.alloc();
+    for (text, behind, _) in &REQUESTS {
+        let end = text.len().saturating_sub(*behind);
+        ends_at(&rt, alloc, Side::Request, text, end);
     }
-    for (text, behind, _) in REPLIES {
-        let end = text.len().saturating_sub(behind);
-        ends_at(&rt, rt.alloc(), Side::Reply, text, end);
+    for (text, behind, _) in &REPLIES {
+        let end = text.len().saturating_sub(*behind);
+        ends_at(&rt, alloc, Side::Reply, text, end);
     }
-    for (text, _) in OPEN_REPLIES {
-        ends_at(&rt, rt.alloc(), Side::Reply, text, usize::MAX);
+    for (text, _) in &OPEN_REPLIES {
+        ends_at(&rt, alloc, Side::Reply, text, usize::MAX);
     }
-    Ok(())
 }
 
 #[test]
-fn others_are_refused(rt: HostRuntime) -> Result<(), Fail> {
-    for (text, refusal) in REFUSED {
-        reads(&rt, rt.alloc(), Side::Request, text, Err(refusal));
+fn others_are_refused(rt: HostRuntime) {
+    for (text, refusal) in &REFUSED {
+        reads(&rt, rt.alloc(), Side::Request, text, Err(*refusal));
     }
-    for (text, refusal) in REFUSED_REPLIES {
-        reads(&rt, rt.alloc(), Side::Reply, text, Err(refusal));
+    for (text, refusal) in &REFUSED_REPLIES {
+        reads(&rt, rt.alloc(), Side::Reply, text, Err(*refusal));
     }
-    Ok(())
+}
+
+/// What is expected of a request with no body, or one that is refused for this.
+fn expected_of(refusal: Option<HttpError>) -> Result<(usize, &'static str), HttpError> {
+    match refusal {
+        Some(refusal) => Err(refusal),
+        None => Ok((0, "")),
+    }
 }
 
 #[test]
 fn limits_are_kept(rt: HostRuntime) -> Result<(), Fail> {
     let alloc = rt.alloc();
-    for (front, piece, count, end, refusal) in LIMITS {
-        let text = long_text(alloc, front, piece, count, end)?;
-        let expected = match refusal {
-            Some(refusal) => Err(refusal),
-            None => Ok((0, "")),
-        };
-        long_reads(&rt, alloc, text.as_str(), expected);
+    for (front, piece, count, end, refusal) in &LIMITS {
+        let text = long_text(alloc, front, piece, *count, end)?;
+        long_reads(&rt, alloc, text.as_str(), expected_of(*refusal));
     }
     Ok(())
 }
 
+/// Whether a reader that has refused a message has failed from then on.
+fn refusal_stays(alloc: Global) -> Result<bool, HttpError> {
+    let mut reader = MessageReader::new(alloc, Side::Reply)?;
+    let first = reader.feed(alloc, b"GET / HTTP/1.1\r\n\r\n");
+    let next = reader.feed(alloc, b"");
+    let end = reader.finish().err();
+    let is_refused = first == Err(HttpError::BadHead) && next == Err(HttpError::Failed);
+    Ok(is_refused && end == Some(HttpError::Failed))
+}
+
+/// Whether all bytes behind a whole message are left.
+fn end_stays(alloc: Global) -> Result<bool, HttpError> {
+    let mut reader = MessageReader::new(alloc, Side::Reply)?;
+    let first = reader.feed(alloc, b"HTTP/1.1 200 OK\r\nCONTENT-LENGTH: 1\r\n\r\nab");
+    let next = reader.feed(alloc, b"cde");
+    let message = reader.finish()?;
+    let are_left = first == Ok(Fed::Whole { rest: 1 }) && next == Ok(Fed::Whole { rest: 3 });
+    Ok(are_left && message.body.as_slice() == b"a".as_slice())
+}
+
 #[test]
 fn refusals_and_ends_stay(rt: HostRuntime) -> Result<(), Fail> {
-    let alloc = rt.alloc();
-    let mut refused = MessageReader::new(alloc, Side::Reply)?;
-    assert_eq!(rt;
-        refused.feed(alloc, b"GET / HTTP/1.1\r\n\r\n"),
-        Err(HttpError::BadHead)
-    );
-    assert_eq!(rt; refused.feed(alloc, b""), Err(HttpError::Failed));
-    assert!(rt; matches!(refused.finish(), Err(HttpError::Failed)));
-    let mut whole = MessageReader::new(alloc, Side::Reply)?;
-    assert_eq!(rt;
-        whole.feed(alloc, b"HTTP/1.1 200 OK\r\nCONTENT-LENGTH: 1\r\n\r\nab"),
-        Ok(Fed::Whole { rest: 1 })
-    );
-    assert_eq!(rt; whole.feed(alloc, b"cde"), Ok(Fed::Whole { rest: 3 }));
-    let message = whole.finish()?;
-    assert_eq!(rt; message.body.as_slice(), b"a".as_slice());
+    assert!(rt; refusal_stays(rt.alloc())?, "a refusal");
+    assert!(rt; end_stays(rt.alloc())?, "an end");
     Ok(())
 }
 
@@ -665,24 +674,48 @@ fn has_values(message: &Message, name: &str, values: [&str; 2]) -> bool {
     found.next().is_none()
 }
 
+/// Whether a request has this method and this target.
+fn is_request_of(alloc: Global, text: &str, method: &str, target: &str) -> Result<bool, HttpError> {
+    let message = message_of(alloc, Side::Request, text)?;
+    Ok(is_request(&message.start, method, target))
+}
+
+/// Whether a reply has this status.
+fn is_reply_of(alloc: Global, text: &str, status: u16) -> Result<bool, HttpError> {
+    let message = message_of(alloc, Side::Reply, text)?;
+    Ok(is_reply(&message.start, status))
+}
+
 #[test]
 fn first_lines_are_kept(rt: HostRuntime) -> Result<(), Fail> {
-    for (text, method, target) in STARTS {
-        let message = message_of(rt.alloc(), Side::Request, text)?;
-        assert!(rt; is_request(&message.start, method, target), "{text}");
+    for (text, method, target) in &STARTS {
+        assert!(rt; is_request_of(rt.alloc(), text, method, target)?, "{text}");
     }
-    for (text, status) in STATUSES {
-        let message = message_of(rt.alloc(), Side::Reply, text)?;
-        assert!(rt; is_reply(&message.start, status), "{text}");
+    for (text, status) in &STATUSES {
+        assert!(rt; is_reply_of(rt.alloc(), text, *status)?, "{text}");
     }
     Ok(())
 }
 
+/// Whether a field of a message has just these two values, in this order.
+fn keeps_values(
+    alloc: Global,
+    side: Side,
+    text: &str,
+    name: &str,
+    values: [&str; 2],
+) -> Result<bool, HttpError> {
+    let message = message_of(alloc, side, text)?;
+    Ok(has_values(&message, name, values))
+}
+
 #[test]
 fn values_are_kept_in_order(rt: HostRuntime) -> Result<(), Fail> {
-    for (side, text, name, values) in VALUES {
-        let message = message_of(rt.alloc(), side, text)?;
-        assert!(rt; has_values(&message, name, values), "{text}");
+    for (side, text, name, values) in &VALUES {
+        assert!(rt;
+            keeps_values(rt.alloc(), *side, text, name, *values)?,
+            "{text}"
+        );
     }
     Ok(())
 }
@@ -699,32 +732,59 @@ fn field_of(alloc: Global, request: &str, name: &str) -> Result<String, HttpErro
     }
 }
 
+/// Whether the first value of a field of a request is this.
+fn has_field(alloc: Global, request: &str, name: &str, value: &str) -> Result<bool, HttpError> {
+    let found = field_of(alloc, request, name)?;
+    Ok(found.as_str() == value)
+}
+
 #[test]
 fn control_points_are_read(rt: HostRuntime) -> Result<(), Fail> {
-    for (request, name, value) in CONTROL_POINTS {
-        let found = field_of(rt.alloc(), request, name)?;
-        assert_eq!(rt; found.as_str(), value);
+    for (request, name, value) in &CONTROL_POINTS {
+        assert!(rt; has_field(rt.alloc(), request, name, value)?, "{name}");
     }
     Ok(())
 }
 
-#[test]
-fn messages_are_written(rt: HostRuntime) -> Result<(), Fail> {
-    let alloc = rt.alloc();
+/// A request and a reply as they are written.
+const WRITTEN: &str =
+    "POST /control HTTP/1.1\r\nHOST: 192.168.0.2:8200\r\nSOAPACTION: \"urn:x#Browse\"\r\nCONTENT-LENGTH: 4\r\nCONNECTION: close\r\n\r\n<a/>HTTP/1.1 412 Precondition Failed\r\nEXT:\r\nSERVER: unix/1.0 UPnP/2.0 cds/1.0\r\nHOST: 192.168.0.2:8200\r\nSOAPACTION: \"urn:x#Browse\"\r\nCONTENT-LENGTH: 0\r\nCONNECTION: close\r\n\r\n";
+
+/// Two fields.
+fn two_fields(alloc: Global) -> Result<Fields, HttpError> {
     let mut fields = Fields::new(alloc);
     fields.push(alloc, "HOST", "192.168.0.2:8200")?;
     fields.push(alloc, "SOAPACTION", "\"urn:x#Browse\"")?;
+    Ok(fields)
+}
+
+/// A request and a reply with these fields; nothing where the fields cannot be written.
+fn written_with(alloc: Global, fields: &Fields) -> Result<Vec<u8>, HttpError> {
     let mut out = Vec::new(alloc);
     if fields.can_be_written() {
-        write_request("POST", "/control", &fields, b"<a/>", &mut out)?;
-        write_reply(412, &fields, b"", &mut out)?;
+        write_request("POST", "/control", fields, b"<a/>", &mut out)?;
+        write_reply(412, fields, b"", &mut out)?;
     }
-    let expected =
-        "POST /control HTTP/1.1\r\nHOST: 192.168.0.2:8200\r\nSOAPACTION: \"urn:x#Browse\"\r\nCONTENT-LENGTH: 4\r\nCONNECTION: close\r\n\r\n<a/>HTTP/1.1 412 Precondition Failed\r\nEXT:\r\nSERVER: unix/1.0 UPnP/2.0 cds/1.0\r\nHOST: 192.168.0.2:8200\r\nSOAPACTION: \"urn:x#Browse\"\r\nCONTENT-LENGTH: 0\r\nCONNECTION: close\r\n\r\n";
-    assert_eq!(rt; out.as_slice(), expected.as_bytes());
-    let mut broken = Fields::new(alloc);
-    broken.push(alloc, "A", "b\r\nC: d")?;
-    assert!(rt; !broken.can_be_written());
+    Ok(out)
+}
+
+/// Whether a request and a reply are written as they have to be.
+fn are_written(alloc: Global) -> Result<bool, HttpError> {
+    let fields = two_fields(alloc)?;
+    let out = written_with(alloc, &fields)?;
+    Ok(out.as_slice() == WRITTEN.as_bytes())
+}
+
+/// Whether a field whose value would break its line can be written.
+fn broken_can_be_written(alloc: Global) -> Result<bool, HttpError> {
+    let mut fields = Fields::new(alloc);
+    fields.push(alloc, "A", "b\r\nC: d")?;
+    Ok(fields.can_be_written())
+}
+
+#[test]
+fn messages_are_written(rt: HostRuntime) -> Result<(), Fail> {
+    assert!(rt; are_written(rt.alloc())? && !broken_can_be_written(rt.alloc())?);
     Ok(())
 }
 
@@ -749,12 +809,17 @@ fn expected_reply(alloc: Global, line: &str) -> Result<String, AllocError> {
     Ok(text)
 }
 
+/// Whether a reply of this status has this first line, and its head alone too.
+fn has_line(alloc: Global, status: u16, line: &str) -> Result<bool, HttpError> {
+    let expected = expected_reply(alloc, line)?;
+    let written = reply_and_head(alloc, status)?;
+    Ok(written.as_slice() == expected.as_bytes())
+}
+
 #[test]
 fn reasons_are_written(rt: HostRuntime) -> Result<(), Fail> {
-    for (status, line) in STATUS_LINES {
-        let expected = expected_reply(rt.alloc(), line)?;
-        let written = reply_and_head(rt.alloc(), status)?;
-        assert_eq!(rt; written.as_slice(), expected.as_str().as_bytes());
+    for (status, line) in &STATUS_LINES {
+        assert!(rt; has_line(rt.alloc(), *status, line)?, "{status}");
     }
     Ok(())
 }

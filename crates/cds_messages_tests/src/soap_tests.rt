@@ -92,6 +92,18 @@ fn answer_shown(alloc: Global, answer: &Answer) -> Result<String, Mem> {
     }
 }
 
+/// Whether a text that is made is this one.
+pub fn is_text(text: Result<String, Mem>, want: &str) -> Result<bool, Mem> {
+    let text = text?;
+    Ok(text.as_str() == want)
+}
+
+/// Whether bytes that are made are those of this text.
+fn are_bytes(bytes: Result<Vec<u8>, Mem>, want: &str) -> Result<bool, Mem> {
+    let bytes = bytes?;
+    Ok(bytes.as_slice() == want.as_bytes())
+}
+
 // ---- requests
 
 /// The message that bytes are.
@@ -185,16 +197,17 @@ const ENVELOPES: [(&str, &str); 6] = [
     ),
 ];
 
+/// Whether a request in this envelope is understood, in its version.
+fn is_opened(alloc: Global, version: &str, body: &str) -> Result<bool, Mem> {
+    let head = action_head(alloc, version, "GetSystemUpdateID")?;
+    let text = body_asked(alloc, head.as_str(), body)?;
+    Ok(text.as_str().split_once("|") == Some((version, "GetSystemUpdateID")))
+}
+
 #[test]
 fn envelopes_are_opened(rt: HostRuntime) -> Result<(), Fail> {
-    let alloc = rt.alloc();
-    for (version, body) in ENVELOPES {
-        let head = action_head(alloc, version, "GetSystemUpdateID")?;
-        let text = body_asked(alloc, head.as_str(), body)?;
-        assert_eq!(rt;
-            text.as_str().split_once("|"),
-            Some((version, "GetSystemUpdateID"))
-        );
+    for (version, body) in &ENVELOPES {
+        assert!(rt; is_opened(rt.alloc(), version, body)?, "{body}");
     }
     Ok(())
 }
@@ -288,13 +301,17 @@ fn field_asked(alloc: Global, field: &str, version: &str, name: &str) -> Result<
 #[test]
 fn fields_name_actions(rt: HostRuntime) -> Result<(), Fail> {
     let alloc = rt.alloc();
-    for (field, version, name, expected) in FIELDS {
-        let text = field_asked(alloc, field, version, name)?;
-        assert_eq!(rt; text.as_str(), expected);
+    for (field, version, name, expected) in &FIELDS {
+        assert!(rt;
+            is_text(field_asked(alloc, field, version, name), expected)?,
+            "{field}"
+        );
     }
-    for (field, version, name) in OTHER_FIELDS {
-        let text = field_asked(alloc, field, version, name)?;
-        assert_eq!(rt; text.as_str(), "action");
+    for (field, version, name) in &OTHER_FIELDS {
+        assert!(rt;
+            is_text(field_asked(alloc, field, version, name), "action")?,
+            "{field}"
+        );
     }
     Ok(())
 }
@@ -337,25 +354,28 @@ fn inside_asked(alloc: Global, name: &str, inside: &str) -> Result<String, Mem> 
 #[test]
 fn requests_are_refused(rt: HostRuntime) -> Result<(), Fail> {
     let alloc = rt.alloc();
-    for (inside, expected) in REFUSED {
-        let text = inside_asked(alloc, "GetSystemUpdateID", inside)?;
-        assert_eq!(rt; text.as_str(), expected);
+    for (inside, expected) in &REFUSED {
+        let text = inside_asked(alloc, "GetSystemUpdateID", inside);
+        assert!(rt; is_text(text, expected)?, "{inside}");
     }
-    let without = body_asked(alloc, "POST /control HTTP/1.1\r\n", "<a/>")?;
-    assert_eq!(rt; without.as_str(), "action");
+    let without = body_asked(alloc, "POST /control HTTP/1.1\r\n", "<a/>");
+    assert!(rt; is_text(without, "action")?);
     Ok(())
+}
+
+/// Why the message that bytes are is refused.
+fn refusal_of(alloc: Global, bytes: &[u8]) -> Result<Option<SoapError>, HttpError> {
+    let message = message(alloc, bytes)?;
+    Ok(read_action(alloc, &message).err())
 }
 
 #[test]
 fn no_document_has_its_place(rt: HostRuntime) -> Result<(), Fail> {
-    let alloc = rt.alloc();
-    let message = message(
-        alloc,
+    let refusal = refusal_of(
+        rt.alloc(),
         b"POST /control HTTP/1.1\r\nCONTENT-LENGTH: 4\r\n\r\n<a/b",
     )?;
-    let refusal = read_action(alloc, &message).err();
-    let expected = SoapError::Markup(MarkupError::Bad { at: 3 });
-    assert!(rt; refusal == Some(expected));
+    assert!(rt; refusal == Some(SoapError::Markup(MarkupError::Bad { at: 3 })));
     Ok(())
 }
 
@@ -422,17 +442,23 @@ fn browse_asked(alloc: Global, arguments: &str) -> Result<String, Mem> {
     inside_asked(alloc, "Browse", inside.as_str())
 }
 
+/// Whether Browse asks for this, where a piece of its arguments is replaced by another.
+fn is_changed(alloc: Global, from: &str, to: &str, expected: &str) -> Result<bool, Fail> {
+    let arguments = with(alloc, BROWSE, from, to)?;
+    Ok(is_text(browse_asked(alloc, arguments.as_str()), expected)?)
+}
+
 #[test]
 fn arguments_are_exactly_those_listed(rt: HostRuntime) -> Result<(), Fail> {
     let alloc = rt.alloc();
-    for (from, to, expected) in CHANGED {
-        let arguments = with(alloc, BROWSE, from, to)?;
-        let text = browse_asked(alloc, arguments.as_str())?;
-        assert_eq!(rt; text.as_str(), expected, "{to}");
+    for (from, to, expected) in &CHANGED {
+        assert!(rt; is_changed(alloc, from, to, expected)?, "{to}");
     }
-    for (arguments, expected) in ARGUMENTS {
-        let text = browse_asked(alloc, arguments)?;
-        assert_eq!(rt; text.as_str(), expected, "{arguments}");
+    for (arguments, expected) in &ARGUMENTS {
+        assert!(rt;
+            is_text(browse_asked(alloc, arguments), expected)?,
+            "{arguments}"
+        );
     }
     Ok(())
 }
@@ -463,10 +489,11 @@ const CONTROL_POINTS: [(&str, &str, &str); 4] = [
 
 #[test]
 fn control_points_are_understood(rt: HostRuntime) -> Result<(), Fail> {
-    let alloc = rt.alloc();
-    for (head, body, expected) in CONTROL_POINTS {
-        let text = body_asked(alloc, head, body)?;
-        assert_eq!(rt; text.as_str(), expected);
+    for (head, body, expected) in &CONTROL_POINTS {
+        assert!(rt;
+            is_text(body_asked(rt.alloc(), head, body), expected)?,
+            "{head}"
+        );
     }
     Ok(())
 }
@@ -592,13 +619,20 @@ fn answer_read(alloc: Global, action: &Action, bytes: &[u8]) -> Result<String, M
     }
 }
 
+/// A number that is written.
+fn number_written(alloc: Global) -> Result<Vec<u8>, Mem> {
+    answered(alloc, &Action::GetSystemUpdateId, 4, &Answer::Number(2))
+}
+
+/// Whether a number is written as it has to be.
+fn number_is_written(alloc: Global) -> Result<bool, Mem> {
+    let expected = format!(in alloc; "{NUMBER_HEAD}{NUMBER_BODY}")?;
+    are_bytes(number_written(alloc), expected.as_str())
+}
+
 #[test]
 fn numbers_are_written(rt: HostRuntime) -> Result<(), Fail> {
-    let alloc = rt.alloc();
-    assert_eq!(rt; NUMBER_BODY.len(), 302);
-    let out = answered(alloc, &Action::GetSystemUpdateId, 4, &Answer::Number(2))?;
-    let expected = format!(in alloc; "{NUMBER_HEAD}{NUMBER_BODY}")?;
-    assert_eq!(rt; out.as_slice(), expected.as_bytes());
+    assert!(rt; NUMBER_BODY.len() == 302 && number_is_written(rt.alloc())?);
     Ok(())
 }
 
@@ -626,24 +660,32 @@ fn fault_written(alloc: Global, code: u16) -> Result<Vec<u8>, Mem> {
     answered(alloc, &action, 1, &Answer::Fault { code })
 }
 
+/// Whether a reply to Browse is this one, and is read so.
+fn is_reply(
+    alloc: Global,
+    reply: Result<Vec<u8>, Mem>,
+    want: &str,
+    read: &str,
+) -> Result<bool, Mem> {
+    let reply = reply?;
+    let is_read = is_text(browse_read(alloc, reply.as_slice()), read)?;
+    Ok(is_read && reply.as_slice() == want.as_bytes())
+}
+
 #[test]
 fn pages_are_written(rt: HostRuntime) -> Result<(), Fail> {
     let alloc = rt.alloc();
     let token = "00000000-0000-8000-8000-000000000000";
-    let out = page_written(alloc, "<a b=\"c&amp;\">\t\n'\u{e9}</a>", token)?;
-    assert_eq!(rt; out.as_slice(), PAGE_REPLY.as_bytes());
-    let read = browse_read(alloc, out.as_slice())?;
-    assert_eq!(rt; read.as_str(), "<a b=\"c&amp;\">\t\n'\u{e9}</a>|1|2|3");
+    let reply = page_written(alloc, "<a b=\"c&amp;\">\t\n'\u{e9}</a>", token);
+    let read = "<a b=\"c&amp;\">\t\n'\u{e9}</a>|1|2|3";
+    assert!(rt; is_reply(alloc, reply, PAGE_REPLY, read)?);
     Ok(())
 }
 
 #[test]
 fn faults_are_written(rt: HostRuntime) -> Result<(), Fail> {
     let alloc = rt.alloc();
-    let out = fault_written(alloc, 701)?;
-    assert_eq!(rt; out.as_slice(), FAULT_REPLY.as_bytes());
-    let read = browse_read(alloc, out.as_slice())?;
-    assert_eq!(rt; read.as_str(), "fault 701");
+    assert!(rt; is_reply(alloc, fault_written(alloc, 701), FAULT_REPLY, "fault 701")?);
     Ok(())
 }
 
@@ -676,12 +718,16 @@ const TEXTS: [ActionName; 3] = [
     ActionName::GetSortCapabilities,
 ];
 
+/// Whether a text that answers this action is read back.
+fn is_read_back(alloc: Global, name: ActionName) -> Result<bool, Mem> {
+    let text = text_again(alloc, &asks_for_text(name), "dc:title,\r<&>");
+    is_text(text, "text dc:title,\r<&>")
+}
+
 #[test]
 fn texts_are_read_back(rt: HostRuntime) -> Result<(), Fail> {
-    let alloc = rt.alloc();
-    for name in TEXTS {
-        let text = text_again(alloc, &asks_for_text(name), "dc:title,\r<&>")?;
-        assert_eq!(rt; text.as_str(), "text dc:title,\r<&>");
+    for name in &TEXTS {
+        assert!(rt; is_read_back(rt.alloc(), *name)?);
     }
     Ok(())
 }
@@ -714,20 +760,22 @@ fn search_sent(alloc: Global, address: &str) -> Result<Vec<u8>, Mem> {
 
 #[test]
 fn requests_are_written(rt: HostRuntime) -> Result<(), Fail> {
-    let alloc = rt.alloc();
     let address = "http://10.0.0.9:8200/control?a=b";
-    let out = browse_sent(alloc, "a&b", "+dc:title", address)?;
-    assert_eq!(rt; out.as_slice(), BROWSE_REQUEST.as_bytes());
+    let request = browse_sent(rt.alloc(), "a&b", "+dc:title", address);
+    assert!(rt; are_bytes(request, BROWSE_REQUEST)?);
     Ok(())
+}
+
+/// Whether the request of Search begins with its front, and is read back.
+fn search_is_read_back(alloc: Global) -> Result<bool, Mem> {
+    let out = search_sent(alloc, "http://[::1]:80/control")?;
+    let is_read = is_text(asked(alloc, out.as_slice()), "4|0|dc:title = \"a\"|*|7|0|")?;
+    Ok(is_read && out.as_slice().starts_with(SEARCH_FRONT.as_bytes()))
 }
 
 #[test]
 fn requests_are_read_back(rt: HostRuntime) -> Result<(), Fail> {
-    let alloc = rt.alloc();
-    let out = search_sent(alloc, "http://[::1]:80/control")?;
-    assert!(rt; out.as_slice().starts_with(SEARCH_FRONT.as_bytes()));
-    let read = asked(alloc, out.as_slice())?;
-    assert_eq!(rt; read.as_str(), "4|0|dc:title = \"a\"|*|7|0|");
+    assert!(rt; search_is_read_back(rt.alloc())?);
     Ok(())
 }
 
@@ -738,7 +786,15 @@ const PAGE: &str =
     "<Result>a&lt;b</Result><NumberReturned>1</NumberReturned><TotalMatches>2</TotalMatches><UpdateID>3</UpdateID>";
 
 /// The status of a reply, its element, the piece of the results that is replaced by another, and what is answered.
-const PAGES: [(&str, &str, &str, &str, &str); 9] = [
+type Page = (
+    &'static str,
+    &'static str,
+    &'static str,
+    &'static str,
+    &'static str,
+);
+
+const PAGES: [Page; 9] = [
     ("200", "u:BrowseResponse", "a", "a", "a<b|1|2|3"),
     ("500", "u:BrowseResponse", "a", "a", "none"),
     ("404", "u:BrowseResponse", "a", "a", "none"),
@@ -837,24 +893,39 @@ fn results_replied(alloc: Global, status: &str, name: &str, results: &str) -> Re
     element_replied(alloc, status, element.as_str())
 }
 
+/// Whether a page is read as this.
+fn is_page(alloc: Global, page: &Page) -> Result<bool, Fail> {
+    let results = with(alloc, PAGE, page.2, page.3)?;
+    Ok(is_text(
+        results_replied(alloc, page.0, page.1, results.as_str()),
+        page.4,
+    )?)
+}
+
 #[test]
 fn pages_are_read(rt: HostRuntime) -> Result<(), Fail> {
-    let alloc = rt.alloc();
-    for (status, name, from, to, expected) in PAGES {
-        let results = with(alloc, PAGE, from, to)?;
-        let text = results_replied(alloc, status, name, results.as_str())?;
-        assert_eq!(rt; text.as_str(), expected, "{to}");
+    for page in &PAGES {
+        assert!(rt; is_page(rt.alloc(), page)?, "{}", page.3);
     }
     Ok(())
 }
 
+/// Whether a fault whose piece is replaced by another is read as this.
+fn is_fault(
+    alloc: Global,
+    status: &str,
+    from: &str,
+    to: &str,
+    expected: &str,
+) -> Result<bool, Fail> {
+    let fault = with(alloc, FAULT, from, to)?;
+    Ok(is_text(element_replied(alloc, status, fault.as_str()), expected)?)
+}
+
 #[test]
 fn faults_are_read(rt: HostRuntime) -> Result<(), Fail> {
-    let alloc = rt.alloc();
-    for (status, from, to, expected) in FAULTS {
-        let fault = with(alloc, FAULT, from, to)?;
-        let text = element_replied(alloc, status, fault.as_str())?;
-        assert_eq!(rt; text.as_str(), expected, "{to}");
+    for (status, from, to, expected) in &FAULTS {
+        assert!(rt; is_fault(rt.alloc(), status, from, to, expected)?, "{to}");
     }
     Ok(())
 }
@@ -870,13 +941,15 @@ const NO_REPLIES: [&str; 4] = [
 #[test]
 fn replies_are_read(rt: HostRuntime) -> Result<(), Fail> {
     let alloc = rt.alloc();
-    for (status, inside, expected) in INSIDE {
-        let text = replied(alloc, status, inside)?;
-        assert_eq!(rt; text.as_str(), expected);
+    for (status, inside, expected) in &INSIDE {
+        assert!(rt;
+            is_text(replied(alloc, status, inside), expected)?,
+            "{inside}"
+        );
     }
-    for bytes in NO_REPLIES {
-        let text = answer_read(alloc, &Action::GetSystemUpdateId, bytes.as_bytes())?;
-        assert_eq!(rt; text.as_str(), "none");
+    for bytes in &NO_REPLIES {
+        let text = answer_read(alloc, &Action::GetSystemUpdateId, bytes.as_bytes());
+        assert!(rt; is_text(text, "none")?, "{bytes}");
     }
     Ok(())
 }

@@ -62,7 +62,7 @@ enum Step {
     Ask,
 }
 
-/// The addition, the modification and the deletion of a track under the root.
+/// The addition of a track under the root.
 fn added(id: u32, update: u32) -> Event {
     Event::ObjAdd {
         id,
@@ -73,21 +73,48 @@ fn added(id: u32, update: u32) -> Event {
     }
 }
 
-fn modified(id: u32, update: u32) -> Event {
-    Event::ObjMod {
-        id,
-        update,
-        st: false,
-    }
-}
+/// The same of a few objects, and their changes.
+const ADDED_1: Event = Event::ObjAdd {
+    id: 1,
+    update: 1,
+    st: false,
+    parent: 0,
+    class: Class::Track,
+};
 
-fn deleted(id: u32, update: u32) -> Event {
-    Event::ObjDel {
-        id,
-        update,
-        st: false,
-    }
-}
+const ADDED_2: Event = Event::ObjAdd {
+    id: 2,
+    update: 2,
+    st: false,
+    parent: 0,
+    class: Class::Track,
+};
+
+const ADDED_LATE: Event = Event::ObjAdd {
+    id: 1,
+    update: 5,
+    st: false,
+    parent: 0,
+    class: Class::Track,
+};
+
+const MODIFIED: Event = Event::ObjMod {
+    id: 1,
+    update: 2,
+    st: false,
+};
+
+const MODIFIED_OTHER: Event = Event::ObjMod {
+    id: 7,
+    update: 1,
+    st: false,
+};
+
+const DELETED: Event = Event::ObjDel {
+    id: 1,
+    update: 2,
+    st: false,
+};
 
 fn note_of(
     alloc: Global,
@@ -219,17 +246,20 @@ fn take_step(
     Ok(())
 }
 
-/// A load of the empty catalog and a subscription whose first note was taken.
+/// A load of the empty catalog and a subscription whose first note is taken.
+const PREPARING: [Step; 5] = [
+    Step::Load,
+    Step::Read(6, Server::Empty),
+    Step::Subscribe,
+    Step::Accept(1),
+    Step::Deliver(1, 0, 0, None),
+];
+
+/// A replica after these steps.
 fn prepared(alloc: Global, out: &mut String) -> Result<Replica, Fail> {
     let mut replica = Replica::new(alloc);
-    for next in [
-        Step::Load,
-        Step::Read(6, Server::Empty),
-        Step::Subscribe,
-        Step::Accept(1),
-        Step::Deliver(1, 0, 0, None),
-    ] {
-        take_step(alloc, &mut replica, next, out)?;
+    for next in &PREPARING {
+        take_step(alloc, &mut replica, *next, out)?;
     }
     Ok(replica)
 }
@@ -251,159 +281,199 @@ fn are_answered(alloc: Global, steps: &[Step], want: &str) -> Result<bool, Fail>
     Ok(got.as_str() == want)
 }
 
+/// Notes that come out of order.
+const OUT_OF_ORDER: [Step; 6] = [
+    Step::Deliver(1, 2, 2, Some(ADDED_2)),
+    Step::Ask,
+    Step::Deliver(1, 1, 1, Some(ADDED_1)),
+    Step::Ask,
+    Step::Read(2, Server::Two),
+    Step::Ask,
+];
+
+/// Notes that come again.
+const REPEATED: [Step; 6] = [
+    Step::Deliver(1, 1, 1, Some(ADDED_1)),
+    Step::Read(1, Server::One),
+    Step::Deliver(1, 2, 2, Some(DELETED)),
+    Step::Deliver(1, 2, 2, Some(DELETED)),
+    Step::Deliver(1, 2, 2, Some(DELETED)),
+    Step::Ask,
+];
+
 /// Notes that come out of order, and again.
 #[test]
 fn notes_in_any_order(rt: HostRuntime) -> Result<(), Fail> {
     let alloc = rt.alloc();
-    let out_of_order = [
-        Step::Deliver(1, 2, 2, Some(added(2, 2))),
-        Step::Ask,
-        Step::Deliver(1, 1, 1, Some(added(1, 1))),
-        Step::Ask,
-        Step::Read(2, Server::Two),
-        Step::Ask,
-    ];
     let want = "held 1 gap 1 took behind read 1 ok ok stands 2 0@0 (2 2 0) 1@1 2@2 ";
-    assert!(rt; are_answered(alloc, &out_of_order, want)?);
-    let goes = Some(deleted(1, 2));
-    let repeated = [
-        Step::Deliver(1, 1, 1, Some(added(1, 1))),
-        Step::Read(1, Server::One),
-        Step::Deliver(1, 2, 2, goes),
-        Step::Deliver(1, 2, 2, goes),
-        Step::Deliver(1, 2, 2, goes),
-        Step::Ask,
-    ];
+    assert!(rt; are_answered(alloc, &OUT_OF_ORDER, want)?, "{want}");
     let want = "took ok took repeat repeat stands 2 0@0 (0 2 1) ";
-    assert!(rt; are_answered(alloc, &repeated, want)?);
+    assert!(rt; are_answered(alloc, &REPEATED, want)?, "{want}");
     Ok(())
 }
+
+/// An object is read when it is gone.
+const READ_LATE: [Step; 5] = [
+    Step::Deliver(1, 1, 1, Some(ADDED_1)),
+    Step::Read(1, Server::Gone),
+    Step::Ask,
+    Step::Deliver(1, 2, 2, Some(DELETED)),
+    Step::Ask,
+];
+
+/// An object is read when it has changed.
+const READ_AHEAD: [Step; 5] = [
+    Step::Deliver(1, 1, 1, Some(ADDED_1)),
+    Step::Read(1, Server::Changed),
+    Step::Ask,
+    Step::Deliver(1, 2, 2, Some(MODIFIED)),
+    Step::Ask,
+];
 
 /// Notes that come after what is read of their objects.
 #[test]
 fn reads_before_notes(rt: HostRuntime) -> Result<(), Fail> {
     let alloc = rt.alloc();
-    let read_late = [
-        Step::Deliver(1, 1, 1, Some(added(1, 1))),
-        Step::Read(1, Server::Gone),
-        Step::Ask,
-        Step::Deliver(1, 2, 2, Some(deleted(1, 2))),
-        Step::Ask,
-    ];
     let want = "took 701 behind read 1 took stands 2 0@0 (0 2 1) ";
-    assert!(rt; are_answered(alloc, &read_late, want)?);
-    let read_ahead = [
-        Step::Deliver(1, 1, 1, Some(added(1, 1))),
-        Step::Read(1, Server::Changed),
-        Step::Ask,
-        Step::Deliver(1, 2, 2, Some(modified(1, 2))),
-        Step::Ask,
-    ];
+    assert!(rt; are_answered(alloc, &READ_LATE, want)?, "{want}");
     let want = "took ok behind version 2 took stands 2 0@0 (1 2 0) 1@2 ";
-    assert!(rt; are_answered(alloc, &read_ahead, want)?);
+    assert!(rt; are_answered(alloc, &READ_AHEAD, want)?, "{want}");
     Ok(())
 }
+
+/// A load that meets another number.
+const BEGINS_AGAIN: [Step; 6] = [
+    Step::Load,
+    Step::Read(4, Server::Empty),
+    Step::Read(2, Server::One),
+    Step::Ask,
+    Step::Read(6, Server::One),
+    Step::Ask,
+];
+
+/// A first note above the position.
+const DROPPED: [Step; 4] = [
+    Step::Subscribe,
+    Step::Accept(2),
+    Step::Deliver(2, 0, 5, None),
+    Step::Ask,
+];
 
 /// A load that meets another number begins again, and a first note above the position drops the copy.
 #[test]
 fn loads_anew(rt: HostRuntime) -> Result<(), Fail> {
     let alloc = rt.alloc();
-    let begins_again = [
-        Step::Load,
-        Step::Read(4, Server::Empty),
-        Step::Read(2, Server::One),
-        Step::Ask,
-        Step::Read(6, Server::One),
-        Step::Ask,
-    ];
     let want = "ok ok ok ok ok ok behind load ok ok ok ok ok ok stands 1 0@0 (1 1 0) 1@1 ";
-    assert!(rt; are_answered(alloc, &begins_again, want)?);
-    let dropped = [
-        Step::Subscribe,
-        Step::Accept(2),
-        Step::Deliver(2, 0, 5, None),
-        Step::Ask,
-    ];
-    assert!(rt; are_answered(alloc, &dropped, "took behind load ")?);
+    assert!(rt; are_answered(alloc, &BEGINS_AGAIN, want)?, "{want}");
+    let want = "took behind load ";
+    assert!(rt; are_answered(alloc, &DROPPED, want)?, "{want}");
     Ok(())
 }
+
+/// Notes before their name is known.
+const EARLY: [Step; 9] = [
+    Step::Subscribe,
+    Step::Deliver(2, 1, 1, Some(ADDED_1)),
+    Step::Deliver(2, 1, 1, Some(ADDED_1)),
+    Step::Deliver(3, 1, 1, Some(ADDED_1)),
+    Step::Accept(2),
+    Step::Ask,
+    Step::Deliver(2, 0, 0, None),
+    Step::Ask,
+    Step::Deliver(3, 2, 2, None),
+];
+
+/// Notes of a request that another one follows.
+const SUBSCRIBED_AGAIN: [Step; 5] = [
+    Step::Subscribe,
+    Step::Deliver(2, 1, 1, Some(ADDED_1)),
+    Step::Subscribe,
+    Step::Accept(2),
+    Step::Ask,
+];
 
 /// Early notes, and those of a request that another one follows.
 #[test]
 fn early_notes(rt: HostRuntime) -> Result<(), Fail> {
     let alloc = rt.alloc();
-    let first = Some(added(1, 1));
-    let early = [
-        Step::Subscribe,
-        Step::Deliver(2, 1, 1, first),
-        Step::Deliver(2, 1, 1, first),
-        Step::Deliver(3, 1, 1, first),
-        Step::Accept(2),
-        Step::Ask,
-        Step::Deliver(2, 0, 0, None),
-        Step::Ask,
-        Step::Deliver(3, 2, 2, None),
-    ];
     let want = "early repeat early gap 0 took behind read 1 unknown ";
-    assert!(rt; are_answered(alloc, &early, want)?);
-    let subscribed_again = [
-        Step::Subscribe,
-        Step::Deliver(2, 1, 1, first),
-        Step::Subscribe,
-        Step::Accept(2),
-        Step::Ask,
-    ];
+    assert!(rt; are_answered(alloc, &EARLY, want)?, "{want}");
     let want = "early stands 0 0@0 (0 0 0) ";
-    assert!(rt; are_answered(alloc, &subscribed_again, want)?);
+    assert!(rt; are_answered(alloc, &SUBSCRIBED_AGAIN, want)?, "{want}");
     Ok(())
 }
+
+/// Notes of a request that was refused.
+const NOT_ACCEPTED: [Step; 6] = [
+    Step::Subscribe,
+    Step::Deliver(2, 0, 0, None),
+    Step::Refuse,
+    Step::Deliver(2, 1, 1, Some(ADDED_1)),
+    Step::Deliver(1, 1, 1, Some(ADDED_1)),
+    Step::Ask,
+];
+
+/// Notes whose changes cannot be counted.
+const REFUSED: [Step; 5] = [
+    Step::Deliver(1, 1, 5, Some(ADDED_LATE)),
+    Step::Deliver(1, 1, 1, Some(MODIFIED_OTHER)),
+    Step::Ask,
+    Step::Deliver(1, 1, 1, Some(ADDED_1)),
+    Step::Ask,
+];
 
 /// Notes of a request that was refused, and notes whose changes cannot be counted.
 #[test]
 fn refused_notes(rt: HostRuntime) -> Result<(), Fail> {
     let alloc = rt.alloc();
-    let first = Some(added(1, 1));
-    let not_accepted = [
-        Step::Subscribe,
-        Step::Deliver(2, 0, 0, None),
-        Step::Refuse,
-        Step::Deliver(2, 1, 1, first),
-        Step::Deliver(1, 1, 1, first),
-        Step::Ask,
-    ];
     let want = "early unknown took behind read 1 ";
-    assert!(rt; are_answered(alloc, &not_accepted, want)?);
-    let refused = [
-        Step::Deliver(1, 1, 5, Some(added(1, 5))),
-        Step::Deliver(1, 1, 1, Some(modified(7, 1))),
-        Step::Ask,
-        Step::Deliver(1, 1, 1, first),
-        Step::Ask,
-    ];
+    assert!(rt; are_answered(alloc, &NOT_ACCEPTED, want)?, "{want}");
     let want = "jump 1 5 torn 7 stands 0 0@0 (0 0 0) took behind read 1 ";
-    assert!(rt; are_answered(alloc, &refused, want)?);
+    assert!(rt; are_answered(alloc, &REFUSED, want)?, "{want}");
     Ok(())
+}
+
+/// What becomes of a note that adds the object of its SEQ.
+fn notified(
+    alloc: Global,
+    replica: &mut Replica,
+    seq: u32,
+) -> Result<Result<Taken, NotifyError>, Mem> {
+    let note = note_of(alloc, 1, seq, seq, Some(added(seq, seq)))?;
+    Ok(replica.notify(alloc, note))
+}
+
+/// Whether the notes of SEQ 2 to 65 are held for that of SEQ 1.
+fn are_held(alloc: Global, replica: &mut Replica) -> Result<bool, Fail> {
+    for seq in 2..66u32 {
+        if notified(alloc, replica, seq)? != Ok(Taken::Held { missing: 1 }) {
+            return Ok(false);
+        }
+    }
+    Ok(true)
+}
+
+/// Whether no other one is held, and the next one is taken with those that follow it.
+fn next_is_taken(alloc: Global, replica: &mut Replica) -> Result<bool, Fail> {
+    let full = notified(alloc, replica, 66)?;
+    let next = notified(alloc, replica, 1)?;
+    let behind = notified(alloc, replica, 67)?;
+    let is_full = full == Err(NotifyError::Full { held: 64 });
+    Ok(is_full && next == Ok(Taken::Took) && behind == Ok(Taken::Held { missing: 66 }))
+}
+
+/// A replica that has taken its first note.
+fn replica_prepared(alloc: Global) -> Result<Replica, Fail> {
+    let mut out = String::new(alloc);
+    prepared(alloc, &mut out)
 }
 
 /// With 64 notes held no more are, but the next one is taken with those that follow it.
 #[test]
 fn holds_64_notes(rt: HostRuntime) -> Result<(), Fail> {
     let alloc = rt.alloc();
-    let mut out = String::new(alloc);
-    let mut replica = prepared(alloc, &mut out)?;
-    for seq in 2..66u32 {
-        let note = note_of(alloc, 1, seq, seq, Some(added(seq, seq)))?;
-        let taken = replica.notify(alloc, note)?;
-        assert!(rt; taken == Taken::Held { missing: 1 });
-    }
-    for (seq, answer) in [
-        (66, Err(NotifyError::Full { held: 64 })),
-        (1, Ok(Taken::Took)),
-        (67, Ok(Taken::Held { missing: 66 })),
-    ] {
-        let note = note_of(alloc, 1, seq, seq, Some(added(seq, seq)))?;
-        assert!(rt; replica.notify(alloc, note) == answer);
-    }
+    let mut replica = replica_prepared(alloc)?;
+    assert!(rt; are_held(alloc, &mut replica)? && next_is_taken(alloc, &mut replica)?);
     assert!(rt; replica.says() == Says::Gap { missing: 66 });
     Ok(())
 }
@@ -487,24 +557,39 @@ fn follows(alloc: Global, seqs: &[u32]) -> Result<bool, Fail> {
     Ok(replica.says() == says)
 }
 
+/// An order without one of its notes.
+fn without(alloc: Global, order: &[u32], one: u32) -> Result<Vec<u32>, Mem> {
+    let mut seqs = Vec::new(alloc);
+    for seq in order {
+        if *seq != one {
+            seqs.push(*seq)?;
+        }
+    }
+    Ok(seqs)
+}
+
+/// Whether an order is followed that has lost one of its notes.
+fn follows_lost(alloc: Global, order: &[u32], one: u32) -> Result<bool, Fail> {
+    let seqs = without(alloc, order, one)?;
+    follows(alloc, seqs.as_slice())
+}
+
+/// Whether an order is followed behind which one of its notes comes again.
+fn follows_again(alloc: Global, order: &[u32], one: u32) -> Result<bool, Fail> {
+    let mut seqs = Vec::from_slice(alloc, order)?;
+    seqs.push(one)?;
+    follows(alloc, seqs.as_slice())
+}
+
 /// All orders of four notes, with one of them lost, or delivered again.
 #[test]
 fn all_orders_of_four_notes(rt: HostRuntime) -> Result<(), Fail> {
     let alloc = rt.alloc();
-    for order in ORDERS.iter() {
-        assert!(rt; follows(alloc, &order[..])?);
+    for order in &ORDERS {
+        assert!(rt; follows(alloc, order)?);
         for one in order {
-            let mut lost = Vec::new(alloc);
-            let mut again = Vec::new(alloc);
-            for seq in order {
-                if seq != one {
-                    lost.push(*seq)?;
-                }
-                again.push(*seq)?;
-            }
-            again.push(*one)?;
-            assert!(rt; follows(alloc, lost.as_slice())?, "{one} lost");
-            assert!(rt; follows(alloc, again.as_slice())?, "{one} again");
+            assert!(rt; follows_lost(alloc, order, *one)?, "{one} lost");
+            assert!(rt; follows_again(alloc, order, *one)?, "{one} again");
         }
     }
     Ok(())

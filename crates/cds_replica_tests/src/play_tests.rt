@@ -33,72 +33,94 @@ fn played(
     Ok((answer, Vec::from_slice(alloc, sink.as_slice())?))
 }
 
+/// Whether a script is answered so, with this report, where these reads and these writes fail.
+fn is_played(
+    alloc: Global,
+    script: &str,
+    fails: (&[u32], &[u32]),
+    answer: Result<(), ReplayError>,
+    report: &str,
+) -> Result<bool, Fail> {
+    let (given, written) = played(alloc, script, fails.0, fails.1)?;
+    Ok(given == answer && written.as_slice() == report.as_bytes())
+}
+
+/// Scripts, what they are answered, and the reports.
+const SCRIPTS: [(&str, Result<(), ReplayError>, &str); 5] = [
+    ("", Ok(()), ""),
+    ("ask", Ok(()), "behind load\n"),
+    ("ask\n#\n\nscan\n", Ok(()), "behind load\nscan 0\n"),
+    (
+        "# The lines before a broken one are answered.\nask\nfolder ../outside\nask\n",
+        Err(ReplayError::Line { line: 3 }),
+        "behind load\nerror line 3\n",
+    ),
+    (
+        "read\nask ",
+        Err(ReplayError::Line { line: 2 }),
+        "read none\nerror line 2\n",
+    ),
+];
+
 #[test]
 fn scripts_from_bytes_to_bytes(rt: HostRuntime) -> Result<(), Fail> {
-    let alloc = rt.alloc();
-    let cases: [(&str, Result<(), ReplayError>, &str); 5] = [
-        ("", Ok(()), ""),
-        ("ask", Ok(()), "behind load\n"),
-        ("ask\n#\n\nscan\n", Ok(()), "behind load\nscan 0\n"),
-        (
-            "# The lines before a broken one are answered.\nask\nfolder ../outside\nask\n",
-            Err(ReplayError::Line { line: 3 }),
-            "behind load\nerror line 3\n",
-        ),
-        (
-            "read\nask ",
-            Err(ReplayError::Line { line: 2 }),
-            "read none\nerror line 2\n",
-        ),
-    ];
-    for (script, answer, report) in cases {
-        let (given, written) = played(alloc, script, &[], &[])?;
+    for (script, answer, report) in &SCRIPTS {
         assert!(rt;
-            given == answer && written.as_slice() == report.as_bytes(),
+            is_played(rt.alloc(), script, (&[], &[]), *answer, report)?,
             "{script}"
         );
     }
     Ok(())
+}
+
+/// Whether a comment of so many bytes is answered so.
+fn is_taken(
+    alloc: Global,
+    size: usize,
+    answer: Result<(), ReplayError>,
+    report: &str,
+) -> Result<bool, Fail> {
+    let line = comment(alloc, size)?;
+    is_played(alloc, line.as_str(), (&[], &[]), answer, report)
 }
 
 #[test]
 fn the_longest_line(rt: HostRuntime) -> Result<(), Fail> {
-    let alloc = rt.alloc();
-    let cases: [(usize, Result<(), ReplayError>, &str); 2] = [
-        (4096, Ok(()), ""),
-        (4097, Err(ReplayError::Limit), "error limit\n"),
-    ];
-    for (size, answer, report) in cases {
-        let line = comment(alloc, size)?;
-        let (given, written) = played(alloc, line.as_str(), &[], &[])?;
-        assert!(rt;
-            given == answer && written.as_slice() == report.as_bytes(),
-            "{size}"
-        );
-    }
+    assert!(rt; is_taken(rt.alloc(), 4096, Ok(()), "")?);
+    assert!(rt; is_taken(rt.alloc(), 4097, Err(ReplayError::Limit), "error limit\n")?);
     Ok(())
+}
+
+/// A script, the reads and the writes that fail, the fault, and the report.
+type Failing = (
+    &'static str,
+    &'static [u32],
+    &'static [u32],
+    ReplayError,
+    &'static str,
+);
+
+const FAILING: [Failing; 3] = [
+    ("ask\n", &[1], &[], ReplayError::ReadFault, ""),
+    (
+        "ask\nread",
+        &[2],
+        &[],
+        ReplayError::ReadFault,
+        "behind load\n",
+    ),
+    ("ask\n", &[], &[1], ReplayError::WriteFault, ""),
+];
+
+/// Whether a script fails so.
+fn fails(alloc: Global, case: &Failing) -> Result<bool, Fail> {
+    is_played(alloc, case.0, (case.1, case.2), Err(case.3), case.4)
 }
 
 #[test]
 fn reads_and_writes_that_fail(rt: HostRuntime) -> Result<(), Fail> {
-    let alloc = rt.alloc();
-    let cases: [(&str, &[u32], &[u32], ReplayError, &str); 3] = [
-        ("ask\n", &[1], &[], ReplayError::ReadFault, ""),
-        (
-            "ask\nread",
-            &[2],
-            &[],
-            ReplayError::ReadFault,
-            "behind load\n",
-        ),
-        ("ask\n", &[], &[1], ReplayError::WriteFault, ""),
-    ];
-    for (script, reads, writes, fault, report) in cases {
-        let (given, written) = played(alloc, script, reads, writes)?;
-        assert!(rt;
-            given == Err(fault) && written.as_slice() == report.as_bytes(),
-            "{script}"
-        );
+    for case in &FAILING {
+        assert!(rt; fails(rt.alloc(), case)?, "{}", case.0);
     }
     Ok(())
 }
@@ -156,35 +178,39 @@ impl Sink for Heard<'_> {
     }
 }
 
-#[test]
-fn a_line_is_answered_before_the_next_is_read(rt: HostRuntime) -> Result<(), Fail> {
-    let alloc = rt.alloc();
-    let written = Cell::new(0);
-    let lines: [Asked; 8] = [
-        (b"ask\n", 0),
-        (b"folder a\n", 12),
-        (b"scan\n", 12),
-        (b"re", 19),
-        (b"ad\n", 19),
-        (b"ask\nask\n\nask\nread\n", 29),
-        (b"ask", 75),
-        (b"", 75),
-    ];
+/// Lines as they are typed.
+const LINES: [Asked; 8] = [
+    (b"ask\n", 0),
+    (b"folder a\n", 12),
+    (b"scan\n", 12),
+    (b"re", 19),
+    (b"ad\n", 19),
+    (b"ask\nask\n\nask\nread\n", 29),
+    (b"ask", 75),
+    (b"", 75),
+];
+
+/// Whether all lines are read, each after those before it are answered.
+fn are_answered_in_time(alloc: Global, written: &Cell<usize>, sink: &mut Heard) -> bool {
     let mut source = Typed {
-        lines: &lines,
+        lines: &LINES,
         at: 0,
         moved: 0,
-        written: &written,
+        written,
         late: false,
     };
+    let answer = replay(alloc, &mut source, sink);
+    answer == Ok(()) && !source.late && source.at == 8
+}
+
+#[test]
+fn a_line_is_answered_before_the_next_is_read(rt: HostRuntime) {
+    let written = Cell::new(0);
     let mut sink = Heard {
         written: &written,
         at_once: 0,
     };
-    assert!(rt; replay(alloc, &mut source, &mut sink) == Ok(()));
-    assert!(rt; !source.late && source.at == 8);
-    assert_eq!(rt; written.get(), 87);
+    assert!(rt; are_answered_in_time(rt.alloc(), &written, &mut sink));
     // The lines of one piece are answered one by one.
-    assert_eq!(rt; sink.at_once, 12);
-    Ok(())
+    assert!(rt; written.get() == 87 && sink.at_once == 12);
 }

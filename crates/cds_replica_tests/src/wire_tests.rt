@@ -52,20 +52,26 @@ const ONE_TRACK: &str =
 const SHOWN: &str =
     "scan 1\nread ok\nread ok\nread ok\nread ok\nread ok\nread ok\nstands 1\n<container id=\"0\" parentID=\"-1\" restricted=\"1\" searchable=\"1\" childCount=\"1\"><dc:title>root</dc:title><upnp:class>object.container</upnp:class><upnp:objectUpdateID>0</upnp:objectUpdateID><upnp:containerUpdateID>1</upnp:containerUpdateID><upnp:totalDeletedChildCount>0</upnp:totalDeletedChildCount></container>\n<item id=\"1\" parentID=\"0\" restricted=\"1\"><dc:title>Y</dc:title><upnp:class>object.item.audioItem.musicTrack</upnp:class><upnp:objectUpdateID>1</upnp:objectUpdateID><res protocolInfo=\"http-get:*:audio/flac:*\" size=\"10\" bitsPerSample=\"16\" nrAudioChannels=\"2\">/media/1</res></item>\n";
 
+/// Whether a script over a wire is answered so, with this report.
+fn is_played<W: Wire>(
+    alloc: Global,
+    script: &str,
+    wire: &W,
+    want: Result<(), ReplayError>,
+    shown: &str,
+) -> Result<bool, Fail> {
+    let (answer, report) = played(alloc, script, wire)?;
+    Ok(answer == want && report.as_str() == shown)
+}
+
 /// The replica's rows are those that the wire left: the title of the track is another than the server's.
 #[test]
 fn rows_are_what_the_wire_left(rt: HostRuntime) -> Result<(), Fail> {
-    let alloc = rt.alloc();
-    let (answer, report) = played(
-        alloc,
-        ONE_TRACK,
-        &Writes {
-            old: b'Z',
-            new: b'Y',
-        },
-    )?;
-    assert_eq!(rt; answer, Ok(()));
-    assert_eq!(rt; report.as_str(), SHOWN);
+    let wire = Writes {
+        old: b'Z',
+        new: b'Y',
+    };
+    assert!(rt; is_played(rt.alloc(), ONE_TRACK, &wire, Ok(()), SHOWN)?);
     Ok(())
 }
 
@@ -94,18 +100,22 @@ fn flipped(byte: u8) -> u8
     if byte % 2 == 0 { byte + 1 } else { byte - 1 }
 }
 
+/// Whether a script over a wire ends, or the replica refuses a reply to one of its reads.
+fn is_read_or_refused(alloc: Global, at: usize) -> Result<bool, Fail> {
+    let (answer, _report) = played(alloc, ONE_TRACK, &Flips { at })?;
+    Ok(match answer {
+        Ok(()) => true,
+        Err(ReplayError::Refused { line }) => 4 <= line && line <= 9,
+        Err(_) => false,
+    })
+}
+
 /// Whichever byte of each reply is another, the script ends, or the replica refuses a reply to one of its reads. No reply has more
 /// bytes.
 #[test]
 fn changed_bytes_are_read_or_refused(rt: HostRuntime) -> Result<(), Fail> {
-    let alloc = rt.alloc();
     for at in 0..1300 {
-        let (answer, _report) = played(alloc, ONE_TRACK, &Flips { at })?;
-        match answer {
-            Ok(()) => {}
-            Err(ReplayError::Refused { line }) => assert!(rt; 4 <= line && line <= 9, "{at}"),
-            Err(other) => assert!(rt; false, "{at}: {other}"),
-        }
+        assert!(rt; is_read_or_refused(rt.alloc(), at)?, "{at}");
     }
     Ok(())
 }
@@ -141,18 +151,11 @@ const PAGE: &str =
 /// The fifth reply is exactly that: it is the one that is spoiled. The wire leaves all others.
 #[test]
 fn the_page_of_a_tagged_track(rt: HostRuntime) -> Result<(), Fail> {
-    let alloc = rt.alloc();
-    let (answer, report) = played(
-        alloc,
-        TAGGED,
-        &Spoils {
-            reply: PAGE.as_bytes(),
-        },
-    )?;
-    assert_eq!(rt; answer, Err(ReplayError::Refused { line: 9 }));
-    assert_eq!(rt;
-        report.as_str(),
-        "scan 1\nread ok\nread ok\nread ok\nread ok\n"
-    );
+    let wire = Spoils {
+        reply: PAGE.as_bytes(),
+    };
+    let answer = Err(ReplayError::Refused { line: 9 });
+    let shown = "scan 1\nread ok\nread ok\nread ok\nread ok\n";
+    assert!(rt; is_played(rt.alloc(), TAGGED, &wire, answer, shown)?);
     Ok(())
 }

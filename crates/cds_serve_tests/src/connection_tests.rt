@@ -36,8 +36,8 @@ const REFUSALS: [(&str, &str); 8] = [
 
 #[test]
 fn refusals_are_answered(rt: HostRuntime) -> Result<(), Fail> {
-    for (text, want) in REFUSALS {
-        assert!(rt; is_answered(&rt, rt.alloc(), text, want)?);
+    for (text, want) in &REFUSALS {
+        assert!(rt; is_answered(&rt, rt.alloc(), text, want)?, "{text}");
     }
     Ok(())
 }
@@ -49,18 +49,26 @@ fn asked<R: Wait>(rt: &R, alloc: Global, read: u32, write: u32) -> Result<MemCon
     Ok(conn)
 }
 
+/// How many rows are answered.
+fn rows_answered<R: Wait>(rt: &R, alloc: Global) -> Result<Option<usize>, Fail> {
+    let conn = asked(rt, alloc, 0, 0)?;
+    Ok(rows_in(alloc, conn.written())?)
+}
+
 #[test]
 fn a_page_is_answered(rt: HostRuntime) -> Result<(), Fail> {
-    let conn = asked(&rt, rt.alloc(), 0, 0)?;
-    assert_eq!(rt; rows_in(rt.alloc(), conn.written())?, Some(0));
+    assert!(rt; rows_answered(&rt, rt.alloc())? == Some(0));
     Ok(())
+}
+
+/// Whether nothing is answered, where one read and one write of the connection fail.
+fn is_given_up<R: Wait>(rt: &R, alloc: Global, read: u32, write: u32) -> Result<bool, Fail> {
+    let conn = asked(rt, alloc, read, write)?;
+    Ok(conn.written().is_empty())
 }
 
 #[test]
 fn a_connection_that_fails_is_given_up(rt: HostRuntime) -> Result<(), Fail> {
-    for (read, write) in [(1, 0), (0, 1)] {
-        let conn = asked(&rt, rt.alloc(), read, write)?;
-        assert!(rt; conn.written().is_empty());
-    }
+    assert!(rt; is_given_up(&rt, rt.alloc(), 1, 0)? && is_given_up(&rt, rt.alloc(), 0, 1)?);
     Ok(())
 }

@@ -32,14 +32,25 @@ const LIVES: [(u32, &str); 3] = [
     (2, "serving 49152\nserved 2 scans 1 refused 0 memory 0\n"),
 ];
 
+/// Whether a server serves so many connections, and writes this.
+fn is_served<R: Threads + Wait + Clone + Copy + Drop + Send + Sync + 'static>(
+    rt: R,
+    alloc: Global,
+    requests: u32,
+    want: &str,
+) -> Result<bool, Fail> {
+    let life = life(rt, alloc, requests, NONE)?;
+    let outside = &life.outside;
+    let has_counts = outside.connections() == u64::from(requests)
+        && outside.started() == 6
+        && outside.faults() == 0;
+    Ok(life.status == 0 && life.sink.as_slice() == want.as_bytes() && has_counts)
+}
+
 #[test]
 fn a_server_serves_to_its_end(rt: HostRuntime) -> Result<(), Fail> {
-    for (requests, want) in LIVES {
-        let life = life(rt, rt.alloc(), requests, NONE)?;
-        assert_eq!(rt; life.status, 0);
-        assert!(rt; life.sink.as_slice() == want.as_bytes());
-        assert_eq!(rt; life.outside.connections(), u64::from(requests));
-        assert_eq!(rt; (life.outside.started(), life.outside.faults()), (6, 0));
+    for (requests, want) in &LIVES {
+        assert!(rt; is_served(rt, rt.alloc(), *requests, want)?, "{requests}");
     }
     Ok(())
 }
@@ -69,10 +80,13 @@ const FAULTS: [(Part, u32, u8); 6] = [
 
 #[test]
 fn each_fault_ends_a_server_with_its_status(rt: HostRuntime) -> Result<(), Fail> {
-    for (part, calls, want) in FAULTS {
-        for call in 1..=calls + 2 {
-            let owed = if call <= calls { want } else { 0 };
-            assert_eq!(rt; status(rt, rt.alloc(), part, call)?, Some(owed));
+    for (part, calls, want) in &FAULTS {
+        for call in 1..=*calls + 2 {
+            let owed = if call <= *calls { *want } else { 0 };
+            assert!(rt;
+                status(rt, rt.alloc(), *part, call)? == Some(owed),
+                "{want} at {call}"
+            );
         }
     }
     Ok(())

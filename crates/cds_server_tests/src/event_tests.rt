@@ -175,34 +175,59 @@ fn reply_at(alloc: Global, server: &mut Server, now: u64, text: &str) -> Result<
     Ok(out)
 }
 
+/// The place of the first row that a new server answers otherwise.
+fn first_wrong_event(alloc: Global) -> Result<Option<usize>, Fail> {
+    let mut server = Server::new(alloc, [0, 0], 0)?;
+    first_wrong(alloc, &mut server, &EVENTS)
+}
+
 #[test]
 fn each_event_status_has_its_cause(rt: HostRuntime) -> Result<(), Fail> {
-    let alloc = rt.alloc();
-    let mut server = Server::new(alloc, [0, 0], 0)?;
-    assert_eq!(rt; first_wrong(alloc, &mut server, &EVENTS)?, None);
+    let wrong = first_wrong_event(rt.alloc())?;
+    assert!(rt; wrong.is_none(), "{wrong:?}");
     Ok(())
 }
 
 /// So many subscribe requests at the first moment.
 fn subscribe_all(alloc: Global, server: &mut Server, count: u32) -> Result<bool, Fail> {
     for _ in 0..count {
-        let reply = reply_at(alloc, server, 0, SUBSCRIBE)?;
-        if !is_reply(reply.as_slice(), OK, "TIMEOUT: Second-1800") {
+        if !is_replied(alloc, server, 0, OK, "TIMEOUT: Second-1800")? {
             return Ok(false);
         }
     }
     Ok(true)
 }
 
+/// Whether a subscribe request at a moment is replied to so.
+fn is_replied(
+    alloc: Global,
+    server: &mut Server,
+    now: u64,
+    front: &str,
+    part: &str,
+) -> Result<bool, Fail> {
+    let reply = reply_at(alloc, server, now, SUBSCRIBE)?;
+    Ok(is_reply(reply.as_slice(), front, part))
+}
+
+/// Whether 64 are granted, no other one until they have run out, and then one.
+fn are_granted(alloc: Global, server: &mut Server) -> Result<bool, Fail> {
+    Ok(
+        subscribe_all(alloc, server, 64)?
+            && is_replied(alloc, server, 1_799_999, FULL, EMPTY)?
+            && is_replied(alloc, server, 1_800_000, OK, "-000000000041")?,
+    )
+}
+
+/// The same of a new server.
+fn new_server_grants(alloc: Global) -> Result<bool, Fail> {
+    let mut server = Server::new(alloc, [0, 0], 0)?;
+    are_granted(alloc, &mut server)
+}
+
 #[test]
 fn sixty_four_are_granted(rt: HostRuntime) -> Result<(), Fail> {
-    let alloc = rt.alloc();
-    let mut server = Server::new(alloc, [0, 0], 0)?;
-    assert!(rt; subscribe_all(alloc, &mut server, 64)?);
-    let full = reply_at(alloc, &mut server, 1_799_999, SUBSCRIBE)?;
-    assert!(rt; is_reply(full.as_slice(), FULL, EMPTY));
-    let next = reply_at(alloc, &mut server, 1_800_000, SUBSCRIBE)?;
-    assert!(rt; is_reply(next.as_slice(), OK, "-000000000041"));
+    assert!(rt; new_server_grants(rt.alloc())?);
     Ok(())
 }
 
@@ -269,46 +294,107 @@ fn has_body(notes: &Option<Notes>, body: &str) -> bool {
     }
 }
 
+/// Whether a first note goes to the first subscription with this body.
+fn is_first(note: &Option<FirstNote>, body: &str) -> bool {
+    match note {
+        None => false,
+        Some(note) => goes_to(&note.to, 0) && note.body.as_slice() == body.as_bytes(),
+    }
+}
+
+/// Whether a subscription gets its first note.
+fn first_is_given(alloc: Global, server: &mut Server) -> Result<bool, Fail> {
+    let note = subscribed(alloc, server)?;
+    Ok(is_first(&note, FIRST_BODY))
+}
+
+/// Whether a tick gives nothing.
+fn is_quiet(alloc: Global, server: &mut Server, now: u64) -> Result<bool, Fail> {
+    let notes = server.tick(alloc, now)?;
+    Ok(notes.is_none())
+}
+
+/// Whether a tick gives the first release.
+fn first_is_released(alloc: Global, server: &mut Server) -> Result<bool, Fail> {
+    let notes = server.tick(alloc, 1_000)?;
+    Ok(is_release(&notes, 1, 0, 1))
+}
+
+/// Whether a tick gives the second release.
+fn second_is_released(alloc: Global, server: &mut Server) -> Result<bool, Fail> {
+    let notes = server.tick(alloc, 1_200)?;
+    Ok(is_release(&notes, 2, 1, 3) && has_body(&notes, BODY))
+}
+
+/// Whether each tick gives what is due, with scans between them.
+fn are_due(alloc: Global, server: &mut Server) -> Result<bool, Fail> {
+    let begins = first_is_given(alloc, server)? && is_quiet(alloc, server, 0)?;
+    scan(alloc, server, "a.flac")?;
+    let first = first_is_released(alloc, server)?;
+    scan(alloc, server, "a.flac b.flac")?;
+    let waits = is_quiet(alloc, server, 1_100)?;
+    scan(alloc, server, "a.flac b.flac c.flac")?;
+    let second = is_quiet(alloc, server, 1_199)? && second_is_released(alloc, server)?;
+    Ok(begins && first && waits && second && is_quiet(alloc, server, 1_400)?)
+}
+
+/// The same of a new server.
+fn new_server_ticks(alloc: Global) -> Result<bool, Fail> {
+    let mut server = Server::new(alloc, [0, 0], 0)?;
+    are_due(alloc, &mut server)
+}
+
 /// Scans that come faster than notes go out, and what each tick gives.
 #[test]
 fn ticks_give_what_is_due(rt: HostRuntime) -> Result<(), Fail> {
-    let alloc = rt.alloc();
-    let mut server = Server::new(alloc, [0, 0], 0)?;
-    let first = subscribed(alloc, &mut server)?;
-    assert!(rt;
-        first.is_some_and(|note| goes_to(&note.to, 0)
-            && note.body.as_slice() == FIRST_BODY.as_bytes())
-    );
-    assert!(rt; server.tick(alloc, 0)?.is_none());
-    scan(alloc, &mut server, "a.flac")?;
-    assert!(rt; is_release(&server.tick(alloc, 1_000)?, 1, 0, 1));
-    scan(alloc, &mut server, "a.flac b.flac")?;
-    assert!(rt; server.tick(alloc, 1_100)?.is_none());
-    scan(alloc, &mut server, "a.flac b.flac c.flac")?;
-    assert!(rt; server.tick(alloc, 1_199)?.is_none());
-    let notes = server.tick(alloc, 1_200)?;
-    assert!(rt; is_release(&notes, 2, 1, 3));
-    assert!(rt; has_body(&notes, BODY));
-    assert!(rt; server.tick(alloc, 1_400)?.is_none());
+    assert!(rt; new_server_ticks(rt.alloc())?);
     Ok(())
+}
+
+/// Whether a subscription gets its first note under the first name.
+fn is_subscribed(alloc: Global, server: &mut Server) -> Result<bool, Fail> {
+    match subscribed(alloc, server)? {
+        Some(note) => Ok(goes_to(&note.to, 0)),
+        None => Ok(false),
+    }
+}
+
+/// Whether a tick at which all has run out gives the changes and no notes.
+fn gives_no_notes(alloc: Global, server: &mut Server) -> Result<bool, Fail> {
+    match server.tick(alloc, 1_800_000)? {
+        Some(notes) => Ok(notes.to.is_empty() && notes.span.to == 2),
+        None => Ok(false),
+    }
+}
+
+/// The renewal of the first subscription.
+const RENEWAL: &str =
+    "SUBSCRIBE /event HTTP/1.1\r\nSID: uuid:00000000-0000-8000-8000-000000000001\r\n\r\n";
+
+/// Whether that is refused.
+fn renewal_fails(alloc: Global, server: &mut Server) -> Result<bool, Fail> {
+    let reply = replied(alloc, server, RENEWAL.as_bytes())?;
+    Ok(is_reply(reply.as_slice(), FAILED, EMPTY))
+}
+
+/// Whether a subscription runs out before a tick gives notes.
+fn runs_out(alloc: Global, server: &mut Server) -> Result<bool, Fail> {
+    Ok(
+        is_subscribed(alloc, server)?
+            && gives_no_notes(alloc, server)?
+            && renewal_fails(alloc, server)?,
+    )
+}
+
+/// The same of a server that took a scan.
+fn server_lets_run_out(alloc: Global) -> Result<bool, Fail> {
+    let mut server = server_with(alloc, "Rock/ Rock/a.flac")?;
+    runs_out(alloc, &mut server)
 }
 
 /// A tick gives no note to a subscription that has run out, and none at all where nothing changed.
 #[test]
 fn ticks_expire_first(rt: HostRuntime) -> Result<(), Fail> {
-    let alloc = rt.alloc();
-    let mut server = server_with(alloc, "Rock/ Rock/a.flac")?;
-    assert!(rt; subscribed(alloc, &mut server)?.is_some_and(|note| goes_to(&note.to, 0)));
-    let notes = server.tick(alloc, 1_800_000)?;
-    assert!(rt; notes.is_some_and(|notes| notes.to.is_empty() && notes.span.to == 2));
-    let renewal =
-        "SUBSCRIBE /event HTTP/1.1\r\nSID: uuid:00000000-0000-8000-8000-000000000001\r\n\r\n";
-    assert!(rt;
-        is_reply(
-            replied(alloc, &mut server, renewal.as_bytes())?.as_slice(),
-            FAILED,
-            EMPTY
-        )
-    );
+    assert!(rt; server_lets_run_out(rt.alloc())?);
     Ok(())
 }

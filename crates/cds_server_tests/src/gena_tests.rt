@@ -5,7 +5,6 @@ use cds_gena::{
 };
 use cds_http::{HttpError, Message, MessageReader, Side};
 use std::alloc::Global;
-use std::process::Abort;
 use std::test::Fail;
 use url::Url;
 
@@ -42,63 +41,111 @@ const SIDS: [(&str, Option<Sid>); 4] = [
     ("00000000-0000-8000-8000-000000000001", None),
 ];
 
+/// Whether a name is written as this.
+fn is_written(alloc: Global, sid: Sid, want: &str) -> Result<bool, Fail> {
+    let mut written = Vec::new(alloc);
+    sid.write(&mut written)?;
+    let text = sid.text(alloc)?;
+    Ok(written.as_slice() == want.as_bytes() && text.as_str() == want)
+}
+
 #[test]
 fn names_are_written_and_read(rt: HostRuntime) -> Result<(), Fail> {
-    let alloc = rt.alloc();
-    let mut text = Vec::new(alloc);
-    Sid(NAMES + 1).write(&mut text)?;
-    assert_eq!(rt; text.as_slice(), SIDS[0].0.as_bytes());
-    assert_eq!(rt; Sid(NAMES + 1).text(alloc)?.as_str(), SIDS[0].0);
-    for (text, sid) in SIDS {
-        assert_eq!(rt; Sid::read(text.as_bytes()), sid);
+    assert!(rt; is_written(rt.alloc(), Sid(NAMES + 1), SIDS[0].0)?);
+    for (text, sid) in &SIDS {
+        assert!(rt; Sid::read(text.as_bytes()) == *sid, "{text}");
     }
     Ok(())
+}
+
+/// What a request for so many seconds at a moment is answered.
+fn subscribe(
+    alloc: Global,
+    book: &mut Book,
+    now: u64,
+    seconds: u32,
+) -> Result<Result<Sid, GenaError>, Fail> {
+    let url = callback(alloc)?;
+    if !is_deliverable(&url) {
+        return Err(Fail::new("no callback"));
+    }
+    Ok(book.subscribe(alloc, now, &url, seconds))
+}
+
+/// The names of the first two subscriptions.
+const FIRST: Sid = Sid(NAMES + 1);
+
+const SECOND: Sid = Sid(NAMES + 2);
+
+/// Whether two subscriptions are granted under their names.
+fn two_are_granted(alloc: Global, book: &mut Book) -> Result<bool, Fail> {
+    let first = subscribe(alloc, book, 0, 1_800)?;
+    let second = subscribe(alloc, book, 1_000, 3_600)?;
+    Ok(first == Ok(FIRST) && second == Ok(SECOND))
+}
+
+/// Whether these are the SEQs of the notes that go out at a moment.
+fn are_sent(alloc: Global, book: &mut Book, now: u64, want: &[u32]) -> Result<bool, Mem> {
+    let seqs = seqs(alloc, book, now)?;
+    Ok(seqs.as_slice() == want)
+}
+
+/// Whether a note goes to each, and none to one that has run out.
+fn notes_go_to_the_living(alloc: Global, book: &mut Book) -> Result<bool, Fail> {
+    let both = are_sent(alloc, book, 1_799_999, &[1, 1])?;
+    let late = book.renew(1_800_000, FIRST, 1_800);
+    let one = are_sent(alloc, book, 1_800_000, &[2])?;
+    Ok(both && late == Err(GenaError::Precondition) && one)
+}
+
+/// Whether a renewal counts from its own moment.
+fn renewal_counts(book: &mut Book) -> bool {
+    let renewed = book.renew(3_600_999, SECOND, 1_800);
+    book.expire(5_400_998);
+    renewed == Ok(()) && book.live(5_400_998) == 1
+}
+
+/// Whether a subscription can be ended while it lives, and no other.
+fn ends_are_kept(book: &mut Book) -> bool {
+    let late = book.unsubscribe(5_400_999, SECOND);
+    let ended = book.unsubscribe(5_400_998, SECOND);
+    let unknown = book.unsubscribe(5_400_998, Sid(7));
+    let refused = Err(GenaError::Precondition);
+    late == refused && ended == Ok(()) && unknown == refused
 }
 
 #[test]
 fn subscriptions_live_by_the_rule(rt: HostRuntime) -> Result<(), Fail> {
     let alloc = rt.alloc();
-    let url = callback(alloc)?;
-    if !is_deliverable(&url) {
-        return Err(Fail::new("no callback"));
-    }
     let mut book = Book::new(alloc, [0, 0]);
-    assert_eq!(rt; book.names(), NAMES);
-    let first = book.subscribe(alloc, 0, &url, 1_800)?;
-    let second = book.subscribe(alloc, 1_000, &url, 3_600)?;
-    assert_eq!(rt; (first, second), (Sid(NAMES + 1), Sid(NAMES + 2)));
-    // a note to each, and none to one that has run out
-    assert_eq!(rt; seqs(alloc, &mut book, 1_799_999)?.as_slice(), &[1, 1][..]);
-    let late = book.renew(1_800_000, first, 1_800);
-    assert_eq!(rt; late, Err(GenaError::Precondition));
-    assert_eq!(rt; seqs(alloc, &mut book, 1_800_000)?.as_slice(), &[2][..]);
-    // a renewal counts from its own moment
-    assert_eq!(rt; book.renew(3_600_999, second, 1_800), Ok(()));
-    book.expire(5_400_998);
-    assert_eq!(rt; book.live(5_400_998), 1);
-    let late = book.unsubscribe(5_400_999, second);
-    assert_eq!(rt; late, Err(GenaError::Precondition));
-    assert_eq!(rt; book.unsubscribe(5_400_998, second), Ok(()));
-    let unknown = book.unsubscribe(5_400_998, Sid(7));
-    assert_eq!(rt; unknown, Err(GenaError::Precondition));
+    assert!(rt; book.names() == NAMES && two_are_granted(alloc, &mut book)?);
+    assert!(rt; notes_go_to_the_living(alloc, &mut book)?);
+    assert!(rt; renewal_counts(&mut book) && ends_are_kept(&mut book));
     Ok(())
+}
+
+/// Whether so many subscriptions are granted at the first moment.
+fn are_granted(alloc: Global, book: &mut Book, count: u32) -> Result<bool, Fail> {
+    for _ in 0..count {
+        if subscribe(alloc, book, 0, 1_800)?.is_err() {
+            return Ok(false);
+        }
+    }
+    Ok(true)
+}
+
+/// Whether no other one is granted until one has run out.
+fn is_full(alloc: Global, book: &mut Book) -> Result<bool, Fail> {
+    let full = subscribe(alloc, book, 1_799_999, 1_800)?;
+    let next = subscribe(alloc, book, 1_800_000, 1_800)?;
+    Ok(full == Err(GenaError::Full { live: 64 }) && next == Ok(Sid(NAMES + 65)))
 }
 
 #[test]
 fn sixty_four_live(rt: HostRuntime) -> Result<(), Fail> {
     let alloc = rt.alloc();
-    let url = callback(alloc)?;
-    if !is_deliverable(&url) {
-        return Err(Fail::new("no callback"));
-    }
     let mut book = Book::new(alloc, [0, 0]);
-    for _ in 0..64 {
-        assert!(rt; book.subscribe(alloc, 0, &url, 1_800).is_ok());
-    }
-    let full = GenaError::Full { live: 64 };
-    assert_eq!(rt; book.subscribe(alloc, 1_799_999, &url, 1_800), Err(full));
-    let next = book.subscribe(alloc, 1_800_000, &url, 1_800);
-    assert_eq!(rt; next, Ok(Sid(NAMES + 65)));
+    assert!(rt; are_granted(alloc, &mut book, 64)? && is_full(alloc, &mut book)?);
     Ok(())
 }
 
@@ -190,8 +237,10 @@ const REFUSED: [(&str, GenaError); 20] = [
     ),
 ];
 
-/// Requests that are taken: the callback, the number of the name and the seconds, where they have them.
-const TAKEN: [(&str, &str, u128, u32); 11] = [
+/// A request that is taken: the callback, the number of the name and the seconds, where it has them.
+type Taken = (&'static str, &'static str, u128, u32);
+
+const TAKEN: [Taken; 11] = [
     (
         "SUBSCRIBE /event HTTP/1.1\r\ncallback: <http://h:80/a?b>,<http://i/>\r\nnt: upnp:event\r\n\r\n",
         "http://h/a?b",
@@ -279,28 +328,41 @@ fn named(sid: Sid, number: u128) -> bool {
     sid.0.checked_sub(NAMES) == Some(number)
 }
 
+/// Whether a request asks of a subscription, and is refused for this.
+fn is_refused(alloc: Global, text: &str, refusal: GenaError) -> Result<bool, Fail> {
+    let message = request(alloc, text)?;
+    if !asks_of_subscription(&message) {
+        return Ok(false);
+    }
+    Ok(read_gena(alloc, &message).err() == Some(refusal))
+}
+
+/// Whether a request asks of a subscription, and is taken so.
+fn is_taken(alloc: Global, taken: &Taken) -> Result<bool, Fail> {
+    let message = request(alloc, taken.0)?;
+    if !asks_of_subscription(&message) {
+        return Ok(false);
+    }
+    let gena = read_gena(alloc, &message)?;
+    Ok(asks(&gena, taken.1, taken.2, taken.3))
+}
+
+/// Whether a request asks of a subscription.
+fn is_of_subscription(alloc: Global, text: &str) -> Result<bool, HttpError> {
+    let message = request(alloc, text)?;
+    Ok(asks_of_subscription(&message))
+}
+
 #[test]
 fn requests_are_taken_or_refused(rt: HostRuntime) -> Result<(), Fail> {
     let alloc = rt.alloc();
-    for (text, refusal) in REFUSED {
-        let message = request(alloc, text)?;
-        if !asks_of_subscription(&message) {
-            return Err(Fail::new("a subscription"));
-        }
-        assert!(rt; matches!(read_gena(alloc, &message), Err(e) if e == refusal));
+    for (text, refusal) in &REFUSED {
+        assert!(rt; is_refused(alloc, text, *refusal)?, "{text}");
     }
-    for (text, callback, number, seconds) in TAKEN {
-        let message = request(alloc, text)?;
-        if !asks_of_subscription(&message) {
-            return Err(Fail::new("a subscription"));
-        }
-        match read_gena(alloc, &message) {
-            Ok(gena) => assert!(rt; asks(&gena, callback, number, seconds)),
-            Err(e) => assert_eq!(rt; e, GenaError::Mem),
-        }
+    for taken in &TAKEN {
+        assert!(rt; is_taken(alloc, taken)?, "{}", taken.0);
     }
-    let other = request(alloc, "POST /event HTTP/1.1\r\n\r\n")?;
-    assert!(rt; !asks_of_subscription(&other));
+    assert!(rt; !is_of_subscription(alloc, "POST /event HTTP/1.1\r\n\r\n")?);
     Ok(())
 }
 
@@ -390,36 +452,55 @@ fn reply(alloc: Global, text: &str) -> Result<Message, HttpError> {
 fn granted(seconds: Option<u32>) -> Option<Lease> {
     match seconds {
         Some(seconds) => Some(Lease {
-            sid: Sid(NAMES + 1),
+            sid: FIRST,
             seconds,
         }),
         None => None,
     }
 }
 
+/// Whether this is the request for a subscription at an address, with a callback.
+fn is_request(alloc: Global, text: &str, callback: &str, want: &str) -> Result<bool, Fail> {
+    let url = address(alloc, text)?;
+    let callback = address(alloc, callback)?;
+    if !is_deliverable(&url) || !is_deliverable(&callback) {
+        return Ok(false);
+    }
+    let mut out = Vec::new(alloc);
+    write_subscribe(alloc, &url, &callback, &mut out)?;
+    Ok(out.as_slice() == want.as_bytes())
+}
+
+/// Whether the renewal of the first subscription is written as it has to be.
+fn is_renewal(alloc: Global, url: &Url) -> Result<bool, Mem> {
+    let mut out = Vec::new(alloc);
+    write_renewal(alloc, url, FIRST, &mut out)?;
+    Ok(out.as_slice() == RENEWAL.as_bytes())
+}
+
+/// Whether its end is.
+fn is_end(alloc: Global, url: &Url) -> Result<bool, Mem> {
+    let mut out = Vec::new(alloc);
+    write_unsubscribe(alloc, url, FIRST, &mut out)?;
+    Ok(out.as_slice() == END.as_bytes())
+}
+
+/// Whether a reply grants the first name for so many seconds.
+fn is_granted(alloc: Global, text: &str, seconds: Option<u32>) -> Result<bool, HttpError> {
+    let message = reply(alloc, text)?;
+    Ok(read_lease(&message) == granted(seconds))
+}
+
 #[test]
 fn requests_are_written_and_replies_read(rt: HostRuntime) -> Result<(), Fail> {
     let alloc = rt.alloc();
-    for (text, callback, request) in WRITTEN {
-        let url = address(alloc, text)?;
-        let callback = address(alloc, callback)?;
-        if !is_deliverable(&url) || !is_deliverable(&callback) {
-            return Err(Fail::new("no address"));
-        }
-        let mut out = Vec::new(alloc);
-        write_subscribe(alloc, &url, &callback, &mut out)?;
-        assert_eq!(rt; out.as_slice(), request.as_bytes());
+    for (text, callback, request) in &WRITTEN {
+        assert!(rt; is_request(alloc, text, callback, request)?, "{text}");
     }
     let url = address(alloc, WRITTEN[0].0)?;
-    let mut out = Vec::new(alloc);
-    write_renewal(alloc, &url, Sid(NAMES + 1), &mut out)?;
-    assert_eq!(rt; out.as_slice(), RENEWAL.as_bytes());
-    let mut out = Vec::new(alloc);
-    write_unsubscribe(alloc, &url, Sid(NAMES + 1), &mut out)?;
-    assert_eq!(rt; out.as_slice(), END.as_bytes());
-    for (text, seconds) in REPLIES {
-        let message = reply(alloc, text)?;
-        assert_eq!(rt; read_lease(&message), granted(seconds));
+    assert!(rt; is_renewal(alloc, &url)? && is_end(alloc, &url)?);
+    for (text, seconds) in &REPLIES {
+        assert!(rt; is_granted(alloc, text, *seconds)?, "{text}");
     }
     Ok(())
 }

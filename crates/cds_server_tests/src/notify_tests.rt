@@ -42,15 +42,25 @@ fn set_of(alloc: Global, inside: &str) -> Result<String, AllocError> {
     joined(alloc, FRONT, inside, END)
 }
 
+/// Whether the set of these properties is written with this inside.
+fn is_written(
+    alloc: Global,
+    number: u32,
+    containers: &[(u32, u32)],
+    events: &[Event],
+    inside: &str,
+) -> Result<bool, Fail> {
+    let mut body = Vec::new(alloc);
+    write_propertyset(alloc, number, containers, events, &mut body)?;
+    let want = set_of(alloc, inside)?;
+    Ok(body.as_slice() == want.as_bytes())
+}
+
 #[test]
 fn bodies_are_written(rt: HostRuntime) -> Result<(), Fail> {
     let alloc = rt.alloc();
-    let mut body = Vec::new(alloc);
-    write_propertyset(alloc, 9, &[(0, 9), (3, 8)], &[DELETED], &mut body)?;
-    assert_eq!(rt; body.as_slice(), set_of(alloc, CHANGED)?.as_bytes());
-    let mut body = Vec::new(alloc);
-    write_propertyset(alloc, 0, &[], &[], &mut body)?;
-    assert_eq!(rt; body.as_slice(), set_of(alloc, UNCHANGED)?.as_bytes());
+    assert!(rt; is_written(alloc, 9, &[(0, 9), (3, 8)], &[DELETED], CHANGED)?);
+    assert!(rt; is_written(alloc, 0, &[], &[], UNCHANGED)?);
     Ok(())
 }
 
@@ -82,24 +92,32 @@ const WRITTEN: [(&str, &str); 5] = [
 const LINES: &str =
     "CONTENT-TYPE: text/xml; charset=\"utf-8\"\r\nNT: upnp:event\r\nNTS: upnp:propchange\r\nSID: uuid:00000000-0000-8000-8000-000000000001\r\nSEQ: 4294967295\r\nCONTENT-LENGTH: 4\r\nCONNECTION: close\r\n\r\n<a/>";
 
+/// The last note to a callback.
+fn last_note(alloc: Global, callback: &str) -> Result<Vec<u8>, Fail> {
+    let to = Address {
+        sid: NAME,
+        callback: Text::read(alloc, callback)?,
+        seq: u32::MAX,
+    };
+    if !to.is_delivered(alloc)? {
+        return Err(Fail::new("no callback"));
+    }
+    let mut text = Vec::new(alloc);
+    write_notify(alloc, &to, b"<a/>", &mut text)?;
+    Ok(text)
+}
+
+/// Whether the last note to a callback has these first lines and the others.
+fn is_note_to(alloc: Global, callback: &str, front: &str) -> Result<bool, Fail> {
+    let text = last_note(alloc, callback)?;
+    let want = joined(alloc, front, LINES, "")?;
+    Ok(text.as_slice() == want.as_bytes())
+}
+
 #[test]
 fn notes_are_written(rt: HostRuntime) -> Result<(), Fail> {
-    let alloc = rt.alloc();
-    for (callback, front) in WRITTEN {
-        let to = Address {
-            sid: NAME,
-            callback: Text::read(alloc, callback)?,
-            seq: u32::MAX,
-        };
-        if !to.is_delivered(alloc)? {
-            return Err(Fail::new("no callback"));
-        }
-        let mut text = Vec::new(alloc);
-        write_notify(alloc, &to, b"<a/>", &mut text)?;
-        assert_eq!(rt;
-            text.as_slice(),
-            joined(alloc, front, LINES, "")?.as_bytes()
-        );
+    for (callback, front) in &WRITTEN {
+        assert!(rt; is_note_to(rt.alloc(), callback, front)?, "{callback}");
     }
     Ok(())
 }
@@ -221,20 +239,34 @@ const SETS: [&str; 13] = [
     "<e:property><SystemUpdateID>9</SystemUpdateID><LastChange>&lt;StateEvent/&gt;</LastChange></e:property>",
 ];
 
+/// Whether a note with this head and this body is refused for this.
+fn is_refused(
+    alloc: Global,
+    head: &str,
+    body: &str,
+    refusal: NoteError,
+) -> Result<bool, HttpError> {
+    let message = message(alloc, head, body)?;
+    Ok(read_notify(alloc, &message).err() == Some(refusal))
+}
+
+/// Whether a note with this set of properties is refused.
+fn is_refused_set(alloc: Global, inside: &str) -> Result<bool, HttpError> {
+    let body = set_of(alloc, inside)?;
+    is_refused(alloc, HEAD, body.as_str(), NoteError::Body)
+}
+
 #[test]
 fn notes_are_refused(rt: HostRuntime) -> Result<(), Fail> {
     let alloc = rt.alloc();
-    for (head, refusal) in HEADS {
-        let message = message(alloc, head, "x")?;
-        assert!(rt; matches!(read_notify(alloc, &message), Err(e) if e == refusal));
+    for (head, refusal) in &HEADS {
+        assert!(rt; is_refused(alloc, head, "x", *refusal)?, "{head}");
     }
-    for body in BODIES {
-        let message = message(alloc, HEAD, body)?;
-        assert!(rt; matches!(read_notify(alloc, &message), Err(NoteError::Body)));
+    for body in &BODIES {
+        assert!(rt; is_refused(alloc, HEAD, body, NoteError::Body)?, "{body}");
     }
-    for inside in SETS {
-        let message = message(alloc, HEAD, set_of(alloc, inside)?.as_str())?;
-        assert!(rt; matches!(read_notify(alloc, &message), Err(NoteError::Body)));
+    for inside in &SETS {
+        assert!(rt; is_refused_set(alloc, inside)?, "{inside}");
     }
     Ok(())
 }
@@ -263,17 +295,26 @@ fn is_note(note: &Note, seq: u32, number: u32, events: usize) -> bool {
     note.sid == NAME && note.seq == seq && note.number == number && note.events.len() == events
 }
 
+/// Whether a note with this body is read with this number and so many events.
+fn is_read(alloc: Global, body: &str, number: u32, events: usize) -> Result<bool, Fail> {
+    let message = message(alloc, HEAD, body)?;
+    let note = read_notify(alloc, &message)?;
+    Ok(is_note(&note, 7, number, events))
+}
+
+/// The note of a deletion, read.
+fn deletion_read(alloc: Global) -> Result<Note, Fail> {
+    let body = set_of(alloc, CHANGED)?;
+    let message = message(alloc, HEAD, body.as_str())?;
+    Ok(read_notify(alloc, &message)?)
+}
+
 #[test]
 fn notes_are_read(rt: HostRuntime) -> Result<(), Fail> {
-    let alloc = rt.alloc();
-    for (body, number, events) in READ {
-        let message = message(alloc, HEAD, body)?;
-        let note = read_notify(alloc, &message)?;
-        assert!(rt; is_note(&note, 7, number, events));
+    for (body, number, events) in &READ {
+        assert!(rt; is_read(rt.alloc(), body, *number, *events)?, "{body}");
     }
-    let message = message(alloc, HEAD, set_of(alloc, CHANGED)?.as_str())?;
-    let note = read_notify(alloc, &message)?;
-    assert!(rt; is_note(&note, 7, 9, 1));
-    assert_eq!(rt; note.events.as_slice(), &[DELETED][..]);
+    let note = deletion_read(rt.alloc())?;
+    assert!(rt; is_note(&note, 7, 9, 1) && note.events.as_slice() == &[DELETED][..]);
     Ok(())
 }

@@ -565,30 +565,44 @@ fn by_pages(
     Ok(ids)
 }
 
+/// The place of the first row that a server with one track answers otherwise, and its number of the last change then.
+fn first_wrong_status(alloc: Global) -> Result<(Option<usize>, u32), Fail> {
+    let mut server = server_with(alloc, "Rock/ Rock/a.flac")?;
+    let wrong = first_wrong(alloc, &mut server, &STATUSES)?;
+    Ok((wrong, server.system_update_id()))
+}
+
 #[test]
 fn each_status_has_its_cause(rt: HostRuntime) -> Result<(), Fail> {
-    let alloc = rt.alloc();
-    let mut server = server_with(alloc, "Rock/ Rock/a.flac")?;
-    assert_eq!(rt; first_wrong(alloc, &mut server, &STATUSES)?, None);
-    assert_eq!(rt; server.system_update_id(), 2);
+    let wrong = first_wrong_status(rt.alloc())?;
+    assert!(rt; wrong == (None, 2), "{wrong:?}");
     Ok(())
+}
+
+/// The place of the first ask that such a server answers otherwise.
+fn first_unlike_ask(alloc: Global) -> Result<Option<usize>, Fail> {
+    let mut server = server_with(alloc, "Rock/ Rock/a.flac")?;
+    first_unlike(alloc, &mut server, &ASKS)
 }
 
 #[test]
 fn browse_is_answered(rt: HostRuntime) -> Result<(), Fail> {
-    let alloc = rt.alloc();
-    let mut server = server_with(alloc, "Rock/ Rock/a.flac")?;
-    assert_eq!(rt; first_unlike(alloc, &mut server, &ASKS)?, None);
+    let unlike = first_unlike_ask(rt.alloc())?;
+    assert!(rt; unlike.is_none(), "{unlike:?}");
     Ok(())
+}
+
+/// Whether a server stops once it is told.
+fn stops(alloc: Global) -> Result<bool, Fail> {
+    let mut server = server_with(alloc, "Rock/")?;
+    let before = server.stopped();
+    server.stop();
+    Ok(!before && server.stopped())
 }
 
 #[test]
 fn a_server_is_told_to_stop(rt: HostRuntime) -> Result<(), Fail> {
-    let alloc = rt.alloc();
-    let mut server = server_with(alloc, "Rock/")?;
-    assert!(rt; !server.stopped());
-    server.stop();
-    assert!(rt; server.stopped());
+    assert!(rt; stops(rt.alloc())?);
     Ok(())
 }
 
@@ -616,20 +630,65 @@ fn go_up(ids: &[u32], first: u32, count: usize) -> bool {
     ids.len() == count
 }
 
-/// A whole library of 1,000 objects in four folders, by pages of each size.
-#[test]
-fn pages_give_each_row_once(rt: HostRuntime) -> Result<(), Fail> {
-    let alloc = rt.alloc();
+/// Folders of a library, and the id of the first track in each.
+const FOLDERS: [(&str, u32); 4] = [("1", 2), ("251", 252), ("501", 502), ("751", 752)];
+
+/// How many rows a page is asked for with, and how many pages a folder has then.
+const PAGES: [(&str, usize); 4] = [("1", 249), ("7", 36), ("256", 1), ("0", 1)];
+
+/// Whether the tracks of a folder come once each, by so many pages.
+fn come_once(
+    alloc: Global,
+    server: &mut Server,
+    object: &str,
+    first: u32,
+    pages: &(&str, usize),
+) -> Result<bool, Fail> {
+    let ids = by_pages(alloc, server, object, pages.0, pages.1)?;
+    Ok(go_up(ids.as_slice(), first, 249))
+}
+
+/// Whether the folders come once each.
+fn folders_come_once(alloc: Global, server: &mut Server) -> Result<bool, Fail> {
+    let ids = by_pages(alloc, server, "0", "3", 2)?;
+    Ok(ids.as_slice() == [1, 251, 501, 751].as_slice())
+}
+
+/// A server with a library of 1,000 objects in four folders.
+fn large_server(alloc: Global) -> Result<Server, Fail> {
     let words = library(alloc, 4, 249)?;
-    let mut server = server_with(alloc, words.as_str())?;
-    for (object, first) in [("1", 2), ("251", 252), ("501", 502), ("751", 752)] {
-        for (count, pages) in [("1", 249), ("7", 36), ("256", 1), ("0", 1)] {
-            let ids = by_pages(alloc, &mut server, object, count, pages)?;
-            assert!(rt; go_up(ids.as_slice(), first, 249), "{object} by {count}");
+    server_with(alloc, words.as_str())
+}
+
+/// The first folder whose tracks do not come once each, and the rows that a page was asked for with.
+fn first_otherwise(
+    alloc: Global,
+    server: &mut Server,
+) -> Result<Option<(&'static str, &'static str)>, Fail> {
+    for (object, first) in &FOLDERS {
+        for pages in &PAGES {
+            if !come_once(alloc, server, object, *first, pages)? {
+                return Ok(Some((*object, pages.0)));
+            }
         }
     }
-    let folders = by_pages(alloc, &mut server, "0", "3", 2)?;
-    assert_eq!(rt; folders.as_slice(), [1, 251, 501, 751].as_slice());
+    Ok(None)
+}
+
+/// The same of the whole library, and of its folders.
+fn library_otherwise(alloc: Global) -> Result<Option<(&'static str, &'static str)>, Fail> {
+    let mut server = large_server(alloc)?;
+    if !folders_come_once(alloc, &mut server)? {
+        return Ok(Some(("0", "3")));
+    }
+    first_otherwise(alloc, &mut server)
+}
+
+/// The whole library, by pages of each size.
+#[test]
+fn pages_give_each_row_once(rt: HostRuntime) -> Result<(), Fail> {
+    let folder = library_otherwise(rt.alloc())?;
+    assert!(rt; folder.is_none(), "{folder:?}");
     Ok(())
 }
 
@@ -640,17 +699,32 @@ const CHUNKED: &str =
 const REPLY: &str =
     "HTTP/1.1 200 OK\r\nEXT:\r\nSERVER: unix/1.0 UPnP/2.0 cds/1.0\r\nCONTENT-TYPE: text/xml; charset=\"utf-8\"\r\nCONTENT-LENGTH: 302\r\nCONNECTION: close\r\n\r\n<?xml version=\"1.0\"?><s:Envelope xmlns:s=\"http://schemas.xmlsoap.org/soap/envelope/\" s:encodingStyle=\"http://schemas.xmlsoap.org/soap/encoding/\"><s:Body><u:GetSystemUpdateIDResponse xmlns:u=\"urn:schemas-upnp-org:service:ContentDirectory:4\"><Id>2</Id></u:GetSystemUpdateIDResponse></s:Body></s:Envelope>";
 
+/// Whether bytes have this reply.
+fn has_reply(alloc: Global, server: &mut Server, bytes: &[u8]) -> Result<bool, Fail> {
+    let reply = replied(alloc, server, bytes)?;
+    Ok(reply.as_slice() == REPLY.as_bytes())
+}
+
+/// Another such request, with its body in one piece.
+fn whole_request(alloc: Global) -> Result<String, AllocError> {
+    let body = enveloped(alloc, "4", NUMBER)?;
+    request(alloc, "POST /control", NUMBER_FIELDS, body.as_str())
+}
+
+/// Whether both have this reply.
+fn both_have_reply(alloc: Global, server: &mut Server) -> Result<bool, Fail> {
+    let text = whole_request(alloc)?;
+    Ok(has_reply(alloc, server, CHUNKED.as_bytes())? && has_reply(alloc, server, text.as_bytes())?)
+}
+
+/// The same of a server with one track.
+fn server_replies(alloc: Global) -> Result<bool, Fail> {
+    let mut server = server_with(alloc, "Rock/ Rock/a.flac")?;
+    both_have_reply(alloc, &mut server)
+}
+
 #[test]
 fn bodies_may_come_in_chunks(rt: HostRuntime) -> Result<(), Fail> {
-    let alloc = rt.alloc();
-    let mut server = server_with(alloc, "Rock/ Rock/a.flac")?;
-    let reply = replied(alloc, &mut server, CHUNKED.as_bytes())?;
-    assert_eq!(rt; reply.as_slice(), REPLY.as_bytes());
-    let body = enveloped(alloc, "4", NUMBER)?;
-    let text = request(alloc, "POST /control", NUMBER_FIELDS, body.as_str())?;
-    assert_eq!(rt;
-        replied(alloc, &mut server, text.as_bytes())?.as_slice(),
-        REPLY.as_bytes()
-    );
+    assert!(rt; server_replies(rt.alloc())?);
     Ok(())
 }

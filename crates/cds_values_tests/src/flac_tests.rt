@@ -65,168 +65,196 @@ fn read_behind(alloc: Global, tail: &[u8]) -> Result<FlacInfo, FlacError> {
     read(alloc, bytes.as_slice(), &[])
 }
 
+/// Rate, channels, bits and samples, as STREAMINFO says them.
+type Sound = (u32, u8, u8, u64);
+
+/// Whether a file says these comments.
+fn has_comments(info: &FlacInfo, want: &[(&str, &str)]) -> bool {
+    for (comment, (name, value)) in info.comments.as_slice().iter().zip(want) {
+        if comment.name.as_str() != *name || comment.value.as_str() != *value {
+            return false;
+        }
+    }
+    info.comments.len() == want.len()
+}
+
+/// Whether bytes are read as a file that says this.
+fn is_read(
+    alloc: Global,
+    bytes: &[u8],
+    sound: Sound,
+    comments: &[(&str, &str)],
+) -> Result<bool, Fail> {
+    let info = read(alloc, bytes, &[])?;
+    let found = (info.rate, info.channels, info.bits, info.samples);
+    Ok(found == sound && has_comments(&info, comments))
+}
+
+/// Whether bytes are refused, for want of what follows them.
+fn is_truncated(alloc: Global, bytes: &[u8]) -> bool {
+    is_refused(alloc, bytes, FlacError::Truncated { at: bytes.len() })
+}
+
+/// Whether bytes are refused for this.
+fn is_refused(alloc: Global, bytes: &[u8], want: FlacError) -> bool {
+    read(alloc, bytes, &[]).err() == Some(want)
+}
+
 #[test]
 fn reads_the_vector_and_each_truncation(rt: HostRuntime) -> Result<(), Fail> {
-    let info = read(rt.alloc(), FILE.as_slice(), &[])?;
-    assert_eq!(rt;
-        (info.rate, info.channels, info.bits, info.samples),
-        (44100, 2, 16, 441000)
-    );
-    assert_eq!(rt; info.comments.len(), 1);
-    for comment in info.comments.as_slice() {
-        assert_eq!(rt; comment.name.as_str(), "TITLE");
-        assert_eq!(rt; comment.value.as_str(), "Z");
-    }
+    let alloc = rt.alloc();
+    assert!(rt; is_read(alloc, &FILE, (44100, 2, 16, 441000), &[("TITLE", "Z")])?);
     for end in 0..FILE.len() {
-        let cut = read(rt.alloc(), &FILE[..end], &[]);
-        assert!(rt;
-            cut.err() == Some(FlacError::Truncated { at: end }),
-            "{end}"
-        );
+        assert!(rt; is_truncated(alloc, &FILE[..end]), "{end}");
     }
     Ok(())
 }
+
+/// The comments of the tagged file.
+const TAGS: [(&str, &str); 4] = [
+    ("TITLE", "Bl\u{e5}timen"),
+    ("ARTIST", "A & B"),
+    ("tracknumber", "07/12"),
+    ("COMMENT", "a=b"),
+];
 
 #[test]
 fn reads_what_flac_and_metaflac_write(rt: HostRuntime) -> Result<(), Fail> {
-    let info = read(rt.alloc(), TAGGED.as_slice(), &[])?;
-    assert_eq!(rt;
-        (info.rate, info.channels, info.bits, info.samples),
-        (8000, 1, 16, 32)
-    );
-    let want = [
-        ("TITLE", "Bl\u{e5}timen"),
-        ("ARTIST", "A & B"),
-        ("tracknumber", "07/12"),
-        ("COMMENT", "a=b"),
-    ];
-    assert_eq!(rt; info.comments.len(), want.len());
-    for (comment, (name, value)) in info.comments.as_slice().iter().zip(want) {
-        assert_eq!(rt; comment.name.as_str(), name);
-        assert_eq!(rt; comment.value.as_str(), value);
-    }
-    let info = read(rt.alloc(), WITH_PICTURE.as_slice(), &[])?;
-    assert_eq!(rt;
-        (info.rate, info.channels, info.bits, info.samples),
-        (96000, 2, 24, 160)
-    );
-    assert_eq!(rt; info.comments.len(), 1);
+    let alloc = rt.alloc();
+    assert!(rt; is_read(alloc, &TAGGED, (8000, 1, 16, 32), &TAGS)?);
+    assert!(rt; is_read(alloc, &WITH_PICTURE, (96000, 2, 24, 160), &[("TITLE", "x")])?);
     Ok(())
 }
 
+/// Files that are refused, and for what.
+const BROKEN: [(&[u8], FlacError); 4] = [
+    (b"ID3\x04\0\0", FlacError::NotFlac),
+    (b"fLaC\x01", FlacError::NoStreamInfo),
+    (b"fLaC\xFF", FlacError::Forbidden { at: 4 }),
+    (b"fLaC\0\0\0\x23", FlacError::BadStreamInfo),
+];
+
+/// What is refused behind STREAMINFO, and for what.
+const BROKEN_BEHIND: [(&[u8], FlacError); 12] = [
+    // A type that is forbidden, also of a block that would be too long.
+    (b"\x7F\xFF\xFF\xFF", FlacError::Forbidden { at: 42 }),
+    // A vendor, a count and a comment that reach past the block.
+    (
+        b"\x84\0\0\x08\xFF\xFF\xFF\xFF\0\0\0\0",
+        FlacError::BadComment { at: 46 },
+    ),
+    (
+        b"\x84\0\0\x06\0\0\0\0\0\0",
+        FlacError::BadComment { at: 50 },
+    ),
+    (
+        b"\x84\0\0\x08\0\0\0\0\xFF\xFF\xFF\xFF",
+        FlacError::BadComment { at: 54 },
+    ),
+    (
+        b"\x84\0\0\x0F\0\0\0\0\x01\0\0\0\x04\0\0\0A=B",
+        FlacError::BadComment { at: 54 },
+    ),
+    // Texts out of form, and one whose end did not come.
+    (
+        b"\x84\0\0\x0F\0\0\0\0\x01\0\0\0\x03\0\0\0A:B",
+        FlacError::BadComment { at: 54 },
+    ),
+    (
+        b"\x84\0\0\x0F\0\0\0\0\x01\0\0\0\x03\0\0\0=AB",
+        FlacError::BadComment { at: 54 },
+    ),
+    (
+        b"\x84\0\0\x0F\0\0\0\0\x01\0\0\0\x03\0\0\0\x7F=B",
+        FlacError::BadComment { at: 54 },
+    ),
+    (
+        b"\x84\0\0\x0F\0\0\0\0\x01\0\0\0\x03\0\0\0A=\xC3",
+        FlacError::BadComment { at: 54 },
+    ),
+    (
+        b"\x84\0\0\x0A\x02\0\0\0\xC3(\0\0\0\0",
+        FlacError::BadComment { at: 46 },
+    ),
+    (
+        b"\x84\0\0\x0F\0\0\0\0\x01\0\0\0\x03\0\0\0A=",
+        FlacError::Truncated { at: 60 },
+    ),
+    // A picture whose length the file does not have.
+    (b"\x86\xFF\xFF\xFF\0", FlacError::Truncated { at: 47 }),
+];
+
 #[test]
 fn broken_files_are_refused(rt: HostRuntime) {
-    let alloc = rt.alloc();
-    for (bytes, want) in [
-        (b"ID3\x04\0\0".as_slice(), FlacError::NotFlac),
-        (b"fLaC\x01".as_slice(), FlacError::NoStreamInfo),
-        (b"fLaC\xFF".as_slice(), FlacError::Forbidden { at: 4 }),
-        (b"fLaC\0\0\0\x23".as_slice(), FlacError::BadStreamInfo),
-    ] {
-        assert!(rt; read(alloc, bytes, &[]).err() == Some(want), "{want:?}");
+    for (bytes, want) in &BROKEN {
+        assert!(rt; is_refused(rt.alloc(), bytes, *want), "{want:?}");
     }
-    for (tail, want) in [
-        // A type that is forbidden, also of a block that would be too long.
-        (
-            b"\x7F\xFF\xFF\xFF".as_slice(),
-            FlacError::Forbidden { at: 42 },
-        ),
-        // A vendor, a count and a comment that reach past the block.
-        (
-            b"\x84\0\0\x08\xFF\xFF\xFF\xFF\0\0\0\0".as_slice(),
-            FlacError::BadComment { at: 46 },
-        ),
-        (
-            b"\x84\0\0\x06\0\0\0\0\0\0".as_slice(),
-            FlacError::BadComment { at: 50 },
-        ),
-        (
-            b"\x84\0\0\x08\0\0\0\0\xFF\xFF\xFF\xFF".as_slice(),
-            FlacError::BadComment { at: 54 },
-        ),
-        (
-            b"\x84\0\0\x0F\0\0\0\0\x01\0\0\0\x04\0\0\0A=B".as_slice(),
-            FlacError::BadComment { at: 54 },
-        ),
-        // Texts out of form, and one whose end did not come.
-        (
-            b"\x84\0\0\x0F\0\0\0\0\x01\0\0\0\x03\0\0\0A:B".as_slice(),
-            FlacError::BadComment { at: 54 },
-        ),
-        (
-            b"\x84\0\0\x0F\0\0\0\0\x01\0\0\0\x03\0\0\0=AB".as_slice(),
-            FlacError::BadComment { at: 54 },
-        ),
-        (
-            b"\x84\0\0\x0F\0\0\0\0\x01\0\0\0\x03\0\0\0\x7F=B".as_slice(),
-            FlacError::BadComment { at: 54 },
-        ),
-        (
-            b"\x84\0\0\x0F\0\0\0\0\x01\0\0\0\x03\0\0\0A=\xC3".as_slice(),
-            FlacError::BadComment { at: 54 },
-        ),
-        (
-            b"\x84\0\0\x0A\x02\0\0\0\xC3(\0\0\0\0".as_slice(),
-            FlacError::BadComment { at: 46 },
-        ),
-        (
-            b"\x84\0\0\x0F\0\0\0\0\x01\0\0\0\x03\0\0\0A=".as_slice(),
-            FlacError::Truncated { at: 60 },
-        ),
-        // A picture whose length the file does not have.
-        (
-            b"\x86\xFF\xFF\xFF\0".as_slice(),
-            FlacError::Truncated { at: 47 },
-        ),
-    ] {
-        assert!(rt; read_behind(alloc, tail).err() == Some(want), "{want:?}");
+    for (tail, want) in &BROKEN_BEHIND {
+        assert!(rt; is_refused_behind(rt.alloc(), tail, *want), "{want:?}");
     }
 }
 
+/// Whether STREAMINFO and this behind it are refused for this.
+fn is_refused_behind(alloc: Global, tail: &[u8], want: FlacError) -> bool {
+    read_behind(alloc, tail).err() == Some(want)
+}
+
 /// A vendor out of form, one cut off, a comment out of form and one cut off, each before a field that has no room.
+const BEFORE_FIELDS: [(&[u8], FlacError); 4] = [
+    (
+        b"\x84\0\0\x05\x01\0\0\0\xFF",
+        FlacError::BadComment { at: 46 },
+    ),
+    (b"\x84\0\0\x05\x01\0\0\0", FlacError::Truncated { at: 50 }),
+    (
+        b"\x84\0\0\x0C\0\0\0\0\x02\0\0\0\0\0\0\0",
+        FlacError::BadComment { at: 54 },
+    ),
+    (
+        b"\x84\0\0\x0F\0\0\0\0\x02\0\0\0\x02\0\0\0",
+        FlacError::Truncated { at: 58 },
+    ),
+];
+
 #[test]
 fn texts_before_fields_decide(rt: HostRuntime) {
-    for (tail, want) in [
-        (
-            b"\x84\0\0\x05\x01\0\0\0\xFF".as_slice(),
-            FlacError::BadComment { at: 46 },
-        ),
-        (
-            b"\x84\0\0\x05\x01\0\0\0".as_slice(),
-            FlacError::Truncated { at: 50 },
-        ),
-        (
-            b"\x84\0\0\x0C\0\0\0\0\x02\0\0\0\0\0\0\0".as_slice(),
-            FlacError::BadComment { at: 54 },
-        ),
-        (
-            b"\x84\0\0\x0F\0\0\0\0\x02\0\0\0\x02\0\0\0".as_slice(),
-            FlacError::Truncated { at: 58 },
-        ),
-    ] {
-        assert!(rt;
-            read_behind(rt.alloc(), tail).err() == Some(want),
-            "{want:?}"
-        );
+    for (tail, want) in &BEFORE_FIELDS {
+        assert!(rt; is_refused_behind(rt.alloc(), tail, *want), "{want:?}");
     }
+}
+
+/// A file whose block of comments is not the last any more: another one and a second STREAMINFO, both out of form,
+/// follow.
+fn with_later_blocks(alloc: Global) -> Result<Vec<u8>, Fail> {
+    let mut bytes = Vec::from_slice(alloc, &FILE)?;
+    bytes[42] = 0x04;
+    bytes.extend_from_slice(b"\x04\0\0\x01A\x80\0\0\0")?;
+    Ok(bytes)
 }
 
 #[test]
 fn later_blocks_of_comments_and_of_sound_are_passed_over(rt: HostRuntime) -> Result<(), Fail> {
-    let mut bytes = Vec::from_slice(rt.alloc(), &FILE)?;
-    // The block of comments is not the last any more: another one and a second STREAMINFO, both out of form, follow.
-    bytes[42] = 0x04;
-    bytes.extend_from_slice(b"\x04\0\0\x01A\x80\0\0\0")?;
-    let info = read(rt.alloc(), bytes.as_slice(), &[])?;
-    assert_eq!(rt; (info.rate, info.comments.len()), (44100, 1));
+    let bytes = with_later_blocks(rt.alloc())?;
+    assert!(rt;
+        is_read(
+            rt.alloc(),
+            bytes.as_slice(),
+            (44100, 2, 16, 441000),
+            &[("TITLE", "Z")]
+        )?
+    );
     Ok(())
+}
+
+/// Whether a file whose read of this number fails is refused for that.
+fn is_read_fault(alloc: Global, call: u32) -> bool {
+    read(alloc, &FILE, &[call]).err() == Some(FlacError::ReadFault)
 }
 
 #[test]
 fn a_failed_read_is_a_read_fault(rt: HostRuntime) {
     for call in 1..8 {
-        let fault = read(rt.alloc(), FILE.as_slice(), &[call]);
-        assert!(rt; fault.err() == Some(FlacError::ReadFault), "{call}");
+        assert!(rt; is_read_fault(rt.alloc(), call), "{call}");
     }
 }
 
@@ -291,24 +319,31 @@ fn give(slow: &mut Slow, into: &mut [u8]) -> usize
     0
 }
 
+/// Whether a slow source with this front and so many zeros is read as the file, gives so many bytes, and is never asked
+/// for many at once.
+fn is_read_slowly(
+    alloc: Global,
+    front: &'static [u8],
+    zeros: usize,
+    length: u64,
+) -> Result<bool, Fail> {
+    let mut slow = Slow {
+        front,
+        zeros,
+        back: &FILE[42..],
+        given: 0,
+        moved: 0,
+        most: 0,
+    };
+    let info = read_flac(alloc, &mut slow)?;
+    let is_file = info.samples == 441000 && info.comments.len() == 1;
+    Ok(is_file && slow.moved == length && slow.most <= 65536)
+}
+
 #[test]
 fn a_slow_source_and_a_picture_that_nobody_holds(rt: HostRuntime) -> Result<(), Fail> {
-    for (front, zeros, length) in [
-        (&FILE[..42], 0, 65),
-        (BEFORE_PICTURE.as_slice(), 16_000_000, 16_000_069),
-    ] {
-        let mut slow = Slow {
-            front,
-            zeros,
-            back: &FILE[42..],
-            given: 0,
-            moved: 0,
-            most: 0,
-        };
-        let info = read_flac(rt.alloc(), &mut slow)?;
-        assert_eq!(rt; (info.samples, info.comments.len()), (441000, 1));
-        assert_eq!(rt; slow.moved, length);
-        assert!(rt; slow.most <= 65536, "{}", slow.most);
-    }
+    let alloc = rt.alloc();
+    assert!(rt; is_read_slowly(alloc, &FILE[..42], 0, 65)?);
+    assert!(rt; is_read_slowly(alloc, &BEFORE_PICTURE, 16_000_000, 16_000_069)?);
     Ok(())
 }

@@ -42,25 +42,33 @@ fn folder(alloc: Global, paths: &str, fails: &[u32]) -> Result<MemFolder, Fail> 
     Ok(MemFolder::new(list, Numbers::from(Vec::from_slice(alloc, fails)?)))
 }
 
+/// Paths of lists, and whether a list is a tree.
+const TREES: [(&str, bool); 13] = [
+    ("", true),
+    ("x", true),
+    ("a/x", false),
+    ("a/x a/", true),
+    ("a a/x", false),
+    ("a/ a", false),
+    ("a/ b a/", false),
+    ("a/ a/b/x", false),
+    ("a/ ab/x", false),
+    ("a/b/ a/ a/b/x b", true),
+    ("a b b/", false),
+    ("a b c/", true),
+    ("a b b", false),
+];
+
+/// Whether the items of these paths are a tree.
+fn is_tree(alloc: Global, paths: &str) -> Result<bool, Fail> {
+    let list = items(alloc, paths)?;
+    Ok(are_tree(list.as_slice()))
+}
+
 #[test]
 fn trees_are_told_from_other_lists(rt: HostRuntime) -> Result<(), Fail> {
-    for (paths, want) in [
-        ("", true),
-        ("x", true),
-        ("a/x", false),
-        ("a/x a/", true),
-        ("a a/x", false),
-        ("a/ a", false),
-        ("a/ b a/", false),
-        ("a/ a/b/x", false),
-        ("a/ ab/x", false),
-        ("a/b/ a/ a/b/x b", true),
-        ("a b b/", false),
-        ("a b c/", true),
-        ("a b b", false),
-    ] {
-        let list = items(rt.alloc(), paths)?;
-        assert_eq!(rt; are_tree(list.as_slice()), want, "{paths}");
+    for (paths, want) in &TREES {
+        assert!(rt; is_tree(rt.alloc(), paths)? == *want, "{paths}");
     }
     Ok(())
 }
@@ -76,19 +84,35 @@ fn shown(alloc: Global, answer: Result<Entry, FolderFault>) -> Result<String, Fa
     }
 }
 
+/// Whether this is a folder's next answer.
+fn gives(alloc: Global, tree: &mut MemFolder, want: &str) -> Result<bool, Fail> {
+    let answer = tree.entry(alloc);
+    let text = shown(alloc, answer)?;
+    Ok(text.as_str() == want)
+}
+
+/// The answers of a folder whose second and fifth call fail.
+const ANSWERS: [&str; 9] = [
+    "a/x 7", "failed", "a/x 7", "a/", "failed", "a/x 7", "a/", "end", "a/x 7",
+];
+
+/// Whether a folder has given so many entries, and has so many faults of entries and of files.
+fn has_counts(tree: &MemFolder, entries: u64, entry_faults: u64, file_faults: u64) -> bool {
+    tree.entries() == entries
+        && tree.entry_faults() == entry_faults
+        && tree.file_faults() == file_faults
+}
+
 #[test]
 fn folders_in_memory_give_their_trees(rt: HostRuntime) -> Result<(), Fail> {
     let alloc = rt.alloc();
     let mut tree = folder(alloc, "a/x a/", &[2, 5])?;
-    for want in [
-        "a/x 7", "failed", "a/x 7", "a/", "failed", "a/x 7", "a/", "end", "a/x 7",
-    ] {
-        let answer = tree.entry(alloc);
-        assert_eq!(rt; shown(alloc, answer)?.as_str(), want);
+    for want in &ANSWERS {
+        assert!(rt; gives(alloc, &mut tree, want)?, "{want}");
     }
-    assert!(rt; tree.entries() == 6 && tree.entry_faults() == 2 && tree.file_faults() == 0);
+    assert!(rt; has_counts(&tree, 6, 2, 0));
     tree.restart();
-    assert_eq!(rt; shown(alloc, tree.entry(alloc))?.as_str(), "a/x 7");
+    assert!(rt; gives(alloc, &mut tree, "a/x 7")?);
     Ok(())
 }
 
@@ -104,38 +128,67 @@ fn next_file(alloc: Global, tree: &mut MemFolder) -> Result<Option<MemSource>, F
     }
 }
 
+/// Whether the next file gives its byte and then fails, and is taken back.
+fn file_comes_back(alloc: Global, tree: &mut MemFolder) -> Result<bool, Fail> {
+    match next_file(alloc, tree)? {
+        Some(mut source) => {
+            let mut into = [0u8; 4];
+            let gave = source.read(&mut into) == Ok(1) && into[0] == b'x';
+            let failed = source.read(&mut into).is_err();
+            tree.done(source);
+            Ok(gave && failed)
+        }
+        None => Ok(false),
+    }
+}
+
+/// Whether a folder has opened so many files and taken so many back.
+fn has_opened(tree: &MemFolder, opened: u64, returned: u64) -> bool {
+    tree.opened() == opened && tree.returned() == returned
+}
+
 #[test]
 fn files_in_memory_are_opened_and_come_back(rt: HostRuntime) -> Result<(), Fail> {
     let alloc = rt.alloc();
     let mut tree = folder(alloc, "x yz", &[4])?;
-    match next_file(alloc, &mut tree)? {
-        Some(mut source) => {
-            let mut into = [0u8; 4];
-            assert!(rt; source.read(&mut into) == Ok(1) && into[0] == b'x');
-            assert!(rt; source.read(&mut into).is_err());
-            tree.done(source);
-        }
-        None => return Err(Fail::new("no file")),
-    }
-    assert!(rt; tree.opened() == 1 && tree.returned() == 1 && tree.file_faults() == 1);
+    assert!(rt; file_comes_back(alloc, &mut tree)?);
+    assert!(rt; has_opened(&tree, 1, 1) && has_counts(&tree, 1, 0, 1));
     assert!(rt; next_file(alloc, &mut tree).is_err());
-    assert!(rt; tree.opened() == 1 && tree.file_faults() == 2 && tree.entry_faults() == 0);
+    assert!(rt; has_opened(&tree, 1, 1) && has_counts(&tree, 2, 0, 2));
     Ok(())
+}
+
+/// Two folders, whose first entries fail or come.
+fn folders(alloc: Global) -> Result<Sequence<MemFolder>, Fail> {
+    let mut folders = Sequence::new(alloc);
+    folders.push(folder(alloc, "x", &[1])?)?;
+    folders.push(folder(alloc, "a/", &[])?)?;
+    Ok(folders)
+}
+
+/// The outside in memory with two folders, whose second object fails.
+fn two_folders<R: Drop>(alloc: Global) -> Result<MemOutside<R>, Fail> {
+    let fails = Numbers::from(Vec::from_slice(alloc, &[2])?);
+    let folders = folders(alloc)?;
+    let mut objects = MemObjects::new(alloc);
+    objects.folders = folders;
+    Ok(MemOutside::new(objects, fails))
+}
+
+/// Whether a folder is given whose first entry fails or comes, as told, and then no other folder.
+fn gives_folder<O: Outside>(alloc: Global, outside: &mut O, fails: bool) -> Result<bool, Fail> {
+    let mut tree = outside.folder(alloc, "music")?;
+    let is_told = tree.entry(alloc).is_err() == fails;
+    outside.end_folder(tree);
+    let is_last = outside.folder(alloc, "music").is_err();
+    Ok(is_told && is_last)
 }
 
 #[test]
 fn the_outside_in_memory_gives_its_folders(rt: HostRuntime) -> Result<(), Fail> {
     let alloc = rt.alloc();
-    let mut objects: MemObjects<HostRuntime> = MemObjects::new(alloc);
-    objects.folders.push(folder(alloc, "x", &[1])?)?;
-    objects.folders.push(folder(alloc, "a/", &[])?)?;
-    let mut outside = MemOutside::new(objects, Numbers::from(Vec::from_slice(alloc, &[2])?));
-    for (fails, faults) in [(true, 2), (false, 3)] {
-        let mut tree = outside.folder(alloc, "music")?;
-        assert!(rt; tree.entry(alloc).is_err() == fails);
-        outside.end_folder(tree);
-        assert!(rt; outside.folder(alloc, "music").is_err());
-        assert!(rt; outside.faults() == faults);
-    }
+    let mut outside: MemOutside<HostRuntime> = two_folders(alloc)?;
+    assert!(rt; gives_folder(alloc, &mut outside, true)? && outside.faults() == 2);
+    assert!(rt; gives_folder(alloc, &mut outside, false)? && outside.faults() == 3);
     Ok(())
 }

@@ -17,17 +17,24 @@ fn bytes(alloc: Global, text: &str) -> Result<Bytes, Fail> {
     Ok(Bytes::from(Vec::from_slice(alloc, text.as_bytes())?))
 }
 
+/// The answers of a clock whose second call fails.
+const MOMENTS: [Result<u64, Failed>; 5] = [Ok(5), Err(Failed), Ok(5), Ok(u64::MAX), Ok(u64::MAX)];
+
+/// Whether a clock answers this after a rest.
+fn tells(clock: &mut MemClock, want: Result<u64, Failed>) -> bool {
+    clock.rest(1_000);
+    clock.now() == want
+}
+
 #[test]
 fn clocks_in_memory_never_fall(rt: HostRuntime) -> Result<(), Fail> {
     let alloc = rt.alloc();
     let moments = Moments::from(Vec::from_slice(alloc, &[5, 3, u64::MAX])?);
     let mut clock = MemClock::new(moments, numbers(alloc, &[2])?);
-    for want in [Ok(5), Err(Failed), Ok(5), Ok(u64::MAX), Ok(u64::MAX)] {
-        clock.rest(1_000);
-        let answer = clock.now();
-        assert_eq!(rt; answer, want);
+    for want in &MOMENTS {
+        assert!(rt; tells(&mut clock, *want));
     }
-    assert_eq!(rt; clock.faults(), 1);
+    assert!(rt; clock.faults() == 1);
     Ok(())
 }
 
@@ -48,10 +55,11 @@ fn link(alloc: Global, texts: [&str; 4]) -> Result<MemLink, Fail> {
     Ok(MemLink::new(alloc, replies, numbers(alloc, &[4])?))
 }
 
-/// Sends a request once, and shows what came of it.
-fn exchanged(alloc: Global, link: &mut MemLink, limit: usize) -> Result<String, Fail> {
+/// Sends a request once, and tells whether this came of it.
+fn is_exchanged(alloc: Global, link: &mut MemLink, limit: usize, want: &str) -> Result<bool, Fail> {
     let answer = link.exchange(alloc, "http://127.0.0.1/", b"GET", limit);
-    shown(alloc, answer)
+    let text = shown(alloc, answer)?;
+    Ok(text.as_str() == want)
 }
 
 /// Whether these are the requests that were sent with these limits.
@@ -65,21 +73,28 @@ fn are_kept(requests: &[LinkRequest], limits: [usize; 6]) -> bool {
     requests.len() == 6
 }
 
+/// Limits of replies, what comes of a request, and how many faults there are and requests were sent by then.
+const EXCHANGES: [(usize, &str, u64, usize); 6] = [
+    (3, "reply of 3", 0, 1),
+    (3, "a reply is longer than its limit", 1, 2),
+    (0, "reply of 0", 1, 3),
+    (3, "a link failed", 2, 4),
+    (4, "reply of 3", 2, 5),
+    (4, "a link failed", 3, 6),
+];
+
+/// Whether a link has so many faults and has kept so many requests.
+fn has_kept(link: &MemLink, faults: u64, sent: usize) -> bool {
+    link.faults() == faults && link.requests().len() == sent
+}
+
 #[test]
 fn links_in_memory_keep_all_requests(rt: HostRuntime) -> Result<(), Fail> {
     let alloc = rt.alloc();
     let mut link = link(alloc, ["abc", "abcd", "", "abc"])?;
-    for (limit, want, faults, sent) in [
-        (3, "reply of 3", 0, 1),
-        (3, "a reply is longer than its limit", 1, 2),
-        (0, "reply of 0", 1, 3),
-        (3, "a link failed", 2, 4),
-        (4, "reply of 3", 2, 5),
-        (4, "a link failed", 3, 6),
-    ] {
-        let answer = exchanged(alloc, &mut link, limit)?;
-        assert_eq!(rt; answer.as_str(), want);
-        assert!(rt; link.faults() == faults && link.requests().len() == sent);
+    for (limit, want, faults, sent) in &EXCHANGES {
+        assert!(rt; is_exchanged(alloc, &mut link, *limit, want)?, "{sent}");
+        assert!(rt; has_kept(&link, *faults, *sent), "{sent}");
     }
     assert!(rt; are_kept(link.requests(), [3, 3, 0, 3, 4, 4]));
     Ok(())
@@ -119,29 +134,54 @@ fn accepts<D: Door>(door: &mut D) -> bool {
     door.accept().is_ok()
 }
 
+/// Whether a handle of a door has accepted so many connections and has so many faults.
+fn has_accepted<R: Wait + Clone + Drop>(door: &MemDoor<R>, connections: u64, faults: u64) -> bool {
+    door.connections() == connections && door.faults() == faults
+}
+
 #[test]
 fn handles_of_a_door_share_its_connections(rt: HostRuntime) -> Result<(), Fail> {
     let mut first = door(rt, rt.alloc(), "a bc", &[1, 4])?;
     assert!(rt; first.again().is_err());
     let mut second = first.again()?;
-    assert!(rt; accepts(&mut second) && !accepts(&mut first) && accepts(&mut first));
-    assert!(rt; !accepts(&mut first) && !accepts(&mut second));
-    assert!(rt; first.connections() == 1 && first.faults() == 3);
-    assert!(rt; second.connections() == 1 && second.faults() == 1);
+    let came = [
+        accepts(&mut second),
+        accepts(&mut first),
+        accepts(&mut first),
+    ];
+    let more = [accepts(&mut first), accepts(&mut second)];
+    assert!(rt; came == [true, false, true] && more == [false, false]);
+    assert!(rt; has_accepted(&first, 1, 3) && has_accepted(&second, 1, 1));
     Ok(())
+}
+
+/// Whether so many bytes were written at a connection of a door, or there is none.
+fn has_written<R: Wait + Clone + Drop>(
+    alloc: Global,
+    door: &MemDoor<R>,
+    at: usize,
+    want: Option<usize>,
+) -> Result<bool, Fail> {
+    let written = door.written(alloc, at)?;
+    Ok(written.map(|bytes| bytes.len()) == want)
+}
+
+/// Whether two connections of a door are read and written, the second one first, and the first one then fails.
+fn both_are_used<C: Source + Sink>(first: &mut C, second: &mut C) -> bool {
+    let both = [use_once(second), use_once(first)];
+    let again = use_once(first);
+    both == [Ok((2, 2)), Ok((1, 2))] && again == Err(Failed)
 }
 
 #[test]
 fn a_door_shows_what_was_written(rt: HostRuntime) -> Result<(), Fail> {
-    let mut door = door(rt, rt.alloc(), "a bc", &[])?;
+    let alloc = rt.alloc();
+    let mut door = door(rt, alloc, "a bc", &[])?;
     let mut first = door.accept()?;
     let mut second = door.accept()?;
-    assert!(rt; use_once(&mut second) == Ok((2, 2)) && use_once(&mut first) == Ok((1, 2)));
-    assert!(rt; use_once(&mut first) == Err(Failed));
-    for (at, want) in [(0, Some(2)), (1, Some(2)), (2, None)] {
-        let written = door.written(rt.alloc(), at)?;
-        assert_eq!(rt; written.map(|bytes| bytes.len()), want);
-    }
+    assert!(rt; both_are_used(&mut first, &mut second));
+    assert!(rt; has_written(alloc, &door, 0, Some(2))? && has_written(alloc, &door, 1, Some(2))?);
+    assert!(rt; has_written(alloc, &door, 2, None)?);
     Ok(())
 }
 

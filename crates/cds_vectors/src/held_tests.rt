@@ -42,17 +42,20 @@ fn held_script(alloc: Global) -> Result<(String, String), AllocError> {
     Ok((script, report))
 }
 
-#[test]
-fn sixty_four_notes_are_held(rt: HostRuntime) -> Result<(), Fail> {
-    let alloc = rt.alloc();
+/// Whether 64 notes are held.
+fn are_held(alloc: Global) -> Result<bool, Fail> {
     let (script, report) = held_script(alloc)?;
-    assert!(rt; reports(alloc, script.as_str(), report.as_str())?);
-    Ok(())
+    Ok(reports(alloc, script.as_str(), report.as_str())?)
 }
 
 #[test]
-fn sixty_five_subscriptions_are_one_too_many(rt: HostRuntime) -> Result<(), Fail> {
-    let alloc = rt.alloc();
+fn sixty_four_notes_are_held(rt: HostRuntime) -> Result<(), Fail> {
+    assert!(rt; are_held(rt.alloc())?);
+    Ok(())
+}
+
+/// 65 requests, of which 64 are granted, and the report.
+fn full_script(alloc: Global) -> Result<(String, String), AllocError> {
     let mut script = String::new(alloc);
     put_times(&mut script, "subscribe", 65)?;
     script.push_str("accept\naccept\n")?;
@@ -61,6 +64,17 @@ fn sixty_five_subscriptions_are_one_too_many(rt: HostRuntime) -> Result<(), Fail
         report.push_str(format!(in alloc; "note {note} seq 0 at 0\n")?.as_str())?;
     }
     report.push_str("accept 503\naccept none\n")?;
-    assert!(rt; reports(alloc, script.as_str(), report.as_str())?);
+    Ok((script, report))
+}
+
+/// Whether one is too many.
+fn one_is_too_many(alloc: Global) -> Result<bool, Fail> {
+    let (script, report) = full_script(alloc)?;
+    Ok(reports(alloc, script.as_str(), report.as_str())?)
+}
+
+#[test]
+fn sixty_five_subscriptions_are_one_too_many(rt: HostRuntime) -> Result<(), Fail> {
+    assert!(rt; one_is_too_many(rt.alloc())?);
     Ok(())
 }

@@ -98,13 +98,17 @@ fn report_owed(alloc: Global, short: &str) -> Result<String, Fail> {
     Ok(lines.replace(alloc, "%_", " ")?)
 }
 
+/// Whether a script in short has this report in short.
+fn is_reported(alloc: Global, script: &str, report: &str) -> Result<bool, Fail> {
+    let lines = lines_of(alloc, script)?;
+    let owed = report_owed(alloc, report)?;
+    Ok(reports(alloc, lines.as_str(), owed.as_str())?)
+}
+
 #[test]
 fn scripts(rt: HostRuntime) -> Result<(), Fail> {
-    let alloc = rt.alloc();
-    for (script, report) in VECTORS.iter() {
-        let lines = lines_of(alloc, script)?;
-        let owed = report_owed(alloc, report)?;
-        assert!(rt; reports(alloc, lines.as_str(), owed.as_str())?, "{script}");
+    for (script, report) in &VECTORS {
+        assert!(rt; is_reported(rt.alloc(), script, report)?, "{script}");
     }
     Ok(())
 }
@@ -145,15 +149,16 @@ fn scan_between(alloc: Global, before: u32, after: u32) -> Result<(String, Strin
     Ok((script, report))
 }
 
+/// Whether a scan between such reads is reported.
+fn is_found_out(alloc: Global, before: u32, after: u32) -> Result<bool, Fail> {
+    let (script, report) = scan_between(alloc, before, after)?;
+    Ok(reports(alloc, script.as_str(), report.as_str())?)
+}
+
 #[test]
 fn a_scan_between_any_two_reads(rt: HostRuntime) -> Result<(), Fail> {
-    let alloc = rt.alloc();
-    for (before, after) in BETWEEN {
-        let (script, report) = scan_between(alloc, before, after)?;
-        assert!(rt;
-            reports(alloc, script.as_str(), report.as_str())?,
-            "{before}"
-        );
+    for (before, after) in &BETWEEN {
+        assert!(rt; is_found_out(rt.alloc(), *before, *after)?, "{before}");
     }
     Ok(())
 }
