@@ -2,6 +2,7 @@ pub mod Parts
 pub mod Ascending
 pub mod Escapes
 pub mod Items
+pub mod Lanes
 pub mod Numbers
 pub mod Pieces
 pub mod References

@@ -11,5 +11,6 @@ pub mod Memory
 pub mod Number
 pub mod Outside
 pub mod Reference
+pub mod Runs
 pub mod Unescape
 pub mod Writing

@@ -54,7 +54,7 @@ pub use memory_spawner::MemSpawner;
 pub use number::{read_plain, read_u32, read_u64};
 pub use outside::{Failed, Sink, Source, write_all};
 pub use reading::{empty_piece, read_piece};
-pub use runs::{first_forbidden, plain_run};
+pub use runs::{first_forbidden, letters_run, plain_run};
 pub use sequence::Sequence;
 pub use spawner::{Attempt, Job, Running, Spawner};
 pub use text::Text;
