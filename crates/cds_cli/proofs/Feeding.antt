@@ -1,17 +1,15 @@
 -- How a reader of StateEvents is fed piece by piece.
-use Rattle.std.proofs.Common.{◌≡◌, ℕ, ◌+◌, ◌-◌, ◌<◌, ◌≤◌, ◌^◌, min, List, [], ◌++◌, length, take, drop, Option, Some, None, Result, Ok, Err, IsSome, Bool, true, false, ap, sym, subst, true≢false, ◌∙◌, append_assoc, length-append, arith, refl, ◌⊎◌, inl, inr}
+use Rattle.std.proofs.Common.{◌≡◌, ℕ, ◌+◌, ◌-◌, ◌<◌, ◌≤◌, ◌^◌, min, List, [], ◌++◌, length, take, drop, Option, Some, Result, Ok, Err, ap, sym, subst, ◌∙◌, append_assoc, length-append, arith, inl, inr}
 use Rattle.std.proofs.lemmas.List.{take-append-drop, append-nil}
 use Rattle.std.proofs.Math.Seq.{drop-nil}
-use Rattle.std.proofs.lemmas.Option.{same_Some}
 use Rattle.cds_base.specs.Outside.{raised}
 use Rattle.cds_base.specs.declared.limits.TheConstants.{INPUT_LIMIT}
 use Rattle.cds_lastchange.specs.declared.error.StateError.{StateError}
 use Rattle.cds_lastchange.specs.declared.error.StateError.TheVariants.{Bad, NotStateEvent, TooLong, Failed, Mem}
 use Rattle.cds_event.specs.declared.Event.{Event}
 use Rattle.cds_script.specs.Report.{Ending}
-use Rattle.cds_markup.specs.Pieces.{IsRefusal}
-use Rattle.cds_lastchange.specs.Feeding.{Fed, Finished}
-use Rattle.cds_lastchange.specs.Refusal.{Decides}
+use Rattle.cds_lastchange.specs.Feeding.{Came, IsRead, TakesBytes, Fed, EndsSo, Finished}
+use Rattle.cds_lastchange.specs.StateEvent.{IsStateEvent}
 use Rattle.cds_cli.specs.Check.{IsCause, IsOwed, EndsCheck, WritesCheck, OnLimit, cause_of}
 use Rattle.cds_cli.specs.Run.{Ends, Writes, EndsText, WritesText}
 use Rattle.cds_cli.specs.declared.checking.CheckError.{CheckError}
@@ -19,18 +17,12 @@ use Rattle.cds_cli.specs.declared.checking.CheckError.TheVariants.{Refused, Limi
 
 -- ---- one piece
 
--- a reader that has not refused does not answer that it has
-abbrev is_failed : StateError → Bool
-is_failed Failed = true
-is_failed other = false
+-- a reader that stands for some bytes does not answer that it refused before
+pub not-failed : (before after : Came) (piece : List ℕ) (e : StateError) → (bytes : List ℕ) × IsRead bytes before → Fed before piece (Err e) after → e ≡ Failed → ⊥
+not-failed before after piece e is fed same = (subst (λ r. TakesBytes is.0 piece (Err r) after) same (fed is.0 is.1)).0.inside
 
-pub not-failed : (before : Option (List ℕ)) (piece : List ℕ) (e : StateError) (after : Option (List ℕ)) → IsSome before → Fed before piece (Err e) after → e ≡ Failed → ⊥
-not-failed (Some bytes) piece e after some fed is = by fed.1
-  where
-    by : (e ≡ Mem) ⊎ IsRefusal Decides Mem (bytes ++ piece) e → ⊥
-    by (inl memory) = true≢false (ap is_failed (sym is ∙ memory))
-    by (inr refusal) = ((subst (λ r. IsRefusal Decides Mem (bytes ++ piece) r) is refusal).stands []).0
-not-failed None piece e after some fed is = true≢false (sym some)
+pub not-failed-at-end : (now : Came) (result : Result (List Event) StateError) (e : StateError) → (bytes : List ℕ) × IsRead bytes now → Finished now result → result ≡ Err e → e ≡ Failed → ⊥
+not-failed-at-end now result e is ends by same = subst (EndsSo is.0) (by ∙ ap Err same) (ends is.0 is.1)
 
 -- ---- counts
 
@@ -49,16 +41,16 @@ raised-twice moved one two = twice moved one two (2 ^ 64 - 1)
 -- ---- all pieces
 
 -- a reader that was fed what came so far, with so much left up to the limit
-pub record SoFar (left : ℕ) (reader : Option (List ℕ)) : Type 0 where
+pub record SoFar (left : ℕ) (reader : Came) : Type 0 where
   pub bytes : List ℕ
-  pub is : reader ≡ Some bytes
+  pub is : IsRead bytes reader
   pub within : length bytes + left ≡ INPUT_LIMIT
 
 -- what it was fed, and what the source still has, are all that the source had
-pub record Coming (reader left : Option (List ℕ)) (given : List ℕ) : Type 0 where
+pub record Coming (reader : Came) (left : Option (List ℕ)) (given : List ℕ) : Type 0 where
   pub bytes : List ℕ
   pub rest : List ℕ
-  pub is : reader ≡ Some bytes
+  pub is : IsRead bytes reader
   pub told : left ≡ Some rest
   pub all : given ≡ bytes ++ rest
 
@@ -69,9 +61,9 @@ next-piece bytes rest piece n is =
     ∙ ap (λ front. bytes ++ (front ++ drop n rest)) is
     ∙ ap (λ more. bytes ++ more) (take-append-drop n rest)
 
-pub goes-on : (reader left after next : Option (List ℕ)) (given piece : List ℕ) (n : ℕ) (c : Coming reader left given) →
-    piece ≡ take n c.rest → next ≡ Some (drop n c.rest) → after ≡ Some (c.bytes ++ piece) → Coming after next given
-goes-on reader left after next given piece n c is told fed = record {
+pub goes-on : (reader after : Came) (left next : Option (List ℕ)) (given piece : List ℕ) (n : ℕ) (c : Coming reader left given) →
+    piece ≡ take n c.rest → next ≡ Some (drop n c.rest) → IsRead (c.bytes ++ piece) after → Coming after next given
+goes-on reader after left next given piece n c is told fed = record {
   bytes = c.bytes ++ piece;
   rest = drop n c.rest;
   is = fed;
@@ -79,7 +71,7 @@ goes-on reader left after next given piece n c is told fed = record {
   all = c.all ∙ sym (next-piece c.bytes c.rest piece n is);
 }
 
-pub stops-at : (reader left : Option (List ℕ)) (given piece : List ℕ) (n : ℕ) (e : CheckError) (c : Coming reader left given) →
+pub stops-at : (reader : Came) (left : Option (List ℕ)) (given piece : List ℕ) (n : ℕ) (e : CheckError) (c : Coming reader left given) →
     piece ≡ take n c.rest → ((more : List ℕ) → IsCause ((c.bytes ++ piece) ++ more) e) → IsCause given e
 stops-at reader left given piece n e c is causes =
     subst (λ bytes. IsCause bytes e) (next-piece c.bytes c.rest piece n is ∙ sym c.all) (causes (drop n c.rest))
@@ -103,87 +95,66 @@ piece-past bytes piece left n within size more = omega (arith, length-append byt
 pub piece-within : (bytes piece : List ℕ) (left n : ℕ) → length bytes + left ≡ INPUT_LIMIT → length piece ≡ n → length (bytes ++ piece) ≤ INPUT_LIMIT → n ≤ left
 piece-within bytes piece left n within size few = omega (arith, length-append bytes piece, within, size, few)
 
-pub fed-on : (left n : ℕ) (reader after : Option (List ℕ)) (piece : List ℕ) (f : SoFar left reader) → length piece ≡ n → n ≤ left → after ≡ Some (f.bytes ++ piece) → SoFar (left - n) after
+pub fed-on : (left n : ℕ) (reader after : Came) (piece : List ℕ) (f : SoFar left reader) → length piece ≡ n → n ≤ left → IsRead (f.bytes ++ piece) after → SoFar (left - n) after
 fed-on left n reader after piece f size few is = record { bytes = f.bytes ++ piece; is = is; within = room f.bytes piece left n f.within size few }
   where
     room : (bytes piece : List ℕ) (left n : ℕ) → length bytes + left ≡ INPUT_LIMIT → length piece ≡ n → n ≤ left → length (bytes ++ piece) + (left - n) ≡ INPUT_LIMIT
     room bytes piece left n within size few = omega (arith, length-append bytes piece, within, size, few)
 
 -- where the source has nothing more
-pub all-fed : (reader left : Option (List ℕ)) (given : List ℕ) (c : Coming reader left given) → c.rest ≡ [] → reader ≡ Some given
-all-fed reader left given c none = c.is ∙ ap Some (sym (c.all ∙ ap (λ rest. c.bytes ++ rest) none ∙ append-nil c.bytes))
+pub all-fed : (reader : Came) (left : Option (List ℕ)) (given : List ℕ) (c : Coming reader left given) → c.rest ≡ [] → IsRead given reader
+all-fed reader left given c none = subst (λ bytes. IsRead bytes reader) (sym (c.all ∙ ap (λ rest. c.bytes ++ rest) none ∙ append-nil c.bytes)) c.is
 
 pub none-left : (next : Option (List ℕ)) (rest : List ℕ) (n : ℕ) → rest ≡ [] → next ≡ Some (drop n rest) → next ≡ Some []
 none-left next rest n none is = is ∙ ap (λ r. Some (drop n r)) none ∙ ap Some (drop-nil n)
 
 -- ---- the answer
 
--- what `finish` refuses has its cause in the bytes
-decided-cause : (bytes : List ℕ) (e : StateError) → Decides bytes (Err e) → IsCause bytes (cause_of e)
-decided-cause bytes (Bad at) decides = inl decides.0
-decided-cause bytes (NotStateEvent at) decides = inr decides.0
-decided-cause bytes TooLong decides = decides.0
-decided-cause bytes Failed decides = tt
-decided-cause bytes Mem decides = tt
+-- what a refusal of the end has its cause in
+ends-cause : (bytes : List ℕ) (e : StateError) → EndsSo bytes (Err e) → IsCause bytes (cause_of e)
+ends-cause bytes (Bad at) h = inl h.0.0
+ends-cause bytes other h = absurd h
 
-pub finish-cause : (reader : Option (List ℕ)) (bytes : List ℕ) (result : Result (List Event) StateError) (e : StateError) (cause : CheckError) →
-    reader ≡ Some bytes → Finished reader result → result ≡ Err e → cause ≡ cause_of e → IsCause bytes cause
-finish-cause reader bytes result e cause fed finishes is by =
-    subst (IsCause bytes) (sym by)
-    (decided-cause bytes e (subst (λ r. Decides bytes r) is (subst (λ r. Finished r result) fed finishes)))
+pub finish-cause : (reader : Came) (bytes : List ℕ) (result : Result (List Event) StateError) (e : StateError) (cause : CheckError) →
+    IsRead bytes reader → Finished reader result → result ≡ Err e → cause ≡ cause_of e → IsCause bytes cause
+finish-cause reader bytes result e cause is ends by same = subst (IsCause bytes) (sym same) (ends-cause bytes e (subst (EndsSo bytes) by (ends bytes is)))
 
--- and what `feed` refuses, whatever follows
-fed-cases : (bytes piece more : List ℕ) (e : StateError) → (e ≡ Mem) ⊎ IsRefusal Decides Mem (bytes ++ piece) e → IsCause ((bytes ++ piece) ++ more) (cause_of e)
-fed-cases bytes piece more e (inl memory) = subst (λ r. IsCause ((bytes ++ piece) ++ more) (cause_of r)) (sym memory) tt
-fed-cases bytes piece more e (inr refusal) = decided-cause ((bytes ++ piece) ++ more) e (refusal.stands more)
+pub finish-events : (reader : Came) (bytes : List ℕ) (result : Result (List Event) StateError) (events : List Event) →
+    IsRead bytes reader → Finished reader result → result ≡ Ok events → IsStateEvent bytes events
+finish-events reader bytes result events is ends by = (subst (EndsSo bytes) by (ends bytes is)).0
 
-pub fed-cause : (before : Option (List ℕ)) (piece : List ℕ) (e : StateError) (after : Option (List ℕ)) (cause : CheckError) (bytes more : List ℕ) →
-    Fed before piece (Err e) after → cause ≡ cause_of e → before ≡ Some bytes → IsCause ((bytes ++ piece) ++ more) cause
-fed-cause before piece e after cause bytes more fed by is =
-    subst (IsCause ((bytes ++ piece) ++ more)) (sym by) (fed-cases bytes piece more e (subst (λ b. Fed b piece (Err e) after) is fed).1)
+-- and one of a piece, whatever follows
+piece-cause : (bytes piece more : List ℕ) (e : StateError) (after : Came) → TakesBytes bytes piece (Err e) after → IsCause ((bytes ++ piece) ++ more) (cause_of e)
+piece-cause bytes piece more (Bad at) after h = inl (h.0.stands more)
+piece-cause bytes piece more (NotStateEvent at) after h = inr (h.0.stands more)
+piece-cause bytes piece more TooLong after h = h.0.stands more
+piece-cause bytes piece more Failed after h = tt
+piece-cause bytes piece more Mem after h = tt
 
--- `feed` finds too many where there are
-any-limit : (e : StateError) (P : Type 0) → P → OnLimit (cause_of e) P
-any-limit (Bad at) P h = tt
-any-limit (NotStateEvent at) P h = tt
-any-limit TooLong P h = h
-any-limit Failed P h = tt
-any-limit Mem P h = tt
+pub fed-cause : (before after : Came) (piece : List ℕ) (e : StateError) (cause : CheckError) (bytes more : List ℕ) →
+    Fed before piece (Err e) after → cause ≡ cause_of e → IsRead bytes before → IsCause ((bytes ++ piece) ++ more) cause
+fed-cause before after piece e cause bytes more fed same is = subst (IsCause ((bytes ++ piece) ++ more)) (sym same) (piece-cause bytes piece more e after (fed bytes is))
 
-long-cases : (bytes piece : List ℕ) (e : StateError) → (e ≡ Mem) ⊎ IsRefusal Decides Mem (bytes ++ piece) e → OnLimit (cause_of e) (INPUT_LIMIT < length (bytes ++ piece))
-long-cases bytes piece e (inl memory) = subst (λ r. OnLimit (cause_of r) (INPUT_LIMIT < length (bytes ++ piece))) (sym memory) tt
-long-cases bytes piece e (inr refusal) = any-limit e (INPUT_LIMIT < length (bytes ++ piece)) refusal.over
+-- `feed` finds too many where there are, and `finish` does not
+piece-long : (bytes piece : List ℕ) (e : StateError) (after : Came) → TakesBytes bytes piece (Err e) after → OnLimit (cause_of e) (INPUT_LIMIT < length (bytes ++ piece))
+piece-long bytes piece (Bad at) after h = tt
+piece-long bytes piece (NotStateEvent at) after h = tt
+piece-long bytes piece TooLong after h = h.0.inside.1
+piece-long bytes piece Failed after h = tt
+piece-long bytes piece Mem after h = tt
 
-pub fed-long : (before : Option (List ℕ)) (piece : List ℕ) (e : StateError) (after : Option (List ℕ)) (cause : CheckError) (bytes : List ℕ) →
-    Fed before piece (Err e) after → cause ≡ cause_of e → before ≡ Some bytes → OnLimit cause (INPUT_LIMIT < length (bytes ++ piece))
-fed-long before piece e after cause bytes fed by is =
-    subst (λ c. OnLimit c (INPUT_LIMIT < length (bytes ++ piece))) (sym by)
-    (long-cases bytes piece e (subst (λ b. Fed b piece (Err e) after) is fed).1)
+pub fed-long : (before after : Came) (piece : List ℕ) (e : StateError) (cause : CheckError) (bytes : List ℕ) →
+    Fed before piece (Err e) after → cause ≡ cause_of e → IsRead bytes before → OnLimit cause (INPUT_LIMIT < length (bytes ++ piece))
+fed-long before after piece e cause bytes fed same is =
+    subst (λ c. OnLimit c (INPUT_LIMIT < length (bytes ++ piece))) (sym same) (piece-long bytes piece e after (fed bytes is))
 
--- `finish` does not find too many
-few-bytes : (bytes : List ℕ) (e : StateError) (P : Type 0) → length bytes ≤ INPUT_LIMIT → Decides bytes (Err e) → OnLimit (cause_of e) P
-few-bytes bytes (Bad at) P short decides = tt
-few-bytes bytes (NotStateEvent at) P short decides = tt
-few-bytes bytes TooLong P short decides = absurd (more short decides.0.0.0)
-  where
-    more : length bytes ≤ INPUT_LIMIT → INPUT_LIMIT < length bytes → ⊥
-    more few many = omega (arith, few, many)
-few-bytes bytes Failed P short decides = tt
-few-bytes bytes Mem P short decides = tt
+ends-long : (bytes : List ℕ) (e : StateError) (P : Type 0) → EndsSo bytes (Err e) → OnLimit (cause_of e) P
+ends-long bytes (Bad at) P h = tt
+ends-long bytes other P h = absurd h
 
-pub finish-long : (reader : Option (List ℕ)) (result : Result (List Event) StateError) (e : StateError) (cause : CheckError) (P : Type 0) →
-    IsSome reader → ((bytes : List ℕ) → reader ≡ Some bytes → length bytes ≤ INPUT_LIMIT) →
-    Finished reader result → result ≡ Err e → cause ≡ cause_of e → OnLimit cause P
-finish-long (Some bytes) result e cause P some short finishes is by =
-    subst (λ c. OnLimit c P) (sym by) (few-bytes bytes e P (short bytes refl) (subst (λ r. Decides bytes r) is finishes))
-finish-long None result e cause P some short finishes is by = absurd (true≢false (sym some))
-
--- what so far was fed is short
-pub so-far-short : (left : ℕ) (reader : Option (List ℕ)) (bytes : List ℕ) → SoFar left reader → reader ≡ Some bytes → length bytes ≤ INPUT_LIMIT
-so-far-short left reader bytes f is = subst (λ b. length b ≤ INPUT_LIMIT) (same_Some f.bytes bytes (sym f.is ∙ is)) (few f.bytes left f.within)
-  where
-    few : (bytes : List ℕ) (left : ℕ) → length bytes + left ≡ INPUT_LIMIT → length bytes ≤ INPUT_LIMIT
-    few bytes left within = omega (arith, within)
+pub finish-long : (reader : Came) (result : Result (List Event) StateError) (e : StateError) (cause : CheckError) (P : Type 0) →
+    (bytes : List ℕ) × IsRead bytes reader → Finished reader result → result ≡ Err e → cause ≡ cause_of e → OnLimit cause P
+finish-long reader result e cause P is ends by same = subst (λ c. OnLimit c P) (sym same) (ends-long is.0 e P (subst (EndsSo is.0) by (ends is.0 is.1)))
 
 pub ends-owed : (bytes : List ℕ) (ending : Ending) (status : ℕ) → IsOwed bytes ending → Ends status ending.status → EndsCheck bytes status
 ends-owed bytes ending status owed (inl is) = inl (ending, owed, is)

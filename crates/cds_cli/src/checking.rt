@@ -1,9 +1,10 @@
 //! A StateEvent from a source, and its one written form into a sink.
 
-ghost use Rattle.std.specs.Prelude.{◌≡◌, ◌≢◌, ◌⊎◌, ℕ, ◌+◌, ◌<◌, ◌≤◌, ◌++◌, [], Some, List, length, IfOk, IfErr, OnOk, OnErr, IsSome, string_bytes};
+ghost use Rattle.std.specs.Prelude.{◌≡◌, ◌≢◌, ◌⊎◌, ℕ, ◌+◌, ◌<◌, ◌≤◌, ◌++◌, [], Some, List, length, IfOk, IfErr, OnOk, OnErr, string_bytes};
 ghost use Rattle.cds_base.specs.declared.limits.TheConstants.{INPUT_LIMIT};
 ghost use Rattle.cds_base.specs.Outside.{raised, Rose, WhereTold};
 ghost use Rattle.cds_event.specs.declared.Event.{Event};
+ghost use Rattle.cds_lastchange.specs.Feeding.{IsRead};
 ghost use Rattle.cds_lastchange.specs.StateEvent.{IsStateEvent};
 ghost use Rattle.cds_lastchange.specs.declared.error.StateError.TheVariants.{Failed as IsFailed};
 ghost use Rattle.cds_cli.specs.Check.{EndsCheck, WritesCheck, IsCause, OnLimit, OnReadFault, cause_of, events_ending, refused_ending};
@@ -88,12 +89,11 @@ fn feed_all<S: Source>(
     source: &mut S,
 ) -> Result<(), CheckError>
     requires some { 0 < length buffer.old }
-    requires fresh { reader.old ≡ Some [] }
-    ensures fed { OnOk result (WhereTold (S.left source.old) (λ bytes. reader.new ≡ Some bytes)) }
+    requires fresh { IsRead [] reader.old }
+    ensures fed { OnOk result (WhereTold (S.left source.old) (λ bytes. IsRead bytes reader.new)) }
     ensures cause { IfErr result (λ e. WhereTold (S.left source.old) (λ bytes. IsCause bytes e)) }
     ensures whole { OnOk result (WhereTold (S.left source.old) (λ bytes. S.left source.new ≡ Some [])) }
-    ensures stays { OnOk result (IsSome reader.new) }
-    ensures short { OnOk result ((bytes : List ℕ) → reader.new ≡ Some bytes → length bytes ≤ INPUT_LIMIT) }
+    ensures stays { OnOk result ((bytes : List ℕ) × IsRead bytes reader.new) }
     ensures within { OnOk result (S.moved source.new ≤ raised (S.moved source.old) INPUT_LIMIT) }
     ensures taken { S.moved source.new ≤ S.moved source.old + (INPUT_LIMIT + 1) }
     ensures long { IfErr result (λ e. OnLimit e (raised (S.moved source.old) (INPUT_LIMIT + 1) ≤ S.moved source.new)) }
@@ -115,11 +115,11 @@ fn feed_all<S: Source>(
 
 /// Feeds the reader a piece.
 fn feed(alloc: Global, reader: &mut StateReader, piece: &[u8]) -> Result<(), CheckError>
-    requires { IsSome reader.old }
-    ensures fed { OnOk result ((bytes : List ℕ) → reader.old ≡ Some bytes → reader.new ≡ Some (bytes ++ piece.now)) }
-    ensures within { OnOk result ((bytes : List ℕ) → reader.old ≡ Some bytes → length (bytes ++ piece.now) ≤ INPUT_LIMIT) }
-    ensures cause { IfErr result (λ e. (bytes : List ℕ) → reader.old ≡ Some bytes → (more : List ℕ) → IsCause ((bytes ++ piece.now) ++ more) e) }
-    ensures long { IfErr result (λ e. (bytes : List ℕ) → reader.old ≡ Some bytes → OnLimit e (INPUT_LIMIT < length (bytes ++ piece.now))) }
+    requires { (bytes : List ℕ) × IsRead bytes reader.old }
+    ensures fed { OnOk result ((bytes : List ℕ) → IsRead bytes reader.old → IsRead (bytes ++ piece.now) reader.new) }
+    ensures within { OnOk result ((bytes : List ℕ) → IsRead bytes reader.old → length (bytes ++ piece.now) ≤ INPUT_LIMIT) }
+    ensures cause { IfErr result (λ e. (bytes : List ℕ) → IsRead bytes reader.old → (more : List ℕ) → IsCause ((bytes ++ piece.now) ++ more) e) }
+    ensures long { IfErr result (λ e. (bytes : List ℕ) → IsRead bytes reader.old → OnLimit e (INPUT_LIMIT < length (bytes ++ piece.now))) }
     ensures no_read { IfErr result (λ e. OnReadFault e ⊥) }
 {
     match reader.feed(alloc, piece) {

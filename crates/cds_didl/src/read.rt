@@ -1,13 +1,13 @@
 //! Reading DIDL-Lite.
 
-ghost use Rattle.std.specs.Prelude.{◌≡◌};
-ghost use Rattle.cds_markup.specs.Document.{Doc};
+ghost use Rattle.std.specs.Prelude.{◌≡◌, ◌<◌, length, slice_get, Some};
+ghost use Rattle.cds_markup.specs.Placed.{ArePlaces};
 ghost use Rattle.cds_didl.specs.Didl.{rows_said, Answers, IsFaultOf, IsRefusalOrMem};
 
 use crate::DidlError;
 use crate::error::Fault;
 use crate::rows::rows_said;
-use cds_markup::{Element, MarkupError, child_place, read_document, root_place};
+use cds_markup::{MarkupError, Placed, read_placed};
 use cds_object::Rows;
 use std::alloc::Global;
 
@@ -18,36 +18,42 @@ use std::alloc::Global;
 pub fn read_didl(alloc: Global, bytes: &[u8]) -> Result<Rows, DidlError>
     ensures { Answers bytes.now result }
 {
-    let element = match read_document(alloc, bytes) {
-        Ok(element) => element,
+    let placed = match read_placed(alloc, bytes) {
+        Ok(placed) => placed,
         Err(MarkupError::Mem) => return Err(DidlError::Mem),
         Err(refusal) => return Err(DidlError::Markup(refusal)),
     };
-    match rows_said(alloc, &element) {
+    match rows_said(alloc, &placed.element) {
         Ok(rows) => Ok(rows),
-        Err(fault) => Err(refusal_of(alloc, bytes, &element, fault)),
+        Err(fault) => Err(refusal_of(bytes, &placed, fault)),
     }
 }
 
-/// The refusal of a fault of the document's element.
-fn refusal_of(alloc: Global, bytes: &[u8], element: &Element, fault: Fault) -> DidlError
-    requires document { Doc bytes.now element.now }
-    requires faulty { IsFaultOf (rows_said element.now) fault }
-    ensures { IsRefusalOrMem bytes.now fault result }
+/// The refusal of a fault of the document's element. The bytes are named for the contract alone.
+fn refusal_of(_bytes: &[u8], placed: &Placed, fault: Fault) -> DidlError
+    requires places { ArePlaces _bytes.now placed.now }
+    requires faulty { IsFaultOf (rows_said placed.now.element) fault }
+    ensures { IsRefusalOrMem _bytes.now fault result }
 {
     match fault {
         Fault::OutOfMemory => DidlError::Mem,
-        Fault::Root => match root_place(alloc, bytes, element) {
-            Ok(at) => DidlError::NotDidl { at },
-            Err(_) => DidlError::Mem,
+        Fault::Root => DidlError::NotDidl { at: placed.at },
+        Fault::NotRow { number } => DidlError::NotDidl {
+            at: child_place(placed, number),
         },
-        Fault::NotRow { number } => match child_place(alloc, bytes, element, number) {
-            Ok(at) => DidlError::NotDidl { at },
-            Err(_) => DidlError::Mem,
+        Fault::BadRow { number } => DidlError::BadValue {
+            at: child_place(placed, number),
         },
-        Fault::BadRow { number } => match child_place(alloc, bytes, element, number) {
-            Ok(at) => DidlError::BadValue { at },
-            Err(_) => DidlError::Mem,
-        },
+    }
+}
+
+/// The place of the child element that has so many before it.
+fn child_place(placed: &Placed, number: usize) -> usize
+    requires { number < length placed.now.children }
+    ensures { slice_get placed.now.children number ≡ Some result }
+{
+    match placed.children.get(number) {
+        Some(at) => *at,
+        None => unreachable!(),
     }
 }

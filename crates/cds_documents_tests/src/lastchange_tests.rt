@@ -9,6 +9,7 @@ const START: &[u8] = b"<StateEvent xmlns=\"urn:schemas-upnp-org:av:cds-event\">"
 fn read(alloc: Global, bytes: &[u8], size: usize) -> Result<Events, StateError> {
     let mut reader = StateReader::new(alloc)?;
     for piece in bytes.chunks(size.max(1)) {
+        reader.feed(alloc, b"")?;
         if let Err(refusal) = reader.feed(alloc, piece) {
             return match reader.feed(alloc, b"") {
                 Err(StateError::Failed) => Err(refusal),
@@ -187,182 +188,247 @@ fn other_forms_are_read(rt: HostRuntime) -> Result<(), Fail> {
     Ok(())
 }
 
-/// The places at which these bytes are refused in pieces of one byte and in one piece, and whether as a document.
-fn places(alloc: Global, bytes: &[u8]) -> Result<(usize, usize, bool), StateError> {
-    let one = place_of(read(alloc, bytes, 1))?;
-    let all = place_of(read(alloc, bytes, 4096))?;
-    Ok((one.0, all.0, one.1 && all.1))
-}
-
 /// The place of a refusal, and whether the bytes were no document.
-fn place_of(answer: Result<Events, StateError>) -> Result<(usize, bool), StateError> {
-    match answer {
-        Ok(_) => Ok((4096, false)),
-        Err(StateError::Bad { at }) => Ok((at, true)),
-        Err(StateError::NotStateEvent { at }) => Ok((at, false)),
-        Err(other) => Err(other),
+fn place_of(refusal: StateError) -> Option<(usize, bool)> {
+    match refusal {
+        StateError::Bad { at } => Some((at, true)),
+        StateError::NotStateEvent { at } => Some((at, false)),
+        _ => None,
     }
 }
 
-/// What makes a StateEvent that is begun none: the place of its first fault, and whether it is no document either.
-const NO_EVENTS: [(&'static [u8], usize, bool); 31] = [
+/// The place at which these bytes are refused in pieces of so many, whether as a document, and the number of bytes up to
+/// the end of the piece that is refused. `None` for events.
+fn refused_by(
+    alloc: Global,
+    bytes: &[u8],
+    size: usize,
+) -> Result<(Option<(usize, bool)>, usize), Fail> {
+    let mut reader = StateReader::new(alloc)?;
+    let mut before: usize = 0;
+    for piece in bytes.chunks(size.max(1)) {
+        before = before.saturating_add(piece.len());
+        if let Err(refusal) = reader.feed(alloc, piece) {
+            return Ok((place_of(refusal), before));
+        }
+    }
+    match reader.finish(alloc) {
+        Ok(_) => Ok((None, before)),
+        Err(refusal) => Ok((place_of(refusal), before.saturating_add(1))),
+    }
+}
+
+/// The number of bytes up to the end of the piece with this byte, in pieces of so many; one more where it is none of them.
+fn end_of(length: usize, size: usize, at: usize) -> usize {
+    if at < length {
+        let behind = at.saturating_sub(at % size.max(1)).saturating_add(size);
+        behind.min(length)
+    } else {
+        length.saturating_add(1)
+    }
+}
+
+/// The size of pieces in which these bytes are not refused with these places by the piece that has the byte which shows it.
+fn otherwise(
+    alloc: Global,
+    bytes: &[u8],
+    place: (usize, bool),
+    shown: usize,
+) -> Result<Option<usize>, Fail> {
+    for size in 1..bytes.len().saturating_add(1) {
+        let found = refused_by(alloc, bytes, size)?;
+        if found != (Some(place), end_of(bytes.len(), size, shown)) {
+            return Ok(Some(size));
+        }
+    }
+    Ok(None)
+}
+
+/// What makes a StateEvent that is begun none: the place of its first fault, whether it is no document either, and the place
+/// of the byte that shows it.
+const NO_EVENTS: [(&'static [u8], usize, bool, usize); 31] = [
     (
         b"<objDel objID=\"7\" updateID=\"9\" stUpdate=\"0\"/></StateEvent",
         111,
         true,
+        111,
     ),
-    (b"<objNew/></StateEvent>", 54, false),
+    (b"<objNew/></StateEvent>", 54, false, 61),
     (
         b"<objDel objID=\"7\" stUpdate=\"0\"/></StateEvent>",
         54,
         false,
+        84,
     ),
     (
         b"<objDel objID=\"7\" updateID=\"+5\" stUpdate=\"0\"/></StateEvent>",
         54,
         false,
+        98,
     ),
     (
         b"<objDel objID=\"7\" updateID=\"4294967296\" stUpdate=\"0\"/></StateEvent>",
         54,
         false,
+        106,
     ),
     (
         b"<objDel objID=\"7\" updateID=\"9\"/></StateEvent>",
         54,
         false,
+        84,
     ),
     (
         b"<objDel objID=\"7\" updateID=\"9\" stUpdate=\"TRUE\"/></StateEvent>",
         54,
         false,
+        100,
     ),
     (
         b"<objDel objID=\"\" updateID=\"9\" stUpdate=\"0\"/></StateEvent>",
         54,
         false,
+        96,
     ),
     (
         b"<objDel xmlns=\"\" objID=\"7\" updateID=\"9\" stUpdate=\"0\"/></StateEvent>",
         54,
         false,
+        106,
     ),
-    (b"<stDone objID=\"1\"/></StateEvent>", 54, false),
+    (b"<stDone objID=\"1\"/></StateEvent>", 54, false, 71),
     (
         b"<stDone xmlns:x=\"y\" x:objID=\"1\" updateID=\"2\"/></StateEvent>",
         54,
         false,
+        98,
     ),
-    (b"<StateEvent/></StateEvent>", 54, false),
+    (b"<StateEvent/></StateEvent>", 54, false, 65),
     (
         b"<objAdd objID='1' updateID='1' stUpdate='1' objParentID='0' objClass='object.item'/>",
         54,
         false,
+        136,
     ),
-    (b"<objNew", 61, true),
-    (b"<objNew/", 54, false),
-    (b"<objNew/x", 54, false),
-    (b"<objNew a='1' a='2'/></StateEvent>", 73, true),
+    (b"<objNew", 61, true, 61),
+    (b"<objNew/", 54, false, 61),
+    (b"<objNew/x", 54, false, 61),
+    (b"<objNew a='1' a='2'/></StateEvent>", 73, true, 73),
     (
         b"<stDone objID='1' updateID='2'><a></a></stDone></StateEvent>",
         85,
         false,
+        87,
     ),
     (
         b"<stDone objID='1' updateID='2'>x</stDone></StateEvent>",
         85,
         false,
+        85,
     ),
-    (b"x&bad", 54, false),
-    (b" \n&#32;</StateEvent>", 56, false),
-    (b"&#32", 58, true),
-    (b"&bad;", 55, true),
-    (b"<![CDATA[]]></StateEvent>", 54, false),
-    (b"<![CDATA[]]", 65, true),
-    (b"<!-- ", 59, true),
-    (b"]]></StateEvent>", 54, false),
-    (b" \xC3", 55, false),
-    (b"\xED\xA0\x80", 54, false),
-    (b"\xC1\x80", 54, true),
-    (b"</StateEven", 65, true),
+    (b"x&bad", 54, false, 54),
+    (b" \n&#32;</StateEvent>", 56, false, 60),
+    (b"&#32", 58, true, 58),
+    (b"&bad;", 55, true, 55),
+    (b"<![CDATA[]]></StateEvent>", 54, false, 65),
+    (b"<![CDATA[]]", 65, true, 65),
+    (b"<!-- ", 59, true, 59),
+    (b"]]></StateEvent>", 54, false, 54),
+    (b" \xC3", 55, false, 55),
+    (b"\xED\xA0\x80", 54, false, 54),
+    (b"\xC1\x80", 54, true, 54),
+    (b"</StateEven", 65, true, 65),
 ];
 
 /// The same of whole texts.
-const NO_STATE_EVENTS: [(&'static [u8], usize, bool); 9] = [
+const NO_STATE_EVENTS: [(&'static [u8], usize, bool, usize); 9] = [
     (
         b"<StateEvent xmlns=\"urn:schemas-upnp-org:av:cds-event\"/>x",
         55,
         true,
+        55,
     ),
-    (b"<StateEvent/>", 0, false),
-    (b" <a xmlns='urn:schemas-upnp-org:av:cds-event'>", 1, false),
+    (b"<StateEvent/>", 0, false, 11),
+    (
+        b" <a xmlns='urn:schemas-upnp-org:av:cds-event'>",
+        1,
+        false,
+        45,
+    ),
     (
         b"<StateEvent xmlns='urn:schemas-upnp-org:av:cds-event' xmlns:x=''>",
         64,
         true,
+        64,
     ),
-    (b"\xEF\xBB\xBF", 3, true),
-    (b"\xEF\xBB\xBF ", 4, true),
-    (b"x", 0, true),
-    (b" <", 2, true),
-    (b"<!-- x -->", 10, true),
+    (b"\xEF\xBB\xBF", 3, true, 3),
+    (b"\xEF\xBB\xBF ", 4, true, 4),
+    (b"x", 0, true, 0),
+    (b" <", 2, true, 2),
+    (b"<!-- x -->", 10, true, 10),
 ];
 
-/// Whether bytes are refused at this place, however they are cut, as a document or not.
-fn is_refused(alloc: Global, bytes: &[u8], at: usize, bad: bool) -> Result<bool, Fail> {
-    let found = places(alloc, bytes)?;
-    Ok(found == (at, at, bad))
+/// Whether bytes are refused at this place, as a document or not, by the piece that has the byte which shows it, in pieces
+/// of every size.
+fn is_refused(
+    alloc: Global,
+    bytes: &[u8],
+    place: (usize, bool),
+    shown: usize,
+) -> Result<bool, Fail> {
+    let found = otherwise(alloc, bytes, place, shown)?;
+    Ok(found.is_none())
 }
 
 /// The same of bytes behind the start tag.
-fn is_refused_behind(alloc: Global, rest: &[u8], at: usize, bad: bool) -> Result<bool, Fail> {
+fn is_refused_behind(
+    alloc: Global,
+    rest: &[u8],
+    place: (usize, bool),
+    shown: usize,
+) -> Result<bool, Fail> {
     let bytes = begun(alloc, rest)?;
-    is_refused(alloc, bytes.as_slice(), at, bad)
+    is_refused(alloc, bytes.as_slice(), place, shown)
 }
 
 #[test]
-fn what_is_no_state_event_is_refused(rt: HostRuntime) -> Result<(), Fail> {
-    for (rest, at, bad) in &NO_EVENTS {
-        assert!(rt; is_refused_behind(rt.alloc(), rest, *at, *bad)?, "{at}");
+fn what_is_no_state_event_is_refused_where_it_shows(rt: HostRuntime) -> Result<(), Fail> {
+    for (rest, at, bad, shown) in &NO_EVENTS {
+        assert!(rt;
+            is_refused_behind(rt.alloc(), rest, (*at, *bad), *shown)?,
+            "{at}"
+        );
     }
-    for (bytes, at, bad) in &NO_STATE_EVENTS {
-        assert!(rt; is_refused(rt.alloc(), bytes, *at, *bad)?, "{at}");
+    for (bytes, at, bad, shown) in &NO_STATE_EVENTS {
+        assert!(rt; is_refused(rt.alloc(), bytes, (*at, *bad), *shown)?, "{at}");
     }
     Ok(())
 }
 
-/// A reader behind a fault.
-fn faulty_reader(alloc: Global) -> Result<StateReader, StateError> {
+/// A reader of what comes before the first event, fed byte by byte.
+fn begun_reader(alloc: Global) -> Result<StateReader, StateError> {
     let mut reader = StateReader::new(alloc)?;
-    reader.feed(alloc, START)?;
-    reader.feed(alloc, b"<objNew/>&bad;")?;
-    Ok(reader)
-}
-
-/// What the piece that passes the limit is answered, where all before it fit.
-fn past_the_limit(alloc: Global, reader: &mut StateReader) -> Result<Result<(), StateError>, Fail> {
-    let blanks = vec![in alloc; b' '; 1_048_576]?;
-    for _ in 0..63 {
-        reader.feed(alloc, blanks.as_slice())?;
+    for byte in START {
+        reader.feed(alloc, &[*byte])?;
     }
-    Ok(reader.feed(alloc, blanks.as_slice()))
+    Ok(reader)
 }
 
 /// Whether a reader has failed.
 fn has_failed(alloc: Global, mut reader: StateReader) -> bool {
-    let behind = reader.feed(alloc, b"");
+    let behind = reader.feed(alloc, b"x");
     let end = reader.finish(alloc).err();
     behind == Err(StateError::Failed) && end == Some(StateError::Failed)
 }
 
 #[test]
-fn an_early_fault_is_the_answer_past_the_limit(rt: HostRuntime) -> Result<(), Fail> {
-    let mut reader = faulty_reader(rt.alloc())?;
-    let answer = past_the_limit(rt.alloc(), &mut reader)?;
-    assert!(rt; has_failed(rt.alloc(), reader), "behind it");
+fn a_letter_between_events_is_refused_at_once(rt: HostRuntime) -> Result<(), Fail> {
+    let mut reader = begun_reader(rt.alloc())?;
+    let answer = reader.feed(rt.alloc(), b"x");
     assert!(rt;
         answer == Err(StateError::NotStateEvent { at: 54 }),
-        "past the limit"
+        "{answer:?}"
     );
+    assert!(rt; has_failed(rt.alloc(), reader), "behind it");
     Ok(())
 }

@@ -6,6 +6,8 @@ mod didl_tests;
 #[cfg(test)]
 mod lastchange_tests;
 #[cfg(test)]
+mod markup_pieces_tests;
+#[cfg(test)]
 mod markup_reader_tests;
 #[cfg(test)]
 mod markup_tests;

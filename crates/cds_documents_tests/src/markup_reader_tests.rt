@@ -20,7 +20,7 @@ fn otherwise(alloc: Global, document: &[u8], byte: u8, marks: &str) -> Result<Op
     for mark in marks.as_bytes() {
         let count = bytes.len();
         bytes.push(byte)?;
-        let answer = refusal(alloc, bytes.as_slice());
+        let answer = refusal(alloc, bytes.as_slice(), 1);
         if answer != marked(*mark, count, bytes.len()) {
             return Ok(Some(count));
         }
@@ -153,35 +153,19 @@ fn each_byte_has_its_place_behind_every_beginning(rt: HostRuntime) -> Result<(),
     Ok(())
 }
 
-/// So many blanks.
-fn blanks(alloc: Global, count: usize) -> Result<Vec<u8>, Fail> {
-    let all = vec![in alloc; b' '; count]?;
-    Ok(all)
-}
-
-/// What the piece that passes the limit is answered, where all before it fit.
-fn past_the_limit(alloc: Global, reader: &mut Reader) -> Result<Result<(), MarkupError>, Fail> {
-    let blanks = blanks(alloc, 1_048_576)?;
-    reader.feed(alloc, b"<a>&bad;")?;
-    for _ in 0..63 {
-        reader.feed(alloc, blanks.as_slice())?;
-    }
-    Ok(reader.feed(alloc, blanks.as_slice()))
-}
-
-/// Whether a reader has failed.
-fn has_failed(alloc: Global, mut reader: Reader) -> bool {
-    let behind = reader.feed(alloc, b"");
-    let end = reader.finish(alloc).err();
-    behind == Err(MarkupError::Failed) && end == Some(MarkupError::Failed)
+/// What a reader answers that refused.
+fn is_spent(alloc: Global, reader: Reader) -> bool {
+    let mut reader = reader;
+    reader.feed(alloc, b"") == Err(MarkupError::Failed)
+        && reader.finish().err() == Some(MarkupError::Failed)
 }
 
 #[test]
-fn an_early_fault_is_the_answer_past_the_limit(rt: HostRuntime) -> Result<(), Fail> {
+fn a_piece_with_a_fault_is_refused(rt: HostRuntime) -> Result<(), Fail> {
     let mut reader = Reader::new(rt.alloc())?;
-    let answer = past_the_limit(rt.alloc(), &mut reader)?;
-    assert!(rt; has_failed(rt.alloc(), reader), "behind it");
-    assert!(rt; answer == Err(MarkupError::Bad { at: 4 }), "past the limit");
+    let answer = reader.feed(rt.alloc(), b"<a>&ba");
+    assert!(rt; answer == Err(MarkupError::Bad { at: 4 }), "{answer:?}");
+    assert!(rt; is_spent(rt.alloc(), reader), "behind it");
     Ok(())
 }
 
@@ -200,7 +184,7 @@ fn read_by_bytes(alloc: Global, bytes: &[u8]) -> Result<Element, MarkupError> {
             };
         }
     }
-    reader.finish(alloc)
+    reader.finish()
 }
 
 /// Documents, each with the written form of its element.

@@ -2,34 +2,68 @@ use cds_markup::{Attrs, MarkupError, Name, Part, Parts, Reader, read_document, r
 use std::alloc::Global;
 use std::test::Fail;
 
-/// Why these bytes are no document, read one byte at a time; `None` for a document.
-fn refusal_by_bytes(alloc: Global, bytes: &[u8]) -> Option<MarkupError> {
+/// Whether a refusal is at a byte of a piece that comes behind so many bytes.
+fn is_prompt(refusal: MarkupError, before: usize, piece: &[u8]) -> bool {
+    match refusal {
+        MarkupError::Bad { at } | MarkupError::TooDeep { at } => {
+            before <= at && at < before.saturating_add(piece.len())
+        }
+        _ => false,
+    }
+}
+
+/// What a piece is refused for, `Failed` where it has not the byte that decides it.
+fn prompt(refusal: MarkupError, before: usize, piece: &[u8]) -> MarkupError {
+    if is_prompt(refusal, before, piece) {
+        refusal
+    } else {
+        MarkupError::Failed
+    }
+}
+
+/// What the end is refused for behind so many bytes, `Failed` where it is for more than the end.
+fn refusal_of_end(reader: Reader, before: usize) -> Option<MarkupError> {
+    match reader.finish() {
+        Ok(_) => None,
+        Err(MarkupError::Bad { at }) if at == before => Some(MarkupError::Bad { at }),
+        Err(_) => Some(MarkupError::Failed),
+    }
+}
+
+/// Why these bytes are no document, read in pieces of so many; `None` for a document. `Failed` where a piece is refused
+/// that has not the byte that decides it, or the end for more than the end.
+fn refusal_by(alloc: Global, bytes: &[u8], size: usize) -> Option<MarkupError> {
     let mut reader = match Reader::new(alloc) {
         Ok(reader) => reader,
         Err(_) => return Some(MarkupError::Mem),
     };
-    for byte in bytes {
-        if let Err(refusal) = reader.feed(alloc, &[*byte]) {
-            return Some(refusal);
+    let mut before: usize = 0;
+    for piece in bytes.chunks(size.max(1)) {
+        if let Err(refusal) = reader.feed(alloc, piece) {
+            return Some(prompt(refusal, before, piece));
         }
+        before = before.saturating_add(piece.len());
     }
-    reader.finish(alloc).err()
+    refusal_of_end(reader, before)
 }
 
-/// The same at once, one byte at a time and as parts. `Failed` where two of these differ.
-pub fn refusal(alloc: Global, bytes: &[u8]) -> Option<MarkupError> {
+/// The same at once and as parts, and in pieces of each size up to this one. `Failed` where two of these differ.
+pub fn refusal(alloc: Global, bytes: &[u8], most: usize) -> Option<MarkupError> {
     let whole = read_document(alloc, bytes).err();
     let mut parts = Parts::new(alloc);
-    let told = read_parts(alloc, bytes, &mut parts).err();
-    if refusal_by_bytes(alloc, bytes) == whole && told == whole {
-        whole
-    } else {
-        Some(MarkupError::Failed)
+    if read_parts(alloc, bytes, &mut parts).err() != whole {
+        return Some(MarkupError::Failed);
     }
+    for size in 1..bytes.len().min(most).saturating_add(1) {
+        if refusal_by(alloc, bytes, size) != whole {
+            return Some(MarkupError::Failed);
+        }
+    }
+    whole
 }
 
 /// Bytes that are no document, each with the place of its first fault.
-const FAULTS: [(&'static [u8], usize); 47] = [
+pub const FAULTS: [(&'static [u8], usize); 63] = [
     (b"", 0),
     (b"  ", 2),
     (b"\xEF\xBB\xBF", 3),
@@ -77,10 +111,29 @@ const FAULTS: [(&'static [u8], usize); 47] = [
     (b"<a x:y='1'/>", 10),
     (b"<a b='1' b='2'", 14),
     (b"<a b='1' b='2'/", 14),
+    (b"<a><a><a><a><a><a><a><a><a><a><a><a><a><a><a><a><\xC1", 49),
+    (b"<a><a><a><a><a><a><a><a><a><a><a><a><a><a><a><a><1", 49),
+    (b"<\xC3\xA9></\xC3\xA8>", 7),
+    (b"<\xC3\xA9></\xC3\xA5>", 7),
+    (b"<\xC3\xA9></\xC4\xA9>", 6),
+    (b"<\xC3\xA9></\xC3", 7),
+    (b"<a:b xmlns:a=\"u\"></a:c>", 21),
+    (b"<a:b:c/>", 4),
+    (b"<a:/>", 3),
+    (b"<?xml version=\"1.0\"encoding=\"utf-8\"?><a/>", 19),
+    (
+        b"<?xml version=\"1.0\" standalone=\"yes\" encoding=\"utf-8\"?><a/>",
+        37,
+    ),
+    (b"<?xml version=\"1.1\"?><a/>", 17),
+    (b"<?xml?><a/>", 5),
+    (b" <?xml version=\"1.0\"?><a/>", 2),
+    (b"<a><!------></a>", 10),
+    (b"<a><![CDATA]></a>", 11),
 ];
 
 /// Documents.
-const DOCUMENTS: [&'static [u8]; 15] = [
+pub const DOCUMENTS: [&'static [u8]; 22] = [
     b"<a/>",
     b"<a></a>",
     b"\xEF\xBB\xBF<?xml version='1.0' encoding=\"utf-8\" standalone='no' ?> <!-- x --> <a/> ",
@@ -96,14 +149,27 @@ const DOCUMENTS: [&'static [u8]; 15] = [
     b"<a b='\"&quot;>]]>'/>",
     b"<a ></a >",
     b"<a>&#10;</a>\r\n",
+    b"<a><a><a><a><a><a><a><a><a><a><a><a><a><a><a><a></a></a></a></a></a></a></a></a></a></a></a></a></a></a></a></a>",
+    b"<\xC3\xA9></\xC3\xA9>",
+    b"<a:b xmlns:a=\"u\"></a:b >",
+    b"<?xml version=\"1.0\" encoding=\"UtF-8\"?><a/>",
+    b"<a>\r\n<![CDATA[]]>&#13;</a>",
+    b"<a><!-----></a>",
+    b"<a><![CDATA[]]]]></a>",
 ];
 
-/// Seventeen elements, each in the one before.
-const DEEP: &[u8] = b"<a><a><a><a><a><a><a><a><a><a><a><a><a><a><a><a><a>";
+/// Sixteen elements, each in the one before, and another start tag.
+const SEVENTEEN: &[u8] = b"<a><a><a><a><a><a><a><a><a><a><a><a><a><a><a><a><a>";
+
+/// The same, and one of which the first byte of a name came that has more.
+pub const DEEP: [&'static [u8]; 2] = [
+    SEVENTEEN,
+    b"<a><a><a><a><a><a><a><a><a><a><a><a><a><a><a><a><\xC3",
+];
 
 /// Whether bytes are refused at this place.
 fn is_bad(alloc: Global, bytes: &[u8], at: usize) -> bool {
-    refusal(alloc, bytes) == Some(MarkupError::Bad { at })
+    refusal(alloc, bytes, bytes.len()) == Some(MarkupError::Bad { at })
 }
 
 #[test]
@@ -112,9 +178,16 @@ fn each_call_gives_the_same_answer(rt: HostRuntime) {
         assert!(rt; is_bad(rt.alloc(), bytes, *at), "{at}");
     }
     for bytes in &DOCUMENTS {
-        assert!(rt; refusal(rt.alloc(), bytes).is_none(), "{bytes:?}");
+        assert!(rt;
+            refusal(rt.alloc(), bytes, bytes.len()).is_none(),
+            "{bytes:?}"
+        );
     }
-    assert!(rt; refusal(rt.alloc(), DEEP) == Some(MarkupError::TooDeep { at: 49 }));
+    for bytes in &DEEP {
+        assert!(rt;
+            refusal(rt.alloc(), bytes, bytes.len()) == Some(MarkupError::TooDeep { at: 49 })
+        );
+    }
 }
 
 /// Where a part begins and ends, and its name.
@@ -222,7 +295,7 @@ const TOLD: [(&[u8], &str); 13] = [
         "start 0 2 :a\nrun 13 None  \nErr(Bad { at: 26 })",
     ),
     (
-        DEEP,
+        SEVENTEEN,
         "start 0 2 :a\nstart 3 5 :a\nstart 6 8 :a\nstart 9 11 :a\nstart 12 14 :a\nstart 15 17 :a\nstart 18 20 :a\nstart 21 23 :a\nstart 24 26 :a\nstart 27 29 :a\nstart 30 32 :a\nstart 33 35 :a\nstart 36 38 :a\nstart 39 41 :a\nstart 42 44 :a\nstart 45 47 :a\nErr(TooDeep { at: 49 })",
     ),
 ];

@@ -1,5 +1,7 @@
 -- What shows first in a document is what its first part that does not stand says.
-use Rattle.std.proofs.Common.{◌≡◌, ℕ, ◌<◌, ◌≤◌, true, false, ◌⊎◌, inl, inr, Option, Some, None, Ok, Err, List, [], ◌∷◌, ◌++◌, codes, length, refl, sym, ap, subst, ◌∙◌, arith, append_assoc, length-append, encode_utf8}
+use Rattle.std.proofs.Common.{◌≡◌, ℕ, ◌<◌, ◌≤◌, true, false, ◌⊎◌, inl, inr, Option, Some, None, Ok, Err, List, [], ◌∷◌, ◌++◌, codes, length, get_or, refl, sym, ap, subst, ◌∙◌, arith, length-append, encode_utf8}
+use Rattle.std.proofs.lemmas.List.{get_or_at}
+use Rattle.cds_base.specs.declared.limits.TheConstants.{INPUT_LIMIT}
 use Rattle.cds_markup.specs.declared.name.Name.{Name}
 use Rattle.cds_markup.specs.declared.name.Attr.{Attr}
 use Rattle.cds_markup.specs.declared.part.Part.{Part}
@@ -9,23 +11,19 @@ use Rattle.cds_markup.specs.Grammar.{Leaf, Text, Reference, Section, Comment, is
 use Rattle.cds_markup.specs.Document.{line_ends}
 use Rattle.cds_markup.specs.Parts.{leaf_parts, OpensParts}
 use Rattle.cds_markup.specs.Refusal.{TagEnds, LeafEnds, TextByte}
-use Rattle.cds_markup.specs.GivenParts.{Clear, StartStands, Stands, PartsGiven, Given}
-use Rattle.cds_markup.specs.Laws.{PartsStandBefore, LeavesHaveOneEnd}
+use Rattle.cds_markup.specs.GivenParts.{Given}
+use Rattle.cds_markup.specs.PartsFound.{Clear, StartStands, Stands}
+use Rattle.cds_markup.proofs.Public.{leaves-have-one-end, parts-are-found, parts-stand-before}
 use Rattle.cds_lastchange.specs.declared.judge.Judge.{Judge}
-use Rattle.cds_lastchange.specs.Refusal.{may_stand, IsMisplaced, is_indirect, IsStray, Shows}
+use Rattle.cds_lastchange.specs.Refusal.{may_stand, IsMisplaced, is_indirect, IsIndirect, IsStray, Shows}
 use Rattle.cds_lastchange.specs.Judged.{part_judged, parts_judged, nothing_said}
 use Rattle.cds_lastchange.proofs.Judging.{Answer, ok-err}
+use Rattle.cds_lastchange.proofs.Places.{longer, leaf-there, text-there}
 use Rattle.cds_lastchange.proofs.Levels.{level_of, and-ok, judged-front, stands-level, strange-start, start-strange, FirstFault}
 
 -- bytes at one place
-tails : (a d : ℕ) (x y : List ℕ) → a ∷ x ≡ d ∷ y → x ≡ y
-tails a d x y e = cc
-
 pub same-byte : (v w : List ℕ) (b c : ℕ) (x y : List ℕ) → v ++ b ∷ x ≡ w ++ c ∷ y → length v ≡ length w → b ≡ c
-same-byte [] [] b c x y e n = cc
-same-byte [] (d ∷ w) b c x y e n = absurd (omega (arith, n))
-same-byte (a ∷ v) [] b c x y e n = absurd (omega (arith, n))
-same-byte (a ∷ v) (d ∷ w) b c x y e n = same-byte v w b c x y (tails a d (v ++ b ∷ x) (w ++ c ∷ y) e) (omega (arith, n))
+same-byte v w b c x y e n = sym (get_or_at v b x 0 (length v) refl) ∙ ap (λ xs. get_or xs (length v) 0) e ∙ get_or_at w c y 0 (length v) (sym n)
 
 -- a leaf that is no text begins with `<` or `&`
 pub record Begins (front : List ℕ) : Type 0 where
@@ -48,33 +46,6 @@ leaf-no-text bytes tags others at shown byte leaf l plain t =
     let b = leaf-begins l.front leaf l.is_leaf plain in
     let both : l.before ++ b.first ∷ (b.more ++ l.rest) ≡ t.before ++ byte ∷ t.rest = sym (l.spelled ∙ ap (λ xs. l.before ++ (xs ++ l.rest)) b.is) ∙ t.spelled in
     let same = same-byte l.before t.before b.first byte (b.more ++ l.rest) t.rest both (sym l.begins ∙ t.place) in
-    by b.first b.markup same
-  where
-    by : (first : ℕ) → (first ≡ 60) ⊎ (first ≡ 38) → first ≡ byte → ⊥
-    by first (inl e) s = t.no_markup.0 (sym s ∙ e)
-    by first (inr e) s = t.no_markup.1 (sym s ∙ e)
-
--- what stands in a front stands in the whole
-leaf-more : (front rest : List ℕ) (tags : List Tag) (begin at : ℕ) (leaf : Leaf) → LeafEnds front tags begin at leaf → LeafEnds (front ++ rest) tags begin at leaf
-leaf-more front rest tags begin at leaf l = record {
-  before = l.before;
-  front = l.front;
-  rest = l.rest ++ rest;
-  spelled = ap (λ xs. xs ++ rest) l.spelled ∙ append_assoc l.before (l.front ++ l.rest) rest ∙ ap (λ xs. l.before ++ xs) (append_assoc l.front l.rest rest);
-  begins = l.begins;
-  place = l.place;
-  opens = l.opens;
-  inside = l.inside;
-  is_leaf = l.is_leaf;
-}
-
--- the byte of a text in a front is that of the whole
-text-no-leaf : (front rest : List ℕ) (tags others : List Tag) (at shown byte : ℕ) (leaf : Leaf) → LeafEnds (front ++ rest) tags at shown leaf → is_text leaf ≡ false → TextByte front others at byte → ⊥
-text-no-leaf front rest tags others at shown byte leaf l plain t =
-    let b = leaf-begins l.front leaf l.is_leaf plain in
-    let whole : front ++ rest ≡ t.before ++ byte ∷ (t.rest ++ rest) = ap (λ xs. xs ++ rest) t.spelled ∙ append_assoc t.before (byte ∷ t.rest) rest in
-    let both : l.before ++ b.first ∷ (b.more ++ l.rest) ≡ t.before ++ byte ∷ (t.rest ++ rest) = sym (l.spelled ∙ ap (λ xs. l.before ++ (xs ++ l.rest)) b.is) ∙ whole in
-    let same = same-byte l.before t.before b.first byte (b.more ++ l.rest) (t.rest ++ rest) both (sym l.begins ∙ t.place) in
     by b.first b.markup same
   where
     by : (first : ℕ) → (first ≡ 60) ⊎ (first ≡ 38) → first ≡ byte → ⊥
@@ -153,7 +124,7 @@ start-run a e b n x o y d = cc
 abbrev pub Before : ℕ → ℕ → ℕ → ℕ → Type 0
 Before shown at other answer = (shown ≤ other) × (shown ≡ other → at ≡ answer)
 
-module _ (one : LeavesHaveOneEnd) (bytes : List ℕ) where
+module _ (bytes : List ℕ) where
   pub same-part : (part : Part) (shown at other answer : ℕ) → Exact bytes part shown at → Kind bytes part other answer → Before shown at other answer
   same-part part shown at other answer (inl a) (inl b) =
       let s = starts-same at shown answer other a.name b.name a.attrs b.attrs (sym a.is ∙ b.is) in
@@ -164,7 +135,7 @@ module _ (one : LeavesHaveOneEnd) (bytes : List ℕ) where
   same-part part shown at other answer (inr (inr a)) (inl b) = absurd (start-run answer other a.0.begin b.name b.attrs (Some a.0.non_blank) a.0.text (sym b.is ∙ a.0.is))
   same-part part shown at other answer (inr (inl a)) (inr (inl b)) =
       let s = runs-same at answer at answer a.text b.text (sym a.is ∙ b.is) in
-      let e = one bytes a.tags b.tags at shown other a.leaf b.leaf a.ends a.no_text (subst (λ n. LeafEnds bytes b.tags n other b.leaf) (sym s.0) b.ends) b.no_text in
+      let e = leaves-have-one-end bytes a.tags b.tags at shown other a.leaf b.leaf a.ends a.no_text (subst (λ n. LeafEnds bytes b.tags n other b.leaf) (sym s.0) b.ends) b.no_text in
       (omega (arith, e), λ d. s.0)
   same-part part shown at other answer (inr (inl a)) (inr (inr b)) =
       let s = runs-same at b.begin at b.non_blank a.text b.text (sym a.is ∙ b.is) in
@@ -177,20 +148,23 @@ module _ (one : LeavesHaveOneEnd) (bytes : List ℕ) where
       (omega (arith, a.1, s.1, b.behind), λ d. sym a.0.here ∙ d ∙ b.here)
 
 -- a part before a place shows before it
-one-part : (begin at : ℕ) (leaf : Leaf) (non_blank : Option ℕ) (text : List ℕ) → is_text leaf ≡ false → leaf_parts begin leaf ≡ Run at non_blank text ∷ [] → (begin ≡ at) × (non_blank ≡ Some begin)
+one-part : (begin at : ℕ) (leaf : Leaf) (non_blank : Option ℕ) (text : List ℕ) → is_text leaf ≡ false → leaf_parts begin leaf ≡ Run at non_blank text ∷ [] → (begin ≡ at) × (non_blank ≡ Some begin) × (is_indirect leaf ≡ true)
 one-part begin at (Text text) non_blank said plain e = let bad : true ≡ false = plain in absurd (cc)
 one-part begin at (Reference c) non_blank said plain e = by e where
-  by : Run begin (Some begin) (encode_utf8 c) ∷ [] ≡ Run at non_blank said ∷ [] → (begin ≡ at) × (non_blank ≡ Some begin)
-  by d = (cc, cc)
+  by : Run begin (Some begin) (encode_utf8 c) ∷ [] ≡ Run at non_blank said ∷ [] → (begin ≡ at) × (non_blank ≡ Some begin) × (true ≡ true)
+  by d = (cc, cc, refl)
 one-part begin at (Section text) non_blank said plain e = by e where
-  by : Run begin (Some begin) (line_ends text) ∷ [] ≡ Run at non_blank said ∷ [] → (begin ≡ at) × (non_blank ≡ Some begin)
-  by d = (cc, cc)
+  by : Run begin (Some begin) (line_ends text) ∷ [] ≡ Run at non_blank said ∷ [] → (begin ≡ at) × (non_blank ≡ Some begin) × (true ≡ true)
+  by d = (cc, cc, refl)
 one-part begin at Comment non_blank said plain e = let bad : ◌≡◌ {A = List Part} [] (Run at non_blank said ∷ []) = e in absurd (cc)
 
 some-non-blank : (a b : ℕ) → ◌≡◌ {A = Option ℕ} (Some a) (Some b) → a ≡ b
 some-non-blank a b e = cc
 
-module _ (one : LeavesHaveOneEnd) (front rest : List ℕ) (earlier : List Part) where
+module _ (front rest : List ℕ) (earlier : List Part) where
+  whole-leaf : (tags : List Tag) (begin at : ℕ) (leaf : Leaf) → LeafEnds front tags begin at leaf → LeafEnds (front ++ rest) tags begin at leaf
+  whole-leaf tags begin at leaf l = leaf-there (length front) front (front ++ rest) (omega arith) (longer front rest) tags begin at leaf l (leaf-within front tags begin at leaf l)
+
   pub shows-before : (part : Part) (shown at : ℕ) → Exact (front ++ rest) part shown at → Stands front earlier part → shown < length front
   shows-before part shown at (inl a) s =
       let t : StartStands front earlier at shown a.name a.attrs = subst (λ p. Stands front earlier p) a.is s in
@@ -200,11 +174,12 @@ module _ (one : LeavesHaveOneEnd) (front rest : List ℕ) (earlier : List Part) 
     by (inl l) =
         let p = one-part l.begin at l.leaf (Some at) a.text l.no_text l.is in
         let there : LeafEnds front l.tags at l.at l.leaf = subst (λ n. LeafEnds front l.tags n l.at l.leaf) p.0 l.found in
-        let e = one (front ++ rest) a.tags l.tags at shown l.at a.leaf l.leaf a.ends a.no_text (leaf-more front rest l.tags at l.at l.leaf there) l.no_text in
+        let e = leaves-have-one-end (front ++ rest) a.tags l.tags at shown l.at a.leaf l.leaf a.ends a.no_text (whole-leaf l.tags at l.at l.leaf there) l.no_text in
         omega (arith, e, leaf-within front l.tags at l.at l.leaf there)
     by (inr t) =
         let f = t.found at refl in
-        absurd (text-no-leaf front rest a.tags t.tags at shown f.0 a.leaf a.ends a.no_text f.1)
+        let letter = text-there (length front) front (front ++ rest) (omega arith) (longer front rest) t.tags at f.0 f.1 (text-within front t.tags at f.0 f.1) in
+        absurd (leaf-no-text (front ++ rest) a.tags t.tags at shown f.0 a.leaf a.ends a.no_text letter)
   shows-before part shown at (inr (inr a)) s = by (subst (λ p. Stands front earlier p) a.0.is s) where
     by : Stands front earlier (Run a.0.begin (Some a.0.non_blank) a.0.text) → shown < length front
     by (inl l) =
@@ -260,7 +235,7 @@ same-said m n e = cc
 
 caught-tag : (bytes : List ℕ) (parts : List Part) → Given bytes parts → (shown at : ℕ) → IsMisplaced bytes shown at → Clear bytes shown → Caught bytes parts shown at
 caught-tag bytes parts given shown at s clear =
-    let g = given.starts s.tags at shown s.tag s.ends clear in
+    let g = (parts-are-found bytes parts given).starts s.tags at shown s.tag s.ends clear in
     let same = same-said (s.name, s.attrs) (g.name, g.attrs) (sym s.says ∙ g.says) in
     let strange : may_stand s.tags g.name g.attrs ≡ false = sym (ap (λ said. may_stand s.tags said.0 said.1) same) ∙ s.misplaced in
     record {
@@ -278,66 +253,47 @@ caught-tag bytes parts given shown at s clear =
       falls = λ j l. (at, strange-start s.tags j at shown g.name g.attrs l strange);
     }
 
-leaf-caught : (bytes : List ℕ) (parts : List Part) (shown at : ℕ) (tags : List Tag) (leaf : Leaf) (l : LeafEnds bytes tags at shown leaf) → is_indirect leaf ≡ true → PartsGiven parts (leaf_parts at leaf) tags l.before → Caught bytes parts shown at
-leaf-caught bytes parts shown at tags (Text text) l e g = let no : false ≡ true = e in absurd (cc)
-leaf-caught bytes parts shown at tags Comment l e g = let no : false ≡ true = e in absurd (cc)
-leaf-caught bytes parts shown at tags (Reference c) l e g = record {
-  earlier = g.earlier;
-  part = Run at (Some at) (encode_utf8 c);
-  later = g.later;
-  tags = tags;
-  before = l.before;
-  rest = l.front ++ l.rest;
-  is = g.is;
-  spelled = l.spelled;
-  opens = g.opens;
-  near = omega (arith, l.begins, leaf-from bytes tags at shown (Reference c) l refl);
-  kind = inr (inl (record { text = encode_utf8 c; tags = tags; leaf = Reference c; is = refl; ends = l; no_text = refl }));
-  falls = λ j l. (at, refl);
-}
-leaf-caught bytes parts shown at tags (Section text) l e g = record {
-  earlier = g.earlier;
-  part = Run at (Some at) (line_ends text);
-  later = g.later;
-  tags = tags;
-  before = l.before;
-  rest = l.front ++ l.rest;
-  is = g.is;
-  spelled = l.spelled;
-  opens = g.opens;
-  near = omega (arith, l.begins, leaf-from bytes tags at shown (Section text) l refl);
-  kind = inr (inl (record { text = line_ends text; tags = tags; leaf = Section text; is = refl; ends = l; no_text = refl }));
-  falls = λ j l. (at, refl);
-}
-
 pub indirect-no-text : (leaf : Leaf) → is_indirect leaf ≡ true → is_text leaf ≡ false
 indirect-no-text (Text text) e = let no : false ≡ true = e in absurd (cc)
 indirect-no-text (Reference c) e = refl
 indirect-no-text (Section text) e = refl
 indirect-no-text Comment e = refl
 
-caught-text : (bytes : List ℕ) (parts : List Part) → Given bytes parts → (shown at : ℕ) → IsStray bytes shown at → Clear bytes shown → Caught bytes parts shown at
-caught-text bytes parts given shown at s clear =
-    let g = given.texts s.tags at s.byte s.begins (subst (λ n. Clear bytes n) s.here clear) in
+indirect-part : (at : ℕ) (leaf : Leaf) → is_indirect leaf ≡ true → (text : List ℕ) × (leaf_parts at leaf ≡ Run at (Some at) text ∷ [])
+indirect-part at (Text text) e = let no : false ≡ true = e in absurd (cc)
+indirect-part at (Reference c) e = (encode_utf8 c, refl)
+indirect-part at (Section text) e = (line_ends text, refl)
+indirect-part at Comment e = let no : false ≡ true = e in absurd (cc)
+
+caught-leaf : (bytes : List ℕ) (parts : List Part) → Given bytes parts → (shown at : ℕ) → IsIndirect bytes shown at → Clear bytes shown → Caught bytes parts shown at
+caught-leaf bytes parts given shown at s clear =
+    let plain = indirect-no-text s.leaf s.indirect in
+    let p = indirect-part at s.leaf s.indirect in
+    let g = (parts-are-found bytes parts given).leaves s.tags at shown s.leaf s.ends plain clear in
     record {
       earlier = g.earlier;
-      part = Run (length g.before) (Some g.non_blank) g.text;
+      part = Run at (Some at) p.0;
       later = g.later;
       tags = s.tags;
-      before = g.before;
-      rest = g.between ++ g.rest;
-      is = g.is;
-      spelled = g.spelled;
+      before = s.ends.before;
+      rest = s.ends.front ++ s.ends.rest;
+      is = g.is ∙ ap (λ ps. g.earlier ++ (ps ++ g.later)) p.1;
+      spelled = s.ends.spelled;
       opens = g.opens;
-      near = omega (arith, g.from, g.to, s.here);
-      kind = inr (inr (record { begin = length g.before; non_blank = g.non_blank; text = g.text; tags = s.tags; byte = g.letter.0; is = refl; behind = omega (arith, g.to, s.here); here = s.here; letter = g.letter.1 }));
-      falls = λ j l. (g.non_blank, refl);
+      near = omega (arith, s.ends.begins, leaf-from bytes s.tags at shown s.leaf s.ends plain);
+      kind = inr (inl (record { text = p.0; tags = s.tags; leaf = s.leaf; is = refl; ends = s.ends; no_text = plain }));
+      falls = λ j l. (at, refl);
     }
+
+caught-text : (bytes : List ℕ) (parts : List Part) → Given bytes parts → (shown at : ℕ) → IsStray bytes shown at → Clear bytes shown → Caught bytes parts shown at
+caught-text bytes parts given shown at s clear =
+    let g = (parts-are-found bytes parts given).texts s.tags at s.byte s.begins (subst (λ n. Clear bytes n) s.here clear) in
+    let kind : OfText bytes (Run (length g.before) (Some g.non_blank) g.text) shown at = record { begin = length g.before; non_blank = g.non_blank; text = g.text; tags = s.tags; byte = g.letter.0; is = refl; behind = omega (arith, g.to, s.here); here = s.here; letter = g.letter.1 } in
+    record { earlier = g.earlier; part = Run (length g.before) (Some g.non_blank) g.text; later = g.later; tags = s.tags; before = g.before; rest = g.between ++ g.rest; is = g.is; spelled = g.spelled; opens = g.opens; near = omega (arith, g.from, g.to, s.here); kind = inr (inr kind); falls = λ j l. (g.non_blank, refl) }
 
 pub caught : (bytes : List ℕ) (parts : List Part) → Given bytes parts → (shown at : ℕ) → Shows bytes shown at → Clear bytes shown → Caught bytes parts shown at
 caught bytes parts given shown at (inl s) clear = caught-tag bytes parts given shown at s clear
-caught bytes parts given shown at (inr (inl s)) clear =
-    leaf-caught bytes parts shown at s.tags s.leaf s.ends s.indirect (given.leaves s.tags at shown s.leaf s.ends (indirect-no-text s.leaf s.indirect) clear)
+caught bytes parts given shown at (inr (inl s)) clear = caught-leaf bytes parts given shown at s clear
 caught bytes parts given shown at (inr (inr s)) clear = caught-text bytes parts given shown at s clear
 
 -- nothing shows where all parts stand
@@ -353,8 +309,7 @@ none-caught bytes parts shown at c k e =
     falls-front c.earlier c.later c.part c.tags c.before c.opens c.falls k (sym (ap (parts_judged nothing_said) c.is) ∙ e)
 
 -- the first part that does not stand, and what shows by it
-pub record FirstShown (bytes : List ℕ) (place : ℕ) : Type 0 where
-  pub part : Part
+pub record FirstShown (bytes : List ℕ) (part : Part) (place : ℕ) : Type 0 where
   pub shown : ℕ
   pub exact : Exact bytes part shown place
   pub shows : Shows bytes shown place
@@ -363,79 +318,61 @@ pub record FirstShown (bytes : List ℕ) (place : ℕ) : Type 0 where
 same-place : (at place : ℕ) → ◌≡◌ {A = Answer} (Err at) (Err place) → at ≡ place
 same-place at place e = cc
 
-shown-start : (bytes : List ℕ) (earlier : List Part) (j : Judge) (begin end place : ℕ) (name : Name) (attrs : List Attr) → parts_judged nothing_said earlier ≡ Ok j → part_judged j (Start begin end name attrs) ≡ Err place → StartStands bytes earlier begin end name attrs → (s : FirstShown bytes place) × (s.part ≡ Start begin end name attrs)
+shown-start : (bytes : List ℕ) (earlier : List Part) (j : Judge) (begin end place : ℕ) (name : Name) (attrs : List Attr) → parts_judged nothing_said earlier ≡ Ok j → part_judged j (Start begin end name attrs) ≡ Err place → StartStands bytes earlier begin end name attrs → FirstShown bytes (Start begin end name attrs) place
 shown-start bytes earlier j begin end place name attrs ok falls s =
-    let f = start-strange s.tags j begin end place name attrs (stands-level s.tags s.found.before earlier s.parts j ok) falls in (
-      record {
-        part = Start begin end name attrs;
-        shown = end;
-        exact = inl (record { name = name; attrs = attrs; is = ap (λ n. Start n end name attrs) (sym f.1) });
-        shows = inl (record { tags = s.tags; tag = s.tag; name = name; attrs = attrs; ends = subst (λ n. TagEnds bytes s.tags n end s.tag) (sym f.1) s.found; says = s.says; misplaced = f.0 });
-        clear = s.clear;
-      },
-      refl,
-    )
+    let f = start-strange s.tags j begin end place name attrs (stands-level s.tags s.found.before earlier s.parts j ok) falls in
+    record { shown = end; exact = inl (record { name = name; attrs = attrs; is = ap (λ n. Start n end name attrs) (sym f.1) }); shows = inl (record { tags = s.tags; tag = s.tag; name = name; attrs = attrs; ends = subst (λ n. TagEnds bytes s.tags n end s.tag) (sym f.1) s.found; says = s.says; misplaced = f.0 }); clear = s.clear }
 
-no-text-indirect : (leaf : Leaf) (begin at : ℕ) (non_blank : Option ℕ) (text : List ℕ) → is_text leaf ≡ false → leaf_parts begin leaf ≡ Run at non_blank text ∷ [] → is_indirect leaf ≡ true
-no-text-indirect (Text text) begin at non_blank said plain e = let bad : true ≡ false = plain in absurd (cc)
-no-text-indirect (Reference c) begin at non_blank said plain e = refl
-no-text-indirect (Section text) begin at non_blank said plain e = refl
-no-text-indirect Comment begin at non_blank said plain e = let bad : ◌≡◌ {A = List Part} [] (Run at non_blank said ∷ []) = e in absurd (cc)
-
-shown-run : (bytes : List ℕ) (earlier : List Part) (j : Judge) (begin non_blank place : ℕ) (text : List ℕ) → non_blank ≡ place → Stands bytes earlier (Run begin (Some non_blank) text) → (s : FirstShown bytes place) × (s.part ≡ Run begin (Some non_blank) text)
-shown-run bytes earlier j begin non_blank place text e (inl l) =
+shown-run : (bytes : List ℕ) (earlier : List Part) (begin non_blank place : ℕ) (text : List ℕ) → non_blank ≡ place → Stands bytes earlier (Run begin (Some non_blank) text) → FirstShown bytes (Run begin (Some non_blank) text) place
+shown-run bytes earlier begin non_blank place text e (inl l) =
     let p = one-part l.begin begin l.leaf (Some non_blank) text l.no_text l.is in
     let here : l.begin ≡ place = sym (some-non-blank non_blank l.begin p.1) ∙ e in
-    let ends : LeafEnds bytes l.tags place l.at l.leaf = subst (λ n. LeafEnds bytes l.tags n l.at l.leaf) here l.found in (
-      record {
-        part = Run begin (Some non_blank) text;
-        shown = l.at;
-        exact = inr (inl (record { text = text; tags = l.tags; leaf = l.leaf; is = ap (λ n. Run n (Some non_blank) text) (sym p.0 ∙ here) ∙ ap (λ n. Run place (Some n) text) e; ends = ends; no_text = l.no_text }));
-        shows = inr (inl (record { tags = l.tags; leaf = l.leaf; ends = ends; indirect = no-text-indirect l.leaf l.begin begin (Some non_blank) text l.no_text l.is }));
-        clear = l.clear;
-      },
-      refl,
-    )
-shown-run bytes earlier j begin non_blank place text e (inr t) =
-    let f = t.found non_blank refl in (
-      record {
-        part = Run begin (Some non_blank) text;
-        shown = non_blank;
-        exact = inr (inr (record { begin = begin; non_blank = non_blank; text = text; tags = t.tags; byte = f.0; is = refl; behind = omega arith; here = e; letter = f.1 }, refl));
-        shows = inr (inr (record { tags = t.tags; byte = f.0; begins = subst (λ n. TextByte bytes t.tags n f.0) e f.1; here = e }));
-        clear = f.2;
-      },
-      refl,
-    )
+    let ends : LeafEnds bytes l.tags place l.at l.leaf = subst (λ n. LeafEnds bytes l.tags n l.at l.leaf) here l.found in
+    record {
+      shown = l.at;
+      exact = inr (inl (record { text = text; tags = l.tags; leaf = l.leaf; is = ap (λ n. Run n (Some non_blank) text) (sym p.0 ∙ here) ∙ ap (λ n. Run place (Some n) text) e; ends = ends; no_text = l.no_text }));
+      shows = inr (inl (record { tags = l.tags; leaf = l.leaf; ends = ends; indirect = p.2 }));
+      clear = l.clear;
+    }
+shown-run bytes earlier begin non_blank place text e (inr t) =
+    let f = t.found non_blank refl in
+    record {
+      shown = non_blank;
+      exact = inr (inr (record { begin = begin; non_blank = non_blank; text = text; tags = t.tags; byte = f.0; is = refl; behind = omega arith; here = e; letter = f.1 }, refl));
+      shows = inr (inr (record { tags = t.tags; byte = f.0; begins = subst (λ n. TextByte bytes t.tags n f.0) e f.1; here = e }));
+      clear = f.2;
+    }
 
-shown-part : (bytes : List ℕ) (earlier : List Part) (j : Judge) (place : ℕ) → parts_judged nothing_said earlier ≡ Ok j → (part : Part) → part_judged j part ≡ Err place → Stands bytes earlier part → (s : FirstShown bytes place) × (s.part ≡ part)
+shown-part : (bytes : List ℕ) (earlier : List Part) (j : Judge) (place : ℕ) → parts_judged nothing_said earlier ≡ Ok j → (part : Part) → part_judged j part ≡ Err place → Stands bytes earlier part → FirstShown bytes part place
 shown-part bytes earlier j place ok (Start begin end name attrs) falls s = shown-start bytes earlier j begin end place name attrs ok falls s
 shown-part bytes earlier j place ok (Run begin None text) falls s = let no : ◌≡◌ {A = Answer} (Ok j) (Err place) = falls in absurd (cc)
-shown-part bytes earlier j place ok (Run begin (Some non_blank) text) falls s = shown-run bytes earlier j begin non_blank place text (same-place non_blank place falls) s
+shown-part bytes earlier j place ok (Run begin (Some non_blank) text) falls s = shown-run bytes earlier begin non_blank place text (same-place non_blank place falls) s
 shown-part bytes earlier j place ok (End at) falls s = absurd (ends j falls) where
   ends : (j : Judge) → part_judged j (End at) ≡ Err place → ⊥
   ends j e = let no : part_judged j (End at) ≡ Err place = e in cc
 
-pub first-shown : (bytes : List ℕ) (parts : List Part) → Given bytes parts → (place : ℕ) → (f : FirstFault parts place) → (s : FirstShown bytes place) × (s.part ≡ f.part)
-first-shown bytes parts given place f = shown-part bytes f.earlier f.judge place f.stand f.part f.falls (given.each f.earlier f.later f.part f.is)
+pub first-shown : (bytes : List ℕ) (parts : List Part) → Given bytes parts → (place : ℕ) → (f : FirstFault parts place) → FirstShown bytes f.part place
+first-shown bytes parts given place f = shown-part bytes f.earlier f.judge place f.stand f.part f.falls ((parts-are-found bytes parts given).each f.earlier f.later f.part f.is)
 
 -- nothing shows before it
-module _ (one : LeavesHaveOneEnd) (before : PartsStandBefore) (bytes : List ℕ) (parts : List Part) (given : Given bytes parts) (place : ℕ) (fault : FirstFault parts place) (first : FirstShown bytes place) (same : first.part ≡ fault.part) where
+front-within : (bytes before rest : List ℕ) (other n : ℕ) → bytes ≡ before ++ rest → length before ≤ other → (other < n) ⊎ (length bytes ≤ n) → length before ≤ n
+front-within bytes before rest other n e near (inl less) = omega (arith, less, near)
+front-within bytes before rest other n e near (inr few) = omega (arith, few, ap length e, length-append before rest)
+
+module _ (bytes : List ℕ) (parts : List Part) (given : Given bytes parts) (place : ℕ) (fault : FirstFault parts place) (first : FirstShown bytes fault.part place) where
   pub nothing-before : (other answer : ℕ) → Shows bytes other answer → Clear bytes other → Before first.shown place other answer
   nothing-before other answer shows clear = by (apart fault.earlier fault.later fault.part c.earlier c.later c.part (sym fault.is ∙ c.is)) where
     c : Caught bytes parts other answer
     c = caught bytes parts given other answer shows clear
-
-    exact : Exact bytes fault.part first.shown place
-    exact = subst (λ p. Exact bytes p first.shown place) same first.exact
 
     less : (n m : ℕ) → n < m → Before n place m answer
     less n m h = (omega (arith, h), λ e. absurd (omega (arith, h, e)))
 
     by : Apart fault.earlier fault.part c.earlier c.part → Before first.shown place other answer
     by (inl (mid, e)) =
-        let stands = before bytes c.tags c.before c.rest c.earlier fault.earlier mid fault.part other c.spelled c.opens c.near clear e in
-        let shown = shows-before one c.before c.rest fault.earlier fault.part first.shown place (subst (λ xs. Exact xs fault.part first.shown place) c.spelled exact) stands in
+        let front = parts-stand-before c.before c.earlier (front-within bytes c.before c.rest other INPUT_LIMIT c.spelled c.near clear.short) (inl (c.tags, c.opens)) in
+        let stands = (parts-are-found c.before c.earlier front).each fault.earlier mid fault.part e in
+        let shown = shows-before c.before c.rest fault.earlier fault.part first.shown place (subst (λ xs. Exact xs fault.part first.shown place) c.spelled first.exact) stands in
         less first.shown other (omega (arith, shown, c.near))
-    by (inr (inl (e, d))) = same-part one bytes fault.part first.shown place other answer exact (subst (λ p. Kind bytes p other answer) (sym d) c.kind)
+    by (inr (inl (e, d))) = same-part bytes fault.part first.shown place other answer first.exact (subst (λ p. Kind bytes p other answer) (sym d) c.kind)
     by (inr (inr (mid, e))) = absurd (falls-front c.earlier mid c.part c.tags c.before c.opens c.falls fault.judge (sym (ap (parts_judged nothing_said) e) ∙ fault.stand))

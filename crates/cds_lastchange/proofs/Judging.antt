@@ -15,7 +15,9 @@ use Rattle.cds_lastchange.specs.declared.judge.Level.TheVariants.{Outside, InRoo
 use Rattle.cds_lastchange.specs.declared.judge.Judge.{Judge}
 use Rattle.cds_lastchange.specs.Attributes.{event_of, is_state_event}
 use Rattle.cds_lastchange.specs.StateEvent.{is_space, has_only_space, event_said, event_in, and_more, events_in, is_root, root_events}
-use Rattle.cds_lastchange.specs.Judged.{event_judged, and_judged, parts_judged, nothing_said}
+use Rattle.cds_markup.specs.Feeding.{or_then, InRuns, No-runs, A-part, More-text}
+use Rattle.cds_markup.specs.Taking.{Takes}
+use Rattle.cds_lastchange.specs.Judged.{event_judged, part_judged, and_judged, parts_judged, nothing_said, judged_on, is_misplaced}
 use Rattle.cds_lastchange.proofs.Spaces.{non-blank-none, none-non-blank, and-first, and-second}
 
 abbrev pub Answer : Type 0
@@ -26,6 +28,38 @@ ok-err j at e = cc
 
 pub same-ok : (j k : Judge) → ◌≡◌ {A = Answer} (Ok j) (Ok k) → j ≡ k
 same-ok j k e = cc
+
+-- parts behind parts, a text in several runs, and parts that are taken up to the first that does not stand
+pub judged-append : (j : Judge) (ps qs : List Part) → parts_judged j (ps ++ qs) ≡ and_judged (parts_judged j ps) (λ k. parts_judged k qs)
+judged-append j [] qs = refl
+judged-append j (p ∷ ps) qs = by (part_judged j p) (λ k. judged-append k ps qs) where
+  by : (r : Answer) → ((k : Judge) → parts_judged k (ps ++ qs) ≡ and_judged (parts_judged k ps) (λ k. parts_judged k qs)) → and_judged r (λ k. parts_judged k (ps ++ qs)) ≡ and_judged (and_judged r (λ k. parts_judged k ps)) (λ k. parts_judged k qs)
+  by (Err at) go = refl
+  by (Ok k) go = go k
+
+run-twice : (r : Answer) (at : ℕ) (first second : Option ℕ) (text rest : List ℕ) → and_judged r (λ k. parts_judged k (Run at (or_then first second) (text ++ rest) ∷ [])) ≡ and_judged (and_judged r (λ k. parts_judged k (Run at first text ∷ []))) (λ k. parts_judged k (Run at second rest ∷ []))
+run-twice (Err place) at first second text rest = refl
+run-twice (Ok k) at (Some place) second text rest = refl
+run-twice (Ok k) at None None text rest = refl
+run-twice (Ok k) at None (Some place) text rest = refl
+
+pub runs-judged : (bytes : List ℕ) (parts runs : List Part) → InRuns bytes parts runs → (j : Judge) → parts_judged j parts ≡ parts_judged j runs
+runs-judged bytes parts runs No-runs j = refl
+runs-judged bytes parts runs (A-part ps rs part r) j =
+    judged-append j ps (part ∷ []) ∙ ap (λ a. and_judged a (λ k. parts_judged k (part ∷ []))) (runs-judged bytes ps rs r j) ∙ sym (judged-append j rs (part ∷ []))
+runs-judged bytes parts runs (More-text ps rs at first second text rest begins r) j =
+    judged-append j ps (Run at (or_then first second) (text ++ rest) ∷ []) ∙ run-twice (parts_judged j ps) at first second text rest
+    ∙ ap (λ a. and_judged a (λ k. parts_judged k (Run at second rest ∷ []))) (sym (judged-append j ps (Run at first text ∷ [])) ∙ runs-judged bytes (ps ++ Run at first text ∷ []) rs r j)
+    ∙ sym (judged-append j rs (Run at second rest ∷ []))
+
+taken-judged : (a : Answer) (runs : List Part) (now : Answer) → Takes judged_on is_misplaced a runs now → now ≡ and_judged a (λ j. parts_judged j runs)
+taken-judged (Err at) [] now t = t
+taken-judged (Err at) (p ∷ ps) now t = t
+taken-judged (Ok j) [] now t = t
+taken-judged (Ok j) (p ∷ ps) now (mid, e, t) = taken-judged mid ps now t ∙ ap (λ a. and_judged a (λ k. parts_judged k ps)) e
+
+pub more-judged : (j k : Judge) (given runs : List Part) (now : Answer) → parts_judged j given ≡ Ok k → Takes judged_on is_misplaced (Ok k) runs now → parts_judged j (given ++ runs) ≡ now
+more-judged j k given runs now e t = judged-append j given runs ∙ ap (λ a. and_judged a (λ k. parts_judged k runs)) e ∙ sym (taken-judged (Ok k) runs now t)
 
 abbrev pub in_root : List Event → Judge
 in_root events = record { level = InRoot; events = events }
@@ -52,16 +86,12 @@ leaf-space j k at (Reference c) rest e = absurd (ok-err k at e)
 leaf-space j k at (Section text) rest e = absurd (ok-err k at e)
 leaf-space j k at Comment rest e = refl
 
--- a list behind a list behind a list
-regroup : (xs ys zs : List Part) → (xs ++ ys) ++ zs ≡ xs ++ (ys ++ zs)
-regroup xs ys zs = append_assoc xs ys zs
-
 -- the content of an event
 pub space-keeps : (content : Content) (at : ℕ) (scopes : List (List Declaration)) (bytes : List ℕ) (parts : List Part) → ContentParts content at scopes bytes parts → has_only_space content ≡ true → (j : Judge) (rest : List Part) → parts_judged j (parts ++ rest) ≡ parts_judged j rest
 space-keeps Nothing at scopes bytes parts g e j rest = ap (λ ps. parts_judged j (ps ++ rest)) g.1
 space-keeps (LeafThen leaf more) at scopes bytes parts (front, back, behind, d, is, apart, g, p) e j rest =
     ap (λ ps. parts_judged j (ps ++ rest)) p
-    ∙ ap (parts_judged j) (regroup (leaf_parts at leaf) behind rest)
+    ∙ ap (parts_judged j) (append_assoc (leaf_parts at leaf) behind rest)
     ∙ leaf-keeps j at leaf (behind ++ rest) (and-first (is_space leaf) (has_only_space more) e)
     ∙ space-keeps more (at + length front) scopes back behind g (and-second (is_space leaf) (has_only_space more) e) j rest
 space-keeps (TreeThen tree more) at scopes bytes parts g e j rest = let no : false ≡ true = e in cc
@@ -82,13 +112,13 @@ pub space-is : (content : Content) (at : ℕ) (scopes : List (List Declaration))
 space-is Nothing at scopes bytes parts g events k rest e = refl
 space-is (LeafThen leaf more) at scopes bytes parts (front, back, behind, d, is, apart, g, p) events k rest e =
     let on : parts_judged (in_event events) (leaf_parts at leaf ++ (behind ++ rest)) ≡ Ok k =
-    sym (ap (λ ps. parts_judged (in_event events) (ps ++ rest)) p ∙ ap (parts_judged (in_event events)) (regroup (leaf_parts at leaf) behind rest)) ∙ e in
+    sym (ap (λ ps. parts_judged (in_event events) (ps ++ rest)) p ∙ ap (parts_judged (in_event events)) (append_assoc (leaf_parts at leaf) behind rest)) ∙ e in
     let blank = leaf-space (in_event events) k at leaf (behind ++ rest) on in
     both (is_space leaf) (has_only_space more) blank
     (space-is more (at + length front) scopes back behind g events k rest (sym (leaf-keeps (in_event events) at leaf (behind ++ rest) blank) ∙ on))
 space-is (TreeThen tree more) at scopes bytes parts (front, back, first, behind, d, g, others, p) events k rest e =
     absurd (tree-fails tree at scopes front first g events k (behind ++ rest)
-    (sym (ap (λ ps. parts_judged (in_event events) (ps ++ rest)) p ∙ ap (parts_judged (in_event events)) (regroup first behind rest)) ∙ e))
+    (sym (ap (λ ps. parts_judged (in_event events) (ps ++ rest)) p ∙ ap (parts_judged (in_event events)) (append_assoc first behind rest)) ∙ e))
 
 -- an event
 abbrev pub with_event : List Event → Event → List Event
@@ -161,13 +191,13 @@ events-keep Nothing at scopes bytes parts g more e events rest =
 events-keep (LeafThen leaf others) at scopes bytes parts (front, back, behind, d, is, apart, g, p) more e events rest =
     let w = where-some (is_space leaf) (events_in scopes others) more e in
     ap (λ ps. parts_judged (in_root events) (ps ++ rest)) p
-    ∙ ap (parts_judged (in_root events)) (regroup (leaf_parts at leaf) behind rest)
+    ∙ ap (parts_judged (in_root events)) (append_assoc (leaf_parts at leaf) behind rest)
     ∙ leaf-keeps (in_root events) at leaf (behind ++ rest) w.0
     ∙ events-keep others (at + length front) scopes back behind g more w.1 events rest
 events-keep (TreeThen tree others) at scopes bytes parts (front, back, first, behind, d, g, h, p) more e events rest =
     let s = some-more (event_in scopes tree) (events_in scopes others) more e in
     ap (λ ps. parts_judged (in_root events) (ps ++ rest)) p
-    ∙ ap (parts_judged (in_root events)) (regroup first behind rest)
+    ∙ ap (parts_judged (in_root events)) (append_assoc first behind rest)
     ∙ event-keeps tree at scopes front first g s.0 s.2 events (behind ++ rest)
     ∙ events-keep others (at + length front) scopes back behind h s.1 s.3 (with_event events s.0) rest
     ∙ ap (λ es. parts_judged (in_root es) rest) (append_assoc events (s.0 ∷ []) s.1 ∙ ap (λ es. events ++ es) (sym s.4))
@@ -176,13 +206,13 @@ pub events-are : (content : Content) (at : ℕ) (scopes : List (List Declaration
 events-are Nothing at scopes bytes parts g events k rest e = ([], refl)
 events-are (LeafThen leaf others) at scopes bytes parts (front, back, behind, d, is, apart, g, p) events k rest e =
     let on : parts_judged (in_root events) (leaf_parts at leaf ++ (behind ++ rest)) ≡ Ok k =
-    sym (ap (λ ps. parts_judged (in_root events) (ps ++ rest)) p ∙ ap (parts_judged (in_root events)) (regroup (leaf_parts at leaf) behind rest)) ∙ e in
+    sym (ap (λ ps. parts_judged (in_root events) (ps ++ rest)) p ∙ ap (parts_judged (in_root events)) (append_assoc (leaf_parts at leaf) behind rest)) ∙ e in
     let blank = leaf-space (in_root events) k at leaf (behind ++ rest) on in
     let r = events-are others (at + length front) scopes back behind g events k rest (sym (leaf-keeps (in_root events) at leaf (behind ++ rest) blank) ∙ on) in
     (r.0, some-where (is_space leaf) (events_in scopes others) r.0 blank r.1)
 events-are (TreeThen tree others) at scopes bytes parts (front, back, first, behind, d, g, h, p) events k rest e =
     let on : parts_judged (in_root events) (first ++ (behind ++ rest)) ≡ Ok k =
-    sym (ap (λ ps. parts_judged (in_root events) (ps ++ rest)) p ∙ ap (parts_judged (in_root events)) (regroup first behind rest)) ∙ e in
+    sym (ap (λ ps. parts_judged (in_root events) (ps ++ rest)) p ∙ ap (parts_judged (in_root events)) (append_assoc first behind rest)) ∙ e in
     let s = event-is tree at scopes front first g events k (behind ++ rest) on in
     let r = events-are others (at + length front) scopes back behind h (with_event events s.0) k rest (sym (event-keeps tree at scopes front first g s.0 s.1 events (behind ++ rest)) ∙ on) in
     (s.0 ∷ r.0, ap (λ o. and_more o (events_in scopes others)) s.1 ∙ ap (and_more (Some s.0)) r.1)

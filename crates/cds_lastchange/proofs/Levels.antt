@@ -1,5 +1,5 @@
 -- Where parts stand: behind parts that are judged as they should be, what is open is told by what is said so far.
-use Rattle.std.proofs.Common.{◌≡◌, ℕ, ◌+◌, Bool, true, false, cond, Option, Some, None, is_some, Ok, Err, List, [], ◌∷◌, ◌++◌, length, refl, sym, ap, ◌∙◌, append-nil}
+use Rattle.std.proofs.Common.{◌≡◌, ℕ, ◌+◌, Bool, true, false, cond, Option, Some, None, is_some, Ok, Err, List, [], ◌∷◌, ◌++◌, length, refl, sym, ap, ◌∙◌, append_assoc, append-nil}
 use Rattle.cds_event.specs.declared.Event.{Event}
 use Rattle.cds_markup.specs.declared.name.Name.{Name}
 use Rattle.cds_markup.specs.declared.name.Attr.{Attr}
@@ -16,8 +16,7 @@ use Rattle.cds_lastchange.specs.declared.judge.Judge.{Judge}
 use Rattle.cds_lastchange.specs.Attributes.{event_of, is_state_event}
 use Rattle.cds_lastchange.specs.Refusal.{may_stand}
 use Rattle.cds_lastchange.specs.Judged.{event_judged, start_judged, part_judged, and_judged, parts_judged, nothing_said}
-use Rattle.cds_lastchange.specs.SinkLaws.{judged_append}
-use Rattle.cds_lastchange.proofs.Judging.{Answer, ok-err, same-ok, in_root, in_event, events-keep, events-are, space-keeps, space-is}
+use Rattle.cds_lastchange.proofs.Judging.{Answer, judged-append, ok-err, same-ok, in_root, in_event, events-keep, events-are, space-keeps, space-is}
 
 abbrev pub level_of : List Tag → Level
 level_of [] = Outside
@@ -29,7 +28,7 @@ and-ok (Ok j) next k e = (j, refl, e)
 and-ok (Err at) next k e = absurd (ok-err k at e)
 
 pub judged-front : (i k : Judge) (ps qs : List Part) → parts_judged i (ps ++ qs) ≡ Ok k → (j : Judge) × (parts_judged i ps ≡ Ok j) × (parts_judged j qs ≡ Ok k)
-judged-front i k ps qs e = and-ok (parts_judged i ps) (λ j. parts_judged j qs) k (sym (judged_append i ps qs) ∙ e)
+judged-front i k ps qs e = and-ok (parts_judged i ps) (λ j. parts_judged j qs) k (sym (judged-append i ps qs) ∙ e)
 
 -- content stays where it is
 root-level : (content : Content) (at : ℕ) (scopes : List (List Declaration)) (bytes : List ℕ) (parts : List Part) → ContentParts content at scopes bytes parts → (events : List Event) (k : Judge) → parts_judged (in_root events) parts ≡ Ok k → k.level ≡ InRoot
@@ -119,18 +118,14 @@ pub record FirstFault (parts : List Part) (place : ℕ) : Type 0 where
   pub stand : parts_judged nothing_said earlier ≡ Ok judge
   pub falls : part_judged judge part ≡ Err place
 
-regroup : (xs : List Part) (x : Part) (ys : List Part) → (xs ++ x ∷ []) ++ ys ≡ xs ++ x ∷ ys
-regroup [] x ys = refl
-regroup (y ∷ xs) x ys = ap (λ zs. y ∷ zs) (regroup xs x ys)
-
 fault-behind : (parts : List Part) (before : List Part) (j : Judge) (place : ℕ) → parts_judged nothing_said before ≡ Ok j → parts_judged j parts ≡ Err place → FirstFault (before ++ parts) place
 fault-behind [] before j place s e = let no : ◌≡◌ {A = Answer} (Ok j) (Err place) = e in absurd (cc)
 fault-behind (p ∷ ps) before j place s e = by (part_judged j p) refl e (λ k d f. fault-behind ps (before ++ p ∷ []) k place d f) where
   by : (r : Answer) → part_judged j p ≡ r → and_judged r (Next ps) ≡ Err place → ((k : Judge) → parts_judged nothing_said (before ++ p ∷ []) ≡ Ok k → parts_judged k ps ≡ Err place → FirstFault ((before ++ p ∷ []) ++ ps) place) → FirstFault (before ++ p ∷ ps) place
   by (Err at) d f go = record { earlier = before; part = p; later = ps; judge = j; is = refl; stand = s; falls = d ∙ f }
   by (Ok k) d f go =
-      let more = go k (judged_append nothing_said before (p ∷ []) ∙ ap (λ r. and_judged r (Next (p ∷ []))) s ∙ ap (λ r. and_judged r (Next [])) d) f in
-      record { earlier = more.earlier; part = more.part; later = more.later; judge = more.judge; is = sym (regroup before p ps) ∙ more.is; stand = more.stand; falls = more.falls }
+      let more = go k (judged-append nothing_said before (p ∷ []) ∙ ap (λ r. and_judged r (Next (p ∷ []))) s ∙ ap (λ r. and_judged r (Next [])) d) f in
+      record { earlier = more.earlier; part = more.part; later = more.later; judge = more.judge; is = sym (append_assoc before (p ∷ []) ps) ∙ more.is; stand = more.stand; falls = more.falls }
 
 pub first-fault : (parts : List Part) (place : ℕ) → parts_judged nothing_said parts ≡ Err place → FirstFault parts place
 first-fault parts place e = fault-behind parts [] nothing_said place refl e

@@ -1,11 +1,12 @@
 pub mod Spaces
 pub mod Judging
 pub mod Levels
+pub mod Places
 pub mod Finding
 pub mod Meanings
 pub mod Documents
 pub mod Deciding
-pub mod PiecesForm
+pub mod Feeding
 pub mod PlainValues
 pub mod Tags
 pub mod WrittenRead

@@ -90,23 +90,13 @@ number-all (x ∷ ds) d e = e
 one-digit : (n : ℕ) → n < 10 → Digits n ((48 + n) ∷ [])
 one-digit n h =
     let all = all-push (λ byte. is_digit byte 10) [] (48 + n) refl (glyph-digit n h) in
-    record {
-      plain = all-push is_plain [] (48 + n) refl (glyph-plain n h);
-      digits = all;
-      some = number-all [] (48 + n) all;
-      value = value_in-push 10 [] (48 + n) ∙ omega (arith, glyph-value n h);
-    }
+    record { plain = all-push is_plain [] (48 + n) refl (glyph-plain n h); digits = all; some = number-all [] (48 + n) all; value = value_in-push 10 [] (48 + n) ∙ omega (arith, glyph-value n h) }
 
 more-digits : (n : ℕ) (ds : List ℕ) → 10 ≤ n → Digits (n / 10) ds → Digits n (ds ++ ((48 + n % 10) ∷ []))
 more-digits n ds h d =
     let low : n % 10 < 10 = omega arith in
     let all = all-push (λ byte. is_digit byte 10) ds (48 + n % 10) d.digits (glyph-digit (n % 10) low) in
-    record {
-      plain = all-push is_plain ds (48 + n % 10) d.plain (glyph-plain (n % 10) low);
-      digits = all;
-      some = number-all ds (48 + n % 10) all;
-      value = value_in-push 10 ds (48 + n % 10) ∙ sum (value_in 10 ds) (digit_value (48 + n % 10)) d.value (glyph-value (n % 10) low);
-    }
+    record { plain = all-push is_plain ds (48 + n % 10) d.plain (glyph-plain (n % 10) low); digits = all; some = number-all ds (48 + n % 10) all; value = value_in-push 10 ds (48 + n % 10) ∙ sum (value_in 10 ds) (digit_value (48 + n % 10)) d.value (glyph-value (n % 10) low) }
   where
     sum : (v w : ℕ) → v ≡ n / 10 → w ≡ n % 10 → v * 10 + w ≡ n
     sum v w e f = omega (arith, e, f)

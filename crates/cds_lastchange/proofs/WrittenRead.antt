@@ -1,5 +1,5 @@
 -- What is written of events is a StateEvent of these events.
-use Rattle.std.proofs.Common.{◌≡◌, ℕ, ◌^◌, ◌<◌, ◌≤◌, Bool, true, false, cond, Option, Some, None, List, [], ◌∷◌, ◌++◌, codes, length, refl, sym, ap, subst, ◌∙◌, append_assoc, append-nil, inr}
+use Rattle.std.proofs.Common.{◌≡◌, ℕ, ◌^◌, ◌<◌, Bool, true, false, cond, Option, Some, None, List, [], ◌∷◌, ◌++◌, codes, refl, sym, ap, subst, ◌∙◌, append_assoc, append-nil, inr}
 use Rattle.std.specs.List.{flat_map, AllByRecursion}
 use Rattle.std.specs.Fmt.{decimal}
 use Rattle.std.specs.Option.{option_and_then}
@@ -15,14 +15,14 @@ use Rattle.cds_markup.specs.declared.name.Attr.{Attr}
 use Rattle.cds_markup.specs.declared.tag.Declaration.{Declaration}
 use Rattle.cds_markup.specs.declared.tag.TagAttr.{TagAttr}
 use Rattle.cds_markup.specs.declared.tag.Tag.{Tag}
-use Rattle.cds_markup.specs.Grammar.{written_name, EmptyElement, Full, Content, Nothing, TreeThen, IsName, IsEmptyTag, IsStartTag, IsContent}
+use Rattle.cds_markup.specs.Grammar.{written_name, name_bytes, IsQName, EmptyElement, Full, Content, Nothing, TreeThen, IsName, IsEmptyTag, IsStartTag, IsContent}
 use Rattle.cds_markup.specs.Namespaces.{declarations, tag_says}
-use Rattle.cds_markup.specs.Document.{most_bytes}
 use Rattle.cds_markup.specs.Written.{written_attr, written_attrs, written_start}
 use Rattle.cds_markup.proofs.Public.{no-misc, no-prolog, small-name, without-prefix, Stands, TagStands, start-of, end-of}
 use Rattle.cds_lastchange.specs.Spelled.{event_space, change_text, flag_text, flagged_text, class_text, added_text, event_text, opening, closing, spelled, IsNumbered}
 use Rattle.cds_lastchange.specs.Attributes.{flag_said, flag_of, class_said, class_of, added, modified, deleted, done, event_of, is_state_event}
-use Rattle.cds_lastchange.specs.StateEvent.{event_said, event_in, and_more, events_in, is_root, IsStateEvent}
+use Rattle.cds_lastchange.specs.StateEvent.{event_said, event_in, and_more, events_in, is_root, IsDocumentOf}
+use Rattle.cds_lastchange.specs.Laws.{WrittenIsRead}
 use Rattle.cds_lastchange.proofs.PlainValues.{ArePlain, escaped-plain, allowed-plain, decimal-digits, decimal-read}
 use Rattle.cds_lastchange.proofs.Tags.{empty-of}
 
@@ -76,6 +76,9 @@ event-plain (ObjDel id update st) (i, u) = ((refl, decimal-plain id i), ((refl, 
 event-plain (StDone id update) (i, u) = ((refl, decimal-plain id i), ((refl, decimal-plain update u), tt))
 
 -- names are names
+abbrev Named : TagAttr → Type 0
+Named a = IsName a.name.local a.name.local
+
 name-id : IsName (codes "objID") (codes "objID")
 name-id = small-name 111 (codes "bjID") refl refl
 
@@ -85,41 +88,25 @@ name-update = small-name 117 (codes "pdateID") refl refl
 name-flag : IsName (codes "stUpdate") (codes "stUpdate")
 name-flag = small-name 115 (codes "tUpdate") refl refl
 
-name-parent : IsName (codes "objParentID") (codes "objParentID")
-name-parent = small-name 111 (codes "bjParentID") refl refl
+names : (event : Event) → IsName (event_name event) (event_name event) × AllByRecursion Named (event_attrs event)
+names (ObjAdd id update st parent class) =
+    (small-name 111 (codes "bjAdd") refl refl, (name-id, (name-update, (name-flag, (small-name 111 (codes "bjParentID") refl refl, (small-name 111 (codes "bjClass") refl refl, tt))))))
+names (ObjMod id update st) = (small-name 111 (codes "bjMod") refl refl, (name-id, (name-update, (name-flag, tt))))
+names (ObjDel id update st) = (small-name 111 (codes "bjDel") refl refl, (name-id, (name-update, (name-flag, tt))))
+names (StDone id update) = (small-name 115 (codes "tDone") refl refl, (name-id, (name-update, tt)))
 
-name-class : IsName (codes "objClass") (codes "objClass")
-name-class = small-name 111 (codes "bjClass") refl refl
+attr-stands : (a : TagAttr) → Named a → PlainAttr a → Stands a
+attr-stands a is (none, plain) = record { name = named a.name.prefix none; value = allowed-plain a.value plain } where
+  named : (prefix : List ℕ) → prefix ≡ [] → IsQName (name_bytes (record { prefix = prefix; local = a.name.local })) (record { prefix = prefix; local = a.name.local })
+  named [] e = without-prefix a.name.local is
+  named (c ∷ more) e = absurd (cc)
 
-attr-stands : (local value : List ℕ) → IsName local local → ArePlain value → Stands (plain_attr local value)
-attr-stands local value is plain = record { name = without-prefix local is; value = allowed-plain value plain }
+attrs-stand : (attrs : List TagAttr) → AllByRecursion Named attrs → AllByRecursion PlainAttr attrs → AllByRecursion Stands attrs
+attrs-stand [] are plain = tt
+attrs-stand (a ∷ more) (is, are) (p, plain) = (attr-stands a is p, attrs-stand more are plain)
 
 event-stands : (event : Event) → IsNumbered event → TagStands (event_tag event)
-event-stands (ObjAdd id update st parent class) (i, u, p) = record {
-  name = without-prefix (codes "objAdd") (small-name 111 (codes "bjAdd") refl refl);
-  attrs = (
-    attr-stands (codes "objID") (decimal id) name-id (decimal-plain id i),
-    (
-      attr-stands (codes "updateID") (decimal update) name-update (decimal-plain update u),
-      (
-        attr-stands (codes "stUpdate") (flag_text st) name-flag (flag-plain st),
-        (attr-stands (codes "objParentID") (decimal parent) name-parent (decimal-plain parent p), (attr-stands (codes "objClass") (class_text class) name-class (class-plain class), tt)),
-      ),
-    ),
-  );
-}
-event-stands (ObjMod id update st) (i, u) = record {
-  name = without-prefix (codes "objMod") (small-name 111 (codes "bjMod") refl refl);
-  attrs = (attr-stands (codes "objID") (decimal id) name-id (decimal-plain id i), (attr-stands (codes "updateID") (decimal update) name-update (decimal-plain update u), (attr-stands (codes "stUpdate") (flag_text st) name-flag (flag-plain st), tt)));
-}
-event-stands (ObjDel id update st) (i, u) = record {
-  name = without-prefix (codes "objDel") (small-name 111 (codes "bjDel") refl refl);
-  attrs = (attr-stands (codes "objID") (decimal id) name-id (decimal-plain id i), (attr-stands (codes "updateID") (decimal update) name-update (decimal-plain update u), (attr-stands (codes "stUpdate") (flag_text st) name-flag (flag-plain st), tt)));
-}
-event-stands (StDone id update) (i, u) = record {
-  name = without-prefix (codes "stDone") (small-name 115 (codes "tDone") refl refl);
-  attrs = (attr-stands (codes "objID") (decimal id) name-id (decimal-plain id i), (attr-stands (codes "updateID") (decimal update) name-update (decimal-plain update u), tt));
-}
+event-stands event h = record { name = without-prefix (event_name event) (names event).0; attrs = attrs-stand (event_attrs event) (names event).1 (event-plain event h) }
 
 -- the text of an event is that of its tag
 abbrev plain_attrs : List TagAttr → List ℕ
@@ -256,29 +243,26 @@ events-said (event ∷ more) each =
     ap (λ o. and_more o (events_in Scopes (content_of more))) (event-said event each.0) ∙ ap (and_more (Some event)) (events-said more each.1)
 
 root-stands : TagStands root_tag
-root-stands = record {
-  name = without-prefix (codes "StateEvent") (small-name 83 (codes "tateEvent") refl refl);
-  attrs = (attr-stands (codes "xmlns") event_space (small-name 120 (codes "mlns") refl refl) refl, tt);
-}
+root-stands = record { name = without-prefix (codes "StateEvent") (small-name 83 (codes "tateEvent") refl refl); attrs = (attr-stands (plain_attr (codes "xmlns") event_space) (small-name 120 (codes "mlns") refl refl) (refl, refl), tt) }
 
 root-says : is_root (tag_says [] root_tag) ≡ true
 unfolding is_state_event
 root-says = refl
 
-pub written-read : (events : List Event) → AllByRecursion IsNumbered events → length (spelled events) ≤ most_bytes → IsStateEvent (spelled events) events
-written-read events each short = record {
-  is = inr (
-    Full root_tag (content_of events),
-    record {
-      prolog = [];
-      element = spelled events;
-      epilog = [];
-      spelled = sym (append-nil (spelled events));
-      is_prolog = no-prolog;
-      is_element = (opening, flat_map event_text events, closing, append_assoc opening (flat_map event_text events) closing, start-of root_tag root-stands, content-is events each, end-of root_tag);
-      is_epilog = no-misc;
-    },
-    ap (λ t. cond t (events_in Scopes (content_of events)) None) root-says ∙ events-said events each,
-  );
-  short = short;
-}
+pub written-document : (events : List Event) → AllByRecursion IsNumbered events → IsDocumentOf (spelled events) events
+written-document events each = (
+  Full root_tag (content_of events),
+  record {
+    prolog = [];
+    element = spelled events;
+    epilog = [];
+    spelled = sym (append-nil (spelled events));
+    is_prolog = no-prolog;
+    is_epilog = no-misc;
+    is_element = (opening, flat_map event_text events, closing, append_assoc opening (flat_map event_text events) closing, start-of root_tag root-stands, content-is events each, end-of root_tag);
+  },
+  ap (λ t. cond t (events_in Scopes (content_of events)) None) root-says ∙ events-said events each,
+)
+
+pub written-read : WrittenIsRead
+written-read events each short = record { is = inr (written-document events each); short = short }

@@ -1,8 +1,5 @@
 -- How the parts of a document are judged, one by one. It is proved that this answers what the bytes are.
-use Rattle.std.specs.Prelude.{◌≡◌, ℕ, nat_le, Bool, ◌&&◌, if◌then◌else◌, Option, Some, None, Result, Ok, Err, List, [], ◌∷◌, ◌++◌, length, ⊤}
-use Rattle.std.specs.List.{list_all}
-use Rattle.cds_base.specs.declared.limits.TheConstants.{INPUT_LIMIT}
-use Rattle.cds_base.specs.Characters.{is_blank}
+use Rattle.std.specs.Prelude.{◌≡◌, ℕ, Bool, true, false, if◌then◌else◌, Option, Some, None, Result, Ok, Err, List, [], ◌∷◌, ◌++◌, ⊤}
 use Rattle.cds_event.specs.declared.Event.{Event}
 use Rattle.cds_markup.specs.declared.name.Name.{Name}
 use Rattle.cds_markup.specs.declared.name.Attr.{Attr}
@@ -53,8 +50,20 @@ parts_judged j (part ∷ rest) = and_judged (part_judged j part) (λ k. parts_ju
 abbrev pub nothing_said : Judge
 nothing_said = record { level = Outside; events = [] }
 
--- What is answered of the parts and of what reading them answered. A place in the parts comes before the fault at which
--- they end. No document of two open elements at most is too deep.
+-- Parts are taken one by one up to the first that does not stand.
+abbrev pub judged_on : Result Judge ℕ → Part → Result Judge ℕ → Type 0
+judged_on before part now = now ≡ and_judged before (λ j. part_judged j part)
+
+abbrev pub is_misplaced : Result Judge ℕ → Bool
+is_misplaced (Err at) = true
+is_misplaced (Ok j) = false
+
+abbrev pub misplaced : Result Judge ℕ → Option ℕ
+misplaced (Err at) = Some at
+misplaced (Ok j) = None
+
+-- What is answered of the parts so far and of what reading them answered. A place in the parts comes before the fault at
+-- which they end. No document of two open elements at most is too deep.
 abbrev pub as_refusal : MarkupError → StateError
 as_refusal (BadAt at) = Bad at
 as_refusal (TooDeep at) = Bad at
@@ -62,22 +71,27 @@ as_refusal TooManyBytes = TooLong
 as_refusal FailedBefore = Failed
 as_refusal OutOfMemory = Mem
 
-abbrev pub read_says : Result (Unit {0}) MarkupError → List Event → Result (List Event) StateError
-read_says (Ok done) events = Ok events
-read_says (Err r) events = Err (as_refusal r)
+abbrev pub as_read : Result (Unit {0}) MarkupError → Result (Unit {0}) StateError
+as_read (Ok done) = Ok done
+as_read (Err r) = Err (as_refusal r)
 
-abbrev pub answer_of : Result (Unit {0}) MarkupError → Result Judge ℕ → Result (List Event) StateError
-answer_of read (Err at) = Err (NotStateEvent at)
-answer_of read (Ok j) = read_says read j.events
+abbrev pub or_misplaced : Option ℕ → Result (Unit {0}) StateError → Result (Unit {0}) StateError
+or_misplaced (Some at) read = Err (NotStateEvent at)
+or_misplaced None read = read
 
--- The same where reading may end for want of memory, which says nothing of the parts.
-abbrev pub answer_read : Result (Unit {0}) MarkupError → Result Judge ℕ → Result (List Event) StateError
-answer_read (Err OutOfMemory) said = Err Mem
-answer_read read said = answer_of read said
+-- Want of memory says nothing of the parts.
+abbrev pub refused_so : Result (Unit {0}) MarkupError → Option ℕ → Result (Unit {0}) StateError
+refused_so (Err OutOfMemory) place = Err Mem
+refused_so (Err FailedBefore) place = Err Failed
+refused_so read place = or_misplaced place (as_read read)
 
--- Whether there is nothing but white space, of which there may be as much as a document may have.
-abbrev pub is_empty : List ℕ → Bool
-is_empty bytes = list_all is_blank bytes && nat_le (length bytes) INPUT_LIMIT
+-- At the end: no event where nothing but white space came, and the events where nothing is refused.
+abbrev pub ended_so : Result (Unit {0}) MarkupError → Bool → Result Judge ℕ → Result (List Event) StateError
+ended_so (Err FailedBefore) blank said = Err Failed
+ended_so read true said = Ok []
+ended_so (Err r) false said = Err (as_refusal r)
+ended_so (Ok done) false (Ok j) = Ok j.events
+ended_so (Ok done) false (Err at) = Err (NotStateEvent at)
 
 -- What a call answers, if it is not for want of memory.
 abbrev pub Judges : Result Judge ℕ → Result (Unit {0}) Unfit → Judge → Type 0

@@ -6,4 +6,3 @@ pub mod Judged
 pub mod Feeding
 pub mod Laws
 pub mod Evaluated
-pub mod SinkLaws

@@ -11,7 +11,7 @@ use Rattle.cds_markup.specs.Grammar.{Leaf, Reference, Section}
 use Rattle.cds_markup.specs.Namespaces.{tag_says}
 use Rattle.cds_markup.specs.declared.error.MarkupError.TheVariants.{Bad as BadAt, TooLong as TooManyBytes}
 use Rattle.cds_markup.specs.Refusal.{scopes_of, TagEnds, LeafEnds, TextByte, IsRefused as IsRefusedDocument}
-use Rattle.cds_markup.specs.GivenParts.{Clear}
+use Rattle.cds_markup.specs.PartsFound.{Clear}
 use Rattle.cds_lastchange.specs.declared.error.StateError.{StateError}
 use Rattle.cds_lastchange.specs.declared.error.StateError.TheVariants.{Bad, NotStateEvent, TooLong, Failed, Mem}
 use Rattle.cds_lastchange.specs.Attributes.{event_of, is_state_event}

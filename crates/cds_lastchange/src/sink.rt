@@ -1,7 +1,7 @@
 //! Parts that are judged one by one as they come.
 
 ghost use Rattle.std.specs.Prelude.{◌≡◌, ◌∷◌, [], Ok, IfOk};
-ghost use Rattle.cds_lastchange.specs.Judged.{part_judged, nothing_said};
+ghost use Rattle.cds_lastchange.specs.Judged.{part_judged, nothing_said, misplaced};
 
 use crate::judge::{Judge, Unfit};
 use cds_base::Mem;
@@ -9,7 +9,7 @@ use cds_markup::{Part, PartSink};
 use std::alloc::Global;
 use std::marker::Model;
 
-/// What takes the parts of a document and keeps none. Contracts see what they say, or the place of the first that does
+/// What takes the parts of a document up to the first that does not stand, and keeps none. Contracts see what they say, or the place of the first that does
 /// not stand.
 #[derive(Drop, Debug)]
 pub struct Judging {
@@ -35,6 +35,16 @@ impl Judging {
         }
     }
 
+    /// The place of the first part that does not stand.
+    pub fn misplaced(&self) -> Option<usize>
+        ensures { result ≡ misplaced self.now }
+    {
+        match &self.said {
+            Ok(_) => None,
+            Err(at) => Some(*at),
+        }
+    }
+
     /// What the parts say, or the place of the first that does not stand.
     pub fn into_said(self) -> Result<Judge, usize>
         ensures { result ≡ self }
@@ -44,9 +54,11 @@ impl Judging {
 }
 
 impl PartSink for Judging {
-    ghost use Rattle.cds_lastchange.specs.SinkLaws.{judged_on, judged_none, judged_more};
+    ghost use Rattle.cds_lastchange.specs.Judged.{judged_on, is_misplaced};
 
     ghost took = { judged_on };
+
+    ghost enough = { is_misplaced };
 
     fn take(&mut self, part: Part) -> Result<(), Mem> {
         let before = std::mem::replace(&mut self.said, Err(0));
@@ -57,9 +69,9 @@ impl PartSink for Judging {
         Ok(())
     }
 
-    ghost took_none = { judged_none };
-
-    ghost took_more = { judged_more };
+    fn has_enough(&self) -> bool {
+        self.said.is_err()
+    }
 }
 
 /// What is said up to a part, or the place that is answered where it does not stand.

@@ -1,95 +1,56 @@
--- What is answered to any bytes, and the parts that are given of them, in words that name no way of reading.
-use Rattle.std.proofs.Common.{◌≡◌, ◌≢◌, ℕ, ◌<◌, nat_lt, Bool, true, Result, Ok, Err, List, [], ◌++◌, length, refl, sym, ap, ◌∙◌, arith, length-append}
-use Rattle.std.specs.Prelude.{⊤}
-use Rattle.std.proofs.lemmas.Bool.Decides.{nat_tests}
-use Rattle.std.proofs.lemmas.List.{take-append-le}
-use lib.Utf8.{encode}
-use Rattle.cds_markup.specs.declared.part.Part.{Part}
-use Rattle.cds_markup.specs.declared.error.MarkupError.{MarkupError}
-use Rattle.cds_markup.specs.declared.error.MarkupError.TheVariants.{Bad, TooDeep, TooLong, Failed, Mem}
-use Rattle.cds_markup.specs.Document.{most_bytes}
-use Rattle.cds_markup.specs.Refusal.{IsRefused}
-use Rattle.cds_markup.specs.Step.{count_at, many_at, while_at}
-use Rattle.cds_markup.specs.Reading.{any_at, attr_at, attrs_at, behind_at, behind_encoding, behind_version, character_at, declaration_at, enclosed_at, encoding_at, encoding_value_at, end_at, equals_at, inside_at, misc_at, name_at, name_characters_at, name_rest_at, number_at, prolog_at, qname_at, reference_at, comment_at, space_at, standalone_at, standalone_value_at, tag_at, text_behind, value_at, value_piece_at, version_at, version_value_at, yes_or_no_at, utf_8_at}
-use Rattle.cds_markup.specs.Course.{content_at, course_of, root_course, start_moves, place, answer_of, ending_of, within_limit, is_cut, read_of, parts_of}
-use Rattle.cds_markup.specs.Answer.{answer_to, parts_in}
-use Rattle.cds_markup.specs.GivenParts.{Given}
-use Rattle.cds_markup.specs.Laws.{ReadAs, PartsAreTold, PartsAreBuilt, PartsAreGiven, PartsAreOfRoots, OneTelling, NothingCountsPastTheLimit}
-use Rattle.cds_markup.proofs.OneList.{parts-are-one}
-use Rattle.cds_markup.proofs.Verdict as verdict
-use Rattle.cds_markup.proofs.Fronts as fronts
-use Rattle.cds_markup.proofs.AllGiven as all_given
+-- What a machine's methods answer, from what the methods that they call answer.
+use Rattle.std.proofs.Common.{◌≡◌, ℕ, ◌<◌, ◌≤◌, nat_le, true, false, cond, Some, None, Result, Ok, Err, [], ◌∷◌, sym, ap, refl, subst, ◌∙◌, arith}
+use Rattle.std.specs.Result.{IsErrAnd}
+use Rattle.cds_markup.proofs.Terms.{nat_tests, INPUT_LIMIT, Stop, Broken, NamespaceRule, MarkupError, TooLong, Event, Mode, Token, step, Reading, reading, is_deep, judge, judged, moved, refusal, MovesSo, ByteSo, TakenSo, WholeSo, JudgedSo, Progress, Passed, judged_at, byte_within, passed_byte, OutOfMemory}
+use Rattle.cds_markup.proofs.Decoded.{judge-on}
 
--- what a proof unfolds to compute these on bytes that are written out
-unfoldable pub markup_on_literals : ⊤
-unfolding answer_to parts_in count_at many_at while_at any_at attr_at attrs_at behind_at behind_encoding behind_version character_at declaration_at enclosed_at encoding_at encoding_value_at end_at equals_at inside_at misc_at name_at name_characters_at name_rest_at number_at prolog_at qname_at reference_at comment_at space_at standalone_at standalone_value_at tag_at text_behind value_at value_piece_at version_at version_value_at yes_or_no_at utf_8_at content_at course_of root_course start_moves encode
-markup_on_literals = tt
+-- a whole character that is refused, or completes nothing
+pub whole_refused : (r now : Reading) (c : ℕ) (stop : Stop) (mode : Mode) → MovesSo r.opens (step r.mode r.opens c) (Err stop) mode → WholeSo r c (Err stop) now
+whole_refused r now c Broken mode h = ap (λ x. judged r.opens (moved x)) h
+whole_refused r now c OutOfMemory mode h = tt
+whole_refused r now c other mode h = absurd h
 
--- past the limit nothing is read
-is-less : (m n : ℕ) → m < n → nat_lt m n ≡ true
-is-less m n h = grind (arith, nat_tests)
+pub whole_nothing : (r now : Reading) (c : ℕ) (mode : Mode) → MovesSo r.opens (step r.mode r.opens c) (Ok None) mode → now ≡ reading [] mode r.opens → WholeSo r c (Ok None) now
+whole_nothing r now c mode h e = ap (λ x. judged r.opens (moved x)) h ∙ ap (λ s. Ok (s, [])) (sym e)
 
-cut-same : (m : ℕ) (bytes more : List ℕ) → m < length bytes → nat_lt m (length (bytes ++ more)) ≡ nat_lt m (length bytes)
-cut-same m bytes more h =
-    is-less m (length (bytes ++ more)) (omega (arith, h, length-append bytes more)) ∙ sym (is-less m (length bytes) h)
+-- a token that is taken
+pub whole_token : (r s now : Reading) (c : ℕ) (mode : Mode) (t : Token) (event : Event) → MovesSo r.opens (step r.mode r.opens c) (Ok (Some t)) mode → s ≡ reading [] mode r.opens → TakenSo s t (Ok event) now → WholeSo r c (Ok (Some event)) now
+whole_token r s now c mode t event h e g = by (subst (λ x. TakenSo x t (Ok event) now) e g) where
+  by : TakenSo (reading [] mode r.opens) t (Ok event) now → WholeSo r c (Ok (Some event)) now
+  by (keeps, said, is) =
+      (t, rw (h, keeps) refl ∙ ap (λ x. Ok (x, t ∷ [])) (sym is), said)
 
-abbrev read_so : List ℕ → Bool → Result (Unit {0}) MarkupError
-read_so within cut = answer_of cut (place (length within) (course_of within).left) (ending_of (course_of within).stop)
+pub whole_broken : (r s now later : Reading) (c : ℕ) (mode : Mode) (t : Token) (stop : Stop) → MovesSo r.opens (step r.mode r.opens c) (Ok (Some t)) mode → s ≡ reading [] mode r.opens → TakenSo s t (Err stop) now → WholeSo r c (Err stop) later
+whole_broken r s now later c mode t stop h e g = by stop (subst (λ x. TakenSo x t (Err stop) now) e g) where
+  by : (stop : Stop) → TakenSo (reading [] mode r.opens) t (Err stop) now → WholeSo r c (Err stop) later
+  by NamespaceRule g = rw (h, g) refl
+  by OutOfMemory g = tt
+  by other g = absurd g
 
-pub read-same : (bytes more : List ℕ) → most_bytes < length bytes → read_of (bytes ++ more) ≡ read_of bytes
-read-same bytes more h =
-    ap (λ w. read_so w (is_cut (bytes ++ more))) (take-append-le most_bytes bytes more (omega (arith, h)))
-    ∙ ap (read_so (within_limit bytes)) (cut-same most_bytes bytes more h)
+-- a byte that is refused
+pub judged_refused : (r now later : Reading) (b : ℕ) (stop : Stop) → is_deep r b ≡ false → ByteSo r b (Err stop) now → JudgedSo r b (Err stop) later
+judged_refused r now later b Broken e h = judge-on r b None e h
+judged_refused r now later b OutOfMemory e h = tt
+judged_refused r now later b other e h = absurd h
 
-parts-same : (bytes more : List ℕ) → most_bytes < length bytes → parts_of (bytes ++ more) ≡ parts_of bytes
-parts-same bytes more h = ap (λ w. (course_of w).parts) (take-append-le most_bytes bytes more (omega (arith, h)))
+-- a byte at a place: the limit as any number
+pub not-full : (most at : ℕ) → at < most → nat_le most at ≡ false
+not-full most at h = grind (arith, nat_tests)
 
-pub nothing-counts-past-the-limit : NothingCountsPastTheLimit
-unfolding answer_to parts_in
-nothing-counts-past-the-limit bytes more h = (read-same bytes more h, parts-same bytes more h)
+module _ (most : ℕ) (p : Progress) (b : ℕ) where
+  without : (stop : Stop) → p.at < most → judge p.read b ≡ Err stop → byte_within most p b ≡ Err (refusal stop p.at)
+  without stop h e = ap (λ t. cond {A = Passed} t (Err TooLong) (judged_at p.at (judge p.read b))) (not-full most p.at h) ∙ ap (judged_at p.at) e
 
--- the laws of the reader's course
-pub documents-are-read : (bytes : List ℕ) → ReadAs bytes
-unfolding answer_to parts_in
-documents-are-read bytes = let r = verdict.documents-are-read bytes in record { whole = r.whole; document = r.document; refused = r.refused; refusal = r.refusal }
+  over : most ≤ p.at → byte_within most p b ≡ Err TooLong
+  over h = let full : nat_le most p.at ≡ true = grind (arith, nat_tests) in ap (λ t. cond {A = Passed} t (Err TooLong) (judged_at p.at (judge p.read b))) full
 
-pub parts-are-told : PartsAreTold
-unfolding parts_in
-parts-are-told = verdict.parts-are-told
+pub byte_stopped : (p : Progress) (b : ℕ) (stop : Stop) → p.at < INPUT_LIMIT → judge p.read b ≡ Err stop → passed_byte p b ≡ Err (refusal stop p.at)
+byte_stopped p b stop h e = without INPUT_LIMIT p b stop h e
 
-pub parts-are-built : PartsAreBuilt
-unfolding parts_in
-parts-are-built = verdict.parts-are-built
+pub byte_long : (p : Progress) (b : ℕ) → INPUT_LIMIT ≤ p.at → passed_byte p b ≡ Err TooLong
+byte_long p b h = over INPUT_LIMIT p b h
 
-pub parts-are-given : PartsAreGiven
-unfolding parts_in
-parts-are-given = all_given.parts-are-given
-
-pub parts-are-of-roots : PartsAreOfRoots
-unfolding parts_in
-parts-are-of-roots = fronts.parts-are-of-roots
-
--- what is told is one
-told-parts : (bytes : List ℕ) (found parts : List Part) → parts ≡ [] ++ found → Given bytes found → parts ≡ parts_in bytes
-told-parts bytes found parts e g = e ∙ parts-are-one bytes found (parts_in bytes) g (parts-are-given bytes)
-
-told-err : (bytes : List ℕ) (r : MarkupError) (parts : List Part) → r ≢ Mem → (found : List Part) × (parts ≡ [] ++ found) × Given bytes found × IsRefused bytes r → (Err r ≡ answer_to bytes) × (parts ≡ parts_in bytes)
-told-err bytes r parts n (found, e, g, i) = (sym ((documents-are-read bytes).refused r i n), told-parts bytes found parts e g)
-
-no-bad : (at : ℕ) → Bad at ≡ Mem → ⊥
-no-bad at e = cc
-
-no-deep : (at : ℕ) → TooDeep at ≡ Mem → ⊥
-no-deep at e = cc
-
-no-long : TooLong ≡ Mem → ⊥
-no-long e = cc
-
-pub one-telling : OneTelling
-one-telling bytes (Ok done) parts (found, e, g, element, doc, is, says) n =
-    (sym ((documents-are-read bytes).whole element doc).0, told-parts bytes found parts e g)
-one-telling bytes (Err Mem) parts t n = absurd (n refl)
-one-telling bytes (Err (Bad at)) parts t n = told-err bytes (Bad at) parts (no-bad at) t
-one-telling bytes (Err (TooDeep at)) parts t n = told-err bytes (TooDeep at) parts (no-deep at) t
-one-telling bytes (Err TooLong) parts t n = told-err bytes TooLong parts no-long t
-one-telling bytes (Err Failed) parts (found, e, g, i) n = absurd i
+-- a refusal that is handed on
+pub handed_on : (P : Result (Unit {0}) MarkupError → Type 0) (result : Result (Unit {0}) MarkupError) (e : MarkupError) → IsErrAnd result (λ x. x ≡ e) → P (Err e) → P result
+handed_on P (Ok done) e same h = absurd same
+handed_on P (Err x) e same h = subst (λ y. P (Err y)) (sym same) h

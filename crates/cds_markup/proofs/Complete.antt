@@ -1,363 +1,192 @@
--- What is in the grammar is read: elements and content, unless a start tag breaks a rule or too many are open.
-use Rattle.std.proofs.Common.{◌≡◌, ℕ, suc, ◌+◌, ◌<◌, ◌≤◌, max, true, false, ◌&&◌, Option, Some, None, Result, List, [], ◌∷◌, ◌++◌, length, refl, sym, ap, subst, ◌∙◌, arith, append_assoc, length-append, ◌⊎◌, inl, inr}
-use Rattle.cds_markup.specs.declared.part.Part.{Part}
-use Rattle.cds_markup.specs.declared.part.Part.TheVariants.{Start, End}
-use Rattle.cds_markup.specs.declared.tag.Tag.{Tag}
-use Rattle.cds_markup.specs.declared.tag.Open.{Open}
-use Rattle.cds_markup.specs.declared.error.Stop.{Stop}
-use Rattle.cds_markup.specs.declared.error.Stop.TheVariants.{NamespaceRule, Deep}
-use Rattle.cds_markup.specs.Grammar.{Leaf, Text, Reference, Section, Comment, Tree, EmptyElement, Full, Content, Nothing, LeafThen, TreeThen, is_text, begins_with_text, IsTree, IsContent, IsLeaf, IsTag, IsEmptyTag, IsStartTag, IsEndTag}
-use Rattle.cds_markup.specs.Document.{Meaning, Meanings, meaning, meanings, depth, depths, of_tag, and_joined, and_children, leaf_says}
-use Rattle.cds_markup.specs.Document as document
-use Rattle.cds_markup.specs.Refusal.{scopes_of}
-use Rattle.cds_markup.specs.Step.{next_is}
-use Rattle.cds_markup.specs.Reading.{is_exclamation}
-use Rattle.cds_markup.specs.Course.{Moved, Halted, Course, place, with_parts, goes_on, start_moves, content_at, may_begin_name, is_slash}
-use Rattle.cds_markup.specs.Parts.{TreeParts, ContentParts, leaf_parts}
-use Rattle.cds_markup.proofs.TagForm.{empty-parts, start-parts, tree-first}
-use Rattle.cds_markup.proofs.ReadsForm.{Follows}
-use Rattle.cds_markup.proofs.ReferenceRows.{begins-reference}
-use Rattle.cds_markup.proofs.EndRows.{is-end}
-use Rattle.cds_markup.proofs.CommentRows.{is-comment}
-use Rattle.cds_markup.proofs.TextRows.{markup}
-use Rattle.cds_markup.proofs.PieceSteps.{content-next}
-use Rattle.cds_markup.proofs.Pieces.{at-start}
-use Rattle.cds_markup.proofs.Told.{open_of, opens_of, parts-twice, Calm}
-use Rattle.cds_markup.proofs.StartSound.{tag-begins}
-use Rattle.cds_markup.proofs.Runs.{is-section, leaf-piece, end-piece, start-run, IsDeep, IsRuleBroken, Says, next-not, name-no-slash, name-no-exclamation}
+-- Words of the grammar lead the machine from one state to another one.
+use Rattle.std.proofs.Common.{◌≡◌, ◌==◌, ℕ, Bool, true, false, not, ◌&&◌, ◌⊎◌, inl, inr, List, [], ◌∷◌, ◌++◌, codes, map, refl, sym, ap, subst, ◌∙◌, arith, append_assoc, encode_utf8}
+use Rattle.cds_markup.proofs.Terms.{begins_name, Opened, Name, Turn, Content, StartTag, Slashed, Mode, Begin, Inside, Tag, Open, Character, Many, contains, is_in_text, IsTag, Leaf, Text, IsLeaf, is_text, Tree, EmptyElement, Full, Nothing, LeafThen, TreeThen, begins_with_text, IsEmptyTag, IsStartTag, IsEndTag, IsTree, IsContent, IsProlog, IsDocument, name_begun, Done, leads, comes, Opens, closes_section, brackets_with, ends_tag, Slash, Ended, Given, given, opened, tag_given, step_turn, inside_move, Blanks, Epilog, step_tag, epilog_move, misc_step, is_behind, Inner}
+use Rattle.cds_markup.proofs.Machines.{and-first, and-second, Steps, steps-on, steps-then}
+use Rattle.cds_markup.proofs.WholeLaws.{name-no-bang, name-no-slash, AtBegin, mode_of, early_next, root_or, step-is}
+use Rattle.cds_markup.proofs.Characters.{bytes_of, Allowed, bytes-append, allowed-append, less-bytes}
+use Rattle.cds_markup.proofs.TagForms.{end-plain, tag-way}
+use Rattle.cds_markup.proofs.ScanForms.{clean, state, word-without, not-so, characters-are}
+use Rattle.cds_markup.proofs.Standing.{AllWhole, parts-of, Piece, Leaf-of, End-of, InText, start-name, opens-whole, T, piece-said}
+use Rattle.cds_markup.proofs.PrologForms.{prolog-led, misc-way, Led as Prolog-led}
+use Rattle.cds_markup.proofs.Runs.{place, P, Runs, landing, turn-runs, early-runs, takes-run}
+use Rattle.cds_markup.proofs.Ways.{Way, way-as, way-byte, way-in, way-none, way-text, way-then}
 
--- a course that stops at a rule or the depth, before what is left of it
-pub record Doomed (course : Course) (x : List ℕ) (why : Type 0) : Type 0 where
-  pub stop : Stop
-  pub rest : List ℕ
-  pub parts : List Part
-  pub is : course ≡ record { parts = parts; stop = Some stop; left = rest }
-  pub two : (stop ≡ NamespaceRule) ⊎ (stop ≡ Deep)
-  pub long : length x < length rest
-  pub cause : why
+-- Bytes that lead there.
+abbrev pub Led : Mode → List Open → List ℕ → Mode → List Open → Type 0
+Led mode opens bytes m o = Way P (mode, opens) bytes (m, o)
 
-pub doomed-more : (ps : List Part) (c d : Course) (x y : List ℕ) (A B : Type 0) → d ≡ with_parts ps c → length y ≤ length x → (A → B) → Doomed c x A → Doomed d y B
-doomed-more ps c d x y A B e h f g = record {
-  stop = g.stop;
-  rest = g.rest;
-  parts = ps ++ g.parts;
-  is = e ∙ ap (with_parts ps) g.is;
-  two = g.two;
-  long = omega (arith, h, g.long);
-  cause = f g.cause;
+-- one token by its row
+piece-led : (opens : List Open) → AllWhole opens → (n : ℕ) (bytes : List ℕ) (g : Given) → Piece n opens bytes g → Led (Inside (Content n)) opens bytes (landing g) g.opens
+piece-led opens whole n bytes g piece =
+    let r = piece-said n opens whole bytes g piece in
+    record { text = r.text; spelled = r.spelled; allowed = r.allowed; steps = takes-run r.text (Content n) opens g r.takes }
+
+-- leaves
+letters-run : (o : Open) (outer : List Open) (cs : List ℕ) (n : ℕ) → InText cs → clean n cs ≡ true → Runs (Inside (Content n)) (o ∷ outer) cs (Inside (Content (state n cs))) (o ∷ outer)
+letters-run o outer [] n a e = refl
+letters-run o outer (c ∷ cs) n a e =
+    let closes = not-so (closes_section n c) (and-first (not (closes_section n c)) (clean (brackets_with n c) cs) e) in
+    let more = letters-run o outer cs (brackets_with n c) a.2 (and-second (not (closes_section n c)) (clean (brackets_with n c) cs) e) in
+    let text = a.1 in
+    let one : (c == 60) ≡ false = grind arith in
+    let two : (c == 38) ≡ false = grind arith in
+    rw (one, two, closes) more
+
+pub in-text : (bytes cs : List ℕ) → Many (Character is_in_text) bytes cs → InText cs
+in-text bytes [] g = tt
+in-text bytes (c ∷ cs) (front, back, e, g, more) = (g.allowed, g.passes, in-text back cs more)
+
+-- a leaf from a count of brackets on: a text only where none stand before it
+abbrev pub Fits : ℕ → Bool → Type 0
+Fits n text = (n ≡ 0) ⊎ (text ≡ false)
+
+leaf-led : (o : Open) (outer : List Open) → AllWhole (o ∷ outer) → (n : ℕ) (l : Leaf) (bytes : List ℕ) → Fits n (is_text l) → IsLeaf bytes l → (m : ℕ) × Led (Inside (Content n)) (o ∷ outer) bytes (Inside (Content m)) (o ∷ outer) × ((is_text l ≡ true) ⊎ (m ≡ 0))
+leaf-led o outer whole n (Text text) bytes (inr e) h = absurd (cc)
+leaf-led o outer whole n (Text text) bytes (inl z) h =
+    let c = h.characters in
+    let are = characters-are is_in_text bytes c.characters c.each in
+    let clear : clean n c.characters ≡ true = ap (λ m. clean m c.characters) z ∙ word-without c.characters (ap (λ xs. contains (codes "]]>") xs) (sym are.0) ∙ c.none) in (
+      state n c.characters,
+      record { text = c.characters; spelled = are.0; allowed = are.1; steps = letters-run o outer c.characters n (in-text bytes c.characters c.each) clear },
+      inl refl,
+    )
+leaf-led o outer whole n other bytes f h = (0, piece-led (o ∷ outer) whole n bytes _ (Leaf-of other h refl refl), inr refl)
+
+-- Where a start tag may come: its name behind a `<` leads on as it does a start tag.
+pub record Ready (mode : Mode) (opens all : List Open) (before : List ℕ) : Type 0 where
+  pub text : List ℕ
+  pub spelled : before ≡ bytes_of text
+  pub allowed : Allowed text
+  pub goes : (x : ℕ) (w : List ℕ) (m : Mode) (o : List Open) → begins_name x ≡ true → Runs (Inside (StartTag Opened)) all (x ∷ w) m o → Runs mode opens (text ++ 60 ∷ x ∷ w) m o
+
+abbrev ready-led : (mode : Mode) (opens : List Open) (bytes : List ℕ) (n : ℕ) (o : List Open) → Led mode opens bytes (Inside (Content n)) o → Ready mode opens o bytes
+ready-led mode opens bytes n all l = record {
+  text = l.text;
+  spelled = l.spelled;
+  allowed = l.allowed;
+  goes = λ x w m o e r. steps-then P l.text (60 ∷ x ∷ w) (mode, opens) (Inside (Content n), all) (m, o) l.steps (rw (name-no-slash x e, name-no-bang x e) r);
 }
 
-abbrev pub TreeCourse : ℕ → List Tag → List ℕ → List ℕ → Course
-TreeCourse total tags v x = goes_on (start_moves total (place total (60 ∷ (v ++ x))) (opens_of tags) (v ++ x)) (content_at total)
+pub root-run : (before : List ℕ) (l : Prolog-led AtBegin before) (x : ℕ) (w : List ℕ) (m : Mode) (o : List Open) → begins_name x ≡ true → Runs (Inside (StartTag Opened)) [] (x ∷ w) m o → Runs Begin [] (l.1.text ++ 60 ∷ x ∷ w) m o
+root-run before l x w m o e r =
+    let next = l.2.next in
+    subst (λ xs. Runs Begin [] xs m o) (append_assoc l.1.text (60 ∷ []) (x ∷ w))
+    (steps-then P (l.1.text ++ 60 ∷ []) (x ∷ w) (Begin, []) (mode_of next, []) (m, o) (early-runs (l.1.text ++ 60 ∷ []) AtBegin next (steps-on early_next l.1.text AtBegin l.0 next 60 l.1.steps l.2.less))
+    (subst (λ v. comes (place v) (λ p. Steps P p w (m, o)) (λ u. ⊥)) (sym (step-is next [] x ∙ ap (λ n. root_or [] n x) (l.2.named x e))) r))
 
-abbrev pub TreeWhy : List Tag → Tree → Type 0
-TreeWhy tags tree = (meaning tree (scopes_of tags) ≡ None) ⊎ (16 < length tags + depth tree)
+abbrev pub ready-prolog : (before : List ℕ) → IsProlog before tt → Ready Begin [] [] before
+ready-prolog before h =
+    let l = prolog-led before h in
+    record { text = l.1.text; spelled = l.1.spelled; allowed = l.1.allowed; goes = λ x w m o e r. root-run before l x w m o e r }
 
-abbrev pub ContentWhy : List Tag → Content → Type 0
-ContentWhy tags c = (meanings c (scopes_of tags) ≡ None) ⊎ (16 < length tags + depths c)
+-- start tags
+-- where one is about to end
+pub record TagRun (mode : Mode) (opens all : List Open) (bytes : List ℕ) (tag : Tag) (e : ℕ) : Type 0 where
+  pub turn : Turn
+  pub led : Led mode opens bytes (Inside turn) all
+  pub gives : step_turn turn all e ≡ Done (tag_given all (tag, e))
 
-pub record TreeRun (total : ℕ) (tags : List Tag) (tree : Tree) (v x : List ℕ) : Type 0 where
-  pub parts : List Part
-  pub is : TreeParts tree (place total (60 ∷ (v ++ x))) (scopes_of tags) (60 ∷ v) parts
-  pub deep : length tags + depth tree ≤ 16
-  pub run : TreeCourse total tags v x ≡ with_parts parts (content_at total (opens_of tags) x)
+module _ (mode : Mode) (opens all : List Open) (before : List ℕ) (r : Ready mode opens all before) (inside : List ℕ) (tag : Tag) (e : ℕ) (ends : ends_tag e ≡ true) (t : IsTag inside tag) where
+  abbrev g : Given
+  g = tag_given all (tag, e)
 
-pub record ContentRun (total : ℕ) (tags : List Tag) (c : Content) (w x : List ℕ) : Type 0 where
-  pub parts : List Part
-  pub is : ContentParts c (place total (w ++ x)) (scopes_of tags) w parts
-  pub deep : length tags + depths c ≤ 16
-  pub run : content_at total (opens_of tags) (w ++ x) ≡ with_parts parts (content_at total (opens_of tags) x)
+  pub tag-run : TagRun mode opens all (before ++ 60 ∷ inside) tag e
+  tag-run =
+      let w = tag-way inside tag e t ends in
+      let v = way-in step_tag (T all) StartTag (λ found. Done (tag_given all found)) (λ m c. refl) w.5.1 in
+      record {
+        turn = StartTag w.5.0;
+        led = record {
+          text = r.text ++ 60 ∷ w.0 ∷ v.text;
+          spelled = ap (λ xs. before ++ 60 ∷ xs) (w.2 ∙ ap (λ xs. encode_utf8 w.0 ++ xs) v.spelled) ∙ ap (λ xs. xs ++ 60 ∷ bytes_of (w.0 ∷ v.text)) r.spelled ∙ ap (λ xs. bytes_of r.text ++ xs) (sym (less-bytes (w.0 ∷ v.text))) ∙ sym (bytes-append r.text (60 ∷ w.0 ∷ v.text));
+          allowed = allowed-append r.text (60 ∷ w.0 ∷ v.text) r.allowed (refl, (w.3, v.allowed));
+          steps = r.goes w.0 v.text (Inside (StartTag w.5.0)) all w.4 (rw w.4 (turn-runs all v.text (StartTag (Name (name_begun w.0))) (StartTag w.5.0) v.steps));
+        };
+        gives = ap (λ x. leads x StartTag (λ found. Done (tag_given all found))) w.5.2;
+      }
 
-abbrev pub TreeResult : ℕ → List Tag → Tree → List ℕ → List ℕ → Type 0
-TreeResult total tags tree v x = TreeRun total tags tree v x ⊎ Doomed (TreeCourse total tags v x) x (TreeWhy tags tree)
+  tag-led : Led mode opens (before ++ 60 ∷ (inside ++ e ∷ [])) (landing g) g.opens
+  tag-led =
+      let u = tag-run in
+      way-then P (before ++ 60 ∷ (inside ++ e ∷ [])) (sym (append_assoc before (60 ∷ inside) (e ∷ []))) u.led (way-byte P e refl (end-plain e ends).0 (end-plain e ends).1 (ap (λ x. place (inside_move all x)) u.gives))
 
-abbrev pub ContentResult : ℕ → List Tag → Content → List ℕ → List ℕ → Type 0
-ContentResult total tags c w x = ContentRun total tags c w x ⊎ Doomed (content_at total (opens_of tags) (w ++ x)) x (ContentWhy tags c)
+-- elements and what stands in them
+abbrev pub over : List Open → Mode
+over opens = landing (given Ended opens (Content 0))
 
--- the bytes of tags
-tails : (b c : ℕ) (x y : List ℕ) → b ∷ x ≡ c ∷ y → (b ≡ c) × (x ≡ y)
-tails b c x y e = (cc, cc)
+shut-run : (tag : Tag) (opens : List Open) → Runs (landing (given (Slash tag) opens Slashed)) opens (62 ∷ []) (over opens) opens
+shut-run tag [] = refl
+shut-run tag (o ∷ outer) = refl
 
--- an element in brief: its start tag's bytes, and what is told of it
-doomed-tag : (stop : Stop) (rest : List ℕ) (c : Course) (x : List ℕ) (why : Type 0) → c ≡ record { parts = []; stop = Some stop; left = rest } → (stop ≡ NamespaceRule) ⊎ (stop ≡ Deep) → length x < length rest → why → Doomed c x why
-doomed-tag stop rest c x why e two long cause = record { stop = stop; rest = rest; parts = []; is = e; two = two; long = long; cause = cause }
+abbrev pub ContentLed : Open → List Open → ℕ → List ℕ → Type 0
+ContentLed o outer n bytes = (k : ℕ) × Led (Inside (Content n)) (o ∷ outer) bytes (Inside (Content k)) (o ∷ outer)
 
-module _ (total : ℕ) (tags : List Tag) (u : List ℕ) (t : Tag) (g : IsTag u t) (deep : length tags ≤ 16) where
-  -- an empty element
-  abbrev V : List ℕ
-  V = u ++ 47 ∷ 62 ∷ []
+module _ (mode : Mode) (opens all : List Open) (before : List ℕ) (r : Ready mode opens all before) where
+  empty-led : (tag : Tag) (bytes : List ℕ) → IsEmptyTag bytes tag → Led mode opens (before ++ bytes) (over all) all
+  empty-led tag bytes h =
+      let p = parts-of (47 ∷ 62 ∷ []) bytes tag h in
+      let slash : List ℕ = before ++ 60 ∷ (p.inside ++ 47 ∷ []) in
+      let whole : before ++ bytes ≡ slash ++ 62 ∷ [] = ap (λ xs. before ++ xs) (p.spelled ∙ ap (λ xs. 60 ∷ xs) (sym (append_assoc p.inside (47 ∷ []) (62 ∷ [])))) ∙ sym (append_assoc before (60 ∷ (p.inside ++ 47 ∷ [])) (62 ∷ [])) in
+      way-then P (before ++ bytes) whole (tag-led mode opens all before r p.inside tag 47 refl p.is) (way-text P (62 ∷ []) refl refl (shut-run tag all))
 
-  empty-run : (x : List ℕ) → IsEmptyTag (60 ∷ V) t → length (60 ∷ (V ++ x)) ≤ total → TreeResult total tags (EmptyElement t) V x
-  empty-run x bare h = by (start-run tags total (place total (60 ∷ (V ++ x))) u t g 47 (62 ∷ x) refl deep) where
-    at-course : (r : Result Moved Halted) → start_moves total (place total (60 ∷ (V ++ x))) (opens_of tags) (u ++ 47 ∷ 62 ∷ x) ≡ r → TreeCourse total tags V x ≡ goes_on r (content_at total)
-    at-course r e =
-        ap (λ xs. goes_on (start_moves total (place total (60 ∷ (V ++ x))) (opens_of tags) xs) (content_at total)) (append_assoc u (47 ∷ 62 ∷ []) x)
-        ∙ ap (λ r. goes_on r (content_at total)) e
+  inside-led : (tag : Tag) (bytes start inside : List ℕ) → bytes ≡ before ++ (start ++ inside) → IsStartTag start tag → ContentLed (opened tag) all 0 inside → (k : ℕ) × Led mode opens bytes (Inside (Content k)) (opened tag ∷ all)
+  inside-led tag bytes start inside e s (k, q) =
+      let p = parts-of (62 ∷ []) start tag s in (
+        k,
+        way-then P bytes (e ∙ sym (append_assoc before start inside) ∙ ap (λ xs. (before ++ xs) ++ inside) p.spelled) (tag-led mode opens all before r p.inside tag 62 refl p.is) q,
+      )
 
-    long : length x < length (u ++ 47 ∷ 62 ∷ x)
-    long = omega (arith, length-append u (47 ∷ 62 ∷ x))
+  full-led : (tag : Tag) (bytes start inside closing : List ℕ) → AllWhole all → bytes ≡ start ++ (inside ++ closing) → IsStartTag start tag → IsEndTag tag.name closing tt → ContentLed (opened tag) all 0 inside → Led mode opens (before ++ bytes) (over all) all
+  full-led tag bytes start inside closing whole e s d c =
+      let first = inside-led tag (before ++ (start ++ inside)) start inside refl s c in
+      way-then P (before ++ bytes) (ap (λ xs. before ++ xs) (e ∙ sym (append_assoc start inside closing)) ∙ sym (append_assoc before (start ++ inside) closing)) first.1
+      (piece-led (opened tag ∷ all) (start-name start tag s, whole) first.0 closing (given Ended all (Content 0)) (End-of (opened tag) all refl d refl))
 
-    deep-why : length tags ≡ 16 → 16 < length tags + 1
-    deep-why e = omega (arith, e)
-
-    place-end : place total (47 ∷ 62 ∷ x) + 2 ≡ place total (60 ∷ (V ++ x)) + length (60 ∷ V)
-    place-end = omega (arith, h, length-append V x, length-append u (47 ∷ 62 ∷ []))
-
-    by : IsDeep tags total (place total (60 ∷ (V ++ x))) u t g 47 (62 ∷ x) refl deep ⊎ (IsRuleBroken tags total (place total (60 ∷ (V ++ x))) u t g 47 (62 ∷ x) refl deep ⊎ Says tags total (place total (60 ∷ (V ++ x))) u t g 47 (62 ∷ x) refl deep) → TreeResult total tags (EmptyElement t) V x
-    by (inl d) = inr (doomed-tag Deep (u ++ 47 ∷ 62 ∷ x) (TreeCourse total tags V x) x (TreeWhy tags (EmptyElement t)) (at-course _ d.moves) (inr refl) long (inr (deep-why d.full)))
-    by (inr (inl d)) =
-        inr (doomed-tag NamespaceRule (47 ∷ 62 ∷ x) (TreeCourse total tags V x) x (TreeWhy tags (EmptyElement t)) (at-course _ d.moves) (inl refl) (omega arith) (inl (ap (λ o. of_tag o (Some document.End)) d.none)))
-    by (inr (inr d)) =
-        inl (record {
-          parts = Start (place total (60 ∷ (V ++ x))) (place total (47 ∷ 62 ∷ x)) d.name d.attrs ∷ End (place total (47 ∷ 62 ∷ x)) ∷ [];
-          is = (d.name, d.attrs, place total (47 ∷ 62 ∷ x), bare, d.says, place-end, refl);
-          deep = d.room;
-          run = at-course _ d.moves;
-        })
-
-  -- an element with content
-  module _ (content : Content) (inside closing : List ℕ) (ends : IsEndTag t.name closing tt) where
-    abbrev F : List ℕ
-    F = (u ++ 62 ∷ []) ++ (inside ++ closing)
-
-    abbrev Z : List ℕ → List ℕ
-    Z x = inside ++ (closing ++ x)
-
-    full-run : (x : List ℕ) → IsStartTag (60 ∷ (u ++ 62 ∷ [])) t → length (60 ∷ (F ++ x)) ≤ total → (length tags + 1 ≤ 16 → length (Z x) ≤ total → ContentResult total (t ∷ tags) content inside (closing ++ x)) → TreeResult total tags (Full t content) F x
-    full-run x start h inner = by (start-run tags total (place total (60 ∷ (F ++ x))) u t g 62 (Z x) refl deep) where
-      spread : F ++ x ≡ u ++ 62 ∷ Z x
-      spread = append_assoc (u ++ 62 ∷ []) (inside ++ closing) x ∙ ap (λ xs. (u ++ 62 ∷ []) ++ xs) (append_assoc inside closing x) ∙ append_assoc u (62 ∷ []) (Z x)
-
-      at-course : (r : Result Moved Halted) → start_moves total (place total (60 ∷ (F ++ x))) (opens_of tags) (u ++ 62 ∷ Z x) ≡ r → TreeCourse total tags F x ≡ goes_on r (content_at total)
-      at-course r e = ap (λ xs. goes_on (start_moves total (place total (60 ∷ (F ++ x))) (opens_of tags) xs) (content_at total)) spread ∙ ap (λ r. goes_on r (content_at total)) e
-
-      sizes : length (60 ∷ (F ++ x)) ≡ length u + 2 + length (Z x)
-      sizes = ap (λ xs. suc (length xs)) spread ∙ omega (arith, length-append u (62 ∷ Z x))
-
-      long-z : length x ≤ length (Z x)
-      long-z = omega (arith, length-append inside (closing ++ x), length-append closing x)
-
-      long-u : length x < length (u ++ 62 ∷ Z x)
-      long-u = omega (arith, length-append u (62 ∷ Z x), long-z)
-
-      long-one : length x < suc (length (Z x))
-      long-one = omega (arith, long-z)
-
-      deep-why : length tags ≡ 16 → 16 < length tags + suc (depths content)
-      deep-why e = omega (arith, e)
-
-      place-z : place total (Z x) ≡ place total (60 ∷ (F ++ x)) + length (60 ∷ (u ++ 62 ∷ []))
-      place-z = omega (arith, h, sizes, length-append u (62 ∷ []))
-
-      place-closing : place total (closing ++ x) ≡ place total (60 ∷ (F ++ x)) + length (60 ∷ (u ++ 62 ∷ [])) + length inside
-      place-closing = omega (arith, h, sizes, length-append u (62 ∷ []), length-append inside (closing ++ x))
-
-      place-end : place total (62 ∷ Z x) + 1 ≡ place total (60 ∷ (F ++ x)) + length (60 ∷ (u ++ 62 ∷ []))
-      place-end = omega (arith, h, sizes, length-append u (62 ∷ []))
-
-      fits : length (Z x) ≤ total
-      fits = omega (arith, h, sizes)
-
-      said : Says tags total (place total (60 ∷ (F ++ x))) u t g 62 (Z x) refl deep → ContentResult total (t ∷ tags) content inside (closing ++ x) → TreeResult total tags (Full t content) F x
-      said d (inr c) =
-          inr (doomed-more (Start (place total (60 ∷ (F ++ x))) (place total (62 ∷ Z x)) d.name d.attrs ∷ []) (content_at total (opens_of (t ∷ tags)) (Z x)) (TreeCourse total tags F x) (closing ++ x) x (ContentWhy (t ∷ tags) content) (TreeWhy tags (Full t content)) (at-course _ d.moves) (omega (arith, length-append closing x)) why c)
-        where
-          more : (n k : ℕ) → 16 < suc n + k → 16 < n + suc k
-          more n k h = omega (arith, h)
-
-          why : ContentWhy (t ∷ tags) content → TreeWhy tags (Full t content)
-          why (inl none) = inl (ap (λ o. of_tag o (meanings content (scopes_of (t ∷ tags)))) d.says ∙ ap (of_tag (Some (d.name, d.attrs))) none)
-          why (inr many) = inr (more (length tags) (depths content) many)
-      said d (inl c) =
-          inl (record {
-            parts = Start (place total (60 ∷ (F ++ x))) (place total (62 ∷ Z x)) d.name d.attrs ∷ (c.parts ++ End (place total (closing ++ x)) ∷ []);
-            is = (
-              d.name,
-              d.attrs,
-              place total (62 ∷ Z x),
-              60 ∷ (u ++ 62 ∷ []),
-              inside,
-              closing,
-              c.parts,
-              refl,
-              start,
-              ends,
-              d.says,
-              place-end,
-              subst (λ n. ContentParts content n (scopes_of (t ∷ tags)) inside c.parts) place-z c.is,
-              ap (λ n. Start (place total (60 ∷ (F ++ x))) (place total (62 ∷ Z x)) d.name d.attrs ∷ (c.parts ++ End n ∷ [])) place-closing,
-            );
-            deep = less (length tags) (depths content) c.deep;
-            run = at-course _ d.moves
-                ∙ ap (with_parts (Start (place total (60 ∷ (F ++ x))) (place total (62 ∷ Z x)) d.name d.attrs ∷ [])) (c.run ∙ ap (with_parts c.parts) (content-next total (open_of t) (opens_of tags) (closing ++ x) ∙ ap (λ r. goes_on r (content_at total)) (end-piece total t.name (opens_of tags) (opens_of (t ∷ tags)) closing x ends)))
-                ∙ ap (with_parts (Start (place total (60 ∷ (F ++ x))) (place total (62 ∷ Z x)) d.name d.attrs ∷ [])) (parts-twice c.parts (End (place total (closing ++ x)) ∷ []) (content_at total (opens_of tags) x));
-          })
-        where
-          less : (n k : ℕ) → suc n + k ≤ 16 → n + suc k ≤ 16
-          less n k h = omega (arith, h)
-
-      by : IsDeep tags total (place total (60 ∷ (F ++ x))) u t g 62 (Z x) refl deep ⊎ (IsRuleBroken tags total (place total (60 ∷ (F ++ x))) u t g 62 (Z x) refl deep ⊎ Says tags total (place total (60 ∷ (F ++ x))) u t g 62 (Z x) refl deep) → TreeResult total tags (Full t content) F x
-      by (inl d) = inr (doomed-tag Deep (u ++ 62 ∷ Z x) (TreeCourse total tags F x) x (TreeWhy tags (Full t content)) (at-course _ d.moves) (inr refl) long-u (inr (deep-why d.full)))
-      by (inr (inl d)) =
-          inr (doomed-tag NamespaceRule (62 ∷ Z x) (TreeCourse total tags F x) x (TreeWhy tags (Full t content)) (at-course _ d.moves) (inl refl) long-one (inl (ap (λ o. of_tag o (meanings content (scopes_of (t ∷ tags)))) d.none)))
-      by (inr (inr d)) = said d (inner d.room fits)
-
--- content, piece by piece
-pub tree-name : (tree : Tree) (v : List ℕ) → IsTree tree (60 ∷ v) → (y : List ℕ) → next_is may_begin_name (v ++ y) ≡ true
-tree-name (EmptyElement t) v g y =
-    let b = empty-parts (60 ∷ v) t g in
-    let same = (tails 60 60 v (b.0 ++ 47 ∷ 62 ∷ []) b.1).1 in
-    ap (next_is may_begin_name) (ap (λ xs. xs ++ y) same ∙ append_assoc b.0 (47 ∷ 62 ∷ []) y) ∙ tag-begins b.0 (47 ∷ 62 ∷ y) t b.2
-tree-name (Full t content) v (start, inside, closing, e, is, others, ends) y =
-    let b = start-parts start t is in
-    let same = (tails 60 60 v ((b.0 ++ 62 ∷ []) ++ (inside ++ closing)) (e ∙ ap (λ xs. xs ++ (inside ++ closing)) b.1)).1 in
-    ap (next_is may_begin_name) (ap (λ xs. xs ++ y) (same ∙ append_assoc b.0 (62 ∷ []) (inside ++ closing)) ∙ append_assoc b.0 (62 ∷ (inside ++ closing)) y) ∙ tag-begins b.0 (62 ∷ (inside ++ closing) ++ y) t b.2
-
--- what follows a literal text is markup
-pub begins-markup : (w x : List ℕ) (b : ℕ) (v : List ℕ) → w ≡ b ∷ v → markup b ≡ true → Follows markup (w ++ x)
-begins-markup w x b v e h = subst (λ xs. Follows markup (xs ++ x)) (sym e) h
-
-pub leaf-markup : (leaf : Leaf) (front back x : List ℕ) → IsLeaf front leaf → is_text leaf ≡ false → Follows markup (front ++ (back ++ x))
-leaf-markup (Text text) front back x g h = absurd (cc)
-leaf-markup (Reference c) front back x g h = let b = begins-reference front c g in begins-markup front (back ++ x) 38 b.0 b.1 refl
-leaf-markup (Section text) front back x g h = let b = is-section front text g in begins-markup front (back ++ x) 60 (33 ∷ 91 ∷ b.0) b.1 refl
-leaf-markup Comment front back x g h = let b = is-comment front g in begins-markup front (back ++ x) 60 b.0 b.1 refl
-
-after-text : (leaf : Leaf) (more : Content) (back x : List ℕ) → IsContent more back → (is_text leaf && begins_with_text more) ≡ false → Calm (LeafThen leaf more) x → is_text leaf ≡ true → Follows markup (back ++ x)
-after-text leaf Nothing back x g lone calm ist = subst (λ xs. Follows markup (xs ++ x)) (sym g) (calm ist)
-after-text leaf (LeafThen next more) back x (front, behind, e, g, others, apart) lone calm ist =
-    subst (λ xs. Follows markup xs) (sym (ap (λ xs. xs ++ x) e ∙ append_assoc front behind x)) (leaf-markup next front behind x g (sym (ap (λ t. t && is_text next) ist) ∙ lone))
-after-text leaf (TreeThen tree more) back x (front, behind, e, g, others) lone calm ist =
-    let b = tree-first tree front g in
-    subst (λ xs. Follows markup xs) (sym (ap (λ xs. xs ++ x) e ∙ append_assoc front behind x)) (begins-markup front (behind ++ x) 60 b.0 b.1 refl)
-
-calm-more : (leaf : Leaf) (more : Content) (x : List ℕ) → Calm (LeafThen leaf more) x → Calm more x
-calm-more leaf Nothing x calm h = absurd (cc)
-calm-more leaf (LeafThen next more) x calm h = calm h
-calm-more leaf (TreeThen tree more) x calm h = calm h
-
-module _ (total : ℕ) (t : Tag) (outer : List Tag) (w front back x : List ℕ) (e : w ≡ front ++ back) (h : length (w ++ x) ≤ total) where
-  abbrev O : List Open
-  O = opens_of (t ∷ outer)
-
-  behind : w ++ x ≡ front ++ (back ++ x)
-  behind = ap (λ xs. xs ++ x) e ∙ append_assoc front back x
-
-  size : length (w ++ x) ≡ length front + length (back ++ x)
-  size = ap length behind ∙ length-append front (back ++ x)
-
-  place-behind : place total (back ++ x) ≡ place total (w ++ x) + length front
-  place-behind = omega (arith, h, size)
-
-  fits-behind : length (back ++ x) ≤ total
-  fits-behind = omega (arith, h, size)
-
-  leaf-then : (leaf : Leaf) (more : Content) → IsLeaf front leaf → (is_text leaf && begins_with_text more) ≡ false → (is_text leaf ≡ true → Follows markup (back ++ x)) → ContentResult total (t ∷ outer) more back x → ContentResult total (t ∷ outer) (LeafThen leaf more) w x
-  leaf-then leaf more g lone f r = by r where
-    first : content_at total O (w ++ x) ≡ with_parts (leaf_parts (place total (w ++ x)) leaf) (content_at total O (back ++ x))
-    first =
-        ap (content_at total O) behind
-        ∙ content-next total (open_of t) (opens_of outer) (front ++ (back ++ x))
-        ∙ ap (λ r. goes_on r (content_at total)) (leaf-piece total t.name (opens_of outer) O front (back ++ x) leaf g f)
-        ∙ ap (λ xs. with_parts (leaf_parts (place total xs) leaf) (content_at total O (back ++ x))) (sym behind)
-
-    by : ContentResult total (t ∷ outer) more back x → ContentResult total (t ∷ outer) (LeafThen leaf more) w x
-    by (inr d) =
-        inr (doomed-more (leaf_parts (place total (w ++ x)) leaf) (content_at total O (back ++ x)) (content_at total O (w ++ x)) x x (ContentWhy (t ∷ outer) more) (ContentWhy (t ∷ outer) (LeafThen leaf more)) first (omega arith) why d)
-      where
-        why : ContentWhy (t ∷ outer) more → ContentWhy (t ∷ outer) (LeafThen leaf more)
-        why (inl none) = inl (ap (and_joined (leaf_says leaf)) none)
-        why (inr many) = inr many
-    by (inl c) =
-        inl (record {
-          parts = leaf_parts (place total (w ++ x)) leaf ++ c.parts;
-          is = (front, back, c.parts, e, g, lone, subst (λ n. ContentParts more n (scopes_of (t ∷ outer)) back c.parts) place-behind c.is, refl);
-          deep = c.deep;
-          run = first ∙ ap (with_parts (leaf_parts (place total (w ++ x)) leaf)) c.run ∙ parts-twice (leaf_parts (place total (w ++ x)) leaf) c.parts (content_at total O x);
-        })
-
-  tree-then : (tree : Tree) (more : Content) (v : List ℕ) → front ≡ 60 ∷ v → IsTree tree (60 ∷ v) → TreeResult total (t ∷ outer) tree v (back ++ x) → ContentResult total (t ∷ outer) more back x → ContentResult total (t ∷ outer) (TreeThen tree more) w x
-  tree-then tree more v d g r s = by r s where
-    there : w ++ x ≡ 60 ∷ (v ++ (back ++ x))
-    there = behind ∙ ap (λ xs. xs ++ (back ++ x)) d
-
-    first : content_at total O (w ++ x) ≡ TreeCourse total (t ∷ outer) v (back ++ x)
-    first =
-        ap (content_at total O) there
-        ∙ content-next total (open_of t) (opens_of outer) (60 ∷ (v ++ (back ++ x)))
-        ∙ ap (λ r. goes_on r (content_at total)) (at-start total t.name (opens_of outer) O (v ++ (back ++ x)) (next-not is_slash (v ++ (back ++ x)) name-no-slash (tree-name tree v g (back ++ x))) (next-not is_exclamation (v ++ (back ++ x)) name-no-exclamation (tree-name tree v g (back ++ x))))
-
-    longer : length x ≤ length (back ++ x)
-    longer = omega (arith, length-append back x)
-
-    both : (n k m : ℕ) → n + k ≤ 16 → n + m ≤ 16 → n + max k m ≤ 16
-    both n k m h g = grind arith
-
-    one : (n k m : ℕ) → 16 < n + k → 16 < n + max k m
-    one n k m h = grind arith
-
-    two : (n k m : ℕ) → 16 < n + m → 16 < n + max k m
-    two n k m h = grind arith
-
-    no-children : (o : Option Meaning) → and_children o None ≡ None
-    no-children None = refl
-    no-children (Some m) = refl
-
-    by : TreeResult total (t ∷ outer) tree v (back ++ x) → ContentResult total (t ∷ outer) more back x → ContentResult total (t ∷ outer) (TreeThen tree more) w x
-    by (inr a) s =
-        inr (doomed-more [] (TreeCourse total (t ∷ outer) v (back ++ x)) (content_at total O (w ++ x)) (back ++ x) x (TreeWhy (t ∷ outer) tree) (ContentWhy (t ∷ outer) (TreeThen tree more)) first longer why a)
-      where
-        why : TreeWhy (t ∷ outer) tree → ContentWhy (t ∷ outer) (TreeThen tree more)
-        why (inl none) = inl (ap (λ o. and_children o (meanings more (scopes_of (t ∷ outer)))) none)
-        why (inr many) = inr (one (length (t ∷ outer)) (depth tree) (depths more) many)
-    by (inl a) (inr b) =
-        inr (doomed-more a.parts (content_at total O (back ++ x)) (content_at total O (w ++ x)) x x (ContentWhy (t ∷ outer) more) (ContentWhy (t ∷ outer) (TreeThen tree more)) (first ∙ a.run) (omega arith) why b)
-      where
-        why : ContentWhy (t ∷ outer) more → ContentWhy (t ∷ outer) (TreeThen tree more)
-        why (inl none) = inl (ap (and_children (meaning tree (scopes_of (t ∷ outer)))) none ∙ no-children (meaning tree (scopes_of (t ∷ outer))))
-        why (inr many) = inr (two (length (t ∷ outer)) (depth tree) (depths more) many)
-    by (inl a) (inl b) =
-        inl (record {
-          parts = a.parts ++ b.parts;
-          is = (front, back, a.parts, b.parts, e, subst (λ xs. TreeParts tree (place total (w ++ x)) (scopes_of (t ∷ outer)) xs a.parts) (sym d) (subst (λ xs. TreeParts tree (place total xs) (scopes_of (t ∷ outer)) (60 ∷ v) a.parts) (sym there) a.is), subst (λ n. ContentParts more n (scopes_of (t ∷ outer)) back b.parts) place-behind b.is, refl);
-          deep = both (length (t ∷ outer)) (depth tree) (depths more) a.deep b.deep;
-          run = first ∙ a.run ∙ ap (with_parts a.parts) b.run ∙ parts-twice a.parts b.parts (content_at total O x);
-        })
-
-no-content : (total : ℕ) (tags : List Tag) (w x : List ℕ) → length tags ≤ 16 → w ≡ [] → ContentResult total tags Nothing w x
-no-content total tags w x deep e =
-    inl (record { parts = []; is = (e, refl); deep = omega (arith, deep); run = ap (λ xs. content_at total (opens_of tags) (xs ++ x)) e })
-
-empty-at : (total : ℕ) (tags : List Tag) (t : Tag) (v x : List ℕ) → IsEmptyTag (60 ∷ v) t → length tags ≤ 16 → length (60 ∷ (v ++ x)) ≤ total → TreeResult total tags (EmptyElement t) v x
-empty-at total tags t v x g deep h =
-    let b = empty-parts (60 ∷ v) t g in
-    let same = (tails 60 60 v (b.0 ++ 47 ∷ 62 ∷ []) b.1).1 in
-    subst (λ v. TreeResult total tags (EmptyElement t) v x) (sym same) (empty-run total tags b.0 t b.2 deep x (subst (λ v. IsEmptyTag (60 ∷ v) t) same g) (subst (λ v. length (60 ∷ (v ++ x)) ≤ total) same h))
-
-full-at : (total : ℕ) (tags : List Tag) (t : Tag) (content : Content) (v x start inside closing : List ℕ) → 60 ∷ v ≡ start ++ (inside ++ closing) → IsStartTag start t → IsEndTag t.name closing tt → length tags ≤ 16 → length (60 ∷ (v ++ x)) ≤ total → (length tags + 1 ≤ 16 → length (inside ++ (closing ++ x)) ≤ total → ContentResult total (t ∷ tags) content inside (closing ++ x)) → TreeResult total tags (Full t content) v x
-full-at total tags t content v x start inside closing e is ends deep h inner =
-    let b = start-parts start t is in
-    let same = (tails 60 60 v ((b.0 ++ 62 ∷ []) ++ (inside ++ closing)) (e ∙ ap (λ xs. xs ++ (inside ++ closing)) b.1)).1 in
-    subst (λ v. TreeResult total tags (Full t content) v x) (sym same) (full-run total tags b.0 t b.2 deep content inside closing ends x (subst (λ w. IsStartTag w t) b.1 is) (subst (λ v. length (60 ∷ (v ++ x)) ≤ total) same h) inner)
-
-pub suc-less : (n : ℕ) → n + 1 ≤ 16 → suc n ≤ 16
-suc-less n h = omega (arith, h)
+fits-behind : (l : Leaf) (more : Inner) (m : ℕ) → (is_text l && begins_with_text more) ≡ false → (is_text l ≡ true) ⊎ (m ≡ 0) → Fits m (begins_with_text more)
+fits-behind l more m none (inl t) = inr (sym (ap (λ x. x && begins_with_text more) t) ∙ none)
+fits-behind l more m none (inr z) = inl z
 
 mutual
-  pub run-tree : (tree : Tree) (total : ℕ) (tags : List Tag) (v x : List ℕ) → IsTree tree (60 ∷ v) → length tags ≤ 16 → length (60 ∷ (v ++ x)) ≤ total → TreeResult total tags tree v x
-  run-tree (EmptyElement t) total tags v x g deep h = empty-at total tags t v x g deep h
-  run-tree (Full t content) total tags v x (start, inside, closing, e, is, others, ends) deep h =
-      full-at total tags t content v x start inside closing e is ends deep h
-      (λ room fits. run-content content total t tags inside (closing ++ x) others (suc-less (length tags) room) (λ h. let b = is-end t.name closing ends in begins-markup closing x 60 (47 ∷ b.0) b.1 refl) fits)
+  pub tree-led : (tree : Tree) (mode : Mode) (opens all : List Open) (before : List ℕ) (r : Ready mode opens all before) → AllWhole all → (bytes : List ℕ) → IsTree tree bytes → Led mode opens (before ++ bytes) (over all) all
+  tree-led (EmptyElement tag) mode opens all before r whole bytes h = empty-led mode opens all before r tag bytes h
+  tree-led (Full tag inner) mode opens all before r whole bytes (start, inside, closing, e, s, c, d) =
+      full-led mode opens all before r tag bytes start inside closing whole e s d (content-led inner (opened tag) all (start-name start tag s, whole) 0 inside (inl refl) c)
 
-  pub run-content : (c : Content) (total : ℕ) (t : Tag) (outer : List Tag) (w x : List ℕ) → IsContent c w → length (t ∷ outer) ≤ 16 → Calm c x → length (w ++ x) ≤ total → ContentResult total (t ∷ outer) c w x
-  run-content Nothing total t outer w x e deep calm h = no-content total (t ∷ outer) w x deep e
-  run-content (LeafThen leaf more) total t outer w x (front, back, e, g, others, lone) deep calm h =
-      leaf-then total t outer w front back x e h leaf more g lone (after-text leaf more back x others lone calm) (run-content more total t outer back x others deep (calm-more leaf more x calm) (fits-behind total t outer w front back x e h))
-  run-content (TreeThen tree more) total t outer w x (front, back, e, g, others) deep calm h =
-      let b = tree-first tree front g in
-      let is : IsTree tree (60 ∷ b.0) = subst (λ xs. IsTree tree xs) b.1 g in
-      let there : w ++ x ≡ 60 ∷ (b.0 ++ (back ++ x)) = ap (λ xs. xs ++ x) e ∙ append_assoc front back x ∙ ap (λ xs. xs ++ (back ++ x)) b.1 in
-      tree-then total t outer w front back x e h tree more b.0 b.1 is
-      (run-tree tree total (t ∷ outer) b.0 (back ++ x) is deep (subst (λ xs. length xs ≤ total) there h))
-      (run-content more total t outer back x others deep calm (fits-behind total t outer w front back x e h))
+  pub content-led : (c : Inner) (o : Open) (outer : List Open) → AllWhole (o ∷ outer) → (n : ℕ) (bytes : List ℕ) → Fits n (begins_with_text c) → IsContent c bytes → ContentLed o outer n bytes
+  content-led Nothing o outer whole n bytes f h = (n, way-none P h)
+  content-led (LeafThen l more) o outer whole n bytes f (front, back, e, h, g, none) =
+      let a = leaf-led o outer whole n l front f h in
+      let b = content-led more o outer whole a.0 back (fits-behind l more a.0 none a.2) g in
+      (b.0, way-then P bytes e a.1 b.1)
+  content-led (TreeThen tree more) o outer whole n bytes f (front, back, e, h, g) =
+      let b = content-led more o outer whole 0 back (inl refl) g in
+      (b.0, way-then P bytes e (tree-led tree (Inside (Content n)) (o ∷ outer) (o ∷ outer) [] (ready-led (Inside (Content n)) (o ∷ outer) [] n (o ∷ outer) (way-none P refl)) whole front h) b.1)
+
+-- up to a place where elements are open
+abbrev pub OpenLed : List Tag → List ℕ → Type 0
+OpenLed tags before = (n : ℕ) × Led Begin [] before (Inside (Content n)) (map opened tags)
+
+open-by : (tag : Tag) (outer : List Tag) (before earlier start inside : List ℕ) (content : Inner) → before ≡ earlier ++ (start ++ inside) → Opens outer earlier → IsStartTag start tag → IsContent content inside → Ready Begin [] (map opened outer) earlier → OpenLed (tag ∷ outer) before
+open-by tag outer before earlier start inside content e o s c r =
+    inside-led Begin [] (map opened outer) earlier r tag before start inside e s (content-led content (opened tag) (map opened outer) (start-name start tag s, opens-whole outer earlier o) 0 inside (inl refl) c)
+
+pub ready-of : (tags : List Tag) (before : List ℕ) → Opens tags before → Ready Begin [] (map opened tags) before
+ready-of [] before o = ready-prolog before o
+ready-of (tag ∷ outer) before (earlier, start, inside, content, e, o, s, c) =
+    let l = open-by tag outer before earlier start inside content e o s c (ready-of outer earlier o) in
+    ready-led Begin [] before l.0 (map opened (tag ∷ outer)) l.1
+
+pub open-led : (tag : Tag) (outer : List Tag) (before : List ℕ) → Opens (tag ∷ outer) before → OpenLed (tag ∷ outer) before
+open-led tag outer before (earlier, start, inside, content, e, o, s, c) = open-by tag outer before earlier start inside content e o s c (ready-of outer earlier o)
+
+-- The machine reads exactly the documents.
+
+-- A document in characters.
+abbrev pub Spelling : List ℕ → Type 0
+Spelling bytes = (m : Mode) × (o : List Open) × Led Begin [] bytes m o × (is_behind m ≡ true)
+
+pub document-led : (bytes : List ℕ) (tree : Tree) → IsDocument bytes tree → Spelling bytes
+document-led bytes tree d =
+    let e = tree-led tree Begin [] [] d.prolog (ready-prolog d.prolog d.is_prolog) tt d.element d.is_element in
+    let m = way-as misc_step P (λ m. (Epilog m, [])) (λ m n c f. ap (λ x. place (epilog_move [] x)) f) (misc-way d.epilog d.is_epilog) in
+    (Epilog Blanks, [], way-then P bytes (d.spelled ∙ sym (append_assoc d.prolog d.element d.epilog)) e m, refl)

@@ -1,86 +1,50 @@
--- The bytes that may begin a name are the first bytes of characters that do.
-use Rattle.std.proofs.Common.{◌≡◌, ℕ, ◌+◌, ◌/◌, ◌<◌, ◌≤◌, nat_lt, Bool, true, false, cond, ◌&&◌, ◌||◌, Ok, Err, List, [], ◌∷◌, ◌++◌, refl, sym, ap, ◌∙◌, arith, append-nil, encode_utf8, ◌⊎◌, inl, inr}
-use Rattle.std.proofs.lemmas.Bool.Decides.{nat_tests}
-use Rattle.std.proofs.lemmas.Str.{encode_ascii}
-use Rattle.cds_base.specs.Characters.{is_allowed, begins_name}
-use Rattle.cds_markup.specs.Form.{Character}
-use Rattle.cds_markup.specs.Step.{Step, after}
-use Rattle.cds_markup.specs.Reading.{any_at, behind_first, is_within}
-use Rattle.cds_markup.specs.Course.{may_begin_name}
-use Rattle.cds_markup.proofs.ReadsForm.{always}
-use Rattle.cds_markup.proofs.CharacterForm.{reads-any, Ranges, ranges, allowed-at-most}
-use Rattle.cds_markup.proofs.Wide.{encode-two, encode-three, encode-four}
-use Rattle.cds_markup.proofs.NamesForm.{wide-begins}
-use Rattle.cds_markup.proofs.Scan.{small-or-wide}
+-- The bytes of a qualified name as it is written, one at a place.
+use Rattle.std.proofs.Common.{◌≡◌, ◌==◌, ℕ, zero, suc, ◌-◌, ◌<◌, nat_lt, true, false, Option, Some, None, IfSome, List, [], ◌∷◌, ◌++◌, length, slice_get, refl, sym, ap, ◌∙◌, arith, append_assoc}
+use Rattle.cds_markup.proofs.Terms.{nat_tests, written_name}
+use Rattle.cds_markup.proofs.Machines.{empty-is, no-cons}
 
-head : (b c : ℕ) (x y : List ℕ) → b ∷ x ≡ c ∷ y → b ≡ c
-head b c x y e = cc
+get-front : (xs ys : List ℕ) (at : ℕ) → at < length xs → slice_get (xs ++ ys) at ≡ slice_get xs at
+get-front [] ys at h = absurd (omega (arith, h))
+get-front (x ∷ xs) ys zero h = refl
+get-front (x ∷ xs) ys (suc at) h = get-front xs ys at (omega (arith, h))
 
-small-begins : (b c : ℕ) → b ≡ c → c < 128 → begins_name c ≡ true → may_begin_name b ≡ true
-small-begins b c e low h = grind (arith, nat_tests)
+get-seam : (xs ys : List ℕ) (y : ℕ) → slice_get (xs ++ y ∷ ys) (length xs) ≡ Some y
+get-seam [] ys y = refl
+get-seam (x ∷ xs) ys y = get-seam xs ys y
 
-within-begins : (b : ℕ) → 194 ≤ b → b ≤ 244 → may_begin_name b ≡ true
-within-begins b low high = grind (arith, nat_tests)
+get-back : (xs ys : List ℕ) (y at : ℕ) → length xs < at → slice_get (xs ++ y ∷ ys) at ≡ slice_get ys (at - length xs - 1)
+get-back [] ys y (suc at) h = let e : at ≡ suc at - 0 - 1 = omega arith in ap (slice_get ys) e
+get-back (x ∷ xs) ys y (suc at) h =
+    let e : at - length xs - 1 ≡ suc at - suc (length xs) - 1 = omega arith in
+    get-back xs ys y at (omega (arith, h)) ∙ ap (slice_get ys) e
+get-back other ys y zero h = absurd (omega (arith, h))
 
-pub may-begin-of : (w : List ℕ) (c b : ℕ) (t : List ℕ) → Character begins_name w c → w ≡ b ∷ t → may_begin_name b ≡ true
-may-begin-of w c b t g e = by (ranges c) where
-  first : (x : ℕ) (xs : List ℕ) → encode_utf8 c ≡ x ∷ xs → b ≡ x
-  first x xs d = head b x t xs (sym e ∙ g.spelled ∙ d)
+-- a prefix, the colon and what follows
+written : (x : ℕ) (xs local : List ℕ) (at : ℕ) → slice_get (written_name (x ∷ xs) local) at ≡ slice_get ((x ∷ xs) ++ 58 ∷ local) at
+written x xs local at = ap (λ w. slice_get w at) (append_assoc (x ∷ xs) (58 ∷ []) local)
 
-  most : c ≤ 1114111
-  most = allowed-at-most c g.allowed
+pub name_plain : (prefix local : List ℕ) (at : ℕ) → (length prefix == 0) ≡ true → slice_get (written_name prefix local) at ≡ slice_get local at
+name_plain [] local at e = refl
+name_plain (x ∷ xs) local at e = no-cons (sym (empty-is (x ∷ xs) e))
 
-  by : Ranges c → may_begin_name b ≡ true
-  by (inl small) = small-begins b c (first c [] (encode_ascii c small)) small g.passes
-  by (inr (inl two)) = let f = first (192 + c / 64) _ (encode-two c two.0 two.1) in within-begins b (omega (arith, f, two.0)) (omega (arith, f, two.1))
-  by (inr (inr (inl three))) = let f = first (224 + c / 4096) _ (encode-three c three.0 three.1) in within-begins b (omega (arith, f, three.0)) (omega (arith, f, three.1))
-  by (inr (inr (inr four))) = let f = first (240 + c / 262144) _ (encode-four c four) in within-begins b (omega (arith, f, four)) (omega (arith, f, most))
+pub name_front : (prefix local : List ℕ) (at : ℕ) → nat_lt at (length prefix) ≡ true → slice_get (written_name prefix local) at ≡ slice_get prefix at
+name_front [] local at e = let none : at < 0 = grind (arith, nat_tests) in absurd (omega (arith, none))
+name_front (x ∷ xs) local at e = let less : at < length (x ∷ xs) = grind (arith, nat_tests) in written x xs local at ∙ get-front (x ∷ xs) (58 ∷ local) at less
 
-allowed-small : (b : ℕ) → b < 128 → begins_name b ≡ true → is_allowed b ≡ true
-allowed-small b low h = grind (arith, nat_tests)
+pub name_colon : (prefix local : List ℕ) (at : ℕ) → (length prefix == 0) ≡ false → (at == length prefix) ≡ true → slice_get (written_name prefix local) at ≡ Some 58
+name_colon [] local at e f = absurd (cc)
+name_colon (x ∷ xs) local at e f = let same : at ≡ length (x ∷ xs) = grind (arith, nat_tests) in written x xs local at ∙ ap (slice_get ((x ∷ xs) ++ 58 ∷ local)) same ∙ get-seam (x ∷ xs) local 58
 
-was-small : (b : ℕ) → nat_lt b 128 ≡ true → may_begin_name b ≡ true → begins_name b ≡ true
-was-small b e h = sym (ap (λ t. cond t (begins_name b) (is_within 194 244 b)) e) ∙ h
+pub name_back : (prefix local : List ℕ) (at : ℕ) → (length prefix == 0) ≡ false → nat_lt at (length prefix) ≡ false → (at == length prefix) ≡ false → slice_get (written_name prefix local) at ≡ slice_get local (at - length prefix - 1)
+name_back [] local at e f g = absurd (cc)
+name_back (x ∷ xs) local at e f g = let more : length (x ∷ xs) < at = grind (arith, nat_tests) in written x xs local at ∙ get-back (x ∷ xs) local 58 at more
 
-was-within : (b : ℕ) → nat_lt b 128 ≡ false → may_begin_name b ≡ true → is_within 194 244 b ≡ true
-was-within b e h = sym (ap (λ t. cond t (begins_name b) (is_within 194 244 b)) e) ∙ h
+-- room for one more
+get-inside : (xs : List ℕ) (at b : ℕ) → slice_get xs at ≡ Some b → at < length xs
+get-inside [] at b e = absurd (cc)
+get-inside (x ∷ xs) zero b e = omega arith
+get-inside (x ∷ xs) (suc at) b e = let h = get-inside xs at b e in omega (arith, h)
 
-or-right : (s t : Bool) → t ≡ true → (s || t) ≡ true
-or-right s t e = grind arith
-
-breaks-off : (b : ℕ) → nat_lt b 128 ≡ false → is_within 194 244 b ≡ true → any_at (b ∷ []) ≡ Err []
-unfolding any_at
-breaks-off b e h =
-    ap (λ t. after (cond t (Ok (b, [])) (Err (b ∷ []))) behind_first) (or-right (nat_lt b 128 && is_allowed b) (is_within 194 244 b) h)
-    ∙ ap (λ t. cond t (Ok (b, [])) (cond (nat_lt b 224) (Err []) (cond (nat_lt b 240) (Err []) (Err [])))) e
-    ∙ by (nat_lt b 224) (nat_lt b 240)
-  where
-    by : (s t : Bool) → ◌≡◌ {A = Step ℕ} (cond s (Err []) (cond t (Err []) (Err []))) (Err [])
-    by true t = refl
-    by false true = refl
-    by false false = refl
-
-pub first-begins : (b : ℕ) → may_begin_name b ≡ true → (c : ℕ) × (tail : List ℕ) × Character begins_name (b ∷ tail) c
-first-begins b h = by (nat_lt b 128) refl where
-  low-is : nat_lt b 128 ≡ true → b < 128
-  low-is e = grind (arith, nat_tests)
-
-  high-is : nat_lt b 128 ≡ false → 128 ≤ b
-  high-is e = grind (arith, nat_tests)
-
-  by : (t : Bool) → nat_lt b 128 ≡ t → (c : ℕ) × (tail : List ℕ) × Character begins_name (b ∷ tail) c
-  by true e =
-      let low = low-is e in
-      (b, [], record { spelled = sym (encode_ascii b low); allowed = allowed-small b low (was-small b e h); passes = was-small b e h })
-  by false e =
-      let off = breaks-off b e (was-within b e h) in
-      let f = (reads-any always).stops (b ∷ []) [] off in
-      let used : f.used ≡ b ∷ [] = sym (append-nil f.used) ∙ sym f.spelled in
-      let spelled : b ∷ f.more ≡ encode_utf8 f.value = sym (ap (λ xs. xs ++ f.more) used) ∙ f.viable.spelled in
-      (f.value, f.more, record { spelled = spelled; allowed = f.viable.allowed; passes = wide-begins f.value (wide f.value f.more spelled) f.viable.allowed })
-    where
-      wide : (c : ℕ) (more : List ℕ) → b ∷ more ≡ encode_utf8 c → 128 ≤ c
-      wide c more d = go (small-or-wide c) where
-        go : (c < 128) ⊎ (128 ≤ c) → 128 ≤ c
-        go (inl low) = absurd (omega (arith, high-is e, low, head b c more [] (d ∙ encode_ascii c low)))
-        go (inr high) = high
+pub get_room : (xs : List ℕ) (most at place : ℕ) → length xs < most → place ≡ at → (result : Option ℕ) → result ≡ slice_get xs at → IfSome result (λ b. place < most)
+get_room xs most at place h e None f = tt
+get_room xs most at place h e (Some b) f = let less = get-inside xs at b (sym f) in omega (arith, h, e, less)

@@ -1,405 +1,415 @@
--- Each part of what is open stands at its place.
-use Rattle.std.proofs.Common.{◌≡◌, ◌≢◌, ℕ, zero, suc, ◌+◌, ◌<◌, ◌≤◌, max, true, false, ◌&&◌, Option, Some, List, [], ◌∷◌, ◌++◌, length, take, refl, sym, ap, subst, ◌∙◌, arith, append_assoc, append-nil, length-append, codes, ◌⊎◌, inl, inr}
-use Rattle.cds_markup.specs.declared.name.Name.{Name}
-use Rattle.cds_markup.specs.declared.name.Attr.{Attr}
-use Rattle.cds_markup.specs.declared.part.Part.{Part}
-use Rattle.cds_markup.specs.declared.part.Part.TheVariants.{Start, End}
-use Rattle.cds_markup.specs.declared.tag.Tag.{Tag}
-use Rattle.cds_markup.specs.Grammar.{Leaf, Text, Reference, Section, Comment, Tree, EmptyElement, Full, Content, Nothing, LeafThen, TreeThen, is_text, begins_with_text, IsLeaf, IsText, IsContent, IsTag, IsEmptyTag, IsStartTag, IsEndTag}
-use Rattle.cds_markup.specs.Namespaces.{tag_says}
-use Rattle.cds_markup.specs.Document.{line_ends, depth, depths, most_bytes}
-use Rattle.cds_markup.specs.Refusal.{CanGoOn, Opens, TextByte, scopes_of}
-use Rattle.cds_markup.specs.Reading.{is_less, is_ampersand}
-use Rattle.cds_markup.specs.Parts.{TreeParts, ContentParts, OpensParts, first_non_blank, leaf_parts}
-use Rattle.cds_markup.specs.GivenParts.{Clear, StartStands, EmptyStands, LeafStands, TextStands, Stands, IsBegun}
-use Rattle.cds_markup.proofs.ReadsForm.{Follows}
-use Rattle.cds_markup.proofs.ReferenceRows.{begins-reference}
-use Rattle.cds_markup.proofs.EndRows.{is-end}
-use Rattle.cds_markup.proofs.TextRows.{TextFrom, markup}
-use Rattle.cds_markup.proofs.ContentForm.{append, Apart, ends_with_text, ends-leaf, ends-tree, content-append, content-is}
-use Rattle.cds_markup.proofs.Closing.{stands-opens}
-use Rattle.cds_markup.proofs.Told.{stands-more, leaf-content, tree-content}
-use Rattle.cds_markup.proofs.Sound.{text-is-text}
-use Rattle.cds_markup.proofs.Runs.{is-section, text-from}
-use Rattle.cds_markup.proofs.TagForm.{empty-parts, start-parts, tree-first}
-use Rattle.cds_markup.proofs.Complete.{begins-markup, leaf-markup}
-use Rattle.cds_markup.proofs.TextCut.{nothing-begun}
-use Rattle.cds_markup.proofs.TextStanding.{plain-of, of-plain, most-plain, NonBlankAt, non-blank-found}
+-- What stands inside an element, token by token, is what the grammar says.
+use Rattle.std.proofs.Common.{◌≡◌, ◌==◌, ℕ, Bool, true, false, cond, ◌⊎◌, inl, inr, List, [], ◌∷◌, ◌++◌, codes, drop, length, refl, sym, ap, subst, ◌∙◌, arith, encode_utf8, not, ◌&&◌, map, append_assoc, Option, Some, None, ◌+◌}
+use Rattle.cds_markup.proofs.Terms.{Tagging, begins_with_text, Decides-eqb, nat_tests, starts_is, drop-append_seam, append-nil, IsReference, is_allowed, Ampersand, Opened, Content, Slashed, QName, Tag, Open, Turn, Word, Character, Then, Says, Many, Maybe, name_bytes, IsBlanks, IsTag, Leaf, Text, IsLeaf, is_text, IsStartTag, IsEndTag, is_in_text, IsText, Tree, EmptyElement, Full, Nothing, LeafThen, TreeThen, IsEmptyTag, IsTree, IsContent, IsProlog, IsName, qualified, IsQName, ends_tag, brackets_with, closes_section, Token, Letter, Referred, SectionOf, Commented, Ended, Given, given, opened, is_in_run, tag_given, begins_with, Opens, Bang, Cdata, Comment, Dash, Done, EndTag, Less, Name, Next, On, Reference, Section, StartTag, Stuck, comes, drop-drop, encode_ascii, end_name_step, leads, name_begun, slash_step, step_comment, step_reference, step_tag, step_turn, Grammar-reference, Grammar-section, Grammar-comment, Inner}
+use Rattle.cds_markup.proofs.Machines.{cases, is-byte, and-both, and-first, and-second, and-no, heads, Takes, either-if, only-if}
+use Rattle.cds_markup.proofs.Characters.{bytes_of, Allowed, none-spelled, same-first, bytes-append, encoded, Spell, allowed-back, ascii-bytes, is_ascii, less-bytes}
+use Rattle.cds_markup.proofs.TagForms.{Ended-way, end-plain, reference-is, reference-said, tag-is, tag-way, qname-spell}
+use Rattle.cds_markup.proofs.ScanForms.{clean, state, without-word, comment-said, comment-whole, sec, section-said, section-whole}
+use Rattle.cds_markup.proofs.Ways.{way-then, inner-all, said-same, then-of, Said, said-byte, said-done, said-one, said-then, spaced-takes, way-blanks, way-byte, way-in, way-one, way-text, word-takes, then-says, says-then}
+use Rattle.cds_markup.proofs.WholeLaws.{name-no-bang, name-no-slash}
 
--- where a text ends markup follows, or the limit comes
-abbrev pub Quiet : ℕ → List ℕ → Type 0
-Quiet end x = Follows markup x ⊎ (most_bytes ≤ end)
+-- A name that is spelled in characters, as that of each open element is.
+abbrev pub WholeName : QName → Type 0
+WholeName q = Spell (name_bytes q)
 
-abbrev pub QuietAfter : Content → ℕ → List ℕ → Type 0
-QuietAfter c end x = ends_with_text c ≡ true → Quiet end x
+abbrev pub AllWhole : List Open → Type 0
+AllWhole [] = Unit {0}
+AllWhole (o ∷ outer) = WholeName o.name × AllWhole outer
 
-quiet-more : (leaf : Leaf) (more : Content) (end : ℕ) (x : List ℕ) → QuietAfter (LeafThen leaf more) end x → QuietAfter more end x
-quiet-more leaf Nothing end x q h = absurd (cc)
-quiet-more leaf (LeafThen next more) end x q h = q h
-quiet-more leaf (TreeThen tree more) end x q h = q h
+-- The machine inside elements.
+abbrev pub T : List Open → Turn → ℕ → Next Turn Given
+T opens = λ t c. step_turn t opens c
 
-quiet-text : (leaf : Leaf) (more : Content) (at end : ℕ) (back x : List ℕ) → IsContent more back → (is_text leaf && begins_with_text more) ≡ false → end ≡ at + length back → QuietAfter (LeafThen leaf more) end x → is_text leaf ≡ true → Quiet at (back ++ x)
-quiet-text leaf Nothing at end back x g lone place q is =
-    let same : end ≡ at = place ∙ ap (λ xs. at + length xs) g ∙ omega arith in
-    subst (λ xs. Quiet at (xs ++ x)) (sym g) (subst (λ n. Quiet n x) same (q is))
-quiet-text leaf (LeafThen next more) at end back x (front, behind, e, g, others, apart) lone place q is =
-    inl (subst (λ xs. Follows markup xs) (sym (ap (λ xs. xs ++ x) e ∙ append_assoc front behind x)) (leaf-markup next front behind x g (sym (ap (λ t. t && is_text next) is) ∙ lone)))
-quiet-text leaf (TreeThen tree more) at end back x (front, behind, e, g, others) lone place q is =
-    let b = tree-first tree front g in
-    inl (subst (λ xs. Follows markup xs) (sym (ap (λ xs. xs ++ x) e ∙ append_assoc front behind x)) (begins-markup front (behind ++ x) 60 b.0 b.1 refl))
+-- end tags, from within their name
+module _ (o : Open) (outer : List Open) where
+  abbrev E : Turn → ℕ → Next Turn Given
+  E = T (o ∷ outer)
 
-abbrev pub QuietHere : (tags : List Tag) (front : List ℕ) (parts : List Part) → OpensParts tags front parts → List ℕ → Type 0
-QuietHere [] front parts st x = Unit {0}
-QuietHere (t ∷ outer) front parts st x = QuietAfter st.6 (length front) x
+  abbrev ended : Given
+  ended = given Ended outer (Content 0)
 
-quiet-start : (tags : List Tag) (front : List ℕ) (parts : List Part) (st : OpensParts tags front parts) (start x : List ℕ) (t : Tag) → IsStartTag start t → QuietHere tags front parts st (start ++ x)
-quiet-start [] front parts st start x t is = tt
-quiet-start (inner ∷ outer) front parts st start x t is = λ ends. let b = start-parts start t is in inl (begins-markup start x 60 (b.0 ++ 62 ∷ []) b.1 refl)
+  end-step : (n : ℕ) (left : List ℕ) → drop n (name_bytes o.name) ≡ left → (c : ℕ) → E (EndTag n) c ≡ end_name_step n left outer c
+  end-step n left e c = ap (λ l. end_name_step n l outer c) e
 
--- a text where none ends
-pub open-text : (t : Tag) (outer : List Tag) (before : List ℕ) → (o : Opens (t ∷ outer) before) → ends_with_text o.3 ≡ false → (w : List ℕ) → ((n : ℕ) → TextFrom n w tt) → Opens (t ∷ outer) (before ++ w)
-open-text t outer before o apart [] text = subst (Opens (t ∷ outer)) (sym (append-nil before)) o
-open-text t outer before (b0, start, inside, content, e, o, is, others) apart (b ∷ v) text =
-    let w : List ℕ = b ∷ v in (
-      b0,
-      start,
-      inside ++ (b ∷ v),
-      append content (LeafThen (Text (b ∷ v)) Nothing),
-      ap (λ xs. xs ++ (b ∷ v)) e ∙ append_assoc b0 (start ++ inside) (b ∷ v) ∙ ap (λ xs. b0 ++ xs) (append_assoc start inside (b ∷ v)),
-      o,
-      is,
-      content-append content (LeafThen (Text (b ∷ v)) Nothing) inside (b ∷ v) (ap (λ s. s && true) apart) others (b ∷ v, [], sym (append-nil (b ∷ v)), text-is-text (b ∷ v) (text 0) some, refl, refl),
-    )
-  where
-    some : b ∷ v ≡ [] → ⊥
-    some d = cc
+  -- where characters of the name are to come
+  name-left : (d : ℕ) (text : List ℕ) (n : ℕ) → drop n (name_bytes o.name) ≡ bytes_of (d ∷ text) → (x : ℕ) × (left : List ℕ) × (drop n (name_bytes o.name) ≡ x ∷ left) × (x ∷ left ≡ bytes_of (d ∷ text))
+  name-left d text n e = let s = encoded d in (s.head, s.tail ++ bytes_of text, e ∙ ap (λ xs. xs ++ bytes_of text) s.is, ap (λ xs. xs ++ bytes_of text) (sym s.is))
 
-some-open : (t : Tag) (outer : List Tag) → ◌≡◌ {A = List Tag} (t ∷ outer) [] → ⊥
-some-open t outer e = cc
+  pub end-is : (text : List ℕ) (n : ℕ) (w : List ℕ) (g : Given) → drop n (name_bytes o.name) ≡ bytes_of text → Allowed text → Allowed w → Takes E (EndTag n) w g
+      → (blanks : List ℕ) × (w ≡ text ++ (blanks ++ 62 ∷ [])) × IsBlanks blanks tt × (is_ascii blanks ≡ true) × (g ≡ ended)
+  end-is [] n w g e a b t =
+      let s = spaced-takes E (EndTag n) (λ c. cond (c == 62) (Done ended) Stuck) (end-step n [] e) w g t in
+      let h = only-if (s.first == 62) _ _ _ s.follows in
+      (s.blanks, s.spelled ∙ ap (λ x. s.blanks ++ x ∷ s.rest) (is-byte s.first 62 h.0) ∙ ap (λ xs. s.blanks ++ 62 ∷ xs) h.1.1, s.are, s.ascii, sym h.1.0)
+  end-is (d ∷ text) n [] g e a b t = absurd t
+  end-is (d ∷ text) n (c ∷ w) g e a b t =
+      let l = name-left d text n e in
+      let m : ℕ = length (encode_utf8 c) in
+      let h = only-if (begins_with (l.0 ∷ l.1) (encode_utf8 c)) _ _ _ (subst (λ x. comes x (λ u. Takes E u w g) (λ a. (a ≡ g) × (w ≡ []))) (end-step n (l.0 ∷ l.1) l.2 c) t) in
+      let front = (starts_is Decides-eqb (l.0 ∷ l.1) (encode_utf8 c) (begins_with (l.0 ∷ l.1) (encode_utf8 c)) refl).0 h.0 in
+      let same = same-first d c (bytes_of text) (drop m (l.0 ∷ l.1)) a.0 b.0 (sym l.3 ∙ front) in
+      let r = end-is text (n + m) w g (sym (drop-drop m n (name_bytes o.name)) ∙ ap (drop m) l.2 ∙ sym same.1) a.1 b.1 h.1 in
+      (r.0, ap (λ x. x ∷ w) (sym same.0) ∙ ap (λ xs. d ∷ xs) r.1, r.2, r.3, r.4)
 
-not-byte : (b : ℕ) → is_less b ≡ false → is_ampersand b ≡ false → (b ≢ 60) × (b ≢ 38)
-not-byte b h g = (λ e. no-less e, λ e. no-and e) where
-  no-less : b ≡ 60 → ⊥
-  no-less e = let both : true ≡ false = sym (ap is_less e) ∙ h in cc
+  pub end-said : (text : List ℕ) (n : ℕ) (bytes blanks : List ℕ) → drop n (name_bytes o.name) ≡ bytes_of text → Allowed text → bytes ≡ bytes_of text ++ (blanks ++ 62 ∷ []) → IsBlanks blanks tt → Said E (EndTag n) bytes ended
+  end-said [] n bytes blanks e a d b =
+      said-then E bytes d (way-blanks E {m = EndTag n} (λ c f. end-step n [] e c ∙ ap (λ x. cond x (On (EndTag n)) (cond (c == 62) (Done ended) Stuck)) f) blanks b) (said-byte E 62 refl (omega arith) refl (end-step n [] e 62))
+  end-said (d ∷ text) n bytes blanks e a f b =
+      let l = name-left d text n e in
+      let m : ℕ = length (encode_utf8 d) in
+      let begins = (starts_is Decides-eqb (l.0 ∷ l.1) (encode_utf8 d) (begins_with (l.0 ∷ l.1) (encode_utf8 d)) refl).1 (bytes_of text) l.3 in
+      said-then E bytes (f ∙ append_assoc (encode_utf8 d) (bytes_of text) (blanks ++ 62 ∷ [])) (way-one E d refl a.0 (end-step n (l.0 ∷ l.1) l.2 d ∙ ap (λ x. cond x (On (EndTag (n + m))) Stuck) begins))
+      (end-said text (n + m) (bytes_of text ++ (blanks ++ 62 ∷ [])) blanks (sym (drop-drop m n (name_bytes o.name)) ∙ ap (drop m) (l.2 ∙ l.3) ∙ drop-append_seam (encode_utf8 d) (bytes_of text)) a.1 refl b)
 
-  no-and : b ≡ 38 → ⊥
-  no-and e = let both : true ≡ false = sym (ap is_ampersand e) ∙ g in cc
+-- a start tag in its parts: what stands between its `<` and the word that closes it
+pub record TagParts (bytes : List ℕ) (tag : Tag) (close : List ℕ) : Type 0 where
+  pub inside : List ℕ
+  pub spelled : bytes ≡ 60 ∷ (inside ++ close)
+  pub is : IsTag inside tag
 
--- the first character of a text that is no blank is found at its first byte
-pub non-blank-long : (at non_blank : ℕ) (v : List ℕ) → NonBlankAt at non_blank v → non_blank + 1 ≤ at + length v
-non-blank-long at non_blank v o = omega (arith, o.place, ap length o.spelled, length-append o.blanks (o.byte ∷ o.rest))
+abbrev pub TagWith : List ℕ → List ℕ → Tag → Type 0
+TagWith close = Then (Word (codes "<")) (λ opening. Then IsTag (λ t. Then (Word close) (λ end. Says t)))
 
-pub letter : (bytes : List ℕ) (t : Tag) (outer : List Tag) (before : List ℕ) → (o : Opens (t ∷ outer) before) → ends_with_text o.3 ≡ false → (v rest : List ℕ) → bytes ≡ before ++ (v ++ rest) → (at : ℕ) → NonBlankAt (length before) at v → CanGoOn (take (at + 1) bytes) → (byte : ℕ) × TextByte bytes (t ∷ outer) at byte
-letter bytes t outer before o apart v rest e at non_blank may = (
-  non_blank.byte,
-  record {
-    before = before ++ non_blank.blanks;
-    rest = non_blank.rest ++ rest;
-    spelled = e ∙ ap (λ xs. before ++ xs) (ap (λ xs. xs ++ rest) non_blank.spelled ∙ append_assoc non_blank.blanks (non_blank.byte ∷ non_blank.rest) rest) ∙ sym (append_assoc before non_blank.blanks (non_blank.byte ∷ (non_blank.rest ++ rest)));
-    place = non_blank.place ∙ sym (length-append before non_blank.blanks);
-    opens = open-text t outer before o apart non_blank.blanks non_blank.text;
-    inside = some-open t outer;
-    no_blank = non_blank.no_blank;
-    no_markup = not-byte non_blank.byte non_blank.no_less non_blank.no_and;
-    may_be = may;
-  },
-)
-
--- the state behind a start tag
-abbrev pub opened : (t : Tag) (tags : List Tag) (before start : List ℕ) (earlier : List Part) (name : Name) (attrs : List Attr) (end : ℕ) → OpensParts tags before earlier → IsStartTag start t → tag_says (scopes_of tags) t ≡ Some (name, attrs) → end + 1 ≡ length before + length start → length (t ∷ tags) + 0 ≤ 16 → OpensParts (t ∷ tags) (before ++ start) (earlier ++ Start (length before) end name attrs ∷ [])
-opened t tags before start earlier name attrs end st is says place shallow =
-    (name, attrs, end, before, start, [], Nothing, earlier, [], ap (λ xs. before ++ xs) (sym (append-nil start)), st, is, says, place, (refl, refl), shallow, refl)
-
-module _ (bytes : List ℕ) (limit : ℕ) (clear : (at : ℕ) → at < limit → Clear bytes at) (can : (n : ℕ) → n ≤ limit → CanGoOn (take n bytes)) where
-  abbrev pub AllStand : List Part → List Part → Type 0
-  AllStand before [] = Unit {0}
-  AllStand before (p ∷ ps) = Stands bytes before p × AllStand (before ++ p ∷ []) ps
-
-  pub all-append : (before ps qs : List Part) → AllStand before ps → AllStand (before ++ ps) qs → AllStand before (ps ++ qs)
-  all-append before [] qs a b = subst (λ xs. AllStand xs qs) (append-nil before) b
-  all-append before (p ∷ ps) qs a b = (a.0, all-append (before ++ p ∷ []) ps qs a.1 (subst (λ xs. AllStand xs qs) (sym (append_assoc before (p ∷ []) ps)) b))
-
-  heads : (p q : Part) (ps qs : List Part) → p ∷ ps ≡ q ∷ qs → (p ≡ q) × (ps ≡ qs)
-  heads p q ps qs e = (cc, cc)
-
-  pub all-each : (before ps earlier later : List Part) (p : Part) → AllStand before ps → ps ≡ earlier ++ p ∷ later → Stands bytes (before ++ earlier) p
-  all-each before [] [] later p a e = absurd (cc)
-  all-each before [] (q ∷ earlier) later p a e = absurd (cc)
-  all-each before (q ∷ ps) [] later p a e = subst (λ xs. Stands bytes xs p) (sym (append-nil before)) (subst (λ r. Stands bytes before r) (heads q p ps later e).0 a.0)
-  all-each before (q ∷ ps) (r ∷ earlier) later p a e =
-      let same = heads q r ps (earlier ++ p ∷ later) e in
-      subst (λ xs. Stands bytes xs p) (append_assoc before (q ∷ []) earlier ∙ ap (λ x. before ++ x ∷ earlier) same.0) (all-each (before ++ q ∷ []) ps earlier later p a.1 same.1)
-
-  -- a start tag
-  abbrev pub start-stands : (tags : List Tag) (before : List ℕ) (earlier : List Part) → OpensParts tags before earlier → (t : Tag) (u : List ℕ) (b : ℕ) (rest : List ℕ) → IsTag u t → (b ≡ 47) ⊎ (b ≡ 62) → bytes ≡ before ++ 60 ∷ (u ++ b ∷ rest) → (name : Name) (attrs : List Attr) → tag_says (scopes_of tags) t ≡ Some (name, attrs) → length tags + 1 ≤ 16 → (end : ℕ) → end ≡ length before + 1 + length u → end < limit → StartStands bytes earlier (length before) end name attrs
-  start-stands tags before earlier st t u b rest is ends e name attrs says room end place fits = record {
-    tags = tags;
-    tag = t;
-    found = record { before = before; inside = u; end = b; rest = rest; spelled = e; begins = refl; place = place; opens = stands-opens tags before earlier st; is_tag = is; ends = ends };
-    parts = st;
-    says = says;
-    room = omega (arith, room);
-    clear = clear end fits;
-  }
-
-  -- a literal text
-  module _ (t : Tag) (outer : List Tag) (before : List ℕ) (earlier : List Part) (st : OpensParts (t ∷ outer) before earlier) (apart : ends_with_text st.6 ≡ false) (front begun rest : List ℕ) (e : bytes ≡ before ++ (front ++ (begun ++ rest))) (text : TextFrom 0 front tt) (cut : IsBegun begun) (fits : length before + (length front + length begun) ≤ limit) where
-    abbrev o : Opens (t ∷ outer) before
-    o = (st.3, st.4, st.5, st.6, st.9, stands-opens outer st.3 st.7 st.10, st.11, content-is st.6 (length st.3 + length st.4) (scopes_of (t ∷ outer)) st.5 st.8 st.14)
-
-    found-at : (at : ℕ) → first_non_blank (length before) (front ++ begun) ≡ Some at → (byte : ℕ) × TextByte bytes (t ∷ outer) at byte × Clear bytes at
-    found-at at d =
-        let non_blank = non-blank-found text.characters front begun text.each cut (length before) at d in
-        let long = non-blank-long (length before) at (front ++ begun) non_blank in
-        let less : at + 1 ≤ limit = omega (arith, long, length-append front begun, fits) in
-        let found = letter bytes t outer before o apart (front ++ begun) rest (e ∙ ap (λ xs. before ++ xs) (sym (append_assoc front begun rest))) at non_blank (can (at + 1) less) in
-        (found.0, found.1, clear at (omega (arith, less)))
-
-    -- it ends within the limit
-    within-limit : (n : ℕ) → n ≡ length before + length front → n ≤ most_bytes
-    within-limit zero d = omega arith
-    within-limit (suc n) d = by (clear n (omega (arith, d, fits))).short
-      where
-        by : (n < most_bytes) ⊎ (length bytes ≤ most_bytes) → suc n ≤ most_bytes
-        by (inl less) = less
-        by (inr short) = omega (arith, d, short, ap length e, length-append before (front ++ (begun ++ rest)), length-append front (begun ++ rest))
-
-    pub text-stands : front ++ begun ≢ [] → ((more back : List ℕ) → begun ++ rest ≡ more ++ back → length before + length front + length more ≤ most_bytes → TextFrom 0 (front ++ more) tt → more ≡ []) → TextStands bytes earlier (length before) (first_non_blank (length before) (front ++ begun)) (line_ends front)
-    text-stands some most = record {
-      tags = t ∷ outer;
-      before = before;
-      front = front;
-      begun = begun;
-      rest = rest;
-      spelled = e;
-      begins = refl;
-      inside = some-open t outer;
-      parts = st;
-      whole = apart;
-      plain = plain-of front text;
-      cut = cut;
-      within = within-limit (length before + length front) refl;
-      some = some;
-      says = refl;
-      is_non_blank = refl;
-      found = λ at d. found-at at d;
-      longest = λ more back d h p. most more back d h (of-plain (front ++ more) p);
+pub parts-of : (close bytes : List ℕ) (tag : Tag) → TagWith close bytes tag → TagParts bytes tag close
+parts-of close bytes tag t =
+    let s = t.second in
+    let d = says-then (Word close) (λ u. s.what) s.back tag s.second in
+    record {
+      inside = s.front;
+      spelled = t.spelled ∙ ap (λ xs. xs ++ t.back) t.first ∙ ap (λ xs. 60 ∷ xs) (s.spelled ∙ ap (λ xs. s.front ++ xs) d.1);
+      is = subst (IsTag s.front) (sym d.2) s.first;
     }
 
-  -- a text that is whole
-  module _ (t : Tag) (outer : List Tag) (before : List ℕ) (earlier : List Part) (st : OpensParts (t ∷ outer) before earlier) (front rest : List ℕ) (e : bytes ≡ before ++ (front ++ rest)) (fits : length before + length front ≤ limit) where
-    abbrev opens : Opens (t ∷ outer) before
-    opens = stands-opens (t ∷ outer) before earlier st
+pub of-parts : (close bytes : List ℕ) (tag : Tag) → TagParts bytes tag close → TagWith close bytes tag
+of-parts close bytes tag p = then-of (60 ∷ []) (p.inside ++ close) tt p.spelled refl (then-of p.inside close tag refl p.is (then-says (Word close) (λ u. tag) close tag tt refl refl))
 
-    whole-text : ends_with_text st.6 ≡ false → (text : List ℕ) → IsText front text → Quiet (length before + length front) rest → AllStand earlier (leaf_parts (length before) (Text text))
-    whole-text apart text g quiet =
-        let stands : TextStands bytes earlier (length before) (first_non_blank (length before) (front ++ [])) (line_ends front) =
-        text-stands t outer before earlier st apart front [] rest e (text-from front text g) nothing-begun (omega (arith, fits)) some (λ more back d h p. most quiet more back d h p) in
-        (inr (subst (λ xs. TextStands bytes earlier (length before) (first_non_blank (length before) xs) (line_ends text)) (append-nil front ∙ sym g.characters.says) (subst (λ xs. TextStands bytes earlier (length before) (first_non_blank (length before) (front ++ [])) (line_ends xs)) (sym g.characters.says) stands)), tt)
-      where
-        some : front ++ [] ≡ [] → ⊥
-        some d = g.some (g.characters.says ∙ sym (append-nil front) ∙ d)
+-- a start tag up to the `/` of an empty element
+abbrev pub IsSlashTag : List ℕ → Tag → Type 0
+IsSlashTag = TagWith (codes "/")
 
-        none-left : (more : List ℕ) → length more ≡ 0 → more ≡ []
-        none-left [] h = refl
-        none-left (b ∷ more) h = absurd (omega (arith, h))
+abbrev pub TagCases : List Open → List ℕ → Given → Type 0
+TagCases opens bytes g = (tag : Tag) × (e : ℕ) × (ends_tag e ≡ true) × TagParts bytes tag (e ∷ []) × (g ≡ tag_given opens (tag, e))
 
-        most : Quiet (length before + length front) rest → (more back : List ℕ) → rest ≡ more ++ back → length before + length front + length more ≤ most_bytes → TextFrom 0 (front ++ more) tt → more ≡ []
-        most (inl f) more back d h p = most-plain front rest (text-from front text g) f more back d p
-        most (inr end) more back d h p = none-left more (omega (arith, end, h))
+-- the tokens inside an element
+abbrev pub leaf_token : Leaf → Token
+leaf_token (Grammar-reference c) = Referred c
+leaf_token (Grammar-section text) = SectionOf text
+leaf_token other = Commented
 
-    leaf-found : (leaf : Leaf) (b : ℕ) (v : List ℕ) → front ≡ b ∷ v → IsLeaf front leaf → is_text leaf ≡ false → (part : Part) → leaf_parts (length before) leaf ≡ part ∷ [] → LeafStands bytes earlier part
-    leaf-found leaf b v d g none part is = record {
-      tags = t ∷ outer;
-      begin = length before;
-      at = length before + length v;
-      leaf = leaf;
-      found = record { before = before; front = front; rest = rest; spelled = e; begins = refl; place = place; opens = opens; inside = some-open t outer; is_leaf = g };
-      no_text = none;
-      parts = st;
-      is = is;
-      clear = clear (length before + length v) less;
-    } where
-      long : length front ≡ suc (length v)
-      long = ap length d
+pub data Piece (n : ℕ) (opens : List Open) (bytes : List ℕ) (g : Given) : Type 0 where
+  Character-of : (c : ℕ) → Character (is_in_run n) bytes c → g ≡ given (Letter c) opens (Content (brackets_with n c)) → Piece n opens bytes g
+  Leaf-of : (l : Leaf) → IsLeaf bytes l → is_text l ≡ false → g ≡ given (leaf_token l) opens (Content 0) → Piece n opens bytes g
+  Tag-of : TagCases opens bytes g → Piece n opens bytes g
+  End-of : (o : Open) (outer : List Open) → opens ≡ o ∷ outer → IsEndTag o.name bytes tt → g ≡ given Ended outer (Content 0) → Piece n opens bytes g
 
-      place : length before + length v + 1 ≡ length before + length front
-      place = omega (arith, long)
+-- What the machine takes as one token is one.
+module _ (opens : List Open) where
+  pub start-is : (w : List ℕ) (g : Given) → Allowed w → Takes (T opens) (StartTag Opened) w g → TagCases opens (60 ∷ bytes_of w) g
+  start-is w g ok t =
+      let r = inner-all step_tag (T opens) StartTag (λ found. Done (tag_given opens found)) (λ m c. refl) (tag_given opens) (λ a. refl) w Opened g t in
+      let s = tag-is w r.0 ok r.1 in
+      (r.0.0, r.0.1, s.3, record { inside = s.0; spelled = ap (λ xs. 60 ∷ xs) s.1; is = s.2 }, sym r.2)
 
-      less : length before + length v < limit
-      less = omega (arith, long, fits)
+  -- a comment, and a section
+  comment-piece : (n : ℕ) (w : List ℕ) (g : Given) → Allowed w → Takes (T opens) (Comment 0) w g → Piece n opens (bytes_of (codes "<!--" ++ w)) g
+  comment-piece n w g ok t =
+      let r = inner-all step_comment (T opens) Comment (λ over. Done (given Commented opens (Content 0))) (λ m c. refl) (λ over. given Commented opens (Content 0)) (λ a. refl) w 0 g t in
+      Leaf-of Grammar-comment (comment-whole w ok r.1) refl (sym r.2)
 
-    pub leaf-stands : (leaf : Leaf) → IsLeaf front leaf → Apart st.6 (LeafThen leaf Nothing) → (is_text leaf ≡ true → Quiet (length before + length front) rest) → AllStand earlier (leaf_parts (length before) leaf)
-    leaf-stands (Text text) g apart quiet = whole-text (and-true (ends_with_text st.6) apart) text g (quiet refl) where
-      and-true : (s : Rattle.std.proofs.Common.Bool) → (s && true) ≡ false → s ≡ false
-      and-true s h = grind arith
-    leaf-stands (Reference c) g apart quiet =
-        let b = begins-reference front c g in (inl (leaf-found (Reference c) 38 b.0 b.1 g refl _ refl), tt)
-    leaf-stands (Section text) g apart quiet =
-        let b = is-section front text g in (inl (leaf-found (Section text) 60 (33 ∷ 91 ∷ b.0) b.1 g refl _ refl), tt)
-    leaf-stands Comment g apart quiet = tt
+  section-piece : (n : ℕ) (w : List ℕ) (g : Given) → Allowed w → Takes (T opens) (Cdata []) w g → Piece n opens (bytes_of (codes "<![CDATA[" ++ w)) g
+  section-piece n [] g ok t = absurd t
+  section-piece n (c ∷ w) g ok t =
+      let r = inner-all sec (T opens) (λ s. Section s.0 s.1) (λ said. Done (given (SectionOf said) opens (Content 0))) (λ m c. refl) (λ said. given (SectionOf said) opens (Content 0)) (λ a. refl) (c ∷ w) (0, []) g t in
+      Leaf-of (Grammar-section r.0) (section-whole (c ∷ w) r.0 ok r.1) refl (sym r.2)
 
-  -- an empty element
-  module _ (t : Tag) (tags : List Tag) (before : List ℕ) (earlier : List Part) (st : OpensParts tags before earlier) (w x : List ℕ) (name : Name) (attrs : List Attr) (end : ℕ) (says : tag_says (scopes_of tags) t ≡ Some (name, attrs)) (place : end + 2 ≡ length before + length w) (room : length tags + 1 ≤ 16) (e : bytes ≡ before ++ (w ++ x)) (fits : length before + length w ≤ limit) where
-    module _ (u : List ℕ) (d : w ≡ 60 ∷ (u ++ 47 ∷ 62 ∷ [])) (g : IsTag u t) where
-      empty-whole : bytes ≡ before ++ 60 ∷ (u ++ 47 ∷ (62 ∷ x))
-      empty-whole = e ∙ ap (λ xs. before ++ (xs ++ x)) d ∙ ap (λ xs. before ++ 60 ∷ xs) (append_assoc u (47 ∷ 62 ∷ []) x)
+  bang-piece : (n : ℕ) (w : List ℕ) (g : Given) → Allowed w → Takes (T opens) Bang w g → Piece n opens (bytes_of (codes "<!" ++ w)) g
+  bang-piece n [] g ok t = absurd t
+  bang-piece n (c ∷ w) g ok t = elim (either-if (c == 45) _ _ _ _ t) [
+    | inl h ↦ subst (λ x. Piece n opens (bytes_of (codes "<!" ++ x ∷ w)) g) (sym (is-byte c 45 h.0)) (dash w ok.1 h.1)
+    | inr h ↦ subst (λ x. Piece n opens (bytes_of (codes "<!" ++ x ∷ w)) g) (sym (is-byte c 91 (only-if (c == 91) _ _ _ h.1).0)) (cdata w ok.1 (only-if (c == 91) _ _ _ h.1).1)
+  ] where
+    dash : (w : List ℕ) → Allowed w → Takes (T opens) Dash w g → Piece n opens (bytes_of (codes "<!-" ++ w)) g
+    dash [] ok t = absurd t
+    dash (c ∷ w) ok t = let h = only-if (c == 45) _ _ _ t in subst (λ x. Piece n opens (bytes_of (codes "<!-" ++ x ∷ w)) g) (sym (is-byte c 45 h.0)) (comment-piece n w g ok.1 h.1)
 
-      empty-long : length w ≡ length u + 3
-      empty-long = ap length d ∙ omega (arith, length-append u (47 ∷ 62 ∷ []))
+    cdata : (w : List ℕ) → Allowed w → Takes (T opens) (Cdata (codes "CDATA[")) w g → Piece n opens (bytes_of (codes "<![" ++ w)) g
+    cdata w ok t =
+        let r = word-takes (T opens) Cdata (λ b left c. refl) (codes "CDATA[") w g t in
+        subst (λ xs. Piece n opens (bytes_of (codes "<![" ++ xs)) g) (sym r.1) (section-piece n r.0 g (allowed-back (codes "CDATA[") r.0 (subst Allowed r.1 ok)) r.2)
 
-      abbrev empty-start : StartStands bytes earlier (length before) end name attrs
-      empty-start = start-stands tags before earlier st t u 47 (62 ∷ x) g (inl refl) empty-whole name attrs says room end (omega (arith, place, empty-long)) (omega (arith, place, fits))
+-- an end tag
+slash-piece : (n : ℕ) (opens : List Open) → AllWhole opens → (w : List ℕ) (g : Given) → Allowed w → comes (slash_step opens) (λ t. Takes (T opens) t w g) (λ a. (a ≡ g) × (w ≡ [])) → Piece n opens (bytes_of (codes "</" ++ w)) g
+slash-piece n [] whole w g ok t = absurd t
+slash-piece n (o ∷ outer) whole w g ok t =
+    let u = whole.0 in
+    let r = end-is o outer u.text 0 w g u.spelled u.allowed ok t in
+    let tail : List ℕ = r.0 ++ 62 ∷ [] in
+    let tail-bytes : bytes_of tail ≡ tail = bytes-append r.0 (62 ∷ []) ∙ ap (λ xs. xs ++ bytes_of (62 ∷ [])) (ascii-bytes r.0 r.3) ∙ ap (λ xs. r.0 ++ xs) (ascii-bytes (62 ∷ []) refl) in
+    let spelled : bytes_of (codes "</" ++ w) ≡ codes "</" ++ (name_bytes o.name ++ tail) =
+    bytes-append (codes "</") w ∙ ap (λ xs. xs ++ bytes_of w) (ascii-bytes (codes "</") refl) ∙ ap (λ xs. codes "</" ++ xs) (ap bytes_of r.1 ∙ bytes-append u.text tail ∙ ap (λ xs. xs ++ bytes_of tail) (sym u.spelled) ∙ ap (λ xs. name_bytes o.name ++ xs) tail-bytes)
+    in
+    End-of o outer refl (then-of (codes "</") (name_bytes o.name ++ tail) tt spelled refl (then-of (name_bytes o.name) tail tt refl refl (then-of r.0 (62 ∷ []) tt refl r.2 refl))) r.4
 
-      empty-ends : EmptyStands bytes (earlier ++ Start (length before) end name attrs ∷ []) end
-      empty-ends = record { front = earlier; begin = length before; name = name; attrs = attrs; start = empty-start; is = refl; more = x; slash = refl; closes = refl; clear = clear (end + 1) (omega (arith, place, fits)) }
+less-piece : (n : ℕ) (opens : List Open) → AllWhole opens → (w : List ℕ) (g : Given) → Allowed w → Takes (T opens) Less w g → Piece n opens (bytes_of (codes "<" ++ w)) g
+less-piece n opens whole [] g ok t = absurd t
+less-piece n opens whole (c ∷ w) g ok t = elim (either-if (c == 47) _ _ _ _ t) [
+  | inl h ↦ subst (λ x. Piece n opens (bytes_of (codes "<" ++ x ∷ w)) g) (sym (is-byte c 47 h.0)) (slash-piece n opens whole w g ok.1 h.1)
+  | inr h ↦ elim (either-if (c == 33) _ _ _ _ h.1) [
+    | inl k ↦ subst (λ x. Piece n opens (bytes_of (codes "<" ++ x ∷ w)) g) (sym (is-byte c 33 k.0)) (bang-piece opens n w g ok.1 k.1)
+    | inr k ↦ subst (λ xs. Piece n opens xs g) (sym (less-bytes (c ∷ w))) (Tag-of (start-is opens (c ∷ w) g ok k.1))
+  ]
+]
 
-    empty-stands : IsEmptyTag w t → AllStand earlier (Start (length before) end name attrs ∷ End end ∷ [])
-    empty-stands is = by (empty-parts w t is) where
-      by : (u : List ℕ) × (w ≡ 60 ∷ (u ++ 47 ∷ 62 ∷ [])) × IsTag u t → AllStand earlier (Start (length before) end name attrs ∷ End end ∷ [])
-      by (u, d, g) = (empty-start u d g, (inr (empty-ends u d g), tt))
+pub piece-is : (n : ℕ) (opens : List Open) → AllWhole opens → (w : List ℕ) (g : Given) → Allowed w → Takes (T opens) (Content n) w g → Piece n opens (bytes_of w) g
+piece-is n opens whole [] g ok t = absurd t
+piece-is n opens whole (c ∷ w) g ok t = elim (either-if (c == 60) _ _ _ _ t) [
+  | inl h ↦ subst (λ x. Piece n opens (bytes_of (x ∷ w)) g) (sym (is-byte c 60 h.0)) (less-piece n opens whole w g ok.1 h.1)
+  | inr h ↦ elim (either-if (c == 38) _ _ _ _ h.1) [ inl k ↦ reference k.0 k.1 | inr k ↦ letter h.0 k.0 (either-if (closes_section n c) _ _ _ _ k.1) ]
+] where
+  reference : (c == 38) ≡ true → Takes (T opens) (Reference Ampersand) w g → Piece n opens (bytes_of (c ∷ w)) g
+  reference e t =
+      let r = inner-all step_reference (T opens) Reference (λ code. Done (given (Referred code) opens (Content 0))) (λ m c. refl) (λ code. given (Referred code) opens (Content 0)) (λ a. refl) w Ampersand g t in
+      let bytes : bytes_of (c ∷ w) ≡ 38 ∷ bytes_of w = ap (λ x. bytes_of (x ∷ w)) (is-byte c 38 e) ∙ ap (λ xs. xs ++ bytes_of w) (encode_ascii 38 (omega arith)) in
+      Leaf-of (Grammar-reference r.0) (subst (λ xs. IsReference xs r.0) (sym bytes) (reference-is w r.0 ok.1 r.1)) refl (sym r.2)
 
-  -- a start tag with its `>`
-  pub whole-start : (t : Tag) (tags : List Tag) (before : List ℕ) (earlier : List Part) → OpensParts tags before earlier → (start x : List ℕ) (name : Name) (attrs : List Attr) (end : ℕ) → IsStartTag start t → tag_says (scopes_of tags) t ≡ Some (name, attrs) → end + 1 ≡ length before + length start → length tags + 1 ≤ 16 → bytes ≡ before ++ (start ++ x) → length before + length start ≤ limit → StartStands bytes earlier (length before) end name attrs
-  whole-start t tags before earlier st start x name attrs end is says place room e fits = by (start-parts start t is) where
-    by : (u : List ℕ) × (start ≡ 60 ∷ (u ++ 62 ∷ [])) × IsTag u t → StartStands bytes earlier (length before) end name attrs
-    by (u, d, g) = start-stands tags before earlier st t u 62 x g (inr refl) whole name attrs says room end (omega (arith, place, size)) (omega (arith, place, fits)) where
-      whole : bytes ≡ before ++ 60 ∷ (u ++ 62 ∷ x)
-      whole = e ∙ ap (λ xs. before ++ (xs ++ x)) d ∙ ap (λ xs. before ++ 60 ∷ xs) (append_assoc u (62 ∷ []) x)
+  letter : (c == 60) ≡ false → (c == 38) ≡ false → ((closes_section n c ≡ true) × ⊥) ⊎ ((closes_section n c ≡ false) × ((given (Letter c) opens (Content (brackets_with n c)) ≡ g) × (w ≡ []))) → Piece n opens (bytes_of (c ∷ w)) g
+  letter e f (inl h) = absurd h.1
+  letter e f (inr h) = Character-of c (record { spelled = ap (λ xs. bytes_of (c ∷ xs)) h.1.1 ∙ append-nil (encode_utf8 c); allowed = ok.0; passes = rw (e, f, h.0) refl }) (sym h.1.0)
 
-      size : length start ≡ length u + 2
-      size = ap length d ∙ omega (arith, length-append u (62 ∷ []))
+-- and every token is taken
+run-is : (n c : ℕ) → is_in_run n c ≡ true → (closes_section n c ≡ false) × ((c == 60) ≡ false) × ((c == 38) ≡ false)
+run-is n c e = (grind arith, grind arith, grind arith)
 
-  -- an element with content
-  module _ (t : Tag) (tags : List Tag) (before : List ℕ) (earlier : List Part) (st : OpensParts tags before earlier) (start inside closing x : List ℕ) (name : Name) (attrs : List Attr) (end : ℕ) (is : IsStartTag start t) (ends : IsEndTag t.name closing tt) (says : tag_says (scopes_of tags) t ≡ Some (name, attrs)) (place : end + 1 ≡ length before + length start) (content : Content) (inner : List Part) (others : ContentParts content (length before + length start) (scopes_of (t ∷ tags)) inside inner) (deep : length (t ∷ tags) + depths content ≤ 16) (e : bytes ≡ before ++ ((start ++ (inside ++ closing)) ++ x)) (fits : length before + length (start ++ (inside ++ closing)) ≤ limit) where
-    abbrev First : Part
-    First = Start (length before) end name attrs
+ended-said : (opens : List Open) (tag : Tag) (e : ℕ) (m : Tagging) (back : List ℕ) → ends_tag e ≡ true → Ended-way m back tag e → Said (T opens) (StartTag m) (back ++ e ∷ []) (tag_given opens (tag, e))
+ended-said opens tag e m back ends w =
+    said-then (T opens) (back ++ e ∷ []) refl (way-in step_tag (T opens) StartTag (λ found. Done (tag_given opens found)) (λ m c. refl) w.1)
+    (said-byte (T opens) e refl (end-plain e ends).0 (end-plain e ends).1 (ap (λ x. leads x StartTag (λ found. Done (tag_given opens found))) w.2))
 
-    room : length tags + 1 ≤ 16
-    room = omega (arith, deep)
+pub tag-said : (opens : List Open) (tag : Tag) (e : ℕ) (inside : List ℕ) → ends_tag e ≡ true → IsTag inside tag → Said (T opens) (StartTag Opened) (inside ++ e ∷ []) (tag_given opens (tag, e))
+tag-said opens tag e inside ends t =
+    let w = tag-way inside tag e t ends in
+    ended-said opens tag e Opened inside ends (w.5.0, way-then step_tag inside w.2 (way-one step_tag {n = Name (name_begun w.0)} w.0 refl w.3 (rw w.4 refl)) w.5.1, w.5.2)
 
-    pub shallow : length (t ∷ tags) + 0 ≤ 16
-    shallow = omega (arith, deep)
+pub tag-piece-said : (n : ℕ) (opens : List Open) (bytes : List ℕ) (tag : Tag) (e : ℕ) → ends_tag e ≡ true → TagParts bytes tag (e ∷ []) → Said (T opens) (Content n) bytes (tag_given opens (tag, e))
+tag-piece-said n opens bytes tag e ends p =
+    let w = tag-way p.inside tag e p.is ends in
+    said-then (T opens) bytes p.spelled (way-byte (T opens) {m = Content n} {n = Less} 60 refl (omega arith) refl refl)
+    (said-then (T opens) (p.inside ++ e ∷ []) (ap (λ xs. xs ++ e ∷ []) w.2 ∙ append_assoc (encode_utf8 w.0) w.1 (e ∷ []))
+    (way-one (T opens) {n = StartTag (Name (name_begun w.0))} w.0 refl w.3 (rw (name-no-slash w.0 w.4, name-no-bang w.0 w.4, w.4) refl)) (ended-said opens tag e (Name (name_begun w.0)) w.1 ends w.5))
 
-    abbrev pub here : OpensParts (t ∷ tags) (before ++ start) (earlier ++ First ∷ [])
-    here = opened t tags before start earlier name attrs end st is says place shallow
+pub piece-said : (n : ℕ) (opens : List Open) → AllWhole opens → (bytes : List ℕ) (g : Given) → Piece n opens bytes g → Said (T opens) (Content n) bytes g
+piece-said n opens whole bytes g p = by p where
+  S : List Open → Given → Type 0
+  S os g = Said (T os) (Content n) bytes g
 
-    long : length (start ++ (inside ++ closing)) ≡ length start + (length inside + length closing)
-    long = length-append start (inside ++ closing) ∙ omega (arith, length-append inside closing)
+  by : Piece n opens bytes g → Said (T opens) (Content n) bytes g
+  by (Character-of c h e) = let r = run-is n c h.passes in subst (S opens) (sym e) (said-one (T opens) c h.spelled h.allowed (rw (r.1, r.2, r.0) refl))
+  by (Leaf-of (Text text) h isn e) = absurd (cc)
+  by (Leaf-of (Grammar-reference c) h isn e) =
+      let r = reference-said bytes c h in
+      subst (S opens) (sym e) (said-then (T opens) bytes r.1 (way-byte (T opens) {m = Content n} {n = Reference Ampersand} 38 refl (omega arith) refl refl)
+      (said-done step_reference (T opens) Reference (λ code. Done (given (Referred code) opens (Content 0))) (λ m c. refl) (given (Referred c) opens (Content 0)) refl r.2))
+  by (Leaf-of (Grammar-section text) h isn e) =
+      subst (S opens) (sym e) (said-then (T opens) bytes h.spelled (way-text (T opens) {m = Content n} {n = Cdata []} (codes "<![CDATA[") refl h.first refl)
+      (said-same (T opens) {m = Cdata []} (λ c w t. refl) (said-done sec (T opens) (λ s. Section s.0 s.1) (λ said. Done (given (SectionOf said) opens (Content 0))) (λ m c. refl) (given (SectionOf text) opens (Content 0)) refl (section-said h.back text h.second))))
+  by (Leaf-of Grammar-comment h isn e) =
+      subst (S opens) (sym e) (said-then (T opens) bytes h.spelled (way-text (T opens) {m = Content n} {n = Comment 0} (codes "<!--") refl h.first refl)
+      (said-done step_comment (T opens) Comment (λ over. Done (given Commented opens (Content 0))) (λ m c. refl) (given Commented opens (Content 0)) refl (comment-said h.back h.second)))
+  by (Tag-of (tag, e, ends, p, d)) = subst (S opens) (sym d) (tag-piece-said n opens bytes tag e ends p)
+  by (End-of o outer d h e) =
+      let u = (subst AllWhole d whole).0 in
+      let m = h.second in
+      subst (S opens) (sym e) (subst (λ os. Said (T os) (Content n) bytes (given Ended outer (Content 0))) (sym d)
+      (said-then (T (o ∷ outer)) bytes h.spelled (way-text (T (o ∷ outer)) {m = Content n} {n = EndTag 0} (codes "</") refl h.first refl)
+      (end-said o outer u.text 0 h.back m.second.front u.spelled u.allowed (m.spelled ∙ ap (λ ys. ys ++ m.back) (m.first ∙ u.spelled) ∙ ap (λ ys. bytes_of u.text ++ ys) (m.second.spelled ∙ ap (λ ys. m.second.front ++ ys) m.second.second)) m.second.first)))
 
-    pub behind : bytes ≡ (before ++ start) ++ (inside ++ (closing ++ x))
-    behind = e ∙ ap (λ xs. before ++ xs) (append_assoc start (inside ++ closing) x ∙ ap (λ xs. start ++ xs) (append_assoc inside closing x)) ∙ sym (append_assoc before start (inside ++ (closing ++ x)))
+-- Where tokens lead by the grammar: the elements that are open, and what stands in them.
 
-    pub others-here : ContentParts content (length (before ++ start)) (scopes_of (t ∷ tags)) inside inner
-    others-here = subst (λ n. ContentParts content n (scopes_of (t ∷ tags)) inside inner) (sym (length-append before start)) others
+-- content behind content
+abbrev pub and_content : Inner → Inner → Inner
+and_content Nothing d = d
+and_content (LeafThen l more) d = LeafThen l (and_content more d)
+and_content (TreeThen t more) d = TreeThen t (and_content more d)
 
-    pub fits-here : length (before ++ start) + length inside ≤ limit
-    fits-here = omega (arith, length-append before start, long, fits)
+-- whether it ends in a literal text
+abbrev pub ends_by : Bool → Inner → Bool
+ends_by b Nothing = b
+ends_by b (LeafThen l more) = ends_by (is_text l) more
+ends_by b (TreeThen t more) = ends_by false more
 
-    pub quiet-here : QuietAfter content (length (before ++ start) + length inside) (closing ++ x)
-    quiet-here h = let b = is-end t.name closing ends in inl (begins-markup closing x 60 (47 ∷ b.0) b.1 refl)
+pub begins-append : (m : Leaf) (more d : Inner) → (is_text m && begins_with_text more) ≡ false → (ends_by (is_text m) more && begins_with_text d) ≡ false → (is_text m && begins_with_text (and_content more d)) ≡ false
+begins-append m Nothing d n isn = isn
+begins-append m (LeafThen l more) d n isn = n
+begins-append m (TreeThen t more) d n isn = n
 
-    first-stands : Stands bytes earlier First
-    first-stands = whole-start t tags before earlier st start ((inside ++ closing) ++ x) name attrs end is says place room (e ∙ ap (λ xs. before ++ xs) (append_assoc start (inside ++ closing) x)) (omega (arith, long, fits))
+pub ends-append : (b : Bool) (c d : Inner) → ends_by b (and_content c d) ≡ ends_by (ends_by b c) d
+ends-append b Nothing d = refl
+ends-append b (LeafThen l more) d = ends-append (is_text l) more d
+ends-append b (TreeThen t more) d = ends-append false more d
 
-    size : length ((before ++ start) ++ inside) ≡ length before + length start + length inside
-    size = length-append (before ++ start) inside ∙ omega (arith, length-append before start)
+pub content-behind : (c d : Inner) (b : Bool) (bytes last : List ℕ) → IsContent c bytes → IsContent d last → (ends_by b c && begins_with_text d) ≡ false → IsContent (and_content c d) (bytes ++ last)
+content-behind Nothing d b bytes last e h isn = subst (λ xs. IsContent d (xs ++ last)) (sym e) h
+content-behind (LeafThen m c) d b bytes last (front, back, e, f, g, n) h isn =
+    (front, back ++ last, ap (λ xs. xs ++ last) e ∙ append_assoc front back last, f, content-behind c d (is_text m) back last g h isn, begins-append m c d n isn)
+content-behind (TreeThen t c) d b bytes last (front, back, e, f, g) h isn = (front, back ++ last, ap (λ xs. xs ++ last) e ∙ append_assoc front back last, f, content-behind c d false back last g h isn)
 
-    last-stands : Stands bytes ((earlier ++ First ∷ []) ++ inner) (End (length before + length start + length inside))
-    last-stands =
-        let b = is-end t.name closing ends in
-        let now = stands-more t tags (before ++ start) (earlier ++ First ∷ []) here content inside inner refl others-here deep in
-        inl (record {
-          tag = t;
-          outer = tags;
-          at = length before + length start + length inside + suc (length b.0);
-          found = record {
-            before = (before ++ start) ++ inside;
-            closing = closing;
-            rest = x;
-            spelled = behind ∙ sym (append_assoc (before ++ start) inside (closing ++ x));
-            begins = sym size;
-            place = omega (arith, ap length b.1);
-            opens = stands-opens (t ∷ tags) ((before ++ start) ++ inside) ((earlier ++ First ∷ []) ++ inner) now.0;
-            is_end = ends;
-          };
-          parts = now.0;
-          clear = clear (length before + length start + length inside + suc (length b.0)) (omega (arith, ap length b.1, long, fits));
-        })
+-- a literal text so far
+abbrev pub InText : List ℕ → Type 0
+InText [] = Unit {0}
+InText (c ∷ t) = (is_allowed c ≡ true) × (is_in_text c ≡ true) × InText t
 
-    pub full-stands : AllStand (earlier ++ First ∷ []) inner → AllStand earlier (First ∷ (inner ++ End (length before + length start + length inside) ∷ []))
-    full-stands inner-stand = (first-stands, all-append (earlier ++ First ∷ []) inner (End (length before + length start + length inside) ∷ []) inner-stand (last-stands, tt))
+text-more : (n : ℕ) (s : List ℕ) (c : ℕ) → InText s → clean n s ≡ true → is_allowed c ≡ true → is_in_text c ≡ true → closes_section (state n s) c ≡ false → InText (s ++ c ∷ []) × (clean n (s ++ c ∷ []) ≡ true) × (state n (s ++ c ∷ []) ≡ brackets_with (state n s) c)
+text-more n [] c a e ok t b = ((ok, t, tt), ap (λ x. not x && true) b, refl)
+text-more n (d ∷ s) c a e ok t b =
+    let m : ℕ = brackets_with n d in
+    let r = text-more m s c a.2 (and-second (not (closes_section n d)) (clean m s) e) ok t b in
+    ((a.0, a.1, r.0), and-both (not (closes_section n d)) (clean m (s ++ c ∷ [])) (and-first (not (closes_section n d)) (clean m s) e) r.1, r.2)
 
-  both-deep : (n k m : ℕ) → n + max k m ≤ 16 → (n + k ≤ 16) × (n + m ≤ 16)
-  both-deep n k m h = (grind arith, grind arith)
+pub text-characters : (t : List ℕ) → InText t → Many (Character is_in_text) (bytes_of t) t
+text-characters [] a = refl
+text-characters (c ∷ t) a = (encode_utf8 c, bytes_of t, refl, record { spelled = refl; allowed = a.0; passes = a.1 }, text-characters t a.2)
 
-  one-deep : (n k : ℕ) → n + k ≤ 16 → n + max k 0 ≤ 16
-  one-deep n k h = grind arith
+-- In the innermost element, behind its content, and more of it.
+pub more-inside : (before last earlier start inside : List ℕ) → before ≡ earlier ++ (start ++ inside) → before ++ last ≡ earlier ++ (start ++ (inside ++ last))
+more-inside before last earlier start inside e = ap (λ xs. xs ++ last) e ∙ append_assoc earlier (start ++ inside) last ∙ ap (λ xs. earlier ++ xs) (append_assoc start inside last)
 
-  and-none : (s : Rattle.std.proofs.Common.Bool) → (s && false) ≡ false
-  and-none s = grind arith
+abbrev closed-more : (tag : Tag) (outer : List Tag) (before bytes : List ℕ) (d : Inner) (c : Opens (tag ∷ outer) before) → IsContent d bytes → (ends_by false c.3 && begins_with_text d) ≡ false → Opens (tag ∷ outer) (before ++ bytes)
+closed-more tag outer before bytes d c h isn = (c.0, c.1, c.2 ++ bytes, and_content c.3 d, more-inside before bytes c.0 c.1 c.2 c.4, c.5, c.6, content-behind c.3 d false c.2 bytes c.7 h isn)
 
-  mutual
-    pub stand-tree : (tree : Tree) (tags : List Tag) (before : List ℕ) (earlier : List Part) → OpensParts tags before earlier → (w x : List ℕ) (ps : List Part) → TreeParts tree (length before) (scopes_of tags) w ps → length tags + depth tree ≤ 16 → bytes ≡ before ++ (w ++ x) → length before + length w ≤ limit → AllStand earlier ps
-    stand-tree (EmptyElement t) tags before earlier st w x ps (name, attrs, end, is, says, place, p) deep e fits =
-        subst (λ qs. AllStand earlier qs) (sym p) (empty-stands t tags before earlier st w x name attrs end says place deep e fits is)
-    stand-tree (Full t content) tags before earlier st w x ps (name, attrs, end, start, inside, closing, inner, d, is, ends, says, place, others, p) deep e fits =
-        let deeper : length (t ∷ tags) + depths content ≤ 16 = omega (arith, deep) in
-        let whole : bytes ≡ before ++ ((start ++ (inside ++ closing)) ++ x) = e ∙ ap (λ xs. before ++ (xs ++ x)) d in
-        let fit : length before + length (start ++ (inside ++ closing)) ≤ limit = omega (arith, fits, ap length d) in
-        subst (λ qs. AllStand earlier qs) (sym p)
-        (full-stands t tags before earlier st start inside closing x name attrs end is ends says place content inner others deeper whole fit
-        (stand-content content t tags (before ++ start) (earlier ++ Start (length before) end name attrs ∷ []) (here t tags before earlier st start inside closing x name attrs end is ends says place content inner others deeper whole fit) refl inside (closing ++ x) inner
-        (others-here t tags before earlier st start inside closing x name attrs end is ends says place content inner others deeper whole fit) deeper
-        (behind t tags before earlier st start inside closing x name attrs end is ends says place content inner others deeper whole fit)
-        (fits-here t tags before earlier st start inside closing x name attrs end is ends says place content inner others deeper whole fit)
-        (quiet-here t tags before earlier st start inside closing x name attrs end is ends says place content inner others deeper whole fit)))
+one-leaf : (l : Leaf) (bytes : List ℕ) → IsLeaf bytes l → IsContent (LeafThen l Nothing) bytes
+one-leaf l bytes h = (bytes, [], sym (append-nil bytes), h, refl, and-no (is_text l))
 
-    pub stand-content : (c : Content) (t : Tag) (outer : List Tag) (before : List ℕ) (earlier : List Part) → (st : OpensParts (t ∷ outer) before earlier) → Apart st.6 c → (w x : List ℕ) (ps : List Part) → ContentParts c (length before) (scopes_of (t ∷ outer)) w ps → length (t ∷ outer) + depths c ≤ 16 → bytes ≡ before ++ (w ++ x) → length before + length w ≤ limit → QuietAfter c (length before + length w) x → AllStand earlier ps
-    stand-content Nothing t outer before earlier st apart w x ps (e0, p) deep e fits quiet = subst (λ qs. AllStand earlier qs) (sym p) tt
-    stand-content (LeafThen leaf more) t outer before earlier st apart w x ps (front, back, behind, d, g, lone, others, p) deep e fits quiet =
-        let size : length w ≡ length front + length back = ap length d ∙ length-append front back in
-        let whole : bytes ≡ before ++ (front ++ (back ++ x)) = e ∙ ap (λ xs. before ++ xs) (ap (λ xs. xs ++ x) d ∙ append_assoc front back x) in
-        let first : AllStand earlier (leaf_parts (length before) leaf) =
-        leaf-stands t outer before earlier st front (back ++ x) whole (omega (arith, size, fits)) leaf g apart
-        (λ is. quiet-text leaf more (length before + length front) (length before + length w) back x (content-is more (length before + length front) (scopes_of (t ∷ outer)) back behind others) lone (omega (arith, size)) quiet is) in
-        let now = stands-more t outer before earlier st (LeafThen leaf Nothing) front (leaf_parts (length before) leaf) apart (leaf-content leaf (length before) (scopes_of (t ∷ outer)) front g) (omega (arith, deep)) in
-        let place : length (before ++ front) ≡ length before + length front = length-append before front in
-        subst (λ qs. AllStand earlier qs) (sym p)
-        (all-append earlier (leaf_parts (length before) leaf) behind first
-        (stand-content more t outer (before ++ front) (earlier ++ leaf_parts (length before) leaf) now.0 (ap (λ s. s && begins_with_text more) (ap ends_with_text now.1 ∙ ends-leaf st.6 leaf) ∙ lone) back x behind
-        (subst (λ n. ContentParts more n (scopes_of (t ∷ outer)) back behind) (sym place) others) deep
-        (whole ∙ sym (append_assoc before front (back ++ x)))
-        (omega (arith, size, fits, place))
-        (subst (λ n. QuietAfter more n x) (omega (arith, size, place)) (quiet-more leaf more (length before + length w) x quiet))))
-    stand-content (TreeThen tree more) t outer before earlier st apart w x ps (front, back, first, behind, d, g, others, p) deep e fits quiet =
-        let size : length w ≡ length front + length back = ap length d ∙ length-append front back in
-        let whole : bytes ≡ before ++ (front ++ (back ++ x)) = e ∙ ap (λ xs. before ++ xs) (ap (λ xs. xs ++ x) d ∙ append_assoc front back x) in
-        let depths2 = both-deep (length (t ∷ outer)) (depth tree) (depths more) deep in
-        let one : AllStand earlier first = stand-tree tree (t ∷ outer) before earlier st front (back ++ x) first g depths2.0 whole (omega (arith, size, fits)) in
-        let now = stands-more t outer before earlier st (TreeThen tree Nothing) front first (and-none (ends_with_text st.6)) (tree-content tree (length before) (scopes_of (t ∷ outer)) front first g) (one-deep (length (t ∷ outer)) (depth tree) depths2.0) in
-        let place : length (before ++ front) ≡ length before + length front = length-append before front in
-        subst (λ qs. AllStand earlier qs) (sym p)
-        (all-append earlier first behind one
-        (stand-content more t outer (before ++ front) (earlier ++ first) now.0 (ap (λ s. s && begins_with_text more) (ap ends_with_text now.1 ∙ ends-tree st.6 tree)) back x behind
-        (subst (λ n. ContentParts more n (scopes_of (t ∷ outer)) back behind) (sym place) others) depths2.1
-        (whole ∙ sym (append_assoc before front (back ++ x)))
-        (omega (arith, size, fits, place))
-        (subst (λ n. QuietAfter more n x) (omega (arith, size, place)) quiet)))
+-- There, and behind a literal text so far.
+pub record Standing (tag : Tag) (outer : List Tag) (n : ℕ) (before : List ℕ) : Type 0 where
+  pub front : List ℕ
+  pub text : List ℕ
+  pub spelled : before ≡ front ++ bytes_of text
+  pub within : Opens (tag ∷ outer) front
+  pub no_text : ends_by false within.3 ≡ false
+  pub each : InText text
+  pub clear : clean 0 text ≡ true
+  pub count : state 0 text ≡ n
 
-  -- all that is open
-  pub open-stand : (tags : List Tag) (front : List ℕ) (parts : List Part) → (st : OpensParts tags front parts) → (x : List ℕ) → bytes ≡ front ++ x → length front ≤ limit → QuietHere tags front parts st x → AllStand [] parts
-  open-stand [] front parts (g, p) x e fits quiet = subst (λ qs. AllStand [] qs) (sym p) tt
-  open-stand (t ∷ outer) front parts (name, attrs, end, b0, start, inside, content, earlier, inner, d, o, is, says, place, others, deep, p) x e fits quiet =
-      let whole : bytes ≡ b0 ++ (start ++ (inside ++ x)) = e ∙ ap (λ xs. xs ++ x) d ∙ append_assoc b0 (start ++ inside) x ∙ ap (λ xs. b0 ++ xs) (append_assoc start inside x) in
-      let size : length front ≡ length b0 + (length start + length inside) = ap length d ∙ length-append b0 (start ++ inside) ∙ omega (arith, length-append start inside) in
-      let here : length (b0 ++ start) ≡ length b0 + length start = length-append b0 start in
-      let shallow : length (t ∷ outer) + 0 ≤ 16 = omega (arith, deep) in
-      let before = open-stand outer b0 earlier o (start ++ (inside ++ x)) whole (omega (arith, size, fits)) (quiet-start outer b0 earlier o start (inside ++ x) t is) in
-      let first : StartStands bytes earlier (length b0) end name attrs = whole-start t outer b0 earlier o start (inside ++ x) name attrs end is says place (omega (arith, deep)) whole (omega (arith, size, fits)) in
-      let behind = stand-content content t outer (b0 ++ start) (earlier ++ Start (length b0) end name attrs ∷ []) (opened t outer b0 start earlier name attrs end o is says place shallow) refl inside x inner
-      (subst (λ n. ContentParts content n (scopes_of (t ∷ outer)) inside inner) (sym here) others) deep
-      (whole ∙ sym (append_assoc b0 start (inside ++ x)))
-      (omega (arith, size, fits, here))
-      (subst (λ n. QuietAfter content n x) (omega (arith, size, here)) quiet) in
-      subst (λ qs. AllStand [] qs) (sym p) (all-append [] earlier (Start (length b0) end name attrs ∷ inner) before (first, behind))
+-- the text is a part of the content
+pub closed : (tag : Tag) (outer : List Tag) (n : ℕ) (before : List ℕ) → Standing tag outer n before → Opens (tag ∷ outer) before
+closed tag outer n before s = subst (Opens (tag ∷ outer)) (sym s.spelled) (by s.text s.each s.clear) where
+  by : (text : List ℕ) → InText text → clean 0 text ≡ true → Opens (tag ∷ outer) (s.front ++ bytes_of text)
+  by [] a b = subst (Opens (tag ∷ outer)) (sym (append-nil s.front)) s.within
+  by (c ∷ t) a b =
+      let bytes : List ℕ = bytes_of (c ∷ t) in
+      let leaf : IsText bytes bytes = record { characters = record { says = refl; characters = c ∷ t; each = text-characters (c ∷ t) a; none = without-word (c ∷ t) b }; some = λ d. none-spelled c (bytes_of t) (sym d) } in
+      closed-more tag outer s.front bytes (LeafThen (Text bytes) Nothing) s.within (one-leaf (Text bytes) bytes leaf) (ap (λ x. x && true) s.no_text)
+
+-- nothing of a text
+abbrev fresh : (tag : Tag) (outer : List Tag) (before : List ℕ) (c : Opens (tag ∷ outer) before) → ends_by false c.3 ≡ false → Standing tag outer 0 before
+fresh tag outer before c isn = record { front = before; text = []; spelled = sym (append-nil before); within = c; no_text = isn; each = tt; clear = refl; count = refl }
+
+-- Where a token leads.
+abbrev pub Stands : List Tag → Turn → List ℕ → Type 0
+Stands tags Slashed before = (tag : Tag) × (earlier : List ℕ) × (slash : List ℕ) × (before ≡ earlier ++ slash) × Opens tags earlier × IsSlashTag slash tag
+Stands [] (Content n) before = (root : Tree) × (prolog : List ℕ) × (element : List ℕ) × (before ≡ prolog ++ element) × IsProlog prolog tt × IsTree root element
+Stands (tag ∷ outer) (Content n) before = Standing tag outer n before
+Stands tags other before = ⊥
+
+-- an element that ends
+pub finish : (tags : List Tag) (tree : Tree) (earlier bytes : List ℕ) → Opens tags earlier → IsTree tree bytes → Stands tags (Content 0) (earlier ++ bytes)
+finish [] tree earlier bytes o t = (tree, earlier, bytes, refl, o, t)
+finish (tag ∷ outer) tree earlier bytes o t =
+    fresh tag outer (earlier ++ bytes) (closed-more tag outer earlier bytes (TreeThen tree Nothing) o (bytes, [], sym (append-nil bytes), t, refl) (and-no (ends_by false o.3))) (ends-append false o.3 (TreeThen tree Nothing))
+
+-- a start tag
+pub begin : (tags : List Tag) (tag : Tag) (earlier bytes : List ℕ) → Opens tags earlier → IsStartTag bytes tag → Standing tag tags 0 (earlier ++ bytes)
+begin tags tag earlier bytes o s =
+    fresh tag tags (earlier ++ bytes) (earlier, bytes, [], Nothing, ap (λ xs. earlier ++ xs) (sym (append-nil bytes)), o, s, refl) refl
+
+-- the `>` of an empty element's tag
+slash-tag : (tag : Tag) (bytes : List ℕ) → IsSlashTag bytes tag → IsEmptyTag (bytes ++ 62 ∷ []) tag
+slash-tag tag bytes t =
+    let p = parts-of (47 ∷ []) bytes tag t in
+    of-parts (47 ∷ 62 ∷ []) (bytes ++ 62 ∷ []) tag (record { inside = p.inside; spelled = ap (λ xs. xs ++ 62 ∷ []) p.spelled ∙ ap (λ xs. 60 ∷ xs) (append_assoc p.inside (47 ∷ []) (62 ∷ [])); is = p.is })
+
+-- one token
+abbrev pub Leads : Given → List ℕ → Type 0
+Leads g before = (tags : List Tag) × (g.opens ≡ map opened tags) × Stands tags g.turn before
+
+run-text : (n c : ℕ) → is_in_run n c ≡ true → (is_in_text c ≡ true) × (closes_section n c ≡ false)
+run-text n c e = (grind arith, grind arith)
+
+letter-stands : (tag : Tag) (outer : List Tag) (n c : ℕ) (before bytes : List ℕ) → Standing tag outer n before → Character (is_in_run n) bytes c → Standing tag outer (brackets_with n c) (before ++ bytes)
+letter-stands tag outer n c before bytes s h =
+    let r = run-text n c h.passes in
+    let m = text-more 0 s.text c s.each s.clear h.allowed r.0 (ap (λ m. closes_section m c) s.count ∙ r.1) in
+    let more : bytes_of (s.text ++ c ∷ []) ≡ bytes_of s.text ++ bytes = bytes-append s.text (c ∷ []) ∙ ap (λ xs. bytes_of s.text ++ xs) (append-nil (encode_utf8 c) ∙ sym h.spelled) in
+    record {
+      front = s.front;
+      text = s.text ++ c ∷ [];
+      spelled = ap (λ xs. xs ++ bytes) s.spelled ∙ append_assoc s.front (bytes_of s.text) bytes ∙ ap (λ xs. s.front ++ xs) (sym more);
+      within = s.within;
+      no_text = s.no_text;
+      each = m.0;
+      clear = m.1;
+      count = m.2 ∙ ap (λ m. brackets_with m c) s.count;
+    }
+
+leaf-stands : (tag : Tag) (outer : List Tag) (n : ℕ) (l : Leaf) (before bytes : List ℕ) → Standing tag outer n before → IsLeaf bytes l → is_text l ≡ false → Standing tag outer 0 (before ++ bytes)
+leaf-stands tag outer n l before bytes s h isn =
+    let c = closed tag outer n before s in
+    fresh tag outer (before ++ bytes) (closed-more tag outer before bytes (LeafThen l Nothing) c (one-leaf l bytes h) (ap (λ x. ends_by false c.3 && x) isn ∙ and-no (ends_by false c.3))) (ends-append false c.3 (LeafThen l Nothing) ∙ isn)
+
+end-stands : (tag : Tag) (outer : List Tag) (n : ℕ) (before bytes : List ℕ) → Standing tag outer n before → IsEndTag tag.name bytes tt → Stands outer (Content 0) (before ++ bytes)
+end-stands tag outer n before bytes s h =
+    let c = closed tag outer n before s in
+    subst (Stands outer (Content 0)) (sym (more-inside before bytes c.0 c.1 c.2 c.4)) (finish outer (Full tag c.3) c.0 (c.1 ++ (c.2 ++ bytes)) c.5 (c.1, c.2, bytes, refl, c.6, c.7, h))
+
+pub tag-stands : (tags : List Tag) (before bytes : List ℕ) (g : Given) → Opens tags before → TagCases (map opened tags) bytes g → Leads g (before ++ bytes)
+tag-stands tags before bytes g o (tag, e, ends, p, d) =
+    subst (λ x. Leads x (before ++ bytes)) (sym d)
+    (cases (e == 62) (λ f. rw f (tag ∷ tags, refl, begin tags tag before bytes o (of-parts (62 ∷ []) bytes tag (subst (λ x. TagParts bytes tag (x ∷ [])) (is-byte e 62 f) p))))
+    (λ f. let other : e ≡ 47 = grind (arith, nat_tests) in rw f (tags, refl, (tag, before, bytes, refl, o, of-parts (47 ∷ []) bytes tag (subst (λ x. TagParts bytes tag (x ∷ [])) other p)))))
+
+pub piece-stands : (tag : Tag) (outer : List Tag) (n : ℕ) (before bytes : List ℕ) (g : Given) → Standing tag outer n before → Piece n (map opened (tag ∷ outer)) bytes g → Leads g (before ++ bytes)
+piece-stands tag outer n before bytes g s (Character-of c h e) =
+    subst (λ x. Leads x (before ++ bytes)) (sym e) (tag ∷ outer, refl, letter-stands tag outer n c before bytes s h)
+piece-stands tag outer n before bytes g s (Leaf-of l h isn e) =
+    subst (λ x. Leads x (before ++ bytes)) (sym e) (tag ∷ outer, refl, leaf-stands tag outer n l before bytes s h isn)
+piece-stands tag outer n before bytes g s (Tag-of t) = tag-stands (tag ∷ outer) before bytes g (closed tag outer n before s) t
+piece-stands tag outer n before bytes g s0 (End-of o os d h e) =
+    let s = heads (opened tag) o (map opened outer) os d in
+    subst (λ x. Leads x (before ++ bytes)) (sym e)
+    (outer, sym s.1, end-stands tag outer n before bytes s0 (subst (λ x. IsEndTag x.name bytes tt) (sym s.0) h))
+
+pub shut-stands : (tags : List Tag) (before : List ℕ) → Stands tags Slashed before → Stands tags (Content 0) (before ++ 62 ∷ [])
+shut-stands tags before (tag, earlier, slash, e, o, t) =
+    let whole : before ++ 62 ∷ [] ≡ earlier ++ (slash ++ 62 ∷ []) = ap (λ xs. xs ++ 62 ∷ []) e ∙ append_assoc earlier slash (62 ∷ []) in
+    subst (Stands tags (Content 0)) (sym whole) (finish tags (EmptyElement tag) earlier (slash ++ 62 ∷ []) o (slash-tag tag slash t))
+
+-- The names of open elements are whole characters; where the root's start tag leads.
+
+-- a qualified name is written as its bytes
+qname-bytes : (bytes : List ℕ) (q : QName) → IsQName bytes q → bytes ≡ name_bytes q
+qname-bytes bytes q t =
+    let s = says-then (Maybe (Then (Word (codes ":")) (λ colon. IsName))) (λ second. qualified t.what second) t.back q t.second in
+    by s.0 s.1 s.2 where
+      by : (second : Option (List ℕ)) → Maybe (Then (Word (codes ":")) (λ colon. IsName)) t.back second → q ≡ qualified t.what second → bytes ≡ name_bytes q
+      by None e d = t.spelled ∙ ap (λ xs. t.front ++ xs) e ∙ append-nil t.front ∙ sym t.first.0 ∙ ap name_bytes (sym d)
+      by (Some second) u d =
+          let n = t.first.2 in
+          let h = encoded n.what in
+          let some : t.what ≡ h.head ∷ (h.tail ++ n.back) = t.first.0 ∙ n.spelled ∙ ap (λ xs. xs ++ n.back) (n.first.spelled ∙ h.is) in
+          let written : name_bytes (qualified t.what (Some second)) ≡ t.what ++ codes ":" ++ second = subst (λ xs. name_bytes (qualified xs (Some second)) ≡ xs ++ codes ":" ++ second) (sym some) refl in
+          t.spelled ∙ ap (λ xs. xs ++ t.back) (sym t.first.0) ∙ ap (λ xs. t.what ++ xs) (u.spelled ∙ ap (λ xs. xs ++ u.back) u.first ∙ ap (λ xs. codes ":" ++ xs) (sym u.second.0)) ∙ sym (append_assoc t.what (codes ":") second) ∙ sym written ∙ ap name_bytes (sym d)
+
+tag-name : (bytes : List ℕ) (tag : Tag) → IsTag bytes tag → WholeName tag.name
+tag-name bytes tag t =
+    let u = qname-spell t.front t.what t.first in
+    let m = t.second in
+    let b = says-then IsBlanks (λ blanks. record { name = t.what; attrs = m.what }) m.back tag m.second in
+    let same : t.what ≡ tag.name = ap (λ x. x.name) (sym b.2) in
+    subst WholeName same (record { text = u.text; spelled = sym (qname-bytes t.front t.what t.first) ∙ u.spelled; allowed = u.allowed })
+
+pub start-name : (bytes : List ℕ) (tag : Tag) → IsStartTag bytes tag → WholeName tag.name
+start-name bytes tag t = let p = parts-of (62 ∷ []) bytes tag t in tag-name p.inside tag p.is
+
+pub opens-whole : (tags : List Tag) (before : List ℕ) → Opens tags before → AllWhole (map opened tags)
+opens-whole [] before o = tt
+opens-whole (tag ∷ outer) before (earlier, start, inside, content, e, o, s, c) = (start-name start tag s, opens-whole outer earlier o)

@@ -2,6 +2,7 @@
 use Rattle.std.proofs.Common.{◌≡◌, ℕ, None, List, [], ◌∷◌, ◌++◌, refl, sym, ap, subst, ◌∙◌, append-nil}
 use Rattle.cds_markup.specs.declared.tag.Tag.{Tag}
 use Rattle.cds_markup.specs.Grammar.{Tree, EmptyElement, Full, IsTree, IsTag, IsEmptyTag, IsStartTag, IsProlog, IsMisc}
+use Rattle.cds_markup.proofs.Ways.{then-of}
 
 pub empty-parts : (w : List ℕ) (t : Tag) → IsEmptyTag w t → (u : List ℕ) × (w ≡ 60 ∷ (u ++ 47 ∷ 62 ∷ [])) × IsTag u t
 empty-parts w t g =
@@ -24,14 +25,7 @@ tree-first (Full t content) w (start, inside, closing, e, is, others, ends) =
 
 -- nothing stands before the root and behind it
 pub no-misc : IsMisc [] tt
-no-misc = record { front = []; back = []; what = []; spelled = refl; first = refl; second = (refl, refl) }
+no-misc = then-of [] [] [] refl refl (refl, refl)
 
 pub no-prolog : IsProlog [] tt
-no-prolog = record {
-  front = [];
-  back = [];
-  what = None;
-  spelled = refl;
-  first = refl;
-  second = record { front = []; back = []; what = None; spelled = refl; first = refl; second = no-misc };
-}
+no-prolog = then-of [] [] None refl refl (then-of [] [] None refl refl no-misc)

@@ -1,5 +1,5 @@
 -- What is written in an element is content by the grammar that means its children.
-use Rattle.std.proofs.Common.{◌≡◌, ◌≢◌, ◌==◌, ℕ, Bool, true, false, not, ◌&&◌, ◌||◌, List, [], ◌∷◌, ◌++◌, map, refl, sym, ap, subst, ◌∙◌, arith, append_assoc, append-nil, codes, cond, encode_utf8, lit<, Some, inl, inr}
+use Rattle.std.proofs.Common.{◌≡◌, ◌≢◌, ◌==◌, ℕ, Bool, true, false, not, ◌&&◌, ◌||◌, List, [], ◌∷◌, ◌++◌, map, refl, sym, ap, subst, ◌∙◌, arith, append_assoc, codes, cond, encode_utf8, lit<, Option, None, Some, inl, inr}
 use Rattle.std.proofs.lemmas.Bool.Decides.{nat_tests}
 use Rattle.std.specs.List.{list_all}
 use Rattle.std.specs.Str.{encode_utf8_all}
@@ -9,12 +9,13 @@ use Rattle.cds_base.specs.Reference.{IsReference}
 use Rattle.cds_base.specs.Unescape.{AreAllowed}
 use Rattle.cds_markup.specs.declared.tag.Declaration.{Declaration}
 use Rattle.cds_markup.specs.Form.{Character, Many}
-use Rattle.cds_markup.specs.Grammar.{is_in_text, contains, IsText, Text, Reference, Content, LeafThen, begins_with_text, IsContent}
-use Rattle.cds_markup.specs.Namespaces.{is_empty}
-use Rattle.cds_markup.specs.Document.{Meanings, End, TextThen, ChildThen, return_before, lone_returns, line_ends, joined, and_joined, meanings, depths}
-use Rattle.cds_markup.proofs.TestForm.{HasFirst, has-first}
-use Rattle.cds_markup.proofs.WrittenTexts.{lacks, and-first, and-second, lacks-append, lacks-character, Plain, Kind, kind, escaped-more}
-use Rattle.cds_markup.proofs.WrittenScopes.{is-some, not-true}
+use Rattle.cds_markup.specs.Grammar.{is_in_text, contains, IsText, Text, Reference, Content, Nothing, LeafThen, begins_with_text, IsContent}
+use Rattle.cds_markup.specs.Document.{Meanings, End, return_before, lone_returns, line_ends, joined, and_joined, meanings, depths}
+use Rattle.cds_markup.proofs.Machines.{and-first, and-second, no-cons}
+use Rattle.cds_markup.proofs.Characters.{encoded}
+use Rattle.cds_markup.proofs.Joining.{joined-more, joined-none}
+use Rattle.cds_markup.proofs.WrittenTexts.{lacks, lacks-append, lacks-character, Plain, Kind, kind, escaped-more}
+use Rattle.cds_markup.proofs.WrittenScopes.{not-true}
 
 -- bytes without a `>` end no section, and without a carriage return have the line ends that they say
 starts-no : (b : ℕ) (rest : List ℕ) → lacks 62 rest ≡ true → contains (codes "]]>") rest ≡ false → contains (codes "]]>") (b ∷ rest) ≡ false
@@ -53,155 +54,86 @@ feeds-stay (b ∷ rest) e =
 pub ends-stay : (text : List ℕ) → lacks 13 text ≡ true → line_ends text ≡ text
 ends-stay text e = ap (map (λ b. cond (b == 13) 10 b)) (lone-stays text e) ∙ feeds-stay text e
 
--- texts are joined
-some-behind : (a : List ℕ) (x : ℕ) (xs : List ℕ) → is_empty (a ++ x ∷ xs) ≡ false
-some-behind [] x xs = is-some x xs
-some-behind (y ∷ a) x xs = is-some y (a ++ x ∷ xs)
+-- content that means children, of which a literal text that is the first piece goes on where one stands before it
+abbrev pub Clean : Content → Type 0
+Clean (LeafThen (Text text) more) = (lacks 62 text ≡ true) × (lacks 13 text ≡ true)
+Clean other = Unit {0}
 
-joined-by : (a b : List ℕ) (ms : Meanings) → ((t : List ℕ) → joined t ms ≡ cond (is_empty t) ms (TextThen t ms)) → joined a (joined b ms) ≡ joined (a ++ b) ms
-joined-by a [] ms is = ap (joined a) (is []) ∙ ap (λ t. joined t ms) (sym (append-nil a))
-joined-by a (x ∷ xs) ms is =
-    ap (joined a) (is (x ∷ xs) ∙ ap (λ t. cond t ms (TextThen (x ∷ xs) ms)) (is-some x xs))
-    ∙ sym (is (a ++ x ∷ xs) ∙ ap (λ t. cond t ms (TextThen (a ++ x ∷ xs) ms)) (some-behind a x xs))
-
-pub joined-more : (a b : List ℕ) (ms : Meanings) → joined a (joined b ms) ≡ joined (a ++ b) ms
-joined-more a b End = joined-by a b End (λ t. refl)
-joined-more a b (TextThen text ms) = ap (λ t. TextThen t ms) (sym (append_assoc a b text))
-joined-more a b (ChildThen child ms) = joined-by a b (ChildThen child ms) (λ t. refl)
-
-joined-none : (ms : Meanings) → joined [] ms ≡ ms
-joined-none End = refl
-joined-none (TextThen text ms) = refl
-joined-none (ChildThen child ms) = refl
-
--- content that means children, and content of which no literal text is the first piece
 pub record Means (scopes : List (List Declaration)) (bytes : List ℕ) (ms : Meanings) (deep : ℕ) : Type 0 where
   pub content : Content
+  pub clean : Clean content
   pub is : IsContent content bytes
   pub means : meanings content scopes ≡ Some ms
   pub depth : depths content ≡ deep
 
-pub record Behind (scopes : List (List Declaration)) (bytes : List ℕ) (ms : Meanings) (deep : ℕ) : Type 0 where
-  pub all : Means scopes bytes ms deep
-  pub none : begins_with_text all.content ≡ false
-
--- characters that stand themselves, and what is behind them
-record Run (scopes : List (List Declaration)) (bytes : List ℕ) (ms : Meanings) (deep : ℕ) : Type 0 where
-  run : List ℕ
-  rest : List ℕ
-  spelled : bytes ≡ encode_utf8_all run ++ rest
-  each : Many (Character is_in_text) (encode_utf8_all run) run
-  no_greater : lacks 62 (encode_utf8_all run) ≡ true
-  no_return : lacks 13 (encode_utf8_all run) ≡ true
-  others : Meanings
-  behind : Behind scopes rest others deep
-  says : joined (encode_utf8_all run) others ≡ ms
-
-some-bytes : (c : ℕ) (cs : List ℕ) → encode_utf8_all (c ∷ cs) ≢ []
-some-bytes c cs e = by (has-first c) where
-  no_bytes : (x : ℕ) (xs : List ℕ) → x ∷ xs ≡ [] → ⊥
-  no_bytes x xs d = cc
-
-  by : HasFirst c → ⊥
-  by first = no_bytes first.head (first.tail ++ encode_utf8_all cs) (sym (ap (λ xs. xs ++ encode_utf8_all cs) first.is) ∙ e)
-
-closed : (scopes : List (List Declaration)) (bytes : List ℕ) (ms : Meanings) (deep : ℕ) → Run scopes bytes ms deep → Means scopes bytes ms deep
-closed scopes bytes ms deep r = by r.run r.spelled r.each r.no_greater r.no_return r.says where
-  behind : Behind scopes r.rest r.others deep
-  behind = r.behind
-
-  by : (run : List ℕ) → bytes ≡ encode_utf8_all run ++ r.rest → Many (Character is_in_text) (encode_utf8_all run) run → lacks 62 (encode_utf8_all run) ≡ true → lacks 13 (encode_utf8_all run) ≡ true → joined (encode_utf8_all run) r.others ≡ ms → Means scopes bytes ms deep
-  by [] spelled each greater return says = record {
-    content = behind.all.content;
-    is = subst (λ (b : List ℕ). IsContent behind.all.content b) (sym spelled) behind.all.is;
-    means = behind.all.means ∙ ap Some (sym (joined-none r.others) ∙ says);
-    depth = behind.all.depth;
-  }
-  by (c ∷ cs) spelled each greater return says =
-      let text : List ℕ = encode_utf8_all (c ∷ cs) in
-      let is_text : IsText text text = record {
-        characters = record { says = refl; characters = c ∷ cs; each = each; none = no-section-end text greater };
-        some = some-bytes c cs;
-      } in record {
-        content = LeafThen (Text text) behind.all.content;
-        is = (text, r.rest, spelled, is_text, behind.all.is, behind.none);
-        means = ap (and_joined (line_ends text)) behind.all.means ∙ ap (λ t. Some (joined t r.others)) (ends-stay text return) ∙ ap Some says;
-        depth = behind.all.depth;
-      }
+pub nothing-means : (scopes : List (List Declaration)) → Means scopes [] End 0
+nothing-means scopes = record { content = Nothing; clean = tt; is = refl; means = refl; depth = refl }
 
 -- one character more
-by-reference : (scopes : List (List Declaration)) (c : ℕ) (written back : List ℕ) (ms : Meanings) (deep : ℕ) → IsReference written c → Means scopes back ms deep → Run scopes (written ++ back) (joined (encode_utf8 c) ms) deep
-by-reference scopes c written back ms deep is m = record {
-  run = [];
-  rest = written ++ back;
-  spelled = refl;
-  each = refl;
-  no_greater = refl;
-  no_return = refl;
-  others = joined (encode_utf8 c) ms;
-  behind = record {
-    all = record {
-      content = LeafThen (Reference c) m.content;
-      is = (written, back, refl, is, m.is, refl);
-      means = ap (and_joined (encode_utf8 c)) m.means;
-      depth = m.depth;
-    };
-    none = refl;
-  };
-  says = joined-none (joined (encode_utf8 c) ms);
+reference-before : (scopes : List (List Declaration)) (c : ℕ) (written back : List ℕ) (ms : Meanings) (deep : ℕ) → IsReference written c → Means scopes back ms deep → Means scopes (written ++ back) (joined (encode_utf8 c) ms) deep
+reference-before scopes c written back ms deep is m = record {
+  content = LeafThen (Reference c) m.content;
+  clean = tt;
+  is = (written, back, refl, is, m.is, refl);
+  means = ap (and_joined (encode_utf8 c)) m.means;
+  depth = m.depth;
 }
+
+and-joined-more : (a b : List ℕ) (more : Option Meanings) (ms : Meanings) → and_joined b more ≡ Some ms → and_joined (a ++ b) more ≡ Some (joined a ms)
+and-joined-more a b None ms e = absurd (cc)
+and-joined-more a b (Some more) ms e = let same : joined b more ≡ ms = cc in ap Some (sym (joined-more a b more) ∙ ap (joined a) same)
 
 plain-in-text : (c : ℕ) → Plain c → is_in_text c ≡ true
 plain-in-text c p = rw (p.no_less, p.no_and) refl
 
-by-literal : (scopes : List (List Declaration)) (c : ℕ) (back : List ℕ) (ms : Meanings) (deep : ℕ) → Plain c → is_allowed c ≡ true → Run scopes back ms deep → Run scopes (encode_utf8 c ++ back) (joined (encode_utf8 c) ms) deep
-by-literal scopes c back ms deep plain ok r = record {
-  run = c ∷ r.run;
-  rest = r.rest;
-  spelled = ap (λ b. encode_utf8 c ++ b) r.spelled ∙ sym (append_assoc (encode_utf8 c) (encode_utf8_all r.run) r.rest);
-  each = (encode_utf8 c, encode_utf8_all r.run, refl, record { spelled = refl; allowed = ok; passes = plain-in-text c plain }, r.each);
-  no_greater = lacks-append 62 (encode_utf8 c) (encode_utf8_all r.run) (lacks-character 62 c (lit< tt) plain.no_greater) r.no_greater;
-  no_return = lacks-append 13 (encode_utf8 c) (encode_utf8_all r.run) (lacks-character 13 c (lit< tt) plain.no_return) r.no_return;
-  others = r.others;
-  behind = r.behind;
-  says = sym (joined-more (encode_utf8 c) (encode_utf8_all r.run) r.others) ∙ ap (joined (encode_utf8 c)) r.says;
-}
+some-bytes : (c : ℕ) (rest : List ℕ) → encode_utf8 c ++ rest ≢ []
+some-bytes c rest e = let first = encoded c in no-cons {a = first.head} {xs = first.tail ++ rest} (sym e ∙ ap (λ xs. xs ++ rest) first.is)
 
-run-of : (scopes : List (List Declaration)) (cs back : List ℕ) (ms : Meanings) (deep : ℕ) → list_all is_allowed cs ≡ true → Behind scopes back ms deep → Run scopes (escaped (encode_utf8_all cs) ++ back) (joined (encode_utf8_all cs) ms) deep
-run-of scopes [] back ms deep allowed behind = record {
-  run = [];
-  rest = back;
-  spelled = refl;
-  each = refl;
-  no_greater = refl;
-  no_return = refl;
-  others = ms;
-  behind = behind;
-  says = refl;
-}
-run-of scopes (c ∷ cs) back ms deep allowed behind =
-    by (kind c) (run-of scopes cs back ms deep (and-second (is_allowed c) (list_all is_allowed cs) allowed) behind)
-  where
-    after_ : List ℕ
-    after_ = escaped (encode_utf8_all cs) ++ back
+module _ (scopes : List (List Declaration)) (c : ℕ) (ms : Meanings) (deep : ℕ) (plain : Plain c) (ok : is_allowed c ≡ true) where
+  literal-goes-on : (text rest : List ℕ) (cs : List ℕ) (more : Content) → Many (Character is_in_text) text cs → lacks 62 text ≡ true → lacks 13 text ≡ true → IsContent more rest → begins_with_text more ≡ false
+      → and_joined text (meanings more scopes) ≡ Some ms → depths more ≡ deep → Means scopes (encode_utf8 c ++ (text ++ rest)) (joined (encode_utf8 c) ms) deep
+  literal-goes-on text rest cs more each greater return others apart means depth =
+      let all : List ℕ = encode_utf8 c ++ text in
+      let no_greater = lacks-append 62 (encode_utf8 c) text (lacks-character 62 c (lit< tt) plain.no_greater) greater in
+      let no_return = lacks-append 13 (encode_utf8 c) text (lacks-character 13 c (lit< tt) plain.no_return) return in
+      let is_text : IsText all all = record {
+        characters = record { says = refl; characters = c ∷ cs; each = (encode_utf8 c, text, refl, record { spelled = refl; allowed = ok; passes = plain-in-text c plain }, each); none = no-section-end all no_greater };
+        some = some-bytes c text;
+      } in record {
+        content = LeafThen (Text all) more;
+        clean = (no_greater, no_return);
+        is = (all, rest, sym (append_assoc (encode_utf8 c) text rest), is_text, others, apart);
+        means = ap (λ t. and_joined t (meanings more scopes)) (ends-stay all no_return) ∙ and-joined-more (encode_utf8 c) text (meanings more scopes) ms means;
+        depth = depth;
+      }
 
-    spelled : (escaped (encode_utf8 c) ++ (escaped (encode_utf8_all cs) ++ back)) ≡ (escaped (encode_utf8_all (c ∷ cs)) ++ back)
-    spelled = sym (ap (λ b. b ++ back) (escaped-more c cs) ∙ append_assoc (escaped (encode_utf8 c)) (escaped (encode_utf8_all cs)) back)
-
-    whole : Run scopes (escaped (encode_utf8 c) ++ (escaped (encode_utf8_all cs) ++ back)) (joined (encode_utf8 c) (joined (encode_utf8_all cs) ms)) deep → Run scopes (escaped (encode_utf8_all (c ∷ cs)) ++ back) (joined (encode_utf8_all (c ∷ cs)) ms) deep
-    whole r =
-        subst (λ (b : List ℕ). Run scopes b (joined (encode_utf8_all (c ∷ cs)) ms) deep) spelled
-        (subst (λ (m : Meanings). Run scopes (escaped (encode_utf8 c) ++ (escaped (encode_utf8_all cs) ++ back)) m deep) (joined-more (encode_utf8 c) (encode_utf8_all cs) ms) r)
-
-    by : Kind c → Run scopes (escaped (encode_utf8_all cs) ++ back) (joined (encode_utf8_all cs) ms) deep → Run scopes (escaped (encode_utf8_all (c ∷ cs)) ++ back) (joined (encode_utf8_all (c ∷ cs)) ms) deep
-    by (inl is) r =
-        whole (by-reference scopes c (escaped (encode_utf8 c)) (escaped (encode_utf8_all cs) ++ back) (joined (encode_utf8_all cs) ms) deep is (closed scopes (escaped (encode_utf8_all cs) ++ back) (joined (encode_utf8_all cs) ms) deep r))
-    by (inr plain) r =
-        whole (subst (λ (b : List ℕ). Run scopes (b ++ (escaped (encode_utf8_all cs) ++ back)) (joined (encode_utf8 c) (joined (encode_utf8_all cs) ms)) deep) (sym plain.stays)
-        (by-literal scopes c (escaped (encode_utf8_all cs) ++ back) (joined (encode_utf8_all cs) ms) deep plain (and-first (is_allowed c) (list_all is_allowed cs) allowed) r))
+  literal-before : (back : List ℕ) → Means scopes back ms deep → Means scopes (encode_utf8 c ++ back) (joined (encode_utf8 c) ms) deep
+  literal-before back m = by m.content m.clean m.is m.means m.depth where
+    by : (content : Content) → Clean content → IsContent content back → meanings content scopes ≡ Some ms → depths content ≡ deep → Means scopes (encode_utf8 c ++ back) (joined (encode_utf8 c) ms) deep
+    by (LeafThen (Text text) more) (greater, return) (front, rest, e, is, others, lone) means depth =
+        subst (λ bytes. Means scopes (encode_utf8 c ++ bytes) (joined (encode_utf8 c) ms) deep) (ap (λ xs. xs ++ rest) is.characters.says ∙ sym e)
+        (literal-goes-on text rest is.characters.characters more (subst (λ xs. Many (Character is_in_text) xs is.characters.characters) (sym is.characters.says) is.characters.each) greater return others lone
+        (ap (λ t. and_joined t (meanings more scopes)) (sym (ends-stay text return)) ∙ means) depth)
+    by other clean is means depth = literal-goes-on [] back [] other refl refl refl is refl (ap (and_joined []) means ∙ ap Some (joined-none ms)) depth
 
 -- a text before other content
-pub text-before : (scopes : List (List Declaration)) (text back : List ℕ) (ms : Meanings) (deep : ℕ) → AreAllowed text → Behind scopes back ms deep → Means scopes (escaped text ++ back) (joined text ms) deep
-text-before scopes text back ms deep (cs, allowed, are) behind =
-    subst (λ (t : List ℕ). Means scopes (escaped t ++ back) (joined t ms) deep) are
-    (closed scopes (escaped (encode_utf8_all cs) ++ back) (joined (encode_utf8_all cs) ms) deep (run-of scopes cs back ms deep allowed behind))
+characters-before : (scopes : List (List Declaration)) (cs back : List ℕ) (ms : Meanings) (deep : ℕ) → list_all is_allowed cs ≡ true → Means scopes back ms deep → Means scopes (escaped (encode_utf8_all cs) ++ back) (joined (encode_utf8_all cs) ms) deep
+characters-before scopes [] back ms deep allowed m = subst (λ x. Means scopes back x deep) (sym (joined-none ms)) m
+characters-before scopes (c ∷ cs) back ms deep allowed m =
+    subst (λ bytes. Means scopes bytes (joined (encode_utf8_all (c ∷ cs)) ms) deep) (sym (ap (λ b. b ++ back) (escaped-more c cs) ∙ append_assoc (escaped (encode_utf8 c)) (escaped (encode_utf8_all cs)) back))
+    (subst (λ x. Means scopes (escaped (encode_utf8 c) ++ after) x deep) (joined-more (encode_utf8 c) (encode_utf8_all cs) ms)
+    (by (kind c) (characters-before scopes cs back ms deep (and-second (is_allowed c) (list_all is_allowed cs) allowed) m)))
+  where
+    after : List ℕ
+    after = escaped (encode_utf8_all cs) ++ back
+
+    said : Meanings
+    said = joined (encode_utf8_all cs) ms
+
+    by : Kind c → Means scopes after said deep → Means scopes (escaped (encode_utf8 c) ++ after) (joined (encode_utf8 c) said) deep
+    by (inl is) r = reference-before scopes c (escaped (encode_utf8 c)) after said deep is r
+    by (inr plain) r =
+        subst (λ b. Means scopes (b ++ after) (joined (encode_utf8 c) said) deep) (sym plain.stays) (literal-before scopes c said deep plain (and-first (is_allowed c) (list_all is_allowed cs) allowed) after r)
+
+pub text-before : (scopes : List (List Declaration)) (text back : List ℕ) (ms : Meanings) (deep : ℕ) → AreAllowed text → Means scopes back ms deep → Means scopes (escaped text ++ back) (joined text ms) deep
+text-before scopes text back ms deep (cs, allowed, are) m = subst (λ t. Means scopes (escaped t ++ back) (joined t ms) deep) are (characters-before scopes cs back ms deep allowed m)

@@ -9,7 +9,7 @@ use Rattle.cds_markup.specs.declared.tag.TagAttr.{TagAttr}
 use Rattle.cds_markup.specs.declared.tag.Declaration.{Declaration}
 use Rattle.cds_markup.specs.Namespaces.{is_empty, xml_space, declarations, is_sound, declared_in, or_outer, otherwise_none, space_of, in_space, element_name, named_attrs, same_qname, same_name, no_attr_twice, no_name_twice, where_once, tag_says}
 use Rattle.cds_markup.specs.Written.{numbered, under, declares, tag_attrs, default_declared, tag_of, CanBeAttr, CanBeTag}
-use Rattle.cds_markup.proofs.WrittenTexts.{and-both, and-first, and-second}
+use Rattle.cds_markup.proofs.Machines.{and-both, and-first, and-second}
 use Rattle.cds_markup.proofs.WrittenTags.{xmlns-name, without-prefix, Stands, TagStands}
 use Rattle.cds_markup.proofs.WrittenScopes.{empty-is, bytes-same, same-bytes, numbers-apart, or-false, or-first, or-second, not-true, false-not, each-attr, all-stand, all-sound, all-named}
 

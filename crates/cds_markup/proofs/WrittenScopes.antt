@@ -11,7 +11,7 @@ use Rattle.cds_markup.specs.declared.tag.TagAttr.{TagAttr}
 use Rattle.cds_markup.specs.declared.tag.Declaration.{Declaration}
 use Rattle.cds_markup.specs.Namespaces.{is_empty, xml_space, is_declaration, declarations, is_sound, declared, space_of, in_space, attr_name, element_name, and_more, with_value, named_attrs}
 use Rattle.cds_markup.specs.Written.{numbered, under, declares, tag_attrs, CanBeAttr}
-use Rattle.cds_markup.proofs.WrittenTexts.{and-both}
+use Rattle.cds_markup.proofs.Machines.{and-both}
 use Rattle.cds_markup.proofs.WrittenTags.{numbered-name, xml-name, xmlns-name, without-prefix, behind-prefix, Stands}
 
 -- tests on bytes

@@ -1,5 +1,5 @@
 -- What escaping writes, character by character.
-use Rattle.std.proofs.Common.{◌≡◌, ◌==◌, ℕ, ◌+◌, ◌/◌, ◌%◌, ◌<◌, ◌≤◌, Bool, true, false, not, ◌&&◌, List, [], ◌∷◌, ◌++◌, cond, Some, refl, sym, ap, subst, ◌∙◌, arith, append-nil, codes, encode_utf8, lit<, ◌⊎◌, inl, inr}
+use Rattle.std.proofs.Common.{◌≡◌, ◌==◌, ℕ, ◌<◌, ◌≤◌, Bool, true, false, not, ◌&&◌, List, [], ◌∷◌, ◌++◌, cond, Some, refl, sym, ap, subst, ◌∙◌, arith, append-nil, codes, encode_utf8, lit<, ◌⊎◌, inl, inr}
 use Rattle.std.proofs.lemmas.Bool.{eqb-true}
 use Rattle.std.proofs.lemmas.Bool.Decides.{nat_tests}
 use Rattle.std.proofs.lemmas.Grind.{flat_map-append}
@@ -15,22 +15,14 @@ use Rattle.cds_markup.specs.declared.values.ValuePiece.{ValuePiece}
 use Rattle.cds_markup.specs.declared.values.ValuePiece.TheVariants.{Literal, Referred}
 use Rattle.cds_markup.specs.Form.{Many}
 use Rattle.cds_markup.specs.Grammar.{is_in_value, IsValuePiece, piece_says, and_behind, with_line_ends, IsInside, IsValue}
-use Rattle.cds_markup.proofs.CharacterForm.{Ranges, ranges}
-use Rattle.cds_markup.proofs.Wide.{encode-two, encode-three, encode-four}
+use Rattle.cds_markup.proofs.Machines.{and-both, and-first, and-second}
+use Rattle.cds_markup.proofs.Characters.{High, wide-bytes, at-most-or-more}
+use Rattle.cds_markup.proofs.Ways.{then-of}
 
 -- bytes among which one does not stand
 abbrev pub lacks : ℕ → List ℕ → Bool
 lacks k [] = true
 lacks k (b ∷ rest) = not (b == k) && lacks k rest
-
-pub and-both : (s t : Bool) → s ≡ true → t ≡ true → (s && t) ≡ true
-and-both s t e d = grind arith
-
-pub and-first : (s t : Bool) → (s && t) ≡ true → s ≡ true
-and-first s t e = grind arith
-
-pub and-second : (s t : Bool) → (s && t) ≡ true → t ≡ true
-and-second s t e = grind arith
 
 pub lacks-append : (k : ℕ) (x y : List ℕ) → lacks k x ≡ true → lacks k y ≡ true → lacks k (x ++ y) ≡ true
 lacks-append k [] y e d = d
@@ -44,23 +36,15 @@ not-false : (t : Bool) → t ≡ false → not t ≡ true
 not-false true e = absurd (cc)
 not-false false e = refl
 
-with_more : (k b : ℕ) (rest : List ℕ) → k < 128 → 128 ≤ b → lacks k rest ≡ true → lacks k (b ∷ rest) ≡ true
-with_more k b rest low high e = and-both (not (b == k)) (lacks k rest) (differs k b low high) e
-
-lacks-by : (k c : ℕ) → k < 128 → (c == k) ≡ false → Ranges c → lacks k (encode_utf8 c) ≡ true
-lacks-by k c low other (inl small) = ap (lacks k) (encode_ascii c small) ∙ and-both (not (c == k)) true (not-false (c == k) other) refl
-lacks-by k c low other (inr (inl two)) =
-    ap (lacks k) (encode-two c two.0 two.1) ∙ with_more k (192 + c / 64) ((128 + c % 64) ∷ []) low (omega arith) (with_more k (128 + c % 64) [] low (omega arith) refl)
-lacks-by k c low other (inr (inr (inl three))) =
-    ap (lacks k) (encode-three c three.0 three.1)
-    ∙ with_more k (224 + c / 4096) ((128 + c / 64 % 64) ∷ (128 + c % 64) ∷ []) low (omega arith) (with_more k (128 + c / 64 % 64) ((128 + c % 64) ∷ []) low (omega arith) (with_more k (128 + c % 64) [] low (omega arith) refl))
-lacks-by k c low other (inr (inr (inr four))) =
-    ap (lacks k) (encode-four c four)
-    ∙ with_more k (240 + c / 262144) ((128 + c / 4096 % 64) ∷ (128 + c / 64 % 64) ∷ (128 + c % 64) ∷ []) low (omega arith)
-    (with_more k (128 + c / 4096 % 64) ((128 + c / 64 % 64) ∷ (128 + c % 64) ∷ []) low (omega arith) (with_more k (128 + c / 64 % 64) ((128 + c % 64) ∷ []) low (omega arith) (with_more k (128 + c % 64) [] low (omega arith) refl)))
+lacks-high : (k : ℕ) (w : List ℕ) → k < 128 → High w → lacks k w ≡ true
+lacks-high k [] low h = refl
+lacks-high k (b ∷ w) low h = and-both (not (b == k)) (lacks k w) (differs k b low h.0) (lacks-high k w low h.1)
 
 pub lacks-character : (k c : ℕ) → k < 128 → (c == k) ≡ false → lacks k (encode_utf8 c) ≡ true
-lacks-character k c low other = lacks-by k c low other (ranges c)
+lacks-character k c low other = elim (at-most-or-more 128 c) [
+  | inl high ↦ let w = wide-bytes c high in ap (lacks k) w.is ∙ lacks-high k (w.head ∷ w.tail) low w.high
+  | inr small ↦ ap (lacks k) (encode_ascii c (omega (arith, small))) ∙ and-both (not (c == k)) true (not-false (c == k) other) refl
+]
 
 -- a character that escaping leaves as it is
 pub record Plain (c : ℕ) : Type 0 where
@@ -157,21 +141,9 @@ pub inside-of : (text : List ℕ) → AreAllowed text → IsInside 34 (escaped t
 inside-of text (cs, allowed, are) =
     let p = pieces-of cs allowed in
     subst (λ (t : List ℕ). IsInside 34 (escaped t) t) are
-    (record {
-      front = escaped (encode_utf8_all cs);
-      back = [];
-      what = p.pieces;
-      spelled = sym (append-nil (escaped (encode_utf8_all cs)));
-      first = p.each;
-      second = (refl, sym (ap (flat_map piece_says) p.no_ends ∙ p.says));
-    })
+    (then-of (escaped (encode_utf8_all cs)) [] p.pieces (sym (append-nil (escaped (encode_utf8_all cs)))) p.each (refl, sym (ap (flat_map piece_says) p.no_ends ∙ p.says)))
 
 pub value-of : (text : List ℕ) → AreAllowed text → IsValue (codes "\"" ++ (escaped text ++ codes "\"")) text
-value-of text are = record {
-  front = codes "\"";
-  back = escaped text ++ codes "\"";
-  what = 34;
-  spelled = refl;
-  first = (refl, refl);
-  second = record { front = escaped text; back = codes "\""; what = text; spelled = refl; first = inside-of text are; second = record { front = codes "\""; back = []; what = 34; spelled = refl; first = (refl, refl); second = (refl, refl) } };
-}
+value-of text are =
+    then-of (codes "\"") (escaped text ++ codes "\"") 34 refl (refl, refl)
+    (then-of (escaped text) (codes "\"") text refl (inside-of text are) (then-of (codes "\"") [] 34 refl (refl, refl) (refl, refl)))

@@ -1,6 +1,6 @@
 -- How parts are put together from the first to the last: the elements that are open, from the innermost, each with what
 -- stood before it in the element around it, then what stands in the innermost so far, and a text that may go on.
-use Rattle.std.specs.Prelude.{ℕ, if◌then◌else◌, Option, Some, None, List, [], ◌∷◌, ◌++◌, string_bytes}
+use Rattle.std.specs.Prelude.{◌≡◌, ℕ, if◌then◌else◌, Option, Some, None, List, [], ◌∷◌, ◌++◌, string_bytes}
 use Rattle.cds_markup.specs.declared.build.Builder.{Builder}
 use Rattle.cds_markup.specs.declared.build.Frame.{Frame}
 use Rattle.cds_markup.specs.declared.element.Node.TheVariants.{Text, Child}
@@ -52,6 +52,10 @@ with_part s (Run at non_blank text) = with_text text s
 abbrev pub built : State → List Part → State
 built s [] = s
 built s (part ∷ more) = built (with_part s part) more
+
+-- The next part, where a builder takes it.
+abbrev pub builds : Builder → Part → Builder → Type 0
+builds before part now = state_of now ≡ with_part (state_of before) part
 
 abbrev pub nothing_yet : State
 nothing_yet = state [] Childless []

@@ -13,7 +13,6 @@ use Rattle.cds_markup.specs.Document.{Meaning, Element}
 use Rattle.cds_markup.specs.Elements.{nodes_of}
 use Rattle.cds_markup.specs.Parts.{DocumentParts}
 use Rattle.cds_markup.specs.GivenParts.{Given}
-use Rattle.cds_markup.specs.Building.{built, nothing_yet, built_as}
 
 -- An element's name, its attributes and what stands in it.
 abbrev pub name_of : Meaning → Name
@@ -129,12 +128,6 @@ IsRootPlace bytes at = IsPlace bytes root_start at
 
 abbrev pub IsChildPlace : List ℕ → ℕ → ℕ → Type 0
 IsChildPlace bytes number at = IsPlace bytes (λ parts. slice_get (child_starts 0 parts) number) at
-
--- The parts of bytes that are a document of this element.
-pub record ArePartsOf (bytes : List ℕ) (element : Meaning) (parts : List Part) : Type 0 where
-  pub are : DocumentParts bytes parts
-  pub given : Given bytes parts
-  pub build : built nothing_yet parts ≡ built_as element
 
 -- Bytes have one place of the root's start tag at most, and one of each child's.
 abbrev pub PlacesAreOne : Type 0

@@ -1,11 +1,9 @@
 -- What reading a document decides.
-use Rattle.std.specs.Prelude.{◌≡◌, ◌≢◌, ℕ, Result, Ok, Err, List, ⊤}
+use Rattle.std.specs.Prelude.{◌≡◌, ◌≢◌, Result, Ok, Err, List, ℕ, ⊤}
 use Rattle.cds_markup.specs.declared.error.MarkupError.{MarkupError}
 use Rattle.cds_markup.specs.declared.error.MarkupError.TheVariants.{Mem}
 use Rattle.cds_markup.specs.Document.{Meaning, Doc}
 use Rattle.cds_markup.specs.Refusal.{IsRefused}
-use Rattle.cds_markup.specs.Building.{State, built, nothing_yet}
-use Rattle.cds_markup.specs.Course.{read_of, parts_of}
 
 -- An answer to bytes: the one element that they are a document of, or the one refusal that stands against them. Want of
 -- memory says nothing of them.
@@ -15,8 +13,3 @@ Decides bytes (Err Mem) = ⊤
 Decides bytes (Err r) =
     IsRefused bytes r × ((other : MarkupError) → IsRefused bytes other → other ≢ Mem → other ≡ r)
     × ((element : Meaning) → Doc bytes element → ⊥)
-
--- What reading a document answers, and what is built of its parts. Want of memory says nothing.
-abbrev pub IsBuilt : List ℕ → Result (Unit {0}) MarkupError → State → Type 0
-IsBuilt bytes (Err Mem) state = ⊤
-IsBuilt bytes result state = (result ≡ read_of bytes) × (state ≡ built nothing_yet (parts_of bytes))

@@ -1,5 +1,5 @@
 -- What holds of the words about documents, whichever way they are read.
-use Rattle.std.specs.Prelude.{◌≡◌, ◌≢◌, ◌⊎◌, ℕ, ◌<◌, ◌≤◌, false, Result, Ok, Err, List, [], ◌∷◌, ◌++◌, length}
+use Rattle.std.specs.Prelude.{◌≡◌, ◌≢◌, ◌⊎◌, ⊤, ℕ, ◌<◌, ◌≤◌, false, Result, Ok, Err, List, [], ◌∷◌, ◌++◌, length}
 use Rattle.cds_base.specs.declared.limits.TheConstants.{INPUT_LIMIT}
 use Rattle.cds_markup.specs.declared.error.MarkupError.{MarkupError}
 use Rattle.cds_markup.specs.declared.error.MarkupError.TheVariants.{Mem}
@@ -7,10 +7,11 @@ use Rattle.cds_markup.specs.declared.part.Part.{Part}
 use Rattle.cds_markup.specs.declared.tag.Tag.{Tag}
 use Rattle.cds_markup.specs.Grammar.{Leaf, Tree, is_text}
 use Rattle.cds_markup.specs.Document.{Meaning, DocOf, Doc}
-use Rattle.cds_markup.specs.Refusal.{LeafEnds, IsRefused}
+use Rattle.cds_markup.specs.Refusal.{CanGoOn, BreaksAt, TagEnds, LeafEnds, TextByte, IsRefused}
 use Rattle.cds_markup.specs.Answer.{answer_to, parts_in}
-use Rattle.cds_markup.specs.Parts.{OpensParts, DocumentParts, Says}
-use Rattle.cds_markup.specs.GivenParts.{Clear, Stands, Given, Tells}
+use Rattle.cds_markup.specs.Parts.{leaf_parts, OpensParts, DocumentParts, Says}
+use Rattle.cds_markup.specs.GivenParts.{ends_with_text, RootEnds, SlashEnds, PartsTo, Given, Tells}
+use Rattle.cds_markup.specs.PartsFound.{Clear, Stands, TagGiven, PartsGiven, TextGiven}
 use Rattle.cds_markup.specs.Building.{built, nothing_yet, built_as}
 
 -- What reading any bytes answers is what the grammar says of them: an element exactly where they are a document, and a
@@ -43,11 +44,33 @@ OneAnswer =
 abbrev pub PartsAreGiven : Type 0
 PartsAreGiven = (bytes : List ℕ) → Given bytes (parts_in bytes)
 
--- What is open at a place that is free of refusals: each part before it stands there, found before the place.
+-- The parts up to a place are the parts of the bytes before it, whatever stands there.
 abbrev pub PartsStandBefore : Type 0
-PartsStandBefore =
-    (bytes : List ℕ) (tags : List Tag) (front rest : List ℕ) (parts earlier later : List Part) (part : Part) (at : ℕ)
-    → bytes ≡ front ++ rest → OpensParts tags front parts → length front ≤ at → Clear bytes at → parts ≡ earlier ++ part ∷ later → Stands front earlier part
+PartsStandBefore = (front : List ℕ) (parts : List Part) → length front ≤ INPUT_LIMIT → PartsTo front parts → Given front parts
+
+-- Each part stands in the bytes, and each start tag, each reference, each section and each text that is found where nothing
+-- refuses them is among the parts.
+pub record AreFound (bytes : List ℕ) (parts : List Part) : Type 0 where
+  pub each : (earlier later : List Part) (part : Part) → parts ≡ earlier ++ part ∷ later → Stands bytes earlier part
+  pub starts : (tags : List Tag) (begin at : ℕ) (tag : Tag) → (found : TagEnds bytes tags begin at tag) → Clear bytes at
+      → TagGiven bytes parts tags begin at tag found.before
+  pub leaves : (tags : List Tag) (begin at : ℕ) (leaf : Leaf) → (found : LeafEnds bytes tags begin at leaf) → is_text leaf ≡ false
+      → Clear bytes at → PartsGiven parts (leaf_parts begin leaf) tags found.before
+  pub texts : (tags : List Tag) (at byte : ℕ) → TextByte bytes tags at byte → Clear bytes at → TextGiven bytes parts tags at
+
+abbrev pub PartsAreFound : Type 0
+PartsAreFound = (bytes : List ℕ) (parts : List Part) → Given bytes parts → AreFound bytes parts
+
+-- The parts up to a place at which no literal text ends begin the parts of all bytes that begin so.
+abbrev pub EndsNoText : (tags : List Tag) (front : List ℕ) (parts : List Part) → OpensParts tags front parts → Type 0
+EndsNoText [] front parts opens = ⊤
+EndsNoText (t ∷ outer) front parts opens = ends_with_text opens.6 ≡ false
+
+abbrev pub PartsBegin : Type 0
+PartsBegin =
+    (front rest : List ℕ) (tags : List Tag) (earlier parts : List Part) → length front ≤ INPUT_LIMIT → Given (front ++ rest) parts
+    → ((opens : OpensParts tags front earlier) × EndsNoText tags front earlier opens) ⊎ (RootEnds front earlier ⊎ SlashEnds front earlier)
+    → (later : List Part) × (parts ≡ earlier ++ later)
 
 -- A reference or a section that begins at a place ends at one place.
 abbrev pub LeavesHaveOneEnd : Type 0
@@ -77,6 +100,15 @@ abbrev pub OneTelling : Type 0
 OneTelling =
     (bytes : List ℕ) (result : Result (Unit {0}) MarkupError) (parts : List Part) → Tells bytes result [] parts → result ≢ Err Mem
     → (result ≡ answer_to bytes) × (parts ≡ parts_in bytes)
+
+-- What all bytes are answered and the parts that reading gives of them are what is told.
+abbrev pub AllIsTold : Type 0
+AllIsTold = (bytes : List ℕ) → Tells bytes (answer_to bytes) [] (parts_in bytes)
+
+-- By the grammar alone, whatever the depth and the rules of start tags: a document goes on from the bytes, or there is a
+-- first byte with which none does.
+abbrev pub GoOnOrBreak : Type 0
+GoOnOrBreak = (bytes : List ℕ) → CanGoOn bytes ⊎ ((at : ℕ) × BreaksAt bytes at)
 
 -- What comes behind more bytes than may be changes nothing.
 abbrev pub NothingCountsPastTheLimit : Type 0

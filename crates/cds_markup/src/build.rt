@@ -102,7 +102,7 @@ impl Builder {
 }
 
 impl PartSink for Builder {
-    ghost use Rattle.cds_markup.specs.SinkLaws.{builds, builds_none, builds_more};
+    ghost use Rattle.cds_markup.specs.Building.{builds};
 
     ghost took = { builds };
 
@@ -115,7 +115,7 @@ impl PartSink for Builder {
         }
     }
 
-    ghost took_none = { builds_none };
-
-    ghost took_more = { builds_more };
+    fn has_enough(&self) -> bool {
+        false
+    }
 }

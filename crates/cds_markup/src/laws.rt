@@ -1,6 +1,7 @@
 //! What is proved of the words about documents themselves: calling a function gives its law.
 
-ghost use Rattle.cds_markup.specs.Laws.{AllAreAnswered, DocumentsAreRead, LeavesHaveOneEnd, NothingCountsPastTheLimit, OneAnswer, OneElement, OneTelling, PartsAreBuilt, PartsAreGiven, PartsAreOfRoots, PartsAreOne, PartsAreTold, PartsStandBefore};
+ghost use Rattle.cds_markup.specs.Feeding.{RunsSay};
+ghost use Rattle.cds_markup.specs.Laws.{AllAreAnswered, AllIsTold, DocumentsAreRead, GoOnOrBreak, LeavesHaveOneEnd, NothingCountsPastTheLimit, OneAnswer, OneElement, OneTelling, PartsAreBuilt, PartsAreFound, PartsAreGiven, PartsAreOfRoots, PartsAreOne, PartsAreTold, PartsBegin, PartsStandBefore};
 ghost use Rattle.cds_markup.specs.Reader.{EveryCutting};
 ghost use Rattle.cds_markup.specs.Written.{WrittenIsRead};
 
@@ -25,6 +26,11 @@ pub fn one_answer()
     ensures { OneAnswer }
 {}
 
+/// By the grammar alone: some document goes on from any bytes, or there is a first byte with which none does.
+pub fn go_on_or_break()
+    ensures { GoOnOrBreak }
+{}
+
 /// What is built of the parts of a document is its element.
 pub fn parts_are_built()
     ensures { PartsAreBuilt }
@@ -41,7 +47,17 @@ pub fn parts_are_given()
     ensures { PartsAreGiven }
 {}
 
-/// Before a place that nothing refuses each part of what is open stands, and is found before that place.
+/// Each of the parts of bytes stands there, and nothing that is found there before the first fault is left out.
+pub fn parts_are_found()
+    ensures { PartsAreFound }
+{}
+
+/// The parts up to a place at which no literal text ends begin the parts of all bytes that begin so.
+pub fn parts_begin()
+    ensures { PartsBegin }
+{}
+
+/// The parts up to a place are the parts of the bytes before it.
 pub fn parts_stand_before()
     ensures { PartsStandBefore }
 {}
@@ -66,6 +82,11 @@ pub fn one_telling()
     ensures { OneTelling }
 {}
 
+/// What all bytes are answered and the parts that reading gives of them are what is told.
+pub fn all_is_told()
+    ensures { AllIsTold }
+{}
+
 /// What comes behind more than 67,108,864 bytes changes neither the answer nor the parts.
 pub fn nothing_counts_past_the_limit()
     ensures { NothingCountsPastTheLimit }
@@ -79,4 +100,9 @@ pub fn every_cutting()
 /// What is written of an element that can be written is within the limits a document that means this element.
 pub fn written_is_read()
     ensures { WrittenIsRead }
+{}
+
+/// A literal text in several runs says what it says in one: the element of the parts is that of their runs.
+pub fn runs_say()
+    ensures { RunsSay }
 {}

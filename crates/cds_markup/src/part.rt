@@ -24,8 +24,8 @@ pub enum Part {
     Run {
         /// Where it begins.
         at: usize,
-        /// The place of the first character that is no blank in a literal text, or of one that a fault cuts right
-        /// behind it, and `at` for the other two.
+        /// The place of the first character that is no blank in a literal text, or of one right behind it that a fault or
+        /// a piece's end cuts, and `at` for the other two. Of the runs of one text the first that has a place has the text's.
         non_blank: Option<usize>,
         /// What it says.
         text: Text,

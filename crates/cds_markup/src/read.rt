@@ -1,16 +1,14 @@
-ghost use Rattle.std.specs.Prelude.{◌≡◌, ◌++◌, length, List, ℕ, OnErr, OnOk, []};
-ghost use Rattle.cds_markup.specs.Course.{answer_of};
-ghost use Rattle.cds_markup.specs.Agree.{Gives, Parted};
-ghost use Rattle.cds_markup.specs.Building.{state_of};
-ghost use Rattle.cds_markup.specs.Decided.{Decides, IsBuilt};
+ghost use Rattle.std.specs.Prelude.{◌≡◌, ◌++◌, OnErr, OnOk};
+ghost use Rattle.cds_markup.specs.Answer.{ran_out};
+ghost use Rattle.cds_markup.specs.Decided.{Decides};
+ghost use Rattle.cds_markup.specs.Placed.{DecidesPlaced};
 ghost use Rattle.cds_markup.specs.GivenParts.{Tells, TellsTo};
 
 use crate::build::Builder;
-use crate::error::Stop;
-use crate::parser::Parser;
-use crate::walk::{Walk, front};
+use crate::part_reader::Spot;
+use crate::placed::{Placed, PlacedBuilder};
 use crate::{Element, MarkupError, PartSink, Parts};
-use cds_base::{INPUT_LIMIT, Mem};
+use cds_base::Mem;
 use std::alloc::Global;
 
 /// Gives the parts of a document one by one, in the order of the bytes: all of them, or those that stand before the
@@ -19,33 +17,39 @@ use std::alloc::Global;
 /// given. `Bad` is the place of the first byte that cannot stand there, or where the input ends and is no document, or of
 /// the `>` or `/` that ends a start tag which breaks a rule of namespaces; `TooDeep` the first byte of a start tag's name
 /// where 16 elements are open; `TooLong` where more than 67,108,864 bytes came without a fault before. `Mem` says nothing
-/// of the bytes, nor of what was given.
+/// of the bytes, nor of what was given. Where what takes the parts has enough, the bytes behind are not read and the
+/// answer is `Ok`.
 pub fn give_parts<S: PartSink>(alloc: Global, bytes: &[u8], to: &mut S) -> Result<(), MarkupError>
-    ensures told { TellsTo S.took bytes.now result to.old to.new }
+    ensures told { TellsTo S.took S.enough bytes.now result to.old to.new }
 {
-    give(alloc, bytes, to)
+    let mut spot = Spot::new(alloc);
+    spot.piece(alloc, bytes, to)?;
+    if to.has_enough() {
+        return Ok(());
+    }
+    spot.place.end()
 }
 
 /// Adds the parts of a document, as `give_parts` gives them. `Mem` leaves the parts as they were.
 pub fn read_parts(alloc: Global, bytes: &[u8], out: &mut Parts) -> Result<(), MarkupError>
     ensures told { Tells bytes.now result out.old out.new }
 {
-    add_parts(alloc, bytes, out)
-}
-
-/// The same, said by the course of the reader.
-fn add_parts(alloc: Global, bytes: &[u8], out: &mut Parts) -> Result<(), MarkupError>
-    ensures { Parted bytes.now result out.old out.new }
-{
     let mut found = Parts::new(alloc);
-    let answer = give(alloc, bytes, &mut found);
-    if let Err(MarkupError::Mem) = answer {
-        return Err(MarkupError::Mem);
-    }
-    if append(alloc, out, found).is_err() {
+    let answer = give_parts(alloc, bytes, &mut found);
+    if ran_out(&answer) || append(alloc, out, found).is_err() {
         return Err(MarkupError::Mem);
     }
     answer
+}
+
+/// Whether memory ran out.
+fn ran_out(answer: &Result<(), MarkupError>) -> bool
+    ensures { result ≡ ran_out answer.now }
+{
+    if let Err(MarkupError::Mem) = answer {
+        return true;
+    }
+    false
 }
 
 /// Reads a document: the element that the bytes are, or why they are none, as `give_parts` says.
@@ -53,60 +57,23 @@ pub fn read_document(alloc: Global, bytes: &[u8]) -> Result<Element, MarkupError
     ensures { Decides bytes.now result }
 {
     let mut builder = Builder::new(alloc);
-    let read = give(alloc, bytes, &mut builder);
-    element_read(bytes, read, builder)
-}
-
-/// What to answer where reading these bytes answered so and built this. The bytes are named for the contract alone.
-#[tactic(auto, using(crate::proofs::Verdict::built_err))]
-fn element_read(
-    _bytes: &[u8],
-    read: Result<(), MarkupError>,
-    builder: Builder,
-) -> Result<Element, MarkupError>
-    requires { IsBuilt _bytes.now read (state_of builder) }
-    ensures { Decides _bytes.now result }
-{
-    match read {
-        Ok(()) => (),
-        Err(refusal) => return Err(refusal),
-    }
+    give_parts(alloc, bytes, &mut builder)?;
     match builder.into_element() {
         Some(element) => Ok(element),
         None => unreachable!(),
     }
 }
 
-/// Gives the parts, said by the course of the reader.
-fn give<S: PartSink>(alloc: Global, bytes: &[u8], to: &mut S) -> Result<(), MarkupError>
-    ensures { Gives S.took bytes.now result to.old to.new }
+/// The same, with the places where its element and the child elements of that begin.
+pub fn read_placed(alloc: Global, bytes: &[u8]) -> Result<Placed, MarkupError>
+    ensures { DecidesPlaced bytes.now result }
 {
-    let within = front(bytes, INPUT_LIMIT);
-    let mut walk = Walk {
-        parser: Parser::new(within),
-        total: within.len(),
-        opens: Vec::new(alloc),
-    };
-    let done = walk.document(alloc, to);
-    let at = walk.place();
-    answer(done, at, bytes.len() > INPUT_LIMIT)
-}
-
-/// What to answer where reading came to a place, and bytes past the limit were left out.
-fn answer(done: Result<(), Stop>, at: usize, cut: bool) -> Result<(), MarkupError>
-    ensures { result ≡ answer_of cut at done }
-{
-    let refusal = match done {
-        Err(Stop::Mem) => return Err(MarkupError::Mem),
-        Ok(()) if cut => return Err(MarkupError::TooLong),
-        Ok(()) => return Ok(()),
-        Err(Stop::Deep) => MarkupError::TooDeep { at },
-        Err(_) => MarkupError::Bad { at },
-    };
-    if cut && at >= INPUT_LIMIT {
-        return Err(MarkupError::TooLong);
+    let mut builder = PlacedBuilder::new(alloc);
+    give_parts(alloc, bytes, &mut builder)?;
+    match builder.into_placed() {
+        Some(placed) => Ok(placed),
+        None => unreachable!(),
     }
-    Err(refusal)
 }
 
 /// Adds all these parts, or none.

@@ -13,11 +13,13 @@ use Rattle.cds_markup.specs.declared.error.MarkupError.TheVariants.{Mem as OutOf
 use Rattle.cds_markup.specs.Decided.{Decides as DecidesDocument}
 use Rattle.cds_markup.specs.Document.{Meaning, Doc}
 use Rattle.cds_markup.specs.Children.{nodes_in, elements_in, is_named, is_called, named, called, is_any, only_of}
-use Rattle.cds_markup.specs.Pieces.{Takes}
-use Rattle.cds_markup.proofs.Verdict.{one-element}
+use Rattle.cds_markup.specs.Pieces.{goes_on}
+use Rattle.cds_markup.proofs.Public.{one-element}
 use Rattle.cds_lastchange.specs.declared.error.StateError.{StateError}
 use Rattle.cds_lastchange.specs.declared.error.StateError.TheVariants.{Mem as Out, Bad, NotStateEvent, TooLong, Failed}
 use Rattle.cds_lastchange.specs.Refusal.{Decides}
+use Rattle.cds_lastchange.specs.Feeding.{Came, IsRead, Fed, Finished}
+use Rattle.cds_lastchange.proofs.Feeding.{every-cutting}
 use Rattle.cds_lastchange.specs.StateEvent.{IsStateEvent}
 use Rattle.cds_lastchange.proofs.Deciding.{one-list}
 use Rattle.cds_gena.specs.Asked.{has_method, field_of}
@@ -100,9 +102,9 @@ variable-is local root =
 
 -- ---- refusals
 
-pub fed-refused : (text : List ℕ) (e : StateError) (now : Option (List ℕ)) → Takes Decides Failed Out (Some []) text (Err e) now → Decides text (Err e)
-fed-refused text e now (gone, inl out) = subst (λ (r : StateError). Decides text (Err r)) (sym out) tt
-fed-refused text e now (gone, inr r) = subst (λ (t : List ℕ). Decides t (Err e)) (append-nil text) (r.stands [])
+pub fed-decides : (text : List ℕ) (new next : Came) (answer : Result (Unit {0}) StateError) (result : Result (List Event) StateError)
+    → IsRead [] new → Fed new text answer next → goes_on answer result (Finished next result) → Decides text result
+fed-decides text new next answer result is fed on = subst (λ bytes. Decides bytes result) (append-nil text) (every-cutting new (text ∷ []) result is (answer, next, fed, on))
 
 pub state-told : (text : List ℕ) (e : StateError) → Decides text (Err e) → EventsTold text (Err (of_state e))
 state-told text Out h = tt
@@ -142,9 +144,6 @@ no-events body root said doc is Body h = λ number events says.
     h events (subst (λ (s : Said). IsStateEvent s.changes events) one says.state)
 
 -- a reader to which nothing came
-pub nothing-came : {E : Type 0} (r : Result (Option (List ℕ)) E) (came : Option (List ℕ)) → r ≡ Ok came → r ≡ Ok (Some []) → came ≡ Some []
-nothing-came r came e f = cc
-
 -- ---- the fields
 
 err-same : (a b : NoteError) → ((a ≡ b) → ⊥) → (r : Result Heading NoteError) → r ≡ Err a → r ≡ Err b → ⊥

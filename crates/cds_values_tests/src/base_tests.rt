@@ -1,6 +1,7 @@
 use cds_base::{
     Bytes, Failed, Mem, MemSink, MemSource, Numbers, Sink, Source, Text, TextError, Words, escape,
-    first_forbidden, plain_run, put, put_number, read_plain, read_u32, unescape, write_all,
+    first_forbidden, letters_run, plain_run, put, put_number, read_plain, read_u32, unescape,
+    write_all,
 };
 use std::alloc::Global;
 use std::convert::From;
@@ -216,25 +217,88 @@ fn names_the_first_fault_of_a_text(rt: HostRuntime) -> Result<(), Fail> {
     Ok(())
 }
 
-/// Bytes, how many of them are plain, and the place of the first that is forbidden.
-const RUNS: [(&[u8], usize, Option<usize>); 7] = [
-    (b"", 0, None),
-    (b"plain text \x7f\xff", 13, None),
-    (b"ab&c", 2, None),
-    (b"ab'c\x1f", 2, Some(4)),
-    (b"\t\n\r\x0b", 0, Some(3)),
-    (b"\x00<", 1, Some(0)),
-    (b"0123456789012345678901234567890123\"", 34, None),
+/// Bytes, how many of them are plain, how many are letters that stand for themselves, and the place of the first that is
+/// forbidden.
+const RUNS: [(&[u8], usize, usize, Option<usize>); 9] = [
+    (b"", 0, 0, None),
+    (b"plain text \x7f\xff", 13, 12, None),
+    (b"ab&c", 2, 2, None),
+    (b"ab'c\x1f", 2, 2, Some(4)),
+    (b"\t\n\r\x0b", 0, 0, Some(3)),
+    (b"\x00<", 1, 0, Some(0)),
+    (b"a-b", 3, 1, None),
+    (b"~ ]", 3, 2, None),
+    (b"01234567890123456789\x80012345678901234\"", 36, 20, None),
 ];
 
-/// Whether so many first bytes are plain, and the first forbidden one is there.
-fn ends_at(bytes: &[u8], plain: usize, forbidden: Option<usize>) -> bool {
-    plain_run(bytes) == plain && first_forbidden(bytes) == forbidden
+/// Whether so many first bytes are plain, so many are letters, and the first forbidden one is there.
+fn ends_at(bytes: &[u8], plain: usize, letters: usize, forbidden: Option<usize>) -> bool {
+    plain_run(bytes) == plain
+        && letters_run(bytes) == letters
+        && first_forbidden(bytes) == forbidden
 }
 
 #[test]
 fn runs_end_at_the_first_such_byte(rt: HostRuntime) {
-    for (bytes, plain, forbidden) in &RUNS {
-        assert!(rt; ends_at(bytes, *plain, *forbidden), "{plain}");
+    for (bytes, plain, letters, forbidden) in &RUNS {
+        assert!(rt; ends_at(bytes, *plain, *letters, *forbidden), "{plain}");
+    }
+}
+
+/// Bytes about as long as one block or two, and where both runs end.
+const BLOCKS: [(&[u8], usize); 17] = [
+    (b"0123456789012345678901234567890", 31),
+    (b"01234567890123456789012345678901", 32),
+    (b"012345678901234567890123456789012", 33),
+    (
+        b"012345678901234567890123456789012345678901234567890123456789012",
+        63,
+    ),
+    (
+        b"0123456789012345678901234567890123456789012345678901234567890123",
+        64,
+    ),
+    (
+        b"01234567890123456789012345678901234567890123456789012345678901234",
+        65,
+    ),
+    (b"012345678901234567890123456789&", 30),
+    (b"0123456789012345678901234567890<", 31),
+    (b"0123456789012345678901234567890>2", 31),
+    (b"01234567890123456789012345678901\"", 32),
+    (
+        b"0123456789012345678901234567890'2345678901234567890123456789012",
+        31,
+    ),
+    (
+        b"01234567890123456789012345678901234567890123456789012345678901&",
+        62,
+    ),
+    (
+        b"01234567890123456789012345678901<3456789012345678901234567890123",
+        32,
+    ),
+    (
+        b"012345678901234567890123456789012345678901234567890123456789012>",
+        63,
+    ),
+    (
+        b"0123456789012345678901234567890\"234567890123456789012345678901234",
+        31,
+    ),
+    (
+        b"012345678901234567890123456789012345678901234567890123456789012'4",
+        63,
+    ),
+    (
+        b"0123456789012345678901234567890123456789012345678901234567890123&",
+        64,
+    ),
+];
+
+#[test]
+fn runs_end_at_the_first_such_byte_of_a_block(rt: HostRuntime) {
+    for (bytes, run) in &BLOCKS {
+        assert!(rt; ends_at(bytes, *run, *run, None), "{run}");
     }
 }

@@ -12,6 +12,9 @@ returns-in-Ok-eq0-clause-fed g c = λ bytes told.
     let zero : c.in-Ok-eq0.field-0 ≡ 0 = omega (arith, c.in-Ok-eq0.field-0-test) in
     all-fed _ _ bytes coming (c.in-Ok-eq0.ensures.end zero coming.rest coming.told)
 
+pub returns-in-Ok-eq0-clause-stays : goal.returns-in-Ok-eq0-clause-stays
+returns-in-Ok-eq0-clause-stays g c = let fed = c.loop-count.invariant.0 in (fed.bytes, fed.is)
+
 pub returns-in-Ok-eq0-clause-whole : goal.returns-in-Ok-eq0-clause-whole
 returns-in-Ok-eq0-clause-whole g c = λ bytes told.
     let coming = c.loop-count.invariant.1 bytes told in

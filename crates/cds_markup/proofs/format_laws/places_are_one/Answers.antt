@@ -1,4 +1,4 @@
-use Rattle.cds_markup.proofs.ChildCount.{places-are-one}
+use Rattle.cds_markup.proofs.Public.{places-are-one}
 use Rattle.cds_markup.proofs.format_laws.places_are_one.Goals as goal
 
 pub returns : goal.returns

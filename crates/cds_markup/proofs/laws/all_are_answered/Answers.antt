@@ -1,5 +1,6 @@
-use Rattle.cds_markup.proofs.Verdict.{all-answered}
+-- The law stands in the lemmas.
+use Rattle.cds_markup.proofs.Exact.{all-are-answered}
 use Rattle.cds_markup.proofs.laws.all_are_answered.Goals as goal
 
 pub returns : goal.returns
-returns c = all-answered
+returns c = all-are-answered

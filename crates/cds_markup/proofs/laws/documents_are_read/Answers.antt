@@ -1,4 +1,5 @@
-use Rattle.cds_markup.proofs.Answering.{documents-are-read}
+-- The law stands in the lemmas.
+use Rattle.cds_markup.proofs.Readings.{documents-are-read}
 use Rattle.cds_markup.proofs.laws.documents_are_read.Goals as goal
 
 pub returns : goal.returns

@@ -1,4 +1,5 @@
-use Rattle.cds_markup.proofs.Answering.{nothing-counts-past-the-limit}
+-- The law stands in the lemmas.
+use Rattle.cds_markup.proofs.GivenLaws.{nothing-counts-past-the-limit}
 use Rattle.cds_markup.proofs.laws.nothing_counts_past_the_limit.Goals as goal
 
 pub returns : goal.returns

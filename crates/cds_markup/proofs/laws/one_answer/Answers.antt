@@ -1,4 +1,5 @@
-use Rattle.cds_markup.proofs.Verdict.{one-answer}
+-- The law stands in the lemmas.
+use Rattle.cds_markup.proofs.Exact.{one-answer}
 use Rattle.cds_markup.proofs.laws.one_answer.Goals as goal
 
 pub returns : goal.returns

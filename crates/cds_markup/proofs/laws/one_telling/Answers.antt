@@ -1,4 +1,5 @@
-use Rattle.cds_markup.proofs.Answering.{one-telling}
+-- The law stands in the lemmas.
+use Rattle.cds_markup.proofs.GivenLaws.{one-telling}
 use Rattle.cds_markup.proofs.laws.one_telling.Goals as goal
 
 pub returns : goal.returns

@@ -1,4 +1,5 @@
-use Rattle.cds_markup.proofs.Answering.{parts-are-given}
+-- The law stands in the lemmas.
+use Rattle.cds_markup.proofs.GivenLaws.{parts-are-given}
 use Rattle.cds_markup.proofs.laws.parts_are_given.Goals as goal
 
 pub returns : goal.returns

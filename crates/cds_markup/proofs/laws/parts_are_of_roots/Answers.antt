@@ -1,4 +1,5 @@
-use Rattle.cds_markup.proofs.Answering.{parts-are-of-roots}
+-- The law stands in the lemmas.
+use Rattle.cds_markup.proofs.GivenLaws.{parts-are-of-roots}
 use Rattle.cds_markup.proofs.laws.parts_are_of_roots.Goals as goal
 
 pub returns : goal.returns

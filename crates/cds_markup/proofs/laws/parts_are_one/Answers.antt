@@ -1,4 +1,5 @@
-use Rattle.cds_markup.proofs.OneList.{parts-are-one}
+-- The law stands in the lemmas.
+use Rattle.cds_markup.proofs.GivenLaws.{parts-are-one}
 use Rattle.cds_markup.proofs.laws.parts_are_one.Goals as goal
 
 pub returns : goal.returns

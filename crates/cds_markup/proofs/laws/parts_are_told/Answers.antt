@@ -1,4 +1,5 @@
-use Rattle.cds_markup.proofs.Answering.{parts-are-told}
+-- The law stands in the lemmas.
+use Rattle.cds_markup.proofs.GivenLaws.{parts-are-told}
 use Rattle.cds_markup.proofs.laws.parts_are_told.Goals as goal
 
 pub returns : goal.returns

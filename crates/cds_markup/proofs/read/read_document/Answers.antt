@@ -1,6 +1,20 @@
-use Rattle.cds_markup.proofs.Verdict.{is_built}
+use Rattle.std.proofs.Common.{Ok, subst, sym, ◌∙◌}
+use Rattle.cds_markup.specs.Decided.{Decides}
+use Rattle.cds_markup.proofs.Feeding.{err_is}
+use Rattle.cds_markup.proofs.Readings.{IsFound, document_refused, document_read}
 use Rattle.cds_markup.proofs.read.read_document.Goals as goal
 
-pub element_read-requires : goal.element_read-requires
-element_read-requires c =
-    is_built c.args.bytes.now c.give-read.result c.new-builder.result c.give-read.new.to c.new-builder.ensures c.give-read.ensures
+pub returns-in_err-give_parts : goal.returns-in_err-give_parts
+returns-in_err-give_parts c =
+    err_is (Decides c.args.bytes.now) c.from_residual.result c.in_err-give_parts.field-0.0 c.from_residual.ensures.1
+    (document_refused c.args.bytes.now c.in_err-give_parts.field-0.0 c.new-builder.result c.give_parts.new.to c.in_err-give_parts.ensures.told)
+
+pub unreachable-requires : goal.unreachable-requires
+unreachable-requires c =
+    subst (IsFound (λ element. Decides c.args.bytes.now (Ok element))) (sym c.into_element.ensures ∙ c.in-None.is)
+    (document_read c.args.bytes.now c.new-builder.result c.give_parts.new.to c.in_ok-give_parts.ensures.told c.new-builder.ensures)
+
+pub returns : goal.returns
+returns c =
+    subst (IsFound (λ element. Decides c.args.bytes.now (Ok element))) (sym c.into_element.ensures ∙ c.in-Some.is)
+    (document_read c.args.bytes.now c.new-builder.result c.give_parts.new.to c.in_ok-give_parts.ensures.told c.new-builder.ensures)

@@ -4,7 +4,7 @@ use Rattle.cds_markup.specs.declared.name.Attr.{Attr}
 use Rattle.cds_markup.specs.declared.tag.TagAttr.{TagAttr}
 use Rattle.cds_markup.specs.declared.tag.Declaration.{Declaration}
 use Rattle.cds_markup.specs.Namespaces.{is_declaration, attr_name, with_value, and_more, named_attrs}
-use Rattle.cds_markup.specs.Course.{scopes_in}
+use Rattle.cds_markup.specs.Bytes.{scopes_in}
 use Rattle.cds_markup.proofs.AttrNames.{named_behind, named-more}
 use Rattle.cds_markup.proofs.scope.named_attrs.Goals as goal
 

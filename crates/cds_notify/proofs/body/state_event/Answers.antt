@@ -1,12 +1,9 @@
-use Rattle.std.proofs.Common.{Err, subst}
-use Rattle.cds_markup.specs.Pieces.{Takes}
-use Rattle.cds_lastchange.specs.declared.error.StateError.TheVariants.{Mem, Failed}
-use Rattle.cds_lastchange.specs.Refusal.{Decides}
-use Rattle.cds_notify.proofs.Reading.{fed-refused, nothing-came}
+use Rattle.std.proofs.Common.{Ok, Err, refl}
+use Rattle.cds_notify.proofs.Reading.{fed-decides}
 use Rattle.cds_notify.proofs.body.state_event.Goals as goal
 
 pub returns-in-Err : goal.returns-in-Err
-returns-in-Err c =
-    fed-refused c.args.text.now c.in-Err.refusal c.feed.new.self
-    (subst (λ r. Takes Decides Failed Mem r c.args.text.now (Err c.in-Err.refusal) c.feed.new.self)
-    (nothing-came c.new.result c.in_ok-reader.reader c.in_ok-reader.was c.new.ensures) c.in-Err.ensures)
+returns-in-Err c = fed-decides c.args.text.now c.in_ok-reader.reader c.feed.new.self (Err c.in-Err.refusal) (Err c.in-Err.refusal) c.in_ok-reader.ensures c.in-Err.ensures.fed refl
+
+pub returns : goal.returns
+returns c = fed-decides c.args.text.now c.in_ok-reader.reader c.feed.new.self (Ok tt) c.finish.result c.in_ok-reader.ensures c.in-Ok.ensures.fed c.finish.ensures.finished

@@ -1,0 +1,6 @@
+-- The law stands in the lemmas.
+use Rattle.cds_markup.proofs.Exact.{verdict}
+use Rattle.cds_markup.proofs.machine_laws.answers_are_so.Goals as goal
+
+pub returns : goal.returns
+returns c = verdict

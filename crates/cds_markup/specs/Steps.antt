@@ -1,0 +1,150 @@
+-- What a method of a machine answers beside the step of the definitions, with the state that it leaves. Want of memory says
+-- nothing.
+use Rattle.std.specs.Prelude.{◌≡◌, ◌==◌, ℕ, ◌+◌, Bool, true, false, Option, Some, None, Result, Ok, Err, List, [], ◌∷◌, drop, length, ⊤}
+use Rattle.cds_base.specs.declared.mem.Mem.{Mem as CommonMem}
+use Rattle.cds_markup.specs.declared.mode.Attributing.{Attributing}
+use Rattle.cds_markup.specs.declared.mode.Attributing.TheVariants.{Value}
+use Rattle.cds_markup.specs.declared.tag.QName.{QName}
+use Rattle.cds_markup.specs.declared.tag.Tag.{Tag}
+use Rattle.cds_markup.specs.declared.mode.Tagging.{Tagging}
+use Rattle.cds_markup.specs.declared.mode.Tagging.TheVariants.{Opened, Attribute}
+use Rattle.cds_markup.specs.Names.{name_begun}
+use Rattle.cds_markup.specs.declared.mode.Naming.{Naming}
+use Rattle.cds_markup.specs.declared.mode.NameStep.{NameStep}
+use Rattle.cds_markup.specs.declared.mode.NameStep.TheVariants.{Goes, Ends, Breaks}
+use Rattle.cds_markup.specs.declared.mode.Referring.{Referring}
+use Rattle.cds_markup.specs.declared.mode.Referring.TheVariants.{Entity}
+use Rattle.cds_markup.specs.declared.decoding.Decoded.{Decoded}
+use Rattle.cds_markup.specs.declared.decoding.Decoded.TheVariants.{Whole, More, Broken as NoCharacter}
+use Rattle.cds_markup.specs.declared.error.Stop.{Stop}
+use Rattle.cds_markup.specs.declared.error.Stop.TheVariants.{Broken, Mem}
+use Rattle.cds_markup.specs.declared.mode.Turn.{Turn}
+use Rattle.cds_markup.specs.declared.tag.Open.{Open}
+use Rattle.cds_markup.specs.declared.mode.Stage.{Stage}
+use Rattle.cds_markup.specs.declared.mode.Stage.TheVariants.{Version, Standalone, Closing}
+use Rattle.cds_markup.specs.declared.mode.Declaring.{Declaring}
+use Rattle.cds_markup.specs.declared.mode.Declaring.TheVariants.{Xml, Gap, PartName, PartEquals, PartValue, YesOrNo, BehindPart, Question}
+use Rattle.cds_markup.specs.declared.mode.Mode.{Mode}
+use Rattle.cds_markup.specs.Declares.{is_letter}
+use Rattle.cds_markup.specs.Decoding.{Step}
+use Rattle.cds_markup.specs.Wholes.{Move, Stop as Stops, To}
+use Rattle.cds_markup.specs.Next.{Next, Stuck, On, Done}
+use Rattle.cds_markup.specs.Tags.{step_tag}
+use Rattle.cds_markup.specs.Turns.{Token, Started, Ended, Given, given, opened, begins_with}
+
+abbrev pub Agrees : {M A : Type 0} → Next M A → Result (Option A) Stop → M → Type 0
+Agrees next (Err Mem) now = ⊤
+Agrees Stuck (Err Broken) now = ⊤
+Agrees (On m) (Ok None) now = now ≡ m
+Agrees (Done a) (Ok (Some b)) now = b ≡ a
+Agrees next result now = ⊥
+
+-- Whether a character is the next byte of a word, and whether the word is over.
+abbrev pub is_next : ℕ → List ℕ → Bool
+is_next c [] = false
+is_next c (b ∷ left) = c == b
+
+abbrev pub is_over : List ℕ → Bool
+is_over [] = true
+is_over (b ∷ left) = false
+
+-- What an entity stands for.
+abbrev pub entity_code : Referring → ℕ
+entity_code (Entity left code) = code
+entity_code other = 0
+
+-- What a name answers to a character: that it goes on with it, or that it does not belong to it.
+abbrev pub GoesSo : Option Naming → Result Bool CommonMem → Naming → Naming → Type 0
+GoesSo next (Err e) before now = ⊤
+GoesSo (Some n) (Ok true) before now = now ≡ n
+GoesSo None (Ok false) before now = now ≡ before
+GoesSo next result before now = ⊥
+
+-- The name of an attribute whose value is read.
+abbrev pub attr_name : Attributing → QName
+attr_name (Value q v) = q
+attr_name other = record { prefix = []; local = [] }
+
+-- The same of a name that may end there.
+abbrev pub NamedSo : Option Naming → Bool → QName → Result NameStep CommonMem → Naming → Type 0
+NamedSo next whole q (Err e) now = ⊤
+NamedSo (Some n) whole q (Ok Goes) now = now ≡ n
+NamedSo None true q (Ok (Ends p)) now = p ≡ q
+NamedSo None false q (Ok Breaks) now = Unit {0}
+NamedSo next whole q result now = ⊥
+
+-- The tag in which an attribute is read.
+abbrev pub tag_open : Tagging → Tag
+tag_open (Attribute tag m) = tag
+tag_open other = record { name = record { prefix = []; local = [] }; attrs = [] }
+
+-- A name that begins.
+abbrev pub IsBegun : ℕ → Result Naming CommonMem → Type 0
+IsBegun c (Ok n) = n ≡ name_begun c
+IsBegun c (Err e) = ⊤
+
+-- Whether bytes stand at a place of a name, and the place behind them.
+abbrev pub StandsSo : List ℕ → ℕ → List ℕ → Option ℕ → Type 0
+StandsSo name at bytes None = begins_with (drop at name) bytes ≡ false
+StandsSo name at bytes (Some behind) = (begins_with (drop at name) bytes ≡ true) × (behind ≡ at + length bytes)
+
+-- A tag that begins with a character.
+abbrev pub BeginsTag : ℕ → Result Tagging Stop → Type 0
+BeginsTag c (Ok t) = step_tag Opened c ≡ On t
+BeginsTag c (Err Broken) = step_tag Opened c ≡ Stuck
+BeginsTag c (Err Mem) = ⊤
+BeginsTag c result = ⊥
+
+-- The elements that are open behind a token.
+abbrev pub opens_after : Token → List Open → List Open
+opens_after (Started tag) opens = opened tag ∷ opens
+opens_after Ended opens = drop 1 opens
+opens_after other opens = opens
+
+-- What a token inside an element is answered as.
+abbrev pub TurnsSo : List Open → Next Turn Given → Result (Option Token) Stop → Turn → Type 0
+TurnsSo opens next (Err Mem) now = ⊤
+TurnsSo opens Stuck (Err Broken) now = ⊤
+TurnsSo opens (On turn) (Ok None) now = now ≡ turn
+TurnsSo opens (Done g) (Ok (Some t)) now = g ≡ given t (opens_after t opens) now
+TurnsSo opens next result now = ⊥
+
+-- The next letter of a part's value in the declaration.
+abbrev pub is_next_letter : Stage → List ℕ → ℕ → Bool
+is_next_letter stage [] c = false
+is_next_letter stage (b ∷ left) c = is_letter stage b c
+
+-- The part of the declaration that a state is in, or that may come next, and the quote of its value.
+abbrev pub stage_of : Declaring → Stage
+stage_of (Xml left) = Version
+stage_of (Gap stage) = stage
+stage_of (PartName stage left) = stage
+stage_of (PartEquals stage) = stage
+stage_of (PartValue stage quote left) = stage
+stage_of (YesOrNo quote) = Standalone
+stage_of (BehindPart stage) = stage
+stage_of Question = Closing
+
+abbrev pub quote_in : Declaring → ℕ
+quote_in (PartValue stage quote left) = quote
+quote_in other = 0
+
+-- What a character of a document is answered as.
+abbrev pub MovesSo : List Open → Move → Result (Option Token) Stop → Mode → Type 0
+MovesSo opens move (Err Mem) now = ⊤
+MovesSo opens move (Err Broken) now = move ≡ Stops
+MovesSo opens move (Ok None) now = move ≡ To now opens []
+MovesSo opens move (Ok (Some t)) now = move ≡ To now (opens_after t opens) (t ∷ [])
+MovesSo opens move result now = ⊥
+
+-- What bytes that begin with something are answered as, and what is left of them.
+abbrev pub ReadSo : {A : Type 0} → Step A → Option A → List ℕ → Type 0
+ReadSo (Ok found) (Some value) left = (value ≡ found.0) × (left ≡ found.1)
+ReadSo (Err rest) None left = left ≡ rest
+ReadSo step result left = ⊥
+
+abbrev pub DecodesSo : Step ℕ → Decoded → Type 0
+DecodesSo (Ok found) (Whole c) = c ≡ found.0
+DecodesSo (Err []) More = Unit {0}
+DecodesSo (Err (b ∷ rest)) NoCharacter = Unit {0}
+DecodesSo step result = ⊥

@@ -1,0 +1,117 @@
+ghost use Rattle.std.specs.Prelude.{◌≡◌, ◌==◌, true, false, Option, Some, None, List, ℕ, []};
+ghost use Rattle.cds_base.specs.Characters.{is_blank};
+ghost use Rattle.cds_markup.specs.Values.{valuing};
+ghost use Rattle.cds_markup.specs.Attributes.{named_step, equals_step, step_attr};
+ghost use Rattle.cds_markup.specs.Steps.{Agrees, attr_name};
+
+use crate::error::Stop;
+use crate::letters::Letters;
+use crate::mode::{Attributing, NameStep, Valuing};
+use crate::naming::name_step;
+use crate::tag::{QName, TagAttr};
+use std::alloc::Global;
+
+/// Whether the character is white space.
+pub fn is_blank(c: char) -> bool
+    ensures { result ≡ is_blank c }
+{
+    c == ' ' || c == '\t' || c == '\n' || c == '\r'
+}
+
+/// A name of which nothing is known.
+pub fn no_name(alloc: Global) -> QName
+    ensures { result ≡ record { prefix = []; local = [] } }
+{
+    QName {
+        prefix: Letters::new(alloc).into_text(),
+        local: Letters::new(alloc).into_text(),
+    }
+}
+
+/// A value of which nothing came, in the quote.
+fn new_value(alloc: Global, double: bool) -> Valuing
+    ensures { result ≡ valuing double [] false None }
+{
+    Valuing {
+        double,
+        text: Letters::new(alloc),
+        behind_return: false,
+        reference: None,
+    }
+}
+
+impl Attributing {
+    /// Behind the name.
+    fn named(&mut self, name: QName, c: char) -> Result<Option<TagAttr>, Stop>
+        ensures { Agrees (named_step name c) result self.new }
+    {
+        if is_blank(c) {
+            *self = Attributing::AttrNamed(name);
+            return Ok(None);
+        }
+        if c == '=' {
+            *self = Attributing::Equals(name);
+            return Ok(None);
+        }
+        Err(Stop::Broken)
+    }
+
+    /// Behind the equals sign.
+    fn equals(&mut self, alloc: Global, name: QName, c: char) -> Result<Option<TagAttr>, Stop>
+        ensures { Agrees (equals_step name c) result self.new }
+    {
+        if is_blank(c) {
+            *self = Attributing::Equals(name);
+            return Ok(None);
+        }
+        if c == '"' || c == '\'' {
+            *self = Attributing::Value(name, new_value(alloc, c == '"'));
+            return Ok(None);
+        }
+        Err(Stop::Broken)
+    }
+
+    /// The attribute with this value, whose name is taken.
+    fn finish(&mut self, alloc: Global, value: Letters) -> TagAttr
+        ensures { result ≡ record { name = attr_name self.old; value = value } }
+    {
+        let name = match self {
+            Attributing::Value(name, _) => std::mem::replace(name, no_name(alloc)),
+            _ => QName {
+                prefix: Letters::new(alloc).into_text(),
+                local: Letters::new(alloc).into_text(),
+            },
+        };
+        TagAttr {
+            name,
+            value: value.into_text(),
+        }
+    }
+
+    /// One character. At the quote behind the value it gives the attribute.
+    pub fn step(&mut self, alloc: Global, c: char) -> Result<Option<TagAttr>, Stop>
+        ensures { Agrees (step_attr self.old c) result self.new }
+    {
+        match self {
+            Attributing::AttrName(naming) => match name_step(naming, alloc, c)? {
+                NameStep::Goes => Ok(None),
+                NameStep::Ends(name) => self.named(name, c),
+                NameStep::Breaks => Err(Stop::Broken),
+            },
+            Attributing::AttrNamed(name) => {
+                let name = std::mem::replace(name, no_name(alloc));
+                self.named(name, c)
+            }
+            Attributing::Equals(name) => {
+                let name = std::mem::replace(name, no_name(alloc));
+                self.equals(alloc, name, c)
+            }
+            Attributing::Value(_, value) => {
+                let Some(said) = value.step(alloc, c)? else {
+                    return Ok(None);
+                };
+                Ok(Some(self.finish(alloc, said)))
+            }
+        }
+    }
+}

@@ -1,0 +1,113 @@
+//! Where characters of more than one byte may begin.
+
+ghost use Rattle.std.specs.Prelude.{◌≡◌, ◌==◌, ◌&&◌, nat_lt, length};
+ghost use Rattle.cds_markup.specs.Bytes.{is_none, wide_attr, wide_tag, wide_turn, wide_misc, takes_wide, end_begins, turn_begins, may_begin, begins_tag, may_begin_name};
+
+use crate::ending::name_goes_on;
+use crate::mode::{Attributing, Misc, Mode, Tagging, Turn};
+use crate::tag::Open;
+
+/// The byte order mark.
+const MARK: [u8; 3] = [0xEF, 0xBB, 0xBF];
+
+impl Attributing {
+    fn takes_wide(&self) -> bool
+        ensures { result ≡ wide_attr self.now }
+    {
+        match self {
+            Attributing::AttrName(_) => true,
+            Attributing::Value(_, value) => value.reference.is_none(),
+            _ => false,
+        }
+    }
+}
+
+impl Tagging {
+    fn takes_wide(&self) -> bool
+        ensures { result ≡ wide_tag self.now }
+    {
+        match self {
+            Tagging::Opened | Tagging::Name(_) | Tagging::Spaced(_) => true,
+            Tagging::Tagged(_) => false,
+            Tagging::Attribute(_, attributing) => attributing.takes_wide(),
+        }
+    }
+}
+
+impl Turn {
+    fn takes_wide(&self) -> bool
+        ensures { result ≡ wide_turn self.now }
+    {
+        match self {
+            Turn::Content(_) | Turn::Less | Turn::Section(_, _) => true,
+            Turn::Comment(dashes) => *dashes < 2,
+            Turn::Cdata(left) => left.is_over(),
+            Turn::StartTag(tagging) => tagging.takes_wide(),
+            _ => false,
+        }
+    }
+
+    /// Whether these bytes may begin a character here.
+    fn may_begin(&self, opens: &[Open], bytes: &[u8]) -> bool
+        ensures { result ≡ turn_begins self.now opens.now bytes.now }
+    {
+        match self {
+            Turn::EndTag(n) => match opens.first() {
+                Some(innermost) => name_goes_on(&innermost.name, *n, bytes).is_some(),
+                None => false,
+            },
+            _ => self.takes_wide(),
+        }
+    }
+}
+
+impl Misc {
+    fn takes_wide(&self, before: bool) -> bool
+        ensures { result ≡ wide_misc before self.now }
+    {
+        match self {
+            Misc::MiscLess => before,
+            Misc::MiscComment(dashes) => *dashes < 2,
+            _ => false,
+        }
+    }
+}
+
+impl Mode {
+    fn takes_wide(&self) -> bool
+        ensures { result ≡ takes_wide self.now }
+    {
+        match self {
+            Mode::First => true,
+            Mode::Prolog(misc) => misc.takes_wide(true),
+            Mode::Inside(turn) => turn.takes_wide(),
+            Mode::Epilog(misc) => misc.takes_wide(false),
+            _ => false,
+        }
+    }
+
+    /// Whether these bytes may begin a character here, where these elements are open.
+    pub fn may_begin(&self, opens: &[Open], bytes: &[u8]) -> bool
+        ensures { result ≡ may_begin self.now opens.now bytes.now }
+    {
+        match self {
+            Mode::Begin => MARK.starts_with(bytes),
+            Mode::Inside(turn) => turn.may_begin(opens, bytes),
+            _ => self.takes_wide(),
+        }
+    }
+
+    /// Whether it is right behind a `<` inside an element.
+    pub fn begins_tag(&self) -> bool
+        ensures { result ≡ begins_tag self.now }
+    {
+        matches!(self, Mode::Inside(Turn::Less))
+    }
+}
+
+/// Whether the byte is the first of a name, or of a character beyond ASCII.
+pub fn may_begin_name(b: u8) -> bool
+    ensures { result ≡ may_begin_name b }
+{
+    b.is_ascii_alphabetic() || b == b'_' || (b >= 0xC2 && b <= 0xF4)
+}

@@ -1,0 +1,69 @@
+//! The name in an end tag.
+
+ghost use Rattle.std.specs.Prelude.{◌≡◌, ◌<◌, ◌+◌, ◌^◌, IfSome, drop, slice_get, encode_utf8};
+ghost use Rattle.cds_markup.specs.Grammar.{name_bytes};
+ghost use Rattle.cds_markup.specs.Steps.{StandsSo, is_over};
+
+use crate::tag::QName;
+
+/// The byte at a place of the name as it is written.
+#[tactic(auto, using(crate::proofs::NameBytes::name_plain, crate::proofs::NameBytes::name_front, crate::proofs::NameBytes::name_colon, crate::proofs::NameBytes::name_back, crate::proofs::NameBytes::get_room))]
+pub fn byte_of_name(name: &QName, at: usize) -> Option<u8>
+    ensures value { result ≡ slice_get (name_bytes name.now) at }
+    ensures room { IfSome result (λ b. at + 1 < 2 ^ 64) }
+{
+    let prefix = name.prefix.as_str().as_bytes();
+    let local = name.local.as_str().as_bytes();
+    if prefix.is_empty() {
+        return local.get(at).copied();
+    }
+    if at < prefix.len() {
+        return prefix.get(at).copied();
+    }
+    if at == prefix.len() {
+        return Some(b':');
+    }
+    local.get(at - prefix.len() - 1).copied()
+}
+
+/// Whether the name as it is written has no byte at the place.
+#[tactic(auto, using(crate::proofs::EndNames::none_over, crate::proofs::EndNames::some_over))]
+pub fn is_over(name: &QName, at: usize) -> bool
+    ensures { result ≡ is_over (drop at (name_bytes name.now)) }
+{
+    match byte_of_name(name, at) {
+        Some(_) => false,
+        None => true,
+    }
+}
+
+/// The place behind these bytes, where they stand at a place of the name as it is written.
+#[tactic(auto, using(crate::proofs::EndNames::stands_on, crate::proofs::EndNames::stands_other, crate::proofs::EndNames::stands_none))]
+pub fn name_goes_on(name: &QName, at: usize, bytes: &[u8]) -> Option<usize>
+    ensures { StandsSo (name_bytes name.now) at bytes.now result }
+{
+    let mut at = at;
+    let mut left = bytes;
+    while let Some((first, rest)) = left.split_first() {
+        match byte_of_name(name, at) {
+            Some(byte) => {
+                if byte != *first {
+                    return None;
+                }
+                at += 1;
+            }
+            None => return None,
+        }
+        left = rest;
+    }
+    Some(at)
+}
+
+/// The place behind the character, where it stands at a place of the name as it is written.
+pub fn name_has(name: &QName, at: usize, c: char) -> Option<usize>
+    ensures { StandsSo (name_bytes name.now) at (encode_utf8 c) result }
+{
+    let mut bytes = [0; 4];
+    let text = c.encode_utf8(&mut bytes);
+    name_goes_on(name, at, text.as_bytes())
+}

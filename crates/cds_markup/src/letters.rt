@@ -1,0 +1,103 @@
+ghost use Rattle.std.specs.Prelude.{◌≡◌, List, ℕ, [], ◌++◌, string_bytes, encode_utf8, length, ◌==◌, OnOk, true, slice_index};
+ghost use Rattle.std.specs.Str.{IsAscii};
+ghost use Rattle.cds_base.specs.Characters.{is_allowed};
+ghost use Rattle.cds_markup.specs.Scans.{without_brackets};
+ghost use Rattle.cds_markup.specs.Running.{is_plain, Collects};
+
+use crate::plain::Plain;
+use cds_base::{Mem, Text};
+use std::alloc::Global;
+use std::marker::Model;
+
+/// A text that grows. Contracts see the list of its bytes.
+#[derive(Drop, Debug)]
+pub struct Letters {
+    value: String,
+}
+
+impl Model for Letters {
+    ghost use Rattle.std.specs.Prelude.{ℕ, List, string_bytes};
+
+    ghost Value = { List ℕ };
+
+    ghost view = { λ t. string_bytes t.value };
+}
+
+impl Letters {
+    /// No letters yet.
+    pub fn new(alloc: Global) -> Self
+        ensures { result ≡ [] }
+    {
+        Letters {
+            value: String::new(alloc),
+        }
+    }
+
+    /// Adds a character.
+    pub fn push(&mut self, c: char) -> Result<(), Mem>
+        ensures { OnOk result (self.new ≡ self.old ++ encode_utf8 c) }
+    {
+        self.value.push(c)?;
+        Ok(())
+    }
+
+    /// Adds bytes, which are ASCII.
+    fn push_ascii(&mut self, bytes: &[u8]) -> Result<(), Mem>
+        requires { IsAscii bytes.now }
+        ensures { OnOk result (self.new ≡ self.old ++ bytes.now) }
+    {
+        match std::str::from_utf8(bytes) {
+            Ok(text) => {
+                self.value.push_str(text)?;
+                Ok(())
+            }
+            Err(_) => unreachable!(),
+        }
+    }
+
+    /// Adds the run at the front, or nothing: how many bytes it has.
+    pub fn push_run(&mut self, going: bool, plain: Plain, bytes: &[u8]) -> Result<usize, Mem>
+        ensures { Collects going (is_plain plain) self.old bytes.now result self.new }
+    {
+        if !going {
+            return Ok(0);
+        }
+        let count = plain.run(bytes);
+        self.push_ascii(bytes.split_at(count).0)?;
+        Ok(count)
+    }
+
+    /// Whether there is none.
+    pub fn is_empty(&self) -> bool
+        ensures { result ≡ (length self.now == 0) }
+    {
+        self.value.is_empty()
+    }
+
+    /// Whether a closing bracket stands at the place.
+    fn has_bracket(&self, at: usize) -> bool
+        ensures { result ≡ (slice_index self.now at == 93) }
+    {
+        match self.value.as_bytes().get(at) {
+            Some(b) => *b == b']',
+            None => false,
+        }
+    }
+
+    /// Takes away the two closing brackets at the end.
+    pub fn without_brackets(&mut self)
+        ensures { self.new ≡ without_brackets self.old }
+    {
+        let at = self.value.len().saturating_sub(2);
+        if self.has_bracket(at) {
+            self.value.truncate(at);
+        }
+    }
+
+    /// The text.
+    pub fn into_text(self) -> Text
+        ensures { result ≡ self }
+    {
+        Text::from(self.value)
+    }
+}

@@ -1,0 +1,233 @@
+ghost use Rattle.std.specs.Prelude.{◌≡◌, ◌<◌, ◌==◌, ◌&&◌, ◌++◌, ◌∷◌, true, false, List, ℕ, [], length, drop, Ok, Err, Some, None, IfOk};
+ghost use Rattle.cds_base.specs.Characters.{is_allowed};
+ghost use Rattle.cds_markup.specs.declared.tag.Open.{Open};
+ghost use Rattle.cds_markup.specs.declared.event.Event.TheVariants.{Start, Empty};
+ghost use Rattle.cds_markup.specs.Namespaces.{tag_says};
+ghost use Rattle.cds_markup.specs.Turns.{opened};
+ghost use Rattle.cds_markup.specs.Bytes.{scopes_in, is_deep, nothing_read, may_end, is_behind};
+ghost use Rattle.cds_markup.specs.Marks.{cuts_text, is_in_content};
+ghost use Rattle.cds_markup.specs.Reads.{reading_of, AsciiSo, ByteSo, TaggedSo, TakenSo, WholeSo, JudgedSo};
+
+use crate::beginning::may_begin_name;
+use crate::decoding::{Decoded, decode};
+use crate::error::Stop;
+use crate::event::Event;
+use crate::mode::{Misc, Mode, Turn};
+use crate::scope::{declarations, tag_says};
+use crate::tag::{Open, Tag};
+use crate::token::Token;
+use crate::{Attrs, Name};
+use std::alloc::Global;
+
+/// The most elements that may be open.
+const MOST_OPEN: usize = 16;
+
+/// A reader of documents byte by byte.
+#[derive(Drop, Debug)]
+pub struct Machine {
+    /// The first bytes of a character that is not whole yet.
+    pub begun: Vec<u8>,
+    /// Where the whole characters led.
+    pub mode: Mode,
+    /// The elements that are open, the innermost first; at most sixteen.
+    pub opens: Vec<Open>,
+}
+
+/// The allowed character that the byte is, below U+0080.
+#[tactic(auto, using(crate::proofs::Decoded::ascii_whole, crate::proofs::Decoded::ascii_none))]
+fn ascii(b: u8) -> Result<Option<char>, Stop>
+    requires { b < 128 }
+    ensures { AsciiSo b result }
+{
+    let c = char::from(b);
+    if cds_base::is_allowed(c) {
+        Ok(Some(c))
+    } else {
+        Err(Stop::Broken)
+    }
+}
+
+impl Machine {
+    /// A reader of nothing yet. It takes no memory so far.
+    pub fn new(alloc: Global) -> Self
+        ensures { reading_of result ≡ nothing_read }
+    {
+        Machine {
+            begun: Vec::new(alloc),
+            mode: Mode::Begin,
+            opens: Vec::new(alloc),
+        }
+    }
+
+    /// Whether as many elements are open as may be, and the byte begins the name of one more.
+    fn is_deep(&self, b: u8) -> bool
+        ensures { result ≡ is_deep (reading_of self.now) b }
+    {
+        self.opens.len() == MOST_OPEN
+            && self.mode.begins_tag()
+            && self.begun.is_empty()
+            && may_begin_name(b)
+    }
+
+    /// The byte where no character has begun, below U+0080.
+    #[tactic(auto, using(crate::proofs::Decoded::plain_byte))]
+    fn plain(&mut self, b: u8) -> Result<Option<char>, Stop>
+        requires low { b < 128 }
+        requires none { self.old.begun.items ≡ [] }
+        ensures { ByteSo (reading_of self.old) b result (reading_of self.new) }
+    {
+        ascii(b)
+    }
+
+    /// The byte as one of a character of more than one.
+    #[tactic(auto, using(crate::proofs::Decoded::wide_whole, crate::proofs::Decoded::wide_more, crate::proofs::Decoded::wide_stuck, crate::proofs::Decoded::wide_broken))]
+    fn wide(&mut self, b: u8) -> Result<Option<char>, Stop>
+        ensures { ByteSo (reading_of self.old) b result (reading_of self.new) }
+    {
+        if self.begun.push(b).is_err() {
+            return Err(Stop::Mem);
+        }
+        match decode(self.begun.as_slice()) {
+            Decoded::Whole(c) => {
+                self.begun.clear();
+                Ok(Some(c))
+            }
+            Decoded::More => {
+                if self
+                    .mode
+                    .may_begin(self.opens.as_slice(), self.begun.as_slice())
+                {
+                    Ok(None)
+                } else {
+                    Err(Stop::Broken)
+                }
+            }
+            Decoded::Broken => Err(Stop::Broken),
+        }
+    }
+
+    /// The character that the byte ends, `None` where more bytes of it are to come.
+    fn character(&mut self, b: u8) -> Result<Option<char>, Stop>
+        ensures { ByteSo (reading_of self.old) b result (reading_of self.new) }
+    {
+        if b < 0x80 && self.begun.is_empty() {
+            self.plain(b)
+        } else {
+            self.wide(b)
+        }
+    }
+
+    /// What a start tag says, and the element that it opens.
+    fn tag(&self, alloc: Global, tag: Tag) -> Result<((Name, Attrs), Open), Stop>
+        ensures { TaggedSo self.now.opens.items tag result }
+    {
+        let Tag { name, attrs } = tag;
+        let declared = declarations(alloc, attrs.as_slice())?;
+        let opens = self.opens.as_slice();
+        let said = tag_says(alloc, opens, declared.as_slice(), &name, attrs)?;
+        match said {
+            Some(said) => Ok((said, Open { name, declared })),
+            None => Err(Stop::NamespaceRule),
+        }
+    }
+
+    /// A start tag.
+    fn start(&mut self, alloc: Global, tag: Tag) -> Result<Event, Stop>
+        ensures { TakenSo (reading_of self.old) (Token.Started tag) result (reading_of self.new) }
+    {
+        let ((name, attrs), open) = self.tag(alloc, tag)?;
+        if self.opens.insert(0, open).is_err() {
+            return Err(Stop::Mem);
+        }
+        Ok(Event::Start(name, attrs))
+    }
+
+    /// The tag of an empty element.
+    fn empty(&mut self, alloc: Global, tag: Tag) -> Result<Event, Stop>
+        ensures { TakenSo (reading_of self.old) (Token.Slash tag) result (reading_of self.new) }
+    {
+        let ((name, attrs), _) = self.tag(alloc, tag)?;
+        Ok(Event::Empty(name, attrs))
+    }
+
+    /// An end tag.
+    fn end(&mut self) -> Event
+        ensures { TakenSo (reading_of self.old) Token.Ended (Ok result) (reading_of self.new) }
+    {
+        if !self.opens.is_empty() {
+            self.opens.remove(0);
+        }
+        Event::End
+    }
+
+    /// What a token says, with the elements that are open behind it.
+    fn take(&mut self, alloc: Global, token: Token) -> Result<Event, Stop>
+        ensures { TakenSo (reading_of self.old) token result (reading_of self.new) }
+    {
+        match token {
+            Token::Letter(c) => Ok(Event::Letter(c)),
+            Token::Referred(c) => Ok(Event::Referred(c)),
+            Token::SectionOf(text) => Ok(Event::Section(text)),
+            Token::Commented => Ok(Event::Comment),
+            Token::Started(tag) => self.start(alloc, tag),
+            Token::Slash(tag) => self.empty(alloc, tag),
+            Token::Shut => Ok(Event::Shut),
+            Token::Ended => Ok(self.end()),
+        }
+    }
+
+    /// A whole character.
+    #[tactic(auto, using(crate::proofs::Answering::whole_nothing, crate::proofs::Answering::whole_token, crate::proofs::Answering::whole_broken, crate::proofs::Answering::whole_refused))]
+    fn whole(&mut self, alloc: Global, c: char) -> Result<Option<Event>, Stop>
+        requires { self.old.begun.items ≡ [] }
+        ensures { WholeSo (reading_of self.old) c result (reading_of self.new) }
+    {
+        let opens = self.opens.as_slice();
+        let Some(token) = self.mode.step(alloc, opens, c)? else {
+            return Ok(None);
+        };
+        Ok(Some(self.take(alloc, token)?))
+    }
+
+    /// One byte, and what it completes. After a refusal nothing is known of the machine.
+    #[tactic(auto, using(crate::proofs::Decoded::step_deep, crate::proofs::Answering::judged_refused, crate::proofs::Decoded::step_none, crate::proofs::Decoded::step_whole))]
+    pub fn step(&mut self, alloc: Global, b: u8) -> Result<Option<Event>, Stop>
+        ensures { JudgedSo (reading_of self.old) b result (reading_of self.new) }
+    {
+        if self.is_deep(b) {
+            return Err(Stop::Deep);
+        }
+        let Some(c) = self.character(b)? else {
+            return Ok(None);
+        };
+        self.whole(alloc, c)
+    }
+
+    /// Whether the input may end here.
+    pub fn may_end(&self) -> bool
+        ensures { result ≡ may_end (reading_of self.now) }
+    {
+        self.begun.is_empty() && self.is_behind()
+    }
+
+    /// Whether the first bytes of a character stand in a literal text.
+    pub fn cuts_text(&self) -> bool
+        ensures { result ≡ cuts_text (reading_of self.now) }
+    {
+        self.is_in_content() && !self.begun.is_empty()
+    }
+
+    /// Whether it is between tags.
+    fn is_in_content(&self) -> bool
+        ensures { result ≡ is_in_content self.now.mode }
+    {
+        matches!(self.mode, Mode::Inside(Turn::Content(_)))
+    }
+
+    /// Whether it is behind the root.
+    fn is_behind(&self) -> bool
+        ensures { result ≡ is_behind self.now.mode }
+    {
+        matches!(self.mode, Mode::Epilog(Misc::Blanks))
+    }
+}

@@ -1,0 +1,13 @@
+//! What is proved of the machine: calling a function gives its law.
+
+ghost use Rattle.cds_markup.specs.Verdicts.{AnswersAreExact, AnswersAreSo};
+
+/// What any bytes are answered is so: they are a document, or the refusal stands against them.
+pub fn answers_are_so()
+    ensures { AnswersAreSo }
+{}
+
+/// Every document is taken, and every refusal that stands against bytes is what they are answered.
+pub fn answers_are_exact()
+    ensures { AnswersAreExact }
+{}

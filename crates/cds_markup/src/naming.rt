@@ -1,0 +1,107 @@
+ghost use Rattle.std.specs.Prelude.{◌≡◌, ◌==◌, ◌≤◌, ◌++◌, ◌∷◌, true, false, Option, Some, None, List, ℕ, [], encode_utf8, length};
+ghost use Rattle.cds_base.specs.Characters.{begins_name, is_in_name};
+ghost use Rattle.cds_markup.specs.Names.{naming, goes_with, goes_on, is_whole, name_of};
+ghost use Rattle.cds_markup.specs.Steps.{GoesSo, NamedSo};
+
+use crate::letters::Letters;
+use crate::mode::{NameStep, Naming};
+use crate::tag::QName;
+use cds_base::Mem;
+use std::alloc::Global;
+
+/// Whether a name may begin with the character.
+pub fn begins_name(c: char) -> bool
+    ensures { result ≡ begins_name c }
+{
+    c.is_ascii_alphabetic() || c == '_' || (c >= '\u{80}' && cds_base::is_allowed(c))
+}
+
+/// Whether the character may stand inside a name.
+pub fn is_in_name(c: char) -> bool
+    ensures { result ≡ is_in_name c }
+{
+    begins_name(c) || c.is_ascii_digit() || c == '-' || c == '.'
+}
+
+impl Naming {
+    /// A name of which nothing came.
+    pub fn new(alloc: Global) -> Self
+        ensures { result ≡ naming [] None }
+    {
+        Naming {
+            first: Letters::new(alloc),
+            second: None,
+        }
+    }
+
+    /// Whether it may end here.
+    pub fn is_whole(&self) -> bool
+        ensures { result ≡ is_whole self.now.second }
+    {
+        match &self.second {
+            Some(second) => !second.is_empty(),
+            None => true,
+        }
+    }
+
+    /// The qualified name.
+    pub fn into_name(self, alloc: Global) -> QName
+        ensures { result ≡ name_of self }
+    {
+        let Naming { first, second } = self;
+        match second {
+            Some(second) => QName {
+                prefix: first.into_text(),
+                local: second.into_text(),
+            },
+            None => QName {
+                prefix: Letters::new(alloc).into_text(),
+                local: first.into_text(),
+            },
+        }
+    }
+
+    /// Goes on with the character, where it belongs to the name.
+    pub fn go_on(&mut self, alloc: Global, c: char) -> Result<bool, Mem>
+        ensures { GoesSo (goes_on self.old c) result self.old self.new }
+    {
+        match &mut self.second {
+            None => {
+                if is_in_name(c) {
+                    self.first.push(c)?;
+                    return Ok(true);
+                }
+                if c == ':' {
+                    self.second = Some(Letters::new(alloc));
+                    return Ok(true);
+                }
+                Ok(false)
+            }
+            Some(second) => {
+                let belongs = if second.is_empty() {
+                    begins_name(c)
+                } else {
+                    is_in_name(c)
+                };
+                if belongs {
+                    second.push(c)?;
+                }
+                Ok(belongs)
+            }
+        }
+    }
+}
+
+/// One character of a name or behind it. A name that ends is taken.
+pub fn name_step(naming: &mut Naming, alloc: Global, c: char) -> Result<NameStep, Mem>
+    ensures { NamedSo (goes_on naming.old c) (is_whole naming.old.second) (name_of naming.old) result naming.new }
+{
+    if naming.go_on(alloc, c)? {
+        return Ok(NameStep::Goes);
+    }
+    if !naming.is_whole() {
+        return Ok(NameStep::Breaks);
+    }
+    let whole = std::mem::replace(naming, Naming::new(alloc));
+    Ok(NameStep::Ends(whole.into_name(alloc)))
+}

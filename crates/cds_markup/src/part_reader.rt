@@ -1,0 +1,233 @@
+//! The parts of documents that come in pieces.
+
+ghost use Rattle.std.specs.Prelude.{◌≡◌, ◌≤◌, ◌+◌, ◌&&◌, if◌then◌else◌, ℕ, List, [], length, Ok, Err, Some, None, IsOkAnd};
+ghost use Rattle.cds_markup.specs.declared.error.MarkupError.TheVariants.{Failed};
+ghost use Rattle.cds_markup.specs.declared.part.Part.{Part};
+ghost use Rattle.cds_markup.specs.Taking.{Takes};
+ghost use Rattle.cds_markup.specs.Tellings.{ToldSo, Puts, told_byte, told, told_piece, last_parts, shown, telling_of, telling_in, listed, begin_telling};
+ghost use Rattle.cds_markup.specs.Running.{RunSo};
+ghost use Rattle.cds_markup.specs.Feeding.{StandsFor, TakesPiece, TakesEnd};
+
+use crate::event::Event;
+use crate::marks::Marks;
+use crate::place::Place;
+use crate::{MarkupError, Part, PartSink};
+use cds_base::{INPUT_LIMIT, Mem};
+use std::alloc::Global;
+use std::marker::Model;
+
+/// A machine at a place of the input, with what is open there.
+#[derive(Drop, Debug)]
+pub struct Spot {
+    /// The machine and its place.
+    pub place: Place,
+    /// What is open.
+    pub marks: Marks,
+}
+
+/// Gives the parts of a document that comes in pieces, without keeping the bytes. Contracts see what is read so far and what
+/// is open, or `None` from a refusal on, want of memory included, and where what takes the parts has enough.
+#[derive(Drop, Debug)]
+pub struct PartReader {
+    spot: Option<Spot>,
+}
+
+impl Model for PartReader {
+    ghost use Rattle.std.specs.Prelude.{Option};
+    ghost use Rattle.cds_markup.specs.Tellings.{Telling, telling_in};
+
+    ghost Value = { Option Telling };
+
+    ghost view = { λ r. telling_in r.spot };
+}
+
+/// Gives the part, where there is one and it is wanted.
+fn put<S: PartSink>(part: Option<Part>, to: &mut S) -> Result<(), MarkupError>
+    ensures { Puts (Takes S.took S.enough) to.old (listed part) result to.new }
+{
+    match part {
+        Some(part) => {
+            if !to.has_enough() {
+                to.take(part)?;
+            }
+            Ok(())
+        }
+        None => Ok(()),
+    }
+}
+
+/// Gives the part before a fault, and the refusal unless no more is wanted.
+fn refuse<S: PartSink>(
+    part: Option<Part>,
+    refusal: MarkupError,
+    to: &mut S,
+) -> Result<(), MarkupError>
+    ensures { ToldSo (Takes S.took S.enough) S.enough to.old (Err (listed part, refusal)) result to.new begin_telling }
+{
+    put(part, to)?;
+    if to.has_enough() {
+        Ok(())
+    } else {
+        Err(refusal)
+    }
+}
+
+impl Spot {
+    /// The first place.
+    pub fn new(alloc: Global) -> Self
+        ensures { telling_of result ≡ begin_telling }
+    {
+        Spot {
+            place: Place::new(alloc),
+            marks: Marks::new(),
+        }
+    }
+
+    /// The literal text that is open where what is read ends, as far as it goes. It goes on behind that.
+    fn show<S: PartSink>(&mut self, alloc: Global, to: &mut S) -> Result<(), MarkupError>
+        ensures { ToldSo (Takes S.took S.enough) S.enough to.old (Ok (last_parts (telling_of self.old), shown (telling_of self.old))) result to.new (telling_of self.new) }
+    {
+        let first = self.place.first();
+        let open = self.place.machine.cuts_text();
+        put(self.marks.show(alloc, open, first), to)
+    }
+
+    /// One byte more.
+    fn byte<S: PartSink>(&mut self, alloc: Global, b: u8, to: &mut S) -> Result<(), MarkupError>
+        ensures { ToldSo (Takes S.took S.enough) S.enough to.old (told_byte (telling_of self.old) b) result to.new (telling_of self.new) }
+    {
+        let at = self.place.at;
+        let first = self.place.first();
+        let open = self.place.machine.cuts_text();
+        let between = self.place.machine.mode.is_between();
+        match self.place.next(alloc, b) {
+            Ok(Some(event)) => {
+                let part = self.marks.complete(alloc, at, first, event)?;
+                put(part, to)
+            }
+            Ok(None) => {
+                let begins = self.place.machine.mode.begins(between);
+                put(self.marks.pass(begins, at), to)
+            }
+            Err(refusal) => match refusal {
+                MarkupError::Mem => Err(refusal),
+                other => refuse(self.marks.last(alloc, open, first), other, to),
+            },
+        }
+    }
+
+    /// Passes over bytes at the front that complete nothing, all of which are within the limit: how many.
+    fn run_within(&mut self, bytes: &[u8]) -> Result<usize, Mem>
+        requires { self.old.place.at + length bytes.now ≤ INPUT_LIMIT }
+        ensures { RunSo (telling_of self.old) bytes.now result (telling_of self.new) }
+    {
+        if self.place.machine.takes_run() {
+            let count = self.marks.run(bytes)?;
+            self.place.at += count;
+            return Ok(count);
+        }
+        let count = self.place.machine.run(bytes)?;
+        self.place.at += count;
+        Ok(count)
+    }
+
+    /// Passes over bytes at the front that complete nothing: how many.
+    fn run(&mut self, bytes: &[u8]) -> Result<usize, Mem>
+        ensures { RunSo (telling_of self.old) bytes.now result (telling_of self.new) }
+    {
+        if self.place.at >= INPUT_LIMIT {
+            return Ok(0);
+        }
+        let room = (INPUT_LIMIT - self.place.at).min(bytes.len());
+        self.run_within(bytes.split_at(room).0)
+    }
+
+    /// These bytes more, as long as more parts are wanted.
+    fn pass<S: PartSink>(
+        &mut self,
+        alloc: Global,
+        piece: &[u8],
+        to: &mut S,
+    ) -> Result<(), MarkupError>
+        ensures { ToldSo (Takes S.took S.enough) S.enough to.old (told (telling_of self.old) piece.now) result to.new (telling_of self.new) }
+    {
+        let mut left = piece;
+        while let Some((first, rest)) = left.split_first() {
+            if to.has_enough() {
+                return Ok(());
+            }
+            if let Err(refusal) = self.byte(alloc, *first, to) {
+                return Err(refusal);
+            }
+            let count = self.run(rest)?;
+            left = rest.split_at(count).1;
+        }
+        Ok(())
+    }
+
+    /// A piece, with the literal text that is open behind it as far as it goes.
+    pub fn piece<S: PartSink>(
+        &mut self,
+        alloc: Global,
+        piece: &[u8],
+        to: &mut S,
+    ) -> Result<(), MarkupError>
+        ensures { ToldSo (Takes S.took S.enough) S.enough to.old (told_piece (telling_of self.old) piece.now) result to.new (telling_of self.new) }
+    {
+        self.pass(alloc, piece, to)?;
+        self.show(alloc, to)
+    }
+
+    /// The place to go on from, unless no more is wanted.
+    fn unless(self, enough: bool) -> Option<Self>
+        ensures { telling_in result ≡ (if enough then None else Some (telling_of self)) }
+    {
+        if enough { None } else { Some(self) }
+    }
+}
+
+impl PartReader {
+    /// A reader to which nothing came yet. It takes no memory so far.
+    pub fn new(alloc: Global) -> Result<Self, Mem>
+        ensures { IsOkAnd result (λ r. StandsFor r [] []) }
+    {
+        Ok(PartReader {
+            spot: Some(Spot::new(alloc)),
+        })
+    }
+
+    /// The next piece. What its bytes complete is given, and a literal text that is open as far as it goes: one that pieces
+    /// cut comes in several runs of one place. The piece is refused where a byte of it decides that no document begins so,
+    /// whatever comes behind; then what stands before the fault is given, as far as its whole characters go. Where what takes
+    /// the parts has enough, the bytes behind are not read and the answer is `Ok`. From then on, from a refusal on, and from
+    /// `Mem` on, each call answers `Failed` and gives nothing.
+    pub fn feed<S: PartSink>(
+        &mut self,
+        alloc: Global,
+        piece: &[u8],
+        to: &mut S,
+    ) -> Result<(), MarkupError>
+        ensures takes { (came : List ℕ) (given : List Part) → StandsFor self.old came given
+            → TakesPiece (Takes S.took S.enough) S.enough came given piece.now result to.old to.new self.new }
+        ensures failed { self.old ≡ None → (result ≡ Err Failed) × (to.new ≡ to.old) × (self.new ≡ None) }
+    {
+        let Some(mut spot) = self.spot.take() else {
+            return Err(MarkupError::Failed);
+        };
+        spot.piece(alloc, piece, to)?;
+        self.spot = spot.unless(to.has_enough());
+        Ok(())
+    }
+
+    /// The end of the input, before which all parts were given. `Failed` only where a piece was refused, memory ran out, or
+    /// what took the parts had enough.
+    pub fn finish(self) -> Result<(), MarkupError>
+        ensures ends { (came : List ℕ) (given : List Part) → StandsFor self came given → TakesEnd came given result }
+        ensures failed { self ≡ None → result ≡ Err Failed }
+    {
+        let Some(spot) = self.spot else {
+            return Err(MarkupError::Failed);
+        };
+        spot.place.end()
+    }
+}

@@ -1,0 +1,80 @@
+//! A machine at a place of the input.
+
+ghost use Rattle.std.specs.Prelude.{◌≡◌, ◌-◌, length, Some};
+ghost use Rattle.cds_markup.specs.Bytes.{refusal};
+ghost use Rattle.cds_markup.specs.Tellings.{NextSo};
+ghost use Rattle.cds_markup.specs.Reads.{progress, ended, begin_reading};
+
+use crate::MarkupError;
+use crate::error::Stop;
+use crate::event::Event;
+use crate::machine::Machine;
+use cds_base::INPUT_LIMIT;
+use std::alloc::Global;
+
+/// A machine at a place of the input.
+#[derive(Drop, Debug)]
+pub struct Place {
+    /// The machine.
+    pub machine: Machine,
+    /// How many bytes came.
+    pub at: usize,
+}
+
+/// What to answer where the machine stopped at a byte.
+fn refusal(stop: Stop, at: usize) -> MarkupError
+    ensures { result ≡ refusal stop at }
+{
+    match stop {
+        Stop::Deep => MarkupError::TooDeep { at },
+        Stop::Mem => MarkupError::Mem,
+        Stop::Broken | Stop::NamespaceRule => MarkupError::Bad { at },
+    }
+}
+
+impl Place {
+    /// The first place.
+    pub fn new(alloc: Global) -> Self
+        ensures { progress result ≡ begin_reading }
+    {
+        Place {
+            machine: Machine::new(alloc),
+            at: 0,
+        }
+    }
+
+    /// The place of the first byte of the character that is not whole yet, or of the next one.
+    pub fn first(&self) -> usize
+        ensures { result ≡ (progress self.now).at - length (progress self.now).read.begun }
+    {
+        self.at.saturating_sub(self.machine.begun.len())
+    }
+
+    /// One byte more, and what it completes.
+    #[tactic(auto, using(crate::proofs::Nexts::next_event, crate::proofs::Nexts::next_stopped, crate::proofs::Nexts::next_long))]
+    pub fn next(&mut self, alloc: Global, b: u8) -> Result<Option<Event>, MarkupError>
+        ensures { NextSo (progress self.old) b result (progress self.new) }
+    {
+        if self.at >= INPUT_LIMIT {
+            return Err(MarkupError::TooLong);
+        }
+        match self.machine.step(alloc, b) {
+            Ok(event) => {
+                self.at += 1;
+                Ok(event)
+            }
+            Err(stop) => Err(refusal(stop, self.at)),
+        }
+    }
+
+    /// The end of the input.
+    pub fn end(&self) -> Result<(), MarkupError>
+        ensures { result ≡ ended (Some (progress self.now)) }
+    {
+        if self.machine.may_end() {
+            Ok(())
+        } else {
+            Err(MarkupError::Bad { at: self.at })
+        }
+    }
+}

@@ -1,0 +1,122 @@
+ghost use Rattle.std.specs.Prelude.{◌≡◌, ◌==◌, ◌≤◌, ◌<◌, true, if◌then◌else◌, Option, Some, None, List, ℕ, option_copied, slice_get, drop, length};
+ghost use Rattle.cds_base.specs.Characters.{is_allowed};
+ghost use Rattle.cds_markup.specs.References.{entity_step, number_step, step_reference};
+ghost use Rattle.cds_markup.specs.Steps.{Agrees, entity_code};
+
+use crate::error::Stop;
+use crate::mode::{Left, Referring};
+
+/// The greatest code point.
+const LAST: u64 = 0x10_FFFF;
+
+/// The allowed character with this code point (XML 1.0 on characters).
+fn allowed(code: u32) -> Option<char>
+    ensures { result ≡ (if is_allowed code then Some code else None) }
+{
+    match char::from_u32(code) {
+        Some(c) => {
+            if cds_base::is_allowed(c) {
+                Some(c)
+            } else {
+                None
+            }
+        }
+        None => None,
+    }
+}
+
+impl Referring {
+    /// A digit of a number, or its `;`.
+    fn number(&mut self, hexadecimal: bool, value: u32, c: char) -> Result<Option<char>, Stop>
+        ensures { Agrees (number_step hexadecimal value c) result self.new }
+    {
+        let base = if hexadecimal { 16 } else { 10 };
+        match c.to_digit(base) {
+            Some(digit) => {
+                let more = u64::from(value) * u64::from(base) + u64::from(digit);
+                if more > LAST {
+                    return Err(Stop::Broken);
+                }
+                *self = Referring::Number(hexadecimal, more as u32);
+                Ok(None)
+            }
+            None => {
+                if c != ';' {
+                    return Err(Stop::Broken);
+                }
+                match allowed(value) {
+                    Some(character) => Ok(Some(character)),
+                    None => Err(Stop::Broken),
+                }
+            }
+        }
+    }
+
+    /// The entities by their first letters, and the sign of a number.
+    fn ampersand(&mut self, c: char) -> Result<Option<char>, Stop>
+        ensures { Agrees (step_reference Referring.Ampersand c) result self.new }
+    {
+        match c {
+            '#' => *self = Referring::Sharp,
+            'a' => *self = Referring::EntityA,
+            'g' => *self = Referring::Entity(Left::of(b"t;"), '>'),
+            'l' => *self = Referring::Entity(Left::of(b"t;"), '<'),
+            'q' => *self = Referring::Entity(Left::of(b"uot;"), '"'),
+            _ => return Err(Stop::Broken),
+        }
+        Ok(None)
+    }
+
+    /// The two entities that begin with `a`.
+    fn entity_a(&mut self, c: char) -> Result<Option<char>, Stop>
+        ensures { Agrees (step_reference Referring.EntityA c) result self.new }
+    {
+        match c {
+            'm' => *self = Referring::Entity(Left::of(b"p;"), '&'),
+            'p' => *self = Referring::Entity(Left::of(b"os;"), '\''),
+            _ => return Err(Stop::Broken),
+        }
+        Ok(None)
+    }
+
+    /// The character of the entity that is read.
+    fn entity_code(&self) -> char
+        ensures { result ≡ entity_code self.now }
+    {
+        match self {
+            Referring::Entity(_, code) => *code,
+            _ => '\0',
+        }
+    }
+
+    /// One character.
+    pub fn step(&mut self, c: char) -> Result<Option<char>, Stop>
+        ensures { Agrees (step_reference self.old c) result self.new }
+    {
+        match self {
+            Referring::Ampersand => self.ampersand(c),
+            Referring::EntityA => self.entity_a(c),
+            Referring::Entity(left, _) => {
+                if !left.is_next(c) {
+                    return Err(Stop::Broken);
+                }
+                left.advance();
+                if !left.is_over() {
+                    return Ok(None);
+                }
+                Ok(Some(self.entity_code()))
+            }
+            Referring::Sharp => {
+                if c == 'x' {
+                    *self = Referring::Number(true, 0);
+                    return Ok(None);
+                }
+                self.number(false, 0, c)
+            }
+            Referring::Number(hexadecimal, value) => {
+                let (hexadecimal, value) = (*hexadecimal, *value);
+                self.number(hexadecimal, value, c)
+            }
+        }
+    }
+}

@@ -1,0 +1,133 @@
+ghost use Rattle.std.specs.Prelude.{◌≡◌, ◌==◌, true, false, List, ℕ, [], ◌++◌, ◌∷◌, OnOk};
+ghost use Rattle.cds_markup.specs.Tags.{ends_tag, tag_named, with_attr, tagged_step, spaced_step, step_tag};
+ghost use Rattle.cds_markup.specs.Names.{name_begun};
+ghost use Rattle.cds_markup.specs.Attributes.{named_or};
+ghost use Rattle.cds_markup.specs.Steps.{Agrees, tag_open, IsBegun, BeginsTag};
+
+use crate::attributing::{is_blank, no_name};
+use crate::error::Stop;
+use crate::mode::{Attributing, NameStep, Naming, Tagging};
+use crate::naming::{begins_name, name_step};
+use crate::tag::{Tag, TagAttr};
+use cds_base::{Mem, Sequence};
+use std::alloc::Global;
+
+/// Whether the character ends a start tag.
+fn ends_tag(c: char) -> bool
+    ensures { result ≡ ends_tag c }
+{
+    c == '/' || c == '>'
+}
+
+/// A tag of which nothing is known.
+fn no_tag(alloc: Global) -> Tag {
+    Tag {
+        name: no_name(alloc),
+        attrs: Sequence::new(alloc),
+    }
+}
+
+/// A name of one character.
+fn name_begun(alloc: Global, c: char) -> Result<Naming, Mem>
+    ensures { IsBegun c result }
+{
+    let mut naming = Naming::new(alloc);
+    naming.first.push(c)?;
+    Ok(naming)
+}
+
+impl Tagging {
+    /// A tag that begins with this character.
+    pub fn begin(alloc: Global, c: char) -> Result<Self, Stop>
+        ensures { BeginsTag c result }
+    {
+        if !begins_name(c) {
+            return Err(Stop::Broken);
+        }
+        Ok(Tagging::Name(name_begun(alloc, c)?))
+    }
+
+    /// Behind a name or a value.
+    fn tagged(&mut self, tag: Tag, c: char) -> Result<Option<(Tag, char)>, Stop>
+        ensures { Agrees (tagged_step tag c) result self.new }
+    {
+        if is_blank(c) {
+            *self = Tagging::Spaced(tag);
+            return Ok(None);
+        }
+        if ends_tag(c) {
+            return Ok(Some((tag, c)));
+        }
+        Err(Stop::Broken)
+    }
+
+    /// Behind white space.
+    fn spaced(&mut self, alloc: Global, tag: Tag, c: char) -> Result<Option<(Tag, char)>, Stop>
+        ensures { Agrees (spaced_step tag c) result self.new }
+    {
+        if is_blank(c) {
+            *self = Tagging::Spaced(tag);
+            return Ok(None);
+        }
+        if ends_tag(c) {
+            return Ok(Some((tag, c)));
+        }
+        if begins_name(c) {
+            let naming = name_begun(alloc, c)?;
+            *self = Tagging::Attribute(tag, Attributing::AttrName(naming));
+            return Ok(None);
+        }
+        Err(Stop::Broken)
+    }
+
+    /// Adds an attribute that ended to the tag that it stands in.
+    fn end_attr(&mut self, alloc: Global, attr: TagAttr) -> Result<(), Mem>
+        ensures { OnOk result (self.new ≡ Tagging.Tagged (with_attr (tag_open self.old) attr)) }
+    {
+        let mut tag = match self {
+            Tagging::Attribute(tag, _) => std::mem::replace(tag, no_tag(alloc)),
+            _ => Tag {
+                name: no_name(alloc),
+                attrs: Sequence::new(alloc),
+            },
+        };
+        tag.attrs.push(attr)?;
+        *self = Tagging::Tagged(tag);
+        Ok(())
+    }
+
+    /// One character. At the `>` or `/` that ends the tag it gives the tag and which of them it is.
+    pub fn step(&mut self, alloc: Global, c: char) -> Result<Option<(Tag, char)>, Stop>
+        ensures { Agrees (step_tag self.old c) result self.new }
+    {
+        match self {
+            Tagging::Opened => {
+                *self = Tagging::begin(alloc, c)?;
+                Ok(None)
+            }
+            Tagging::Name(naming) => match name_step(naming, alloc, c)? {
+                NameStep::Goes => Ok(None),
+                NameStep::Ends(name) => {
+                    let attrs = Sequence::new(alloc);
+                    self.tagged(Tag { name, attrs }, c)
+                }
+                NameStep::Breaks => Err(Stop::Broken),
+            },
+            Tagging::Tagged(tag) => {
+                let tag = std::mem::replace(tag, no_tag(alloc));
+                self.tagged(tag, c)
+            }
+            Tagging::Spaced(tag) => {
+                let tag = std::mem::replace(tag, no_tag(alloc));
+                self.spaced(alloc, tag, c)
+            }
+            Tagging::Attribute(_, attributing) => {
+                let Some(attr) = attributing.step(alloc, c)? else {
+                    return Ok(None);
+                };
+                self.end_attr(alloc, attr)?;
+                Ok(None)
+            }
+        }
+    }
+}

@@ -1,0 +1,205 @@
+ghost use Rattle.std.specs.Prelude.{◌≡◌, ◌==◌, ◌++◌, ◌+◌, ◌^◌, ◌<◌, true, false, List, ℕ, [], ◌∷◌, OnOk, length, drop, encode_utf8};
+ghost use Rattle.cds_markup.specs.declared.tag.Open.{Open};
+ghost use Rattle.cds_markup.specs.Grammar.{name_bytes};
+ghost use Rattle.cds_markup.specs.Turns.{given, content_step, tag_given, less_step, bang_step, section_step, cdata_step, end_blanks_step, end_name_step, end_step, step_turn};
+ghost use Rattle.cds_markup.specs.Steps.{TurnsSo, opens_after};
+
+use crate::attributing::is_blank;
+use crate::ending::{is_over, name_has};
+use crate::error::Stop;
+use crate::letters::Letters;
+use crate::mode::{Left, Referring, Tagging, Turn};
+use crate::scans::{brackets_with, closes_section, comment_step};
+use crate::tag::{Open, Tag};
+use crate::token::Token;
+use std::alloc::Global;
+
+impl Turn {
+    /// A literal character, or what begins at it.
+    fn content(&mut self, brackets: u32, c: char) -> Result<Option<Token>, Stop>
+        ensures { (opens : List Open) → TurnsSo opens (content_step brackets opens c) result self.new }
+    {
+        if c == '<' {
+            *self = Turn::Less;
+            return Ok(None);
+        }
+        if c == '&' {
+            *self = Turn::Reference(Referring::Ampersand);
+            return Ok(None);
+        }
+        if closes_section(brackets, c) {
+            return Err(Stop::Broken);
+        }
+        *self = Turn::Content(brackets_with(brackets, c));
+        Ok(Some(Token::Letter(c)))
+    }
+
+    /// A start tag that ended with this character.
+    fn end_start(&mut self, tag: Tag, end: char) -> Token
+        ensures { (opens : List Open) → tag_given opens (tag, end) ≡ given result (opens_after result opens) self.new }
+    {
+        if end == '>' {
+            *self = Turn::Content(0);
+            return Token::Started(tag);
+        }
+        *self = Turn::Slashed;
+        Token::Slash(tag)
+    }
+
+    /// Behind a `<`.
+    fn less(&mut self, alloc: Global, opens: &[Open], c: char) -> Result<Option<Token>, Stop>
+        ensures { TurnsSo opens.now (less_step opens.now c) result self.new }
+    {
+        if c == '/' {
+            if opens.is_empty() {
+                return Err(Stop::Broken);
+            }
+            *self = Turn::EndTag(0);
+            return Ok(None);
+        }
+        if c == '!' {
+            *self = Turn::Bang;
+            return Ok(None);
+        }
+        *self = Turn::StartTag(Tagging::begin(alloc, c)?);
+        Ok(None)
+    }
+
+    /// Behind a `<!`.
+    fn bang(&mut self, c: char) -> Result<Option<Token>, Stop>
+        ensures { (opens : List Open) → TurnsSo opens (bang_step c) result self.new }
+    {
+        match c {
+            '-' => *self = Turn::Dash,
+            '[' => *self = Turn::Cdata(Left::of(b"CDATA[")),
+            _ => return Err(Stop::Broken),
+        }
+        Ok(None)
+    }
+
+    /// The first character of a section.
+    fn begin_section(&mut self, alloc: Global, c: char) -> Result<Option<Token>, Stop>
+        ensures { (opens : List Open) → TurnsSo opens (section_step 0 [] opens c) result self.new }
+    {
+        let mut text = Letters::new(alloc);
+        text.push(c)?;
+        *self = Turn::Section(brackets_with(0, c), text);
+        Ok(None)
+    }
+
+    /// Behind the name in an end tag.
+    fn end_blanks(&mut self, n: usize, c: char) -> Result<Option<Token>, Stop>
+        ensures { (innermost : Open) (outer : List Open) → TurnsSo (innermost ∷ outer) (end_blanks_step n outer c) result self.new }
+    {
+        if is_blank(c) {
+            *self = Turn::EndTag(n);
+            return Ok(None);
+        }
+        if c == '>' {
+            *self = Turn::Content(0);
+            return Ok(Some(Token::Ended));
+        }
+        Err(Stop::Broken)
+    }
+
+    /// In an end tag, behind so many bytes of the innermost element's name.
+    #[tactic(auto, using(crate::proofs::EndNames::end_over, crate::proofs::EndNames::end_goes, crate::proofs::EndNames::end_stuck))]
+    fn end(&mut self, opens: &[Open], n: usize, c: char) -> Result<Option<Token>, Stop>
+        ensures { TurnsSo opens.now (end_step n opens.now c) result self.new }
+    {
+        let Some(innermost) = opens.first() else {
+            return Err(Stop::Broken);
+        };
+        if is_over(&innermost.name, n) {
+            return self.end_blanks(n, c);
+        }
+        match name_has(&innermost.name, n, c) {
+            Some(behind) => {
+                *self = Turn::EndTag(behind);
+                Ok(None)
+            }
+            None => Err(Stop::Broken),
+        }
+    }
+
+    /// Goes over to this state.
+    fn go_to(&mut self, turn: Turn)
+        ensures { self.new ≡ turn }
+    {
+        *self = turn;
+    }
+
+    /// One character, where these elements are open.
+    #[tactic(auto, using(crate::proofs::Leading::turns_err, crate::proofs::Leading::turns_on, crate::proofs::Leading::turns_done))]
+    pub fn step(&mut self, alloc: Global, opens: &[Open], c: char) -> Result<Option<Token>, Stop>
+        ensures { TurnsSo opens.now (step_turn self.old opens.now c) result self.new }
+    {
+        match self {
+            Turn::Content(brackets) => {
+                let brackets = *brackets;
+                self.content(brackets, c)
+            }
+            Turn::Less => self.less(alloc, opens, c),
+            Turn::Bang => self.bang(c),
+            Turn::Dash => {
+                if c != '-' {
+                    return Err(Stop::Broken);
+                }
+                self.go_to(Turn::Comment(0));
+                Ok(None)
+            }
+            Turn::Comment(dashes) => {
+                if comment_step(dashes, c)?.is_none() {
+                    return Ok(None);
+                }
+                self.go_to(Turn::Content(0));
+                Ok(Some(Token::Commented))
+            }
+            Turn::Cdata(left) => {
+                if left.is_over() {
+                    return self.begin_section(alloc, c);
+                }
+                if !left.is_next(c) {
+                    return Err(Stop::Broken);
+                }
+                left.advance();
+                Ok(None)
+            }
+            Turn::Section(brackets, text) => {
+                if !closes_section(*brackets, c) {
+                    text.push(c)?;
+                    *brackets = brackets_with(*brackets, c);
+                    return Ok(None);
+                }
+                let mut said = std::mem::replace(text, Letters::new(alloc));
+                said.without_brackets();
+                self.go_to(Turn::Content(0));
+                Ok(Some(Token::SectionOf(said)))
+            }
+            Turn::Reference(reference) => {
+                let Some(code) = reference.step(c)? else {
+                    return Ok(None);
+                };
+                self.go_to(Turn::Content(0));
+                Ok(Some(Token::Referred(code)))
+            }
+            Turn::StartTag(tagging) => {
+                let Some((tag, end)) = tagging.step(alloc, c)? else {
+                    return Ok(None);
+                };
+                Ok(Some(self.end_start(tag, end)))
+            }
+            Turn::Slashed => {
+                if c != '>' {
+                    return Err(Stop::Broken);
+                }
+                self.go_to(Turn::Content(0));
+                Ok(Some(Token::Shut))
+            }
+            Turn::EndTag(n) => {
+                let n = *n;
+                self.end(opens, n, c)
+            }
+        }
+    }
+}

@@ -1,0 +1,68 @@
+ghost use Rattle.std.specs.Prelude.{◌≡◌, ◌==◌, ◌++◌, true, false, if◌then◌else◌, Option, Some, None, List, ℕ, [], encode_utf8, OnOk};
+ghost use Rattle.cds_base.specs.Characters.{is_blank};
+ghost use Rattle.cds_markup.specs.Values.{says_behind, quote_of, valuing, literal_step, value_step, step_value};
+ghost use Rattle.cds_markup.specs.Steps.{Agrees};
+
+use crate::error::Stop;
+use crate::letters::Letters;
+use crate::mode::{Referring, Valuing};
+use crate::values::ValuePiece;
+use cds_base::Mem;
+use std::alloc::Global;
+
+/// Adds what a literal character says: white space is a space, and of two bytes of a line end the second is nothing.
+fn push_literal(text: &mut Letters, behind_return: bool, c: char) -> Result<(), Mem>
+    ensures { OnOk result (text.new ≡ text.old ++ says_behind behind_return (ValuePiece.Literal c)) }
+{
+    if c == '\n' && behind_return {
+        return Ok(());
+    }
+    if c == ' ' || c == '\t' || c == '\n' || c == '\r' {
+        text.push(' ')?;
+        return Ok(());
+    }
+    text.push(c)?;
+    Ok(())
+}
+
+impl Valuing {
+    /// A literal character, the quote, or the `&` of a reference.
+    fn literal(&mut self, alloc: Global, c: char) -> Result<Option<Letters>, Stop>
+        ensures { Agrees (literal_step self.old.double self.old.text self.old.behind_return c) result self.new }
+    {
+        let quote = if self.double { '"' } else { '\'' };
+        if c == quote {
+            let text = std::mem::replace(&mut self.text, Letters::new(alloc));
+            return Ok(Some(text));
+        }
+        if c == '&' {
+            self.reference = Some(Referring::Ampersand);
+            return Ok(None);
+        }
+        if c == '<' {
+            return Err(Stop::Broken);
+        }
+        push_literal(&mut self.text, self.behind_return, c)?;
+        self.behind_return = c == '\r';
+        self.reference = None;
+        Ok(None)
+    }
+
+    /// One character. At the quote it gives what the value says.
+    pub fn step(&mut self, alloc: Global, c: char) -> Result<Option<Letters>, Stop>
+        ensures { Agrees (step_value self.old c) result self.new }
+    {
+        match &mut self.reference {
+            None => self.literal(alloc, c),
+            Some(reference) => match reference.step(c)? {
+                None => Ok(None),
+                Some(character) => {
+                    self.text.push(character)?;
+                    self.behind_return = false;
+                    self.reference = None;
+                    Ok(None)
+                }
+            },
+        }
+    }
+}

@@ -1,0 +1,181 @@
+ghost use Rattle.std.specs.Prelude.{◌≡◌, ◌==◌, true, false, List, ℕ, [], ◌∷◌, length};
+ghost use Rattle.cds_markup.specs.declared.tag.Open.{Open};
+ghost use Rattle.cds_markup.specs.Turns.{given};
+ghost use Rattle.cds_markup.specs.Wholes.{misc_step, is_content, is_over, landed, root_move, prolog_move, marked_move, step};
+ghost use Rattle.cds_markup.specs.Steps.{Agrees, MovesSo, opens_after};
+
+use crate::attributing::is_blank;
+use crate::error::Stop;
+use crate::mode::{Declaring, Left, Misc, Mode, Tagging, Turn};
+use crate::scans::comment_step;
+use crate::tag::Open;
+use crate::token::Token;
+use std::alloc::Global;
+
+impl Misc {
+    /// One character. It gives `()` where a `<` came and no comment, and the character belongs to what follows.
+    pub fn step(&mut self, c: char) -> Result<Option<()>, Stop>
+        ensures { Agrees (misc_step self.old c) result self.new }
+    {
+        match self {
+            Misc::Blanks => {
+                if is_blank(c) {
+                    return Ok(None);
+                }
+                if c != '<' {
+                    return Err(Stop::Broken);
+                }
+                *self = Misc::MiscLess;
+            }
+            Misc::MiscLess => {
+                if c != '!' {
+                    return Ok(Some(()));
+                }
+                *self = Misc::MiscBang;
+            }
+            Misc::MiscBang => {
+                if c != '-' {
+                    return Err(Stop::Broken);
+                }
+                *self = Misc::MiscDash;
+            }
+            Misc::MiscDash => {
+                if c != '-' {
+                    return Err(Stop::Broken);
+                }
+                *self = Misc::MiscComment(0);
+            }
+            Misc::MiscComment(dashes) => {
+                if comment_step(dashes, c)?.is_some() {
+                    *self = Misc::Blanks;
+                }
+            }
+        }
+        Ok(None)
+    }
+}
+
+impl Turn {
+    /// Whether it is between tags.
+    fn is_content(&self) -> bool
+        ensures { result ≡ is_content self.now }
+    {
+        matches!(self, Turn::Content(_))
+    }
+}
+
+/// Whether no element is open behind the token, where these were open before it.
+fn none_open(token: &Token, opens: &[Open]) -> bool
+    ensures { result ≡ (length (opens_after token.now opens.now) == 0) }
+{
+    match token {
+        Token::Started(_) => false,
+        Token::Ended => opens.len() < 2,
+        _ => opens.is_empty(),
+    }
+}
+
+impl Mode {
+    /// Behind a token inside the root, which may end it.
+    #[tactic(auto, using(crate::proofs::Landing::lands_over, crate::proofs::Landing::lands_inside))]
+    fn land(&mut self, opens: &[Open], turn: Turn, token: Token) -> Token
+        ensures token { result ≡ token }
+        ensures mode { MovesSo opens.now (landed (given token (opens_after token opens.now) turn)) (Ok (Some token)) self.new }
+    {
+        if turn.is_content() && none_open(&token, opens) {
+            *self = Mode::Epilog(Misc::Blanks);
+        } else {
+            *self = Mode::Inside(turn);
+        }
+        token
+    }
+
+    /// The first character of the root's name.
+    fn root(&mut self, alloc: Global, c: char) -> Result<Option<Token>, Stop>
+        ensures { (opens : List Open) → MovesSo opens (root_move opens c) result self.new }
+    {
+        let tagging = Tagging::begin(alloc, c)?;
+        *self = Mode::Inside(Turn::StartTag(tagging));
+        Ok(None)
+    }
+
+    /// White space and comments before the root, and the first character of its name.
+    fn prolog(&mut self, alloc: Global, misc: Misc, c: char) -> Result<Option<Token>, Stop>
+        ensures { (opens : List Open) → MovesSo opens (prolog_move opens (misc_step misc c) c) result self.new }
+    {
+        let mut misc = misc;
+        if misc.step(c)?.is_some() {
+            return self.root(alloc, c);
+        }
+        *self = Mode::Prolog(misc);
+        Ok(None)
+    }
+
+    /// Behind a byte order mark, or at the first character.
+    fn marked(&mut self, alloc: Global, c: char) -> Result<Option<Token>, Stop>
+        ensures { (opens : List Open) → MovesSo opens (marked_move opens c) result self.new }
+    {
+        if c == '<' {
+            *self = Mode::First;
+            return Ok(None);
+        }
+        self.prolog(alloc, Misc::Blanks, c)
+    }
+
+    /// Goes over to this state.
+    fn go_to(&mut self, mode: Mode)
+        ensures { self.new ≡ mode }
+    {
+        *self = mode;
+    }
+
+    /// One character, where these elements are open.
+    #[tactic(auto, using(crate::proofs::Landing::inside_on, crate::proofs::Landing::inside_done, crate::proofs::Landing::inside_stuck))]
+    pub fn step(&mut self, alloc: Global, opens: &[Open], c: char) -> Result<Option<Token>, Stop>
+        ensures { MovesSo opens.now (step self.old opens.now c) result self.new }
+    {
+        match self {
+            Mode::Begin => {
+                if c != '\u{feff}' {
+                    return self.marked(alloc, c);
+                }
+                self.go_to(Mode::Marked);
+                Ok(None)
+            }
+            Mode::Marked => self.marked(alloc, c),
+            Mode::First => {
+                if c != '?' {
+                    return self.prolog(alloc, Misc::MiscLess, c);
+                }
+                self.go_to(Mode::Declaration(Declaring::Xml(Left::of(b"xml"))));
+                Ok(None)
+            }
+            Mode::Declaration(declaring) => {
+                if declaring.step(c)?.is_none() {
+                    return Ok(None);
+                }
+                self.go_to(Mode::Prolog(Misc::Blanks));
+                Ok(None)
+            }
+            Mode::Prolog(misc) => {
+                if misc.step(c)?.is_some() {
+                    return self.root(alloc, c);
+                }
+                Ok(None)
+            }
+            Mode::Inside(turn) => {
+                let Some(token) = turn.step(alloc, opens, c)? else {
+                    return Ok(None);
+                };
+                let turn = std::mem::replace(turn, Turn::Slashed);
+                Ok(Some(self.land(opens, turn, token)))
+            }
+            Mode::Epilog(misc) => {
+                if misc.step(c)?.is_some() {
+                    return Err(Stop::Broken);
+                }
+                Ok(None)
+            }
+        }
+    }
+}
