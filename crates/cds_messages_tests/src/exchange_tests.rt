@@ -1,4 +1,4 @@
-use crate::soap_tests::is_text;
+use crate::soap_texts::is_text;
 use cds_base::Mem;
 use cds_exchange::{ask_bytes, read_reply};
 use cds_load::{Ask, Shown};

@@ -4,6 +4,12 @@
 #[cfg(test)]
 mod exchange_tests;
 #[cfg(test)]
-mod http_tests;
+mod http_body_tests;
 #[cfg(test)]
-mod soap_tests;
+mod http_head_tests;
+#[cfg(test)]
+mod soap_reply_tests;
+#[cfg(test)]
+mod soap_request_tests;
+#[cfg(test)]
+mod soap_texts;
