@@ -2,41 +2,12 @@
 //! folder of FLAC files.
 #![tactic(auto)]
 
-#[cfg(test)]
-mod check_tests;
-mod checking;
-mod clocks;
-mod command;
-mod conns;
-mod doors;
-mod exterior;
-mod files;
-mod given;
-mod links;
-mod lobby;
-#[cfg(test)]
-mod outside_tests;
-mod reach;
-mod run;
-#[cfg(test)]
-mod scan_tests;
-mod scanning;
-mod serving;
-mod spawners;
-mod streams;
-#[cfg(test)]
-mod tests;
-mod walk;
-mod written;
-
 use cds_base::{Mem, Text, Words};
-use exterior::RealOutside;
-use run::run;
+use cds_program::{Input, Output, RealOutside, run};
 use std::alloc::Global;
 use std::env;
 use std::io::{ErrorKind, writer};
 use std::process::ExitCode;
-use streams::{Input, Output};
 
 /// The status where memory runs out.
 const OUT_OF_MEMORY: u8 = 4;

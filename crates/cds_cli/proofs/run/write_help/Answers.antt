@@ -1,7 +1,0 @@
-use Rattle.std.proofs.Common.{subst}
-use Rattle.cds_cli.specs.Run.{WritesText}
-use Rattle.cds_cli.proofs.run.write_help.Goals as goal
-
-pub returns-clause-writes : goal.returns-clause-writes
-returns-clause-writes g c = λ before held.
-    subst (λ text. WritesText c.write_text.result text before (g.K.Sink.holds c.write_text.new.sink)) c.as_bytes.ensures.value (c.write_text.ensures.writes before held)

@@ -1,0 +1,13 @@
+use Rattle.std.proofs.Common.{sym, inl}
+use Rattle.cds_program.proofs.program.play.Goals as goal
+
+pub returns-in-Ok-clause-ends : goal.returns-in-Ok-clause-ends
+returns-in-Ok-clause-ends g c = λ bytes told. inl (sym (c.in-Ok.ensures.ok_status bytes told))
+
+pub returns-in-Err-Line-clause-writes : goal.returns-in-Err-Line-clause-writes
+returns-in-Err-Line-clause-writes g c =
+    λ bytes told before held. inl ((rw c.in-Err-Line.field-0-is at c.in-Err-Line.ensures.line_report) bytes told before held)
+
+pub returns-in-Err-Limit-clause-writes : goal.returns-in-Err-Limit-clause-writes
+returns-in-Err-Limit-clause-writes g c =
+    λ bytes told before held. inl ((rw c.in-Err-Limit.field-0-is at c.in-Err-Limit.ensures.limit_report) bytes told before held)

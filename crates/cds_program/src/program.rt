@@ -1,0 +1,236 @@
+//! The program from its words to its exit status.
+
+ghost use Rattle.std.specs.Prelude.{◌≡◌, ◌≢◌, ◌⊎◌, ◌≤◌, ◌<◌, ◌+◌, ◌++◌, ℕ, [], Some, None, List, OnErr, OnOk};
+ghost use Rattle.cds_base.specs.declared.limits.TheConstants.{INPUT_LIMIT};
+ghost use Rattle.cds_base.specs.Outside.{raised, Rose, WhereTold};
+ghost use Rattle.cds_script.specs.Lines.{line_limit};
+ghost use Rattle.cds_script.specs.Complete.{AnswersAreComplete};
+ghost use Rattle.cds_script.specs.LoadBounds.{BoundsLoads};
+ghost use Rattle.cds_script.specs.Played.{script_turns, script_stop, report_of, IsReportOf};
+ghost use Rattle.cds_script.specs.Report.{script_ending};
+ghost use Rattle.cds_script.specs.ScriptGiven.{StandsAtScanEnds};
+ghost use Rattle.cds_serve.specs.Life.{EndsLife};
+ghost use Rattle.cds_program.specs.Check.{EndsCheck, WritesCheck};
+ghost use Rattle.cds_program.specs.Command.{command_of, place_in, Serves, TakesInput, help_text, version_text, usage_text};
+ghost use Rattle.cds_program.specs.Run.{Ends, Writes, EndsText, WritesText};
+ghost use Rattle.cds_program.specs.Scan.{AsksFor, EndsScan, GivesBack, WritesScan, folder_in};
+ghost use Rattle.cds_program.specs.declared.command.Command.TheVariants.{Replay, Check, Scan, Serve, Help, Version};
+
+use crate::checking::check;
+use crate::command::{Command, folder_in, place_in, read_command};
+use crate::scanning::scan_folder;
+use crate::serving::serve_folder;
+use crate::written::write_text;
+use cds_base::{Door, Folder, Outside, Sink, Source, Words};
+use cds_replay::{ReplayError, replay};
+use std::alloc::Global;
+use std::marker::{Send, Sync};
+use std::sync::Wait;
+use std::thread::Threads;
+
+/// What is written where the words are no command's.
+pub const USAGE: &str = "usage: cds COMMAND\n";
+
+/// What `--version` writes.
+pub const VERSION: &str = "cds 0.1.0\n";
+
+/// What `--help` writes.
+pub const HELP: &str = "usage: cds COMMAND
+
+Commands:
+  replay       play the script on standard input and write its report
+  check        read a StateEvent on standard input and write its one written form
+  scan FOLDER  scan a folder of FLAC files and write its catalog and the refused files
+  serve PORT FOLDER REQUESTS
+               serve a folder of FLAC files over HTTP until so many connections came;
+               with 4294967295 it goes on until it is interrupted
+  --help       write this page
+  --version    write the version
+
+Exit status:
+  0  the input was read to its end and the whole output was written
+  1  a line of the script is outside the grammar
+  2  standard input, or the folder, could not be read
+  3  standard output could not be written
+  4  memory ran out
+  5  the words are no command
+  6  the input, or a line of a script, is too long, or the folder has too much
+  7  the port, a connection or a thread could not be had
+  8  the input of check is no StateEvent
+";
+
+/// Plays the script on the source.
+fn play<S: Source, K: Sink>(alloc: Global, source: &mut S, sink: &mut K) -> u8
+    ensures ends { WhereTold (S.left source.old) (λ bytes. Ends result (script_ending bytes).status) }
+    ensures writes { WhereTold (S.left source.old) (λ bytes. WhereTold (K.holds sink.old)
+        (λ before. Writes result (script_ending bytes).text before (K.holds sink.new))) }
+    ensures whole { WhereTold (S.left source.old) (λ bytes. result ≡ 0 → S.left source.new ≡ Some []) }
+    ensures within { result ≡ 0 → S.moved source.new ≤ raised (S.moved source.old) INPUT_LIMIT }
+    ensures taken { S.moved source.new ≤ S.moved source.old + (INPUT_LIMIT + 1) }
+    ensures long { result ≡ 6 → raised (S.moved source.old) (line_limit + 1) ≤ S.moved source.new }
+    ensures read_fault { result ≡ 2 → Rose (S.faults source.old) (S.faults source.new) }
+    ensures write_fault { result ≡ 3 → Rose (K.faults sink.old) (K.faults sink.new) }
+    ensures known { (result ≡ 5 → ⊥) × (result ≤ 6) }
+    ensures turns { WhereTold (S.left source.old) (λ bytes. IsReportOf (script_turns bytes) (script_stop bytes) (script_ending bytes)) }
+    ensures load_bound { WhereTold (S.left source.old) (λ bytes. BoundsLoads (script_turns bytes)) }
+    ensures stands { WhereTold (S.left source.old) (λ bytes. StandsAtScanEnds (script_turns bytes)) }
+    ensures complete { WhereTold (S.left source.old) (λ bytes. AnswersAreComplete (script_turns bytes)) }
+{
+    match replay(alloc, source, sink) {
+        Ok(()) => 0,
+        Err(ReplayError::Line { .. }) => 1,
+        Err(ReplayError::ReadFault) => 2,
+        Err(ReplayError::WriteFault) => 3,
+        Err(ReplayError::Mem) => 4,
+        Err(ReplayError::Limit) => 6,
+        Err(ReplayError::Refused { .. }) => unreachable!(),
+    }
+}
+
+/// Writes the page on the commands and the exit statuses.
+fn write_help<K: Sink>(sink: &mut K) -> u8
+    ensures ends { EndsText result 0 }
+    ensures writes { WhereTold (K.holds sink.old) (λ before. WritesText result help_text before (K.holds sink.new)) }
+    ensures write_fault { result ≡ 3 → Rose (K.faults sink.old) (K.faults sink.new) }
+{
+    write_text(sink, HELP.as_bytes(), 0)
+}
+
+/// Writes what words are that are no command's.
+fn write_usage<K: Sink>(sink: &mut K) -> u8
+    ensures ends { EndsText result 5 }
+    ensures writes { WhereTold (K.holds sink.old) (λ before. WritesText result usage_text before (K.holds sink.new)) }
+    ensures write_fault { result ≡ 3 → Rose (K.faults sink.old) (K.faults sink.new) }
+{
+    write_text(sink, USAGE.as_bytes(), 5)
+}
+
+/// Runs the program on the words after its name, and answers its exit status.
+///
+/// `replay` plays the script on the source and writes its report to the sink (status 0, or 1 where a line is outside the
+/// grammar, or 6 where the script or a line of it is too long). `check` reads the StateEvent on the source and writes its
+/// one written form and LF (status 0), or `refused AT` with the place of the first fault, in bytes from 0 (8), or `error
+/// limit` where it has more than 67,108,864 bytes without a fault before (6). `scan FOLDER` scans the folder once and
+/// writes each row of its catalog and LF, and `refused PATH` and LF for each file that was refused, in ascending order of
+/// their paths (0), or `error limit` where a path has too many names or bytes, or the folder too many entries or objects
+/// (6). `serve PORT FOLDER REQUESTS` listens at the port, in decimal below 65,536, answers so many connections over HTTP, a
+/// number below 2^32, and writes `serving PORT` at the start and `served REQUESTS scans A refused B memory C` at the end (0),
+/// or ends with 7 where the port, a connection or a thread could not be had. `--help` and `--version`, each alone, write their text (status 0). Other words are no command's: the usage is
+/// written (status 5). A source that could not be read is status 2, and so is a folder of the outside; a sink that could
+/// not be written is 3, and 4 is that memory ran out.
+pub fn run<
+    R: Threads + Wait + Clone + Drop + Send + Sync + 'static,
+    S: Source,
+    K: Sink,
+    O: Outside,
+>(rt: &R, alloc: Global, words: &Words, source: &mut S, sink: &mut K, outside: &mut O) -> u8
+where
+    <O::D as Door>::Conn: Send,
+    <O::F as Folder>::File: Send,
+    // What was written is exactly the report of the script, up to its end, its broken line or its limit.
+    ensures report { command_of words.now ≡ Some Replay → WhereTold (S.left source.old)
+        (λ bytes. WhereTold (K.holds sink.old) (λ before. Writes result (script_ending bytes).text before (K.holds sink.new))) }
+    ensures status { command_of words.now ≡ Some Replay → WhereTold (S.left source.old) (λ bytes. Ends result (script_ending bytes).status) }
+    ensures read_to_its_end { TakesInput (command_of words.now) → WhereTold (S.left source.old) (λ bytes. result ≡ 0 → S.left source.new ≡ Some []) }
+
+    // The limit of an input, by the number of bytes that the source moved: however the program ends, it took at most one byte
+    // more than an input may have.
+    ensures within_limit { TakesInput (command_of words.now) → result ≡ 0 → S.moved source.new ≤ raised (S.moved source.old) INPUT_LIMIT }
+    ensures taken { S.moved source.new ≤ S.moved source.old + (INPUT_LIMIT + 1) }
+    ensures past_limit { TakesInput (command_of words.now) → result ≡ 6 → raised (S.moved source.old) (line_limit + 1) ≤ S.moved source.new }
+    ensures past_check_limit { command_of words.now ≡ Some Check → result ≡ 6 → raised (S.moved source.old) (INPUT_LIMIT + 1) ≤ S.moved source.new }
+
+    // What was written is what the script's turns write, one after the other, and then its last line. Each ask of these
+    // turns that writes `behind load` comes before any load was begun, or after fewer reads than a load of the catalog takes,
+    // and two more, since the load began, a first note dropped the copy, or the catalog last changed.
+    ensures turns { command_of words.now ≡ Some Replay → WhereTold (S.left source.old) (λ bytes. WhereTold (K.holds sink.old)
+        (λ before. Writes result (report_of (script_turns bytes) ++ (script_stop bytes).text) before (K.holds sink.new))) }
+    ensures load_bound { command_of words.now ≡ Some Replay → WhereTold (S.left source.old) (λ bytes. BoundsLoads (script_turns bytes)) }
+
+    // Each ask of these turns that writes `stands` and a number writes a scan end of the scans that were accepted by then, and
+    // after it the rows of the catalog after the scans up to this one.
+    ensures stands { command_of words.now ≡ Some Replay → WhereTold (S.left source.old) (λ bytes. StandsAtScanEnds (script_turns bytes)) }
+
+    // The answer is complete: an ask of these turns writes the server's number and the catalog after all scans where a load
+    // was begun, the subscription that was accepted last lives, each note that was sent to it was delivered and none of them
+    // answered `full`, no change waits for its release, and a read wrote `read none` since the last load, acceptance and delivery.
+    ensures complete { command_of words.now ≡ Some Replay → WhereTold (S.left source.old) (λ bytes. AnswersAreComplete (script_turns bytes)) }
+
+    // What `check` wrote is the one written form of the events that the input is and LF, where it is a StateEvent; else the place
+    // of its first fault, or that it is too long.
+    ensures check { command_of words.now ≡ Some Check → WhereTold (S.left source.old)
+        (λ bytes. WhereTold (K.holds sink.old) (λ before. WritesCheck bytes result before (K.holds sink.new))) }
+    ensures check_status { command_of words.now ≡ Some Check → WhereTold (S.left source.old) (λ bytes. EndsCheck bytes result) }
+
+    // What `scan` wrote is the catalog of one scan of the folder from the first number 0, and the files that were refused, where
+    // the scan came to the end of the folder's tree; else that it stopped at an entry. The outside was asked for this folder
+    // alone, which came back with all its files.
+    ensures scan { command_of words.now ≡ Some Scan → WhereTold (K.holds sink.old)
+        (λ before. WritesScan (O.ended outside.old) (O.ended outside.new) result before (K.holds sink.new)) }
+    ensures scan_status { command_of words.now ≡ Some Scan → EndsScan (O.ended outside.old) (O.ended outside.new) result }
+    ensures scan_asks { command_of words.now ≡ Some Scan → AsksFor (folder_in words.now) (O.asked outside.old) (O.asked outside.new) }
+    ensures scan_back { command_of words.now ≡ Some Scan → GivesBack (O.ended outside.old) (O.ended outside.new) }
+
+    // `serve` ends by its causes: with 0 both lines are written, its doors gave as many connections as were asked for, and its
+    // spawner started six jobs. It may wait.
+    ensures serve { (port requests : ℕ) → command_of words.now ≡ Some (Serve port requests) →
+        EndsLife port (place_in words.now) requests result
+        (record {
+          faults = O.faults outside.old;
+          asked = O.asked outside.old;
+          connections = O.connections outside.old;
+          started = O.started outside.old;
+          sink_faults = K.faults sink.old;
+          holds = K.holds sink.old;
+        })
+        (record {
+          faults = O.faults outside.new;
+          asked = O.asked outside.new;
+          connections = O.connections outside.new;
+          started = O.started outside.new;
+          sink_faults = K.faults sink.new;
+          holds = K.holds sink.new;
+        }) }
+
+    // Only `scan` hands a folder back to the outside, and no command a link, whose faults would count as the outside's.
+    ensures folders_stay { command_of words.now ≢ Some Scan → O.ended outside.new ≡ O.ended outside.old }
+    ensures links_stay { O.ended_links outside.new ≡ O.ended_links outside.old }
+
+    // Faults of the outside come only where their count rose.
+    ensures read_fault { TakesInput (command_of words.now) → result ≡ 2 → Rose (S.faults source.old) (S.faults source.new) }
+    ensures outside_fault { command_of words.now ≡ Some Scan → result ≡ 2 → Rose (O.faults outside.old) (O.faults outside.new) }
+    ensures service_fault { result ≡ 7 → Rose (O.faults outside.old) (O.faults outside.new) }
+    ensures write_fault { result ≡ 3 → Rose (K.faults sink.old) (K.faults sink.new) }
+
+    // The other commands, and words that are no command's, write one text and take nothing of the source.
+    ensures help { command_of words.now ≡ Some Help → EndsText result 0 × WhereTold (K.holds sink.old)
+        (λ before. WritesText result help_text before (K.holds sink.new)) }
+    ensures version { command_of words.now ≡ Some Version → EndsText result 0 × WhereTold (K.holds sink.old)
+        (λ before. WritesText result version_text before (K.holds sink.new)) }
+    ensures usage { command_of words.now ≡ None → EndsText result 5 × WhereTold (K.holds sink.old)
+        (λ before. WritesText result usage_text before (K.holds sink.new)) }
+    ensures untouched { (TakesInput (command_of words.now) → ⊥) → source.new ≡ source.old }
+    ensures outside_untouched { command_of words.now ≢ Some Scan → (Serves (command_of words.now) → ⊥) → outside.new ≡ outside.old }
+
+    // No other status comes.
+    ensures only_usage { result ≡ 5 → command_of words.now ≡ None }
+    ensures only_replay { result ≡ 1 → command_of words.now ≡ Some Replay }
+    ensures only_check { result ≡ 8 → command_of words.now ≡ Some Check }
+    ensures only_service { result ≡ 7 → Serves (command_of words.now) }
+    ensures only_input { (result ≡ 2) ⊎ (result ≡ 6) → TakesInput (command_of words.now) ⊎ (command_of words.now ≡ Some Scan) }
+    ensures only_memory { result ≡ 4 → TakesInput (command_of words.now) ⊎ ((command_of words.now ≡ Some Scan) ⊎ Serves (command_of words.now)) }
+    ensures known { result ≤ 8 }
+{
+    match read_command(words.as_slice()) {
+        Some(Command::Replay) => play(alloc, source, sink),
+        Some(Command::Check) => check(alloc, source, sink),
+        Some(Command::Scan) => scan_folder(alloc, folder_in(words.as_slice()), outside, sink),
+        Some(Command::Serve { port, requests }) => {
+            let folder = place_in(words.as_slice());
+            serve_folder(rt, alloc, port, folder, requests, sink, outside)
+        }
+        Some(Command::Help) => write_help(sink),
+        Some(Command::Version) => write_text(sink, VERSION.as_bytes(), 0),
+        None => write_usage(sink),
+    }
+}
