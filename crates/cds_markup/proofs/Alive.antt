@@ -1,321 +1,409 @@
--- Every state that is kept well can go on to the end of a document.
-use Rattle.std.proofs.Common.{◌≡◌, ◌==◌, ℕ, zero, suc, ◌≤◌, nat_le, Bool, true, false, ◌⊎◌, inl, inr, Option, Some, None, List, [], ◌∷◌, ◌++◌, refl, arith, encode_utf8, cond, codes, drop, sym, ap, subst}
-use Rattle.cds_markup.proofs.Terms.{encode_ascii, nat_tests, is_allowed, Referring, Ampersand, EntityA, Entity, Sharp, Number, Attributing, AttrName, AttrNamed, Equals, Value, Tagging, Opened, Name, Tagged, Spaced, Attribute, QName, Tag, TagAttr, name_bytes, is_quote, with_digit, base_of, Stage, Version, Encoding, Standalone, Closing, Declaring, Xml, Gap, PartName, PartEquals, PartValue, YesOrNo, BehindPart, Question, Misc, Blanks, MiscLess, MiscBang, MiscDash, MiscComment, Turn, Content, Less, Bang, Dash, Comment, Cdata, Section, Reference, StartTag, Slashed, EndTag, Mode, First, Declaration, Prolog, Inside, Epilog, Open, Next, Stuck, On, behind, is_letter, step_declaration, Token, Shut, Ended, Given, given, tag_given, To, misc_step, prolog_move, epilog_move, declaration_move, step, Byte, Commented, Done, Many, Naming, Referred, SectionOf, Slash, attr_of, comes, goes_on, is_blank, is_whole, leads, name_begun, name_of, named_step, naming, step_attr, step_comment, step_reference, step_tag, step_value, tag_named, tagged_step, valuing, with_attr, without_brackets, is_digit, list_all}
-use Rattle.cds_markup.proofs.Characters.{Allowed, allowed-append, ascii-first, ascii-rest, Spell, bytes_of}
-use Rattle.cds_markup.proofs.Runs.{place, P, Ends, takes-run, landing}
-use Rattle.cds_markup.proofs.Well.{Ascii, SomeAscii, WellReference, WellSome, WellAttr, WellTag, WellTurn, WellWord, Real, WellDeclaring, WellMisc, WellMode}
-use Rattle.cds_markup.proofs.Standing.{AllWhole, T, WholeName, end-said}
-use Rattle.cds_markup.proofs.Placing.{InMode}
-use Rattle.cds_markup.proofs.Machines.{cases, and-first, and-second, Takes, Steps, steps-then, takes-then, same-byte}
-use Rattle.cds_markup.proofs.ScanForms.{sec}
-use Rattle.cds_markup.proofs.Ways.{takes-done, takes-on, then-says}
-use Rattle.cds_markup.proofs.TagForms.{goes-way, step-over}
+-- Words of the grammar lead the machine from one state to another one.
+-- Every state that is kept well can go on to the end of a document: by a next character, behind which less is left.
+use Rattle.std.proofs.Common.{◌≡◌, ◌==◌, ◌+◌, ◌-◌, ◌*◌, ◌<◌, ◌≤◌, ℕ, zero, suc, nat_le, nat_lt, Bool, true, false, Option, Some, None, List, [], ◌∷◌, ◌++◌, length, refl, arith, cond, not, ◌&&◌, ◌⊎◌, inl, inr, codes, map, sym, ap, subst, ◌∙◌, append_assoc}
+use Rattle.cds_markup.proofs.Terms.{inside_move, step_turn, encode_ascii, Word, nat_tests, is_allowed, Referring, Ampersand, EntityA, Entity, Sharp, Number, Valuing, Attributing, AttrName, AttrNamed, Equals, Value, Tagging, Opened, Name, Attribute, Naming, Tag, with_digit, Stage, Version, Closing, Declaring, Xml, Gap, PartName, PartEquals, PartValue, YesOrNo, BehindPart, Question, Misc, Blanks, MiscLess, MiscBang, MiscDash, MiscComment, Turn, Content, Less, Bang, Dash, Comment, Cdata, Section, Reference, StartTag, Slashed, EndTag, Mode, First, Declaration, Prolog, Inside, Epilog, Open, Next, Stuck, On, Done, behind, is_letter, Token, Shut, Ended, Given, given, tag_given, Move, Stops, To, step, comes, is_whole, leads, step_attr, step_comment, step_reference, step_tag, step_value, list_all, is_behind, begins_name, Begin, Character, Many, contains, is_in_text, IsTag, Leaf, Text, IsLeaf, is_text, Tree, EmptyElement, Full, Nothing, LeafThen, TreeThen, begins_with_text, IsStartTag, IsTree, IsContent, IsDocument, Opens, closes_section, brackets_with, ends_tag, Slash, opened, epilog_move, misc_step, Inner}
+use Rattle.cds_markup.proofs.Ways.{P, Runs, Ends, takes-run, landing, Anything, next-by, cases, and-first, same-byte, steps-then, Allowed, allowed-append, ascii-first, bytes_of, then-of, then-says, no-blanks, Early, name-no-bang, mode_of, early_next, root_or, step-is, Place, place, takes-last, holds, holds-if, holds-named, leads-any, and-second, Steps, plain-bytes, allowed-front, bytes-append, steps-as, Way, way-as, way-byte, way-none, way-text, way-then}
+use Rattle.cds_markup.proofs.Placing.{WellMove, WellReference, WellSome, WellAttr, WellTag, WellTurn, WellDeclaring, WellMode, well-step}
+use Rattle.cds_markup.proofs.Standing.{AllWhole, end-reads, TagParts, closed-tag, parts-of, Piece, Leaf-of, End-of, InText, start-name, opens-whole, piece-said, last-same, prolog-led, misc-way}
+use Rattle.cds_markup.proofs.ScanForms.{sec, clean, state, word-without, not-so, characters-are}
+use Rattle.cds_markup.proofs.TagForms.{end-plain, tag-reads}
 
--- Characters with which a machine reads to its end.
-abbrev pub Can : {M A : Type 0} → (M → ℕ → Next M A) → M → (A → Type 0) → Type 0
-Can {M} {A} step m P = (w : List ℕ) × (a : A) × Allowed w × Takes step m w a × P a
+-- Bytes that lead there.
+abbrev pub Led : Mode → List Open → List ℕ → Mode → List Open → Type 0
+Led mode opens bytes m o = Way P (mode, opens) bytes (m, o)
 
-abbrev Any : {A : Type 0} → A → Type 0
-Any a = Unit {0}
+-- one token by its row
+piece-led : (opens : List Open) → AllWhole opens → (n : ℕ) (bytes : List ℕ) (g : Given) → Piece n opens bytes g → Led (Inside (Content n)) opens bytes (landing g) g.opens
+piece-led opens whole n bytes g piece =
+    let r = piece-said n opens whole bytes g piece in
+    record { text = r.text; spelled = r.spelled; allowed = r.allowed; steps = takes-run r.text (Content n) opens g r.takes }
 
--- behind a character
-go-on : {M A : Type 0} (step : M → ℕ → Next M A) (P : A → Type 0) (m n : M) (c : ℕ) → is_allowed c ≡ true → step m c ≡ On n → Can step n P → Can step m P
-go-on step P m n c ok e (w, a, all, t, p) = (c ∷ w, a, (ok, all), subst (λ x. comes x (λ l. Takes step l w a) (λ b. (b ≡ a) × (w ≡ []))) (sym e) t, p)
+-- leaves
+letters-run : (o : Open) (outer : List Open) (cs : List ℕ) (n : ℕ) → InText cs → clean n cs ≡ true → Runs (Inside (Content n)) (o ∷ outer) cs (Inside (Content (state n cs))) (o ∷ outer)
+letters-run o outer [] n a e = refl
+letters-run o outer (c ∷ cs) n a e =
+    let closes = not-so (closes_section n c) (and-first (not (closes_section n c)) (clean (brackets_with n c) cs) e) in
+    let more = letters-run o outer cs (brackets_with n c) a.2 (and-second (not (closes_section n c)) (clean (brackets_with n c) cs) e) in
+    let text = a.1 in
+    let one : (c == 60) ≡ false = grind arith in
+    let two : (c == 38) ≡ false = grind arith in
+    rw (one, two, closes) more
 
-go-over : {M A : Type 0} (step : M → ℕ → Next M A) (P : A → Type 0) (m : M) (c : ℕ) (a : A) → is_allowed c ≡ true → step m c ≡ Done a → P a → Can step m P
-go-over step P m c a ok e p = (c ∷ [], a, (ok, tt), subst (λ x. comes x (λ l. Takes step l [] a) (λ b. (b ≡ a) × (◌≡◌ {A = List ℕ} [] []))) (sym e) (refl, refl), p)
+pub in-text : (bytes cs : List ℕ) → Many (Character is_in_text) bytes cs → InText cs
+in-text bytes [] g = tt
+in-text bytes (c ∷ cs) (front, back, e, g, more) = (g.allowed, g.passes, in-text back cs more)
 
--- behind words
-go-word : {M A : Type 0} (step : M → ℕ → Next M A) (P : A → Type 0) (S : List ℕ → M) → ((b : ℕ) (left : List ℕ) → step (S (b ∷ left)) b ≡ On (S left)) → (left : List ℕ) → Ascii left → Can step (S []) P → Can step (S left) P
-go-word step P S is [] a c = c
-go-word step P S is (b ∷ left) a c = go-on step P (S (b ∷ left)) (S left) b (ascii-first b left a).1 (is b left) (go-word step P S is left (ascii-rest b left a) c)
+-- a leaf from a count of brackets on: a text only where none stand before it
+abbrev pub Fits : ℕ → Bool → Type 0
+Fits n text = (n ≡ 0) ⊎ (text ≡ false)
 
--- a machine inside another one
-module _ {M A N B : Type 0} (step : M → ℕ → Next M A) (outer : N → ℕ → Next N B) (to : M → N) (over : A → Next N B) (is : (m : M) (c : ℕ) → outer (to m) c ≡ leads (step m c) to over) (P : A → Type 0) (R : B → Type 0) where
-  can-done : (m : M) → ((a : A) → P a → (b : B) × (over a ≡ Done b) × R b) → Can step m P → Can outer (to m) R
-  can-done m f (w, a, ok, t, p) = let g = f a p in (w, g.0, ok, takes-done step outer to over is w m a g.0 g.1 t, g.2)
+leaf-led : (o : Open) (outer : List Open) → AllWhole (o ∷ outer) → (n : ℕ) (l : Leaf) (bytes : List ℕ) → Fits n (is_text l) → IsLeaf bytes l → (m : ℕ) × Led (Inside (Content n)) (o ∷ outer) bytes (Inside (Content m)) (o ∷ outer) × ((is_text l ≡ true) ⊎ (m ≡ 0))
+leaf-led o outer whole n (Text text) bytes (inr e) h = absurd (cc)
+leaf-led o outer whole n (Text text) bytes (inl z) h =
+    let c = h.characters in
+    let are = characters-are is_in_text bytes c.characters c.each in
+    let clear : clean n c.characters ≡ true = ap (λ m. clean m c.characters) z ∙ word-without c.characters (ap (λ xs. contains (codes "]]>") xs) (sym are.0) ∙ c.none) in (
+      state n c.characters,
+      record { text = c.characters; spelled = are.0; allowed = are.1; steps = letters-run o outer c.characters n (in-text bytes c.characters c.each) clear },
+      inl refl,
+    )
+leaf-led o outer whole n other bytes f h = (0, piece-led (o ∷ outer) whole n bytes _ (Leaf-of other h refl refl), inr refl)
 
-  can-on : (m : M) → ((a : A) → P a → (n : N) × (over a ≡ On n) × Can outer n R) → Can step m P → Can outer (to m) R
-  can-on m f (w, a, ok, t, p) =
-      let g = f a p in
-      let c = g.2 in
-      (w ++ c.0, c.1, allowed-append w c.0 ok c.2, takes-then outer w c.0 (to m) g.0 c.1 (takes-on step outer to over is w m a g.0 g.1 t) c.3, c.4)
+-- Where a start tag may come: its name behind a `<` leads on as it does a start tag.
+abbrev Starts : Place → List Open → Type 0
+Starts p all = (s : Place) × (P p 60 ≡ On s) × ((x : ℕ) → begins_name x ≡ true → P s x ≡ P (Inside (StartTag Opened), all) x)
 
-if-so : {A : Type 0} (t : Bool) (x y : A) → t ≡ true → cond t x y ≡ x
-if-so t x y e = ap (λ s. cond s x y) e
+content-starts : (o : Open) (outer : List Open) (n : ℕ) → Starts (Inside (Content n), o ∷ outer) (o ∷ outer)
+content-starts o outer n = ((Inside Less, o ∷ outer), refl, λ x e. let other : (x == 47) ≡ false = grind (arith, nat_tests) in rw (other, name-no-bang x e) refl)
 
--- numbers
-gap : (value : ℕ) → value ≤ 1114111 → is_allowed value ≡ false → (value ≤ 31) ⊎ ((55296 ≤ value) × (value ≤ 65535))
-gap value most e = cases (nat_le value 31) (λ d. inl (grind (arith, nat_tests))) (λ d. inr (grind (arith, nat_tests), grind (arith, nat_tests)))
+-- where one is about to end
+pub record TagRun (p : Place) (all : List Open) (bytes : List ℕ) (tag : Tag) (e : ℕ) : Type 0 where
+  pub turn : Turn
+  pub led : Way P p bytes (Inside turn, all)
+  pub gives : step_turn turn all e ≡ Done (tag_given all (tag, e))
 
-abbrev R : Referring → ℕ → Next Referring ℕ
-R = step_reference
+module _ (p : Place) (all : List Open) (r : Starts p all) where
+  tag-run : (inside : List ℕ) (tag : Tag) (e : ℕ) → ends_tag e ≡ true → IsTag inside tag → TagRun p all (60 ∷ inside) tag e
+  tag-run inside tag e ends t =
+      let read = (tag-reads (inside ++ e ∷ []) (tag, e)).1 (closed-tag tag e inside ends t) in
+      let l = takes-last step_tag read.text Opened (tag, e) read.takes in
+      let last : l.1 ≡ e = sym (rw l.5 at (closes l.2 l.1)) in
+      let is = last-same inside e (bytes_of l.0) e (read.spelled ∙ ap bytes_of (l.3 ∙ ap (λ x. l.0 ++ x ∷ []) last) ∙ bytes-append l.0 (e ∷ []) ∙ ap (λ xs. bytes_of l.0 ++ xs) (plain-bytes (e ∷ []) ((end-plain e ends).0, tt))) in
+      by l.0 l.2 is.0 (allowed-front l.0 (l.1 ∷ []) (subst Allowed l.3 read.allowed)) l.4 (ap (step_tag l.2) (sym last) ∙ l.5) where
+        closes : (n : Tagging) (c : ℕ) → holds (step_tag n c) Anything (λ found. found.1 ≡ c)
+        closes (Attribute tag m) c = search leads-any
+        closes other c = search (holds-named, holds-if)
 
-can-digit : (h : Bool) (value d : ℕ) → is_allowed d ≡ true → is_digit d (base_of h) ≡ true → with_digit h value d ≤ 1114111 → Can R (Number h (with_digit h value d)) Any → Can R (Number h value) Any
-can-digit h value d ok is most c = go-on R Any (Number h value) (Number h (with_digit h value d)) d ok (rw (is, le (with_digit h value d) most) refl) c where
-  le : (m : ℕ) → m ≤ 1114111 → nat_le m 1114111 ≡ true
-  le m e = grind (arith, nat_tests)
+        name : (x : ℕ) (w : List ℕ) (n : Tagging) → Steps step_tag Opened (x ∷ w) n → begins_name x ≡ true
+        name x w n s = cases (begins_name x) (λ f. f) (λ f. absurd (rw f at s))
 
-can-number : (h : Bool) (value : ℕ) → value ≤ 1114111 → Can R (Number h value) Any
-can-number h value most = cases (is_allowed value) (λ e. over h value e) (λ e. elim (gap value most e) [ inl l ↦ low h l | inr r ↦ high h r.0 r.1 ]) where
-  over : (h : Bool) (value : ℕ) → is_allowed value ≡ true → Can R (Number h value) Any
-  over true value e = go-over R Any (Number true value) 59 value refl (if-so (is_allowed value) (Done value) Stuck e) tt
-  over false value e = go-over R Any (Number false value) 59 value refl (if-so (is_allowed value) (Done value) Stuck e) tt
+        by : (v : List ℕ) (n : Tagging) → inside ≡ bytes_of v → Allowed v → Steps step_tag Opened v n → step_tag n e ≡ Done (tag, e) → TagRun p all (60 ∷ inside) tag e
+        by [] n is ok s d = let k = subst (λ m. step_tag m e ≡ Done (tag, e)) (sym s) d in cases (begins_name e) (λ f. let g = rw f at k in absurd (cc)) (λ f. let g = rw f at k in absurd (cc))
+        by (x ∷ w) n is ok s d = record {
+          turn = StartTag n;
+          led = way-then P (60 ∷ inside) refl (way-byte P {m = p} {n = r.0} 60 refl (omega arith) refl r.1) (record {
+            text = x ∷ w;
+            spelled = is;
+            allowed = ok;
+            steps = rw (r.2 x (name x w n s)) (steps-as step_tag P (λ t. (Inside (StartTag t), all)) (λ m n c f. ap (λ x. place (inside_move all (leads x StartTag (λ found. Done (tag_given all found))))) f) (x ∷ w) Opened n s);
+          });
+          gives = ap (λ x. leads x StartTag (λ found. Done (tag_given all found))) d;
+        }
 
-  low : (h : Bool) → value ≤ 31 → Can R (Number h value) Any
-  low true l = can-digit true value 52 refl refl (omega arith) (can-digit true (with_digit true value 52) 48 refl refl (omega arith) (over true (with_digit true (with_digit true value 52) 48) (grind (arith, nat_tests))))
-  low false l = can-digit false value 53 refl refl (omega arith) (can-digit false (with_digit false value 53) 48 refl refl (omega arith) (over false (with_digit false (with_digit false value 53) 48) (grind (arith, nat_tests))))
+  tag-led : (close : List ℕ) (bytes : List ℕ) (tag : Tag) (e : ℕ) → ends_tag e ≡ true → (parts : TagParts bytes tag (e ∷ close)) → (m : Mode) (o : List Open) → Way P (landing (tag_given all (tag, e)), (tag_given all (tag, e)).opens) close (m, o) → Way P p bytes (m, o)
+  tag-led close bytes tag e ends parts m o w =
+      let u = tag-run parts.inside tag e ends parts.is in
+      way-then P bytes parts.spelled u.led (way-then P (e ∷ close) refl (way-byte P e refl (end-plain e ends).0 (end-plain e ends).1 (ap (λ x. place (inside_move all x)) u.gives)) w)
 
-  high : (h : Bool) → 55296 ≤ value → value ≤ 65535 → Can R (Number h value) Any
-  high true l m = can-digit true value 48 refl refl (omega arith) (over true (with_digit true value 48) (grind (arith, nat_tests)))
-  high false l m = can-digit false value 48 refl refl (omega arith) (over false (with_digit false value 48) (grind (arith, nat_tests)))
+-- elements and what stands in them
+abbrev pub over : List Open → Place
+over opens = (landing (given Ended opens (Content 0)), opens)
 
-can-entity : (left : List ℕ) (code : ℕ) → SomeAscii left → Can R (Entity left code) Any
-can-entity [] code w = absurd w
-can-entity (b ∷ []) code w = go-over R Any (Entity (b ∷ []) code) b code (ascii-first b [] w).1 (if-so (b == b) (Done code) Stuck (same-byte b)) tt
-can-entity (b ∷ d ∷ left) code w = go-on R Any (Entity (b ∷ d ∷ left) code) (Entity (d ∷ left) code) b (ascii-first b (d ∷ left) w).1 (if-so (b == b) (On (Entity (d ∷ left) code)) Stuck (same-byte b)) (can-entity (d ∷ left) code (ascii-rest b (d ∷ left) w))
+shut-run : (tag : Tag) (opens : List Open) → Runs (landing (given (Slash tag) opens Slashed)) opens (62 ∷ []) (over opens).0 opens
+shut-run tag [] = refl
+shut-run tag (o ∷ outer) = refl
 
-can-reference : (r : Referring) → WellReference r → Can R r Any
-can-reference Ampersand w = go-on R Any Ampersand (Entity (codes "t;") 60) 108 refl refl (can-entity (codes "t;") 60 refl)
-can-reference EntityA w = go-on R Any EntityA (Entity (codes "p;") 38) 109 refl refl (can-entity (codes "p;") 38 refl)
-can-reference (Entity left code) w = can-entity left code w
-can-reference Sharp w = go-on R Any Sharp (Number false 4) 52 refl refl (can-number false 4 (omega arith))
-can-reference (Number h value) w = can-number h value w
+abbrev pub ContentLed : Open → List Open → ℕ → List ℕ → Type 0
+ContentLed o outer n bytes = (k : ℕ) × Led (Inside (Content n)) (o ∷ outer) bytes (Inside (Content k)) (o ∷ outer)
+
+inside-led : (p : Place) (all : List Open) → Starts p all → (tag : Tag) (bytes start inside : List ℕ) → bytes ≡ start ++ inside → IsStartTag start tag → ContentLed (opened tag) all 0 inside → (k : ℕ) × Way P p bytes (Inside (Content k), opened tag ∷ all)
+inside-led p all r tag bytes start inside e s (k, q) = (k, way-then P bytes e (tag-led p all r [] start tag 62 refl (parts-of (62 ∷ []) start tag s) (Inside (Content 0)) (opened tag ∷ all) (way-none P refl)) q)
+
+mutual
+  tree-led : (tree : Tree) (p : Place) (all : List Open) → Starts p all → AllWhole all → (bytes : List ℕ) → IsTree tree bytes → Way P p bytes (over all)
+  tree-led (EmptyElement tag) p all r whole bytes h = tag-led p all r (62 ∷ []) bytes tag 47 refl (parts-of (47 ∷ 62 ∷ []) bytes tag h) (over all).0 all (way-text P (62 ∷ []) refl refl (shut-run tag all))
+  tree-led (Full tag inner) p all r whole bytes (start, inside, closing, e, s, c, d) =
+      let all-whole : AllWhole (opened tag ∷ all) = (start-name start tag s, whole) in
+      let first = inside-led p all r tag (start ++ inside) start inside refl s (content-led inner (opened tag) all all-whole 0 inside (inl refl) c) in
+      way-then P bytes (e ∙ sym (append_assoc start inside closing)) first.1 (piece-led (opened tag ∷ all) all-whole first.0 closing (given Ended all (Content 0)) (End-of (opened tag) all refl d refl))
+
+  content-led : (c : Inner) (o : Open) (outer : List Open) → AllWhole (o ∷ outer) → (n : ℕ) (bytes : List ℕ) → Fits n (begins_with_text c) → IsContent c bytes → ContentLed o outer n bytes
+  content-led Nothing o outer whole n bytes f h = (n, way-none P h)
+  content-led (LeafThen l more) o outer whole n bytes f (front, back, e, h, g, none) =
+      let a = leaf-led o outer whole n l front f h in
+      let b = content-led more o outer whole a.0 back (elim a.2 [ inl t ↦ inr (sym (ap (λ x. x && begins_with_text more) t) ∙ none) | inr z ↦ inl z ]) g in
+      (b.0, way-then P bytes e a.1 b.1)
+  content-led (TreeThen tree more) o outer whole n bytes f (front, back, e, h, g) =
+      let b = content-led more o outer whole 0 back (inl refl) g in
+      (b.0, way-then P bytes e (tree-led tree (Inside (Content n), o ∷ outer) (o ∷ outer) (content-starts o outer n) whole front h) b.1)
+
+-- up to a place where elements are open, and to a start tag there
+abbrev pub OpenAt : List Tag → List ℕ → Type 0
+OpenAt tags before = (p : Place) × Way P (Begin, []) before p × Starts p (map opened tags)
+
+pub open-by : (tag : Tag) (outer : List Tag) (before : List ℕ) → Opens (tag ∷ outer) before → ((earlier : List ℕ) → Opens outer earlier → OpenAt outer earlier) → (n : ℕ) × Led Begin [] before (Inside (Content n)) (map opened (tag ∷ outer))
+open-by tag outer before (earlier, start, inside, content, e, o, s, c) at =
+    let a = at earlier o in
+    let all = map opened outer in
+    let k = inside-led a.0 all a.2 tag (start ++ inside) start inside refl s (content-led content (opened tag) all (start-name start tag s, opens-whole outer earlier o) 0 inside (inl refl) c) in
+    (k.0, way-then P before e a.1 k.1)
+
+pub open-at : (tags : List Tag) (before : List ℕ) → Opens tags before → OpenAt tags before
+open-at [] before o =
+    let l = prolog-led before o in
+    ((mode_of l.0, []), way-as early_next P (λ e. (mode_of e, [])) (λ e f c d. ap place (early-on e f c d)) l.1, ((mode_of l.2.next, []), ap place (early-on l.0 l.2.next 60 l.2.less), λ x n. ap place (step-is l.2.next [] x ∙ ap (λ n. root_or [] n x) (l.2.named x n)))) where
+      early-on : (e f : Early) (c : ℕ) → early_next e c ≡ On f → step (mode_of e) [] c ≡ To (mode_of f) [] []
+      early-on e f c d = step-is e [] c ∙ ap (λ x. root_or [] x c) d
+open-at (tag ∷ outer) before o = let l = open-by tag outer before o (open-at outer) in ((Inside (Content l.0), map opened (tag ∷ outer)), l.1, content-starts (opened tag) (map opened outer) l.0)
+
+pub open-tag-run : (tags : List Tag) (before inside : List ℕ) (tag : Tag) (e : ℕ) → Opens tags before → ends_tag e ≡ true → IsTag inside tag → TagRun (Begin, []) (map opened tags) (before ++ 60 ∷ inside) tag e
+open-tag-run tags before inside tag e o ends t =
+    let a = open-at tags before o in
+    let u = tag-run a.0 (map opened tags) a.2 inside tag e ends t in
+    record { turn = u.turn; led = way-then P (before ++ 60 ∷ inside) refl a.1 u.led; gives = u.gives }
+
+-- The machine reads exactly the documents.
+
+-- A document in characters.
+abbrev pub Spelling : List ℕ → Type 0
+Spelling bytes = (m : Mode) × (o : List Open) × Led Begin [] bytes m o × (is_behind m ≡ true)
+
+pub document-led : (bytes : List ℕ) (tree : Tree) → IsDocument bytes tree → Spelling bytes
+document-led bytes tree d =
+    let a = open-at [] d.prolog d.is_prolog in
+    let e = tree-led tree a.0 [] a.2 tt d.element d.is_element in
+    let m = way-as misc_step P (λ m. (Epilog m, [])) (λ m n c f. ap (λ x. place (epilog_move [] x)) f) (misc-way d.epilog d.is_epilog) in
+    (Epilog Blanks, [], way-then P bytes d.spelled a.1 (way-then P (d.element ++ d.epilog) refl e m), refl)
+
+-- A plan: a state's next character, and how many steps are left at most.
+module _ {M A : Type 0} (step : M → ℕ → Next M A) (plan : M → ℕ × ℕ) (P : A → Type 0) where
+  abbrev pub Near : M → Type 0
+  Near m = (is_allowed (plan m).0 ≡ true) × comes (step m (plan m).0) (λ n. (plan n).1 < (plan m).1) P
+
+comes-leads : {M A N B : Type 0} (x : Next M A) (to : M → N) (over : A → Next N B) (on : M → Type 0) (done : A → Type 0) (on' : N → Type 0) (done' : B → Type 0)
+    → comes x on done → ((m : M) → on m → on' (to m)) → ((a : A) → done a → comes (over a) on' done') → comes (leads x to over) on' done'
+comes-leads Stuck to over on done on' done' h f g = absurd h
+comes-leads (On m) to over on done on' done' h f g = f m h
+comes-leads (Done a) to over on done on' done' h f g = g a h
+
+abbrev first_or : ℕ → List ℕ → ℕ
+first_or c [] = c
+first_or c (b ∷ left) = b
+
+-- references: a number that is no character has a digit more, which makes it one
+abbrev digits_left : ℕ → ℕ
+digits_left value = cond (is_allowed value) 1 (cond (nat_le value 2) 3 2)
+
+abbrev plan_reference : Referring → ℕ × ℕ
+plan_reference Ampersand = (108, 3)
+plan_reference EntityA = (109, 3)
+plan_reference (Entity left code) = (first_or 59 left, length left)
+plan_reference Sharp = (52, 4)
+plan_reference (Number h value) = (cond (is_allowed value) 59 52, digits_left value)
+
+fewer : (value d : ℕ) → 4 ≤ d → (nat_le value 2 ≡ false → is_allowed d ≡ true) → digits_left d < cond (nat_le value 2) 3 2
+fewer value d more ok = cases (nat_le value 2) (λ e. let big : nat_le d 2 ≡ false = grind (arith, nat_tests) in rw (e, big) (cases (is_allowed d) (λ f. rw f (omega arith)) (λ f. rw f (omega arith)))) (λ e. rw (e, ok e) (omega arith))
+
+near-reference : (r : Referring) → WellReference r → Near step_reference plan_reference Anything r
+near-reference (Entity [] code) w = absurd w
+near-reference (Entity (b ∷ []) code) w = ((ascii-first b [] w).1, rw (same-byte b) tt)
+near-reference (Entity (b ∷ d ∷ left) code) w = ((ascii-first b (d ∷ left) w).1, rw (same-byte b) (omega arith))
+near-reference (Number true value) w = cases (is_allowed value) (λ e. rw e (refl, tt)) (λ e. let fits : nat_le (with_digit true value 52) 1114111 ≡ true = grind (arith, nat_tests) in rw e (refl, rw fits (fewer value (with_digit true value 52) (omega arith) (λ f. grind (arith, nat_tests)))))
+near-reference (Number false value) w = cases (is_allowed value) (λ e. rw e (refl, tt)) (λ e. let fits : nat_le (with_digit false value 52) 1114111 ≡ true = grind (arith, nat_tests) in rw e (refl, rw fits (fewer value (with_digit false value 52) (omega arith) (λ f. grind (arith, nat_tests)))))
+near-reference other w = (refl, omega arith)
 
 -- values
-can-end : (double : Bool) (text : List ℕ) (behind : Bool) → Can step_value (valuing double text behind None) Any
-can-end true text behind = go-over step_value Any (valuing true text behind None) 34 text refl refl tt
-can-end false text behind = go-over step_value Any (valuing false text behind None) 39 text refl refl tt
+abbrev plan_value : Valuing → ℕ × ℕ
+plan_value v = by v.reference where
+  by : Option Referring → ℕ × ℕ
+  by None = (cond v.double 34 39, 1)
+  by (Some r) = ((plan_reference r).0, 2 + (plan_reference r).1)
 
-can-value : (double : Bool) (text : List ℕ) (behind : Bool) (r : Option Referring) → WellSome r → Can step_value (valuing double text behind r) Any
-can-value double text behind None w = can-end double text behind
-can-value double text behind (Some r) w =
-    can-on R step_value (λ s. valuing double text behind (Some s)) (λ code. On (valuing double (text ++ encode_utf8 code) false None)) (λ m c. refl) Any Any r
-    (λ code u. (valuing double (text ++ encode_utf8 code) false None, refl, can-end double (text ++ encode_utf8 code) false)) (can-reference r w)
+near-value : (v : Valuing) → WellSome v.reference → Near step_value plan_value Anything v
+near-value v w = by v.double v.text v.behind_return v.reference w where
+  by : (double : Bool) (text : List ℕ) (after : Bool) (r : Option Referring) → WellSome r → Near step_value plan_value Anything (record { double = double; text = text; behind_return = after; reference = r })
+  by true text after None w = (refl, tt)
+  by false text after None w = (refl, tt)
+  by double text after (Some r) w = let k = near-reference r w in let h = k.1 in (k.0, search (comes-leads, arith))
 
--- names
-can-name : {M A : Type 0} (step : M → ℕ → Next M A) (P : A → Type 0) (to : Naming → M) (first : List ℕ) (second : Option (List ℕ)) → ((n : Naming) (c : ℕ) (k : Naming) → goes_on n c ≡ Some k → step (to n) c ≡ On (to k))
-    → ((n : Naming) → is_whole n.second ≡ true → Can step (to n) P) → Can step (to (naming first second)) P
-can-name step P to first (Some []) on over = go-on step P (to (naming first (Some []))) (to (naming first (Some (encode_utf8 97)))) 97 refl (on (naming first (Some [])) 97 (naming first (Some (encode_utf8 97))) refl) (over (naming first (Some (encode_utf8 97))) (ap (λ xs. is_whole (Some xs)) (encode_ascii 97 (omega arith))))
-can-name step P to first None on over = over (naming first None) refl
-can-name step P to first (Some (b ∷ more)) on over = over (naming first (Some (b ∷ more))) refl
+-- names, attributes and tags
+abbrev plan_name : Naming → ℕ → ℕ → ℕ × ℕ
+plan_name n c left = cond (is_whole n.second) (c, left) (97, 1 + left)
 
--- attributes and tags
-abbrev A : Attributing → ℕ → Next Attributing TagAttr
-A = step_attr
+abbrev plan_attr : Attributing → ℕ × ℕ
+plan_attr (AttrName n) = plan_name n 61 3
+plan_attr (AttrNamed q) = (61, 3)
+plan_attr (Equals q) = (34, 2)
+plan_attr (Value q v) = plan_value v
 
-can-equals : (q : QName) → Can A (Equals q) Any
-can-equals q =
-    go-on A Any (Equals q) (Value q (valuing true [] false None)) 34 refl refl
-    (can-done step_value A (Value q) (λ text. Done (attr_of q text)) (λ m c. refl) Any Any (valuing true [] false None) (λ text u. (attr_of q text, refl, tt)) (can-end true [] false))
-
-can-attr : (m : Attributing) → WellAttr m → Can A m Any
-can-attr (AttrName n) w =
-    can-name A Any AttrName n.first n.second (λ n c k e. goes-way A AttrName named_step (λ n c. refl) n k c e)
-    (λ n e. go-on A Any (AttrName n) (Equals (name_of n)) 61 refl (step-over A AttrName named_step (λ n c. refl) n 61 e refl refl) (can-equals (name_of n)))
-can-attr (AttrNamed q) w = go-on A Any (AttrNamed q) (Equals q) 61 refl refl (can-equals q)
-can-attr (Equals q) w = can-equals q
-can-attr (Value q v) w = can-done step_value A (Value q) (λ text. Done (attr_of q text)) (λ m c. refl) Any Any v (λ text u. (attr_of q text, refl, tt)) (can-value v.double v.text v.behind_return v.reference w)
+near-attr : (m : Attributing) → WellAttr m → Near step_attr plan_attr Anything m
+near-attr (AttrName n) w = by n.first n.second where
+  by : (first : List ℕ) (second : Option (List ℕ)) → Near step_attr plan_attr Anything (AttrName (record { first = first; second = second }))
+  by first None = (refl, omega arith)
+  by first (Some []) = (refl, rw (encode_ascii 97 (omega arith)) (omega arith))
+  by first (Some (b ∷ more)) = (refl, omega arith)
+near-attr (Value q v) w = let k = near-value v w in let h = k.1 in (k.0, search comes-leads)
+near-attr other w = (refl, omega arith)
 
 -- up to the `/` of an empty element
+abbrev plan_tag : Tagging → ℕ × ℕ
+plan_tag Opened = (97, 2)
+plan_tag (Name n) = plan_name n 47 1
+plan_tag (Attribute tag m) = ((plan_attr m).0, 2 + (plan_attr m).1)
+plan_tag other = (47, 1)
+
 abbrev Slashing : Tag × ℕ → Type 0
 Slashing found = found.1 ≡ 47
 
-can-tagged : (tag : Tag) → Can step_tag (Tagged tag) Slashing
-can-tagged tag = go-over step_tag Slashing (Tagged tag) 47 (tag, 47) refl refl refl
-
-can-named : (n : Naming) → Can step_tag (Name n) Slashing
-can-named n =
-    can-name step_tag Slashing Name n.first n.second (λ n c k e. goes-way step_tag Name (λ q c. tagged_step (tag_named q) c) (λ n c. refl) n k c e)
-    (λ n e. go-over step_tag Slashing (Name n) 47 (tag_named (name_of n), 47) refl (step-over step_tag Name (λ q c. tagged_step (tag_named q) c) (λ n c. refl) n 47 e refl refl) refl)
-
-can-tag : (t : Tagging) → WellTag t → Can step_tag t Slashing
-can-tag Opened w = go-on step_tag Slashing Opened (Name (name_begun 97)) 97 refl refl (can-named (name_begun 97))
-can-tag (Name n) w = can-named n
-can-tag (Tagged tag) w = can-tagged tag
-can-tag (Spaced tag) w = go-over step_tag Slashing (Spaced tag) 47 (tag, 47) refl refl refl
-can-tag (Attribute tag m) w = can-on A step_tag (Attribute tag) (λ a. On (Tagged (with_attr tag a))) (λ m c. refl) Any Slashing m (λ a u. (Tagged (with_attr tag a), refl, can-tagged (with_attr tag a))) (can-attr m w)
+near-tag : (t : Tagging) → WellTag t → Near step_tag plan_tag Slashing t
+near-tag (Name n) w = by n.first n.second where
+  by : (first : List ℕ) (second : Option (List ℕ)) → Near step_tag plan_tag Slashing (Name (record { first = first; second = second }))
+  by first (Some []) = (refl, rw (encode_ascii 97 (omega arith)) (omega arith))
+  by first other = (refl, refl)
+near-tag (Attribute tag m) w = let k = near-attr m w in let h = k.1 in (k.0, search (comes-leads, arith))
+near-tag Opened w = (refl, omega arith)
+near-tag other w = (refl, refl)
 
 -- comments and sections
-can-comment : (n : ℕ) → n ≤ 3 → Can step_comment n Any
-can-comment zero few = go-on step_comment Any 0 1 45 refl refl (go-on step_comment Any 1 2 45 refl refl (go-over step_comment Any 2 62 tt refl refl tt))
-can-comment (suc zero) few = go-on step_comment Any 1 2 45 refl refl (go-over step_comment Any 2 62 tt refl refl tt)
-can-comment (suc (suc (suc (suc n)))) few = absurd (omega (arith, few))
-can-comment other few = go-over step_comment Any other 62 tt refl refl tt
+abbrev plan_comment : ℕ → ℕ × ℕ
+plan_comment n = (cond (nat_lt n 2) 45 62, 5 - n)
 
-can-section : (n : ℕ) (text : List ℕ) → n ≤ 2 → Can sec (n, text) Any
-can-section zero text few =
-    let one : List ℕ = text ++ encode_utf8 93 in
-    let two : List ℕ = one ++ encode_utf8 93 in
-    go-on sec Any (0, text) (1, one) 93 refl refl (go-on sec Any (1, one) (2, two) 93 refl refl (go-over sec Any (2, two) 62 (without_brackets two) refl refl tt))
-can-section (suc zero) text few = go-on sec Any (1, text) (2, text ++ encode_utf8 93) 93 refl refl (go-over sec Any (2, text ++ encode_utf8 93) 62 (without_brackets (text ++ encode_utf8 93)) refl refl tt)
-can-section (suc (suc zero)) text few = go-over sec Any (2, text) 62 (without_brackets text) refl refl tt
-can-section (suc (suc (suc n))) text few = absurd (omega (arith, few))
+near-comment : (n : ℕ) → n ≤ 3 → Near step_comment plan_comment Anything n
+near-comment zero few = (refl, omega arith)
+near-comment (suc zero) few = (refl, omega arith)
+near-comment (suc (suc (suc (suc n)))) few = absurd (omega (arith, few))
+near-comment other few = (refl, tt)
 
--- Every state that is kept well can go on to the end of a document: the inside of elements and the whole.
+abbrev plan_section : ℕ × List ℕ → ℕ × ℕ
+plan_section s = (cond (s.0 == 2) 62 93, 4 - s.0)
+
+near-section : (n : ℕ) (text : List ℕ) → n ≤ 2 → Near sec plan_section Anything (n, text)
+near-section (suc (suc (suc n))) text few = absurd (omega (arith, few))
+near-section (suc (suc zero)) text few = (refl, tt)
+near-section other text few = (refl, omega arith)
+
+-- inside elements: each one that is open is closed, one more by one
+abbrev plan_turn : List Open → Turn → ℕ × ℕ
+plan_turn opens (Content n) = (60, 3 * length opens)
+plan_turn opens Less = (47, 3 * length opens - 1)
+plan_turn opens Bang = (45, 7 + 3 * length opens)
+plan_turn opens Dash = (45, 6 + 3 * length opens)
+plan_turn opens (Comment n) = ((plan_comment n).0, (plan_comment n).1 + 3 * length opens)
+plan_turn opens (Cdata left) = (first_or 93 left, 5 + length left + 3 * length opens)
+plan_turn opens (Section n text) = ((plan_section (n, text)).0, (plan_section (n, text)).1 + 3 * length opens)
+plan_turn opens (Reference r) = ((plan_reference r).0, 1 + (plan_reference r).1 + 3 * length opens)
+plan_turn opens (StartTag t) = ((plan_tag t).0, 2 + (plan_tag t).1 + 3 * length opens)
+plan_turn opens Slashed = (62, 1 + 3 * length opens)
+plan_turn opens (EndTag n) = (62, 3 * length opens - 2)
+
+abbrev plan_misc : Misc → ℕ × ℕ
+plan_misc Blanks = (60, 0)
+plan_misc MiscLess = (33, 8)
+plan_misc MiscBang = (45, 7)
+plan_misc MiscDash = (45, 6)
+plan_misc (MiscComment n) = ((plan_comment n).0, (plan_comment n).1)
+
+abbrev plan_declaring : Declaring → ℕ × ℕ
+plan_declaring Question = (62, 6)
+plan_declaring (Gap Version) = (118, 22)
+plan_declaring (Gap other) = (63, 7)
+plan_declaring (BehindPart Version) = (32, 23)
+plan_declaring (BehindPart other) = (63, 7)
+plan_declaring (PartValue stage quote left) = (first_or quote left, 8 + length left)
+plan_declaring (YesOrNo quote) = (121, 11)
+plan_declaring (PartEquals stage) = (34, 14)
+plan_declaring (PartName stage left) = (first_or 61 left, 15 + length left)
+plan_declaring (Xml left) = (first_or 32 left, 23 + length left)
+
+abbrev plan : Mode → List Open → ℕ × ℕ
+plan First opens = (33, 13 + 3 * length opens)
+plan (Declaration d) opens = ((plan_declaring d).0, (plan_declaring d).1 + 3 * length opens)
+plan (Prolog MiscLess) opens = (97, 4 + 3 * length opens)
+plan (Prolog m) opens = ((plan_misc m).0, (plan_misc m).1 + 5 + 3 * length opens)
+plan (Inside turn) opens = plan_turn opens turn
+plan (Epilog m) opens = plan_misc m
+plan other opens = (32, 6 + 3 * length opens)
+
+-- characters that lead nearer to the end
+abbrev Nearer : Mode → List Open → Type 0
+Nearer mode opens = (w : List ℕ) × (m : Mode) × (o : List Open) × Allowed w × Runs mode opens w m o × ((plan m o).1 < (plan mode opens).1) × AllWhole o × WellMode m o
+
+abbrev Leads : ℕ → Move → Type 0
+Leads k Stops = ⊥
+Leads k (To m o us) = ((plan m o).1 < k) × AllWhole o
+
+one : (mode : Mode) (opens : List Open) → WellMode mode opens → is_allowed (plan mode opens).0 ≡ true → Leads (plan mode opens).1 (step mode opens (plan mode opens).0) → Nearer mode opens
+one mode opens w ok h = by (step mode opens (plan mode opens).0) refl (well-step mode opens (plan mode opens).0 ok w) h where
+  by : (v : Move) → step mode opens (plan mode opens).0 ≡ v → WellMove v → Leads (plan mode opens).1 v → Nearer mode opens
+  by Stops e well h = absurd h
+  by (To m o us) e well h = ((plan mode opens).0 ∷ [], m, o, (ok, tt), rw e refl, h.0, h.1, well h.1)
+
+-- where a token leads
+abbrev Lands : ℕ → Given → Type 0
+Lands k g = ((plan (landing g) g.opens).1 < k) × AllWhole g.opens
+
+here : (opens : List Open) (k : ℕ) (t : Token) → AllWhole opens → 3 * length opens < k → Lands k (given t opens (Content 0))
+here [] k t all less = (less, tt)
+here (o ∷ outer) k t all less = (less, all)
+
+slashed : (opens : List Open) (k : ℕ) (found : Tag × ℕ) → AllWhole opens → 1 + 3 * length opens < k → found.1 ≡ 47 → Lands k (tag_given opens found)
+slashed [] k found all less e = rw e (less, tt)
+slashed (o ∷ outer) k found all less e = rw e (less, all)
+
+landed-well : (opens : List Open) (t : Token) → AllWhole opens → WellMode (landing (given t opens (Content 0))) opens
+landed-well [] t all = tt
+landed-well (o ∷ outer) t all = (all, (tt, omega arith))
+
+inside : (turn : Turn) (opens : List Open) → AllWhole opens → WellTurn opens turn → is_allowed (plan_turn opens turn).0 ≡ true → comes (step_turn turn opens (plan_turn opens turn).0) (λ t. (plan_turn opens t).1 < (plan_turn opens turn).1) (Lands (plan_turn opens turn).1) → Nearer (Inside turn) opens
+inside turn opens all w ok h = one (Inside turn) opens (all, w) ok (by (step_turn turn opens (plan_turn opens turn).0) h) where
+  by : (next : Next Turn Given) → comes next (λ t. (plan_turn opens t).1 < (plan_turn opens turn).1) (Lands (plan_turn opens turn).1) → Leads (plan_turn opens turn).1 (inside_move opens next)
+  by Stuck h = absurd h
+  by (On t) h = (h, all)
+  by (Done g) h = h
+
+near-turn : (turn : Turn) (opens : List Open) → AllWhole opens → WellTurn opens turn → Nearer (Inside turn) opens
+near-turn (Content n) (o ∷ outer) all w = inside (Content n) (o ∷ outer) all w refl (omega arith)
+near-turn Less (o ∷ outer) all w = inside Less (o ∷ outer) all w refl (omega arith)
+near-turn (Comment n) opens all w = let k = near-comment n w.1 in let h = k.1 in inside (Comment n) opens all w k.0 (search (comes-leads, here, arith))
+near-turn (Cdata []) opens all w = inside (Cdata []) opens all w refl (omega arith)
+near-turn (Cdata (b ∷ left)) opens all w = inside (Cdata (b ∷ left)) opens all w (ascii-first b left w.1).1 (rw (same-byte b) (omega arith))
+near-turn (Section n text) opens all w = let k = near-section n text w.1 in let h = k.1 in inside (Section n text) opens all w k.0 (search (comes-leads, here, arith))
+near-turn (Reference r) opens all w = let k = near-reference r w.1 in let h = k.1 in inside (Reference r) opens all w k.0 (search (comes-leads, here, arith))
+near-turn (StartTag t) opens all w = let k = near-tag t w in let h = k.1 in inside (StartTag t) opens all w k.0 (search (comes-leads, slashed, arith))
+near-turn Slashed opens all w = inside Slashed opens all w refl (here opens (1 + 3 * length opens) Shut all (omega arith))
+near-turn (EndTag n) (o ∷ outer) all s =
+    let g : Given = given Ended outer (Content 0) in
+    let r = (end-reads o outer s.text n s.spelled s.allowed (bytes_of s.text ++ 62 ∷ []) g).1 (then-of (bytes_of s.text) (62 ∷ []) tt refl refl (then-of [] (62 ∷ []) tt refl no-blanks (then-says (Word (62 ∷ [])) (λ u. g) (62 ∷ []) g tt refl refl))) in
+    let l = here outer (3 * length (o ∷ outer) - 2) Ended all.1 (omega arith) in
+    (r.text, landing g, outer, r.allowed, takes-run r.text (EndTag n) (o ∷ outer) g r.takes, l.0, all.1, landed-well outer Ended all.1)
+near-turn (Content n) [] all w = absurd w.0
+near-turn other [] all w = absurd w
+near-turn other opens all w = inside other opens all w refl (omega arith)
+
+-- the declaration, and what stands before the root and behind it
+near-declaration : (d : Declaring) (opens : List Open) → AllWhole opens → WellDeclaring d → Nearer (Declaration d) opens
+near-declaration (Xml (b ∷ left)) opens all w = one (Declaration (Xml (b ∷ left))) opens w (ascii-first b left w).1 (rw (same-byte b) (omega arith, all))
+near-declaration (PartName stage (b ∷ left)) opens all w = one (Declaration (PartName stage (b ∷ left))) opens w (ascii-first b left w.1).1 (rw (same-byte b) (omega arith, all))
+near-declaration (PartValue stage quote []) opens all w = one (Declaration (PartValue stage quote [])) opens w (grind (arith, nat_tests)) (rw (same-byte quote) (by stage)) where
+  by : (stage : Stage) → ((plan_declaring (BehindPart (behind stage))).1 + 3 * length opens < 8 + 3 * length opens) × AllWhole opens
+  by Version = (omega arith, all)
+  by other = (omega arith, all)
+near-declaration (PartValue stage quote (b ∷ left)) opens all w = one (Declaration (PartValue stage quote (b ∷ left))) opens w (ascii-first b left w.1.0).1 (rw (and-first (is_letter stage b b) (list_all (λ b. is_letter stage b b) left) w.1.1) (omega arith, all))
+near-declaration (PartEquals Closing) opens all w = absurd w
+near-declaration (Gap Version) opens all w = one (Declaration (Gap Version)) opens w refl (omega arith, all)
+near-declaration (BehindPart Version) opens all w = one (Declaration (BehindPart Version)) opens w refl (omega arith, all)
+near-declaration other opens all w = one (Declaration other) opens w refl (omega arith, all)
+
+near : (mode : Mode) (opens : List Open) → AllWhole opens → WellMode mode opens → is_behind mode ≡ false → Nearer mode opens
+near (Inside turn) opens all w e = near-turn turn opens all w.1
+near (Declaration d) opens all w e = near-declaration d opens all w
+near (Prolog (MiscComment n)) opens all w e =
+    let k = near-comment n w in one (Prolog (MiscComment n)) opens w k.0 (next-by (step_comment n (plan_comment n).0) (λ d. absurd (rw d at k.1)) (λ m d. rw d (omega (arith, rw d at k.1), all)) (λ u d. rw d (omega arith, all)))
+near (Epilog (MiscComment n)) opens all w e =
+    let k = near-comment n w in one (Epilog (MiscComment n)) opens w k.0 (next-by (step_comment n (plan_comment n).0) (λ d. absurd (rw d at k.1)) (λ m d. rw d (rw d at k.1, all)) (λ u d. rw d (omega arith, all)))
+near (Epilog Blanks) opens all w e = absurd (cc)
+near other opens all w e = one other opens w refl (omega arith, all)
+
 abbrev pub Alive : Mode → List Open → Type 0
 Alive mode opens = (w : List ℕ) × Allowed w × Ends mode opens w
 
--- a token, and what comes behind it
-abbrev pub Lands : Given → Type 0
-Lands g = Alive (landing g) g.opens
+alive-by : (n : ℕ) (mode : Mode) (opens : List Open) → AllWhole opens → WellMode mode opens → (plan mode opens).1 ≤ n → Alive mode opens
+alive-by zero mode opens all w few = cases (is_behind mode) (λ e. ([], tt, (mode, opens, refl, e))) (λ e. absurd (omega (arith, few, (near mode opens all w e).5)))
+alive-by (suc n) mode opens all w few = cases (is_behind mode) (λ e. ([], tt, (mode, opens, refl, e))) (λ e.
+    let k = near mode opens all w e in
+    let r = alive-by n k.1 k.2 k.6 k.7 (omega (arith, few, k.5)) in
+    let t = r.2 in
+    (k.0 ++ r.0, allowed-append k.0 r.0 k.3 r.1, (t.0, t.1, steps-then P k.0 r.0 (mode, opens) (k.1, k.2) (t.0, t.1) k.4 t.2, t.3)))
 
-ends-turn : (turn : Turn) (opens : List Open) → Can (T opens) turn Lands → Alive (Inside turn) opens
-ends-turn turn opens (w, g, ok, t, (v, all, (m, o, r, e))) = (w ++ v, allowed-append w v ok all, (m, o, steps-then P w v (Inside turn, opens) (landing g, g.opens) (m, o) (takes-run w turn opens g t) r, e))
-
-module _ (opens : List Open) (here : Lands (given Ended opens (Content 0))) where
-  can-shut : Can (T opens) Slashed Lands
-  can-shut = go-over (T opens) Lands Slashed 62 (given Shut opens (Content 0)) refl refl here
-
-  can-note : (n : ℕ) → n ≤ 3 → Can (T opens) (Comment n) Lands
-  can-note n few = can-done step_comment (T opens) Comment (λ over. Done (given Commented opens (Content 0))) (λ m c. refl) Any Lands n (λ a u. (given Commented opens (Content 0), refl, here)) (can-comment n few)
-
-  can-text : (n : ℕ) (text : List ℕ) → n ≤ 2 → Can (T opens) (Section n text) Lands
-  can-text n text few = can-done sec (T opens) (λ s. Section s.0 s.1) (λ said. Done (given (SectionOf said) opens (Content 0))) (λ m c. refl) Any Lands (n, text) (λ said u. (given (SectionOf said) opens (Content 0), refl, here)) (can-section n text few)
-
-  can-start : (t : Tagging) → WellTag t → Can (T opens) (StartTag t) Lands
-  can-start t w =
-      can-done step_tag (T opens) StartTag (λ found. Done (tag_given opens found)) (λ m c. refl) Slashing Lands t
-      (λ found e. (tag_given opens found, refl, subst (λ x. Lands (tag_given opens (found.0, x))) (sym e) (slashed found.0 opens can-shut))) (can-tag t w) where
-        slashed : (tag : Tag) (os : List Open) → Can (T os) Slashed Lands → Lands (given (Slash tag) os Slashed)
-        slashed tag [] c = ends-turn Slashed [] c
-        slashed tag (o ∷ outer) c = ends-turn Slashed (o ∷ outer) c
-
-  can-cdata : (left : List ℕ) → Ascii left → Can (T opens) (Cdata left) Lands
-  can-cdata left a = go-word (T opens) Lands Cdata (λ b left. if-so (b == b) (On (Cdata left)) Stuck (same-byte b)) left a (go-on (T opens) Lands (Cdata []) (Section 1 (encode_utf8 93)) 93 refl refl (can-text 1 (encode_utf8 93) (omega arith)))
-
-can-close : (o : Open) (outer : List Open) (n : ℕ) → Lands (given Ended outer (Content 0)) → Spell (drop n (name_bytes o.name)) → Can (T (o ∷ outer)) (EndTag n) Lands
-can-close o outer n l s =
-    let e = end-said o outer s.text n (bytes_of s.text ++ 62 ∷ []) [] s.spelled s.allowed refl (then-says (Many (Byte is_blank)) (λ bs. tt) [] tt [] refl refl) in
-    (e.text, given Ended outer (Content 0), e.allowed, e.takes, l)
-
-can-less : (o : Open) (outer : List Open) → Lands (given Ended outer (Content 0)) → WholeName o.name → Can (T (o ∷ outer)) Less Lands
-can-less o outer l s = go-on (T (o ∷ outer)) Lands Less (EndTag 0) 47 refl refl (can-close o outer 0 l s)
-
-can-content : (n : ℕ) (o : Open) (outer : List Open) → Lands (given Ended outer (Content 0)) → WholeName o.name → Can (T (o ∷ outer)) (Content n) Lands
-can-content n o outer l s = go-on (T (o ∷ outer)) Lands (Content n) Less 60 refl refl (can-less o outer l s)
-
-land : (opens : List Open) → AllWhole opens → Lands (given Ended opens (Content 0))
-land [] all = ([], tt, (Epilog Blanks, [], refl, refl))
-land (o ∷ outer) all = ends-turn (Content 0) (o ∷ outer) (can-content 0 o outer (land outer all.1) all.0)
-
-can-turn : (turn : Turn) (opens : List Open) → AllWhole opens → WellTurn opens turn → Can (T opens) turn Lands
-can-turn (Content n) (o ∷ outer) all w = can-content n o outer (land outer all.1) all.0
-can-turn Less (o ∷ outer) all w = can-less o outer (land outer all.1) all.0
-can-turn Bang opens all w = go-on (T opens) Lands Bang Dash 45 refl refl (go-on (T opens) Lands Dash (Comment 0) 45 refl refl (can-note opens (land opens all) 0 (omega arith)))
-can-turn Dash opens all w = go-on (T opens) Lands Dash (Comment 0) 45 refl refl (can-note opens (land opens all) 0 (omega arith))
-can-turn (Comment n) opens all w = can-note opens (land opens all) n w.1
-can-turn (Cdata left) opens all w = can-cdata opens (land opens all) left w.1
-can-turn (Section n text) opens all w = can-text opens (land opens all) n text w.1
-can-turn (Reference r) opens all w =
-    can-done R (T opens) Reference (λ code. Done (given (Referred code) opens (Content 0))) (λ m c. refl) Any Lands r (λ code u. (given (Referred code) opens (Content 0), refl, land opens all)) (can-reference r w.1)
-can-turn (StartTag t) opens all w = can-start opens (land opens all) t w
-can-turn Slashed opens all w = can-shut opens (land opens all)
-can-turn (EndTag n) (o ∷ outer) all w = can-close o outer n (land outer all.1) w
-can-turn (Content n) [] all w = absurd w.0
-can-turn other [] all w = absurd w
-
-can-within : (turn : Turn) (opens : List Open) → AllWhole opens → WellTurn opens turn → Alive (Inside turn) opens
-can-within turn opens all w = ends-turn turn opens (can-turn turn opens all w)
-
--- by one character
-go : (c : ℕ) → is_allowed c ≡ true → (mode m : Mode) (opens o : List Open) (us : List Token) → step mode opens c ≡ To m o us → Alive m o → Alive mode opens
-go c ok mode m opens o us e (w, a, (n, p, h, z)) = (c ∷ w, (ok, a), (n, p, subst (λ v. comes (place v) (λ x. Steps P x w (n, p)) (λ u. ⊥)) (sym e) h, z))
-
--- before the root and behind it
-less-alive : Alive (Prolog MiscLess) []
-less-alive = go 97 refl (Prolog MiscLess) (Inside (StartTag (Name (name_begun 97)))) [] [] [] refl (ends-turn (StartTag (Name (name_begun 97))) [] (can-start [] (land [] tt) (Name (name_begun 97)) tt))
-
-alive-blanks : Alive (Prolog Blanks) []
-alive-blanks = go 60 refl (Prolog Blanks) (Prolog MiscLess) [] [] [] refl less-alive
-
-module _ (mode : Misc → Mode) (moves : (m n : Misc) (c : ℕ) → misc_step m c ≡ On n → step (mode m) [] c ≡ To (mode n) [] []) (blanks : Alive (mode Blanks) []) where
-  on-misc : (c : ℕ) → is_allowed c ≡ true → (m n : Misc) → misc_step m c ≡ On n → Alive (mode n) [] → Alive (mode m) []
-  on-misc c ok m n e a = go c ok (mode m) (mode n) [] [] [] (moves m n c e) a
-
-  alive-comment : (n : ℕ) → n ≤ 3 → Alive (mode (MiscComment n)) []
-  alive-comment zero few = on-misc 45 refl (MiscComment 0) (MiscComment 1) refl (on-misc 45 refl (MiscComment 1) (MiscComment 2) refl (on-misc 62 refl (MiscComment 2) Blanks refl blanks))
-  alive-comment (suc zero) few = on-misc 45 refl (MiscComment 1) (MiscComment 2) refl (on-misc 62 refl (MiscComment 2) Blanks refl blanks)
-  alive-comment (suc (suc (suc (suc n)))) few = absurd (omega (arith, few))
-  alive-comment other few = on-misc 62 refl (MiscComment other) Blanks refl blanks
-
-  alive-dash : Alive (mode MiscDash) []
-  alive-dash = on-misc 45 refl MiscDash (MiscComment 0) refl (alive-comment 0 (omega arith))
-
-  alive-misc : (m : Misc) → WellMisc m → Alive (mode m) []
-  alive-misc Blanks w = blanks
-  alive-misc MiscLess w = on-misc 33 refl MiscLess MiscBang refl (on-misc 45 refl MiscBang MiscDash refl alive-dash)
-  alive-misc MiscBang w = on-misc 45 refl MiscBang MiscDash refl alive-dash
-  alive-misc MiscDash w = alive-dash
-  alive-misc (MiscComment n) w = alive-comment n w
-
-alive-prolog : (m : Misc) → WellMisc m → Alive (Prolog m) []
-alive-prolog m w = alive-misc Prolog (λ m n c e. ap (λ x. prolog_move [] x c) e) alive-blanks m w
-
--- the declaration
-on : (c : ℕ) → is_allowed c ≡ true → (d e : Declaring) → step_declaration d c ≡ On e → Alive (Declaration e) [] → Alive (Declaration d) []
-on c ok d e f a = go c ok (Declaration d) (Declaration e) [] [] [] (ap (declaration_move []) f) a
-
-alive-question : Alive (Declaration Question) []
-alive-question = go 62 refl (Declaration Question) (Prolog Blanks) [] [] [] refl alive-blanks
-
-alive-behind : (stage : Stage) → Alive (Declaration (BehindPart (behind stage))) []
-alive-behind Version = on 63 refl (BehindPart Encoding) Question refl alive-question
-alive-behind Encoding = on 63 refl (BehindPart Standalone) Question refl alive-question
-alive-behind other = on 63 refl (BehindPart Closing) Question refl alive-question
-
-alive-letters : (stage : Stage) (quote : ℕ) (left : List ℕ) → is_quote quote ≡ true → WellWord stage left → Alive (Declaration (PartValue stage quote left)) []
-alive-letters stage quote [] q w =
-    on quote (grind (arith, nat_tests)) (PartValue stage quote []) (BehindPart (behind stage)) (if-so (quote == quote) (On (BehindPart (behind stage))) Stuck (same-byte quote)) (alive-behind stage)
-alive-letters stage quote (b ∷ left) q w =
-    on b (ascii-first b left w.0).1 (PartValue stage quote (b ∷ left)) (PartValue stage quote left) (if-so (is_letter stage b b) (On (PartValue stage quote left)) Stuck (and-first (is_letter stage b b) (list_all (λ b. is_letter stage b b) left) w.1))
-    (alive-letters stage quote left q (ascii-rest b left w.0, and-second (is_letter stage b b) (list_all (λ b. is_letter stage b b) left) w.1))
-
-alive-either : (quote : ℕ) → is_quote quote ≡ true → Alive (Declaration (YesOrNo quote)) []
-alive-either quote q = on 121 refl (YesOrNo quote) (PartValue Standalone quote (codes "es")) refl (alive-letters Standalone quote (codes "es") q (refl, refl))
-
-alive-equals : (stage : Stage) → Real stage → Alive (Declaration (PartEquals stage)) []
-alive-equals Version r =
-    on 34 refl (PartEquals Version) (PartValue Version 34 (codes "1.0")) refl (alive-letters Version 34 (codes "1.0") refl (refl, refl))
-alive-equals Encoding r =
-    on 34 refl (PartEquals Encoding) (PartValue Encoding 34 (codes "utf-8")) refl
-    (alive-letters Encoding 34 (codes "utf-8") refl (refl, refl))
-alive-equals Standalone r = on 34 refl (PartEquals Standalone) (YesOrNo 34) refl (alive-either 34 refl)
-alive-equals Closing r = absurd r
-
-alive-name : (stage : Stage) (left : List ℕ) → Real stage → Ascii left → Alive (Declaration (PartName stage left)) []
-alive-name stage [] r a = on 61 refl (PartName stage []) (PartEquals stage) refl (alive-equals stage r)
-alive-name stage (b ∷ left) r a = on b (ascii-first b left a).1 (PartName stage (b ∷ left)) (PartName stage left) (if-so (b == b) (On (PartName stage left)) Stuck (same-byte b)) (alive-name stage left r (ascii-rest b left a))
-
-alive-gap : (stage : Stage) → Alive (Declaration (Gap stage)) []
-alive-gap Version =
-    on 118 refl (Gap Version) (PartName Version (codes "ersion")) refl
-    (alive-name Version (codes "ersion") tt refl)
-alive-gap other = on 63 refl (Gap other) Question refl alive-question
-
-alive-xml : (left : List ℕ) → Ascii left → Alive (Declaration (Xml left)) []
-alive-xml [] a = on 32 refl (Xml []) (Gap Version) refl (alive-gap Version)
-alive-xml (b ∷ left) a = on b (ascii-first b left a).1 (Xml (b ∷ left)) (Xml left) (if-so (b == b) (On (Xml left)) Stuck (same-byte b)) (alive-xml left (ascii-rest b left a))
-
-alive-declaration : (d : Declaring) → WellDeclaring d → Alive (Declaration d) []
-alive-declaration (Xml left) w = alive-xml left w
-alive-declaration (Gap stage) w = alive-gap stage
-alive-declaration (PartName stage left) w = alive-name stage left w.0 w.1
-alive-declaration (PartEquals stage) w = alive-equals stage w
-alive-declaration (PartValue stage quote left) w = alive-letters stage quote left w.0 w.1
-alive-declaration (YesOrNo quote) w = alive-either quote w
-alive-declaration (BehindPart stage) w = on 32 refl (BehindPart stage) (Gap stage) refl (alive-gap stage)
-alive-declaration Question w = alive-question
-
--- The whole.
-alive-none : (mode : Mode) → WellMode mode [] → Alive mode []
-alive-none First w = go 33 refl First (Prolog MiscBang) [] [] [] refl (alive-prolog MiscBang tt)
-alive-none (Declaration d) w = alive-declaration d w
-alive-none (Prolog m) w = alive-prolog m w
-alive-none (Inside turn) w = can-within turn [] w.0 w.1
-alive-none (Epilog m) w = alive-misc Epilog (λ m n c e. ap (epilog_move []) e) ([], tt, (Epilog Blanks, [], refl, refl)) m w
-alive-none other w = go 32 refl other (Prolog Blanks) [] [] [] refl alive-blanks
-
-pub alive : (mode : Mode) (opens : List Open) (text : List ℕ) → InMode mode opens text → WellMode mode opens → Alive mode opens
-alive (Inside turn) opens text i w = can-within turn opens w.0 w.1
-alive mode opens text i w = subst (Alive mode) (sym i.0) (alive-none mode (subst (WellMode mode) i.0 w))
+pub alive : (mode : Mode) (opens : List Open) → AllWhole opens → WellMode mode opens → Alive mode opens
+alive mode opens all w = alive-by (plan mode opens).1 mode opens all w (omega arith)

@@ -1,67 +1,11 @@
--- What is built of parts from the first to the last is what they say, nested from the last to the first.
-use Rattle.std.proofs.Common.{◌≡◌, ℕ, zero, suc, ◌+◌, ◌≤◌, Option, Bool, true, false, cond, List, [], ◌∷◌, ◌++◌, length, refl, sym, ap, subst, ◌∙◌, arith, append_assoc, append-nil}
-use Rattle.std.proofs.lemmas.Bool.Decides.{nat_tests}
-use Rattle.cds_markup.specs.declared.build.Builder.{Builder}
-use Rattle.cds_markup.specs.declared.build.Frame.{Frame}
-use Rattle.cds_markup.specs.declared.name.Name.{Name}
-use Rattle.cds_markup.specs.declared.name.Attr.{Attr}
-use Rattle.cds_markup.specs.declared.part.Part.{Part}
-use Rattle.cds_markup.specs.declared.part.Part.TheVariants.{Start, End, Run}
+-- What the parts of an element and of content say from the first to the last: what is built of them, and where children begin.
+use Rattle.std.proofs.Common.{◌≡◌, ◌==◌, ℕ, zero, suc, ◌+◌, ◌-◌, ◌≤◌, Bool, true, false, ◌&&◌, Some, None, cond, List, [], ◌∷◌, ◌++◌, length, slice_get, refl, sym, ap, subst, ◌∙◌, arith, append_assoc}
 use Rattle.cds_markup.specs.declared.tag.Declaration.{Declaration}
-use Rattle.cds_markup.specs.Grammar.{Leaf, Text, Reference, Section, Comment, Tree, EmptyElement, Full, Content, Nothing, LeafThen, TreeThen}
-use Rattle.cds_markup.specs.Namespaces.{declarations, is_empty}
-use Rattle.cds_markup.specs.Document.{Meaning, Element, Meanings, TextThen, ChildThen, End as Childless, joined}
-use Rattle.cds_markup.specs.Parts.{TreeParts, ContentParts, DocumentParts, Says, leaf_parts, nested, add_part}
-use Rattle.cds_markup.specs.Elements.{children_then}
-use Rattle.cds_markup.specs.Building.{state, state_of, and_text, built, builds, nothing_yet, built_as}
-use Rattle.cds_markup.specs.Taking.{Takes}
-use Rattle.cds_markup.proofs.Joining.{joined-more, joined-none}
-
--- what holds of parts holds with those of an element before them, where it does with each part: elements that stand in so many open ones
-module _ (n : ℕ) (F : ℕ → List Part → Type 0)
-    (start : (k at end : ℕ) (name : Name) (attrs : List Attr) (more : List Part) → n ≤ k → F (suc k) more → F k (Start at end name attrs ∷ more))
-    (end_of : (k at : ℕ) (more : List Part) → n ≤ k → F k more → F (suc k) (End at ∷ more))
-    (run : (k at : ℕ) (non_blank : Option ℕ) (text : List ℕ) (more : List Part) → F k more → F k (Run at non_blank text ∷ more)) where
-  leaf-walk : (leaf : Leaf) (at k : ℕ) (rest : List Part) → F k rest → F k (leaf_parts at leaf ++ rest)
-  leaf-walk (Text text) at k rest h = run k at _ _ rest h
-  leaf-walk (Reference c) at k rest h = run k at _ _ rest h
-  leaf-walk (Section text) at k rest h = run k at _ _ rest h
-  leaf-walk Comment at k rest h = h
-
-  same : (k : ℕ) (xs ys : List Part) → xs ≡ ys → F k ys → F k xs
-  same k xs ys e h = subst (F k) (sym e) h
-
-  mutual
-    pub tree-walk : (tree : Tree) (at : ℕ) (scopes : List (List Declaration)) (w : List ℕ) (ps rest : List Part) (k : ℕ) → n ≤ k → TreeParts tree at scopes w ps → F k rest → F k (ps ++ rest)
-    tree-walk (EmptyElement t) at scopes w ps rest k less (name, attrs, end, is, says, place, p) h =
-        same k (ps ++ rest) (Start at end name attrs ∷ End end ∷ rest) (ap (λ xs. xs ++ rest) p) (start k at end name attrs (End end ∷ rest) less (end_of k end rest less h))
-    tree-walk (Full t content) at scopes w ps rest k less (name, attrs, end, begin, inside, closing, inner, b, is, ends, says, place, others, p) h =
-        let last = at + length begin + length inside in
-        same k (ps ++ rest) (Start at end name attrs ∷ (inner ++ End last ∷ rest)) (ap (λ xs. xs ++ rest) p ∙ ap (λ xs. Start at end name attrs ∷ xs) (append_assoc inner (End last ∷ []) rest))
-        (start k at end name attrs (inner ++ End last ∷ rest) less
-        (content-walk content (at + length begin) (declarations t.attrs ∷ scopes) inside inner (End last ∷ rest) (suc k) (omega (arith, less)) others (end_of k last rest less h)))
-
-    pub content-walk : (c : Content) (at : ℕ) (scopes : List (List Declaration)) (w : List ℕ) (ps rest : List Part) (k : ℕ) → n ≤ k → ContentParts c at scopes w ps → F k rest → F k (ps ++ rest)
-    content-walk Nothing at scopes w ps rest k less (b, p) h = same k (ps ++ rest) rest (ap (λ xs. xs ++ rest) p) h
-    content-walk (LeafThen leaf more) at scopes w ps rest k less (front, back, behind, b, g, lone, others, p) h =
-        same k (ps ++ rest) (leaf_parts at leaf ++ (behind ++ rest)) (ap (λ xs. xs ++ rest) p ∙ append_assoc (leaf_parts at leaf) behind rest)
-        (leaf-walk leaf at k (behind ++ rest) (content-walk more (at + length front) scopes back behind rest k less others h))
-    content-walk (TreeThen tree more) at scopes w ps rest k less (front, back, first, behind, b, g, others, p) h =
-        same k (ps ++ rest) (first ++ (behind ++ rest)) (ap (λ xs. xs ++ rest) p ∙ append_assoc first behind rest)
-        (tree-walk tree at scopes front first (behind ++ rest) k less g (content-walk more (at + length front) scopes back behind rest k less others h))
-
--- parts of which each end is one of an element that is open, where so many are open before them
-abbrev pub Nest : ℕ → List Part → Type 0
-Nest n [] = Unit {0}
-Nest n (Start at end name attrs ∷ more) = Nest (suc n) more
-Nest zero (End at ∷ more) = ⊥
-Nest (suc n) (End at ∷ more) = Nest n more
-Nest n (Run at non_blank text ∷ more) = Nest n more
-
-pub document-nests : (bytes : List ℕ) (parts : List Part) → DocumentParts bytes parts → Nest 0 parts
-document-nests bytes parts d =
-    subst (Nest 0) (append-nil parts)
-    (tree-walk 0 Nest (λ k at end name attrs more less h. h) (λ k at more less h. h) (λ k at non_blank text more h. h) d.root (length d.prolog) [] d.element parts [] 0 (omega arith) d.is_element tt)
+use Rattle.cds_markup.proofs.Terms.{nested, nat_tests, append-nil, length-append, Part, End, Leaf, Grammar-comment, Tree, EmptyElement, Full, Inner, Nothing, LeafThen, TreeThen, is_text, begins_with_text, IsTree, IsContent, IsProlog, IsMisc, Tag, IsTag, IsStartTag, declarations, Meaning, Meanings, Element, TextThen, ChildThen, Childless, joined, leaf_says, meaning, meanings, TreeParts, ContentParts, leaf_parts, some-is, slice_get_within, Frame, State, state, and_text, closed_in, built, and_place, child_starts, root_start, elements_in, nodes_in, trees_in, StandsBehind, ChildStands, TakesAll as Takes, Child, nodes_of, children_then, and_node}
+use Rattle.cds_markup.proofs.NodesForm.{is-some, joined-more, joined-none, text-none}
+use Rattle.cds_markup.proofs.Standing.{parts-of}
+use Rattle.cds_markup.proofs.Ways.{then-of}
+use Rattle.cds_markup.proofs.Trails.{tree-is}
 
 -- children behind children
 children-end : (m : Meanings) → children_then m Childless ≡ m
@@ -75,98 +19,190 @@ children-twice (TextThen text m) n k = ap (TextThen text) (children-twice m n k)
 children-twice (ChildThen child m) n k = ap (ChildThen child) (children-twice m n k)
 
 text-end : (nodes : Meanings) (text : List ℕ) → and_text nodes text ≡ children_then nodes (joined text Childless)
-text-end nodes text = by (is_empty text) where
-  by : (t : Bool) → cond t nodes (children_then nodes (TextThen text Childless)) ≡ children_then nodes (cond t Childless (TextThen text Childless))
-  by true = sym (children-end nodes)
-  by false = refl
+text-end nodes [] = sym (children-end nodes)
+text-end nodes (x ∷ text) = simp is-some
 
-text-child : (nodes : Meanings) (text : List ℕ) (child : Meaning) (m : Meanings) → children_then (and_text nodes text) (ChildThen child m) ≡ children_then nodes (joined text (ChildThen child m))
-text-child nodes text child m = by (is_empty text) where
-  by : (t : Bool) → children_then (cond t nodes (children_then nodes (TextThen text Childless))) (ChildThen child m) ≡ children_then nodes (cond t (ChildThen child m) (TextThen text (ChildThen child m)))
-  by true = refl
-  by false = children-twice nodes (TextThen text Childless) (ChildThen child m)
+text-child : (nodes : Meanings) (text : List ℕ) (child : Meaning) (m : Meanings) → children_then (and_node (and_text nodes text) (Child child)) m ≡ children_then nodes (joined text (ChildThen child m))
+text-child nodes [] child m = children-twice nodes (ChildThen child Childless) m
+text-child nodes (x ∷ text) child m = simp (is-some, children-twice)
 
--- what open elements come to, where these children are still to come in each
-abbrev up : List Frame → Meanings → List Meanings → Meanings
-up [] ms cs = ms
-up (f ∷ outer) ms [] = ms
-up (f ∷ outer) ms (c ∷ cs) = up outer (children_then f.before (ChildThen (Element f.name f.attrs ms) c)) cs
+-- where two elements are open or more, no part is the start of a child
+pub no-child : (n at : ℕ) (places : List ℕ) → 2 ≤ n → and_place (cond (n == 1) (Some at) None) places ≡ places
+no-child n at places h =
+    let no : (n == 1) ≡ false = grind (arith, nat_tests) in
+    rw no refl
 
-abbrev Comes : List Part → List Frame → Meanings → List ℕ → List Meanings → Type 0
-Comes parts frames nodes text [] = Unit {0}
-Comes parts frames nodes text (c ∷ cs) =
-    length cs ≡ length frames
-    → ((built (state frames nodes text) parts).frames ≡ [])
-    × (and_text (built (state frames nodes text) parts).nodes (built (state frames nodes text) parts).text ≡ up frames (children_then nodes (joined text c)) cs)
+one-less : (k : ℕ) (rest : List Part) → child_starts (k + 1 - 1) rest ≡ child_starts k rest
+one-less k rest = ap (λ n. child_starts n rest) (omega arith)
 
-no-less : {n : ℕ} → zero ≡ suc n → ⊥
-no-less e = omega arith
+pub record TreeTold (tree : Tree) (at : ℕ) (scopes : List (List Declaration)) (ps : List Part) : Type 0 where
+  pub says : Meaning
+  pub means : meaning tree scopes ≡ Some says
+  pub makes : (s : State) (rest : List Part) → built s (ps ++ rest) ≡ built (state s.frames (and_node (and_text s.nodes s.text) (Child says)) []) rest
+  pub nests : (rest : List Part) (siblings : Meanings) (outer : List Meanings) → nested rest ≡ siblings ∷ outer → nested (ps ++ rest) ≡ ChildThen says siblings ∷ outer
+  pub root : root_start ps ≡ Some at
+  pub many : length (child_starts 0 ps) ≡ length (elements_in (nodes_in says))
+  deep : (k : ℕ) (rest : List Part) → 2 ≤ k → child_starts k (ps ++ rest) ≡ child_starts k rest
+  one : (rest : List Part) → child_starts 1 (ps ++ rest) ≡ at ∷ child_starts 1 rest
 
-nothing-comes : (frames : List Frame) (nodes : Meanings) (text : List ℕ) → Comes [] frames nodes text (Childless ∷ [])
-nothing-comes [] nodes text h = (refl, text-end nodes text)
-nothing-comes (f ∷ outer) nodes text h = absurd (no-less h)
+pub record ContentTold (c : Inner) (scopes : List (List Declaration)) (ps : List Part) : Type 0 where
+  pub says : Meanings
+  pub means : meanings c scopes ≡ Some says
+  makes : (frames : List Frame) (nodes : Meanings) (text : List ℕ) (end : ℕ) (rest : List Part) → built (state frames nodes text) (ps ++ End end ∷ rest) ≡ built (closed_in frames (children_then nodes (joined text says))) rest
+  nests : (rest : List Part) (outer : List Meanings) → nested rest ≡ Childless ∷ outer → nested (ps ++ rest) ≡ says ∷ outer
+  many : (rest : List Part) → length (child_starts 1 (ps ++ rest)) ≡ length (elements_in (nodes_of says)) + length (child_starts 1 rest)
+  deep : (k : ℕ) (rest : List Part) → 2 ≤ k → child_starts k (ps ++ rest) ≡ child_starts k rest
 
-run-comes : (at : ℕ) (non_blank : _) (more : List ℕ) (rest : List Part) (frames : List Frame) (nodes : Meanings) (text : List ℕ) (cs : List Meanings) → Comes rest frames nodes (text ++ more) cs
-    → Comes (Run at non_blank more ∷ rest) frames nodes text (add_part (Run at non_blank more) cs)
-run-comes at non_blank more rest frames nodes text [] again = tt
-run-comes at non_blank more rest frames nodes text (c ∷ cs) again = λ h. let r = again h in (r.0, r.1 ∙ ap (λ m. up frames (children_then nodes m) cs) (sym (joined-more text more c)))
+leaf-makes : (leaf : Leaf) (at : ℕ) (frames : List Frame) (nodes : Meanings) (text : List ℕ) (rest : List Part) → built (state frames nodes text) (leaf_parts at leaf ++ rest) ≡ built (state frames nodes (text ++ leaf_says leaf)) rest
+leaf-makes Grammar-comment at frames nodes text rest = ap (λ t. built (state frames nodes t) rest) (sym (append-nil text))
+leaf-makes other at frames nodes text rest = refl
 
-start-comes : (at end : ℕ) (name : Name) (attrs : List Attr) (rest : List Part) (frames : List Frame) (nodes : Meanings) (text : List ℕ) (cs : List Meanings)
-    → Comes rest (record { name = name; attrs = attrs; before = and_text nodes text } ∷ frames) Childless [] cs → Comes (Start at end name attrs ∷ rest) frames nodes text (add_part (Start at end name attrs) cs)
-start-comes at end name attrs rest frames nodes text [] again = tt
-start-comes at end name attrs rest frames nodes text (c ∷ []) again = tt
-start-comes at end name attrs rest frames nodes text (c ∷ s ∷ outer) again = λ h.
-    let r = again (ap suc h) in (
-      r.0,
-      r.1 ∙ ap (λ m. up frames (children_then (and_text nodes text) (ChildThen (Element name attrs m) s)) outer) (joined-none c) ∙ ap (λ m. up frames m outer) (text-child nodes text (Element name attrs c) s),
-    )
+leaf-nests : (leaf : Leaf) (at : ℕ) (rest : List Part) (children : Meanings) (outer : List Meanings) → nested rest ≡ children ∷ outer → nested (leaf_parts at leaf ++ rest) ≡ joined (leaf_says leaf) children ∷ outer
+leaf-nests Grammar-comment at rest children outer e = rw (e, joined-none children) refl
+leaf-nests other at rest children outer e = rw e refl
 
-end-comes : (at : ℕ) (rest : List Part) (f : Frame) (outer : List Frame) (nodes : Meanings) (text : List ℕ) (cs : List Meanings)
-    → Comes rest outer (children_then f.before (ChildThen (Element f.name f.attrs (and_text nodes text)) Childless)) [] cs → Comes (End at ∷ rest) (f ∷ outer) nodes text (add_part (End at) cs)
-end-comes at rest f outer nodes text [] again h = absurd (no-less h)
-end-comes at rest f outer nodes text (c ∷ cs) again h =
-    let r = again (omega (arith, h)) in
-    let child : Meaning = Element f.name f.attrs (and_text nodes text) in (
-      r.0,
-      r.1 ∙ ap (λ m. up outer (children_then (children_then f.before (ChildThen child Childless)) m) cs) (joined-none c)
-          ∙ ap (λ m. up outer m cs) (children-twice f.before (ChildThen child Childless) c)
-          ∙ ap (λ m. up outer (children_then f.before (ChildThen (Element f.name f.attrs m) c)) cs) (text-end nodes text),
-    )
+leaf-none : (leaf : Leaf) (at k : ℕ) (rest : List Part) → child_starts k (leaf_parts at leaf ++ rest) ≡ child_starts k rest
+leaf-none Grammar-comment at k rest = refl
+leaf-none other at k rest = refl
 
-all-comes : (parts : List Part) (frames : List Frame) (nodes : Meanings) (text : List ℕ) → Nest (length frames) parts → Comes parts frames nodes text (nested parts)
-all-comes [] frames nodes text h = nothing-comes frames nodes text
-all-comes (Run at non_blank more ∷ rest) frames nodes text h = run-comes at non_blank more rest frames nodes text (nested rest) (all-comes rest frames nodes (text ++ more) h)
-all-comes (Start at end name attrs ∷ rest) frames nodes text h =
-    start-comes at end name attrs rest frames nodes text (nested rest) (all-comes rest (record { name = name; attrs = attrs; before = and_text nodes text } ∷ frames) Childless [] h)
-all-comes (End at ∷ rest) [] nodes text h = absurd h
-all-comes (End at ∷ rest) (f ∷ outer) nodes text h =
-    end-comes at rest f outer nodes text (nested rest) (all-comes rest outer (children_then f.before (ChildThen (Element f.name f.attrs (and_text nodes text)) Childless)) [] h)
+mutual
+  pub tree-told : (tree : Tree) (at : ℕ) (scopes : List (List Declaration)) (w : List ℕ) (ps : List Part) → TreeParts tree at scopes w ps → TreeTold tree at scopes ps
+  tree-told (EmptyElement t) at scopes w ps (name, attrs, end, is, says, place, p) = record {
+    says = Element name attrs Childless;
+    means = rw says refl;
+    makes = λ s rest. rw p refl;
+    nests = λ rest siblings outer e. rw (p, e) refl;
+    root = rw p refl;
+    many = rw p refl;
+    deep = λ k rest two. rw (p, no-child k at (child_starts (k + 1 - 1) rest) two) (one-less k rest);
+    one = λ rest. rw p refl;
+  }
+  tree-told (Full t content) at scopes w ps (name, attrs, end, start, inside, closing, inner, b, is, ends, says, place, others, p) =
+      let last : ℕ = at + length start + length inside in
+      let c = content-told content (at + length start) (declarations t.attrs ∷ scopes) inside inner others in
+      let split = append_assoc inner (End last ∷ []) in
+      record {
+        says = Element name attrs c.says;
+        means = rw (says, c.means) refl;
+        makes = λ s rest. rw (p, split rest) (c.makes (record { name = name; attrs = attrs; before = and_text s.nodes s.text } ∷ s.frames) Childless [] last rest ∙ rw (joined-none c.says) refl);
+        nests = λ rest siblings outer e. rw (p, split rest, c.nests (End last ∷ rest) (siblings ∷ outer) (rw e refl)) refl;
+        root = rw p refl;
+        many = rw p (c.many (End last ∷ []) ∙ omega arith);
+        deep = λ k rest two. rw (p, split rest, no-child k at (child_starts (k + 1) (inner ++ End last ∷ rest)) two) (c.deep (k + 1) (End last ∷ rest) (omega arith) ∙ one-less k rest);
+        one = λ rest. rw (p, split rest) (ap (λ xs. at ∷ xs) (c.deep 2 (End last ∷ rest) (omega arith)));
+      }
 
--- an element alone is the last node, and no text stands behind it
-alone : (nodes : Meanings) (text : List ℕ) (element : Meaning) → and_text nodes text ≡ ChildThen element Childless → (nodes ≡ ChildThen element Childless) × (text ≡ [])
-alone nodes [] element e = (e, refl)
-alone nodes (b ∷ text) element e = absurd (by nodes (sym (text-end nodes (b ∷ text) ∙ ap (children_then nodes) (some b text)) ∙ e)) where
-  some : (b : ℕ) (text : List ℕ) → joined (b ∷ text) Childless ≡ TextThen (b ∷ text) Childless
-  some b text = let no : is_empty (b ∷ text) ≡ false = grind (arith, nat_tests) in ap (λ t. cond t Childless (TextThen (b ∷ text) Childless)) no
+  pub content-told : (c : Inner) (at : ℕ) (scopes : List (List Declaration)) (w : List ℕ) (ps : List Part) → ContentParts c at scopes w ps → ContentTold c scopes ps
+  content-told Nothing at scopes w ps (b, p) = record {
+    says = Childless;
+    means = refl;
+    makes = λ frames nodes text end rest. rw p (ap (λ ms. built (closed_in frames ms) rest) (text-end nodes text));
+    nests = λ rest outer e. rw p e;
+    many = λ rest. rw p (omega arith);
+    deep = λ k rest two. rw p refl;
+  }
+  content-told (LeafThen leaf more) at scopes w ps (front, back, behind, b, g, lone, others, p) =
+      let m = content-told more (at + length front) scopes back behind others in
+      let text = leaf_says leaf in
+      let split = append_assoc (leaf_parts at leaf) behind in
+      record {
+        says = joined text m.says;
+        means = rw m.means refl;
+        makes = λ frames nodes so_far end rest. rw (p, split (End end ∷ rest)) (leaf-makes leaf at frames nodes so_far (behind ++ End end ∷ rest) ∙ m.makes frames nodes (so_far ++ text) end rest ∙ rw (joined-more so_far text m.says) refl);
+        nests = λ rest outer e. rw (p, split rest) (leaf-nests leaf at (behind ++ rest) m.says outer (m.nests rest outer e));
+        many = λ rest. rw (p, split rest, leaf-none leaf at 1 (behind ++ rest), text-none text m.says) (m.many rest);
+        deep = λ k rest two. rw (p, split rest) (leaf-none leaf at k (behind ++ rest) ∙ m.deep k rest two);
+      }
+  content-told (TreeThen tree more) at scopes w ps (front, back, first, behind, b, g, others, p) =
+      let t = tree-told tree at scopes front first g in
+      let m = content-told more (at + length front) scopes back behind others in
+      let split = append_assoc first behind in
+      record {
+        says = ChildThen t.says m.says;
+        means = rw (t.means, m.means) refl;
+        makes = λ frames nodes text end rest.
+            rw (p, split (End end ∷ rest)) (t.makes (state frames nodes text) (behind ++ End end ∷ rest) ∙ m.makes frames (and_node (and_text nodes text) (Child t.says)) [] end rest
+            ∙ rw (joined-none m.says, text-child nodes text t.says m.says) refl);
+        nests = λ rest outer e. rw (p, split rest) (t.nests (behind ++ rest) m.says outer (m.nests rest outer e));
+        many = λ rest. rw (p, split rest, t.one (behind ++ rest)) (omega (arith, m.many rest));
+        deep = λ k rest two. rw (p, split rest) (t.deep k (behind ++ rest) two ∙ m.deep k rest two);
+      }
 
-  last : (m : Meanings) → children_then m (TextThen (b ∷ text) Childless) ≡ Childless → ⊥
-  last Childless e = absurd (cc)
-  last (TextThen t m) e = absurd (cc)
-  last (ChildThen c m) e = absurd (cc)
+-- nothing stands before the root and behind it
+pub no-misc : IsMisc [] tt
+no-misc = then-of [] [] [] refl refl (refl, refl)
 
-  by : (m : Meanings) → children_then m (TextThen (b ∷ text) Childless) ≡ ChildThen element Childless → ⊥
-  by Childless e = absurd (cc)
-  by (TextThen t m) e = absurd (cc)
-  by (ChildThen c m) e = let more : children_then m (TextThen (b ∷ text) Childless) ≡ Childless = cc in last m more
+pub no-prolog : IsProlog [] tt
+no-prolog = then-of [] [] None refl refl (then-of [] [] None refl refl no-misc)
 
-pub says-built : (parts : List Part) (element : Meaning) → Nest 0 parts → Says parts element → built nothing_yet parts ≡ built_as element
-says-built parts element h says =
-    let c = subst (Comes parts [] Childless []) says (all-comes parts [] Childless [] h) refl in
-    let s = built nothing_yet parts in
-    let a = alone s.nodes s.text element c.1 in
-    ap (λ frames. state frames s.nodes s.text) c.0 ∙ ap (λ nodes. state [] nodes s.text) a.0 ∙ ap (state [] (ChildThen element Childless)) a.1
+-- what stands somewhere begins with its sign
+pub start-parts : (w : List ℕ) (t : Tag) → IsStartTag w t → (u : List ℕ) × (w ≡ 60 ∷ (u ++ 62 ∷ [])) × IsTag u t
+start-parts w t g = let p = parts-of (62 ∷ []) w t g in (p.inside, p.spelled, p.is)
 
--- what a builder takes
-pub takes-built : (before now : Builder) (parts : List Part) → Takes builds (λ b. false) before parts now → state_of now ≡ built (state_of before) parts
-takes-built before now [] e = ap state_of e
-takes-built before now (part ∷ more) (mid, one, rest) = takes-built mid now more rest ∙ ap (λ s. built s more) one
+pub tree-first : (tree : Tree) (w : List ℕ) → IsTree tree w → (v : List ℕ) × (w ≡ 60 ∷ v)
+tree-first (EmptyElement t) w g = let b = parts-of (47 ∷ 62 ∷ []) w t g in (b.inside ++ 47 ∷ 62 ∷ [], b.spelled)
+tree-first (Full t content) w (start, inside, closing, e, is, others, ends) =
+    let b = start-parts start t is in ((b.0 ++ 62 ∷ []) ++ (inside ++ closing), e ∙ ap (λ xs. xs ++ (inside ++ closing)) b.1)
+
+abbrev pub stands-there : (bytes before w rest : List ℕ) (tree : Tree) (at : ℕ) → bytes ≡ before ++ (w ++ rest) → IsTree tree w → at ≡ length before → StandsBehind bytes before tree at
+stands-there bytes before w rest tree at e is place =
+    let first = tree-first tree w is in
+    record { after_sign = first.0; rest = rest; spelled = subst (λ (xs : List ℕ). bytes ≡ before ++ (xs ++ rest)) first.1 e; is_tree = subst (IsTree tree) first.1 is; place = place }
+
+still-apart : (t u v : Bool) → (t && u) ≡ false → (u ≡ false → v ≡ false) → (t && v) ≡ false
+still-apart false u v h f = refl
+still-apart true u v h f = f h
+
+module _ (bytes prolog start : List ℕ) (root : Tag) (element : Meaning) (is_prolog : IsProlog prolog tt) (is_start : IsStartTag start root) where
+  -- a child of the root is found in what is left of its content, behind what stood before
+  child-found : (c : Inner) (w : List ℕ) (at : ℕ) (ps rest : List Part) → ContentParts c at (declarations root.attrs ∷ []) w ps → child_starts 1 rest ≡ []
+      → (before behind : List ℕ) → bytes ≡ (prolog ++ (start ++ before)) ++ (w ++ behind) → at ≡ length (prolog ++ (start ++ before))
+      → (ahead : Inner → Inner) (count : ℕ) → ((x : Inner) (v : List ℕ) → IsContent x v → (begins_with_text c ≡ false → begins_with_text x ≡ false) → IsContent (ahead x) (before ++ v) × (trees_in (ahead x) ≡ trees_in x + count))
+      → ((j : ℕ) (m : Meanings) → meanings c (declarations root.attrs ∷ []) ≡ Some m → slice_get (elements_in (nodes_of m)) j ≡ slice_get (elements_in (nodes_in element)) (j + count))
+      → (number k place : ℕ) → number ≡ k + count → slice_get (child_starts 1 (ps ++ rest)) k ≡ Some place → ChildStands bytes element number place
+  child-found Nothing w at ps rest (b, p) none before behind spelled here ahead count prior among number k place is e = absurd (omega (arith, slice_get_within [] k place (rw (p, none) at e)))
+  child-found (LeafThen leaf more) w at ps rest (front, back, later, b, g, lone, others, p) none before behind spelled here ahead count prior among number k place is e =
+      child-found more back (at + length front) later rest others none (before ++ front) behind (rw (spelled, b) (simp append_assoc)) (omega (arith, here, length-append {A = ℕ}))
+      (λ x. ahead (LeafThen leaf x)) count
+      (λ x v ix begins. rw (append_assoc before front v) (prior (LeafThen leaf x) (front ++ v) (front, v, refl, g, ix, still-apart (is_text leaf) (begins_with_text more) (begins_with_text x) lone begins) (λ h. h)))
+      (λ j m f. rw (← (text-none (leaf_says leaf) m)) (among j (joined (leaf_says leaf) m) (rw f refl)))
+      number k place is (rw (p, append_assoc (leaf_parts at leaf) later rest, leaf-none leaf at 1 (later ++ rest)) at e)
+  child-found (TreeThen tree more) w at ps rest (front, back, first, later, b, g, others, p) none before behind spelled here ahead count prior among number zero place is e =
+      let scopes = declarations root.attrs ∷ [] in
+      let t = tree-told tree at scopes front first g in
+      let m = content-told more (at + length front) scopes back later others in
+      let o = prior Nothing [] refl (λ h. refl) in
+      let same : at ≡ place = some-is (rw (p, append_assoc first later rest, t.one (later ++ rest)) at e) in
+      record {
+        root = root;
+        child = tree;
+        before = prolog ++ (start ++ before);
+        says = t.says;
+        stands = stands-there bytes (prolog ++ (start ++ before)) front (back ++ behind) tree place (rw (spelled, b) (simp append_assoc)) (tree-is tree at scopes front first g) (sym same ∙ here);
+        opens = (prolog, start, before, ahead Nothing, refl, is_prolog, is_start, rw (append-nil before) at o.0);
+        so_many = omega (arith, o.1, is);
+        means = t.means;
+        among = rw is (sym (among zero (ChildThen t.says m.says) (rw (t.means, m.means) refl)));
+      }
+  child-found (TreeThen tree more) w at ps rest (front, back, first, later, b, g, others, p) none before behind spelled here ahead count prior among number (suc k) place is e =
+      let scopes = declarations root.attrs ∷ [] in
+      let t = tree-told tree at scopes front first g in
+      child-found more back (at + length front) later rest others none (before ++ front) behind (rw (spelled, b) (simp append_assoc)) (omega (arith, here, length-append {A = ℕ}))
+      (λ x. ahead (TreeThen tree x)) (count + 1)
+      (λ x v ix begins. let o = prior (TreeThen tree x) (front ++ v) (front, v, refl, tree-is tree at scopes front first g, ix) (λ h. refl) in (rw (append_assoc before front v) o.0, omega (arith, o.1)))
+      (λ j m f. among (suc j) (ChildThen t.says m) (rw (t.means, f) refl) ∙ ap (slice_get (elements_in (nodes_in element))) (omega arith))
+      number k place (omega (arith, is)) (rw (p, append_assoc first later rest, t.one (later ++ rest)) at e)
+
+pub child-in : (bytes prolog w epilog : List ℕ) (tree : Tree) (ps : List Part) (number place : ℕ) (element : Meaning) → TreeParts tree (length prolog) [] w ps → IsProlog prolog tt
+    → bytes ≡ prolog ++ (w ++ epilog) → meaning tree [] ≡ Some element → slice_get (child_starts 0 ps) number ≡ Some place → ChildStands bytes element number place
+child-in bytes prolog w epilog (EmptyElement t) ps number place element (name, attrs, end, is, says, place_is, p) is_prolog e m s = absurd (omega (arith, slice_get_within [] number place (rw p at s)))
+child-in bytes prolog w epilog (Full t content) ps number place element (name, attrs, end, start, inside, closing, inner, b, is, ends, says, place_is, others, p) is_prolog e m s =
+    child-found bytes prolog start t element is_prolog is content inside (length prolog + length start) inner (End (length prolog + length start + length inside) ∷ []) others refl [] (closing ++ epilog)
+    (rw (e, b) (simp append_assoc)) (omega (arith, length-append prolog (start ++ []), length-append start [])) (λ x. x) 0 (λ x v ix begins. (ix, omega arith))
+    (λ j ms f. let same : Element name attrs ms ≡ element = some-is (rw (says, f) at m) in rw (← same) (ap (slice_get (elements_in (nodes_of ms))) (omega arith))) number number place (omega arith) (rw p at s)
+
+-- what is taken of parts is all of them
+pub takes-all : {S T : Type 0} (took : S → Part → S → Type 0) (seen : S → T) (all : T → List Part → T) → ((t : T) → all t [] ≡ t) → ((a b : S) (part : Part) (more : List Part) → took a part b → all (seen b) more ≡ all (seen a) (part ∷ more))
+    → (before now : S) (parts : List Part) → Takes took (λ s. false) before parts now → seen now ≡ all (seen before) parts
+takes-all took seen all none one before now [] e = ap seen e ∙ sym (none (seen before))
+takes-all took seen all none one before now (part ∷ more) (mid, first, rest) = takes-all took seen all none one mid now more rest ∙ one before mid part more first

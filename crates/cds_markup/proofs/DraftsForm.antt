@@ -1,116 +1,99 @@
--- What is written of a draft is a document of the element that it says.
-use Rattle.std.proofs.Common.{◌≡◌, ℕ, suc, ◌≤◌, List, [], ◌∷◌, ◌++◌, max, refl, sym, ap, subst, ◌∙◌, append-nil, codes, Option, Some, None}
-use Rattle.cds_base.specs.Escape.{escaped}
-use Rattle.cds_markup.specs.declared.name.Name.{Name}
-use Rattle.cds_markup.specs.declared.name.Attr.{Attr}
-use Rattle.cds_markup.specs.declared.tag.Tag.{Tag}
+-- What is written of a draft or of an element is a document that means it.
+use Rattle.std.proofs.Common.{◌≡◌, ℕ, suc, ◌^◌, ◌<◌, ◌≤◌, false, List, [], ◌∷◌, ◌++◌, length, max, Option, Some, None, refl, sym, ap, ◌∙◌, arith, length-append, append-nil, codes}
 use Rattle.cds_markup.specs.declared.tag.Declaration.{Declaration}
-use Rattle.cds_markup.specs.Grammar.{Tree, Full, TreeThen, IsTree, IsProlog, IsDeclaration, IsPseudoAttr, IsQuoted}
-use Rattle.cds_markup.specs.Form.{Word}
-use Rattle.cds_markup.specs.Namespaces.{declarations, tag_says}
-use Rattle.cds_markup.specs.Document.{Meaning, Meanings, Element, ChildThen, joined, of_tag, and_children, and_joined, meaning, meanings, depth, depths, most_open, Doc}
-use Rattle.cds_markup.specs.Elements.{nodes_of}
-use Rattle.cds_markup.specs.Children.{nodes_in}
-use Rattle.cds_markup.specs.Written.{written_start, written_end}
-use Rattle.cds_markup.specs.Drafts.{Draft, Drafts, Tagged, Done, TextThen, DraftThen, drafted, drafted_in, draft_says, drafts_say, draft_depth, drafts_depth, CanBeDraftTag, CanBeDraft, CanBeDrafts, CanBeDrafted, version_declared, DraftsAreRead}
+use Rattle.cds_markup.specs.Drafts.{Draft, Drafts, Tagged, Done, TextThen as DraftText, DraftThen, drafted, drafted_in, draft_says, drafts_say, draft_depth, drafts_depth, CanBeDraft, CanBeDrafts, version_declared, DraftsAreRead}
+use Rattle.cds_markup.specs.Written.{tag_of, written_start, written_end, written_in, written_inside, written, begins_with_text, CanBe, CanBeInside, element_depth, inside_depth, WrittenIsRead}
+use Rattle.cds_markup.proofs.Terms.{INPUT_LIMIT, is_empty, declarations, tag_says, Tag, Tree, Full, Nothing, TreeThen, IsTree, IsProlog, Meaning, Meanings, Element, Childless, TextThen, ChildThen, joined, of_tag, and_children, meaning, depth, most_open, Doc, escaped, space_of}
 use Rattle.cds_markup.proofs.Ways.{then-of, no-blanks}
-use Rattle.cds_markup.proofs.TagForm.{no-misc, no-prolog}
-use Rattle.cds_markup.proofs.WrittenTags.{a-space, a-equals, start-of, end-of}
-use Rattle.cds_markup.proofs.WrittenContent.{Means, nothing-means, text-before}
+use Rattle.cds_markup.proofs.Built.{no-misc, no-prolog}
+use Rattle.cds_markup.proofs.WrittenTags.{TagStands, a-space, a-equals, start-of, end-of, tag-starts, Means, text-before}
 
--- what a draft and drafts are
-record TreeSays (scopes : List (List Declaration)) (bytes : List ℕ) (element : Meaning) (deep : ℕ) : Type 0 where
+-- bytes that are an element by the grammar, what it says and how deep it is
+record TreeSays (scopes : List (List Declaration)) (bytes : List ℕ) (said : Option Meaning) (deep : ℕ) : Type 0 where
   tree : Tree
   is : IsTree tree bytes
-  means : meaning tree scopes ≡ Some element
+  means : meaning tree scopes ≡ said
   deep_is : depth tree ≡ deep
 
--- what is said is said of parts
-pub of-tag-parts : (said : Option (Name × List Attr)) (inside : Option Meanings) (element : Meaning) → of_tag said inside ≡ Some element → (ms : Meanings) × (inside ≡ Some ms) × (nodes_in element ≡ nodes_of ms)
-of-tag-parts None inside element e = absurd (cc)
-of-tag-parts (Some said) None element e = absurd (cc)
-of-tag-parts (Some said) (Some ms) element e = let same : Element said.0 said.1 ms ≡ element = cc in (ms, refl, ap nodes_in (sym same))
+nothing : (scopes : List (List Declaration)) → Means scopes [] (Some Childless) 0
+nothing scopes = record { content = Nothing; clean = tt; is = refl; means = refl; depth = refl }
 
-pub joined-parts : (text : List ℕ) (more : Option Meanings) (ms : Meanings) → and_joined text more ≡ Some ms → (rest : Meanings) × (more ≡ Some rest) × (joined text rest ≡ ms)
-joined-parts text None ms e = absurd (cc)
-joined-parts text (Some rest) ms e = (rest, refl, cc)
+tagged : (scopes : List (List Declaration)) (t : Tag) (inside : List ℕ) (said : Option Meanings) (deep : ℕ) → TagStands t → Means (declarations t.attrs ∷ scopes) inside said deep
+    → TreeSays scopes (written_start t ++ (inside ++ written_end t)) (of_tag (tag_says scopes t) said) (suc deep)
+tagged scopes t inside said deep can m = record { tree = Full t m.content; is = (written_start t, inside, written_end t, refl, start-of t can, m.is, end-of t); means = ap (of_tag (tag_says scopes t)) m.means; deep_is = ap suc m.depth }
 
-pub children-parts : (child : Option Meaning) (more : Option Meanings) (ms : Meanings) → and_children child more ≡ Some ms
-    → (first : Meaning) × (rest : Meanings) × (child ≡ Some first) × (more ≡ Some rest) × (ChildThen first rest ≡ ms)
-children-parts None more ms e = absurd (cc)
-children-parts (Some first) None ms e = absurd (cc)
-children-parts (Some first) (Some rest) ms e = (first, rest, refl, refl, cc)
-
-some-same : {a b : Meanings} → Some a ≡ Some b → a ≡ b
-some-same e = cc
-
-tagged : (scopes : List (List Declaration)) (t : Tag) (inside : Drafts) (ms : Meanings) (element : Meaning) → CanBeDraftTag t
-    → drafts_say (declarations t.attrs ∷ scopes) inside ≡ Some ms → of_tag (tag_says scopes t) (drafts_say (declarations t.attrs ∷ scopes) inside) ≡ Some element
-    → Means (declarations t.attrs ∷ scopes) (drafted_in inside) ms (drafts_depth inside) → TreeSays scopes (drafted (Tagged t inside)) element (draft_depth (Tagged t inside))
-tagged scopes t inside ms element can said says m = record {
-  tree = Full t m.content;
-  is = (written_start t, drafted_in inside, written_end t, refl, start-of t can, m.is, end-of t);
-  means = ap (of_tag (tag_says scopes t)) (m.means ∙ sym said) ∙ says;
-  deep_is = ap suc m.depth;
-}
-
-draft-then : (scopes : List (List Declaration)) (draft : Draft) (more : Drafts) (first : Meaning) (rest ms : Meanings) → ChildThen first rest ≡ ms
-    → TreeSays scopes (drafted draft) first (draft_depth draft) → Means scopes (drafted_in more) rest (drafts_depth more) → Means scopes (drafted draft ++ drafted_in more) ms (drafts_depth (DraftThen draft more))
-draft-then scopes draft more first rest ms e c m = record {
-  content = TreeThen c.tree m.content;
-  clean = tt;
-  is = (drafted draft, drafted_in more, refl, c.is, m.is);
-  means = ap (λ x. and_children x (meanings m.content scopes)) c.means ∙ ap (and_children (Some first)) m.means ∙ ap Some e;
-  depth = ap (λ d. max d (depths m.content)) c.deep_is ∙ ap (max (draft_depth draft)) m.depth;
-}
+child-before : (scopes : List (List Declaration)) (front back : List ℕ) (child : Option Meaning) (said : Option Meanings) (d e : ℕ) → TreeSays scopes front child d → Means scopes back said e → Means scopes (front ++ back) (and_children child said) (max d e)
+child-before scopes front back child said d e c m = record { content = TreeThen c.tree m.content; clean = tt; is = (front, back, refl, c.is, m.is); means = rw (c.means, m.means) refl; depth = rw (c.deep_is, m.depth) refl }
 
 mutual
-  draft-is : (draft : Draft) (scopes : List (List Declaration)) (element : Meaning) → CanBeDraft draft → draft_says scopes draft ≡ Some element → TreeSays scopes (drafted draft) element (draft_depth draft)
-  draft-is (Tagged t inside) scopes element can says =
-      let parts = of-tag-parts (tag_says scopes t) (drafts_say (declarations t.attrs ∷ scopes) inside) element says in
-      tagged scopes t inside parts.0 element can.0 parts.1 says (drafts-are inside (declarations t.attrs ∷ scopes) parts.0 can.1 parts.1)
+  draft-is : (draft : Draft) (scopes : List (List Declaration)) → CanBeDraft draft → TreeSays scopes (drafted draft) (draft_says scopes draft) (draft_depth draft)
+  draft-is (Tagged t inside) scopes can =
+      tagged scopes t (drafted_in inside) (drafts_say (declarations t.attrs ∷ scopes) inside) (drafts_depth inside) can.0 (drafts-are inside (declarations t.attrs ∷ scopes) can.1)
 
-  drafts-are : (drafts : Drafts) (scopes : List (List Declaration)) (ms : Meanings) → CanBeDrafts drafts → drafts_say scopes drafts ≡ Some ms → Means scopes (drafted_in drafts) ms (drafts_depth drafts)
-  drafts-are Done scopes ms can says = subst (λ x. Means scopes [] x 0) (some-same says) (nothing-means scopes)
-  drafts-are (TextThen text more) scopes ms can says =
-      let parts = joined-parts text (drafts_say scopes more) ms says in
-      subst (λ x. Means scopes (escaped text ++ drafted_in more) x (drafts_depth more)) parts.2 (text-before scopes text (drafted_in more) parts.0 (drafts_depth more) can.0 (drafts-are more scopes parts.0 can.2 parts.1))
-  drafts-are (DraftThen draft more) scopes ms can says =
-      let parts = children-parts (draft_says scopes draft) (drafts_say scopes more) ms says in
-      draft-then scopes draft more parts.0 parts.1 ms parts.4 (draft-is draft scopes parts.0 can.0 parts.2) (drafts-are more scopes parts.1 can.1 parts.3)
+  drafts-are : (drafts : Drafts) (scopes : List (List Declaration)) → CanBeDrafts drafts → Means scopes (drafted_in drafts) (drafts_say scopes drafts) (drafts_depth drafts)
+  drafts-are Done scopes can = nothing scopes
+  drafts-are (DraftText text more) scopes can = text-before scopes text (drafted_in more) (drafts_say scopes more) (drafts_depth more) can.0 (drafts-are more scopes can.2)
+  drafts-are (DraftThen draft more) scopes can =
+      child-before scopes (drafted draft) (drafted_in more) (draft_says scopes draft) (drafts_say scopes more) (draft_depth draft) (drafts_depth more) (draft-is draft scopes can.0) (drafts-are more scopes can.1)
+
+text-is : (text : List ℕ) (more : Meanings) → is_empty text ≡ false → begins_with_text more ≡ false → joined text more ≡ TextThen text more
+text-is text Childless e d = rw e refl
+text-is text (TextThen other more) e d = absurd (cc)
+text-is text (ChildThen child more) e d = rw e refl
+
+front-short : (x y : List ℕ) → length (x ++ y) < 2 ^ 64 → (length x < 2 ^ 64) × (length y < 2 ^ 64)
+front-short x y h = omega (arith, length-append x y)
+
+mutual
+  element-is : (element : Meaning) (around : List ℕ) (scopes : List (List Declaration)) → CanBe element → length (written_in around element) < 2 ^ 64 → space_of scopes [] ≡ Some around
+      → TreeSays scopes (written_in around element) (Some element) (element_depth element)
+  element-is (Element name attrs children) around scopes can short is =
+      let t = tag_of around name attrs in
+      let inside = written_inside name.space children in
+      let k = tag-starts scopes around name attrs (inside ++ written_end t) can.0 short is in
+      let within = (front-short inside (written_end t) (front-short (written_start t) (inside ++ written_end t) short).1).0 in
+      rw k.says at (tagged scopes t inside (Some children) (inside_depth children) k.stands (inside-is children name.space (declarations t.attrs ∷ scopes) can.1 within k.space))
+
+  inside-is : (ms : Meanings) (space : List ℕ) (scopes : List (List Declaration)) → CanBeInside ms → length (written_inside space ms) < 2 ^ 64 → space_of scopes [] ≡ Some space
+      → Means scopes (written_inside space ms) (Some ms) (inside_depth ms)
+  inside-is Childless space scopes can short is = nothing scopes
+  inside-is (TextThen text more) space scopes can short is =
+      rw (text-is text more can.0 can.2) at (text-before scopes text (written_inside space more) (Some more) (inside_depth more) can.1 (inside-is more space scopes can.3 (front-short (escaped text) (written_inside space more) short).1 is))
+  inside-is (ChildThen child more) space scopes can short is =
+      let s = front-short (written_in space child) (written_inside space more) short in
+      child-before scopes (written_in space child) (written_inside space more) (Some child) (Some more) (element_depth child) (inside_depth more) (element-is child space scopes can.0 s.0 is) (inside-is more space scopes can.1 s.1 is)
 
 -- the whole document behind a prolog
-behind : (front : List ℕ) (draft : Draft) (element : Meaning) → IsProlog front tt → CanBeDrafted front draft → draft_says [] draft ≡ Some element → Doc (front ++ drafted draft) element
-behind front draft element prolog can says =
-    let t = draft-is draft [] element can.can_be says in (
-      t.tree,
-      record {
-        document = record { prolog = front; element = drafted draft; epilog = []; spelled = ap (λ b. front ++ b) (sym (append-nil (drafted draft))); is_prolog = prolog; is_element = t.is; is_epilog = no-misc };
-        means = t.means;
-        within = subst (λ (d : ℕ). d ≤ most_open) (sym t.deep_is) can.within;
-        short = can.short;
-      },
-    )
-
-quoted : IsQuoted (Word (codes "1.0")) (codes "\"1.0\"") tt
-quoted = then-of (codes "\"") (codes "1.0\"") 34 refl (refl, refl) (then-of (codes "1.0") (codes "\"") tt refl refl (then-of (codes "\"") [] 34 refl (refl, refl) (refl, refl)))
-
-version : IsPseudoAttr (codes "version") (Word (codes "1.0")) (codes " version=\"1.0\"") tt
-version =
-    then-of (codes " ") (codes "version=\"1.0\"") tt refl a-space
-    (then-of (codes "version") (codes "=\"1.0\"") tt refl refl (then-of (codes "=") (codes "\"1.0\"") tt refl a-equals quoted))
-
-declares-version : IsDeclaration version_declared tt
-declares-version =
-    then-of (codes "<?xml") (codes " version=\"1.0\"?>") tt refl refl
-    (then-of (codes " version=\"1.0\"") (codes "?>") tt refl version
-    (then-of [] (codes "?>") None refl refl (then-of [] (codes "?>") None refl refl (then-of [] (codes "?>") tt refl no-blanks refl))))
+behind : (front bytes : List ℕ) (said : Option Meaning) (element : Meaning) (deep : ℕ) → IsProlog front tt → TreeSays [] bytes said deep → said ≡ Some element → deep ≤ most_open → length (front ++ bytes) ≤ INPUT_LIMIT → Doc (front ++ bytes) element
+behind front bytes said element deep prolog t says within short = (
+  t.tree,
+  record {
+    document = record { prolog = front; element = bytes; epilog = []; spelled = ap (λ b. front ++ b) (sym (append-nil bytes)); is_prolog = prolog; is_element = t.is; is_epilog = no-misc };
+    means = t.means ∙ says;
+    within = rw t.deep_is within;
+    short = short;
+  },
+)
 
 version-prolog : IsProlog version_declared tt
-version-prolog = then-of [] version_declared None refl refl (then-of version_declared [] (Some tt) refl declares-version no-misc)
+version-prolog =
+    then-of [] version_declared None refl refl
+    (then-of version_declared [] (Some tt) refl
+    (then-of (codes "<?xml") (codes " version=\"1.0\"?>") tt refl refl
+    (then-of (codes " version=\"1.0\"") (codes "?>") tt refl
+    (then-of (codes " ") (codes "version=\"1.0\"") tt refl a-space
+    (then-of (codes "version") (codes "=\"1.0\"") tt refl refl
+    (then-of (codes "=") (codes "\"1.0\"") tt refl a-equals
+    (then-of (codes "\"") (codes "1.0\"") 34 refl (refl, refl) (then-of (codes "1.0") (codes "\"") tt refl refl (then-of (codes "\"") [] 34 refl (refl, refl) (refl, refl)))))))
+    (then-of [] (codes "?>") None refl refl (then-of [] (codes "?>") None refl refl (then-of [] (codes "?>") tt refl no-blanks refl)))))
+    no-misc)
 
 pub drafts-are-read : DraftsAreRead
 drafts-are-read = (
-  λ draft element can says. behind [] draft element no-prolog can says,
-  λ draft element can says. behind version_declared draft element version-prolog can says,
+  λ draft element can says. behind [] (drafted draft) (draft_says [] draft) element (draft_depth draft) no-prolog (draft-is draft [] can.can_be) says can.within can.short,
+  λ draft element can says. behind version_declared (drafted draft) (draft_says [] draft) element (draft_depth draft) version-prolog (draft-is draft [] can.can_be) says can.within can.short,
 )
+
+pub written-is-read : WrittenIsRead
+written-is-read element can =
+    behind [] (written element) (Some element) element (element_depth element) no-prolog (element-is element [] [] can.can_be (omega (arith, can.short)) refl) refl can.within can.short

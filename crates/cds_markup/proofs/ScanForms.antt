@@ -1,9 +1,7 @@
 -- Where a word stands in a text: what is known after each byte.
 use Rattle.std.proofs.Common.{◌≡◌, ◌==◌, ℕ, ◌<◌, ◌≤◌, Bool, true, false, cond, not, ◌&&◌, List, [], ◌∷◌, ◌++◌, take, refl, sym, ap, subst, ◌∙◌, arith, codes, encode_utf8, ◌⊎◌, inl, inr, zero, suc, append_assoc, ◌-◌, length, slice_index}
-use Rattle.cds_markup.proofs.Terms.{nat_tests, encode_ascii, append-nil, length-append, take-append_seam, contains, is_any, Without, brackets_with, closes_section, without_brackets, Word, Character, Then, Says, Many, Next, step_comment, step_section, IsComment, IsSection}
-use Rattle.cds_markup.proofs.Characters.{High, at-most-or-more, wide-bytes, bytes_of, Allowed, bytes-append, allowed-append, allowed-front, plain-bytes, ascii-bytes, ascii-plain}
-use Rattle.cds_markup.proofs.Machines.{by-test, is-byte, and-both, and-first, and-second, cases, clash, Takes}
-use Rattle.cds_markup.proofs.Ways.{then-of, Said, then-says, says-then}
+use Rattle.cds_markup.proofs.Terms.{nat_tests, encode_ascii, append-nil, length-append, take-append_seam, contains, is_any, Without, brackets_with, closes_section, without_brackets, Word, Character, Then, Says, Many, Next, step_comment, step_section}
+use Rattle.cds_markup.proofs.Ways.{by-test, is-byte, and-both, and-first, and-second, cases, clash, Takes, High, at-most-or-more, wide-bytes, bytes_of, Allowed, bytes-append, allowed-append, allowed-front, plain-bytes, ascii-bytes, ascii-plain, Alike, Reads, then-of, then-says, says-then}
 
 -- a function of a text from a state that passes over each byte past ASCII
 module _ {A : Type 0} (f : ℕ → List ℕ → A) (skip : (n b : ℕ) (u : List ℕ) → 128 ≤ b → f n (b ∷ u) ≡ f 0 u) where
@@ -35,23 +33,13 @@ clean-skip n b u h = ap (λ t. not t && clean (brackets_with n b) u) (wide-open 
 pub small-or-wide : (c : ℕ) → (c < 128) ⊎ (128 ≤ c)
 small-or-wide c = elim (at-most-or-more 128 c) [ inl high ↦ inr high | inr low ↦ inl (omega (arith, low)) ]
 
--- character by character
-pub clean-character : (n c : ℕ) (u : List ℕ) → clean n (encode_utf8 c ++ u) ≡ (not (closes_section n c) && clean (brackets_with n c) u)
-clean-character n c u = by (small-or-wide c) where
-  by : (c < 128) ⊎ (128 ≤ c) → clean n (encode_utf8 c ++ u) ≡ (not (closes_section n c) && clean (brackets_with n c) u)
-  by (inl low) = small-one (clean n) c u low
-  by (inr high) = skip-wide clean clean-skip n c u high ∙ sym (clean-skip n c u high)
-
 -- the bytes that a state stands for
-abbrev W : List ℕ
-W = codes "]]>"
-
 pub other-way : (b c : ℕ) → (b == c) ≡ false → (c == b) ≡ false
 other-way b c e = grind (arith, nat_tests)
 
 abbrev Known : List ℕ → Type 0
 Known t =
-    (contains W t ≡ not (clean 0 t)) × (contains W (93 ∷ t) ≡ not (clean 1 t)) × (contains W (93 ∷ 93 ∷ t) ≡ not (clean 2 t))
+    (contains (codes "]]>") t ≡ not (clean 0 t)) × (contains (codes "]]>") (93 ∷ t) ≡ not (clean 1 t)) × (contains (codes "]]>") (93 ∷ 93 ∷ t) ≡ not (clean 2 t))
 
 known : (t : List ℕ) → Known t
 known [] = (refl, refl, refl)
@@ -61,9 +49,6 @@ known (b ∷ t) = by (b == 93) (b == 62) refl refl (known t) where
   by false true e d k = subst (λ x. Known (x ∷ t)) (sym (is-byte b 62 d)) (k.0, k.0, refl)
   by false false e d k = simp (e, d, other-way b 93 e, other-way b 62 d) (k.0, k.0, k.0)
 
-pub contains-clean : (t : List ℕ) → contains (codes "]]>") t ≡ not (clean 0 t)
-contains-clean t = (known t).0
-
 -- a front part of a clean text is clean
 pub clean-front : (n : ℕ) (t u : List ℕ) → clean n (t ++ u) ≡ true → clean n t ≡ true
 clean-front n [] u h = refl
@@ -72,17 +57,11 @@ clean-front n (b ∷ t) u h =
     (clean-front (brackets_with n b) t u (and-second (not (closes_section n b)) (clean (brackets_with n b) (t ++ u)) h))
 
 -- brackets behind a clean text
-abbrev pub Low : ℕ → Type 0
-Low n = n ≤ 2
-
-pub low-with : (n b : ℕ) → Low (brackets_with n b)
+pub low-with : (n b : ℕ) → brackets_with n b ≤ 2
 low-with n b = grind (arith, nat_tests)
 
-two-behind : (n : ℕ) → Low n → (clean n (93 ∷ 93 ∷ []) ≡ true) × (state n (93 ∷ 93 ∷ []) ≡ 2)
-two-behind n h = by-test (λ s. (clean (cond s 1 2) (93 ∷ []) ≡ true) × (state (cond s 1 2) (93 ∷ []) ≡ 2)) (refl, refl) (refl, refl) (n == 0)
-
-pub clean-brackets : (n : ℕ) (t : List ℕ) → Low n → clean n t ≡ true → (clean n (t ++ 93 ∷ 93 ∷ []) ≡ true) × (state n (t ++ 93 ∷ 93 ∷ []) ≡ 2)
-clean-brackets n [] l h = two-behind n l
+pub clean-brackets : (n : ℕ) (t : List ℕ) → n ≤ 2 → clean n t ≡ true → (clean n (t ++ 93 ∷ 93 ∷ []) ≡ true) × (state n (t ++ 93 ∷ 93 ∷ []) ≡ 2)
+clean-brackets n [] l h = by-test (λ s. (clean (cond s 1 2) (93 ∷ []) ≡ true) × (state (cond s 1 2) (93 ∷ []) ≡ 2)) (refl, refl) (refl, refl) (n == 0)
 clean-brackets n (b ∷ t) l h =
     let more = clean-brackets (brackets_with n b) t (low-with n b) (and-second (not (closes_section n b)) (clean (brackets_with n b) t) h) in
     (and-both (not (closes_section n b)) (clean (brackets_with n b) (t ++ 93 ∷ 93 ∷ [])) (and-first (not (closes_section n b)) (clean (brackets_with n b) t) h) more.0, more.1)
@@ -123,30 +102,28 @@ without-is : (none_of t : List ℕ) → Allowed t → contains none_of (bytes_of
 without-is none_of t ok none = record { says = refl; characters = t; each = any-characters t ok; none = none }
 
 -- what `--` does in a text
-abbrev Dashes : List ℕ
-Dashes = codes "--"
 
 -- behind a dash, or not
 abbrev dashed : ℕ → List ℕ → Bool
-dashed zero t = contains Dashes t
-dashed (suc n) t = contains Dashes (45 ∷ t)
+dashed zero t = contains (codes "--") t
+dashed (suc n) t = contains (codes "--") (45 ∷ t)
 
-dashed-no : (n b : ℕ) (t : List ℕ) → (b == 45) ≡ false → dashed n (b ∷ t) ≡ contains Dashes t
+dashed-no : (n b : ℕ) (t : List ℕ) → (b == 45) ≡ false → dashed n (b ∷ t) ≡ contains (codes "--") t
 dashed-no zero b t e = simp (other-way b 45 e)
 dashed-no (suc n) b t e = simp (other-way b 45 e)
 
-dashed-character : (n c : ℕ) (u : List ℕ) → (c == 45) ≡ false → dashed n (encode_utf8 c ++ u) ≡ contains Dashes u
+dashed-character : (n c : ℕ) (u : List ℕ) → (c == 45) ≡ false → dashed n (encode_utf8 c ++ u) ≡ contains (codes "--") u
 dashed-character n c u e = elim (small-or-wide c) [ inl low ↦ small-one (dashed n) c u low ∙ dashed-no n c u e | inr high ↦ skip-wide dashed (λ n b u h. dashed-no n b u (grind (arith, nat_tests))) n c u high ]
 
 abbrev calm : ℕ → List ℕ → Bool
 calm n [] = true
 calm n (c ∷ t) = cond (c == 45) ((n == 0) && calm 1 t) (calm 0 t)
 
-dashes-are : (t : List ℕ) → (contains Dashes (bytes_of t) ≡ not (calm 0 t)) × (contains Dashes (45 ∷ bytes_of t) ≡ not (calm 1 t))
+dashes-are : (t : List ℕ) → (contains (codes "--") (bytes_of t) ≡ not (calm 0 t)) × (contains (codes "--") (45 ∷ bytes_of t) ≡ not (calm 1 t))
 dashes-are [] = (refl, refl)
 dashes-are (c ∷ t) =
     let k = dashes-are t in
-    cases (c == 45) (λ e. let same : bytes_of (c ∷ t) ≡ 45 ∷ bytes_of t = ap (λ x. bytes_of (x ∷ t)) (is-byte c 45 e) ∙ ap (λ xs. xs ++ bytes_of t) (encode_ascii 45 (omega arith)) in rw e (ap (contains Dashes) same ∙ k.1, ap (λ xs. contains Dashes (45 ∷ xs)) same))
+    cases (c == 45) (λ e. let same : bytes_of (c ∷ t) ≡ 45 ∷ bytes_of t = ap (λ x. bytes_of (x ∷ t)) (is-byte c 45 e) ∙ ap (λ xs. xs ++ bytes_of t) (encode_ascii 45 (omega arith)) in rw e (ap (contains (codes "--")) same ∙ k.1, ap (λ xs. contains (codes "--") (45 ∷ xs)) same))
     (λ e. rw e (dashed-character 0 c (bytes_of t) e ∙ k.0, dashed-character 1 c (bytes_of t) e ∙ k.0))
 
 calm-takes : (t : List ℕ) → (calm 0 t ≡ true → Takes step_comment 0 (t ++ codes "-->") tt) × (calm 1 t ≡ true → Takes step_comment 1 (t ++ codes "-->") tt)
@@ -176,37 +153,36 @@ bodies (c ∷ w) = by (c == 45) (c == 62) refl refl (bodies w) where
   by false true e f k = simp (e, f) (λ h. more e (k.0 h), λ h. dash-more e (k.0 h), λ h. ([], ap (λ xs. 45 ∷ 45 ∷ xs) (close f h.1), refl), λ h. close f h.1)
   by false false e f k = simp (e, f) (λ h. more e (k.0 h), λ h. dash-more e (k.0 h), λ h. absurd h, λ h. absurd h)
 
-pub comment-whole : (w : List ℕ) → Allowed w → Takes step_comment 0 w tt → IsComment (bytes_of (codes "<!--" ++ w)) tt
-comment-whole w ok t =
-    let b = (bodies w).0 t in
-    then-of (codes "<!--") (bytes_of w) tt (bytes-append (codes "<!--") w ∙ ap (λ xs. xs ++ bytes_of w) (ascii-bytes (codes "<!--") refl)) refl
-    (then-of (bytes_of b.0) (codes "-->") (bytes_of b.0) (ap bytes_of b.1 ∙ bytes-append b.0 (codes "-->") ∙ ap (λ xs. bytes_of b.0 ++ xs) (ascii-bytes (codes "-->") refl))
-    (without-is (codes "--") b.0 (allowed-front b.0 (codes "-->") (subst Allowed b.1 ok)) ((dashes-are b.0).0 ∙ ap not b.2)) refl)
-
-pub comment-said : (bytes : List ℕ) → Then (Without (codes "--") is_any) (λ text. Word (codes "-->")) bytes tt → Said step_comment 0 bytes tt
-comment-said bytes t =
-    let cs : List ℕ = t.first.characters in
-    let c = characters-are is_any t.front cs t.first.each in
-    let quiet = cases (calm 0 cs) (λ d. d) (λ d. clash ((dashes-are cs).0 ∙ ap not d) (ap (contains Dashes) (sym c.0) ∙ t.first.none)) in
-    record {
-      text = cs ++ codes "-->";
-      spelled = t.spelled ∙ ap (λ xs. xs ++ t.back) c.0 ∙ ap (λ xs. bytes_of cs ++ xs) (t.second ∙ sym (ascii-bytes (codes "-->") refl)) ∙ sym (bytes-append cs (codes "-->"));
-      allowed = allowed-append cs (codes "-->") c.1 (ascii-plain (codes "-->") refl).1;
-      takes = (calm-takes cs).0 quiet;
-    }
+pub comment-reads : Alike (Reads step_comment (step_comment 0)) (Then (Without (codes "--") is_any) (λ text. Word (codes "-->")))
+comment-reads bytes u = (
+  λ r. let b = (bodies r.text).0 r.takes in
+      then-of (bytes_of b.0) (codes "-->") (bytes_of b.0) (r.spelled ∙ ap bytes_of b.1 ∙ bytes-append b.0 (codes "-->") ∙ ap (λ xs. bytes_of b.0 ++ xs) (ascii-bytes (codes "-->") refl))
+      (without-is (codes "--") b.0 (allowed-front b.0 (codes "-->") (subst Allowed b.1 r.allowed)) ((dashes-are b.0).0 ∙ ap not b.2)) refl,
+  λ t. let cs : List ℕ = t.first.characters in
+      let c = characters-are is_any t.front cs t.first.each in
+      let quiet = cases (calm 0 cs) (λ d. d) (λ d. clash ((dashes-are cs).0 ∙ ap not d) (ap (contains (codes "--")) (sym c.0) ∙ t.first.none)) in
+      record {
+        text = cs ++ codes "-->";
+        spelled = t.spelled ∙ ap (λ xs. xs ++ t.back) c.0 ∙ ap (λ xs. bytes_of cs ++ xs) (t.second ∙ sym (ascii-bytes (codes "-->") refl)) ∙ sym (bytes-append cs (codes "-->"));
+        allowed = allowed-append cs (codes "-->") c.1 (ascii-plain (codes "-->") refl).1;
+        takes = (calm-takes cs).0 quiet;
+      },
+)
 
 -- CDATA sections.
 
 -- bytes and characters alike
 pub clean-bytes : (n : ℕ) (t : List ℕ) → clean n (bytes_of t) ≡ clean n t
 clean-bytes n [] = refl
-clean-bytes n (c ∷ t) = clean-character n c (bytes_of t) ∙ ap (λ x. not (closes_section n c) && x) (clean-bytes (brackets_with n c) t)
+clean-bytes n (c ∷ t) =
+    let u : List ℕ = bytes_of t in
+    elim (small-or-wide c) [ inl low ↦ small-one (clean n) c u low | inr high ↦ skip-wide clean clean-skip n c u high ∙ sym (clean-skip n c u high) ] ∙ ap (λ x. not (closes_section n c) && x) (clean-bytes (brackets_with n c) t)
 
 pub without-word : (t : List ℕ) → clean 0 t ≡ true → contains (codes "]]>") (bytes_of t) ≡ false
-without-word t e = contains-clean (bytes_of t) ∙ ap not (clean-bytes 0 t ∙ e)
+without-word t e = (known (bytes_of t)).0 ∙ ap not (clean-bytes 0 t ∙ e)
 
 pub word-without : (t : List ℕ) → contains (codes "]]>") (bytes_of t) ≡ false → clean 0 t ≡ true
-word-without t e = cases (clean 0 t) (λ d. d) (λ d. clash (contains-clean (bytes_of t) ∙ ap not (clean-bytes 0 t ∙ d)) e)
+word-without t e = cases (clean 0 t) (λ d. d) (λ d. clash ((known (bytes_of t)).0 ∙ ap not (clean-bytes 0 t ∙ d)) e)
 
 pub not-so : (b : Bool) → not b ≡ true → b ≡ false
 not-so true e = sym e
@@ -247,27 +223,24 @@ off x =
 brackets-bytes : (text : List ℕ) → bytes_of (text ++ 93 ∷ 93 ∷ []) ≡ bytes_of text ++ 93 ∷ 93 ∷ []
 brackets-bytes text = bytes-append text (93 ∷ 93 ∷ []) ∙ ap (λ xs. bytes_of text ++ xs) (plain-bytes (93 ∷ 93 ∷ []) (omega arith, (omega arith, tt)))
 
-pub section-whole : (w said : List ℕ) → Allowed w → Takes sec (0, []) w said → IsSection (bytes_of (codes "<![CDATA[" ++ w)) said
-section-whole w said ok t =
-    let b = section-body w 0 [] said t in
-    let u = (ends b.0).0 b.3 in
-    let whole : w ≡ u.0 ++ codes "]]>" = b.1 ∙ ap (λ xs. xs ++ 62 ∷ []) u.1 ∙ append_assoc u.0 (93 ∷ 93 ∷ []) (62 ∷ []) in
-    then-of (codes "<![CDATA[") (bytes_of w) tt (bytes-append (codes "<![CDATA[") w ∙ ap (λ xs. xs ++ bytes_of w) (ascii-bytes (codes "<![CDATA[") refl)) refl
-    (then-of (bytes_of u.0) (codes "]]>") (bytes_of u.0) (ap bytes_of whole ∙ bytes-append u.0 (codes "]]>") ∙ ap (λ xs. bytes_of u.0 ++ xs) (ascii-bytes (codes "]]>") refl))
-    (without-is (codes "]]>") u.0 (allowed-front u.0 (codes "]]>") (subst Allowed whole ok)) (without-word u.0 (clean-front 0 u.0 (93 ∷ 93 ∷ []) (ap (clean 0) (sym u.1) ∙ b.2))))
-    (then-says (Word (codes "]]>")) (λ closing. bytes_of u.0) (codes "]]>") said tt refl (b.4 ∙ ap (λ xs. without_brackets (bytes_of xs)) u.1 ∙ ap without_brackets (brackets-bytes u.0) ∙ off (bytes_of u.0))))
-
-pub section-said : (bytes said : List ℕ) → Then (Without (codes "]]>") is_any) (λ text. Then (Word (codes "]]>")) (λ closing. Says text)) bytes said → Said sec (0, []) bytes said
-section-said bytes said t =
-    let cs : List ℕ = t.first.characters in
-    let c = characters-are is_any t.front cs t.first.each in
-    let e = says-then (Word (codes "]]>")) (λ u. t.what) t.back said t.second in
-    let inner : List ℕ = cs ++ 93 ∷ 93 ∷ [] in
-    let both = clean-brackets 0 cs (omega arith) (word-without cs (ap (contains W) (sym c.0) ∙ t.first.none)) in
-    let said-so : without_brackets (bytes_of inner) ≡ said = ap without_brackets (brackets-bytes cs) ∙ off (bytes_of cs) ∙ sym c.0 ∙ sym t.first.says ∙ sym e.2 in
-    record {
-      text = cs ++ codes "]]>";
-      spelled = t.spelled ∙ ap (λ xs. xs ++ t.back) c.0 ∙ ap (λ xs. bytes_of cs ++ xs) (e.1 ∙ sym (ascii-bytes (codes "]]>") refl)) ∙ sym (bytes-append cs (codes "]]>"));
-      allowed = allowed-append cs (codes "]]>") c.1 (ascii-plain (codes "]]>") refl).1;
-      takes = subst (λ xs. Takes sec (0, []) xs said) (append_assoc cs (93 ∷ 93 ∷ []) (62 ∷ [])) (subst (Takes sec (0, []) (inner ++ 62 ∷ [])) said-so (section-takes inner 0 [] both.0 both.1));
-    }
+pub section-reads : Alike (Reads sec (sec (0, []))) (Then (Without (codes "]]>") is_any) (λ text. Then (Word (codes "]]>")) (λ closing. Says text)))
+section-reads bytes said = (
+  λ r. let b = section-body r.text 0 [] said r.takes in
+      let u = (ends b.0).0 b.3 in
+      let whole : r.text ≡ u.0 ++ codes "]]>" = b.1 ∙ ap (λ xs. xs ++ 62 ∷ []) u.1 ∙ append_assoc u.0 (93 ∷ 93 ∷ []) (62 ∷ []) in
+      then-of (bytes_of u.0) (codes "]]>") (bytes_of u.0) (r.spelled ∙ ap bytes_of whole ∙ bytes-append u.0 (codes "]]>") ∙ ap (λ xs. bytes_of u.0 ++ xs) (ascii-bytes (codes "]]>") refl))
+      (without-is (codes "]]>") u.0 (allowed-front u.0 (codes "]]>") (subst Allowed whole r.allowed)) (without-word u.0 (clean-front 0 u.0 (93 ∷ 93 ∷ []) (ap (clean 0) (sym u.1) ∙ b.2))))
+      (then-says (Word (codes "]]>")) (λ closing. bytes_of u.0) (codes "]]>") said tt refl (b.4 ∙ ap (λ xs. without_brackets (bytes_of xs)) u.1 ∙ ap without_brackets (brackets-bytes u.0) ∙ off (bytes_of u.0))),
+  λ t. let cs : List ℕ = t.first.characters in
+      let c = characters-are is_any t.front cs t.first.each in
+      let e = says-then (Word (codes "]]>")) (λ u. t.what) t.back said t.second in
+      let inner : List ℕ = cs ++ 93 ∷ 93 ∷ [] in
+      let both = clean-brackets 0 cs (omega arith) (word-without cs (ap (contains (codes "]]>")) (sym c.0) ∙ t.first.none)) in
+      let said-so : without_brackets (bytes_of inner) ≡ said = ap without_brackets (brackets-bytes cs) ∙ off (bytes_of cs) ∙ sym c.0 ∙ sym t.first.says ∙ sym e.2 in
+      record {
+        text = cs ++ codes "]]>";
+        spelled = t.spelled ∙ ap (λ xs. xs ++ t.back) c.0 ∙ ap (λ xs. bytes_of cs ++ xs) (e.1 ∙ sym (ascii-bytes (codes "]]>") refl)) ∙ sym (bytes-append cs (codes "]]>"));
+        allowed = allowed-append cs (codes "]]>") c.1 (ascii-plain (codes "]]>") refl).1;
+        takes = subst (λ xs. Takes sec (0, []) xs said) (append_assoc cs (93 ∷ 93 ∷ []) (62 ∷ [])) (subst (Takes sec (0, []) (inner ++ 62 ∷ [])) said-so (section-takes inner 0 [] both.0 both.1));
+      },
+)

@@ -1,8 +1,468 @@
--- Words of the grammar lead machines from one state to another one, and what a machine takes is taken apart.
-use Rattle.std.proofs.Common.{◌≡◌, ◌==◌, ℕ, ◌<◌, true, cond, List, [], ◌∷◌, ◌++◌, refl, sym, ap, subst, ◌∙◌, arith, append_assoc, encode_utf8}
-use Rattle.cds_markup.proofs.Terms.{nat_tests, append-nil, encode_ascii, is_allowed, is_blank, Next, Stuck, On, Done, leads, comes, Byte, Then, Says, Many, IsBlanks}
-use Rattle.cds_markup.proofs.Machines.{next-by, cases, only-if, Takes, Steps, steps-then, takes-then, Read, is-byte, same-byte, holds}
-use Rattle.cds_markup.proofs.Characters.{bytes_of, Allowed, bytes-append, allowed-append, plain-bytes, is_ascii, ascii-first, ascii-rest, ascii-plain, ascii-append}
+-- Forms that say the same of the same bytes, which form a machine reads, and where its words lead.
+use Rattle.std.proofs.Common.{◌≡◌, ◌==◌, ℕ, zero, suc, ◌<◌, ◌≤◌, ◌⊎◌, inl, inr, Bool, true, false, cond, Option, Some, None, List, [], ◌∷◌, ◌++◌, length, refl, sym, ap, subst, ◌∙◌, arith, append_assoc, encode_utf8, codes, ◌+◌, ◌-◌, ◌*◌, ◌/◌, ◌%◌, nat_lt, nat_le, ◌&&◌, ◌||◌, Ok, Err, map}
+use Rattle.cds_markup.proofs.Terms.{nat_tests, append-nil, length-append, encode_ascii, is_allowed, is_blank, is_any, Next, Stuck, On, Done, leads, comes, Byte, Character, Word, Then, Says, Many, Maybe, IsBlanks, IsSpace, IsEquals, Stops, begins_name, Open, Declaring, Xml, Misc, Blanks, MiscLess, Mode, Begin, Marked, First, Declaration, Prolog, step_declaration, Move, To, misc_step, root_move, prolog_move, marked_move, step, Turn, Inside, Epilog, Given, step_turn, is_over, is_behind, byte_order_mark, is_within, second_low, second_high, third_high, Step, after, byte_at, begins_character, behind_first, two_bytes_at, three_bytes_at, four_bytes_at, tail_at, any_at, no-cons, ok-err, cases, and-first, and-second, without_feed, lone_returns, line_ends, line_end_says, is-byte}
+pub use Rattle.cds_markup.proofs.Terms.{next-by, cases, Enters, Takes, Steps, steps-then, is-byte, same-byte, taken-if, and-both, and-first, and-second, clash, either-if, only-if, some-is, heads, by-test, takes-then, no-cons, steps-done, and-no, takes-last, holds, holds-if, holds-named, leads-any, Anything, steps-on, none-behind, empty-is, ok-err, holds-leads}
+use lib.Utf8.{encode}
+
+less-is : (a n : ℕ) → a < n → nat_lt a n ≡ true
+less-is a n h = grind (arith, nat_tests)
+
+pub more-is : (a n : ℕ) → n ≤ a → nat_lt a n ≡ false
+more-is a n h = grind (arith, nat_tests)
+
+pub encode-two : (c : ℕ) → 128 ≤ c → c < 2048 → encode_utf8 c ≡ (192 + c / 64) ∷ (128 + c % 64) ∷ []
+unfolding encode
+encode-two c low high = rw (more-is c 128 low, less-is c 2048 high) refl
+
+pub encode-three : (c : ℕ) → 2048 ≤ c → c < 65536 → encode_utf8 c ≡ (224 + c / 4096) ∷ (128 + c / 64 % 64) ∷ (128 + c % 64) ∷ []
+unfolding encode
+encode-three c low high = rw (more-is c 128 (omega arith), more-is c 2048 low, less-is c 65536 high) refl
+
+pub encode-four : (c : ℕ) → 65536 ≤ c → encode_utf8 c ≡ (240 + c / 262144) ∷ (128 + c / 4096 % 64) ∷ (128 + c / 64 % 64) ∷ (128 + c % 64) ∷ []
+unfolding encode
+encode-four c low = rw (more-is c 128 (omega arith), more-is c 2048 (omega arith), more-is c 65536 low) refl
+
+tail-within : (b : ℕ) → is_within 128 191 b ≡ true → (128 ≤ b) × (b ≤ 191)
+tail-within b e = (grind (arith, nat_tests), grind (arith, nat_tests))
+
+-- two bytes of which each is in its range are a character
+two-are : (a b n : ℕ) → 194 ≤ a → a < 224 → (128 ≤ b) × (b ≤ 191) → n ≡ (a - 192) * 64 + (b - 128) → (encode_utf8 n ≡ a ∷ b ∷ []) × (is_allowed n ≡ true)
+two-are a b n low high g e =
+    let first : 192 + n / 64 ≡ a = omega arith in
+    let second : 128 + n % 64 ≡ b = omega arith in
+    let big : 128 ≤ n = omega arith in
+    let small : n < 2048 = omega arith in
+    (encode-two n big small ∙ ap (λ x. x ∷ (128 + n % 64) ∷ []) first ∙ ap (λ x. a ∷ x ∷ []) second, grind (arith, nat_tests, big, small))
+
+-- what the table says of a second and a third byte
+second-is : (a b : ℕ) → is_within (second_low a) (second_high a) b ≡ true → (128 ≤ b) × (b ≤ 191) × (a ≡ 224 → 160 ≤ b) × (a ≡ 237 → b ≤ 159) × (a ≡ 240 → 144 ≤ b) × (a ≡ 244 → b ≤ 143)
+second-is a b e = (grind (arith, nat_tests), grind (arith, nat_tests), λ h. grind (arith, nat_tests), λ h. grind (arith, nat_tests), λ h. grind (arith, nat_tests), λ h. grind (arith, nat_tests))
+
+is-second : (a b : ℕ) → 128 ≤ b → b ≤ 191 → (a ≡ 224 → 160 ≤ b) → (a ≡ 237 → b ≤ 159) → (a ≡ 240 → 144 ≤ b) → (a ≡ 244 → b ≤ 143) → is_within (second_low a) (second_high a) b ≡ true
+is-second a b f1 f2 f3 f4 f5 f6 = grind (arith, nat_tests)
+
+pub at-most-or-more : (m n : ℕ) → (m ≤ n) ⊎ (n + 1 ≤ m)
+at-most-or-more m n = cases (nat_le m n) (λ e. inl (grind (arith, nat_tests))) (λ e. inr (grind (arith, nat_tests)))
+
+-- what is allowed, by ranges
+pub allowed-at-most : (c : ℕ) → is_allowed c ≡ true → c ≤ 1114111
+allowed-at-most c e = grind (arith, nat_tests)
+
+pub allowed-no-surrogate : (c : ℕ) → is_allowed c ≡ true → 55296 ≤ c → 57344 ≤ c
+allowed-no-surrogate c e low = grind (arith, nat_tests)
+
+three-are : (a b c n : ℕ) → 224 ≤ a → a ≤ 239 → is_within (second_low a) (second_high a) b ≡ true → is_within 128 (third_high a b) c ≡ true → n ≡ (a - 224) * 4096 + (b - 128) * 64 + (c - 128)
+    → (encode_utf8 n ≡ a ∷ b ∷ c ∷ []) × (is_allowed n ≡ true)
+three-are a b c n low high s t e =
+    let f = second-is a b s in
+    let g : (128 ≤ c) × (c ≤ 191) × (a ≡ 239 → b ≡ 191 → c ≤ 189) = (grind (arith, nat_tests), grind (arith, nat_tests), λ g h. grind (arith, nat_tests)) in
+    let first : 224 + n / 4096 ≡ a = omega arith in
+    let mid : n / 64 ≡ (a - 224) * 64 + (b - 128) = omega arith in
+    let second : 128 + n / 64 % 64 ≡ b = omega arith in
+    let third : 128 + n % 64 ≡ c = omega arith in
+    let big : 2048 ≤ n = grind (arith, f, g) in
+    let small : n ≤ 65533 = grind (arith, f, g) in
+    let apart : (n ≤ 55295) ⊎ (57344 ≤ n) = elim (at-most-or-more a 237) [ inl h ↦ inl (grind (arith, f, g)) | inr h ↦ inr (omega arith) ] in
+    (encode-three n big (omega arith) ∙ ap (λ x. x ∷ (128 + n / 64 % 64) ∷ (128 + n % 64) ∷ []) first ∙ ap (λ x. a ∷ x ∷ (128 + n % 64) ∷ []) second ∙ ap (λ x. a ∷ b ∷ x ∷ []) third, grind (arith, nat_tests, big, small, apart))
+
+four-are : (a b c d n : ℕ) → 240 ≤ a → a ≤ 244 → is_within (second_low a) (second_high a) b ≡ true → (128 ≤ c) × (c ≤ 191) → (128 ≤ d) × (d ≤ 191) → n ≡ (a - 240) * 262144 + (b - 128) * 4096 + (c - 128) * 64 + (d - 128)
+    → (encode_utf8 n ≡ a ∷ b ∷ c ∷ d ∷ []) × (is_allowed n ≡ true)
+four-are a b c d n low high s r q e =
+    let f = second-is a b s in
+    let first : 240 + n / 262144 ≡ a = omega arith in
+    let upper : n / 4096 ≡ (a - 240) * 64 + (b - 128) = omega arith in
+    let mid : n / 64 ≡ ((a - 240) * 64 + (b - 128)) * 64 + (c - 128) = omega arith in
+    let second : 128 + n / 4096 % 64 ≡ b = omega arith in
+    let third : 128 + n / 64 % 64 ≡ c = omega arith in
+    let fourth : 128 + n % 64 ≡ d = omega arith in
+    let big : 65536 ≤ n = grind (arith, f) in
+    let small : n ≤ 1114111 = grind (arith, f) in
+    (encode-four n big ∙ ap (λ x. x ∷ (128 + n / 4096 % 64) ∷ (128 + n / 64 % 64) ∷ (128 + n % 64) ∷ []) first ∙ ap (λ x. a ∷ x ∷ (128 + n / 64 % 64) ∷ (128 + n % 64) ∷ []) second ∙ ap (λ x. a ∷ b ∷ x ∷ (128 + n % 64) ∷ []) third ∙ ap (λ x. a ∷ b ∷ c ∷ x ∷ []) fourth, grind (arith, nat_tests, big, small))
+
+-- Reading a character: what is read is one, each one is read, and what is cut off goes on to one.
+
+-- Steps that go by what comes first: what follows changes nothing of their answer, and what is cut off can go on.
+abbrev Onto : {A : Type 0} → (List ℕ → Step A) → List ℕ → Step A → Type 0
+Onto r left (Ok found) = (more : List ℕ) → r (left ++ more) ≡ Ok (found.0, found.1 ++ more)
+Onto {A} r left (Err []) = (more : List ℕ) × (v : A) × (r (left ++ more) ≡ Ok (v, []))
+Onto r left (Err (b ∷ x)) = (more : List ℕ) → r (left ++ more) ≡ Err (b ∷ (x ++ more))
+
+record Local {A : Type 0} (r : List ℕ → Step A) : Type 0 where
+  pub reads : (left : List ℕ) → Onto r left (r left)
+  pub some : (more : List ℕ) × (v : A) × (r more ≡ Ok (v, []))
+
+module _ {A B : Type 0} (r : List ℕ → Step A) (s : A → List ℕ → Step B) (R : Local r) (S : (a : A) → Local (s a)) where
+  abbrev both : List ℕ → Step B
+  both left = after (r left) s
+
+  goes-on : (left : List ℕ) → Onto r left (Err []) → Onto both left (Err [])
+  goes-on left (more, v, e) =
+      let h = (S v).some in
+      (more ++ h.0, h.1, ap both (sym (append_assoc left more h.0)) ∙ ap (λ x. after x s) (subst (Onto r (left ++ more)) e (R.reads (left ++ more)) h.0) ∙ h.2)
+
+  local-after : Local both
+  local-after = record { reads = λ left. by left (r left) (R.reads left); some = goes-on [] R.some } where
+    behind : (left : List ℕ) (a : A) (mid : List ℕ) → Onto r left (Ok (a, mid)) → (y : Step B) → Onto (s a) mid y → Onto both left y
+    behind left a mid k (Ok found) f = λ more. ap (λ x. after x s) (k more) ∙ f more
+    behind left a mid k (Err []) (more, v, e) = (more, v, ap (λ x. after x s) (k more) ∙ e)
+    behind left a mid k (Err (b ∷ x)) f = λ more. ap (λ x. after x s) (k more) ∙ f more
+
+    by : (left : List ℕ) (x : Step A) → Onto r left x → Onto both left (after x s)
+    by left (Ok (a, mid)) k = behind left a mid k (s a mid) ((S a).reads mid)
+    by left (Err []) k = goes-on left k
+    by left (Err (b ∷ x)) k = λ more. ap (λ y. after y s) (k more)
+
+local-byte : (test : ℕ → Bool) (b : ℕ) → test b ≡ true → Local (byte_at test)
+local-byte test b has = record { reads = reads; some = (b ∷ [], b, rw has refl) } where
+  reads : (left : List ℕ) → Onto (byte_at test) left (byte_at test left)
+  reads [] = (b ∷ [], b, rw has refl)
+  reads (c ∷ left) = cases (test c) (λ e. rw e (λ more. rw e refl)) (λ e. rw e (λ more. rw e refl))
+
+local-value : {A : Type 0} (v : A) → Local (λ left. Ok (v, left))
+local-value v = record { reads = λ left more. refl; some = ([], v, refl) }
+
+abbrev value_of_two : ℕ → ℕ → ℕ
+value_of_two a b = (a - 192) * 64 + (b - 128)
+
+abbrev value_of_three : ℕ → ℕ → ℕ → ℕ
+value_of_three a b c = (a - 224) * 4096 + (b - 128) * 64 + (c - 128)
+
+abbrev value_of_four : ℕ → ℕ → ℕ → ℕ → ℕ
+value_of_four a b c d = (a - 240) * 262144 + (b - 128) * 4096 + (c - 128) * 64 + (d - 128)
+
+abbrev third : ℕ → ℕ → List ℕ → Step ℕ
+third a b left = after (tail_at 128 (third_high a b) left) (λ c rest. Ok (value_of_three a b c, rest))
+
+abbrev fourth : ℕ → ℕ → ℕ → List ℕ → Step ℕ
+fourth a b c left = after (tail_at 128 191 left) (λ d rest. Ok (value_of_four a b c d, rest))
+
+local-behind : (b : ℕ) → Local (behind_first b)
+local-behind b = by (nat_lt b 128) (nat_lt b 224) (nat_lt b 240) where
+  tail : Local (tail_at 128 191)
+  tail = local-byte (is_within 128 191) 128 refl
+
+  second : Local (tail_at (second_low b) (second_high b))
+  second = local-byte (is_within (second_low b) (second_high b)) (second_low b) (grind (arith, nat_tests))
+
+  by : (s t u : Bool) → Local (λ rest. cond s (Ok (b, rest)) (cond t (two_bytes_at b rest) (cond u (three_bytes_at b rest) (four_bytes_at b rest))))
+  by true t u = local-value b
+  by false true u = search (local-after, local-value, tail)
+  by false false true = local-after (tail_at (second_low b) (second_high b)) (third b) second (λ c. search (local-after, local-value, local-byte (is_within 128 (third_high b c)) 128 (grind (arith, nat_tests))))
+  by false false false = search (local-after, local-value, second, tail)
+
+any-local : Local any_at
+unfolding any_at
+any-local = local-after (byte_at begins_character) behind_first (local-byte begins_character 65 refl) local-behind
+
+abbrev pub Ranges : ℕ → Type 0
+Ranges c = (c < 128) ⊎ (((128 ≤ c) × (c < 2048)) ⊎ (((2048 ≤ c) × (c < 65536)) ⊎ (65536 ≤ c)))
+
+pub ranges : (c : ℕ) → Ranges c
+ranges c = elim (at-most-or-more 128 c) [
+  | inr low ↦ inl (omega (arith, low))
+  | inl a ↦ elim (at-most-or-more 2048 c) [ inr low ↦ inr (inl (a, omega (arith, low))) | inl b ↦ elim (at-most-or-more 65536 c) [ inr low ↦ inr (inr (inl (b, omega (arith, low)))) | inl d ↦ inr (inr (inr d)) ] ]
+]
+
+pub lead-is-wide : (x : Bool) (b : ℕ) → 194 ≤ b → b ≤ 244 → ((nat_lt b 128 && x) || is_within 194 244 b) ≡ true
+lead-is-wide x b low high = grind (arith, nat_tests)
+
+-- what is read is a character
+pub ok_same : {A : Type 0} (v w : A) (x y : List ℕ) → ◌≡◌ {A = Step A} (Ok (v, x)) (Ok (w, y)) → (v ≡ w) × (x ≡ y)
+ok_same {A} v w x y e =
+    let pair : A × List ℕ = (v, x) in
+    let other : A × List ℕ = (w, y) in
+    let same : pair ≡ other = cc in
+    (ap (λ p. p.0) same, ap (λ p. p.1) same)
+
+abbrev pub Read : List ℕ → ℕ → List ℕ → Type 0
+Read bytes c rest = (bytes ≡ encode_utf8 c ++ rest) × (is_allowed c ≡ true)
+
+-- what is read behind a byte
+byte-then : {A : Type 0} (test : ℕ → Bool) (left : List ℕ) (next : ℕ → List ℕ → Step A) (v : A) (rest : List ℕ) → after (byte_at test left) next ≡ Ok (v, rest) → (b : ℕ) × (more : List ℕ) × (left ≡ b ∷ more) × (test b ≡ true) × (next b more ≡ Ok (v, rest))
+byte-then test [] next v rest e = ok-err (sym e)
+byte-then test (b ∷ more) next v rest e = cases (test b) (λ t. (b, more, refl, t, rw t at e)) (λ t. ok-err (sym (rw t at e)))
+
+pub found : (bytes : List ℕ) (c : ℕ) (rest : List ℕ) → any_at bytes ≡ Ok (c, rest) → Read bytes c rest
+unfolding any_at
+found bytes c rest e = let f = byte-then begins_character bytes behind_first c rest e in by f.0 f.1 f.2 f.3 (nat_lt f.0 128) (nat_lt f.0 224) (nat_lt f.0 240) refl refl refl f.4 where
+  over : (n : ℕ) (front more : List ℕ) → (encode_utf8 n ≡ front) × (is_allowed n ≡ true) → ◌≡◌ {A = Step ℕ} (Ok (n, more)) (Ok (c, rest)) → bytes ≡ front ++ more → Read bytes c rest
+  over n front more h e d = let s = ok_same n c more rest e in (d ∙ ap (λ xs. xs ++ more) (sym h.0) ∙ ap (λ x. encode_utf8 x ++ more) s.0 ∙ ap (λ xs. encode_utf8 c ++ xs) s.1, ap is_allowed (sym s.0) ∙ h.1)
+
+  by : (a : ℕ) (left : List ℕ) → bytes ≡ a ∷ left → begins_character a ≡ true → (s t u : Bool) → nat_lt a 128 ≡ s → nat_lt a 224 ≡ t → nat_lt a 240 ≡ u → cond s (Ok (a, left)) (cond t (two_bytes_at a left) (cond u (three_bytes_at a left) (four_bytes_at a left))) ≡ Ok (c, rest) → Read bytes c rest
+  by a left d ok true t u f1 f2 f3 e = let low : a < 128 = grind (arith, nat_tests) in over a (a ∷ []) left (encode_ascii a low, grind (arith, nat_tests)) e d
+  by a left d ok false true u f1 f2 f3 e =
+      let low : 194 ≤ a = grind (arith, nat_tests) in
+      let high : a < 224 = grind (arith, nat_tests) in
+      let x = byte-then (is_within 128 191) left (λ b more. Ok (value_of_two a b, more)) c rest e in
+      over (value_of_two a x.0) (a ∷ x.0 ∷ []) x.1 (two-are a x.0 (value_of_two a x.0) low high (tail-within x.0 x.3) refl) x.4 (d ∙ ap (λ xs. a ∷ xs) x.2)
+  by a left d ok false false true f1 f2 f3 e =
+      let x = byte-then (is_within (second_low a) (second_high a)) left (third a) c rest e in
+      let y = byte-then (is_within 128 (third_high a x.0)) x.1 (λ c more. Ok (value_of_three a x.0 c, more)) c rest x.4 in
+      over (value_of_three a x.0 y.0) (a ∷ x.0 ∷ y.0 ∷ []) y.1 (three-are a x.0 y.0 (value_of_three a x.0 y.0) (grind (arith, nat_tests)) (grind (arith, nat_tests)) x.3 y.3 refl) y.4 (d ∙ ap (λ xs. a ∷ xs) (x.2 ∙ ap (λ xs. x.0 ∷ xs) y.2))
+  by a left d ok false false false f1 f2 f3 e =
+      let x = byte-then (is_within (second_low a) (second_high a)) left (λ b more. after (tail_at 128 191 more) (fourth a b)) c rest e in
+      let y = byte-then (is_within 128 191) x.1 (fourth a x.0) c rest x.4 in
+      let z = byte-then (is_within 128 191) y.1 (λ d more. Ok (value_of_four a x.0 y.0 d, more)) c rest y.4 in
+      over (value_of_four a x.0 y.0 z.0) (a ∷ x.0 ∷ y.0 ∷ z.0 ∷ []) z.1 (four-are a x.0 y.0 z.0 (value_of_four a x.0 y.0 z.0) (grind (arith, nat_tests)) (grind (arith, nat_tests)) x.3 (tail-within y.0 y.3) (tail-within z.0 z.3) refl) z.4
+      (d ∙ ap (λ xs. a ∷ xs) (x.2 ∙ ap (λ xs. x.0 ∷ xs) (y.2 ∙ ap (λ xs. y.0 ∷ xs) z.2)))
+
+-- each character is read
+within-tail : (b : ℕ) → 128 ≤ b → b ≤ 191 → is_within 128 191 b ≡ true
+within-tail b low high = grind (arith, nat_tests)
+
+read-plain : (c : ℕ) → is_allowed c ≡ true → any_at (encode_utf8 c) ≡ Ok (c, [])
+unfolding any_at
+read-plain c ok = by (ranges c) where
+  by : Ranges c → any_at (encode_utf8 c) ≡ Ok (c, [])
+  by (inl small) =
+      let lead : ((nat_lt c 128 && is_allowed c) || is_within 194 244 c) ≡ true = rw (less-is c 128 small, ok) refl in
+      rw (encode_ascii c small, lead, less-is c 128 small) refl
+  by (inr (inl two)) =
+      let a : ℕ = 192 + c / 64 in
+      let b : ℕ = 128 + c % 64 in
+      let is : value_of_two a b ≡ c = omega arith in
+      rw (encode-two c two.0 two.1, lead-is-wide (is_allowed a) a (omega arith) (omega arith), more-is a 128 (omega arith), less-is a 224 (omega arith), within-tail b (omega arith) (omega arith), is) refl
+  by (inr (inr (inl three))) =
+      let a : ℕ = 224 + c / 4096 in
+      let b : ℕ = 128 + c / 64 % 64 in
+      let d : ℕ = 128 + c % 64 in
+      let over : c / 64 ≡ c / 4096 * 64 + c / 64 % 64 = omega arith in
+      let is : value_of_three a b d ≡ c = omega arith in
+      let most : c ≤ 65533 = grind (arith, nat_tests, three.1) in
+      let gap : 55296 ≤ c → 57344 ≤ c = allowed-no-surrogate c ok in
+      let s = is-second a b (omega arith) (omega arith) (λ h. omega (arith, is, three.0)) (λ h. elim (at-most-or-more b 159) [ inl k ↦ k | inr k ↦ absurd (omega (arith, is, h, k, gap (omega (arith, is, h, k)))) ]) (λ h. absurd (omega arith)) (λ h. absurd (omega arith)) in
+      let last : a ≡ 239 → b ≡ 191 → d ≤ 189 = λ h k. omega (arith, is, most) in
+      let t : is_within 128 (third_high a b) d ≡ true = grind (arith, nat_tests, last) in
+      rw (encode-three c three.0 three.1, lead-is-wide (is_allowed a) a (omega arith) (omega arith), more-is a 128 (omega arith), more-is a 224 (omega arith), less-is a 240 (omega arith), s, t, is) refl
+  by (inr (inr (inr four))) =
+      let a : ℕ = 240 + c / 262144 in
+      let b : ℕ = 128 + c / 4096 % 64 in
+      let d : ℕ = 128 + c / 64 % 64 in
+      let e : ℕ = 128 + c % 64 in
+      let upper : c / 4096 ≡ c / 262144 * 64 + c / 4096 % 64 = omega arith in
+      let over : c / 64 ≡ c / 4096 * 64 + c / 64 % 64 = omega arith in
+      let is : value_of_four a b d e ≡ c = omega arith in
+      let most = allowed-at-most c ok in
+      let s = is-second a b (omega arith) (omega arith) (λ h. absurd (omega arith)) (λ h. absurd (omega arith)) (λ h. omega (arith, is, four)) (λ h. omega (arith, is, most)) in
+      rw (encode-four c four, lead-is-wide (is_allowed a) a (omega arith) (omega arith), more-is a 128 (omega arith), more-is a 224 (omega arith), more-is a 240 (omega arith), s, within-tail d (omega arith) (omega arith), within-tail e (omega arith) (omega arith), is) refl
+
+pub decodes : (c : ℕ) (tail : List ℕ) → is_allowed c ≡ true → any_at (encode_utf8 c ++ tail) ≡ Ok (c, tail)
+decodes c tail ok = subst (Onto any_at (encode_utf8 c)) (read-plain c ok) (any-local.reads (encode_utf8 c)) tail
+
+-- what is no character is none whatever follows, and what is cut off goes on to one
+pub stuck : (bytes : List ℕ) (x : ℕ) (y more : List ℕ) → any_at bytes ≡ Err (x ∷ y) → any_at (bytes ++ more) ≡ Err (x ∷ (y ++ more))
+stuck bytes x y more e = subst (Onto any_at bytes) e (any-local.reads bytes) more
+
+pub viable : (begun : List ℕ) → any_at begun ≡ Err [] → (c : ℕ) × (more : List ℕ) × (encode_utf8 c ≡ begun ++ more) × (is_allowed c ≡ true)
+viable begun u =
+    let g = subst (Onto any_at begun) u (any-local.reads begun) in
+    let f = found (begun ++ g.0) g.1 [] g.2 in
+    (g.1, g.0, sym (f.0 ∙ append-nil (encode_utf8 g.1)), f.1)
+
+pub lead-begins : (b : ℕ) → 194 ≤ b → b ≤ 244 → any_at (b ∷ []) ≡ Err []
+unfolding any_at
+lead-begins b low high =
+    rw (lead-is-wide (is_allowed b) b low high, more-is b 128 (omega arith)) (cases (nat_lt b 224) (λ e. rw e refl) (λ e. cases (nat_lt b 240) (λ d. rw (e, d) refl) (λ d. rw (e, d) refl)))
+
+-- The bytes of a character.
+
+-- bytes beyond ASCII
+abbrev pub High : List ℕ → Type 0
+High [] = Unit {0}
+High (b ∷ w) = (128 ≤ b) × High w
+
+pub record Wide-bytes (c : ℕ) : Type 0 where
+  pub head : ℕ
+  pub tail : List ℕ
+  pub is : encode_utf8 c ≡ head ∷ tail
+  pub high : High (head ∷ tail)
+
+pub wide-bytes : (c : ℕ) → 128 ≤ c → Wide-bytes c
+wide-bytes c h = by (ranges c) where
+  by : Ranges c → Wide-bytes c
+  by (inl small) = absurd (omega (arith, h, small))
+  by (inr (inl two)) = record { head = 192 + c / 64; tail = (128 + c % 64) ∷ []; is = encode-two c two.0 two.1; high = (omega arith, (omega arith, tt)) }
+  by (inr (inr (inl three))) = record {
+    head = 224 + c / 4096;
+    tail = (128 + c / 64 % 64) ∷ (128 + c % 64) ∷ [];
+    is = encode-three c three.0 three.1;
+    high = (omega arith, (omega arith, (omega arith, tt)));
+  }
+  by (inr (inr (inr four))) = record {
+    head = 240 + c / 262144;
+    tail = (128 + c / 4096 % 64) ∷ (128 + c / 64 % 64) ∷ (128 + c % 64) ∷ [];
+    is = encode-four c four;
+    high = (omega arith, (omega arith, (omega arith, (omega arith, tt))));
+  }
+
+pub record Some-bytes (bytes : List ℕ) : Type 0 where
+  pub head : ℕ
+  pub tail : List ℕ
+  pub is : bytes ≡ head ∷ tail
+
+pub encoded : (c : ℕ) → Some-bytes (encode_utf8 c)
+encoded c = elim (at-most-or-more 128 c) [
+  | inl high ↦ let w = wide-bytes c high in record { head = w.head; tail = w.tail; is = w.is }
+  | inr low ↦ record { head = c; tail = []; is = encode_ascii c (omega (arith, low)) }
+]
+
+-- Characters in bytes: a text of allowed characters is spelled in one way, and is cut only between characters.
+
+-- the bytes of characters
+abbrev pub bytes_of : List ℕ → List ℕ
+bytes_of [] = []
+bytes_of (c ∷ w) = encode_utf8 c ++ bytes_of w
+
+abbrev pub Allowed : List ℕ → Type 0
+Allowed [] = Unit {0}
+Allowed (c ∷ w) = (is_allowed c ≡ true) × Allowed w
+
+-- the byte order mark
+pub mark-bytes : bytes_of (65279 ∷ []) ≡ byte_order_mark
+unfolding encode
+mark-bytes = refl
+
+pub bytes-append : (v w : List ℕ) → bytes_of (v ++ w) ≡ bytes_of v ++ bytes_of w
+bytes-append [] w = refl
+bytes-append (c ∷ v) w = ap (λ xs. encode_utf8 c ++ xs) (bytes-append v w) ∙ sym (append_assoc (encode_utf8 c) (bytes_of v) (bytes_of w))
+
+pub allowed-append : (v w : List ℕ) → Allowed v → Allowed w → Allowed (v ++ w)
+allowed-append [] w a b = b
+allowed-append (c ∷ v) w a b = (a.0, allowed-append v w a.1 b)
+
+pub allowed-front : (v w : List ℕ) → Allowed (v ++ w) → Allowed v
+allowed-front [] w a = tt
+allowed-front (c ∷ v) w a = (a.0, allowed-front v w a.1)
+
+pub allowed-back : (v w : List ℕ) → Allowed (v ++ w) → Allowed w
+allowed-back [] w a = a
+allowed-back (c ∷ v) w a = allowed-back v w a.1
+
+-- the first character
+pub same-first : (c d : ℕ) (x y : List ℕ) → is_allowed c ≡ true → is_allowed d ≡ true → encode_utf8 c ++ x ≡ encode_utf8 d ++ y → (c ≡ d) × (x ≡ y)
+same-first c d x y a b e = ok_same c d x y (sym (decodes c x a) ∙ ap any_at e ∙ decodes d y b)
+
+pub none-spelled : (c : ℕ) (x : List ℕ) → [] ≡ encode_utf8 c ++ x → ⊥
+none-spelled c x e = let s = encoded c in no-cons {a = s.head} {xs = s.tail ++ x} (e ∙ ap (λ xs. xs ++ x) s.is)
+
+-- characters that begin bytes begin the characters of the bytes
+pub cut : (w u tail : List ℕ) → Allowed w → Allowed u → bytes_of w ≡ bytes_of u ++ tail → (left : List ℕ) × (w ≡ u ++ left) × (tail ≡ bytes_of left)
+cut w [] tail a b e = (w, refl, sym e)
+cut [] (d ∷ u) tail a b e = absurd (none-spelled d (bytes_of u ++ tail) (e ∙ append_assoc (encode_utf8 d) (bytes_of u) tail))
+cut (c ∷ w) (d ∷ u) tail a b e =
+    let s = same-first c d (bytes_of w) (bytes_of u ++ tail) a.0 b.0 (e ∙ append_assoc (encode_utf8 d) (bytes_of u) tail) in
+    let r = cut w u tail a.1 b.1 s.1 in
+    (r.0, ap (λ x. x ∷ w) s.0 ∙ ap (λ xs. d ∷ xs) r.1, r.2)
+
+-- one byte each
+abbrev pub Plain : List ℕ → Type 0
+Plain [] = Unit {0}
+Plain (b ∷ w) = (b < 128) × Plain w
+
+pub plain-bytes : (w : List ℕ) → Plain w → bytes_of w ≡ w
+plain-bytes [] p = refl
+plain-bytes (b ∷ w) p = ap (λ xs. xs ++ bytes_of w) (encode_ascii b p.0) ∙ ap (λ xs. b ∷ xs) (plain-bytes w p.1)
+
+pub less-bytes : (w : List ℕ) → bytes_of (60 ∷ w) ≡ 60 ∷ bytes_of w
+less-bytes w = ap (λ xs. xs ++ bytes_of w) (encode_ascii 60 (omega arith))
+
+-- words of ASCII, in allowed characters
+abbrev pub is_ascii : List ℕ → Bool
+is_ascii [] = true
+is_ascii (b ∷ w) = (nat_lt b 128 && is_allowed b) && is_ascii w
+
+pub ascii-first : (b : ℕ) (w : List ℕ) → is_ascii (b ∷ w) ≡ true → (b < 128) × (is_allowed b ≡ true)
+ascii-first b w e = let f = and-first (nat_lt b 128 && is_allowed b) (is_ascii w) e in (grind (arith, nat_tests, and-first (nat_lt b 128) (is_allowed b) f), and-second (nat_lt b 128) (is_allowed b) f)
+
+pub ascii-rest : (b : ℕ) (w : List ℕ) → is_ascii (b ∷ w) ≡ true → is_ascii w ≡ true
+ascii-rest b w e = and-second (nat_lt b 128 && is_allowed b) (is_ascii w) e
+
+pub ascii-plain : (w : List ℕ) → is_ascii w ≡ true → Plain w × Allowed w
+ascii-plain [] e = (tt, tt)
+ascii-plain (b ∷ w) e =
+    let f = ascii-first b w e in
+    let r = ascii-plain w (ascii-rest b w e) in
+    ((f.0, r.0), (f.1, r.1))
+
+pub ascii-bytes : (w : List ℕ) → is_ascii w ≡ true → bytes_of w ≡ w
+ascii-bytes w e = plain-bytes w (ascii-plain w e).0
+
+-- the bytes of whole characters
+pub record Spell (bytes : List ℕ) : Type 0 where
+  pub text : List ℕ
+  pub spelled : bytes ≡ bytes_of text
+  pub allowed : Allowed text
+
+-- the same byte by byte from the front, behind a carriage return or not
+abbrev lines : Bool → List ℕ → List ℕ
+lines behind [] = []
+lines behind (b ∷ w) = cond {A = List ℕ} ((b == 10) && behind) [] (cond {A = List ℕ} (b == 13) (10 ∷ []) (b ∷ [])) ++ lines (b == 13) w
+
+abbrev fed : ℕ → ℕ
+fed b = cond {A = ℕ} (b == 13) 10 b
+
+abbrev Are : List ℕ → Type 0
+Are w = (lines false w ≡ map fed (lone_returns w)) × (lines true w ≡ map fed (without_feed (lone_returns w)))
+
+are : (w : List ℕ) → Are w
+are [] = (refl, refl)
+are (b ∷ w) = by (b == 13) (b == 10) refl refl (are w) where
+  by : (s t : Bool) → (b == 13) ≡ s → (b == 10) ≡ t → Are w → Are (b ∷ w)
+  by true t e f h = subst (λ x. Are (x ∷ w)) (sym (is-byte b 13 e)) (ap (λ xs. 10 ∷ xs) h.1, ap (λ xs. 10 ∷ xs) h.1)
+  by false true e f h = subst (λ x. Are (x ∷ w)) (sym (is-byte b 10 f)) (ap (λ xs. 10 ∷ xs) h.0, h.0)
+  by false false e f h = simp (e, f) (ap (λ xs. b ∷ xs) h.0, ap (λ xs. b ∷ xs) h.0)
+
+-- one text behind another
+abbrev pub ends_return : Bool → List ℕ → Bool
+ends_return behind [] = behind
+ends_return behind (b ∷ w) = ends_return (b == 13) w
+
+lines-append : (behind : Bool) (v w : List ℕ) → lines behind (v ++ w) ≡ lines behind v ++ lines (ends_return behind v) w
+lines-append behind [] w = refl
+lines-append behind (b ∷ v) w =
+    let says : List ℕ = cond {A = List ℕ} ((b == 10) && behind) [] (cond {A = List ℕ} (b == 13) (10 ∷ []) (b ∷ [])) in
+    ap (λ xs. says ++ xs) (lines-append (b == 13) v w) ∙ sym (append_assoc says (lines (b == 13) v) (lines (ends_return (b == 13) v) w))
+
+ends-append : (behind : Bool) (v w : List ℕ) → ends_return behind (v ++ w) ≡ ends_return (ends_return behind v) w
+ends-append behind [] w = refl
+ends-append behind (b ∷ v) w = ends-append (b == 13) v w
+
+no-sign : (b sign : ℕ) → 128 ≤ b → sign < 128 → (b == sign) ≡ false
+no-sign b sign h low = grind (arith, nat_tests)
+
+lines-high : (behind : Bool) (b : ℕ) (w : List ℕ) → High (b ∷ w) → (lines behind (b ∷ w) ≡ b ∷ w) × (ends_return behind (b ∷ w) ≡ false)
+lines-high behind b [] h = simp (no-sign b 13 h.0 (omega arith), no-sign b 10 h.0 (omega arith)) (refl, refl)
+lines-high behind b (x ∷ w) h = simp (no-sign b 13 h.0 (omega arith), no-sign b 10 h.0 (omega arith)) (let r = lines-high false x w h.1 in (ap (λ xs. b ∷ xs) r.0, r.1))
+
+-- one character
+abbrev Char-lines : ℕ → Type 0
+Char-lines c = (behind : Bool) → (lines behind (encode_utf8 c) ≡ line_end_says behind c) × (ends_return behind (encode_utf8 c) ≡ (c == 13))
+
+ascii-lines : (c : ℕ) → c < 128 → Char-lines c
+ascii-lines c low behind =
+    let e = encode_ascii c low in
+    let said : List ℕ → List ℕ = λ xs. cond {A = List ℕ} ((c == 10) && behind) [] (cond {A = List ℕ} (c == 13) (10 ∷ []) xs) in
+    (ap (lines behind) e ∙ append-nil (said (c ∷ [])) ∙ ap said (sym e), ap (ends_return behind) e)
+
+char-lines : (c : ℕ) → Char-lines c
+char-lines c = elim (at-most-or-more 128 c) [ inl high ↦ wide high | inr low ↦ ascii-lines c (omega (arith, low)) ] where
+  wide : 128 ≤ c → Char-lines c
+  wide high behind =
+      let b = wide-bytes c high in
+      let one = no-sign c 13 high (omega arith) in
+      let two = no-sign c 10 high (omega arith) in
+      let s = lines-high behind b.head b.tail b.high in
+      (ap (lines behind) b.is ∙ s.0 ∙ sym b.is ∙ simp (one, two), ap (ends_return behind) b.is ∙ s.1 ∙ sym one)
+
+-- one character more
+pub line_more : (xs : List ℕ) (c : ℕ) → line_ends (xs ++ encode_utf8 c) ≡ line_ends xs ++ line_end_says (ends_return false xs) c
+line_more xs c =
+    let behind = ends_return false xs in
+    sym (are (xs ++ encode_utf8 c)).0 ∙ lines-append false xs (encode_utf8 c) ∙ ap (λ ys. ys ++ lines behind (encode_utf8 c)) (are xs).0
+    ∙ ap (λ ys. line_ends xs ++ ys) (char-lines c behind).0
+
+pub ends_more : (xs : List ℕ) (c : ℕ) → ends_return false (xs ++ encode_utf8 c) ≡ (c == 13)
+ends_more xs c = ends-append false xs (encode_utf8 c) ∙ (char-lines c (ends_return false xs)).1
 
 -- one word behind another
 pub then-of : {A B : Type 0} {G : List ℕ → A → Type 0} {H : A → List ℕ → B → Type 0} {bytes : List ℕ} {b : B} (front back : List ℕ) (a : A) → bytes ≡ front ++ back → G front a → H a back b → Then G H bytes b
@@ -16,27 +476,217 @@ pub says-then : {A B : Type 0} (G : List ℕ → A → Type 0) (f : A → B) (by
 says-then G f bytes b t =
     (t.what, subst (λ xs. G xs t.what) (sym (t.spelled ∙ ap (λ xs. t.front ++ xs) t.second.0 ∙ append-nil t.front)) t.first, t.second.1)
 
--- one more at the end
-pub many-behind : {A : Type 0} (G : List ℕ → A → Type 0) (as_ : List A) (bytes last : List ℕ) (a : A) → Many G bytes as_ → G last a → Many G (bytes ++ last) (as_ ++ a ∷ [])
-many-behind G [] bytes last a e g = (last, [], ap (λ xs. xs ++ last) e ∙ sym (append-nil last), g, refl)
-many-behind G (b ∷ as_) bytes last a (front, back, e, h, more) g = (front, back ++ last, ap (λ xs. xs ++ last) e ∙ append_assoc front back last, h, many-behind G as_ back last a more g)
-
 -- white space
 pub no-blanks : IsBlanks [] tt
 no-blanks = then-says (Many (Byte is_blank)) (λ bs. tt) [] tt [] refl refl
 
-pub more-blank : (c : ℕ) (bytes : List ℕ) → is_blank c ≡ true → IsBlanks bytes tt → IsBlanks (c ∷ bytes) tt
-more-blank c bytes e t =
-    let s = says-then (Many (Byte is_blank)) (λ bs. tt) bytes tt t in
-    then-says (Many (Byte is_blank)) (λ bs. tt) (c ∷ bytes) tt (c ∷ s.0) (c ∷ [], bytes, refl, (refl, e), s.1) refl
-
 pub blank-small : (b : ℕ) → is_blank b ≡ true → (b < 128) × (is_allowed b ≡ true)
 blank-small b e = (grind (arith, nat_tests), grind (arith, nat_tests))
 
-pub blank-ascii : (c : ℕ) (w : List ℕ) → is_blank c ≡ true → is_ascii w ≡ true → is_ascii (c ∷ w) ≡ true
-blank-ascii c w e d = ascii-append (c ∷ []) w (grind (arith, nat_tests)) d
+abbrev pub Form : Type 0 → Type 1
+Form A = List ℕ → A → Type 0
 
+-- Forms that say the same of the same bytes.
+abbrev pub Alike : {A : Type 0} → Form A → Form A → Type 0
+Alike {A} G H = (bytes : List ℕ) (a : A) → (G bytes a → H bytes a) × (H bytes a → G bytes a)
+
+abbrev pub Or : {A : Type 0} → Form A → Form A → Form A
+Or G H bytes a = G bytes a ⊎ H bytes a
+
+module _ {A : Type 0} where
+  pub same : (G : Form A) → Alike G G
+  same G bytes a = (λ g. g, λ g. g)
+
+  pub also : {G H K : Form A} → Alike G H → Alike H K → Alike G K
+  also g h bytes a = (λ x. (h bytes a).0 ((g bytes a).0 x), λ z. (g bytes a).1 ((h bytes a).1 z))
+
+  pub turned : {G H : Form A} → Alike G H → Alike H G
+  turned g bytes a = ((g bytes a).1, (g bytes a).0)
+
+  pub or-alike : {G H K L : Form A} → Alike G K → Alike H L → Alike (Or G H) (Or K L)
+  or-alike g h bytes a = (λ s. elim s [ inl x ↦ inl ((g bytes a).0 x) | inr y ↦ inr ((h bytes a).0 y) ], λ s. elim s [ inl x ↦ inl ((g bytes a).1 x) | inr y ↦ inr ((h bytes a).1 y) ])
+
+  pub or-turned : (G H : Form A) → Alike (Or G H) (Or H G)
+  or-turned G H bytes a = (λ s. elim s [ inl g ↦ inr g | inr h ↦ inl h ], λ s. elim s [ inl h ↦ inr h | inr g ↦ inl g ])
+
+  -- one form behind another
+  pub then-alike : {B : Type 0} {G K : Form B} {H L : B → Form A} → Alike G K → ((b : B) → Alike (H b) (L b)) → Alike (Then G H) (Then K L)
+  then-alike g h bytes a = (
+    λ t. then-of t.front t.back t.what t.spelled ((g t.front t.what).0 t.first) ((h t.what t.back a).0 t.second),
+    λ t. then-of t.front t.back t.what t.spelled ((g t.front t.what).1 t.first) ((h t.what t.back a).1 t.second),
+  )
+
+  pub assoc : {B C : Type 0} (G : Form B) (H : B → Form C) (K : C → Form A) → Alike (Then G (λ b. Then (H b) K)) (Then (Then G H) K)
+  assoc G H K bytes a = (
+    λ t. let s = t.second in then-of (t.front ++ s.front) s.back s.what (t.spelled ∙ ap (λ xs. t.front ++ xs) s.spelled ∙ sym (append_assoc t.front s.front s.back)) (then-of t.front s.front t.what refl t.first s.first) s.second,
+    λ t. let s = t.first in then-of s.front (s.back ++ t.back) s.what (t.spelled ∙ ap (λ xs. xs ++ t.back) s.spelled ∙ append_assoc s.front s.back t.back) s.first (then-of s.back t.back t.what refl s.second t.second),
+  )
+
+  pub says-alike : {B : Type 0} (b : B) (K : B → Form A) → Alike (K b) (Then (Says b) K)
+  says-alike b K bytes a = (
+    λ k. then-of [] bytes b refl (refl, refl) k,
+    λ t. subst (λ x. K x bytes a) t.first.1 (subst (λ xs. K t.what xs a) (sym (t.spelled ∙ ap (λ xs. xs ++ t.back) t.first.0)) t.second),
+  )
+
+-- no bytes before
+pub none-alike : {A : Type 0} {H : Form A} → Alike H (Then (Word []) (λ u. H))
+none-alike {H = H} bytes a = (λ h. then-of [] bytes tt refl refl h, λ t. subst (λ xs. H xs a) (sym (t.spelled ∙ ap (λ xs. xs ++ t.back) t.first)) t.second)
+
+pub word-more : {A : Type 0} {H : Form A} (v w : List ℕ) → Alike (Then (Word v) (λ u. Then (Word w) (λ u. H))) (Then (Word (v ++ w)) (λ u. H))
+word-more v w bytes a = (
+  λ t. let s = t.second in then-of (v ++ w) s.back tt (t.spelled ∙ ap (λ xs. xs ++ t.back) t.first ∙ ap (λ xs. v ++ xs) (s.spelled ∙ ap (λ xs. xs ++ s.back) s.first) ∙ sym (append_assoc v w s.back)) refl s.second,
+  λ t. then-of v (w ++ t.back) tt (t.spelled ∙ ap (λ xs. xs ++ t.back) t.first ∙ append_assoc v w t.back) refl (then-of w t.back tt refl refl t.second),
+)
+
+pub then-or : {A B : Type 0} {G : Form B} {H K : B → Form A} → Alike (Then G (λ b. Or (H b) (K b))) (Or (Then G H) (Then G K))
+then-or bytes a = (
+  λ t. elim t.second [ inl h ↦ inl (then-of t.front t.back t.what t.spelled t.first h) | inr k ↦ inr (then-of t.front t.back t.what t.spelled t.first k) ],
+  λ s. elim s [ inl t ↦ then-of t.front t.back t.what t.spelled t.first (inl t.second) | inr t ↦ then-of t.front t.back t.what t.spelled t.first (inr t.second) ],
+)
+
+pub or-assoc : {A : Type 0} (G H K : Form A) → Alike (Or (Or G H) K) (Or G (Or H K))
+or-assoc G H K bytes a = (
+  λ s. elim s [ inl x ↦ elim x [ inl g ↦ inl g | inr h ↦ inr (inl h) ] | inr k ↦ inr (inr k) ],
+  λ s. elim s [ inl g ↦ inl (inl g) | inr x ↦ elim x [ inl h ↦ inl (inr h) | inr k ↦ inr k ] ],
+)
+
+-- what may be missing
+pub maybe-or : {A B : Type 0} {G : Form B} (H : Option B → Form A) → Alike (Or (Then G (λ b. H (Some b))) (H None)) (Then (Maybe G) H)
+maybe-or {G = G} H bytes a = (λ s. elim s [ inl t ↦ then-of t.front t.back (Some t.what) t.spelled t.first t.second | inr h ↦ then-of [] bytes None refl refl h ], λ t. by t.front t.back t.what t.first t.spelled t.second) where
+  by : (front back : List ℕ) (what : Option _) → Maybe G front what → bytes ≡ front ++ back → H what back a → Or (Then G (λ b. H (Some b))) (H None) bytes a
+  by front back None d e h = inr (subst (λ xs. H None xs a) (sym (e ∙ ap (λ xs. xs ++ back) d)) h)
+  by front back (Some b) g e h = inl (then-of front back b e g h)
+
+-- white space that may be missing
+pub blanks-or : {A : Type 0} {H : Form A} → Alike (Or (Then IsSpace (λ u. H)) H) (Then IsBlanks (λ u. H))
+blanks-or {H = H} bytes a = (
+  λ s. elim s [
+    | inl t ↦ let g = t.first in
+        let m = g.second in
+        then-of t.front t.back tt t.spelled (then-of t.front [] (g.what ∷ m.what) (sym (append-nil t.front)) (g.front, g.back, g.spelled, g.first, subst (λ xs. Many (Byte is_blank) xs m.what) (sym (m.spelled ∙ ap (λ xs. m.front ++ xs) m.second.0 ∙ append-nil m.front)) m.first) (refl, refl)) t.second
+    | inr h ↦ then-of [] bytes tt refl no-blanks h
+  ],
+  λ t. let m = t.first in
+      by t.front t.back m.what (subst (λ xs. Many (Byte is_blank) xs m.what) (sym (m.spelled ∙ ap (λ xs. m.front ++ xs) m.second.0 ∙ append-nil m.front)) m.first) t.spelled t.second,
+) where
+  by : (front back bs : List ℕ) → Many (Byte is_blank) front bs → bytes ≡ front ++ back → H back a → Or (Then IsSpace (λ u. H)) H bytes a
+  by front back [] m e h = inr (subst (λ xs. H xs a) (sym (e ∙ ap (λ xs. xs ++ back) m)) h)
+  by front back (b ∷ bs) (u, v, d, g, more) e h = inl (then-of front back tt e (then-of u v b d g (then-of v [] bs (sym (append-nil v)) more (refl, refl))) h)
+
+-- What a machine reads to its end.
 module _ {M A : Type 0} (step : M → ℕ → Next M A) where
+  pub record Reads (f : ℕ → Next M A) (bytes : List ℕ) (a : A) : Type 0 where
+    pub text : List ℕ
+    pub spelled : bytes ≡ bytes_of text
+    pub allowed : Allowed text
+    pub takes : Enters step f text a
+
+  -- what it reads behind a character
+  abbrev pub Behind : Next M A → Form A
+  Behind Stuck bytes a = ⊥
+  Behind (On n) bytes a = Reads (step n) bytes a
+  Behind (Done d) bytes a = Says d bytes a
+
+  abbrev Onward : Next M A → Form A
+  Onward next w a = comes next (λ n. Takes step n w a) (λ d. (d ≡ a) × (w ≡ []))
+
+  onward-is : (next : Next M A) (w : List ℕ) (a : A) → Allowed w → Onward next w a → Behind next (bytes_of w) a
+  onward-is Stuck w a ok h = absurd h
+  onward-is (On n) w a ok h = record { text = w; spelled = refl; allowed = ok; takes = h }
+  onward-is (Done d) w a ok h = (ap bytes_of h.1, sym h.0)
+
+  is-onward : (next : Next M A) (bytes : List ℕ) (a : A) → Behind next bytes a → (w : List ℕ) × (bytes ≡ bytes_of w) × Allowed w × Onward next w a
+  is-onward Stuck bytes a h = absurd h
+  is-onward (On n) bytes a h = (h.text, h.spelled, h.allowed, h.takes)
+  is-onward (Done d) bytes a h = ([], h.0, tt, (sym h.1, refl))
+
+  -- by its first character
+  pub reads-first : (f : ℕ → Next M A) → Alike (Reads f) (Then (Character is_any) (λ c. Behind (f c)))
+  reads-first f bytes a = (λ r. is r.text r.spelled r.allowed r.takes, back) where
+    is : (w : List ℕ) → bytes ≡ bytes_of w → Allowed w → Enters step f w a → Then (Character is_any) (λ c. Behind (f c)) bytes a
+    is [] e ok h = absurd h
+    is (c ∷ w) e ok h = then-of (encode_utf8 c) (bytes_of w) c e (record { spelled = refl; allowed = ok.0; passes = refl }) (onward-is (f c) w a ok.1 h)
+
+    back : Then (Character is_any) (λ c. Behind (f c)) bytes a → Reads f bytes a
+    back t =
+        let w = is-onward (f t.what) t.back a t.second in
+        record { text = t.what ∷ w.0; spelled = t.spelled ∙ ap (λ xs. xs ++ t.back) t.first.spelled ∙ ap (λ xs. encode_utf8 t.what ++ xs) w.1; allowed = (t.first.allowed, w.2); takes = w.3 }
+
+  pub reads-as : {f g : ℕ → Next M A} {H : Form A} → ((c : ℕ) → f c ≡ g c) → Alike (Reads g) H → Alike (Reads f) H
+  reads-as {f} {g} is e = also (reads-first f) (also (then-alike (same (Character is_any)) (λ c. rw (is c) (same (Behind (g c))))) (also (turned (reads-first g)) e))
+
+  pub reads-if : (t : ℕ → Bool) (f : ℕ → Next M A) (H : ℕ → Form A) → ((c : ℕ) → t c ≡ true → Alike (Behind (f c)) (H c)) → Alike (Reads (λ c. cond (t c) (f c) Stuck)) (Then (Character t) H)
+  reads-if t f H e = also (reads-first (λ c. cond (t c) (f c) Stuck)) (λ bytes a. (
+    λ r. cases (t r.what) (λ d. then-of r.front r.back r.what r.spelled (record { spelled = r.first.spelled; allowed = r.first.allowed; passes = d }) ((e r.what d r.back a).0 (rw d at r.second))) (λ d. absurd (rw d at r.second)),
+    λ r. then-of r.front r.back r.what r.spelled (record { spelled = r.first.spelled; allowed = r.first.allowed; passes = refl }) (rw r.first.passes ((e r.what r.first.passes r.back a).1 r.second)),
+  ))
+
+  pub reads-byte : (t : ℕ → Bool) (f : ℕ → Next M A) (H : ℕ → Form A) → ((c : ℕ) → t c ≡ true → (c < 128) × (is_allowed c ≡ true)) → ((c : ℕ) → t c ≡ true → Alike (Behind (f c)) (H c)) → Alike (Reads (λ c. cond (t c) (f c) Stuck)) (Then (Byte t) H)
+  reads-byte t f H small e = also (reads-if t f H e) (then-alike (λ bytes c. (λ h. (h.spelled ∙ encode_ascii c (small c h.passes).0, h.passes), λ h. record { spelled = h.0 ∙ sym (encode_ascii c (small c h.1).0); allowed = (small c h.1).1; passes = h.1 })) (λ c. same (H c)))
+
+  -- words, letter by letter
+  pub reads-letter : (b : ℕ) (x : Next M A) (left : List ℕ) (H : Form A) → b < 128 → is_allowed b ≡ true → Alike (Behind x) (Then (Word left) (λ u. H)) → Alike (Reads (λ c. cond (c == b) x Stuck)) (Then (Word (b ∷ left)) (λ u. H))
+  reads-letter b x left H low ok e =
+      also (reads-byte (λ c. c == b) (λ c. x) (λ c. Then (Word left) (λ u. H)) (λ c d. let is = is-byte c b d in (subst (λ x. x < 128) (sym is) low, ap is_allowed is ∙ ok)) (λ c d. e))
+      (also (λ bytes a. (λ t. then-of t.front t.back tt t.spelled (t.first.0 ∙ ap (λ x. x ∷ []) (is-byte t.what b t.first.1)) t.second, λ t. then-of t.front t.back b t.spelled (t.first, same-byte b) t.second)) (word-more (b ∷ []) left))
+
+  pub reads-word : (S : List ℕ → M) (H : Form A) → ((b : ℕ) (left : List ℕ) → step (S (b ∷ left)) ≡ (λ c. cond (c == b) (On (S left)) Stuck)) → Alike (Reads (step (S []))) H → (left : List ℕ) → is_ascii left ≡ true → Alike (Reads (step (S left))) (Then (Word left) (λ u. H))
+  reads-word S H is e [] ok = also e none-alike
+  reads-word S H is e (b ∷ left) ok =
+      let one = ascii-first b left ok in
+      rw (is b left) (reads-letter b (On (S left)) left H one.0 one.1 (reads-word S H is e left (ascii-rest b left ok)))
+
+  pub reads-or : (t : ℕ → Bool) (h f g : ℕ → Next M A) (G H : Form A) → ((c : ℕ) → h c ≡ cond (t c) (f c) (g c)) → ((c : ℕ) → t c ≡ true → g c ≡ Stuck) → Alike (Reads (λ c. cond (t c) (f c) Stuck)) G → Alike (Reads g) H → Alike (Reads h) (Or G H)
+  reads-or t h f g G H is apart i j = also (also (reads-first h) (λ bytes a. (
+    λ r. cases (t r.what) (λ d. inl (then-of r.front r.back r.what r.spelled r.first (rw d (rw (is r.what, d) at r.second)))) (λ d. inr (then-of r.front r.back r.what r.spelled r.first (rw (is r.what, d) at r.second))),
+    λ s. elim s [
+      | inl r ↦ then-of r.front r.back r.what r.spelled r.first (rw (is r.what) (cases (t r.what) (λ d. rw d (rw d at r.second)) (λ d. absurd (rw d at r.second))))
+      | inr r ↦ then-of r.front r.back r.what r.spelled r.first (rw (is r.what) (cases (t r.what) (λ d. absurd (rw (apart r.what d) at r.second)) (λ d. rw d r.second)))
+    ],
+  ))) (or-alike (also (turned (reads-first (λ c. cond (t c) (f c) Stuck))) i) (also (turned (reads-first g)) j))
+
+  -- one form any number of times
+  module _ {X B : Type 0} (add : X → B → X) where
+    abbrev pub added : X → List B → X
+    added x [] = x
+    added x (b ∷ bs) = added (add x b) bs
+
+    pub reads-many : (L : X → ℕ → Next M A) (G : Form B) (H : X → Form A) → ((bytes : List ℕ) (b : B) → G bytes b → 0 < length bytes)
+        → ((x : X) → Alike (Reads (L x)) (Or (Then G (λ b. Reads (L (add x b)))) (H x))) → (x : X) → Alike (Reads (L x)) (Then (Many G) (λ bs. H (added x bs)))
+    reads-many L G H some one x bytes a = (λ r. is (length bytes) x bytes (omega arith) r, λ t. back t.what x t.front t.back bytes t.spelled t.first t.second) where
+      less : {bytes : List ℕ} {K : B → Form A} (t : Then G K bytes a) → length t.back < length bytes
+      less {bytes} t = omega (arith, some t.front t.what t.first, ap length t.spelled, length-append t.front t.back)
+
+      is : (n : ℕ) (x : X) (bytes : List ℕ) → length bytes ≤ n → Reads (L x) bytes a → Then (Many G) (λ bs. H (added x bs)) bytes a
+      is zero x bytes few r = elim ((one x bytes a).0 r) [ inl t ↦ absurd (omega (arith, few, less t)) | inr h ↦ then-of [] bytes [] refl refl h ]
+      is (suc n) x bytes few r = elim ((one x bytes a).0 r) [
+        | inl t ↦ let s = is n (add x t.what) t.back (omega (arith, few, less t)) t.second in
+            then-of (t.front ++ s.front) s.back (t.what ∷ s.what) (t.spelled ∙ ap (λ xs. t.front ++ xs) s.spelled ∙ sym (append_assoc t.front s.front s.back)) (t.front, s.front, refl, t.first, s.first) s.second
+        | inr h ↦ then-of [] bytes [] refl refl h
+      ]
+
+      back : (bs : List B) (x : X) (front rest bytes : List ℕ) → bytes ≡ front ++ rest → Many G front bs → H (added x bs) rest a → Reads (L x) bytes a
+      back [] x front rest bytes e m h = (one x bytes a).1 (inr (subst (λ xs. H x xs a) (sym (e ∙ ap (λ xs. xs ++ rest) m)) h))
+      back (b ∷ bs) x front rest bytes e (u, v, d, g, more) h =
+          (one x bytes a).1 (inl (then-of u (v ++ rest) b (e ∙ ap (λ xs. xs ++ rest) d ∙ append_assoc u v rest) g (back bs (add x b) v rest (v ++ rest) refl more h)))
+
+  -- white space and an equals sign
+  pub reads-blanks : (m : M) (next : ℕ → Next M A) (H : Form A) → step m ≡ (λ c. cond (is_blank c) (On m) (next c)) → ((c : ℕ) → is_blank c ≡ true → next c ≡ Stuck) → Alike (Reads next) H → Alike (Reads (step m)) (Then IsBlanks (λ u. H))
+  reads-blanks m next H is apart e =
+      also (reads-many {X = Unit {0}} {B = ℕ} (λ x b. tt) (λ u. step m) (Byte is_blank) (λ u. H) (λ bytes b g. omega (arith, ap length g.0))
+      (λ u. subst (λ f. Alike (Reads f) (Or (Then (Byte is_blank) (λ b. Reads (step m))) H)) (sym is) (reads-or is_blank (λ c. cond (is_blank c) (On m) (next c)) (λ c. On m) next (Then (Byte is_blank) (λ b. Reads (step m))) H (λ c. refl) apart (reads-byte is_blank (λ c. On m) (λ c. Reads (step m)) blank-small (λ c d. same (Reads (step m)))) e)) tt)
+      (also (then-alike (same (Many (Byte is_blank))) (λ bs. says-alike tt (λ u. H))) (assoc (Many (Byte is_blank)) (λ bs. Says tt) (λ u. H)))
+
+  pub reads-space : (m : M) (H : Form A) → Alike (Reads (step m)) (Then IsBlanks (λ u. H)) → Alike (Reads (λ c. cond (is_blank c) (On m) Stuck)) (Then IsSpace (λ u. H))
+  reads-space m H e = also (reads-byte is_blank (λ c. On m) (λ c. Then IsBlanks (λ u. H)) blank-small (λ c d. e)) (assoc (Byte is_blank) (λ c. IsBlanks) (λ u. H))
+
+  pub reads-equals : (m n : M) (next : ℕ → Next M A) (H : Form A) → step m ≡ (λ c. cond (is_blank c) (On m) (cond (c == 61) (On n) Stuck)) → step n ≡ (λ c. cond (is_blank c) (On n) (next c)) → ((c : ℕ) → is_blank c ≡ true → next c ≡ Stuck)
+      → Alike (Reads next) H → Alike (Reads (step m)) (Then IsEquals (λ u. H))
+  reads-equals m n next H is so apart e =
+      also (reads-blanks m (λ c. cond (c == 61) (On n) Stuck) (Then (Word (61 ∷ [])) (λ u. Then IsBlanks (λ u. H))) is (λ c d. let other : (c == 61) ≡ false = grind (arith, nat_tests) in rw other refl)
+      (reads-letter 61 (On n) [] (Then IsBlanks (λ u. H)) (omega arith) refl (also (reads-blanks n next H so apart e) none-alike)))
+      (also (then-alike (same IsBlanks) (λ u. assoc (Word (61 ∷ [])) (λ u. IsBlanks) (λ u. H))) (assoc IsBlanks (λ u. Then (Word (61 ∷ [])) (λ u. IsBlanks)) (λ u. H)))
+
   -- bytes that lead from one state to another one, and to the end of what the machine reads
   pub record Way (m : M) (bytes : List ℕ) (n : M) : Type 0 where
     pub text : List ℕ
@@ -44,11 +694,8 @@ module _ {M A : Type 0} (step : M → ℕ → Next M A) where
     pub allowed : Allowed text
     pub steps : Steps step m text n
 
-  pub record Said (m : M) (bytes : List ℕ) (a : A) : Type 0 where
-    pub text : List ℕ
-    pub spelled : bytes ≡ bytes_of text
-    pub allowed : Allowed text
-    pub takes : Takes step m text a
+  abbrev pub Said : M → List ℕ → A → Type 0
+  Said m bytes a = Reads (step m) bytes a
 
   pub way-then : {m l n : M} {front back : List ℕ} (bytes : List ℕ) → bytes ≡ front ++ back → Way m front l → Way l back n → Way m bytes n
   way-then {m} {l} {n} {front} {back} bytes e v w = record {
@@ -58,14 +705,6 @@ module _ {M A : Type 0} (step : M → ℕ → Next M A) where
     steps = steps-then step v.text w.text m l n v.steps w.steps;
   }
 
-  pub said-then : {m l : M} {a : A} {front back : List ℕ} (bytes : List ℕ) → bytes ≡ front ++ back → Way m front l → Said l back a → Said m bytes a
-  said-then {m} {l} {a} {front} {back} bytes e v w = record {
-    text = v.text ++ w.text;
-    spelled = e ∙ ap (λ xs. xs ++ back) v.spelled ∙ ap (λ xs. bytes_of v.text ++ xs) w.spelled ∙ sym (bytes-append v.text w.text);
-    allowed = allowed-append v.text w.text v.allowed w.allowed;
-    takes = takes-then step v.text w.text m l a v.steps w.takes;
-  }
-
   pub way-none : {m : M} {bytes : List ℕ} → bytes ≡ [] → Way m bytes m
   way-none e = record { text = []; spelled = e; allowed = tt; steps = refl }
 
@@ -73,21 +712,8 @@ module _ {M A : Type 0} (step : M → ℕ → Next M A) where
   pub way-one : {m n : M} {bytes : List ℕ} (c : ℕ) → bytes ≡ encode_utf8 c → is_allowed c ≡ true → step m c ≡ On n → Way m bytes n
   way-one {m} {n} c e ok d = record { text = c ∷ []; spelled = e ∙ sym (append-nil (encode_utf8 c)); allowed = (ok, tt); steps = subst (λ x. comes x (λ l. l ≡ n) (λ a. ⊥)) (sym d) refl }
 
-  pub said-one : {m : M} {a : A} {bytes : List ℕ} (c : ℕ) → bytes ≡ encode_utf8 c → is_allowed c ≡ true → step m c ≡ Done a → Said m bytes a
-  said-one {m} {a} c e ok d = record { text = c ∷ []; spelled = e ∙ sym (append-nil (encode_utf8 c)); allowed = (ok, tt); takes = subst (λ x. comes x (λ l. Takes step l [] a) (λ b. (b ≡ a) × (◌≡◌ {A = List ℕ} [] []))) (sym d) (refl, refl) }
-
   pub way-byte : {m n : M} {bytes : List ℕ} (c : ℕ) → bytes ≡ c ∷ [] → c < 128 → is_allowed c ≡ true → step m c ≡ On n → Way m bytes n
   way-byte c e low ok d = way-one c (e ∙ sym (encode_ascii c low)) ok d
-
-  pub said-byte : {m : M} {a : A} {bytes : List ℕ} (c : ℕ) → bytes ≡ c ∷ [] → c < 128 → is_allowed c ≡ true → step m c ≡ Done a → Said m bytes a
-  said-byte c e low ok d = said-one c (e ∙ sym (encode_ascii c low)) ok d
-
-  -- where a state answers what comes as another one does
-  pub said-same : {m n : M} {bytes : List ℕ} {a : A} → ((c : ℕ) (w : List ℕ) → Takes step n (c ∷ w) a → step m c ≡ step n c) → Said n bytes a → Said m bytes a
-  said-same {m} {n} {bytes} {a} is s = record { text = s.text; spelled = s.spelled; allowed = s.allowed; takes = by s.text s.takes } where
-    by : (w : List ℕ) → Takes step n w a → Takes step m w a
-    by [] t = absurd t
-    by (c ∷ w) t = rw (is c w t) t
 
   pub way-text : {m n : M} {bytes : List ℕ} (text : List ℕ) → is_ascii text ≡ true → bytes ≡ text → Steps step m text n → Way m bytes n
   way-text text ok e s = let a = ascii-plain text ok in record { text = text; spelled = e ∙ sym (plain-bytes text a.0); allowed = a.1; steps = s }
@@ -96,56 +722,6 @@ module _ {M A : Type 0} (step : M → ℕ → Next M A) where
   pub way-many : {B : Type 0} {m : M} (G : List ℕ → B → Type 0) → ((bytes : List ℕ) (b : B) → G bytes b → Way m bytes m) → (bs : List B) (bytes : List ℕ) → Many G bytes bs → Way m bytes m
   way-many G one [] bytes e = way-none e
   way-many G one (b ∷ bs) bytes (front, back, e, g, more) = way-then bytes e (one front b g) (way-many G one bs back more)
-
-  pub way-blanks : {m : M} → ((c : ℕ) → is_blank c ≡ true → step m c ≡ On m) → (bytes : List ℕ) → IsBlanks bytes tt → Way m bytes m
-  way-blanks {m} stays bytes t =
-      let s = says-then (Many (Byte is_blank)) (λ bs. tt) bytes tt t in
-      way-many (Byte is_blank) (λ front c g. way-byte c g.0 (blank-small c g.1).0 (blank-small c g.1).1 (stays c g.1)) s.0 bytes s.1
-
-  -- white space from where none came yet
-  pub blanks-to : (P : M → Type 0) (m n : M) → P m → P n → ((c : ℕ) → is_blank c ≡ true → step m c ≡ On n) → ((c : ℕ) → is_blank c ≡ true → step n c ≡ On n) → (bytes : List ℕ) → IsBlanks bytes tt → (l : M) × Way m bytes l × P l
-  blanks-to P m n p q begins stays bytes t = let s = says-then (Many (Byte is_blank)) (λ bs. tt) bytes tt t in by s.0 s.1 where
-    by : (bs : List ℕ) → Many (Byte is_blank) bytes bs → (l : M) × Way m bytes l × P l
-    by [] e = (m, way-none e, p)
-    by (b ∷ bs) (front, back, e, g, more) = (n, way-then bytes e (way-byte b g.0 (blank-small b g.1).0 (blank-small b g.1).1 (begins b g.1)) (way-blanks stays back (then-says (Many (Byte is_blank)) (λ bs. tt) back tt bs more refl)), q)
-
-  -- what is taken behind white space
-  pub record Spaced (next : ℕ → Next M A) (w : List ℕ) (a : A) : Type 0 where
-    pub blanks : List ℕ
-    pub first : ℕ
-    pub rest : List ℕ
-    pub spelled : w ≡ blanks ++ first ∷ rest
-    pub are : IsBlanks blanks tt
-    pub ascii : is_ascii blanks ≡ true
-    pub follows : comes (next first) (λ n. Takes step n rest a) (λ b. (b ≡ a) × (rest ≡ []))
-
-  pub spaced-takes : (m : M) (next : ℕ → Next M A) → ((c : ℕ) → step m c ≡ cond (is_blank c) (On m) (next c)) → (w : List ℕ) (a : A) → Takes step m w a → Spaced next w a
-  spaced-takes m next is [] a t = absurd t
-  spaced-takes m next is (c ∷ w) a t =
-      let h = subst (λ x. comes x (λ n. Takes step n w a) (λ b. (b ≡ a) × (w ≡ []))) (is c) t in
-      cases (is_blank c) (λ e. let r = spaced-takes m next is w a (rw e at h) in record { blanks = c ∷ r.blanks; first = r.first; rest = r.rest; spelled = ap (λ xs. c ∷ xs) r.spelled; are = more-blank c r.blanks e r.are; ascii = blank-ascii c r.blanks e r.ascii; follows = r.follows })
-      (λ e. record { blanks = []; first = c; rest = w; spelled = refl; are = no-blanks; ascii = refl; follows = rw e at h })
-
-  -- a word whose rest is the state
-  module _ (S : List ℕ → M) (is : (b : ℕ) (left : List ℕ) (c : ℕ) → step (S (b ∷ left)) c ≡ cond (c == b) (On (S left)) Stuck) where
-    pub way-word : (left bytes : List ℕ) → bytes ≡ left → is_ascii left ≡ true → Way (S left) bytes (S [])
-    way-word [] bytes e ok = way-none e
-    way-word (b ∷ left) bytes e ok = way-then bytes e (way-byte b refl (ascii-first b left ok).0 (ascii-first b left ok).1 (is b left b ∙ ap (λ x. cond x (On (S left)) Stuck) (same-byte b))) (way-word left left refl (ascii-rest b left ok))
-
-    pub word-takes : (left w : List ℕ) (a : A) → Takes step (S left) w a → (v : List ℕ) × (w ≡ left ++ v) × Takes step (S []) v a
-    word-takes [] w a t = (w, refl, t)
-    word-takes (b ∷ left) [] a t = absurd t
-    word-takes (b ∷ left) (c ∷ w) a t =
-        let h = only-if (c == b) _ _ _ (subst (λ x. comes x (λ n. Takes step n w a) (λ b. (b ≡ a) × (w ≡ []))) (is b left c) t) in
-        let r = word-takes left w a h.1 in
-        (r.0, ap (λ x. x ∷ w) (is-byte c b h.0) ∙ ap (λ xs. b ∷ xs) r.1, r.2)
-
--- what is kept of each state, with what came, and where the machine ends
-pub steps-keep : {M A : Type 0} (step : M → ℕ → Next M A) (I Q : M → List ℕ → Type 0)
-    → ((m : M) (u : List ℕ) (c : ℕ) → is_allowed c ≡ true → I m u → holds (step m c) (λ n. I n (u ++ c ∷ [])) (λ a. Q m u)) → (w u : List ℕ) (m n : M) → Allowed w → Steps step m w n → I m u → I n (u ++ w)
-steps-keep step I Q keep [] u m n ok s h = subst (I n) (sym (append-nil u)) (subst (λ x. I x u) s h)
-steps-keep step I Q keep (c ∷ w) u m n ok s h =
-    next-by (step m c) (λ e. absurd (rw e at s)) (λ l e. subst (I n) (append_assoc u (c ∷ []) w) (steps-keep step I Q keep w (u ++ c ∷ []) l n ok.1 (rw e at s) (rw e at (keep m u c ok.0 h)))) (λ a e. absurd (rw e at s))
 
 -- a machine whose states are some of another one
 module _ {M A N B : Type 0} (step : M → ℕ → Next M A) (outer : N → ℕ → Next N B) (to : M → N) (is : (m n : M) (c : ℕ) → step m c ≡ On n → outer (to m) c ≡ On (to n)) where
@@ -158,43 +734,122 @@ module _ {M A N B : Type 0} (step : M → ℕ → Next M A) (outer : N → ℕ �
 
 -- a machine inside another one
 module _ {M A N B : Type 0} (step : M → ℕ → Next M A) (outer : N → ℕ → Next N B) (to : M → N) (over : A → Next N B) (is : (m : M) (c : ℕ) → outer (to m) c ≡ leads (step m c) to over) where
-  takes-over : (R : N → List ℕ → Type 0) (S : B → List ℕ → Type 0) → ((n : N) (c : ℕ) (w : List ℕ) → comes (outer n c) (λ k. R k w) (λ d. S d w) → R n (c ∷ w))
-      → (w : List ℕ) (m : M) (a : A) → comes (over a) (λ k. R k []) (λ d. S d []) → Takes step m w a → R (to m) w
-  takes-over R S back [] m a k t = absurd t
-  takes-over R S back (c ∷ w) m a k t =
-      back (to m) c w (rw (is m c) (next-by (step m c) (λ e. absurd (rw e at t)) (λ l e. rw e (takes-over R S back w l a k (rw e at t)))
-      (λ b e. let h = rw e at t in rw e (subst (λ x. comes (over x) (λ k. R k w) (λ d. S d w)) (sym h.0) (subst (λ xs. comes (over a) (λ k. R k xs) (λ d. S d xs)) (sym h.1) k)))))
-
   pub takes-on : (w : List ℕ) (m : M) (a : A) (n : N) → over a ≡ On n → Takes step m w a → Steps outer (to m) w n
-  takes-on w m a n e t = takes-over (λ k u. Steps outer k u n) (λ d u. ⊥) (λ k c u h. h) w m a (rw e refl) t
+  takes-on [] m a n d t = absurd t
+  takes-on (c ∷ w) m a n d t =
+      rw (is m c) (next-by (step m c) (λ e. absurd (rw e at t)) (λ l e. rw e (takes-on w l a n d (rw e at t))) (λ b e. let h = rw e at t in rw (e, h.0, d) (rw h.1 refl)))
 
-  pub takes-done : (w : List ℕ) (m : M) (a : A) (b : B) → over a ≡ Done b → Takes step m w a → Takes outer (to m) w b
-  takes-done w m a b e t = takes-over (λ k u. Takes outer k u b) (λ d u. (d ≡ b) × (u ≡ [])) (λ k c u h. h) w m a (rw e (refl, refl)) t
+  pub said-on : {a : A} {bytes : List ℕ} (m : M) (n : N) → over a ≡ On n → Reads step (step m) bytes a → Way outer (to m) bytes n
+  said-on {a} m n e s = record { text = s.text; spelled = s.spelled; allowed = s.allowed; steps = takes-on s.text m a n e s.takes }
 
-  pub way-in : {m n : M} {bytes : List ℕ} → Way step m bytes n → Way outer (to m) bytes (to n)
-  way-in v = way-as step outer to (λ m n c e. is m c ∙ ap (λ x. leads x to over) e) v
+-- A machine inside another one, and what that reads behind it.
+module _ {M A N B : Type 0} (step : M → ℕ → Next M A) (inner : N → ℕ → Next N B) (to : N → M) (over : B → Next M A) (is : (n : N) (c : ℕ) → step (to n) c ≡ leads (inner n c) to over) where
+  abbrev Led-as : (ℕ → Next M A) → (ℕ → Next N B) → Type 0
+  Led-as f g = (c : ℕ) → f c ≡ leads (g c) to over
 
-  pub said-on : {m : M} {a : A} {bytes : List ℕ} (n : N) → over a ≡ On n → Said step m bytes a → Way outer (to m) bytes n
-  said-on {m} {a} n e s = record { text = s.text; spelled = s.spelled; allowed = s.allowed; steps = takes-on s.text m a n e s.takes }
+  takes-apart : (w : List ℕ) (f : ℕ → Next M A) (g : ℕ → Next N B) → Led-as f g → (a : A) → Enters step f w a → (v u : List ℕ) × (b : B) × (w ≡ v ++ u) × Enters inner g v b × Onward step (over b) u a
+  takes-apart [] f g i a h = absurd h
+  takes-apart (c ∷ w) f g i a h =
+      next-by (g c) (λ e. absurd (rw (i c, e) at h)) (λ n e. let r = takes-apart w (step (to n)) (inner n) (is n) a (rw (i c, e) at h) in (c ∷ r.0, r.1, r.2, ap (λ xs. c ∷ xs) r.3, rw e r.4, r.5)) (λ b e. (c ∷ [], w, b, refl, rw e (refl, refl), rw (i c, e) at h))
 
-  pub said-done : {m : M} {a : A} {bytes : List ℕ} (b : B) → over a ≡ Done b → Said step m bytes a → Said outer (to m) bytes b
-  said-done {m} {a} b e s = record { text = s.text; spelled = s.spelled; allowed = s.allowed; takes = takes-done s.text m a b e s.takes }
+  takes-both : (v u : List ℕ) (f : ℕ → Next M A) (g : ℕ → Next N B) → Led-as f g → (b : B) (a : A) → Enters inner g v b → Onward step (over b) u a → Enters step f (v ++ u) a
+  takes-both [] u f g i b a t k = absurd t
+  takes-both (c ∷ v) u f g i b a t k =
+      next-by (g c) (λ e. absurd (rw e at t)) (λ n e. rw (i c, e) (takes-both v u (step (to n)) (inner n) (is n) b a (rw e at t) k)) (λ d e. let h = rw e at t in rw (i c, e, h.0) (rw h.1 k))
 
-  -- what is taken, by what the inner machine takes first
-  abbrev Behind : B → A → List ℕ → Type 0
-  Behind b a v = comes (over a) (λ n. Takes outer n v b) (λ d. (d ≡ b) × (v ≡ []))
+  pub reads-in : (f : ℕ → Next M A) (g : ℕ → Next N B) → Led-as f g → Alike (Reads step f) (Then (Reads inner g) (λ b. Behind step (over b)))
+  reads-in f g i bytes a = (
+    λ r. let t = takes-apart r.text f g i a r.takes in
+        let all = subst Allowed t.3 r.allowed in
+        then-of (bytes_of t.0) (bytes_of t.1) t.2 (r.spelled ∙ ap bytes_of t.3 ∙ bytes-append t.0 t.1) (record { text = t.0; spelled = refl; allowed = allowed-front t.0 t.1 all; takes = t.4 }) (onward-is step (over t.2) t.1 a (allowed-back t.0 t.1 all) t.5),
+    λ t. let r = t.first in
+        let w = is-onward step (over t.what) t.back a t.second in
+        record { text = r.text ++ w.0; spelled = t.spelled ∙ ap (λ xs. xs ++ t.back) r.spelled ∙ ap (λ xs. bytes_of r.text ++ xs) w.1 ∙ sym (bytes-append r.text w.0); allowed = allowed-append r.text w.0 r.allowed w.2; takes = takes-both r.text w.0 f g i t.what a r.takes w.3 },
+  )
 
-  pub inner-takes : (w : List ℕ) (m : M) (b : B) → Takes outer (to m) w b → Read step m (Behind b) w
-  inner-takes [] m b t = absurd t
-  inner-takes (c ∷ w) m b t =
-      let h = subst (λ x. comes x (λ l. Takes outer l w b) (λ d. (d ≡ b) × (w ≡ []))) (is m c) t in
-      next-by (step m c) (λ e. absurd (rw e at h))
-      (λ l e. let r = inner-takes w l b (rw e at h) in record { front = c ∷ r.front; behind = r.behind; said = r.said; spelled = ap (λ xs. c ∷ xs) r.spelled; takes = rw e r.takes; follows = r.follows })
-      (λ a e. record { front = c ∷ []; behind = w; said = a; spelled = refl; takes = rw e (refl, refl); follows = rw e at h })
+  -- from one of its states
+  pub reads-state : (n : N) → Alike (Reads step (step (to n))) (Then (Reads inner (inner n)) (λ b. Behind step (over b)))
+  reads-state n = reads-in (step (to n)) (inner n) (is n)
 
-  -- where that is all of it
-  pub inner-all : (f : A → B) → ((a : A) → over a ≡ Done (f a)) → (w : List ℕ) (m : M) (b : B) → Takes outer (to m) w b → (a : A) × Takes step m w a × (f a ≡ b)
-  inner-all f all w m b t =
-      let r = inner-takes w m b t in
-      let h = subst (λ x. comes x (λ n. Takes outer n r.behind b) (λ d. (d ≡ b) × (r.behind ≡ []))) (all r.said) r.follows in
-      (r.said, subst (λ xs. Takes step m xs r.said) (sym (r.spelled ∙ ap (λ xs. r.front ++ xs) h.1 ∙ append-nil r.front)) r.takes, h.0)
+pub name-no-bang : (c : ℕ) → begins_name c ≡ true → (c == 33) ≡ false
+name-no-bang c e = grind (arith, nat_tests)
+
+-- The states before the root.
+pub data Early : Type 0 where
+  AtBegin : Early
+  AtMarked : Early
+  AtFirst : Early
+  InDeclaration : Declaring → Early
+  InProlog : Misc → Early
+
+abbrev pub mode_of : Early → Mode
+mode_of AtBegin = Begin
+mode_of AtMarked = Marked
+mode_of AtFirst = First
+mode_of (InDeclaration d) = Declaration d
+mode_of (InProlog m) = Prolog m
+
+-- where a character leads, or that it is the root's
+abbrev pub misc_next : Misc → ℕ → Next Early (Unit {0})
+misc_next m c = leads (misc_step m c) InProlog (λ u. cond (begins_name c) (Done tt) Stuck)
+
+abbrev pub marked_next : ℕ → Next Early (Unit {0})
+marked_next c = cond (c == 60) (On AtFirst) (misc_next Blanks c)
+
+abbrev pub early_next : Early → ℕ → Next Early (Unit {0})
+early_next AtBegin c = cond (c == 65279) (On AtMarked) (marked_next c)
+early_next AtMarked c = marked_next c
+early_next AtFirst c = cond (c == 63) (On (InDeclaration (Xml (codes "xml")))) (misc_next MiscLess c)
+early_next (InDeclaration d) c = leads (step_declaration d c) InDeclaration (λ u. On (InProlog Blanks))
+early_next (InProlog m) c = misc_next m c
+
+-- the move
+abbrev pub root_or : List Open → Next Early (Unit {0}) → ℕ → Move
+root_or opens Stuck c = Stops
+root_or opens (On e) c = To (mode_of e) opens []
+root_or opens (Done u) c = root_move opens c
+
+misc-is : (opens : List Open) (next : Next Misc (Unit {0})) (c : ℕ) → prolog_move opens next c ≡ root_or opens (leads next InProlog (λ u. cond (begins_name c) (Done tt) Stuck)) c
+misc-is opens (Done u) c = cases (begins_name c) (λ d. rw d (rw d refl)) (λ d. rw d refl)
+misc-is opens other c = refl
+
+marked-is : (opens : List Open) (c : ℕ) → marked_move opens c ≡ root_or opens (marked_next c) c
+marked-is opens c = by-test (λ t. cond t (To First opens []) (prolog_move opens (misc_step Blanks c) c) ≡ root_or opens (cond t (On AtFirst) (misc_next Blanks c)) c) refl (misc-is opens (misc_step Blanks c) c) (c == 60)
+
+pub step-is : (e : Early) (opens : List Open) (c : ℕ) → step (mode_of e) opens c ≡ root_or opens (early_next e c) c
+step-is AtBegin opens c = by-test (λ t. cond t (To Marked opens []) (marked_move opens c) ≡ root_or opens (cond t (On AtMarked) (marked_next c)) c) refl (marked-is opens c) (c == 65279)
+step-is AtMarked opens c = marked-is opens c
+step-is AtFirst opens c = by-test (λ t. cond t (To (Declaration (Xml (codes "xml"))) opens []) (prolog_move opens (misc_step MiscLess c) c) ≡ root_or opens (cond t (On (InDeclaration (Xml (codes "xml")))) (misc_next MiscLess c)) c) refl (misc-is opens (misc_step MiscLess c) c) (c == 63)
+step-is (InDeclaration d) opens c = next-by (step_declaration d c) (λ e. rw e refl) (λ n e. rw e refl) (λ u e. rw e refl)
+step-is (InProlog m) opens c = misc-is opens (misc_step m c) c
+
+-- a mode with what is open in it
+abbrev pub Place : Type 0
+Place = Mode × List Open
+
+-- where a character leads
+abbrev pub place : Move → Next Place (Unit {0})
+place Stops = Stuck
+place (To mode opens us) = On (mode, opens)
+
+abbrev pub P : Place → ℕ → Next Place (Unit {0})
+P p c = place (step p.0 p.1 c)
+
+abbrev pub Runs : Mode → List Open → List ℕ → Mode → List Open → Type 0
+Runs mode opens w m o = Steps P (mode, opens) w (m, o)
+
+-- the rest of a document
+abbrev pub Ends : Mode → List Open → List ℕ → Type 0
+Ends mode opens w = (m : Mode) × (o : List Open) × Runs mode opens w m o × (is_behind m ≡ true)
+
+-- what runs behind the first characters
+pub steps-behind : {M A : Type 0} (step : M → ℕ → Next M A) (v w : List ℕ) (m l n : M) → Steps step m v l → Steps step m (v ++ w) n → Steps step l w n
+steps-behind step [] w m l n s t = subst (λ x. Steps step x w n) s t
+steps-behind step (c ∷ v) w m l n s t = next-by (step m c) (λ e. absurd (rw e at s)) (λ k e. steps-behind step v w k l n (rw e at s) (rw e at t)) (λ a e. absurd (rw e at s))
+
+-- a whole token
+abbrev pub landing : Given → Mode
+landing g = cond (is_over g.opens g.turn) (Epilog Blanks) (Inside g.turn)
+
+pub takes-run : (w : List ℕ) (start : Turn) (opens : List Open) (g : Given) → Takes (λ t c. step_turn t opens c) start w g → Runs (Inside start) opens w (landing g) g.opens
+takes-run w start opens g t = takes-on (λ t c. step_turn t opens c) P (λ turn. (Inside turn, opens)) (λ g. On (landing g, g.opens)) (λ turn c. next-by (step_turn turn opens c) (λ e. rw e refl) (λ n e. rw e refl) (λ g e. rw e refl)) w start g (landing g, g.opens) refl t

@@ -15,7 +15,7 @@ use Rattle.cds_markup.specs.declared.tag.Tag.{Tag}
 use Rattle.cds_markup.specs.declared.tag.Open.{Open}
 use Rattle.cds_markup.specs.Namespaces.{tag_says}
 use Rattle.cds_markup.specs.Decoding.{any_at}
-use Rattle.cds_markup.specs.Turns.{Token, Letter, Referred, SectionOf, Commented, Started, Slash, Shut, Ended, opened}
+use Rattle.cds_markup.specs.Turns.{Token, Letter, Referred, SectionOf, Commented, Started, Slash, Shut, Ended}
 use Rattle.cds_markup.specs.Wholes.{step}
 use Rattle.cds_markup.specs.Bytes.{Reading, reading, moved, byte_step, scopes_in, breaks_rule, judged, judge, nothing_read, may_end, refusal}
 use Rattle.cds_markup.specs.Steps.{opens_after}
@@ -38,8 +38,8 @@ ByteSo r b (Err OutOfMemory) now = ⊤
 ByteSo r b result now = ⊥
 
 -- A start tag.
-abbrev pub TaggedSo : List Open → Tag → Result ((Name × List Attr) × Open) Stop → Type 0
-TaggedSo opens tag (Ok found) = (tag_says (scopes_in opens) tag ≡ Some found.0) × (found.1 ≡ opened tag)
+abbrev pub TaggedSo : List Open → Tag → Result (Name × List Attr) Stop → Type 0
+TaggedSo opens tag (Ok found) = tag_says (scopes_in opens) tag ≡ Some found
 TaggedSo opens tag (Err NamespaceRule) = tag_says (scopes_in opens) tag ≡ None
 TaggedSo opens tag (Err OutOfMemory) = ⊤
 TaggedSo opens tag result = ⊥

@@ -19,12 +19,14 @@ use Rattle.cds_markup.specs.declared.decoding.Decoded.TheVariants.{Whole, More, 
 use Rattle.cds_markup.specs.declared.error.Stop.{Stop}
 use Rattle.cds_markup.specs.declared.error.Stop.TheVariants.{Broken, Mem}
 use Rattle.cds_markup.specs.declared.mode.Turn.{Turn}
+use Rattle.cds_markup.specs.declared.mode.Turn.TheVariants.{Bang, Dash, Comment, Cdata, Section, Reference, StartTag}
 use Rattle.cds_markup.specs.declared.tag.Open.{Open}
 use Rattle.cds_markup.specs.declared.mode.Stage.{Stage}
 use Rattle.cds_markup.specs.declared.mode.Stage.TheVariants.{Version, Standalone, Closing}
 use Rattle.cds_markup.specs.declared.mode.Declaring.{Declaring}
 use Rattle.cds_markup.specs.declared.mode.Declaring.TheVariants.{Xml, Gap, PartName, PartEquals, PartValue, YesOrNo, BehindPart, Question}
 use Rattle.cds_markup.specs.declared.mode.Mode.{Mode}
+use Rattle.cds_markup.specs.declared.mode.Mode.TheVariants.{Inside}
 use Rattle.cds_markup.specs.Declares.{is_letter}
 use Rattle.cds_markup.specs.Decoding.{Step}
 use Rattle.cds_markup.specs.Wholes.{Move, Stop as Stops, To}
@@ -109,6 +111,20 @@ TurnsSo opens (On turn) (Ok None) now = now ≡ turn
 TurnsSo opens (Done g) (Ok (Some t)) now = g ≡ given t (opens_after t opens) now
 TurnsSo opens next result now = ⊥
 
+-- Whether it is in a start tag, and whether in a comment, a section or a reference.
+abbrev pub is_start_tag : Turn → Bool
+is_start_tag (StartTag tagging) = true
+is_start_tag other = false
+
+abbrev pub is_seldom : Turn → Bool
+is_seldom Bang = true
+is_seldom Dash = true
+is_seldom (Comment dashes) = true
+is_seldom (Cdata left) = true
+is_seldom (Section brackets text) = true
+is_seldom (Reference r) = true
+is_seldom other = false
+
 -- The next letter of a part's value in the declaration.
 abbrev pub is_next_letter : Stage → List ℕ → ℕ → Bool
 is_next_letter stage [] c = false
@@ -136,6 +152,15 @@ MovesSo opens move (Err Broken) now = move ≡ Stops
 MovesSo opens move (Ok None) now = move ≡ To now opens []
 MovesSo opens move (Ok (Some t)) now = move ≡ To now (opens_after t opens) (t ∷ [])
 MovesSo opens move result now = ⊥
+
+-- Whether a document is not inside its root, and whether no element is open behind what a character completes.
+abbrev pub is_outside : Mode → Bool
+is_outside (Inside turn) = false
+is_outside other = true
+
+abbrev pub is_last : Result (Option Token) Stop → List Open → Bool
+is_last (Ok (Some token)) opens = length (opens_after token opens) == 0
+is_last other opens = false
 
 -- What bytes that begin with something are answered as, and what is left of them.
 abbrev pub ReadSo : {A : Type 0} → Step A → Option A → List ℕ → Type 0

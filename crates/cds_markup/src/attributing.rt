@@ -89,6 +89,7 @@ impl Attributing {
     }
 
     /// One character. At the quote behind the value it gives the attribute.
+    #[inline(never)]
     pub fn step(&mut self, alloc: Global, c: char) -> Result<Option<TagAttr>, Stop>
         ensures { Agrees (step_attr self.old c) result self.new }
     {

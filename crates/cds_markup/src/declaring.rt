@@ -1,4 +1,5 @@
 ghost use Rattle.std.specs.Prelude.{◌≡◌, ◌==◌, true, false, List, ℕ, [], ◌∷◌};
+ghost use Rattle.cds_markup.specs.declared.mode.Declaring.{Declaring};
 ghost use Rattle.cds_markup.specs.Grammar.{lower_case, is_quote};
 ghost use Rattle.cds_markup.specs.Declares.{behind, closing_step, standalone_step, begin_step, right_step, part_step, xml_step, name_step, value_begins, value_letter, step_declaration};
 ghost use Rattle.cds_markup.specs.Steps.{Agrees, is_next_letter, stage_of, quote_in};
@@ -42,6 +43,16 @@ pub fn is_quote(c: char) -> bool
     ensures { result ≡ is_quote c }
 {
     c == '"' || c == '\''
+}
+
+/// Behind the `?` that ends the declaration.
+fn question(c: char) -> Result<Option<()>, Stop>
+    ensures { (now : Declaring) → Agrees (step_declaration Declaring.Question c) result now }
+{
+    if c != '>' {
+        return Err(Stop::Broken);
+    }
+    Ok(Some(()))
 }
 
 impl Declaring {
@@ -184,6 +195,31 @@ impl Declaring {
         Ok(None)
     }
 
+    /// White space, or what begins behind it.
+    fn gap(&mut self, stage: Stage, c: char) -> Result<Option<()>, Stop>
+        ensures { Agrees (step_declaration (Declaring.Gap stage) c) result self.new }
+    {
+        if !is_blank(c) {
+            return self.begin(stage, c);
+        }
+        *self = Declaring::Gap(stage);
+        Ok(None)
+    }
+
+    /// White space behind a part's equals sign, or the quote before its value.
+    fn equals(&mut self, stage: Stage, c: char) -> Result<Option<()>, Stop>
+        ensures { Agrees (step_declaration (Declaring.PartEquals stage) c) result self.new }
+    {
+        if is_blank(c) {
+            *self = Declaring::PartEquals(stage);
+            return Ok(None);
+        }
+        if !is_quote(c) {
+            return Err(Stop::Broken);
+        }
+        self.begin_value(stage, c)
+    }
+
     /// One character.
     pub fn step(&mut self, c: char) -> Result<Option<()>, Stop>
         ensures { Agrees (step_declaration self.old c) result self.new }
@@ -194,37 +230,16 @@ impl Declaring {
                 if left.is_over() {
                     return self.part(stage, c);
                 }
-                if !left.is_next(c) {
-                    return Err(Stop::Broken);
-                }
-                left.advance();
-                Ok(None)
+                left.step(c)
             }
-            Declaring::Gap(_) => {
-                if is_blank(c) {
-                    return Ok(None);
-                }
-                self.begin(stage, c)
-            }
+            Declaring::Gap(_) => self.gap(stage, c),
             Declaring::PartName(_, left) => {
                 if left.is_over() {
                     return self.named(stage, c);
                 }
-                if !left.is_next(c) {
-                    return Err(Stop::Broken);
-                }
-                left.advance();
-                Ok(None)
+                left.step(c)
             }
-            Declaring::PartEquals(_) => {
-                if is_blank(c) {
-                    return Ok(None);
-                }
-                if !is_quote(c) {
-                    return Err(Stop::Broken);
-                }
-                self.begin_value(stage, c)
-            }
+            Declaring::PartEquals(_) => self.equals(stage, c),
             Declaring::PartValue(_, _, left) => {
                 if left.is_over() {
                     let quote = self.quote();
@@ -241,12 +256,7 @@ impl Declaring {
                 self.yes_or_no(quote, c)
             }
             Declaring::BehindPart(_) => self.part(stage, c),
-            Declaring::Question => {
-                if c != '>' {
-                    return Err(Stop::Broken);
-                }
-                Ok(Some(()))
-            }
+            Declaring::Question => question(c),
         }
     }
 }

@@ -7,7 +7,7 @@ ghost use Rattle.cds_markup.specs.Steps.{StandsSo, is_over};
 use crate::tag::QName;
 
 /// The byte at a place of the name as it is written.
-#[tactic(auto, using(crate::proofs::NameBytes::name_plain, crate::proofs::NameBytes::name_front, crate::proofs::NameBytes::name_colon, crate::proofs::NameBytes::name_back, crate::proofs::NameBytes::get_room))]
+#[tactic(auto, using(crate::proofs::Decoded::name_plain, crate::proofs::Decoded::name_front, crate::proofs::Decoded::name_colon, crate::proofs::Decoded::name_back, crate::proofs::Decoded::get_room))]
 pub fn byte_of_name(name: &QName, at: usize) -> Option<u8>
     ensures value { result ≡ slice_get (name_bytes name.now) at }
     ensures room { IfSome result (λ b. at + 1 < 2 ^ 64) }
@@ -27,7 +27,7 @@ pub fn byte_of_name(name: &QName, at: usize) -> Option<u8>
 }
 
 /// Whether the name as it is written has no byte at the place.
-#[tactic(auto, using(crate::proofs::EndNames::none_over, crate::proofs::EndNames::some_over))]
+#[tactic(auto, using(crate::proofs::Decoded::none_over, crate::proofs::Decoded::some_over))]
 pub fn is_over(name: &QName, at: usize) -> bool
     ensures { result ≡ is_over (drop at (name_bytes name.now)) }
 {
@@ -38,7 +38,7 @@ pub fn is_over(name: &QName, at: usize) -> bool
 }
 
 /// The place behind these bytes, where they stand at a place of the name as it is written.
-#[tactic(auto, using(crate::proofs::EndNames::stands_on, crate::proofs::EndNames::stands_other, crate::proofs::EndNames::stands_none))]
+#[tactic(auto, using(crate::proofs::Decoded::stands_on, crate::proofs::Decoded::stands_other, crate::proofs::Decoded::stands_none))]
 pub fn name_goes_on(name: &QName, at: usize, bytes: &[u8]) -> Option<usize>
     ensures { StandsSo (name_bytes name.now) at bytes.now result }
 {

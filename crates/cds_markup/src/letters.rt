@@ -1,4 +1,4 @@
-ghost use Rattle.std.specs.Prelude.{◌≡◌, List, ℕ, [], ◌++◌, string_bytes, encode_utf8, length, ◌==◌, OnOk, true, slice_index};
+ghost use Rattle.std.specs.Prelude.{◌≡◌, List, ℕ, [], ◌++◌, string_bytes, encode_utf8, length, ◌==◌, IfOk, OnOk, true, slice_index};
 ghost use Rattle.std.specs.Str.{IsAscii};
 ghost use Rattle.cds_base.specs.Characters.{is_allowed};
 ghost use Rattle.cds_markup.specs.Scans.{without_brackets};
@@ -21,6 +21,17 @@ impl Model for Letters {
     ghost Value = { List ℕ };
 
     ghost view = { λ t. string_bytes t.value };
+}
+
+/// The text with these bytes, which are ASCII.
+pub fn ascii_text(alloc: Global, bytes: &[u8]) -> Result<Text, Mem>
+    requires { IsAscii bytes.now }
+    ensures { IfOk result (λ text. text ≡ bytes.now) }
+{
+    match std::str::from_utf8(bytes) {
+        Ok(text) => Text::read(alloc, text),
+        Err(_) => unreachable!(),
+    }
 }
 
 impl Letters {
@@ -53,6 +64,16 @@ impl Letters {
             }
             Err(_) => unreachable!(),
         }
+    }
+
+    /// These bytes, which are ASCII.
+    pub fn ascii(alloc: Global, bytes: &[u8]) -> Result<Self, Mem>
+        requires { IsAscii bytes.now }
+        ensures { IfOk result (λ letters. letters ≡ bytes.now) }
+    {
+        let mut letters = Letters::new(alloc);
+        letters.push_ascii(bytes)?;
+        Ok(letters)
     }
 
     /// Adds the run at the front, or nothing: how many bytes it has.

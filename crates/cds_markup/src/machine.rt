@@ -17,10 +17,11 @@ use crate::scope::{declarations, tag_says};
 use crate::tag::{Open, Tag};
 use crate::token::Token;
 use crate::{Attrs, Name};
+use cds_base::Mem;
 use std::alloc::Global;
 
 /// The most elements that may be open.
-const MOST_OPEN: usize = 16;
+pub const MOST_OPEN: usize = 16;
 
 /// A reader of documents byte by byte.
 #[derive(Drop, Debug)]
@@ -45,6 +46,15 @@ fn ascii(b: u8) -> Result<Option<char>, Stop>
     } else {
         Err(Stop::Broken)
     }
+}
+
+/// The element that a start tag opens.
+fn opened(alloc: Global, tag: &Tag) -> Result<Open, Mem>
+    ensures { IfOk result (λ element. element ≡ opened tag.now) }
+{
+    let name = tag.name.copy(alloc)?;
+    let declared = declarations(alloc, tag.attrs.as_slice())?;
+    Ok(Open { name, declared })
 }
 
 impl Machine {
@@ -81,6 +91,7 @@ impl Machine {
 
     /// The byte as one of a character of more than one.
     #[tactic(auto, using(crate::proofs::Decoded::wide_whole, crate::proofs::Decoded::wide_more, crate::proofs::Decoded::wide_stuck, crate::proofs::Decoded::wide_broken))]
+    #[inline(never)]
     fn wide(&mut self, b: u8) -> Result<Option<char>, Stop>
         ensures { ByteSo (reading_of self.old) b result (reading_of self.new) }
     {
@@ -117,16 +128,16 @@ impl Machine {
         }
     }
 
-    /// What a start tag says, and the element that it opens.
-    fn tag(&self, alloc: Global, tag: Tag) -> Result<((Name, Attrs), Open), Stop>
+    /// What a start tag says.
+    fn tag(&self, alloc: Global, tag: Tag) -> Result<(Name, Attrs), Stop>
         ensures { TaggedSo self.now.opens.items tag result }
     {
         let Tag { name, attrs } = tag;
         let declared = declarations(alloc, attrs.as_slice())?;
         let opens = self.opens.as_slice();
-        let said = tag_says(alloc, opens, declared.as_slice(), &name, attrs)?;
+        let said = tag_says(alloc, opens, declared.as_slice(), name, attrs)?;
         match said {
-            Some(said) => Ok((said, Open { name, declared })),
+            Some(said) => Ok(said),
             None => Err(Stop::NamespaceRule),
         }
     }
@@ -135,7 +146,8 @@ impl Machine {
     fn start(&mut self, alloc: Global, tag: Tag) -> Result<Event, Stop>
         ensures { TakenSo (reading_of self.old) (Token.Started tag) result (reading_of self.new) }
     {
-        let ((name, attrs), open) = self.tag(alloc, tag)?;
+        let open = opened(alloc, &tag)?;
+        let (name, attrs) = self.tag(alloc, tag)?;
         if self.opens.insert(0, open).is_err() {
             return Err(Stop::Mem);
         }
@@ -146,7 +158,7 @@ impl Machine {
     fn empty(&mut self, alloc: Global, tag: Tag) -> Result<Event, Stop>
         ensures { TakenSo (reading_of self.old) (Token.Slash tag) result (reading_of self.new) }
     {
-        let ((name, attrs), _) = self.tag(alloc, tag)?;
+        let (name, attrs) = self.tag(alloc, tag)?;
         Ok(Event::Empty(name, attrs))
     }
 
@@ -161,6 +173,7 @@ impl Machine {
     }
 
     /// What a token says, with the elements that are open behind it.
+    #[inline(never)]
     fn take(&mut self, alloc: Global, token: Token) -> Result<Event, Stop>
         ensures { TakenSo (reading_of self.old) token result (reading_of self.new) }
     {
@@ -177,7 +190,7 @@ impl Machine {
     }
 
     /// A whole character.
-    #[tactic(auto, using(crate::proofs::Answering::whole_nothing, crate::proofs::Answering::whole_token, crate::proofs::Answering::whole_broken, crate::proofs::Answering::whole_refused))]
+    #[tactic(auto, using(crate::proofs::Decoded::whole_nothing, crate::proofs::Decoded::whole_token, crate::proofs::Decoded::whole_broken, crate::proofs::Decoded::whole_refused))]
     fn whole(&mut self, alloc: Global, c: char) -> Result<Option<Event>, Stop>
         requires { self.old.begun.items ≡ [] }
         ensures { WholeSo (reading_of self.old) c result (reading_of self.new) }
@@ -190,7 +203,7 @@ impl Machine {
     }
 
     /// One byte, and what it completes. After a refusal nothing is known of the machine.
-    #[tactic(auto, using(crate::proofs::Decoded::step_deep, crate::proofs::Answering::judged_refused, crate::proofs::Decoded::step_none, crate::proofs::Decoded::step_whole))]
+    #[tactic(auto, using(crate::proofs::Decoded::step_deep, crate::proofs::Decoded::judged_refused, crate::proofs::Decoded::step_none, crate::proofs::Decoded::step_whole))]
     pub fn step(&mut self, alloc: Global, b: u8) -> Result<Option<Event>, Stop>
         ensures { JudgedSo (reading_of self.old) b result (reading_of self.new) }
     {

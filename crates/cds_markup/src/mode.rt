@@ -1,6 +1,8 @@
-ghost use Rattle.std.specs.Prelude.{◌≡◌, drop, List, ℕ};
+ghost use Rattle.std.specs.Prelude.{◌≡◌, if◌then◌else◌, true, drop, List, ℕ, Ok, Err, None};
+ghost use Rattle.cds_markup.specs.declared.error.Stop.TheVariants.{Broken};
 ghost use Rattle.cds_markup.specs.Steps.{is_next, is_over};
 
+use crate::error::Stop;
 use crate::letters::Letters;
 use crate::tag::{QName, Tag};
 use std::marker::Model;
@@ -51,6 +53,18 @@ impl Left {
         if let Some((_first, rest)) = self.bytes.split_first() {
             self.bytes = rest;
         }
+    }
+
+    /// One character, which has to be the next byte.
+    pub fn step<T>(&mut self, c: char) -> Result<Option<T>, Stop>
+        ensures next { result ≡ (if is_next c self.old then Ok None else Err Broken) }
+        ensures rest { is_next c self.old ≡ true → self.new ≡ drop 1 self.old }
+    {
+        if !self.is_next(c) {
+            return Err(Stop::Broken);
+        }
+        self.advance();
+        Ok(None)
     }
 }
 

@@ -117,7 +117,7 @@ impl Spot {
     }
 
     /// Passes over bytes at the front that complete nothing, all of which are within the limit: how many.
-    fn run_within(&mut self, bytes: &[u8]) -> Result<usize, Mem>
+    fn run_within(&mut self, alloc: Global, bytes: &[u8]) -> Result<usize, Mem>
         requires { self.old.place.at + length bytes.now ≤ INPUT_LIMIT }
         ensures { RunSo (telling_of self.old) bytes.now result (telling_of self.new) }
     {
@@ -126,20 +126,20 @@ impl Spot {
             self.place.at += count;
             return Ok(count);
         }
-        let count = self.place.machine.run(bytes)?;
+        let count = self.place.machine.run(alloc, bytes)?;
         self.place.at += count;
         Ok(count)
     }
 
     /// Passes over bytes at the front that complete nothing: how many.
-    fn run(&mut self, bytes: &[u8]) -> Result<usize, Mem>
+    fn run(&mut self, alloc: Global, bytes: &[u8]) -> Result<usize, Mem>
         ensures { RunSo (telling_of self.old) bytes.now result (telling_of self.new) }
     {
         if self.place.at >= INPUT_LIMIT {
             return Ok(0);
         }
         let room = (INPUT_LIMIT - self.place.at).min(bytes.len());
-        self.run_within(bytes.split_at(room).0)
+        self.run_within(alloc, bytes.split_at(room).0)
     }
 
     /// These bytes more, as long as more parts are wanted.
@@ -156,11 +156,15 @@ impl Spot {
             if to.has_enough() {
                 return Ok(());
             }
+            let count = self.run(alloc, left)?;
+            if count > 0 {
+                left = left.split_at(count).1;
+                continue;
+            }
             if let Err(refusal) = self.byte(alloc, *first, to) {
                 return Err(refusal);
             }
-            let count = self.run(rest)?;
-            left = rest.split_at(count).1;
+            left = rest;
         }
         Ok(())
     }

@@ -51,7 +51,7 @@ impl Place {
     }
 
     /// One byte more, and what it completes.
-    #[tactic(auto, using(crate::proofs::Nexts::next_event, crate::proofs::Nexts::next_stopped, crate::proofs::Nexts::next_long))]
+    #[tactic(auto, using(crate::proofs::Decoded::next_event, crate::proofs::Decoded::next_stopped, crate::proofs::Decoded::next_long))]
     pub fn next(&mut self, alloc: Global, b: u8) -> Result<Option<Event>, MarkupError>
         ensures { NextSo (progress self.old) b result (progress self.new) }
     {

@@ -1,36 +1,29 @@
 //! Passing over runs of bytes that complete nothing, in place of one step for each of them.
 
-ghost use Rattle.std.specs.Prelude.{◌≡◌, ◌==◌, ◌&&◌, not};
+ghost use Rattle.std.specs.Prelude.{◌≡◌, ◌==◌, ◌≤◌, ◌&&◌, true, List, length, IfOk};
+ghost use Rattle.std.specs.List.{list_all};
 ghost use Rattle.cds_base.specs.Runs.{stands_for_itself};
-ghost use Rattle.cds_markup.specs.Running.{Passes, NameRuns, takes_letters, ValueRuns, AttrRuns, TagRuns, TurnRuns, MiscRuns, ModeRuns, is_plain_content, takes_run, QuietSo};
+ghost use Rattle.cds_markup.specs.declared.tag.Open.{Open};
+ghost use Rattle.cds_markup.specs.Tags.{tag_named};
+ghost use Rattle.cds_markup.specs.Running.{Passes, takes_letters, ValueRuns, AttrRuns, is_plain_qname, plain_naming, plain_attr, AddsAttr, TagRuns, EndRuns, LessRuns, TurnRuns, MiscRuns, ModeRuns, is_plain_content, is_full, takes_run, QuietSo};
 ghost use Rattle.cds_markup.specs.Namespaces.{is_empty};
 ghost use Rattle.cds_markup.specs.Reads.{reading_of};
 
-use crate::machine::Machine;
+use crate::ending::name_goes_on;
+use crate::letters::{Letters, ascii_text};
+use crate::machine::{MOST_OPEN, Machine};
 use crate::mode::{Attributing, Misc, Mode, Naming, Tagging, Turn, Valuing};
-use crate::plain::Plain;
-use cds_base::{Mem, letters_run};
+use crate::plain::{Plain, attr_at, begins_blank, behind, name_at};
+use crate::tag::{Open, QName, Tag, TagAttr};
+use crate::tagging::no_tag;
+use cds_base::{Mem, Sequence, letters_run};
+use std::alloc::Global;
 
 /// How many letters of a comment or a section are passed over, behind so many dashes or brackets.
 fn passed(before: u32, bytes: &[u8]) -> usize
     ensures { Passes (before == 0) stands_for_itself bytes.now result }
 {
     if before == 0 { letters_run(bytes) } else { 0 }
-}
-
-impl Naming {
-    /// Passes over bytes of the name.
-    fn run(&mut self, bytes: &[u8]) -> Result<usize, Mem>
-        ensures { NameRuns self.old bytes.now result self.new }
-    {
-        match &mut self.second {
-            None => self.first.push_run(true, Plain::InName, bytes),
-            Some(second) => {
-                let begun = !second.is_empty();
-                second.push_run(begun, Plain::InName, bytes)
-            }
-        }
-    }
 }
 
 impl Valuing {
@@ -51,42 +44,187 @@ impl Valuing {
 }
 
 impl Attributing {
-    /// Passes over bytes of a name or a value.
+    /// Passes over letters of a value.
     fn run(&mut self, bytes: &[u8]) -> Result<usize, Mem>
         ensures { AttrRuns self.old bytes.now result self.new }
     {
         match self {
-            Attributing::AttrName(naming) => naming.run(bytes),
             Attributing::Value(_, value) => value.run(bytes),
             _ => Ok(0),
         }
     }
 }
 
+/// The name with this prefix, which is empty for none, and this behind it, as far as it came.
+fn plain_naming(alloc: Global, prefix: &[u8], local: &[u8]) -> Result<Naming, Mem>
+    requires { is_plain_qname prefix.now local.now ≡ true }
+    ensures { IfOk result (λ naming. naming ≡ plain_naming prefix.now local.now) }
+{
+    let local = Letters::ascii(alloc, local)?;
+    if prefix.is_empty() {
+        return Ok(Naming {
+            first: local,
+            second: None,
+        });
+    }
+    let first = Letters::ascii(alloc, prefix)?;
+    Ok(Naming {
+        first,
+        second: Some(local),
+    })
+}
+
+/// The attribute with such a name and this value, whose letters stand for themselves.
+fn plain_attr(alloc: Global, prefix: &[u8], local: &[u8], value: &[u8]) -> Result<TagAttr, Mem>
+    requires name { is_plain_qname prefix.now local.now ≡ true }
+    requires value { list_all stands_for_itself value.now ≡ true }
+    ensures { IfOk result (λ attr. attr ≡ plain_attr prefix.now local.now value.now) }
+{
+    let name = plain_naming(alloc, prefix, local)?.into_name(alloc);
+    let value = ascii_text(alloc, value)?;
+    Ok(TagAttr { name, value })
+}
+
+impl Tag {
+    /// Passes over the attribute that stands at the front as `attr_at` finds it, and adds it: how many bytes it has.
+    fn run(&mut self, alloc: Global, bytes: &[u8]) -> Result<Option<usize>, Mem>
+        ensures { AddsAttr self.old bytes.now result self.new }
+    {
+        let Some((prefix, local, value, rest)) = attr_at(bytes) else {
+            return Ok(None);
+        };
+        let attr = plain_attr(alloc, prefix, local, value)?;
+        self.attrs.push(attr)?;
+        Ok(Some(bytes.len().saturating_sub(rest.len())))
+    }
+}
+
 impl Tagging {
-    /// Passes over bytes of a name or a value.
-    fn run(&mut self, bytes: &[u8]) -> Result<usize, Mem>
+    /// Goes over to this state.
+    fn go_to(&mut self, tagging: Tagging)
+        ensures { self.new ≡ tagging }
+    {
+        *self = tagging;
+    }
+
+    /// Passes over letters of a value, or over an attribute that stands there whole and the white space behind it, or the name of
+    /// another.
+    fn run(&mut self, alloc: Global, bytes: &[u8]) -> Result<usize, Mem>
         ensures { TagRuns self.old bytes.now result self.new }
     {
         match self {
-            Tagging::Name(naming) => naming.run(bytes),
             Tagging::Attribute(_, attributing) => attributing.run(bytes),
+            Tagging::Spaced(tag) => {
+                if let Some(count) = tag.run(alloc, bytes)? {
+                    if begins_blank(bytes.split_at(count).1) {
+                        return Ok(count + 1);
+                    }
+                    let tag = std::mem::replace(tag, no_tag(alloc));
+                    self.go_to(Tagging::Tagged(tag));
+                    return Ok(count);
+                }
+                let Some((prefix, local, rest)) = name_at(bytes) else {
+                    return Ok(0);
+                };
+                let naming = plain_naming(alloc, prefix, local)?;
+                let tag = std::mem::replace(tag, no_tag(alloc));
+                self.go_to(Tagging::Attribute(tag, Attributing::AttrName(naming)));
+                Ok(bytes.len().saturating_sub(rest.len()))
+            }
             _ => Ok(0),
         }
     }
 }
 
 impl Turn {
-    /// Passes over bytes of a tag, a comment or a section.
-    fn run(&mut self, bytes: &[u8]) -> Result<usize, Mem>
-        ensures { TurnRuns self.old bytes.now result self.new }
+    /// Goes over to a start tag behind white space, in which nothing but its name stands.
+    fn begin_tag(&mut self, alloc: Global, name: QName)
+        ensures { self.new ≡ Turn.StartTag (Tagging.Spaced (tag_named name)) }
+    {
+        let attrs = Sequence::new(alloc);
+        *self = Turn::StartTag(Tagging::Spaced(Tag { name, attrs }));
+    }
+
+    /// Goes over to a start tag of whose name so much came.
+    fn begin_name(&mut self, naming: Naming)
+        ensures { self.new ≡ Turn.StartTag (Tagging.Name naming) }
+    {
+        *self = Turn::StartTag(Tagging::Name(naming));
+    }
+
+    /// Passes over an element's name that stands at the front as `name_at` finds it, and over white space behind it.
+    fn name_run(&mut self, alloc: Global, bytes: &[u8]) -> Result<usize, Mem>
+        requires { self.old ≡ Turn.Less }
+        ensures { (opens : List Open) → LessRuns opens bytes.now result self.new }
+    {
+        let Some((prefix, local, rest)) = name_at(bytes) else {
+            return Ok(0);
+        };
+        let count = bytes.len().saturating_sub(rest.len());
+        let naming = plain_naming(alloc, prefix, local)?;
+        if begins_blank(rest) {
+            self.begin_tag(alloc, naming.into_name(alloc));
+            return Ok(count + 1);
+        }
+        self.begin_name(naming);
+        Ok(count)
+    }
+
+    /// Goes over to an end tag, behind so many bytes of its name.
+    fn end_at(&mut self, n: usize)
+        ensures { self.new ≡ Turn.EndTag n }
+    {
+        *self = Turn::EndTag(n);
+    }
+
+    /// Goes over to an end tag, behind so many bytes of its name, and passes over more of them: how many.
+    fn end_run(&mut self, opens: &[Open], n: usize, bytes: &[u8]) -> usize
+        ensures within { result ≤ length bytes.now }
+        ensures ends { EndRuns opens.now n bytes.now result self.new }
+    {
+        self.end_at(n);
+        let Some((innermost, _outer)) = opens.split_first() else {
+            return 0;
+        };
+        let count = Plain::Written.run(bytes);
+        match name_goes_on(&innermost.name, n, bytes.split_at(count).0) {
+            Some(behind) => {
+                self.end_at(behind);
+                count
+            }
+            None => 0,
+        }
+    }
+
+    /// Passes over an element's name as `name_run` does, or over the slash of an end tag and bytes of its name.
+    fn less_run(&mut self, alloc: Global, opens: &[Open], bytes: &[u8]) -> Result<usize, Mem>
+        requires { self.old ≡ Turn.Less }
+        ensures { LessRuns opens.now bytes.now result self.new }
+    {
+        let Some(text) = behind(bytes, b'/') else {
+            return self.name_run(alloc, bytes);
+        };
+        if opens.is_empty() {
+            return Ok(0);
+        }
+        Ok(self.end_run(opens, 0, text) + 1)
+    }
+
+    /// Passes over bytes of a tag, a comment or a section, where these elements are open.
+    fn run(&mut self, alloc: Global, opens: &[Open], bytes: &[u8]) -> Result<usize, Mem>
+        ensures { TurnRuns opens.now self.old bytes.now result self.new }
     {
         match self {
-            Turn::StartTag(tagging) => tagging.run(bytes),
+            Turn::StartTag(tagging) => tagging.run(alloc, bytes),
+            Turn::Less => self.less_run(alloc, opens, bytes),
             Turn::Comment(dashes) => Ok(passed(*dashes, bytes)),
             Turn::Section(brackets, text) => {
                 let going = *brackets == 0;
                 text.push_run(going, Plain::Letters, bytes)
+            }
+            Turn::EndTag(n) => {
+                let n = *n;
+                Ok(self.end_run(opens, n, bytes))
             }
             _ => Ok(0),
         }
@@ -106,12 +244,12 @@ impl Misc {
 }
 
 impl Mode {
-    /// Passes over bytes that go on with what is open.
-    fn run(&mut self, bytes: &[u8]) -> Result<usize, Mem>
-        ensures { ModeRuns self.old bytes.now result self.new }
+    /// Passes over bytes that go on with what is open, where these elements are.
+    fn run(&mut self, alloc: Global, opens: &[Open], bytes: &[u8]) -> Result<usize, Mem>
+        ensures { ModeRuns opens.now self.old bytes.now result self.new }
     {
         match self {
-            Mode::Inside(turn) => turn.run(bytes),
+            Mode::Inside(turn) => turn.run(alloc, opens, bytes),
             Mode::Prolog(misc) => Ok(misc.run(bytes)),
             Mode::Epilog(misc) => Ok(misc.run(bytes)),
             _ => Ok(0),
@@ -137,15 +275,23 @@ impl Machine {
         self.begun.is_empty()
     }
 
+    /// Whether a start tag here would be one too many.
+    fn is_full(&self) -> bool
+        ensures { result ≡ is_full (reading_of self.now) }
+    {
+        self.opens.len() == MOST_OPEN && self.mode.begins_tag()
+    }
+
     /// Passes over bytes at the front that complete nothing, where no literal text is open: how many.
     #[tactic(auto, using(crate::proofs::Quiet::quiet_none))]
-    pub fn run(&mut self, bytes: &[u8]) -> Result<usize, Mem>
+    pub fn run(&mut self, alloc: Global, bytes: &[u8]) -> Result<usize, Mem>
         ensures { QuietSo (reading_of self.old) bytes.now result (reading_of self.new) }
     {
-        if !self.is_fresh() {
+        if !self.is_fresh() || self.is_full() {
             return Ok(0);
         }
-        self.mode.run(bytes)
+        let opens = self.opens.as_slice();
+        self.mode.run(alloc, opens, bytes)
     }
 
     /// Whether a literal text may go on here, with no closing bracket right before.

@@ -1,4 +1,5 @@
-ghost use Rattle.std.specs.Prelude.{◌≡◌, ◌∷◌, ◌++◌, length, List, ℕ, IfOk, IfNone};
+ghost use Rattle.std.specs.Prelude.{◌≡◌, ◌∷◌, ◌++◌, length, List, ℕ, Some, [], IfOk, IfNone};
+ghost use Rattle.std.specs.Str.{bytes_eq};
 ghost use Rattle.std.specs.List.{list_all, list_any};
 ghost use Rattle.cds_markup.specs.Namespaces.{declares_default, declares_prefix, is_declaration, declaration, declarations, is_sound, declared, declared_in, space_of, in_space, element_name, attr_name, with_value, named_attrs, same_qname, same_name, no_attr_twice, no_name_twice, keeps_rules, tag_says};
 ghost use Rattle.cds_markup.specs.Bytes.{scopes_in};
@@ -75,18 +76,18 @@ fn are_sound(found: &[Declaration]) -> bool
     found.iter().all(|d| is_sound(d))
 }
 
-/// Whether two names are written alike.
+/// Whether two names are written alike. Most have no prefix, so what stands behind it tells more.
 fn same_qname(one: &QName, other: &QName) -> bool
     ensures { result ≡ same_qname one.now other.now }
 {
-    one.prefix.as_str() == other.prefix.as_str() && one.local.as_str() == other.local.as_str()
+    one.local.as_str() == other.local.as_str() && one.prefix.as_str() == other.prefix.as_str()
 }
 
-/// Whether two names are the same.
+/// Whether two names are the same. Most are in no namespace, so the name in it tells more.
 fn same_name(one: &Name, other: &Name) -> bool
     ensures { result ≡ same_name one.now other.now }
 {
-    one.space.as_str() == other.space.as_str() && one.local.as_str() == other.local.as_str()
+    one.local.as_str() == other.local.as_str() && one.space.as_str() == other.space.as_str()
 }
 
 /// Whether an attribute is among these by its qualified name.
@@ -135,12 +136,23 @@ fn no_name_twice(attrs: &[Attr]) -> bool
     true
 }
 
+/// Whether the texts are the same. Empty ones, as most prefixes are, are told by their length alone.
+fn same_text(one: &Text, other: &str) -> bool
+    ensures { result ≡ bytes_eq one.now other.now }
+{
+    if other.is_empty() {
+        one.len() == 0
+    } else {
+        one.as_str() == other
+    }
+}
+
 /// What these declarations say of a prefix.
 fn declared(alloc: Global, found: &[Declaration], prefix: &str) -> Result<Option<Text>, Mem>
     ensures { IfOk result (λ space. space ≡ declared found.now prefix.now) }
 {
     for one in found {
-        if one.prefix.as_str() == prefix {
+        if same_text(&one.prefix, prefix) {
             let space = one.space.copy(alloc)?;
             return Ok(Some(space));
         }
@@ -210,12 +222,12 @@ fn element_name(
     alloc: Global,
     opens: &[Open],
     inner: &[Declaration],
-    name: &QName,
+    name: QName,
 ) -> Result<Option<Name>, Mem>
-    ensures { IfOk result (λ found. found ≡ element_name (inner.now ∷ scopes_in opens.now) name.now) }
+    ensures { IfOk result (λ found. found ≡ element_name (inner.now ∷ scopes_in opens.now) name) }
 {
-    let local = name.local.copy(alloc)?;
-    name_in(alloc, opens, inner, name.prefix.as_str(), local)
+    let QName { prefix, local } = name;
+    name_in(alloc, opens, inner, prefix.as_str(), local)
 }
 
 /// The name of an attribute, `None` where its prefix is not declared.
@@ -256,6 +268,19 @@ fn named_attr(
     }))
 }
 
+/// An attribute whose name has no prefix, and so is in no namespace.
+fn plain_attr(alloc: Global, attr: TagAttr) -> Attr
+    ensures { Some result ≡ with_value attr.value (in_space attr.name.local (Some [])) }
+{
+    let TagAttr { name, value } = attr;
+    let space = Text::from(String::new(alloc));
+    let name = Name {
+        space,
+        local: name.local,
+    };
+    Attr { name, value }
+}
+
 /// The attributes without those that declare namespaces, `None` where a prefix is not declared.
 fn named_attrs(
     alloc: Global,
@@ -265,9 +290,13 @@ fn named_attrs(
 ) -> Result<Option<Attrs>, Mem>
     ensures { IfOk result (λ found. found ≡ named_attrs (inner.now ∷ scopes_in opens.now) attrs) }
 {
-    let mut found = Attrs::new(alloc);
+    let mut found = Attrs::from(Vec::with_capacity(alloc, attrs.len())?);
     for attr in attrs.into_vec() {
         if is_declaration(&attr) {
+            continue;
+        }
+        if attr.name.prefix.len() == 0 {
+            found.push(plain_attr(alloc, attr))?;
             continue;
         }
         let Some(named) = named_attr(alloc, opens, inner, attr)? else {
@@ -284,11 +313,11 @@ pub fn tag_says(
     alloc: Global,
     opens: &[Open],
     inner: &[Declaration],
-    name: &QName,
+    name: QName,
     attrs: Sequence<TagAttr>,
 ) -> Result<Option<(Name, Attrs)>, Mem>
     requires { inner.now ≡ declarations attrs }
-    ensures { IfOk result (λ said. said ≡ tag_says (scopes_in opens.now) (record { name = name.now; attrs = attrs })) }
+    ensures { IfOk result (λ said. said ≡ tag_says (scopes_in opens.now) (record { name = name; attrs = attrs })) }
 {
     if !are_sound(inner) || !no_attr_twice(attrs.as_slice()) {
         return Ok(None);

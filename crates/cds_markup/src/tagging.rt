@@ -20,7 +20,7 @@ fn ends_tag(c: char) -> bool
 }
 
 /// A tag of which nothing is known.
-fn no_tag(alloc: Global) -> Tag {
+pub fn no_tag(alloc: Global) -> Tag {
     Tag {
         name: no_name(alloc),
         attrs: Sequence::new(alloc),
@@ -81,6 +81,7 @@ impl Tagging {
     }
 
     /// Adds an attribute that ended to the tag that it stands in.
+    #[inline(never)]
     fn end_attr(&mut self, alloc: Global, attr: TagAttr) -> Result<(), Mem>
         ensures { OnOk result (self.new ≡ Tagging.Tagged (with_attr (tag_open self.old) attr)) }
     {

@@ -1,8 +1,9 @@
-ghost use Rattle.std.specs.Prelude.{◌≡◌, ◌==◌, ◌++◌, ◌+◌, ◌^◌, ◌<◌, true, false, List, ℕ, [], ◌∷◌, OnOk, length, drop, encode_utf8};
+ghost use Rattle.std.specs.Prelude.{◌≡◌, ◌==◌, ◌++◌, ◌+◌, ◌^◌, ◌<◌, true, false, List, ℕ, [], ◌∷◌, Some, OnOk, length, drop, encode_utf8};
 ghost use Rattle.cds_markup.specs.declared.tag.Open.{Open};
 ghost use Rattle.cds_markup.specs.Grammar.{name_bytes};
 ghost use Rattle.cds_markup.specs.Turns.{given, content_step, tag_given, less_step, bang_step, section_step, cdata_step, end_blanks_step, end_name_step, end_step, step_turn};
-ghost use Rattle.cds_markup.specs.Steps.{TurnsSo, opens_after};
+ghost use Rattle.cds_markup.specs.Scans.{step_section};
+ghost use Rattle.cds_markup.specs.Steps.{Agrees, TurnsSo, opens_after, is_start_tag, is_seldom};
 
 use crate::attributing::is_blank;
 use crate::ending::{is_over, name_has};
@@ -14,8 +15,28 @@ use crate::tag::{Open, Tag};
 use crate::token::Token;
 use std::alloc::Global;
 
+/// One character of a section, behind so many closing brackets of those that count and this text. At the end it gives the text.
+fn section_step(
+    brackets: &mut u32,
+    text: &mut Letters,
+    alloc: Global,
+    c: char,
+) -> Result<Option<Letters>, Stop>
+    ensures { Agrees (step_section brackets.old text.old c) result (brackets.new, text.new) }
+{
+    if !closes_section(*brackets, c) {
+        text.push(c)?;
+        *brackets = brackets_with(*brackets, c);
+        return Ok(None);
+    }
+    let mut said = std::mem::replace(text, Letters::new(alloc));
+    said.without_brackets();
+    Ok(Some(said))
+}
+
 impl Turn {
     /// A literal character, or what begins at it.
+    #[inline(never)]
     fn content(&mut self, brackets: u32, c: char) -> Result<Option<Token>, Stop>
         ensures { (opens : List Open) → TurnsSo opens (content_step brackets opens c) result self.new }
     {
@@ -35,6 +56,7 @@ impl Turn {
     }
 
     /// A start tag that ended with this character.
+    #[inline(never)]
     fn end_start(&mut self, tag: Tag, end: char) -> Token
         ensures { (opens : List Open) → tag_given opens (tag, end) ≡ given result (opens_after result opens) self.new }
     {
@@ -47,6 +69,7 @@ impl Turn {
     }
 
     /// Behind a `<`.
+    #[inline(never)]
     fn less(&mut self, alloc: Global, opens: &[Open], c: char) -> Result<Option<Token>, Stop>
         ensures { TurnsSo opens.now (less_step opens.now c) result self.new }
     {
@@ -66,6 +89,7 @@ impl Turn {
     }
 
     /// Behind a `<!`.
+    #[inline(never)]
     fn bang(&mut self, c: char) -> Result<Option<Token>, Stop>
         ensures { (opens : List Open) → TurnsSo opens (bang_step c) result self.new }
     {
@@ -78,6 +102,7 @@ impl Turn {
     }
 
     /// The first character of a section.
+    #[inline(never)]
     fn begin_section(&mut self, alloc: Global, c: char) -> Result<Option<Token>, Stop>
         ensures { (opens : List Open) → TurnsSo opens (section_step 0 [] opens c) result self.new }
     {
@@ -103,7 +128,8 @@ impl Turn {
     }
 
     /// In an end tag, behind so many bytes of the innermost element's name.
-    #[tactic(auto, using(crate::proofs::EndNames::end_over, crate::proofs::EndNames::end_goes, crate::proofs::EndNames::end_stuck))]
+    #[tactic(auto, using(crate::proofs::Decoded::end_over, crate::proofs::Decoded::end_goes, crate::proofs::Decoded::end_stuck))]
+    #[inline(never)]
     fn end(&mut self, opens: &[Open], n: usize, c: char) -> Result<Option<Token>, Stop>
         ensures { TurnsSo opens.now (end_step n opens.now c) result self.new }
     {
@@ -122,15 +148,96 @@ impl Turn {
         }
     }
 
-    /// Goes over to this state.
-    fn go_to(&mut self, turn: Turn)
-        ensures { self.new ≡ turn }
+    /// The second dash of a comment's opening.
+    fn dash(&mut self, c: char) -> Result<Option<Token>, Stop>
+        ensures { (opens : List Open) → TurnsSo opens (step_turn Turn.Dash opens c) result self.new }
     {
-        *self = turn;
+        if c != '-' {
+            return Err(Stop::Broken);
+        }
+        *self = Turn::Comment(0);
+        Ok(None)
     }
 
-    /// One character, where these elements are open.
-    #[tactic(auto, using(crate::proofs::Leading::turns_err, crate::proofs::Leading::turns_on, crate::proofs::Leading::turns_done))]
+    /// Behind the `/` of an empty element's tag.
+    #[inline(never)]
+    fn slashed(&mut self, c: char) -> Result<Option<Token>, Stop>
+        ensures { (opens : List Open) → TurnsSo opens (step_turn Turn.Slashed opens c) result self.new }
+    {
+        if c != '>' {
+            return Err(Stop::Broken);
+        }
+        *self = Turn::Content(0);
+        Ok(Some(Token::Shut))
+    }
+
+    /// Goes back between tags, behind this token.
+    fn close(&mut self, token: Token) -> Option<Token>
+        ensures token { result ≡ Some token }
+        ensures content { self.new ≡ Turn.Content 0 }
+    {
+        *self = Turn::Content(0);
+        Some(token)
+    }
+
+    /// One character of a start tag.
+    #[inline(never)]
+    #[tactic(auto, using(crate::proofs::Decoded::turns_err, crate::proofs::Decoded::turns_on, crate::proofs::Decoded::turns_done))]
+    fn start_tag(&mut self, alloc: Global, c: char) -> Result<Option<Token>, Stop>
+        requires { is_start_tag self.old ≡ true }
+        ensures { (opens : List Open) → TurnsSo opens (step_turn self.old opens c) result self.new }
+    {
+        match self {
+            Turn::StartTag(tagging) => {
+                let Some((tag, end)) = tagging.step(alloc, c)? else {
+                    return Ok(None);
+                };
+                Ok(Some(self.end_start(tag, end)))
+            }
+            _ => unreachable!(),
+        }
+    }
+
+    /// One character of a comment, a section or a reference.
+    #[inline(never)]
+    #[tactic(auto, using(crate::proofs::Decoded::turns_err, crate::proofs::Decoded::turns_on, crate::proofs::Decoded::turns_done))]
+    fn seldom(&mut self, alloc: Global, c: char) -> Result<Option<Token>, Stop>
+        requires { is_seldom self.old ≡ true }
+        ensures { (opens : List Open) → TurnsSo opens (step_turn self.old opens c) result self.new }
+    {
+        match self {
+            Turn::Bang => self.bang(c),
+            Turn::Dash => self.dash(c),
+            Turn::Comment(dashes) => {
+                if comment_step(dashes, c)?.is_none() {
+                    return Ok(None);
+                }
+                Ok(self.close(Token::Commented))
+            }
+            Turn::Cdata(left) => {
+                if left.is_over() {
+                    return self.begin_section(alloc, c);
+                }
+                left.step(c)
+            }
+            Turn::Section(brackets, text) => {
+                let Some(said) = section_step(brackets, text, alloc, c)? else {
+                    return Ok(None);
+                };
+                Ok(self.close(Token::SectionOf(said)))
+            }
+            Turn::Reference(reference) => {
+                let Some(code) = reference.step(c)? else {
+                    return Ok(None);
+                };
+                Ok(self.close(Token::Referred(code)))
+            }
+            _ => unreachable!(),
+        }
+    }
+
+    /// One character, where these elements are open. What is seldom open has functions of its own: what a function may hold is
+    /// cleared where it is called.
     pub fn step(&mut self, alloc: Global, opens: &[Open], c: char) -> Result<Option<Token>, Stop>
         ensures { TurnsSo opens.now (step_turn self.old opens.now c) result self.new }
     {
@@ -140,66 +247,13 @@ impl Turn {
                 self.content(brackets, c)
             }
             Turn::Less => self.less(alloc, opens, c),
-            Turn::Bang => self.bang(c),
-            Turn::Dash => {
-                if c != '-' {
-                    return Err(Stop::Broken);
-                }
-                self.go_to(Turn::Comment(0));
-                Ok(None)
-            }
-            Turn::Comment(dashes) => {
-                if comment_step(dashes, c)?.is_none() {
-                    return Ok(None);
-                }
-                self.go_to(Turn::Content(0));
-                Ok(Some(Token::Commented))
-            }
-            Turn::Cdata(left) => {
-                if left.is_over() {
-                    return self.begin_section(alloc, c);
-                }
-                if !left.is_next(c) {
-                    return Err(Stop::Broken);
-                }
-                left.advance();
-                Ok(None)
-            }
-            Turn::Section(brackets, text) => {
-                if !closes_section(*brackets, c) {
-                    text.push(c)?;
-                    *brackets = brackets_with(*brackets, c);
-                    return Ok(None);
-                }
-                let mut said = std::mem::replace(text, Letters::new(alloc));
-                said.without_brackets();
-                self.go_to(Turn::Content(0));
-                Ok(Some(Token::SectionOf(said)))
-            }
-            Turn::Reference(reference) => {
-                let Some(code) = reference.step(c)? else {
-                    return Ok(None);
-                };
-                self.go_to(Turn::Content(0));
-                Ok(Some(Token::Referred(code)))
-            }
-            Turn::StartTag(tagging) => {
-                let Some((tag, end)) = tagging.step(alloc, c)? else {
-                    return Ok(None);
-                };
-                Ok(Some(self.end_start(tag, end)))
-            }
-            Turn::Slashed => {
-                if c != '>' {
-                    return Err(Stop::Broken);
-                }
-                self.go_to(Turn::Content(0));
-                Ok(Some(Token::Shut))
-            }
+            Turn::StartTag(_) => self.start_tag(alloc, c),
+            Turn::Slashed => self.slashed(c),
             Turn::EndTag(n) => {
                 let n = *n;
                 self.end(opens, n, c)
             }
+            _ => self.seldom(alloc, c),
         }
     }
 }

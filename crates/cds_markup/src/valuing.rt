@@ -49,6 +49,7 @@ impl Valuing {
     }
 
     /// One character. At the quote it gives what the value says.
+    #[inline(never)]
     pub fn step(&mut self, alloc: Global, c: char) -> Result<Option<Letters>, Stop>
         ensures { Agrees (step_value self.old c) result self.new }
     {

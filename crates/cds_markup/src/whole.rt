@@ -1,8 +1,7 @@
 ghost use Rattle.std.specs.Prelude.{◌≡◌, ◌==◌, true, false, List, ℕ, [], ◌∷◌, length};
 ghost use Rattle.cds_markup.specs.declared.tag.Open.{Open};
-ghost use Rattle.cds_markup.specs.Turns.{given};
-ghost use Rattle.cds_markup.specs.Wholes.{misc_step, is_content, is_over, landed, root_move, prolog_move, marked_move, step};
-ghost use Rattle.cds_markup.specs.Steps.{Agrees, MovesSo, opens_after};
+ghost use Rattle.cds_markup.specs.Wholes.{misc_step, is_content, root_move, prolog_move, marked_move, step};
+ghost use Rattle.cds_markup.specs.Steps.{Agrees, MovesSo, is_last, is_outside};
 
 use crate::attributing::is_blank;
 use crate::error::Stop;
@@ -64,33 +63,29 @@ impl Turn {
     }
 }
 
-/// Whether no element is open behind the token, where these were open before it.
-fn none_open(token: &Token, opens: &[Open]) -> bool
-    ensures { result ≡ (length (opens_after token.now opens.now) == 0) }
+/// Whether no element is open behind what a character completed, where these were open before it.
+fn is_last(said: &Result<Option<Token>, Stop>, opens: &[Open]) -> bool
+    ensures { result ≡ is_last said.now opens.now }
 {
-    match token {
-        Token::Started(_) => false,
-        Token::Ended => opens.len() < 2,
-        _ => opens.is_empty(),
+    match said {
+        Ok(Some(Token::Started(_))) => false,
+        Ok(Some(Token::Ended)) => opens.len() < 2,
+        Ok(Some(_)) => opens.is_empty(),
+        _ => false,
     }
 }
 
 impl Mode {
-    /// Behind a token inside the root, which may end it.
-    #[tactic(auto, using(crate::proofs::Landing::lands_over, crate::proofs::Landing::lands_inside))]
-    fn land(&mut self, opens: &[Open], turn: Turn, token: Token) -> Token
-        ensures token { result ≡ token }
-        ensures mode { MovesSo opens.now (landed (given token (opens_after token opens.now) turn)) (Ok (Some token)) self.new }
+    /// Goes over behind the root.
+    #[inline(never)]
+    fn leave(&mut self)
+        ensures { self.new ≡ Mode.Epilog Misc.Blanks }
     {
-        if turn.is_content() && none_open(&token, opens) {
-            *self = Mode::Epilog(Misc::Blanks);
-        } else {
-            *self = Mode::Inside(turn);
-        }
-        token
+        *self = Mode::Epilog(Misc::Blanks);
     }
 
     /// The first character of the root's name.
+    #[inline(never)]
     fn root(&mut self, alloc: Global, c: char) -> Result<Option<Token>, Stop>
         ensures { (opens : List Open) → MovesSo opens (root_move opens c) result self.new }
     {
@@ -100,6 +95,7 @@ impl Mode {
     }
 
     /// White space and comments before the root, and the first character of its name.
+    #[inline(never)]
     fn prolog(&mut self, alloc: Global, misc: Misc, c: char) -> Result<Option<Token>, Stop>
         ensures { (opens : List Open) → MovesSo opens (prolog_move opens (misc_step misc c) c) result self.new }
     {
@@ -112,6 +108,7 @@ impl Mode {
     }
 
     /// Behind a byte order mark, or at the first character.
+    #[inline(never)]
     fn marked(&mut self, alloc: Global, c: char) -> Result<Option<Token>, Stop>
         ensures { (opens : List Open) → MovesSo opens (marked_move opens c) result self.new }
     {
@@ -129,10 +126,11 @@ impl Mode {
         *self = mode;
     }
 
-    /// One character, where these elements are open.
-    #[tactic(auto, using(crate::proofs::Landing::inside_on, crate::proofs::Landing::inside_done, crate::proofs::Landing::inside_stuck))]
-    pub fn step(&mut self, alloc: Global, opens: &[Open], c: char) -> Result<Option<Token>, Stop>
-        ensures { MovesSo opens.now (step self.old opens.now c) result self.new }
+    /// One character outside the root.
+    #[inline(never)]
+    fn outside(&mut self, alloc: Global, c: char) -> Result<Option<Token>, Stop>
+        requires { is_outside self.old ≡ true }
+        ensures { (opens : List Open) → MovesSo opens (step self.old opens c) result self.new }
     {
         match self {
             Mode::Begin => {
@@ -163,19 +161,30 @@ impl Mode {
                 }
                 Ok(None)
             }
-            Mode::Inside(turn) => {
-                let Some(token) = turn.step(alloc, opens, c)? else {
-                    return Ok(None);
-                };
-                let turn = std::mem::replace(turn, Turn::Slashed);
-                Ok(Some(self.land(opens, turn, token)))
-            }
+            Mode::Inside(_) => unreachable!(),
             Mode::Epilog(misc) => {
                 if misc.step(c)?.is_some() {
                     return Err(Stop::Broken);
                 }
                 Ok(None)
             }
+        }
+    }
+
+    /// One character, where these elements are open.
+    #[tactic(auto, using(crate::proofs::Decoded::inside_over, crate::proofs::Decoded::inside_on))]
+    pub fn step(&mut self, alloc: Global, opens: &[Open], c: char) -> Result<Option<Token>, Stop>
+        ensures { MovesSo opens.now (step self.old opens.now c) result self.new }
+    {
+        match self {
+            Mode::Inside(turn) => {
+                let said = turn.step(alloc, opens, c);
+                if turn.is_content() && is_last(&said, opens) {
+                    self.leave();
+                }
+                said
+            }
+            _ => self.outside(alloc, c),
         }
     }
 }

@@ -12,7 +12,7 @@ use crate::{Attr, Element, Name, Node};
 use cds_base::{Mem, escape, put, put_number};
 
 /// Puts a qualified name, of which the prefix may be empty.
-#[tactic(auto, using(crate::proofs::WrittenNames::name_alone, crate::proofs::WrittenNames::name_prefixed))]
+#[tactic(auto, using(crate::proofs::Decoded::name_alone, crate::proofs::Decoded::name_prefixed))]
 fn put_name(out: &mut String, prefix: &str, local: &str) -> Result<(), Mem>
     ensures { OnOk result (string_bytes out.new ≡ string_bytes out.old ++ written_name prefix.now local.now) }
 {
@@ -92,7 +92,7 @@ fn put_next(out: &mut String, before: u64, attr: &Attr) -> Result<u64, Mem>
 }
 
 /// Puts the attributes of an element.
-#[tactic(auto, using(crate::proofs::WrittenNames::attr_more, crate::proofs::WrittenNames::counted_most))]
+#[tactic(auto, using(crate::proofs::Decoded::attr_more, crate::proofs::Decoded::counted_most))]
 fn put_attrs(out: &mut String, attrs: &[Attr]) -> Result<(), Mem>
     ensures { OnOk result (string_bytes out.new ≡ string_bytes out.old ++ written_attrs (tag_attrs 0 attrs.now)) }
 {
@@ -104,7 +104,7 @@ fn put_attrs(out: &mut String, attrs: &[Attr]) -> Result<(), Mem>
 }
 
 /// Puts a start tag.
-#[tactic(auto, using(crate::proofs::WrittenNames::written_more))]
+#[tactic(auto, using(crate::proofs::Decoded::written_more))]
 fn put_start(out: &mut String, around: &str, name: &Name, attrs: &[Attr]) -> Result<(), Mem>
     ensures { OnOk result (string_bytes out.new ≡ string_bytes out.old ++ written_start (tag_of around.now name.now attrs.now)) }
 {

@@ -1,6 +1,5 @@
 use Rattle.std.proofs.Common.{◌≡◌, ◌+◌, drop, length}
-use Rattle.cds_markup.specs.Grammar.{name_bytes}
-use Rattle.cds_markup.specs.Turns.{begins_with}
+use Rattle.cds_markup.proofs.Terms.{name_bytes, begins_with}
 use Rattle.cds_markup.proofs.ending.name_goes_on.Given as goal
 
 abbrev pub invariant-loop-first : goal.invariant-loop-first

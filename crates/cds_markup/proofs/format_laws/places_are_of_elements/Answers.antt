@@ -1,4 +1,4 @@
-use Rattle.cds_markup.proofs.ChildStanding.{places-are-of-elements}
+use Rattle.cds_markup.proofs.Readings.{places-are-of-elements}
 use Rattle.cds_markup.proofs.format_laws.places_are_of_elements.Goals as goal
 
 pub returns : goal.returns

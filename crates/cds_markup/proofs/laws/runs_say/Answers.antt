@@ -1,5 +1,5 @@
 -- The law stands in the lemmas.
-use Rattle.cds_markup.proofs.RunsSay.{runs-say}
+use Rattle.cds_markup.proofs.ToldBytes.{runs-say}
 use Rattle.cds_markup.proofs.laws.runs_say.Goals as goal
 
 pub returns : goal.returns

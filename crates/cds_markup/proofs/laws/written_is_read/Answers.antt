@@ -1,5 +1,5 @@
 -- The law stands in the lemmas.
-use Rattle.cds_markup.proofs.WrittenDocument.{written-is-read}
+use Rattle.cds_markup.proofs.DraftsForm.{written-is-read}
 use Rattle.cds_markup.proofs.laws.written_is_read.Goals as goal
 
 pub returns : goal.returns

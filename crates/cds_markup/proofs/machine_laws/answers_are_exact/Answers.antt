@@ -1,5 +1,5 @@
 -- The law stands in the lemmas.
-use Rattle.cds_markup.proofs.Exact.{exact}
+use Rattle.cds_markup.proofs.GivenLaws.{exact}
 use Rattle.cds_markup.proofs.machine_laws.answers_are_exact.Goals as goal
 
 pub returns : goal.returns

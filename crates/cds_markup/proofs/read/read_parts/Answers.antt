@@ -1,6 +1,4 @@
-use Rattle.std.proofs.Common.{List, sym, subst}
-use Rattle.cds_markup.specs.declared.part.Part.{Part}
-use Rattle.cds_markup.specs.GivenParts.{TellsTo}
+use Rattle.std.proofs.Common.{sym}
 use Rattle.cds_markup.proofs.Readings.{listed_told, on_ok}
 use Rattle.cds_markup.proofs.read.read_parts.Goals as goal
 

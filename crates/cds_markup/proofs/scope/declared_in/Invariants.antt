@@ -1,6 +1,5 @@
 use Rattle.std.proofs.Common.{◌≡◌, drop}
-use Rattle.cds_markup.specs.Namespaces.{declared_in}
-use Rattle.cds_markup.specs.Bytes.{scopes_in}
+use Rattle.cds_markup.proofs.Terms.{declared_in, scopes_in}
 use Rattle.cds_markup.proofs.scope.declared_in.Given as goal
 
 abbrev pub invariant-loop-open : goal.invariant-loop-open

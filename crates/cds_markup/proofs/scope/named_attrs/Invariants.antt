@@ -1,7 +1,6 @@
 use Rattle.std.proofs.Common.{◌≡◌, ◌∷◌}
-use Rattle.cds_markup.specs.Namespaces.{named_attrs}
-use Rattle.cds_markup.specs.Bytes.{scopes_in}
-use Rattle.cds_markup.proofs.AttrNames.{named_behind}
+use Rattle.cds_markup.proofs.Terms.{named_attrs, scopes_in}
+use Rattle.cds_markup.proofs.Only.{named_behind}
 use Rattle.cds_markup.proofs.scope.named_attrs.Given as goal
 
 abbrev pub invariant-loop-attr : goal.invariant-loop-attr

@@ -1,6 +1,5 @@
 use Rattle.std.proofs.Common.{◌≡◌, ◌++◌, drop, string_bytes}
-use Rattle.cds_markup.specs.Written.{written_inside}
-use Rattle.cds_markup.specs.Elements.{meanings_of}
+use Rattle.cds_markup.proofs.Terms.{written_inside, meanings_of}
 use Rattle.cds_markup.specs.Weight.{weight_one}
 use Rattle.cds_markup.proofs.write.+put_element.Given as goal
 

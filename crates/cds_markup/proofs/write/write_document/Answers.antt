@@ -1,5 +1,5 @@
 -- The law of the written form is this clause at the element.
-use Rattle.cds_markup.proofs.WrittenDocument.{written-is-read}
+use Rattle.cds_markup.proofs.DraftsForm.{written-is-read}
 use Rattle.cds_markup.proofs.write.write_document.Goals as goal
 
 pub returns-in_err-put_element-clause-read_back : goal.returns-in_err-put_element-clause-read_back

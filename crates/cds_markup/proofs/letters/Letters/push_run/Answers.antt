@@ -1,5 +1,3 @@
-use Rattle.std.proofs.Common.{sym, subst, ◌∙◌}
-use Rattle.std.specs.Str.{IsAscii}
 use Rattle.cds_markup.specs.Running.{is_plain}
 use Rattle.cds_markup.proofs.Quiet.{front_within, front_is, collects, plain_ascii}
 use Rattle.cds_markup.proofs.letters.Letters.push_run.Goals as goal
@@ -8,7 +6,7 @@ pub split_at-requires : goal.split_at-requires
 split_at-requires c = front_within (is_plain c.args.plain) c.args.bytes.now c.run-count.result c.run-count.ensures
 
 pub push_ascii-requires : goal.push_ascii-requires
-push_ascii-requires c = subst IsAscii (sym (c.split_at.ensures.front ∙ front_is (is_plain c.args.plain) c.args.bytes.now c.run-count.result c.run-count.ensures)) (plain_ascii c.args.plain c.args.bytes.now)
+push_ascii-requires c = rw (c.split_at.ensures.front, front_is (is_plain c.args.plain) c.args.bytes.now c.run-count.result c.run-count.ensures) (plain_ascii c.args.plain c.args.bytes.now)
 
 pub returns : goal.returns
 returns c =

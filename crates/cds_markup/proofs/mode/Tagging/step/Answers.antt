@@ -1,18 +1,14 @@
 -- Behind a name that may end.
-use Rattle.cds_markup.specs.declared.mode.Tagging.TheVariants.{Name}
-use Rattle.cds_markup.specs.Names.{goes_on, is_whole, name_of}
-use Rattle.cds_markup.specs.Tags.{tag_named, tagged_step}
-use Rattle.cds_markup.specs.Steps.{Agrees}
-use Rattle.cds_markup.proofs.Leading.{named_ends, named_breaks}
+use Rattle.cds_markup.proofs.Terms.{Name, goes_on, is_whole, name_of, tag_named, tagged_step}
+use Rattle.cds_markup.proofs.Decoded.{named_ends, named_breaks}
 use Rattle.cds_markup.proofs.mode.Tagging.step.Goals as goal
 
 pub returns-in-Ends : goal.returns-in-Ends
 returns-in-Ends c =
     let n = c.in-Name.naming in
-    let behind : Agrees (tagged_step (tag_named c.in-Ends.name) c.args.c) c.tagged.result c.tagged.new.self = rw c.new-attrs.ensures at c.tagged.ensures in
     rw c.in-Name.is
     (named_ends (goes_on n c.args.c) Name (is_whole n.second) (name_of n) c.in-Ends.name (λ p. tagged_step (tag_named p) c.args.c) c.name_step.new.naming c.tagged.result c.tagged.new.self
-    (rw c.in-Ends.is at c.in_ok-name_step-in-Name.ensures) behind)
+    (rw c.in-Ends.is at c.in_ok-name_step-in-Name.ensures) (rw c.new-attrs.ensures at c.tagged.ensures))
 
 pub returns-in-Breaks : goal.returns-in-Breaks
 returns-in-Breaks c =

@@ -1,7 +1,6 @@
 use Rattle.std.proofs.Common.{ap, sym, subst, ◌∙◌}
-use Rattle.cds_markup.specs.Tellings.{telling_of, telling_in}
-use Rattle.cds_markup.specs.Feeding.{StandsFor}
-use Rattle.cds_markup.proofs.Feeding.{finish_ends}
+use Rattle.cds_markup.proofs.Terms.{telling_of, telling_in, StandsFor}
+use Rattle.cds_markup.proofs.Readings.{finish_ends}
 use Rattle.cds_markup.proofs.part_reader.PartReader.finish.Goals as goal
 
 pub returns-clause-ends : goal.returns-clause-ends

@@ -1,6 +1,5 @@
-use Rattle.cds_markup.specs.Taking.{Takes}
-use Rattle.cds_markup.specs.Tellings.{telling_of}
-use Rattle.cds_markup.proofs.Feeding.{shown_so}
+use Rattle.cds_markup.proofs.Terms.{TakesAll as Takes, telling_of}
+use Rattle.cds_markup.proofs.Readings.{shown_so}
 use Rattle.cds_markup.proofs.part_reader.Spot.show.Goals as goal
 
 pub returns : goal.returns

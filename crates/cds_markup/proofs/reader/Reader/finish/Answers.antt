@@ -1,6 +1,5 @@
 use Rattle.cds_markup.specs.Reader.{Finished}
-use Rattle.cds_markup.proofs.Feeding.{err_is}
-use Rattle.cds_markup.proofs.Readings.{element_refused}
+use Rattle.cds_markup.proofs.Readings.{err_is, element_refused}
 use Rattle.cds_markup.proofs.reader.Reader.finish.Goals as goal
 
 pub returns-in_err-finish_placed-clause-finished : goal.returns-in_err-finish_placed-clause-finished

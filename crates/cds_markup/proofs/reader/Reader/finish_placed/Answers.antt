@@ -1,8 +1,6 @@
-use Rattle.std.proofs.Common.{Ok, subst, sym, ◌∙◌}
-use Rattle.cds_markup.specs.Placed.{DecidesPlaced}
+use Rattle.std.proofs.Common.{sym, ◌∙◌}
 use Rattle.cds_markup.specs.Reader.{FinishedPlaced}
-use Rattle.cds_markup.proofs.Feeding.{err_is}
-use Rattle.cds_markup.proofs.Readings.{IsFound, end_refused, end_read}
+use Rattle.cds_markup.proofs.Readings.{err_is, end_refused, end_read}
 use Rattle.cds_markup.proofs.reader.Reader.finish_placed.Goals as goal
 
 pub returns-in_err-finish-clause-finished : goal.returns-in_err-finish-clause-finished
@@ -11,11 +9,7 @@ returns-in_err-finish-clause-finished c =
     (end_refused c.args.self c.self.inside.parts c.self.inside.builder c.self.view_is c.in_err-finish.field-0.0 c.in_err-finish.ensures.ends)
 
 pub returns-in-Some-clause-finished : goal.returns-in-Some-clause-finished
-returns-in-Some-clause-finished c = λ bytes read.
-    subst (IsFound (λ placed. DecidesPlaced bytes (Ok placed))) (sym c.into_placed.ensures ∙ c.in-Some.is)
-    (end_read c.args.self c.self.inside.parts c.self.inside.builder c.self.view_is c.in_ok-finish.ensures.ends bytes read)
+returns-in-Some-clause-finished c = λ bytes read. rw (sym c.into_placed.ensures ∙ c.in-Some.is) at (end_read c.args.self c.self.inside.parts c.self.inside.builder c.self.view_is c.in_ok-finish.ensures.ends bytes read)
 
 pub returns-in-None-clause-finished : goal.returns-in-None-clause-finished
-returns-in-None-clause-finished c = λ bytes read.
-    subst (IsFound (λ placed. DecidesPlaced bytes (Ok placed))) (sym c.into_placed.ensures ∙ c.in-None.is)
-    (end_read c.args.self c.self.inside.parts c.self.inside.builder c.self.view_is c.in_ok-finish.ensures.ends bytes read)
+returns-in-None-clause-finished c = λ bytes read. rw (sym c.into_placed.ensures ∙ c.in-None.is) at (end_read c.args.self c.self.inside.parts c.self.inside.builder c.self.view_is c.in_ok-finish.ensures.ends bytes read)
