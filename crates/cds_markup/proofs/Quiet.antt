@@ -1,13 +1,13 @@
 -- Runs of bytes that complete nothing are told as such.
-use Rattle.std.proofs.Common.{◌≡◌, ◌==◌, ℕ, ◌+◌, ◌-◌, ◌<◌, ◌≤◌, nat_lt, Bool, true, false, not, ◌&&◌, ◌||◌, cond, Option, Some, None, Result, Ok, Err, List, [], ◌∷◌, ◌++◌, length, take, drop, refl, sym, ap, subst, ◌∙◌, arith, append_assoc, length-append, inl, inr}
+use Rattle.std.proofs.Common.{◌≡◌, ◌==◌, ℕ, zero, suc, ◌+◌, ◌-◌, ◌<◌, ◌≤◌, nat_lt, Bool, true, false, not, ◌&&◌, ◌||◌, cond, Option, Some, None, Result, Ok, Err, List, [], ◌∷◌, ◌++◌, length, take, drop, refl, sym, ap, subst, ◌∙◌, arith, append_assoc, length-append, inl, inr}
 use Rattle.std.proofs.lemmas.List.Sums.{prefix_len-le-length, take_while-cons}
 use Rattle.std.proofs.lemmas.Str.Ascii.{IsAscii-nil, IsAscii-cons}
 use Rattle.cds_base.specs.declared.mem.Mem.{Mem}
 use Rattle.cds_base.specs.Runs.{stands_for_itself}
 use Rattle.cds_markup.specs.declared.plain.Plain.{Plain}
 use Rattle.cds_markup.specs.declared.plain.Plain.TheVariants.{Letters, InName, Written, Blanks}
-use Rattle.cds_markup.proofs.Terms.{nat_tests, append-nil, take-append_seam, drop-append_seam, encode_ascii, begins_name, is_allowed, is_blank, is_in_name, INPUT_LIMIT, Marks, OpenText, Attributing, AttrName, Equals, Value, Tagging, Name, Tagged, Spaced, Attribute, Naming, Valuing, Referring, Misc, MiscComment, Turn, Content, Less, Comment, Section, StartTag, EndTag, Mode, Prolog, Inside, Epilog, Open, QName, Tag, Literal, Part, is_empty, On, Token, Letter, naming, goes_on, is_whole, name_of, written_name, name_bytes, begins_with, slash_step, drop-drop, length-take-le, ends_tag, with_attr, valuing, literal_step, says_behind, quote_of, To, step, Reading, reading, go_on, moved, begins_tag, most_open, is_deep, may_begin_name, breaks_rule, is_none, is_between, passed_over, marked, marks, text_with, Telling, telling, behind_parts, told_within, told_on, told, Told, ToldSo, TakesAll as Takes, and-no, and-so, and-both, and-first, and-second, is-byte, empty-is, cases, clash, list_all, take_while, take-append-drop, length-prefix_len, IsAscii}
-use Rattle.cds_markup.specs.Running.{begins_plain_name, is_plain_name, is_plain_qname, begins_blank, attr_with, plain_attr, HasAttr, SpacedRuns, HasName, plain_naming, PartAt, NameAt, ValueAt, is_plain_in_name, is_written, is_line_blank, is_plain, EndRuns, HasSlash, in_text, Passes, Collects, AttrRuns, TagRuns, TurnRuns, MiscRuns, ModeRuns, is_plain_content, takes_run, marks_run, MarksRun, QuietSo, RunSo}
+use Rattle.cds_markup.proofs.Terms.{nat_tests, append-nil, take-append_seam, drop-append_seam, encode_ascii, begins_name, is_allowed, is_blank, is_in_name, INPUT_LIMIT, Marks, OpenText, Attributing, AttrName, Equals, Value, Tagging, Name, Tagged, Spaced, Attribute, Naming, Valuing, Referring, Misc, MiscComment, Turn, Content, Less, Comment, Section, StartTag, EndTag, Mode, Prolog, Inside, Epilog, Open, QName, Tag, Literal, Part, is_empty, On, Token, Letter, naming, goes_on, is_whole, name_of, written_name, name_bytes, begins_with, slash_step, drop-drop, length-take-le, ends_tag, with_attr, valuing, literal_step, says_behind, quote_of, To, step, Reading, reading, go_on, moved, begins_tag, most_open, is_deep, may_begin_name, breaks_rule, is_none, is_between, passed_over, marked, marks, text_with, text_or, open_text, Telling, telling, behind_parts, told_within, told_on, told, Told, ToldSo, TakesAll as Takes, and-no, and-so, and-both, and-first, and-second, is-byte, empty-is, cases, clash, list_all, take_while, take-append-drop, length-prefix_len, IsAscii}
+use Rattle.cds_markup.specs.Running.{begins_plain_name, is_plain_name, is_plain_qname, begins_blank, attr_with, plain_attr, HasAttr, SpacedRuns, HasName, plain_naming, PartAt, NameAt, ValueAt, is_plain_in_name, is_written, is_line_blank, is_plain, EndRuns, HasSlash, in_text, text_before, TextRuns, Passes, Collects, AttrRuns, TagRuns, TurnRuns, MiscRuns, ModeRuns, is_plain_content, takes_run, marks_run, MarksRun, QuietSo, RunSo}
 use Rattle.cds_markup.proofs.Decoded.{ascii_whole}
 use Rattle.cds_markup.proofs.TokenTold.{behind-none, told-append, byte-told, judged-ok, shallow-mode}
 use Rattle.cds_markup.proofs.ToldBytes.{SoFar}
@@ -266,11 +266,11 @@ module _ (opens : List Open) (m : Marks) (bytes : List ℕ) (n : ℕ) where
       (λ e. rw (is-byte k 0 e)
       (walk Letters (λ t. Inside (Section 0 t)) (λ t b f. (refl, refl, rw (apart stands_for_itself b 62 f refl, apart stands_for_itself b 93 f refl, encode_ascii b (plain-byte Letters b f).0) refl)) text)) h
 
-  zero : ◌≡◌ {A = Result ℕ Mem} (Ok n) (Ok 0) → n ≡ 0
-  zero e = cc
+  stays-at : ◌≡◌ {A = Result ℕ Mem} (Ok n) (Ok 0) → n ≡ 0
+  stays-at e = cc
 
   unmoved : {A : Type 0} (f : A → Mode) (a b : A) → (◌≡◌ {A = Result ℕ Mem} (Ok n) (Ok 0)) × (b ≡ a) → Quiet (f a) (f b)
-  unmoved f a b h = rw h.1 (stays (spot (f a)) bytes n (zero h.0))
+  unmoved f a b h = rw h.1 (stays (spot (f a)) bytes n (stays-at h.0))
 
   -- a whole attribute
   spaced-first : (tag : Tag) (b : ℕ) → begins_plain_name b ≡ true → One (spot (In-tag (Spaced tag))) b (spot (In-tag (Attribute tag (AttrName (naming (b ∷ []) None)))))
@@ -422,12 +422,15 @@ module _ (o : Open) (outer : List Open) (begin n : ℕ) (bytes : List ℕ) where
   abbrev text-spot : Option OpenText → ℕ → Telling
   text-spot text at = telling in-content (marks begin text) at
 
-  text-one : (from : ℕ) (place : Option ℕ) (t : List ℕ) (b : ℕ) → is_plain (in_text place) b ≡ true → One (text-spot (Some (text-of from place t false))) b (text-spot (Some (text-of from place (t ++ b ∷ []) false)))
-  text-one from place t b e at w h =
+  letter-one : (text : Option OpenText) (t : OpenText) (place : Option ℕ) (at b : ℕ) (w : List ℕ) → at < INPUT_LIMIT → is_plain (in_text place) b ≡ true → text_with (text_or (at - 0) text) (at - 0) b ≡ t → told (text-spot text at) (b ∷ w) ≡ told (text-spot (Some t) (at + 1)) w
+  letter-one text t place at b w h e f =
       let test = is_plain (in_text place) in
-      plain-told INPUT_LIMIT (Inside (Content 0)) (o ∷ outer) (marks begin (Some (text-of from place t false))) at b w (plain-byte (in_text place) b e) h (shallow-mode (Inside (Content 0)) (o ∷ outer) b refl) (Inside (Content 0)) (Letter b ∷ [])
+      plain-told INPUT_LIMIT (Inside (Content 0)) (o ∷ outer) (marks begin text) at b w (plain-byte (in_text place) b e) h (shallow-mode (Inside (Content 0)) (o ∷ outer) b refl) (Inside (Content 0)) (Letter b ∷ [])
       (rw (apart test b 60 e (signs place).0, apart test b 38 e (signs place).1, apart test b 62 e (signs place).2, apart test b 93 e (signs place).3) refl) refl
-      ∙ ap (λ x. behind_parts [] (told (text-spot (Some x) (at + 1)) w)) (text-adds from place t (at - 0) b e) ∙ behind-none (told (text-spot (Some (text-of from place (t ++ b ∷ []) false)) (at + 1)) w)
+      ∙ ap (λ x. behind_parts [] (told (text-spot (Some x) (at + 1)) w)) f ∙ behind-none (told (text-spot (Some t) (at + 1)) w)
+
+  text-one : (from : ℕ) (place : Option ℕ) (t : List ℕ) (b : ℕ) → is_plain (in_text place) b ≡ true → One (text-spot (Some (text-of from place t false))) b (text-spot (Some (text-of from place (t ++ b ∷ []) false)))
+  text-one from place t b e at w h = letter-one (Some (text-of from place t false)) (text-of from place (t ++ b ∷ []) false) place at b w h e (text-adds from place t (at - 0) b e)
 
   some-run : (from : ℕ) (place : Option ℕ) (said : List ℕ) (behind : Bool) (now : List ℕ) → Collects (not behind) (is_plain (in_text place)) said bytes (Ok n) now
       → RunFrom (text-spot (Some (text-of from place said behind))) bytes n (text-spot (Some (text-of from place now behind)))
@@ -436,7 +439,7 @@ module _ (o : Open) (outer : List Open) (begin n : ℕ) (bytes : List ℕ) where
       collected (is_plain (in_text place)) (λ t. text-spot (Some (text-of from place t false))) said bytes n now true (λ e. walks (is_plain (in_text place)) (λ t. text-spot (Some (text-of from place t false))) (text-one from place) said) h
 
   texts-run : (text behind : Option OpenText) (now : ℕ) → marks_run begin text bytes (Ok n) now behind → RunFrom (text-spot text) bytes n (λ at. telling in-content (marks now behind) at)
-  texts-run None None now h = rw h.1 (stays (text-spot None) bytes n (zero [] (marks 0 None) bytes n h.0))
+  texts-run None None now h = rw h.1 (stays (text-spot None) bytes n (stays-at [] (marks 0 None) bytes n h.0))
   texts-run (Some t) (Some u) now h = rw (h.0, h.1.0) (some-run t.at t.non_blank t.said t.behind_return u.said h.1.1)
   texts-run text behind now h = absurd h
 
@@ -444,15 +447,52 @@ content-is : (mode : Mode) → is_plain_content mode ≡ true → mode ≡ Insid
 content-is (Inside (Content k)) e = ap (λ j. Inside (Content j)) (is-byte k 0 e)
 content-is mode e = clash e refl
 
+content-so : (r : Reading) → takes_run r ≡ true → (o : Open) × (outer : List Open) × (r ≡ reading [] (Inside (Content 0)) (o ∷ outer))
+content-so r e =
+    let f = and-second (is_empty r.begun) (not (length r.opens == 0) && is_plain_content r.mode) e in
+    by r.opens refl (and-first (not (length r.opens == 0)) (is_plain_content r.mode) f) (content-is r.mode (and-second (not (length r.opens == 0)) (is_plain_content r.mode) f)) where
+      by : (opens : List Open) → r.opens ≡ opens → not (length opens == 0) ≡ true → r.mode ≡ Inside (Content 0) → (o : Open) × (outer : List Open) × (r ≡ reading [] (Inside (Content 0)) (o ∷ outer))
+      by [] is some mode = clash some refl
+      by (o ∷ outer) is some mode =
+          (o, outer, ap (λ x. reading x r.mode r.opens) (empty-is r.begun (and-first (is_empty r.begun) (not (length r.opens == 0) && is_plain_content r.mode) e)) ∙ ap (λ x. reading [] x r.opens) mode ∙ ap (reading [] (Inside (Content 0))) is)
+
 pub text_run : (r : Reading) (m now : Marks) (at n : ℕ) (bytes : List ℕ) → takes_run r ≡ true → at + length bytes ≤ INPUT_LIMIT → MarksRun m bytes (Ok n) now → RunSo (telling r m at) bytes (Ok n) (telling r now (at + n))
 text_run r m now at n bytes e room h =
-    let f = and-second (is_empty r.begun) (not (length r.opens == 0) && is_plain_content r.mode) e in
-    subst (λ x. RunSo (telling (reading x r.mode r.opens) m at) bytes (Ok n) (telling (reading x r.mode r.opens) now (at + n))) (sym (empty-is r.begun (and-first (is_empty r.begun) (not (length r.opens == 0) && is_plain_content r.mode) e)))
-    (subst (λ x. RunSo (telling (reading [] x r.opens) m at) bytes (Ok n) (telling (reading [] x r.opens) now (at + n))) (sym (content-is r.mode (and-second (not (length r.opens == 0)) (is_plain_content r.mode) f)))
-    (by r.opens (and-first (not (length r.opens == 0)) (is_plain_content r.mode) f))) where
-      by : (opens : List Open) → not (length opens == 0) ≡ true → RunSo (telling (reading [] (Inside (Content 0)) opens) m at) bytes (Ok n) (telling (reading [] (Inside (Content 0)) opens) now (at + n))
-      by [] e = clash e refl
-      by (o ∷ outer) e = let t = texts-run o outer m.begin n bytes m.text now.text now.begin h in (t.0, t.1 at room)
+    let c = content-so r e in
+    let t = texts-run c.0 c.1 m.begin n bytes m.text now.text now.begin h in
+    rw c.2 (t.0, t.1 at room)
+
+-- what begins where no literal text is open
+pub tag_run : (r : Reading) (m : Marks) (at b : ℕ) (bytes w : List ℕ) → bytes ≡ b ∷ w → b ≡ 60 → takes_run r ≡ true → m.text ≡ None → at + length bytes ≤ INPUT_LIMIT
+    → RunSo (telling r m at) bytes (Ok 1) (telling (reading r.begun (Inside Less) r.opens) (marks at m.text) (at + 1))
+tag_run r m at b bytes w is less e none room =
+    let c = content-so r e in
+    let all : bytes ≡ 60 ∷ w = is ∙ ap (λ x. x ∷ w) less in
+    rw (c.2, all, none)
+    (omega arith, plain-told INPUT_LIMIT (Inside (Content 0)) (c.0 ∷ c.1) (marks m.begin None) at 60 [] (omega arith, refl) (omega (arith, rw all at room)) (shallow-mode (Inside (Content 0)) (c.0 ∷ c.1) 60 refl) (Inside Less) [] refl refl)
+
+begin-adds : (at b : ℕ) → is_plain (in_text (text_before at b).non_blank) b ≡ true → text_with (open_text (at - 0)) (at - 0) b ≡ text-of at (text_before at b).non_blank (b ∷ []) false
+begin-adds at b e =
+    let same : at - 0 ≡ at = omega arith in
+    rw same (cases (is_line_blank b) (λ f. blank f (rw f at e)) (λ f. letter f (rw f at e))) where
+  blank : is_line_blank b ≡ true → is_line_blank b ≡ true → text_with (open_text at) at b ≡ text-of at (text_before at b).non_blank (b ∷ []) false
+  blank f g = rw (f, and-no (b == 10), apart is_line_blank b 13 g refl, encode_ascii b (plain-byte Blanks b g).0) refl
+  letter : is_line_blank b ≡ false → stands_for_itself b ≡ true → text_with (open_text at) at b ≡ text-of at (text_before at b).non_blank (b ∷ []) false
+  letter f g = rw (f, apart stands_for_itself b 10 g refl, apart stands_for_itself b 13 g refl, encode_ascii b (plain-byte Letters b g).0) refl
+
+pub begin_run : (r : Reading) (m : Marks) (at b n : ℕ) (w : List ℕ) (u : OpenText) → takes_run r ≡ true → m.text ≡ None → at + length (b ∷ w) ≤ INPUT_LIMIT → TextRuns (text_before at b) (b ∷ w) (Ok n) u → 0 < n → RunSo (telling r m at) (b ∷ w) (Ok n) (telling r (marks m.begin (Some u)) (at + n))
+begin_run r m at b zero w u e none room h some = absurd (omega (arith, some))
+begin_run r m at b (suc k) w u e none room h some =
+    let c = content-so r e in
+    let place = (text_before at b).non_blank in
+    let test = is_plain (in_text place) in
+    let plain : test b ≡ true = cases (test b) (λ f. f) (λ f. let no : suc k ≡ 0 = rw (take_while-cons test b w, f) at h.1.0 in absurd (omega (arith, no))) in
+    let run = some-run c.0 c.1 m.begin (suc k) (b ∷ w) at place [] false u.said h.1 in
+    let begun = text-of at place (b ∷ []) false in
+    let low : at < INPUT_LIMIT = omega (arith, room) in
+    rw (c.2, none, h.0)
+    (run.0, letter-one c.0 c.1 m.begin (suc k) (b ∷ w) None begun place at b (take k w) low plain (begin-adds at b plain)
+    ∙ sym (letter-one c.0 c.1 m.begin (suc k) (b ∷ w) (Some (text-of at place [] false)) begun place at b (take k w) low plain (text-adds at place [] (at - 0) b plain)) ∙ run.1 at room)
 
 -- what is told behind a run
 pub run_more : {S : Type 0} (took : S → Part → S → Type 0) (enough : S → Bool) (before to : S) (whole : Told) (p q : Telling) (rest : List ℕ) (n : ℕ) → SoFar took enough before whole to p rest → RunSo p rest (Ok n) q

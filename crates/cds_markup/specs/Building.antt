@@ -18,7 +18,7 @@ pub record State : Type 0 where
   pub text : List ℕ
 
 abbrev pub state_of : Builder → State
-state_of b = record { frames = b.frames.items; nodes = b.nodes; text = string_bytes b.text }
+state_of b = record { frames = b.frames.items; nodes = b.nodes; text = b.text ++ string_bytes b.more }
 
 abbrev pub state : List Frame → Meanings → List ℕ → State
 state frames nodes text = record { frames = frames; nodes = nodes; text = text }

@@ -217,6 +217,10 @@ is_full r = length r.opens == most_open && begins_tag r.mode
 abbrev pub takes_run : Reading → Bool
 takes_run r = is_empty r.begun && (not (length r.opens == 0) && is_plain_content r.mode)
 
+-- A text that begins with this byte, before it: where the byte is no white space its place is that of the first other character.
+abbrev pub text_before : ℕ → ℕ → OpenText
+text_before at b = record { at = at; non_blank = if is_line_blank b then None else Some at; said = []; behind_return = false }
+
 abbrev pub TextRuns : OpenText → List ℕ → Result ℕ Mem → OpenText → Type 0
 TextRuns t bytes result now =
     (now ≡ record { at = t.at; non_blank = t.non_blank; said = now.said; behind_return = t.behind_return })

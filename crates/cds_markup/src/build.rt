@@ -1,4 +1,4 @@
-ghost use Rattle.std.specs.Prelude.{◌≡◌, IfOk};
+ghost use Rattle.std.specs.Prelude.{◌≡◌, [], IfOk, string_bytes};
 ghost use Rattle.cds_markup.specs.Building.{state_of, flushed, opened, closed, with_text, nothing_yet, first_element};
 
 use crate::{Attrs, Element, Name, Node, Nodes, Part, PartSink};
@@ -23,8 +23,10 @@ pub struct Builder {
     pub frames: Vec<Frame>,
     /// What stands in the innermost so far.
     pub nodes: Nodes,
-    /// A text behind it that may go on.
-    pub text: String,
+    /// The first run of a text behind it that may go on.
+    pub text: Text,
+    /// Its other runs.
+    pub more: String,
 }
 
 impl Builder {
@@ -35,19 +37,35 @@ impl Builder {
         Builder {
             frames: Vec::new(alloc),
             nodes: Nodes::new(alloc),
-            text: String::new(alloc),
+            text: Text::from(String::new(alloc)),
+            more: String::new(alloc),
         }
+    }
+
+    /// Takes the text, of which no other run came, as a node.
+    fn flush_one(&mut self, alloc: Global) -> Result<(), Mem>
+        requires { string_bytes self.old.more ≡ [] }
+        ensures { IfOk result (λ done. state_of self.new ≡ flushed (state_of self.old)) }
+    {
+        if self.text.len() == 0 {
+            return Ok(());
+        }
+        let text = std::mem::replace(&mut self.text, Text::from(String::new(alloc)));
+        self.nodes.push(Node::Text(text))
     }
 
     /// Adds the text to the nodes, where there is one.
     fn flush(&mut self, alloc: Global) -> Result<(), Mem>
         ensures { IfOk result (λ done. state_of self.new ≡ flushed (state_of self.old)) }
     {
-        if self.text.is_empty() {
-            return Ok(());
+        if self.more.is_empty() {
+            return self.flush_one(alloc);
         }
-        let text = std::mem::replace(&mut self.text, String::new(alloc));
-        self.nodes.push(Node::Text(Text::from(text)))
+        let mut all = String::from_str(alloc, self.text.as_str())?;
+        all.push_str(self.more.as_str())?;
+        self.text = Text::from(String::new(alloc));
+        self.more.clear();
+        self.nodes.push(Node::Text(Text::from(all)))
     }
 
     /// A start tag, where no text is left.
@@ -89,7 +107,11 @@ impl Builder {
     fn run(&mut self, text: Text) -> Result<(), Mem>
         ensures { IfOk result (λ done. state_of self.new ≡ with_text text (state_of self.old)) }
     {
-        self.text.push_str(text.as_str())?;
+        if self.text.len() == 0 && self.more.is_empty() {
+            self.text = text;
+            return Ok(());
+        }
+        self.more.push_str(text.as_str())?;
         Ok(())
     }
 
@@ -107,7 +129,7 @@ impl PartSink for Builder {
     ghost took = { builds };
 
     fn take(&mut self, part: Part) -> Result<(), Mem> {
-        let alloc = *self.text.allocator();
+        let alloc = *self.more.allocator();
         match part {
             Part::Start { name, attrs, .. } => self.open(alloc, name, attrs),
             Part::End { .. } => self.close(alloc),

@@ -12,7 +12,7 @@ impl Element {
     pub fn is_named(&self, space: &str, local: &str) -> bool
         ensures { result ≡ is_named space.now local.now self.now }
     {
-        self.name.space.as_str() == space && self.name.local.as_str() == local
+        self.name.local.as_str() == local && self.name.space.as_str() == space
     }
 
     /// Whether it has this local name, whatever its namespace.

@@ -2,8 +2,7 @@ ghost use Rattle.std.specs.Prelude.{◌≡◌, ◌<◌, ◌==◌, ◌&&◌, ◌+
 ghost use Rattle.cds_base.specs.Characters.{is_allowed};
 ghost use Rattle.cds_markup.specs.declared.tag.Open.{Open};
 ghost use Rattle.cds_markup.specs.declared.event.Event.TheVariants.{Start, Empty};
-ghost use Rattle.cds_markup.specs.Namespaces.{tag_says};
-ghost use Rattle.cds_markup.specs.Turns.{opened};
+ghost use Rattle.cds_markup.specs.Namespaces.{declarations, tag_says};
 ghost use Rattle.cds_markup.specs.Bytes.{scopes_in, is_deep, nothing_read, may_end, is_behind};
 ghost use Rattle.cds_markup.specs.Marks.{cuts_text, is_in_content};
 ghost use Rattle.cds_markup.specs.Reads.{reading_of, AsciiSo, ByteSo, TaggedSo, TakenSo, WholeSo, JudgedSo};
@@ -14,10 +13,10 @@ use crate::error::Stop;
 use crate::event::Event;
 use crate::mode::{Misc, Mode, Turn};
 use crate::scope::{declarations, tag_says};
-use crate::tag::{Open, Tag};
+use crate::tag::{Declaration, Open, QName, Tag, TagAttr};
 use crate::token::Token;
 use crate::{Attrs, Name};
-use cds_base::Mem;
+use cds_base::{Mem, Sequence, Text};
 use std::alloc::Global;
 
 /// The most elements that may be open.
@@ -46,15 +45,6 @@ fn ascii(b: u8) -> Result<Option<char>, Stop>
     } else {
         Err(Stop::Broken)
     }
-}
-
-/// The element that a start tag opens.
-fn opened(alloc: Global, tag: &Tag) -> Result<Open, Mem>
-    ensures { IfOk result (λ element. element ≡ opened tag.now) }
-{
-    let name = tag.name.copy(alloc)?;
-    let declared = declarations(alloc, tag.attrs.as_slice())?;
-    Ok(Open { name, declared })
 }
 
 impl Machine {
@@ -128,14 +118,20 @@ impl Machine {
         }
     }
 
-    /// What a start tag says.
-    fn tag(&self, alloc: Global, tag: Tag) -> Result<(Name, Attrs), Stop>
-        ensures { TaggedSo self.now.opens.items tag result }
+    /// What a start tag says that declares these namespaces: its name has this prefix and this local name.
+    fn tag(
+        &self,
+        alloc: Global,
+        declared: &[Declaration],
+        prefix: &str,
+        local: Text,
+        attrs: Sequence<TagAttr>,
+    ) -> Result<(Name, Attrs), Stop>
+        requires { declared.now ≡ declarations attrs }
+        ensures { TaggedSo self.now.opens.items (record { name = record { prefix = prefix.now; local = local }; attrs = attrs }) result }
     {
-        let Tag { name, attrs } = tag;
-        let declared = declarations(alloc, attrs.as_slice())?;
         let opens = self.opens.as_slice();
-        let said = tag_says(alloc, opens, declared.as_slice(), name, attrs)?;
+        let said = tag_says(alloc, opens, declared, prefix, local, attrs)?;
         match said {
             Some(said) => Ok(said),
             None => Err(Stop::NamespaceRule),
@@ -146,19 +142,31 @@ impl Machine {
     fn start(&mut self, alloc: Global, tag: Tag) -> Result<Event, Stop>
         ensures { TakenSo (reading_of self.old) (Token.Started tag) result (reading_of self.new) }
     {
-        let open = opened(alloc, &tag)?;
-        let (name, attrs) = self.tag(alloc, tag)?;
+        let Tag { name, attrs } = tag;
+        let local = name.local.copy(alloc)?;
+        let declared = declarations(alloc, attrs.as_slice())?;
+        let (said, attrs) = self.tag(
+            alloc,
+            declared.as_slice(),
+            name.prefix.as_str(),
+            local,
+            attrs,
+        )?;
+        let open = Open { name, declared };
         if self.opens.insert(0, open).is_err() {
             return Err(Stop::Mem);
         }
-        Ok(Event::Start(name, attrs))
+        Ok(Event::Start(said, attrs))
     }
 
     /// The tag of an empty element.
     fn empty(&mut self, alloc: Global, tag: Tag) -> Result<Event, Stop>
         ensures { TakenSo (reading_of self.old) (Token.Slash tag) result (reading_of self.new) }
     {
-        let (name, attrs) = self.tag(alloc, tag)?;
+        let Tag { name, attrs } = tag;
+        let declared = declarations(alloc, attrs.as_slice())?;
+        let QName { prefix, local } = name;
+        let (name, attrs) = self.tag(alloc, declared.as_slice(), prefix.as_str(), local, attrs)?;
         Ok(Event::Empty(name, attrs))
     }
 

@@ -4,7 +4,7 @@ ghost use Rattle.std.specs.Prelude.{◌≡◌, ◌==◌, ◌&&◌, ◌++◌, not
 ghost use Rattle.cds_base.specs.Characters.{is_blank};
 ghost use Rattle.cds_markup.specs.declared.part.Part.TheVariants.{Start, End, Run};
 ghost use Rattle.cds_markup.specs.Document.{line_ends};
-ghost use Rattle.cds_markup.specs.Running.{TextRuns, MarksRun};
+ghost use Rattle.cds_markup.specs.Running.{TextRuns, MarksRun, text_before};
 ghost use Rattle.cds_markup.specs.Marks.{is_between, open_text, line_end_says, text_with, letter_in, ended_text, run_of, begun_text, text_or, last_part, rest_of, goes_on_as, passed_over, marks, EndsSo, MarksSo};
 
 use crate::Part;
@@ -12,7 +12,7 @@ use crate::attributing::is_blank;
 use crate::event::Event;
 use crate::letters::Letters;
 use crate::mode::{Misc, Mode, Turn};
-use crate::plain::Plain;
+use crate::plain::{Plain, is_line_blank};
 use cds_base::{Mem, Text};
 use std::alloc::Global;
 
@@ -85,6 +85,17 @@ impl OpenText {
         }
     }
 
+    /// A text that begins at a place with this byte, before it: of a byte that is no white space the place is told.
+    pub fn before(alloc: Global, at: usize, first: u8) -> Self
+        ensures { result ≡ text_before at first }
+    {
+        let mut text = OpenText::new(alloc, at);
+        if !is_line_blank(first) {
+            text.non_blank = Some(at);
+        }
+        text
+    }
+
     /// The same text behind what it says so far.
     fn rest(&self, alloc: Global) -> Self
         ensures { result ≡ rest_of self.now }
@@ -110,7 +121,7 @@ impl OpenText {
     }
 
     /// Passes over white space at the front, or over letters once a character that is no white space came.
-    fn run(&mut self, bytes: &[u8]) -> Result<usize, Mem>
+    pub fn run(&mut self, bytes: &[u8]) -> Result<usize, Mem>
         ensures { TextRuns self.old bytes.now result self.new }
     {
         let going = !self.behind_return;

@@ -1,15 +1,16 @@
 //! The parts of documents that come in pieces.
 
-ghost use Rattle.std.specs.Prelude.{◌≡◌, ◌≤◌, ◌+◌, ◌&&◌, if◌then◌else◌, ℕ, List, [], length, Ok, Err, Some, None, IsOkAnd};
+ghost use Rattle.std.specs.Prelude.{◌≡◌, ◌≤◌, ◌+◌, ◌&&◌, true, if◌then◌else◌, ℕ, List, [], length, Ok, Err, Some, None, IsOkAnd};
 ghost use Rattle.cds_markup.specs.declared.error.MarkupError.TheVariants.{Failed};
 ghost use Rattle.cds_markup.specs.declared.part.Part.{Part};
 ghost use Rattle.cds_markup.specs.Taking.{Takes};
 ghost use Rattle.cds_markup.specs.Tellings.{ToldSo, Puts, told_byte, told, told_piece, last_parts, shown, telling_of, telling_in, listed, begin_telling};
-ghost use Rattle.cds_markup.specs.Running.{RunSo};
+ghost use Rattle.cds_markup.specs.Reads.{reading_of};
+ghost use Rattle.cds_markup.specs.Running.{RunSo, takes_run};
 ghost use Rattle.cds_markup.specs.Feeding.{StandsFor, TakesPiece, TakesEnd};
 
 use crate::event::Event;
-use crate::marks::Marks;
+use crate::marks::{Marks, OpenText};
 use crate::place::Place;
 use crate::{MarkupError, Part, PartSink};
 use cds_base::{INPUT_LIMIT, Mem};
@@ -116,12 +117,43 @@ impl Spot {
         }
     }
 
+    /// Passes over the `<` at the front, where no literal text is open, or over the characters of one that begins there: white
+    /// space alone, or letters of which the first is no white space.
+    #[inline(never)]
+    fn begin_run(&mut self, alloc: Global, bytes: &[u8]) -> Result<usize, Mem>
+        requires takes { takes_run (reading_of self.old.place.machine) ≡ true }
+        requires none { self.old.marks.text ≡ None }
+        requires room { self.old.place.at + length bytes.now ≤ INPUT_LIMIT }
+        ensures { RunSo (telling_of self.old) bytes.now result (telling_of self.new) }
+    {
+        let at = self.place.at;
+        let Some((first, _behind)) = bytes.split_first() else {
+            return Ok(0);
+        };
+        if *first == b'<' {
+            self.marks.begin = at;
+            self.place.machine.mode.begin_less();
+            self.place.at += 1;
+            return Ok(1);
+        }
+        let mut text = OpenText::before(alloc, at, *first);
+        let count = text.run(bytes)?;
+        if count > 0 {
+            self.marks.text = Some(text);
+            self.place.at += count;
+        }
+        Ok(count)
+    }
+
     /// Passes over bytes at the front that complete nothing, all of which are within the limit: how many.
     fn run_within(&mut self, alloc: Global, bytes: &[u8]) -> Result<usize, Mem>
         requires { self.old.place.at + length bytes.now ≤ INPUT_LIMIT }
         ensures { RunSo (telling_of self.old) bytes.now result (telling_of self.new) }
     {
         if self.place.machine.takes_run() {
+            if self.marks.text.is_none() {
+                return self.begin_run(alloc, bytes);
+            }
             let count = self.marks.run(bytes)?;
             self.place.at += count;
             return Ok(count);

@@ -48,7 +48,7 @@ fn written_run(bytes: &[u8]) -> usize
 }
 
 /// Whether the byte is white space and no carriage return.
-fn is_line_blank(b: u8) -> bool
+pub fn is_line_blank(b: u8) -> bool
     ensures { result ≡ is_line_blank b }
 {
     b == b' ' || b == b'\t' || b == b'\n'

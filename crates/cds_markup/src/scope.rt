@@ -1,7 +1,7 @@
 ghost use Rattle.std.specs.Prelude.{◌≡◌, ◌∷◌, ◌++◌, length, List, ℕ, Some, [], IfOk, IfNone};
 ghost use Rattle.std.specs.Str.{bytes_eq};
 ghost use Rattle.std.specs.List.{list_all, list_any};
-ghost use Rattle.cds_markup.specs.Namespaces.{declares_default, declares_prefix, is_declaration, declaration, declarations, is_sound, declared, declared_in, space_of, in_space, element_name, attr_name, with_value, named_attrs, same_qname, same_name, no_attr_twice, no_name_twice, keeps_rules, tag_says};
+ghost use Rattle.cds_markup.specs.Namespaces.{declares_default, declares_prefix, is_declaration, declaration, declarations, is_sound, declared, declared_in, space_of, in_space, attr_name, with_value, named_attrs, same_qname, same_name, no_attr_twice, no_name_twice, keeps_rules, tag_says};
 ghost use Rattle.cds_markup.specs.Bytes.{scopes_in};
 
 use crate::tag::{Declaration, Open, QName, TagAttr};
@@ -217,19 +217,6 @@ fn name_in(
     Ok(Some(Name { space, local }))
 }
 
-/// The name of an element, `None` where its prefix is not declared.
-fn element_name(
-    alloc: Global,
-    opens: &[Open],
-    inner: &[Declaration],
-    name: QName,
-) -> Result<Option<Name>, Mem>
-    ensures { IfOk result (λ found. found ≡ element_name (inner.now ∷ scopes_in opens.now) name) }
-{
-    let QName { prefix, local } = name;
-    name_in(alloc, opens, inner, prefix.as_str(), local)
-}
-
 /// The name of an attribute, `None` where its prefix is not declared.
 fn attr_name(
     alloc: Global,
@@ -307,22 +294,23 @@ fn named_attrs(
     Ok(Some(found))
 }
 
-/// What a start tag of this name with these attributes says, where these elements are open and it declares this: the
-/// element's name and its attributes. `None` where it breaks a rule (Namespaces in XML).
+/// What a start tag of the name with this prefix and this local name says, with these attributes, where these elements are open
+/// and it declares this: the element's name and its attributes. `None` where it breaks a rule (Namespaces in XML).
 pub fn tag_says(
     alloc: Global,
     opens: &[Open],
     inner: &[Declaration],
-    name: QName,
+    prefix: &str,
+    local: Text,
     attrs: Sequence<TagAttr>,
 ) -> Result<Option<(Name, Attrs)>, Mem>
     requires { inner.now ≡ declarations attrs }
-    ensures { IfOk result (λ said. said ≡ tag_says (scopes_in opens.now) (record { name = name; attrs = attrs })) }
+    ensures { IfOk result (λ said. said ≡ tag_says (scopes_in opens.now) (record { name = record { prefix = prefix.now; local = local }; attrs = attrs })) }
 {
     if !are_sound(inner) || !no_attr_twice(attrs.as_slice()) {
         return Ok(None);
     }
-    let Some(name) = element_name(alloc, opens, inner, name)? else {
+    let Some(name) = name_in(alloc, opens, inner, prefix, local)? else {
         return Ok(None);
     };
     let Some(attrs) = named_attrs(alloc, opens, inner, attrs)? else {

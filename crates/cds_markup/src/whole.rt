@@ -84,6 +84,13 @@ impl Mode {
         *self = Mode::Epilog(Misc::Blanks);
     }
 
+    /// Goes over to a `<` inside the root.
+    pub fn begin_less(&mut self)
+        ensures { self.new ≡ Mode.Inside Turn.Less }
+    {
+        *self = Mode::Inside(Turn::Less);
+    }
+
     /// The first character of the root's name.
     #[inline(never)]
     fn root(&mut self, alloc: Global, c: char) -> Result<Option<Token>, Stop>
