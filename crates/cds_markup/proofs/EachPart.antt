@@ -7,7 +7,8 @@ use Rattle.cds_markup.proofs.GoingOn.{result-by, NoneBefore, front-of, judged-so
 use Rattle.cds_markup.proofs.TokenTold.{byte-more, told-append, parts-at, parts-behind, parts-told, last-one, came-so, text-so}
 use Rattle.cds_markup.proofs.Trails.{Tags, Shuts, Cuts, Where, Within, behind, sign, tag-to, tags-to, Keeps, Trail, trail-means, trail-opens, Front, front-less, ends-in, place-in, is-open, tag-at, tag-found, opens-found, opens-is, At-prolog, At-more, Closes, Grows, Leaves, root-trail, alone-trail, place-trail, slash-trail, chars-of, chars-plain, ToldAt, Late, letters-at, trail-told, gives, begun-high, read-to}
 use Rattle.cds_markup.proofs.GivenLaws.{parts-are-one, parts-are-given}
-use Rattle.cds_markup.proofs.Ways.{encoded, wide-bytes, bytes_of}
+use Rattle.cds_markup.proofs.Ways.{bytes_of}
+use Rattle.cds_markup.proofs.Decoded.{encoded, wide-bytes}
 use Rattle.cds_markup.proofs.ScanForms.{clean, small-or-wide}
 use Rattle.cds_markup.proofs.Standing.{TagParts, InText, ends_by}
 use Rattle.cds_markup.proofs.Placing.{no-blank}

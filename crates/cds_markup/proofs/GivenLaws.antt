@@ -8,7 +8,8 @@ use Rattle.cds_markup.proofs.Standing.{parts-of, Standing, closed, Stands, leaf_
 use Rattle.cds_markup.proofs.GoingOn.{Reached, taken, refused, document-ends, goes-on, ends-document, Unfinished, longer, no-both, begun-done, option-by, result-by, deep-parts, same-front, front-of, is-deep, NoneBefore, refuses-inside, CauseAt, ends-short, character-name, judged-so}
 use Rattle.cds_markup.proofs.TokenTold.{byte-more, parts-at, answer-at, answer-told, parts-told, quiet-told, told-ends, Stopped, came-so, Came, told-keeps}
 use Rattle.cds_markup.proofs.Trails.{Front, Outside, At-prolog, tree-trail, trail-means, tree-found, tree-is, trail-told, whole-last, cause-so, read-to, Within, Trail, trail-as, At-more, Cuts, front-less, ends-in, place-in, is-open, tag-found, opens-found, trail-place, gives, chars-plain}
-use Rattle.cds_markup.proofs.Ways.{at-most-or-more, bytes_of, decodes, Allowed, same-first, found, then-of}
+use Rattle.cds_markup.proofs.Ways.{bytes_of, Allowed, same-first, then-of}
+use Rattle.cds_markup.proofs.Decoded.{at-most-or-more, decodes, found}
 use Rattle.cds_markup.proofs.Placing.{Goes, InMode, TagsOf, content-stands}
 use Rattle.cds_markup.specs.Parts.{Says}
 use Rattle.cds_markup.specs.GivenParts.{Given as GivenOf}

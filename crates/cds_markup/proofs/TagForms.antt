@@ -1,7 +1,8 @@
 -- References, values, names, attributes and start tags are what the grammar says.
 use Rattle.std.proofs.Common.{◌≡◌, ◌⊎◌, [], arith, cond, if◌then◌else◌, ◌==◌, ◌+◌, ◌*◌, ◌<◌, ◌≤◌, ◌&&◌, ◌∷◌, ◌++◌, ◌∙◌, ◌^◌, Bool, List, None, Option, Some, ap, append_assoc, codes, encode_utf8, false, inl, inr, length, nat_le, nat_lt, refl, subst, suc, sym, true, ℕ}
 use Rattle.cds_markup.proofs.Terms.{Ampersand, AttrName, AttrNamed, Attribute, Attributing, Byte, Character, Done, Entity, EntityA, Equals, IsBlanks, IsInside, IsName, IsQName, IsReference, IsSpace, IsTag, IsTagAttr, IsValue, IsValuePiece, Literal, Many, Maybe, Name, Naming, Next, Number, On, Opened, QName, Referring, Says, Sharp, Spaced, Stuck, Tag, TagAttr, Tagged, Tagging, Then, Value, ValuePiece, Valuing, Word, and_behind, attr_of, base_of, begins_name, bytes_eq-Decides, code_of, ends_tag, goes_on, is_allowed, is_blank, is_colon, is_in_name, is_in_value, is_number_in, is_quote, is_return, is_whole, name_begun, name_of, named_or, named_step, nat_tests, number_after_sign, number_in, numbered, piece_says, qualified, quote_of, says_behind, step_attr, step_reference, step_tag, step_value, tag_named, tagged_step, value_in, value_says, valuing, where_allowed, with_attr, with_digit, with_line_ends, named, naming, append-nil, is_digit, digit_value, list_all, flat_map, Referred-piece as Referred, IsEquals, bytes_eq}
-use Rattle.cds_markup.proofs.Ways.{taken-if, Takes, and-both, and-first, and-second, cases, clash, either-if, is-byte, only-if, some-is, heads, allowed-at-most, ascii-bytes, ascii-plain, encoded, is_ascii, plain-bytes, then-of, Form, Alike, Or, same, also, or-turned, or-alike, or-assoc, maybe-or, then-alike, assoc, says-alike, none-alike, then-or, blanks-or, Reads, reads-as, reads-if, reads-byte, reads-letter, reads-or, added, reads-many, reads-blanks, reads-space, reads-equals, reads-in, reads-state}
+use Rattle.cds_markup.proofs.Ways.{taken-if, Takes, and-both, and-first, and-second, cases, clash, either-if, is-byte, only-if, some-is, heads, ascii-bytes, ascii-plain, is_ascii, plain-bytes, then-of, Form, Alike, Or, same, also, or-turned, or-alike, or-assoc, maybe-or, then-alike, assoc, says-alike, none-alike, then-or, blanks-or, Reads, reads-as, reads-if, reads-byte, reads-letter, reads-or, added, reads-many, reads-blanks, reads-space, reads-equals, reads-in, reads-state}
+use Rattle.cds_markup.proofs.Decoded.{allowed-at-most, encoded}
 use Rattle.std.proofs.Math.Nat.{pow-suc, pow-zero}
 use Rattle.std.specs.Option.{option_and_then}
 

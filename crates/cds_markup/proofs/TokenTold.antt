@@ -3,11 +3,12 @@
 use lib.Seq.{take-nil}
 use Rattle.std.proofs.Common.{◌≡◌, ℕ, suc, ◌+◌, ◌<◌, nat_lt, nat_le, true, false, Result, Ok, Err, List, [], ◌∷◌, ◌++◌, take, refl, sym, ap, ◌∙◌, arith, append_assoc, length, zero, zero-add, ◌==◌, ◌-◌, ◌≤◌, Bool, not, ◌&&◌, cond, ◌⊎◌, inl, inr, Some, None, encode_utf8, Option, subst}
 use Rattle.cds_markup.proofs.Terms.{nat_tests, INPUT_LIMIT, Stop, MarkupError, Part, Token, Reading, judge, nothing_read, answer_of, progressed, ended_of, marked, parts_from, parts_of, Telling, telling, begin_telling, last_parts, Told, judged_told, told_byte_within, behind_parts, told_on, told_within, told, answered, run, append-nil, length-append, encode_ascii, is_allowed, begins_name, is_blank, NamespaceRule, Deep, TooLong, Marks, Mode, Open, OpenText, Ampersand, Opened, Name, Turn, Content, Less, Reference, StartTag, Inside, Run, line_ends, Step, any_at, Letter, Given, step_turn, To, step, is_content, inside_move, reading, moved, go_on, byte_step, begins_tag, is_deep, breaks_rule, judged, refusal, said_as, is_between, passed_over, completed_as, marks, ended_part, open_text, line_end_says, or_here, text_with, text_or, Next, On, Done, name_begun, closes_section, brackets_with, is_in_text, first_non_blank, Gone, by-test, next-by, either-if, both-no, none-behind, is-byte, Takes, Steps, and-first, and-second, ok-err, cases}
-use Rattle.cds_markup.proofs.Ways.{wide-bytes, found, stuck, decodes, same-first, bytes_of, Allowed, encoded, ends_return, line_more, ends_more, Early, AtBegin, mode_of, root_or, step-is, landing}
+use Rattle.cds_markup.proofs.Ways.{same-first, bytes_of, Allowed, Early, AtBegin, mode_of, root_or, step-is, landing}
+use Rattle.cds_markup.proofs.Decoded.{wide-bytes, found, stuck, decodes, encoded}
+use Rattle.cds_markup.proofs.ScanForms.{ends_return, line_more, ends_more, clean, state, small-or-wide, not-so}
 use Rattle.cds_markup.proofs.Placing.{WellMode, is_to, Goes, no-blank, Mid, turn-mid}
 use Rattle.cds_markup.proofs.GoingOn.{Unfinished, no-both, two-or-more, begins-complete, Reached, reached-nothing, result-by, NoneBefore, next as next-reached, none-here, none-more}
 use Rattle.cds_markup.proofs.Standing.{Leads-root, InText}
-use Rattle.cds_markup.proofs.ScanForms.{clean, state, small-or-wide, not-so}
 
 -- one piece behind another
 behind-on : (ps : List Part) (t : Told) (next : Telling → Told) → behind_parts ps (told_on t next) ≡ told_on (behind_parts ps t) next

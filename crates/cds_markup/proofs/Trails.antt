@@ -6,7 +6,8 @@ use Rattle.cds_markup.specs.declared.name.Name.{Name}
 use Rattle.cds_markup.specs.declared.tag.Declaration.{Declaration}
 use Rattle.cds_markup.proofs.TagForms.{IsClosed}
 use Rattle.cds_markup.proofs.Standing.{TagParts, of-parts, parts-of, and_content, ends_by, begins-append, ends-append, InText, text-characters, AllWhole, leaf_token, Leaf-of, End-of, opens-whole, T, piece-said, content-reads, start-reads, closed-tag, prolog-led, Leads-root}
-use Rattle.cds_markup.proofs.Ways.{encoded, wide-bytes, bytes_of, plain-bytes, less-bytes, Early, AtBegin, early_next, mode_of, root_or, step-is, landing, Said, then-says}
+use Rattle.cds_markup.proofs.Ways.{bytes_of, plain-bytes, less-bytes, Early, AtBegin, early_next, mode_of, root_or, step-is, landing, Said, then-says}
+use Rattle.cds_markup.proofs.Decoded.{encoded, wide-bytes}
 use Rattle.cds_markup.proofs.GoingOn.{option-by, NoneBefore, scopes-are, CauseAt, cause-refuses, judged-cause, Reached, two-bytes}
 use Rattle.cds_markup.specs.declared.event.Event.TheVariants.{Start as Began}
 use Rattle.cds_markup.proofs.ScanForms.{without-word, clean, state, word-without, characters-are, wide-open}

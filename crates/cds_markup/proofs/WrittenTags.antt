@@ -11,7 +11,8 @@ pub use Rattle.cds_markup.specs.Drafts.{CanBeDraftAttr as Stands, CanBeDraftTag 
 use Rattle.cds_markup.specs.Written.{numbered, under, declares, with_name, counted, tag_attrs, default_declared, tag_of, CanBeAttr, CanBeTag, written_attr, written_attrs, written_start, written_end}
 use Rattle.cds_markup.proofs.Terms.{nat_tests, encode_ascii, bytes_eq-Decides, list_all, begins_name, is_in_name, Attr, QName, TagAttr, Tag, Character, Then, Many, IsName, IsQName, IsSpace, IsEquals, IsTagAttr, IsStartTag, IsEndTag, name_bytes, and_more, declarations, is_empty, tag_says, and-both, and-first, and-second, cases, clash, empty-is, some-is, AllByRecursion, list_any, bytes_eq, escaped, xml_space, is_declaration, declaration, is_sound, declared, space_of, attr_name, with_value, named_attrs, same_qname, same_name, no_attr_twice, no_name_twice, flat_map, is_allowed, is_blank, IsReference, named, ValuePiece, Literal, Referred-piece, Grammar-reference, Text, LeafThen, Inner, Meanings, and_behind, piece_says, with_line_ends, is_in_value, is_in_text, IsValuePiece, IsInside, IsValue, IsText, IsContent, contains, begins_with_text, line_ends, and_joined, meanings, depths, no-cons, eqb-true, list_all-append, flat_map-append, encode_utf8_all, escaped_byte}
 use Rattle.cds_markup.proofs.NodesForm.{is-some, and-joined-more, and-joined-none}
-use Rattle.cds_markup.proofs.Ways.{then-of, no-blanks, encoded}
+use Rattle.cds_markup.proofs.Ways.{then-of, no-blanks}
+use Rattle.cds_markup.proofs.Decoded.{encoded}
 use Rattle.cds_base.specs.Unescape.{AreAllowed}
 use Rattle.cds_base.proofs.Escapes.{kept_char}
 
