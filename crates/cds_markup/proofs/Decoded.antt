@@ -121,21 +121,6 @@ local-byte test b has = record { reads = reads; some = (b ∷ [], b, rw has refl
 local-value : {A : Type 0} (v : A) → Local (λ left. Ok (v, left))
 local-value v = record { reads = λ left more. refl; some = ([], v, refl) }
 
-abbrev value_of_two : ℕ → ℕ → ℕ
-value_of_two a b = (a - 192) * 64 + (b - 128)
-
-abbrev value_of_three : ℕ → ℕ → ℕ → ℕ
-value_of_three a b c = (a - 224) * 4096 + (b - 128) * 64 + (c - 128)
-
-abbrev value_of_four : ℕ → ℕ → ℕ → ℕ → ℕ
-value_of_four a b c d = (a - 240) * 262144 + (b - 128) * 4096 + (c - 128) * 64 + (d - 128)
-
-abbrev third : ℕ → ℕ → List ℕ → Step ℕ
-third a b left = after (tail_at 128 (third_high a b) left) (λ c rest. Ok (value_of_three a b c, rest))
-
-abbrev fourth : ℕ → ℕ → ℕ → List ℕ → Step ℕ
-fourth a b c left = after (tail_at 128 191 left) (λ d rest. Ok (value_of_four a b c d, rest))
-
 local-behind : (b : ℕ) → Local (behind_first b)
 local-behind b = by (nat_lt b 128) (nat_lt b 224) (nat_lt b 240) where
   tail : Local (tail_at 128 191)
@@ -147,7 +132,7 @@ local-behind b = by (nat_lt b 128) (nat_lt b 224) (nat_lt b 240) where
   by : (s t u : Bool) → Local (λ rest. cond s (Ok (b, rest)) (cond t (two_bytes_at b rest) (cond u (three_bytes_at b rest) (four_bytes_at b rest))))
   by true t u = local-value b
   by false true u = search (local-after, local-value, tail)
-  by false false true = local-after (tail_at (second_low b) (second_high b)) (third b) second (λ c. search (local-after, local-value, local-byte (is_within 128 (third_high b c)) 128 (grind (arith, nat_tests))))
+  by false false true = local-after (tail_at (second_low b) (second_high b)) _ second (λ c. search (local-after, local-value, local-byte (is_within 128 (third_high b c)) 128 (grind (arith, nat_tests))))
   by false false false = search (local-after, local-value, second, tail)
 
 any-local : Local any_at
@@ -167,12 +152,8 @@ pub lead-is-wide : (x : Bool) (b : ℕ) → 194 ≤ b → b ≤ 244 → ((nat_lt
 lead-is-wide x b low high = grind (arith, nat_tests)
 
 -- what is read is a character
-pub ok_same : {A : Type 0} (v w : A) (x y : List ℕ) → ◌≡◌ {A = Step A} (Ok (v, x)) (Ok (w, y)) → (v ≡ w) × (x ≡ y)
-ok_same {A} v w x y e =
-    let pair : A × List ℕ = (v, x) in
-    let other : A × List ℕ = (w, y) in
-    let same : pair ≡ other = cc in
-    (ap (λ p. p.0) same, ap (λ p. p.1) same)
+pub ok_same : {A B E : Type 0} (v w : A) (x y : B) → ◌≡◌ {A = Result (A × B) E} (Ok (v, x)) (Ok (w, y)) → (v ≡ w) × (x ≡ y)
+ok_same {A} {B} v w x y e = let same : ◌≡◌ {A = A × B} (v, x) (w, y) = cc in (ap (λ p. p.0) same, ap (λ p. p.1) same)
 
 abbrev pub Read : List ℕ → ℕ → List ℕ → Type 0
 Read bytes c rest = (bytes ≡ encode_utf8 c ++ rest) × (is_allowed c ≡ true)
@@ -193,17 +174,17 @@ found bytes c rest e = let f = byte-then begins_character bytes behind_first c r
   by a left d ok false true u f1 f2 f3 e =
       let low : 194 ≤ a = grind (arith, nat_tests) in
       let high : a < 224 = grind (arith, nat_tests) in
-      let x = byte-then (is_within 128 191) left (λ b more. Ok (value_of_two a b, more)) c rest e in
-      over (value_of_two a x.0) (a ∷ x.0 ∷ []) x.1 (two-are a x.0 (value_of_two a x.0) low high (tail-within x.0 x.3) refl) x.4 (d ∙ ap (λ xs. a ∷ xs) x.2)
+      let x = byte-then _ left _ c rest e in
+      over _ (a ∷ x.0 ∷ []) x.1 (two-are a x.0 _ low high (tail-within x.0 x.3) refl) x.4 (d ∙ ap (λ xs. a ∷ xs) x.2)
   by a left d ok false false true f1 f2 f3 e =
-      let x = byte-then (is_within (second_low a) (second_high a)) left (third a) c rest e in
-      let y = byte-then (is_within 128 (third_high a x.0)) x.1 (λ c more. Ok (value_of_three a x.0 c, more)) c rest x.4 in
-      over (value_of_three a x.0 y.0) (a ∷ x.0 ∷ y.0 ∷ []) y.1 (three-are a x.0 y.0 (value_of_three a x.0 y.0) (grind (arith, nat_tests)) (grind (arith, nat_tests)) x.3 y.3 refl) y.4 (d ∙ ap (λ xs. a ∷ xs) (x.2 ∙ ap (λ xs. x.0 ∷ xs) y.2))
+      let x = byte-then _ left _ c rest e in
+      let y = byte-then _ x.1 _ c rest x.4 in
+      over _ (a ∷ x.0 ∷ y.0 ∷ []) y.1 (three-are a x.0 y.0 _ (grind (arith, nat_tests)) (grind (arith, nat_tests)) x.3 y.3 refl) y.4 (d ∙ ap (λ xs. a ∷ xs) (x.2 ∙ ap (λ xs. x.0 ∷ xs) y.2))
   by a left d ok false false false f1 f2 f3 e =
-      let x = byte-then (is_within (second_low a) (second_high a)) left (λ b more. after (tail_at 128 191 more) (fourth a b)) c rest e in
-      let y = byte-then (is_within 128 191) x.1 (fourth a x.0) c rest x.4 in
-      let z = byte-then (is_within 128 191) y.1 (λ d more. Ok (value_of_four a x.0 y.0 d, more)) c rest y.4 in
-      over (value_of_four a x.0 y.0 z.0) (a ∷ x.0 ∷ y.0 ∷ z.0 ∷ []) z.1 (four-are a x.0 y.0 z.0 (value_of_four a x.0 y.0 z.0) (grind (arith, nat_tests)) (grind (arith, nat_tests)) x.3 (tail-within y.0 y.3) (tail-within z.0 z.3) refl) z.4
+      let x = byte-then _ left _ c rest e in
+      let y = byte-then _ x.1 _ c rest x.4 in
+      let z = byte-then _ y.1 _ c rest y.4 in
+      over _ (a ∷ x.0 ∷ y.0 ∷ z.0 ∷ []) z.1 (four-are a x.0 y.0 z.0 _ (grind (arith, nat_tests)) (grind (arith, nat_tests)) x.3 (tail-within y.0 y.3) (tail-within z.0 z.3) refl) z.4
       (d ∙ ap (λ xs. a ∷ xs) (x.2 ∙ ap (λ xs. x.0 ∷ xs) (y.2 ∙ ap (λ xs. y.0 ∷ xs) z.2)))
 
 -- each character is read
@@ -220,14 +201,14 @@ read-plain c ok = by (ranges c) where
   by (inr (inl two)) =
       let a : ℕ = 192 + c / 64 in
       let b : ℕ = 128 + c % 64 in
-      let is : value_of_two a b ≡ c = omega arith in
+      let is : (a - 192) * 64 + (b - 128) ≡ c = omega arith in
       rw (encode-two c two.0 two.1, lead-is-wide (is_allowed a) a (omega arith) (omega arith), more-is a 128 (omega arith), less-is a 224 (omega arith), within-tail b (omega arith) (omega arith), is) refl
   by (inr (inr (inl three))) =
       let a : ℕ = 224 + c / 4096 in
       let b : ℕ = 128 + c / 64 % 64 in
       let d : ℕ = 128 + c % 64 in
       let over : c / 64 ≡ c / 4096 * 64 + c / 64 % 64 = omega arith in
-      let is : value_of_three a b d ≡ c = omega arith in
+      let is : (a - 224) * 4096 + (b - 128) * 64 + (d - 128) ≡ c = omega arith in
       let most : c ≤ 65533 = grind (arith, nat_tests, three.1) in
       let gap : 55296 ≤ c → 57344 ≤ c = allowed-no-surrogate c ok in
       let s = is-second a b (omega arith) (omega arith) (λ h. omega (arith, is, three.0)) (λ h. elim (at-most-or-more b 159) [ inl k ↦ k | inr k ↦ absurd (omega (arith, is, h, k, gap (omega (arith, is, h, k)))) ]) (λ h. absurd (omega arith)) (λ h. absurd (omega arith)) in
@@ -241,7 +222,7 @@ read-plain c ok = by (ranges c) where
       let e : ℕ = 128 + c % 64 in
       let upper : c / 4096 ≡ c / 262144 * 64 + c / 4096 % 64 = omega arith in
       let over : c / 64 ≡ c / 4096 * 64 + c / 64 % 64 = omega arith in
-      let is : value_of_four a b d e ≡ c = omega arith in
+      let is : (a - 240) * 262144 + (b - 128) * 4096 + (d - 128) * 64 + (e - 128) ≡ c = omega arith in
       let most = allowed-at-most c ok in
       let s = is-second a b (omega arith) (omega arith) (λ h. absurd (omega arith)) (λ h. absurd (omega arith)) (λ h. omega (arith, is, four)) (λ h. omega (arith, is, most)) in
       rw (encode-four c four, lead-is-wide (is_allowed a) a (omega arith) (omega arith), more-is a 128 (omega arith), more-is a 224 (omega arith), more-is a 240 (omega arith), s, within-tail d (omega arith) (omega arith), within-tail e (omega arith) (omega arith), is) refl
@@ -271,40 +252,16 @@ abbrev pub High : List ℕ → Type 0
 High [] = Unit {0}
 High (b ∷ w) = (128 ≤ b) × High w
 
-pub record Wide-bytes (c : ℕ) : Type 0 where
-  pub head : ℕ
-  pub tail : List ℕ
-  pub is : encode_utf8 c ≡ head ∷ tail
-  pub high : High (head ∷ tail)
-
-pub wide-bytes : (c : ℕ) → 128 ≤ c → Wide-bytes c
-wide-bytes c h = by (ranges c) where
-  by : Ranges c → Wide-bytes c
-  by (inl small) = absurd (omega (arith, h, small))
-  by (inr (inl two)) = record { head = 192 + c / 64; tail = (128 + c % 64) ∷ []; is = encode-two c two.0 two.1; high = (omega arith, (omega arith, tt)) }
-  by (inr (inr (inl three))) = record {
-    head = 224 + c / 4096;
-    tail = (128 + c / 64 % 64) ∷ (128 + c % 64) ∷ [];
-    is = encode-three c three.0 three.1;
-    high = (omega arith, (omega arith, (omega arith, tt)));
-  }
-  by (inr (inr (inr four))) = record {
-    head = 240 + c / 262144;
-    tail = (128 + c / 4096 % 64) ∷ (128 + c / 64 % 64) ∷ (128 + c % 64) ∷ [];
-    is = encode-four c four;
-    high = (omega arith, (omega arith, (omega arith, (omega arith, tt))));
-  }
-
-pub record Some-bytes (bytes : List ℕ) : Type 0 where
-  pub head : ℕ
-  pub tail : List ℕ
-  pub is : bytes ≡ head ∷ tail
-
-pub encoded : (c : ℕ) → Some-bytes (encode_utf8 c)
-encoded c = elim (at-most-or-more 128 c) [
-  | inl high ↦ let w = wide-bytes c high in record { head = w.head; tail = w.tail; is = w.is }
-  | inr low ↦ record { head = c; tail = []; is = encode_ascii c (omega (arith, low)) }
+pub wide-bytes : (c : ℕ) → 128 ≤ c → (head : ℕ) × (tail : List ℕ) × (encode_utf8 c ≡ head ∷ tail) × High (head ∷ tail)
+wide-bytes c h = elim (ranges c) [
+  | inl small ↦ absurd (omega (arith, h, small))
+  | inr (inl two) ↦ (_, _, encode-two c two.0 two.1, (omega arith, (omega arith, tt)))
+  | inr (inr (inl three)) ↦ (_, _, encode-three c three.0 three.1, (omega arith, (omega arith, (omega arith, tt))))
+  | inr (inr (inr four)) ↦ (_, _, encode-four c four, (omega arith, (omega arith, (omega arith, (omega arith, tt)))))
 ]
+
+pub encoded : (c : ℕ) → (head : ℕ) × (tail : List ℕ) × (encode_utf8 c ≡ head ∷ tail)
+encoded c = elim (at-most-or-more 128 c) [ inl high ↦ let w = wide-bytes c high in (w.0, w.1, w.2) | inr low ↦ (c, [], encode_ascii c (omega (arith, low))) ]
 
 -- an allowed character is a code point
 pub allowed_inside : (c : ℕ) → is_allowed c ≡ true → OutOfScalarRange c → ⊥

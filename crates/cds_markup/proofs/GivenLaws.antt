@@ -1,7 +1,7 @@
 -- The parts of an element, nested and joined, are what the element means; what any bytes are answered; and byte by byte, that what the
 -- reader gives is the parts up to a place of the grammar, behind which no others come.
 use Rattle.std.proofs.Common.{take, encode_utf8, ◌≡◌, ℕ, ◌+◌, Some, List, [], ◌∷◌, ◌++◌, length, refl, sym, ap, ◌∙◌, append_assoc, ◌==◌, ◌≤◌, Bool, true, false, cond, None, Ok, Err, subst, arith, inl, inr, Result, ◌≢◌, ◌⊎◌, ◌-◌, not, ◌&&◌, ◌<◌}
-use Rattle.cds_markup.proofs.Terms.{Grammar-content, append-nil, length-append, nat_tests, INPUT_LIMIT, Part, Start, End, Blanks, Epilog, Inside, MarkupError, Bad, TooDeep, TooLong, Failed, Mem, Less, Tree, EmptyElement, Full, Nothing, LeafThen, TreeThen, IsTree, IsContent, IsDocument, declarations, tag_says, Meaning, Meanings, ChildThen, meaning, meanings, DocOf, Doc, TreeParts, ContentParts, leaf_parts, nested, misc_step, epilog_move, step, Reading, reading, may_begin_name, byte_step, answer_of, marks, Telling, telling, begin_telling, told, told_within, CanGoOn, IsTooDeep, IsBad, Refuses, IsFirst, IsRefused, Verdict, AllAreAnswered, AnswersAreSo, AnswersAreExact, OneAnswer, Broken, Deep, NamespaceRule, Stop, may_end, refusal, Childless, OutOfMemory, cases_lt, Turn, Content, Slashed, Tag, is_in_text, is_empty, any_at, Token, Letter, given, Given, step_turn, judge, is_in_content, ended_text, last_part, passed_over, marked, begins, cuts_text, parts_of, last_parts, IsBegun, PartsTo, Tells, PartsAreGiven, PartsAreOne, PartsStandBefore, PartsAreTold, PartsAreOfRoots, OneTelling, NothingCountsPastTheLimit, LeavesHaveOneEnd, AllIsTold, OneElement, next-by, clash, heads, ok-err, none-behind, Takes, cases, some-is, DocumentParts}
+use Rattle.cds_markup.proofs.Terms.{begins, Grammar-content, append-nil, length-append, nat_tests, INPUT_LIMIT, Part, Start, End, Blanks, Epilog, Inside, MarkupError, Bad, TooDeep, TooLong, Failed, Mem, Less, Tree, EmptyElement, Full, Nothing, LeafThen, TreeThen, IsTree, IsContent, IsDocument, declarations, tag_says, Meaning, Meanings, ChildThen, meaning, meanings, DocOf, Doc, TreeParts, ContentParts, leaf_parts, nested, misc_step, epilog_move, step, Reading, reading, may_begin_name, byte_step, answer_of, marks, Telling, telling, begin_telling, told, told_within, CanGoOn, IsTooDeep, IsBad, Refuses, IsFirst, IsRefused, Verdict, AllAreAnswered, AnswersAreSo, AnswersAreExact, OneAnswer, Broken, Deep, NamespaceRule, Stop, may_end, refusal, Childless, OutOfMemory, cases_lt, Turn, Content, Slashed, Tag, is_in_text, is_empty, any_at, Token, Letter, given, Given, step_turn, judge, is_in_content, ended_text, last_part, passed_over, marked, cuts_text, parts_of, last_parts, IsBegun, PartsTo, Tells, PartsAreGiven, PartsAreOne, PartsStandBefore, PartsAreTold, PartsAreOfRoots, OneTelling, NothingCountsPastTheLimit, LeavesHaveOneEnd, AllIsTold, OneElement, next-by, clash, heads, ok-err, none-behind, Takes, cases, some-is, DocumentParts}
 use Rattle.cds_markup.specs.declared.tag.Declaration.{Declaration}
 use Rattle.cds_markup.proofs.Built.{TreeTold, tree-told, no-misc}
 use Rattle.cds_markup.proofs.Standing.{parts-of, Standing, closed, Stands, leaf_token, Leaf-of, begin, piece-said, misc-way}

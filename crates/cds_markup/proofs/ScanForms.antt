@@ -11,7 +11,7 @@ module _ {A : Type 0} (f : ℕ → List ℕ → A) (skip : (n b : ℕ) (u : List
   skip-all (b ∷ ws) u h = skip 0 b (ws ++ u) h.0 ∙ skip-all ws u h.1
 
   pub skip-wide : (n c : ℕ) (u : List ℕ) → 128 ≤ c → f n (encode_utf8 c ++ u) ≡ f 0 u
-  skip-wide n c u low = let w = wide-bytes c low in ap (λ xs. f n (xs ++ u)) w.is ∙ skip n w.head (w.tail ++ u) w.high.0 ∙ skip-all w.tail u w.high.1
+  skip-wide n c u low = let w = wide-bytes c low in ap (λ xs. f n (xs ++ u)) w.2 ∙ skip n w.0 (w.1 ++ u) w.3.0 ∙ skip-all w.1 u w.3.1
 
 pub small-one : {A : Type 0} (f : List ℕ → A) (c : ℕ) (u : List ℕ) → c < 128 → f (encode_utf8 c ++ u) ≡ f (c ∷ u)
 small-one f c u low = ap (λ xs. f (xs ++ u)) (encode_ascii c low)
@@ -280,7 +280,7 @@ ends-append : (behind : Bool) (v w : List ℕ) → ends_return behind (v ++ w) �
 ends-append behind [] w = refl
 ends-append behind (b ∷ v) w = ends-append (b == 13) v w
 
-no-sign : (b sign : ℕ) → 128 ≤ b → sign < 128 → (b == sign) ≡ false
+pub no-sign : (b sign : ℕ) → 128 ≤ b → sign < 128 → (b == sign) ≡ false
 no-sign b sign h low = grind (arith, nat_tests)
 
 lines-high : (behind : Bool) (b : ℕ) (w : List ℕ) → High (b ∷ w) → (lines behind (b ∷ w) ≡ b ∷ w) × (ends_return behind (b ∷ w) ≡ false)
@@ -304,8 +304,8 @@ char-lines c = elim (at-most-or-more 128 c) [ inl high ↦ wide high | inr low �
       let b = wide-bytes c high in
       let one = no-sign c 13 high (omega arith) in
       let two = no-sign c 10 high (omega arith) in
-      let s = lines-high behind b.head b.tail b.high in
-      (ap (lines behind) b.is ∙ s.0 ∙ sym b.is ∙ simp (one, two), ap (ends_return behind) b.is ∙ s.1 ∙ sym one)
+      let s = lines-high behind b.0 b.1 b.3 in
+      (ap (lines behind) b.2 ∙ s.0 ∙ sym b.2 ∙ simp (one, two), ap (ends_return behind) b.2 ∙ s.1 ∙ sym one)
 
 -- one character more
 pub line_more : (xs : List ℕ) (c : ℕ) → line_ends (xs ++ encode_utf8 c) ≡ line_ends xs ++ line_end_says (ends_return false xs) c

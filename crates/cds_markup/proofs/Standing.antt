@@ -333,17 +333,17 @@ module _ (o : Open) (outer : List Open) where
       (reads-letter E 62 (Done (given Ended outer (Content 0))) [] (Says (given Ended outer (Content 0))) (omega arith) refl none-alike)) none-alike
   end-reads (d ∷ text) n e ok =
       let s = encoded d in
-      let left : List ℕ = s.tail ++ bytes_of text in
-      let all : bytes_of (d ∷ text) ≡ s.head ∷ left = ap (λ xs. xs ++ bytes_of text) s.is in
+      let left : List ℕ = s.1 ++ bytes_of text in
+      let all : bytes_of (d ∷ text) ≡ s.0 ∷ left = ap (λ xs. xs ++ bytes_of text) s.2 in
       let m : ℕ = length (encode_utf8 d) in
-      let test : ℕ → Bool = λ c. begins_with (s.head ∷ left) (encode_utf8 c) in
+      let test : ℕ → Bool = λ c. begins_with (s.0 ∷ left) (encode_utf8 c) in
       let more = end-reads text (n + m) (sym (drop-drop m n (name_bytes o.name)) ∙ ap (drop m) e ∙ drop-append_seam (encode_utf8 d) (bytes_of text)) ok.1 in
       also (reads-as E {g = λ c. cond (test c) (On (EndTag (n + length (encode_utf8 c)))) Stuck} (λ c. ap (λ l. end_name_step n l outer c) (e ∙ all)) (reads-if E test (λ c. On (EndTag (n + length (encode_utf8 c)))) (λ c. Reads E (E (EndTag (n + length (encode_utf8 c))))) (λ c f. same (Reads E (E (EndTag (n + length (encode_utf8 c))))))))
       (also (λ bytes a. (
-        λ t. let front = (starts_is Decides-eqb (s.head ∷ left) (encode_utf8 t.what) (test t.what) refl).0 t.first.passes in
-            let same-one = same-first d t.what (bytes_of text) (drop (length (encode_utf8 t.what)) (s.head ∷ left)) ok.0 t.first.allowed (all ∙ front) in
+        λ t. let front = (starts_is Decides-eqb (s.0 ∷ left) (encode_utf8 t.what) (test t.what) refl).0 t.first.passes in
+            let same-one = same-first d t.what (bytes_of text) (drop (length (encode_utf8 t.what)) (s.0 ∷ left)) ok.0 t.first.allowed (all ∙ front) in
             then-of t.front t.back tt t.spelled (t.first.spelled ∙ ap encode_utf8 (sym same-one.0)) ((more t.back a).0 (subst (λ x. Reads E (E (EndTag (n + length (encode_utf8 x)))) t.back a) (sym same-one.0) t.second)),
-        λ t. then-of t.front t.back d t.spelled (record { spelled = t.first; allowed = ok.0; passes = (starts_is Decides-eqb (s.head ∷ left) (encode_utf8 d) (test d) refl).1 (bytes_of text) (sym all) }) ((more t.back a).1 t.second),
+        λ t. then-of t.front t.back d t.spelled (record { spelled = t.first; allowed = ok.0; passes = (starts_is Decides-eqb (s.0 ∷ left) (encode_utf8 d) (test d) refl).1 (bytes_of text) (sym all) }) ((more t.back a).1 t.second),
       )) (word-more (encode_utf8 d) (bytes_of text)))
 
 -- a start tag in its parts: what stands between its `<` and the word that closes it
@@ -640,7 +640,7 @@ qname-whole bytes q t = let s = says-then Second (λ second. qualified t.what se
   by (Some second) u =
       let n = t.first.2 in
       let h = encoded n.what in
-      let some : t.what ≡ h.head ∷ (h.tail ++ n.back) = t.first.0 ∙ n.spelled ∙ ap (λ xs. xs ++ n.back) (n.first.spelled ∙ h.is) in
+      let some : t.what ≡ h.0 ∷ (h.1 ++ n.back) = t.first.0 ∙ n.spelled ∙ ap (λ xs. xs ++ n.back) (n.first.spelled ∙ h.2) in
       let local = name-spell u.back second u.second in
       let whole : t.what ++ codes ":" ++ second ≡ bytes_of (first.text ++ 58 ∷ local.text) = ap (λ xs. xs ++ codes ":" ++ second) first.spelled ∙ ap (λ xs. bytes_of first.text ++ codes ":" ++ xs) local.spelled
       ∙ ap (λ xs. bytes_of first.text ++ xs ++ bytes_of local.text) (sym (encode_ascii 58 (omega arith))) ∙ append_assoc (bytes_of first.text) (encode_utf8 58) (bytes_of local.text) ∙ sym (bytes-append first.text (58 ∷ local.text)) in

@@ -282,7 +282,7 @@ module _ (quote : ℕ) (is_q : is_quote quote ≡ true) where
       also (reads-many V with_piece (λ x. V (valued x)) (IsValuePiece quote) (λ x. Then (Byte (λ b. b == quote)) (λ same. Says x.0)) some piece-reads ([], false))
       (also (then-alike (same (Many (IsValuePiece quote))) (λ ps. rw (added-says ps ([], false) ∙ sym (all-say ps).0) (says-alike (value_says ps) (λ text. Then (Byte (λ b. b == quote)) (λ same. Says text))))) (assoc (Many (IsValuePiece quote)) (λ ps. Says (value_says ps)) (λ text. Then (Byte (λ b. b == quote)) (λ same. Says text)))) where
         some : (bytes : List ℕ) (p : ValuePiece) → IsValuePiece quote bytes p → 0 < length bytes
-        some bytes (Literal c) h = let s = encoded c in omega (arith, ap length (h.spelled ∙ s.is))
+        some bytes (Literal c) h = let s = encoded c in omega (arith, ap length (h.spelled ∙ s.2))
         some bytes (Referred c) h = omega (arith, ap length h.form)
 
 -- Names.
@@ -301,7 +301,7 @@ module _ {M A : Type 0} (step : M → ℕ → Next M A) (to : Naming → M) (beh
   -- the letters of a name from the second on, and those of a name
   letters-read : (set : List ℕ → Naming) (over : List ℕ → ℕ → Next M A) (K : List ℕ → Form A) → ((t : List ℕ) (c : ℕ) → step (to (set t)) c ≡ cond (is_in_name c) (On (to (set (t ++ encode_utf8 c)))) (over t c)) → ((t : List ℕ) (c : ℕ) → is_in_name c ≡ true → over t c ≡ Stuck)
       → ((t : List ℕ) → Alike (Reads step (over t)) (K t)) → (text : List ℕ) → Alike (Reads step (step (to (set text)))) (Then (Many (Character is_in_name)) (λ cs. K (added step (λ t c. t ++ encode_utf8 c) text cs)))
-  letters-read set over K goes none e = reads-many step (λ t c. t ++ encode_utf8 c) (λ t. step (to (set t))) (Character is_in_name) K (λ bytes c h. let s = encoded c in omega (arith, ap length (h.spelled ∙ s.is)))
+  letters-read set over K goes none e = reads-many step (λ t c. t ++ encode_utf8 c) (λ t. step (to (set t))) (Character is_in_name) K (λ bytes c h. let s = encoded c in omega (arith, ap length (h.spelled ∙ s.2)))
       (λ t. reads-or step is_in_name (step (to (set t))) (λ c. On (to (set (t ++ encode_utf8 c)))) (over t) (Then (Character is_in_name) (λ c. Reads step (step (to (set (t ++ encode_utf8 c)))))) (K t) (goes t) (none t)
       (reads-if step is_in_name (λ c. On (to (set (t ++ encode_utf8 c)))) (λ c. Reads step (step (to (set (t ++ encode_utf8 c))))) (λ c d. same (Reads step (step (to (set (t ++ encode_utf8 c))))))) (e t))
 
@@ -324,9 +324,9 @@ module _ {M A : Type 0} (step : M → ℕ → Next M A) (to : Naming → M) (beh
     from : (c : ℕ) → Alike (Reads step (step (to (naming first (Some (encode_utf8 c)))))) (Then (Many (Character is_in_name)) (λ cs. H (qualified first (Some (added step (λ t c. t ++ encode_utf8 c) (encode_utf8 c) cs)))))
     from c =
         let s = encoded c in
-        let q : List ℕ → QName = λ t. qualified first (Some (s.head ∷ t)) in
-        rw s.is (also (letters-read (λ t. naming first (Some (s.head ∷ t))) (λ t. behind (q t)) (λ t. H (q t)) (λ t c. is (naming first (Some (s.head ∷ t))) c ∙ cases (is_in_name c) (λ d. rw d refl) (λ d. rw d refl)) (λ t c d. apart (q t) c (inl d)) (λ t. next (q t)) s.tail)
-        (then-alike (same (Many (Character is_in_name))) (λ cs. rw (more s.head s.tail cs) (same (H (q (added step (λ t c. t ++ encode_utf8 c) s.tail cs)))))))
+        let q : List ℕ → QName = λ t. qualified first (Some (s.0 ∷ t)) in
+        rw s.2 (also (letters-read (λ t. naming first (Some (s.0 ∷ t))) (λ t. behind (q t)) (λ t. H (q t)) (λ t c. is (naming first (Some (s.0 ∷ t))) c ∙ cases (is_in_name c) (λ d. rw d refl) (λ d. rw d refl)) (λ t c d. apart (q t) c (inl d)) (λ t. next (q t)) s.1)
+        (then-alike (same (Many (Character is_in_name))) (λ cs. rw (more s.0 s.1 cs) (same (H (q (added step (λ t c. t ++ encode_utf8 c) s.1 cs)))))))
 
   pub name-reads : Alike (Reads step (λ c. cond (begins_name c) (On (to (name_begun c))) Stuck)) (Then IsQName H)
   name-reads = also (word-reads (λ c. to (name_begun c)) (λ first. Then Second (λ second. H (qualified first second))) (λ c. letters-read (λ t. naming t None) over (λ first. Then Second (λ second. H (qualified first second))) goes none rest (encode_utf8 c)))

@@ -95,13 +95,10 @@ content-append (TreeThen t c) d b at scopes bytes last inner more (front, back, 
 pub deeper-of : (n d e : ℕ) → n + max d e ≤ 16 → (n + d ≤ 16) × (n + e ≤ 16)
 deeper-of n d e h = (grind arith, grind arith)
 
-deeper-both : (n d e : ℕ) → n + d ≤ 16 → n + e ≤ 16 → n + max d e ≤ 16
-deeper-both n d e h g = grind arith
-
 deep-append : (n : ℕ) (c d : Grammar-content) → n + depths c ≤ 16 → n + depths d ≤ 16 → n + depths (and_content c d) ≤ 16
 deep-append n Nothing d h g = g
 deep-append n (LeafThen l more) d h g = deep-append n more d h g
-deep-append n (TreeThen t more) d h g = let p = deeper-of n (depth t) (depths more) h in deeper-both n (depth t) (depths (and_content more d)) p.0 (deep-append n more d p.1 g)
+deep-append n (TreeThen t more) d h g = let p = deeper-of n (depth t) (depths more) h in let r = deep-append n more d p.1 g in grind (arith, p, r)
 
 -- what stands at a place
 abbrev pub In-element : Bool → Tag → List Tag → List ℕ → List Part → Type 0
@@ -157,7 +154,7 @@ finish [] tree before bytes earlier inner o t few = (
   },
 )
 finish (t ∷ outer) tree before bytes earlier inner o h few =
-    open-more t outer before bytes earlier inner (TreeThen tree Nothing) o (bytes, [], inner, [], sym (append-nil bytes), h, (refl, refl), sym (append-nil inner)) (and-no (ends_by false o.6)) (deeper-both (length (t ∷ outer)) (depth tree) 0 few (omega (arith, few)))
+    open-more t outer before bytes earlier inner (TreeThen tree Nothing) o (bytes, [], inner, [], sym (append-nil bytes), h, (refl, refl), sym (append-nil inner)) (and-no (ends_by false o.6)) (grind (arith, few))
 
 -- the parts along the trail are those of the trees
 grow-means : {w v : Where} {tags more : List Tag} {before bytes : List ℕ} {found : List Part} (earlier : List Part) → Grows w tags v more before bytes found → Means w tags before earlier → Means v more (before ++ bytes) (earlier ++ found)
@@ -330,7 +327,7 @@ name-first inside tag t =
     let n = q.first in
     let m = n.2 in
     let s = encoded m.what in
-    (s.head, s.tail ++ (m.back ++ (q.back ++ t.back)), t.spelled ∙ simp (q.spelled, m.spelled, m.first.spelled, s.is, append_assoc), (m.what, s.tail, record { spelled = sym s.is; allowed = m.first.allowed; passes = m.first.passes }))
+    (s.0, s.1 ++ (m.back ++ (q.back ++ t.back)), t.spelled ∙ simp (q.spelled, m.spelled, m.first.spelled, s.2, append_assoc), (m.what, s.1, record { spelled = sym s.2; allowed = m.first.allowed; passes = m.first.passes }))
 
 abbrev pub tag-at : (whole : List ℕ) (tags : List Tag) (before bytes rest : List ℕ) (tag : Tag) (empty : Bool) (at : ℕ) → Opens tags before → TagParts bytes tag (sign empty ∷ []) → whole ≡ before ++ (bytes ++ rest) → at + 1 ≡ length before + length bytes → TagEnds whole tags (length before) at tag
 tag-at whole tags before bytes rest tag empty at opens t e place = record {
@@ -585,7 +582,7 @@ pub begun-high : (b : ℕ) (xs : List ℕ) → IsBegun (b ∷ xs) → 128 ≤ b
 begun-high b xs (some, [], c, others, ch) = absurd (others refl)
 begun-high b xs (some, t ∷ tail, c, others, ch) =
     let w = wide-bytes c (two-bytes c b t xs tail (sym ch.spelled)) in
-    subst (λ x. 128 ≤ x) (heads w.head b w.tail (xs ++ t ∷ tail) (sym w.is ∙ sym ch.spelled)).0 w.high.0
+    subst (λ x. 128 ≤ x) (heads w.0 b w.1 (xs ++ t ∷ tail) (sym w.2 ∙ sym ch.spelled)).0 w.3.0
 
 cut-told : (n : ℕ) (tag : Tag) (outer : List Tag) (before text begun : List ℕ) (earlier : List Part) → Late n (Inside (Content 0)) (map opened (tag ∷ outer)) before earlier → IsPlain text → IsBegun begun → length (before ++ (text ++ begun)) ≤ n
     → Gives n (before ++ (text ++ begun)) (earlier ++ Run (length before) (first_non_blank (length before) (text ++ begun)) (line_ends text) ∷ [])

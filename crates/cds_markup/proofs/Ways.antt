@@ -40,7 +40,7 @@ pub same-first : (c d : ℕ) (x y : List ℕ) → is_allowed c ≡ true → is_a
 same-first c d x y a b e = ok_same c d x y (sym (decodes c x a) ∙ ap any_at e ∙ decodes d y b)
 
 pub none-spelled : (c : ℕ) (x : List ℕ) → [] ≡ encode_utf8 c ++ x → ⊥
-none-spelled c x e = let s = encoded c in no-cons {a = s.head} {xs = s.tail ++ x} (e ∙ ap (λ xs. xs ++ x) s.is)
+none-spelled c x e = let s = encoded c in no-cons {a = s.0} {xs = s.1 ++ x} (e ∙ ap (λ xs. xs ++ x) s.2)
 
 -- characters that begin bytes begin the characters of the bytes
 pub cut : (w u tail : List ℕ) → Allowed w → Allowed u → bytes_of w ≡ bytes_of u ++ tail → (left : List ℕ) × (w ≡ u ++ left) × (tail ≡ bytes_of left)

@@ -146,7 +146,7 @@ module _ (scopes : List (List Declaration)) (deep : ℕ) where
       let no : list_all is_quiet all ≡ true = both-quiet (encode_utf8 c) text (subst (λ w. list_all is_quiet w ≡ true) plain.stays (quiet (encode_utf8 c))) still in
       let is_text : IsText all all = record {
         characters = record { says = refl; characters = c ∷ cs; each = (encode_utf8 c, text, refl, record { spelled = refl; allowed = ok; passes = (unmarked c plain.none).1 }, each); none = no-section-end all no };
-        some = λ e. let first = encoded c in no-cons {a = first.head} {xs = first.tail ++ text} (sym e ∙ ap (λ xs. xs ++ text) first.is);
+        some = λ e. let first = encoded c in no-cons {a = first.0} {xs = first.1 ++ text} (sym e ∙ ap (λ xs. xs ++ text) first.2);
       } in record {
         content = LeafThen (Text all) more;
         clean = no;
