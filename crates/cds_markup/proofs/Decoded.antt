@@ -139,10 +139,7 @@ any-local : Local any_at
 unfolding any_at
 any-local = local-after (byte_at begins_character) behind_first (local-byte begins_character 65 refl) local-behind
 
-abbrev pub Ranges : ℕ → Type 0
-Ranges c = (c < 128) ⊎ (((128 ≤ c) × (c < 2048)) ⊎ (((2048 ≤ c) × (c < 65536)) ⊎ (65536 ≤ c)))
-
-pub ranges : (c : ℕ) → Ranges c
+pub ranges : (c : ℕ) → (c < 128) ⊎ (((128 ≤ c) × (c < 2048)) ⊎ (((2048 ≤ c) × (c < 65536)) ⊎ (65536 ≤ c)))
 ranges c = elim (at-most-or-more 128 c) [
   | inr low ↦ inl (omega (arith, low))
   | inl a ↦ elim (at-most-or-more 2048 c) [ inr low ↦ inr (inl (a, omega (arith, low))) | inl b ↦ elim (at-most-or-more 65536 c) [ inr low ↦ inr (inr (inl (b, omega (arith, low)))) | inl d ↦ inr (inr (inr d)) ] ]
@@ -193,17 +190,16 @@ within-tail b low high = grind (arith, nat_tests)
 
 read-plain : (c : ℕ) → is_allowed c ≡ true → any_at (encode_utf8 c) ≡ Ok (c, [])
 unfolding any_at
-read-plain c ok = by (ranges c) where
-  by : Ranges c → any_at (encode_utf8 c) ≡ Ok (c, [])
-  by (inl small) =
+read-plain c ok = elim (ranges c) [
+  | inl small ↦
       let lead : ((nat_lt c 128 && is_allowed c) || is_within 194 244 c) ≡ true = rw (less-is c 128 small, ok) refl in
       rw (encode_ascii c small, lead, less-is c 128 small) refl
-  by (inr (inl two)) =
+  | inr (inl two) ↦
       let a : ℕ = 192 + c / 64 in
       let b : ℕ = 128 + c % 64 in
       let is : (a - 192) * 64 + (b - 128) ≡ c = omega arith in
       rw (encode-two c two.0 two.1, lead-is-wide (is_allowed a) a (omega arith) (omega arith), more-is a 128 (omega arith), less-is a 224 (omega arith), within-tail b (omega arith) (omega arith), is) refl
-  by (inr (inr (inl three))) =
+  | inr (inr (inl three)) ↦
       let a : ℕ = 224 + c / 4096 in
       let b : ℕ = 128 + c / 64 % 64 in
       let d : ℕ = 128 + c % 64 in
@@ -215,7 +211,7 @@ read-plain c ok = by (ranges c) where
       let last : a ≡ 239 → b ≡ 191 → d ≤ 189 = λ h k. omega (arith, is, most) in
       let t : is_within 128 (third_high a b) d ≡ true = grind (arith, nat_tests, last) in
       rw (encode-three c three.0 three.1, lead-is-wide (is_allowed a) a (omega arith) (omega arith), more-is a 128 (omega arith), more-is a 224 (omega arith), less-is a 240 (omega arith), s, t, is) refl
-  by (inr (inr (inr four))) =
+  | inr (inr (inr four)) ↦
       let a : ℕ = 240 + c / 262144 in
       let b : ℕ = 128 + c / 4096 % 64 in
       let d : ℕ = 128 + c / 64 % 64 in
@@ -226,6 +222,7 @@ read-plain c ok = by (ranges c) where
       let most = allowed-at-most c ok in
       let s = is-second a b (omega arith) (omega arith) (λ h. absurd (omega arith)) (λ h. absurd (omega arith)) (λ h. omega (arith, is, four)) (λ h. omega (arith, is, most)) in
       rw (encode-four c four, lead-is-wide (is_allowed a) a (omega arith) (omega arith), more-is a 128 (omega arith), more-is a 224 (omega arith), more-is a 240 (omega arith), s, within-tail d (omega arith) (omega arith), within-tail e (omega arith) (omega arith), is) refl
+]
 
 pub decodes : (c : ℕ) (tail : List ℕ) → is_allowed c ≡ true → any_at (encode_utf8 c ++ tail) ≡ Ok (c, tail)
 decodes c tail ok = subst (Onto any_at (encode_utf8 c)) (read-plain c ok) (any-local.reads (encode_utf8 c)) tail

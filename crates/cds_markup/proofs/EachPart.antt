@@ -296,7 +296,6 @@ no-text [] e = absurd (cc)
 no-text (t ∷ outer) e = absurd (cc)
 
 last-text : {w : Where} {tags : List Tag} {front : List ℕ} {parts : List Part} → Trail w tags front parts → w ≡ Within true → Behind-text tags front
-last-text (At-prolog p) e = absurd (cc)
 last-text (At-more {earlier = earlier} t (Leaves {tag} {outer} {before} {bytes} b (Text text) h a)) e = record {
   before = before;
   earlier = earlier;
@@ -305,12 +304,10 @@ last-text (At-more {earlier = earlier} t (Leaves {tag} {outer} {before} {bytes} 
   spelled = refl;
   plain = record { says = refl; characters = h.characters.characters; each = h.characters.each; none = h.characters.none };
 }
-last-text (At-more t (Leaves b other h a)) e = absurd (cc)
 last-text (At-more t (Tags w true name attrs end k p keeps place)) e = absurd (cc)
-last-text (At-more t (Tags w false name attrs end k p keeps place)) e = absurd (cc)
 last-text (At-more t (Shuts {tags} end place)) e = absurd (no-text tags e)
 last-text (At-more t (Closes {outer} b tag h)) e = absurd (no-text outer e)
-last-text (At-more t (Cuts text begun plain cut)) e = absurd (cc)
+last-text other e = absurd (cc)
 
 behind-text : (b : Bool) (tags : List Tag) (front : List ℕ) (parts : List Part) → Trail (Within b) tags front parts → Behind-text tags front
 behind-text true tags front parts t = last-text t refl

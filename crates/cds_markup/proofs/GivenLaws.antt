@@ -169,13 +169,9 @@ not-long bytes at x first long = elim first.short [ inl less ↦ long.1 at less 
 -- Bytes are refused in one way.
 one-refusal : (bytes : List ℕ) (e f : MarkupError) → IsRefused bytes e → IsRefused bytes f → e ≢ Mem → f ≢ Mem → e ≡ f
 one-refusal bytes (Bad a) (Bad b) x y m n = ap (λ p. Bad p) (one-place bytes a b x.1.none_before y.1.none_before (inl x.0) (inl y.0))
-one-refusal bytes (Bad a) (TooDeep b) x y m n =
-    let same = one-place bytes a b x.1.none_before y.1.none_before (inl x.0) (inr y.0) in
-    absurd (never-both bytes a x.1.none_before x.0 (subst (IsTooDeep bytes) (sym same) y.0))
+one-refusal bytes (Bad a) (TooDeep b) x y m n = absurd (never-both bytes a x.1.none_before x.0 (subst (IsTooDeep bytes) (one-place bytes b a y.1.none_before x.1.none_before (inr y.0) (inl x.0)) y.0))
 one-refusal bytes (Bad a) TooLong x y m n = absurd (not-long bytes a (inl x.0) x.1 y)
-one-refusal bytes (TooDeep a) (Bad b) x y m n =
-    let same = one-place bytes a b x.1.none_before y.1.none_before (inr x.0) (inl y.0) in
-    absurd (never-both bytes a x.1.none_before (subst (IsBad bytes) (sym same) y.0) x.0)
+one-refusal bytes (TooDeep a) (Bad b) x y m n = absurd (never-both bytes b y.1.none_before y.0 (subst (IsTooDeep bytes) (one-place bytes a b x.1.none_before y.1.none_before (inr x.0) (inl y.0)) x.0))
 one-refusal bytes (TooDeep a) (TooDeep b) x y m n = ap (λ p. TooDeep p) (one-place bytes a b x.1.none_before y.1.none_before (inr x.0) (inr y.0))
 one-refusal bytes (TooDeep a) TooLong x y m n = absurd (not-long bytes a (inr x.0) x.1 y)
 one-refusal bytes TooLong (Bad b) x y m n = absurd (not-long bytes b (inl y.0) y.1 x)

@@ -2,7 +2,7 @@
 -- What is judged at a byte is a cause there, or there is none.
 use Rattle.std.proofs.Common.{◌≡◌, ◌==◌, ℕ, ◌≤◌, Bool, true, false, cond, ◌⊎◌, inl, inr, Ok, Err, List, [], ◌∷◌, ◌++◌, drop, length, refl, sym, ap, subst, ◌∙◌, arith, append_assoc, encode_utf8, Option, Some, None, Result, ◌+◌, map, ◌<◌, nat_lt, ◌&&◌, take}
 use Rattle.cds_markup.proofs.Terms.{Decides-eqb, Stops, Gone, append-nil, length-append, starts_is, encode_ascii, is_allowed, EndTag, Mode, Begin, Inside, Open, name_bytes, byte_order_mark, Tree, IsDocument, Step, any_at, Token, begins_with, end_name_step, Move, To, inside_move, step, comes, Reading, reading, takes_wide, may_begin, moved, go_on, byte_step, is_behind, may_end, CanGoOn, is_empty, nat_tests, take-append_seam, begins_name, Attr, Tag, NamespaceRule, Deep, Broken, Content, Less, Stop, tag_says, declarations, scopes_of, BreaksRule, GoOnOrBreak, Opens, IsTooDeep, Refuses, BreaksAt, EndsShort, Started, Slash, opened, Given, tag_given, scopes_in, is_missing, breaks_rule, may_begin_name, begins_tag, is_deep, judge, nothing_read, Character, most_open, Done, ends_tag, OutOfMemory, append_cancel_left, length-map, steps-then, and-both, heads, empty-is, clash, cases, ok-err}
-use Rattle.cds_markup.proofs.Ways.{Steps, steps-on, is-byte, none-behind, and-first, and-second, no-cons, some-is, mark-bytes, bytes_of, Allowed, bytes-append, allowed-append, allowed-back, same-first, cut, Spell, AtBegin, Place, place, P, Runs, Ends, steps-behind, plain-bytes, landing}
+use Rattle.cds_markup.proofs.Ways.{Steps, steps-on, is-byte, none-behind, and-first, and-second, no-cons, some-is, mark-bytes, bytes_of, Allowed, bytes-append, allowed-append, allowed-apart, same-first, cut, Spell, AtBegin, Place, place, P, Runs, Ends, steps-behind, plain-bytes, landing}
 use Rattle.cds_markup.proofs.Decoded.{found, decodes, stuck, viable, allowed-at-most, ranges, lead-begins, encode-two, encode-three, encode-four, at-most-or-more}
 use Rattle.cds_markup.proofs.ScanForms.{small-or-wide, no-sign}
 use Rattle.cds_markup.proofs.Placing.{WellMode, WellMove, well-step, is_to, Goes, PlainMode, narrow-marked, no-blank, wide, InMode, TagsOf, InMove, in-whole, step-in, document-is, TagWords, less-words}
@@ -115,7 +115,7 @@ onward : (front : List ℕ) (r : Reading) (more : List ℕ) (q : Reached front r
     → (left : List ℕ) × (r.begun ++ more ≡ bytes_of left) × Allowed left × Runs r.mode r.opens left m o
 onward front r more q text m o ok e ran =
     let c = cut text q.text (r.begun ++ more) ok q.allowed (sym e ∙ ap (λ xs. xs ++ more) q.spelled ∙ append_assoc (bytes_of q.text) r.begun more) in
-    (c.0, c.2, allowed-back q.text c.0 (subst Allowed c.1 ok), steps-behind P q.text c.0 (Begin, []) (r.mode, r.opens) (m, o) q.ran (subst (λ xs. Runs Begin [] xs m o) c.1 ran))
+    (c.0, c.2, (allowed-apart q.text c.0 (subst Allowed c.1 ok)).1, steps-behind P q.text c.0 (Begin, []) (r.mode, r.opens) (m, o) q.ran (subst (λ xs. Runs Begin [] xs m o) c.1 ran))
 
 -- what is read is where its characters run to
 pub told : (front : List ℕ) (r : Reading) (q : Reached front r) (text : List ℕ) (m : Mode) (o : List Open) → Allowed text → front ≡ bytes_of text → Runs Begin [] text m o → (r.begun ≡ []) × (r.mode ≡ m) × (r.opens ≡ o)

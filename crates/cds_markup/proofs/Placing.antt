@@ -2,7 +2,7 @@
 -- Where a character leads inside a token.
 use Rattle.std.proofs.Common.{codes, ◌≡◌, ◌==◌, ℕ, List, [], ◌∷◌, drop, true, cond, ◌⊎◌, inl, inr, ◌++◌, map, refl, sym, ap, subst, ◌∙◌, arith, append_assoc, ◌≤◌, Bool, false, Option, Some, None, encode_utf8, length, ◌<◌, nat_lt}
 use Rattle.cds_markup.proofs.Terms.{nat_tests, Stops, append-nil, is_allowed, begins_name, Opened, Turn, Content, Less, Cdata, StartTag, Slashed, EndTag, Open, Tag, Blanks, Mode, Inside, Epilog, name_bytes, IsTag, IsProlog, Tree, IsDocument, comes, leads, end_name_step, step_turn, Token, Started, Slash, Given, opened, Opens, Move, To, misc_step, is_behind, is_over, inside_move, step, Grammar-reference as Ref, Decides-eqb, drop-drop, Referring, Entity, Number, Valuing, Attributing, Value, Tagging, Attribute, Bang, Dash, Comment, Section, Reference, is_quote, Next, Stuck, On, Done, step_reference, value_step, step_value, step_attr, step_tag, step_comment, step_section, given, tag_given, start_step, section_step, begins_with, Stage, Version, Closing, Declaring, Xml, Gap, PartName, PartEquals, PartValue, YesOrNo, BehindPart, Misc, MiscLess, MiscComment, First, Declaration, Prolog, is_letter, step_declaration, prolog_move, starts_is, list_all, is_blank, is_in_name, Naming, AttrName, Name, Tagged, Encoding, Begin, TagAttr, goes_with, is_whole, name_of, base_of, valuing, attr_of, named_or, named_step, ends_tag, tag_named, with_attr, tagged_step, Commented, Referred, declaration_move, marked_move, is_none, wide_attr, wide_tag, wide_turn, wide_misc, takes_wide, is_digit, Letter}
-use Rattle.cds_markup.proofs.Ways.{then-of, next-by, cases, is-byte, Takes, Steps, steps-on, steps-done, holds, holds-if, leads-any, Anything, only-if, bytes_of, Allowed, bytes-append, plain-bytes, less-bytes, allowed-append, allowed-back, Early, AtBegin, mode_of, early_next, step-is, place, P, Runs, Ends, by-test, holds-leads, holds-named, and-second, cut, is_ascii, ascii-rest, Spell, ascii-first}
+use Rattle.cds_markup.proofs.Ways.{then-of, next-by, cases, is-byte, Takes, Steps, steps-on, steps-done, holds, holds-if, leads-any, Anything, only-if, bytes_of, Allowed, bytes-append, plain-bytes, less-bytes, allowed-append, allowed-apart, Early, AtBegin, mode_of, early_next, step-is, place, P, Runs, Ends, by-test, holds-leads, holds-named, and-second, cut, is_ascii, ascii-rest, Spell, ascii-first}
 use Rattle.cds_markup.proofs.Standing.{AllWhole, Piece, Character-of, Leaf-of, Tag-of, End-of, TagCases, Standing, closed, Stands, Leads, piece-stands, shut-stands, opens-whole, tag-stands, piece-reads, start-reads, tag-form, T, misc-is, prolog-word}
 use Rattle.cds_markup.proofs.ScanForms.{low-with, no-sign}
 
@@ -120,7 +120,7 @@ well-end o outer n c ok (b ∷ left) e s =
     let goes = λ (d : begins_with (b ∷ left) (encode_utf8 c) ≡ true).
     let is = (starts_is Decides-eqb (b ∷ left) (encode_utf8 c) (begins_with (b ∷ left) (encode_utf8 c)) refl).0 d in
     let r = cut s.text (c ∷ []) (drop m (b ∷ left)) s.allowed (ok, tt) (sym s.spelled ∙ is ∙ ap (λ xs. xs ++ drop m (b ∷ left)) (sym (append-nil (encode_utf8 c)))) in
-    subst Spell (sym (sym (drop-drop m n (name_bytes o.name)) ∙ ap (drop m) e ∙ r.2)) (record { text = r.0; spelled = refl; allowed = allowed-back (c ∷ []) r.0 (subst Allowed r.1 s.allowed) })
+    subst Spell (sym (sym (drop-drop m n (name_bytes o.name)) ∙ ap (drop m) e ∙ r.2)) (record { text = r.0; spelled = refl; allowed = (allowed-apart (c ∷ []) r.0 (subst Allowed r.1 s.allowed)).1 })
     in
     search (holds-if, goes)
 
@@ -196,8 +196,7 @@ prolog-well opens (On m) c h = λ all. h
 prolog-well opens (Done u) c h = inside-well opens (start_step opens Opened c) (well-start opens Opened c tt)
 
 move-if : (b : Bool) (x y : Move) → WellMove x → WellMove y → WellMove (cond b x y)
-move-if true x y f g = f
-move-if false x y f g = g
+move-if b x y f g = by-test (λ t. WellMove (cond t x y)) f g b
 
 -- It is kept by every step.
 pub well-step : (mode : Mode) (opens : List Open) (c : ℕ) → is_allowed c ≡ true → WellMode mode opens → WellMove (step mode opens c)
@@ -540,7 +539,7 @@ inside-in turn opens text c (tags, o, p) ok =
     (next-by (step turn c) (λ e. rw e tt)
     (λ other e. rw e ((tags, refl, record { start = p.start; before = p.before; since = p.since ++ c ∷ []; spelled = whole; starts = p.starts; behind = steps-on step p.since p.start turn other c p.behind e }), tt))
     (λ g e.
-    let a = ends-of p.start tags p.before (p.since ++ c ∷ []) g p.starts (allowed-back p.before (p.since ++ c ∷ []) (subst Allowed whole ok)) (steps-done step p.since p.start turn c g p.behind e) in
+    let a = ends-of p.start tags p.before (p.since ++ c ∷ []) g p.starts (allowed-apart p.before (p.since ++ c ∷ []) (subst Allowed whole ok)).1 (steps-done step p.since p.start turn c g p.behind e) in
     let leads = subst (λ xs. Leads g (bytes_of xs)) (sym whole) a.0 in
     rw e (subst (λ os. InMode (cond (is_over os g.turn) (Epilog Blanks) (Inside g.turn)) os (text ++ c ∷ [])) (sym leads.1) (lands leads.0 g.turn (text ++ c ∷ []) leads.2), (λ tag o. subst (λ xs. TagWords (map opened tags) (bytes_of xs) tag) (sym whole) (a.1 tag o), g, leads))))
 
@@ -575,7 +574,7 @@ ends (Epilog Blanks) opens text ok (none, (before, since, spelled, (tree, prolog
     spelled = ap bytes_of spelled ∙ bytes-append before since ∙ ap (λ xs. xs ++ bytes_of since) d ∙ append_assoc prolog element (bytes_of since);
     is_prolog = is;
     is_element = t;
-    is_epilog = misc-is since (allowed-back before since (subst Allowed spelled ok)) steps;
+    is_epilog = misc-is since (allowed-apart before since (subst Allowed spelled ok)).1 steps;
   },
 )
 ends mode opens text ok p h = absurd (cc)

@@ -1,7 +1,7 @@
 -- Where a word stands in a text, and where its lines end: what is known after each byte.
 use Rattle.std.proofs.Common.{◌≡◌, ◌==◌, ℕ, ◌<◌, ◌≤◌, Bool, true, false, cond, not, ◌&&◌, List, [], ◌∷◌, ◌++◌, take, refl, sym, ap, subst, ◌∙◌, arith, codes, encode_utf8, ◌⊎◌, inl, inr, zero, suc, append_assoc, ◌-◌, length, slice_index, map}
 use Rattle.cds_markup.proofs.Terms.{nat_tests, encode_ascii, append-nil, length-append, take-append_seam, contains, is_any, Without, brackets_with, closes_section, without_brackets, Word, Character, Then, Says, Many, Next, step_comment, step_section, without_feed, lone_returns, line_ends, line_end_says, is-byte, is-byte}
-use Rattle.cds_markup.proofs.Ways.{by-test, is-byte, and-both, and-first, and-second, cases, clash, Takes, bytes_of, Allowed, bytes-append, allowed-append, allowed-front, plain-bytes, ascii-bytes, ascii-plain, Alike, Reads, then-of, then-says, says-then}
+use Rattle.cds_markup.proofs.Ways.{by-test, is-byte, and-both, and-first, and-second, cases, clash, Takes, bytes_of, Allowed, bytes-append, allowed-append, allowed-apart, plain-bytes, ascii-bytes, ascii-plain, Alike, Reads, then-of, then-says, says-then}
 use Rattle.cds_markup.proofs.Decoded.{High, at-most-or-more, wide-bytes}
 
 -- a function of a text from a state that passes over each byte past ASCII
@@ -158,7 +158,7 @@ pub comment-reads : Alike (Reads step_comment (step_comment 0)) (Then (Without (
 comment-reads bytes u = (
   λ r. let b = (bodies r.text).0 r.takes in
       then-of (bytes_of b.0) (codes "-->") (bytes_of b.0) (r.spelled ∙ ap bytes_of b.1 ∙ bytes-append b.0 (codes "-->") ∙ ap (λ xs. bytes_of b.0 ++ xs) (ascii-bytes (codes "-->") refl))
-      (without-is (codes "--") b.0 (allowed-front b.0 (codes "-->") (subst Allowed b.1 r.allowed)) ((dashes-are b.0).0 ∙ ap not b.2)) refl,
+      (without-is (codes "--") b.0 (allowed-apart b.0 (codes "-->") (subst Allowed b.1 r.allowed)).0 ((dashes-are b.0).0 ∙ ap not b.2)) refl,
   λ t. let cs : List ℕ = t.first.characters in
       let c = characters-are is_any t.front cs t.first.each in
       let quiet = cases (calm 0 cs) (λ d. d) (λ d. clash ((dashes-are cs).0 ∙ ap not d) (ap (contains (codes "--")) (sym c.0) ∙ t.first.none)) in
@@ -230,7 +230,7 @@ section-reads bytes said = (
       let u = (ends b.0).0 b.3 in
       let whole : r.text ≡ u.0 ++ codes "]]>" = b.1 ∙ ap (λ xs. xs ++ 62 ∷ []) u.1 ∙ append_assoc u.0 (93 ∷ 93 ∷ []) (62 ∷ []) in
       then-of (bytes_of u.0) (codes "]]>") (bytes_of u.0) (r.spelled ∙ ap bytes_of whole ∙ bytes-append u.0 (codes "]]>") ∙ ap (λ xs. bytes_of u.0 ++ xs) (ascii-bytes (codes "]]>") refl))
-      (without-is (codes "]]>") u.0 (allowed-front u.0 (codes "]]>") (subst Allowed whole r.allowed)) (without-word u.0 (clean-front 0 u.0 (93 ∷ 93 ∷ []) (ap (clean 0) (sym u.1) ∙ b.2))))
+      (without-is (codes "]]>") u.0 (allowed-apart u.0 (codes "]]>") (subst Allowed whole r.allowed)).0 (without-word u.0 (clean-front 0 u.0 (93 ∷ 93 ∷ []) (ap (clean 0) (sym u.1) ∙ b.2))))
       (then-says (Word (codes "]]>")) (λ closing. bytes_of u.0) (codes "]]>") said tt refl (b.4 ∙ ap (λ xs. without_brackets (bytes_of xs)) u.1 ∙ ap without_brackets (brackets-bytes u.0) ∙ off (bytes_of u.0))),
   λ t. let cs : List ℕ = t.first.characters in
       let c = characters-are is_any t.front cs t.first.each in
@@ -288,24 +288,19 @@ lines-high behind b [] h = simp (no-sign b 13 h.0 (omega arith), no-sign b 10 h.
 lines-high behind b (x ∷ w) h = simp (no-sign b 13 h.0 (omega arith), no-sign b 10 h.0 (omega arith)) (let r = lines-high false x w h.1 in (ap (λ xs. b ∷ xs) r.0, r.1))
 
 -- one character
-abbrev Char-lines : ℕ → Type 0
-Char-lines c = (behind : Bool) → (lines behind (encode_utf8 c) ≡ line_end_says behind c) × (ends_return behind (encode_utf8 c) ≡ (c == 13))
-
-ascii-lines : (c : ℕ) → c < 128 → Char-lines c
-ascii-lines c low behind =
-    let e = encode_ascii c low in
-    let said : List ℕ → List ℕ = λ xs. cond {A = List ℕ} ((c == 10) && behind) [] (cond {A = List ℕ} (c == 13) (10 ∷ []) xs) in
-    (ap (lines behind) e ∙ append-nil (said (c ∷ [])) ∙ ap said (sym e), ap (ends_return behind) e)
-
-char-lines : (c : ℕ) → Char-lines c
-char-lines c = elim (at-most-or-more 128 c) [ inl high ↦ wide high | inr low ↦ ascii-lines c (omega (arith, low)) ] where
-  wide : 128 ≤ c → Char-lines c
-  wide high behind =
+char-lines : (c : ℕ) (behind : Bool) → (lines behind (encode_utf8 c) ≡ line_end_says behind c) × (ends_return behind (encode_utf8 c) ≡ (c == 13))
+char-lines c behind = elim (small-or-wide c) [
+  | inl low ↦
+      let e = encode_ascii c low in
+      let said : List ℕ → List ℕ = λ xs. cond {A = List ℕ} ((c == 10) && behind) [] (cond {A = List ℕ} (c == 13) (10 ∷ []) xs) in
+      (ap (lines behind) e ∙ append-nil (said (c ∷ [])) ∙ ap said (sym e), ap (ends_return behind) e)
+  | inr high ↦
       let b = wide-bytes c high in
       let one = no-sign c 13 high (omega arith) in
       let two = no-sign c 10 high (omega arith) in
       let s = lines-high behind b.0 b.1 b.3 in
       (ap (lines behind) b.2 ∙ s.0 ∙ sym b.2 ∙ simp (one, two), ap (ends_return behind) b.2 ∙ s.1 ∙ sym one)
+]
 
 -- one character more
 pub line_more : (xs : List ℕ) (c : ℕ) → line_ends (xs ++ encode_utf8 c) ≡ line_ends xs ++ line_end_says (ends_return false xs) c

@@ -1,6 +1,6 @@
 -- What stands inside an element, token by token, is what the grammar says.
 use Rattle.std.proofs.Common.{◌≡◌, ◌==◌, ℕ, Bool, true, false, cond, inl, inr, List, [], ◌∷◌, ◌++◌, codes, drop, length, refl, sym, ap, subst, ◌∙◌, arith, encode_utf8, not, ◌&&◌, map, append_assoc, Option, Some, None, ◌+◌, take, ◌<◌}
-use Rattle.cds_markup.proofs.Terms.{is_in_name, Byte, IsComment, IsSection, Without, is_any, begins_with_text, Decides-eqb, nat_tests, starts_is, drop-append_seam, append-nil, IsReference, is_allowed, Ampersand, Opened, Content, Slashed, QName, Tag, Open, Turn, Word, Character, Then, Says, Many, name_bytes, IsBlanks, IsTag, Leaf, Text, IsLeaf, is_text, IsStartTag, IsEndTag, is_in_text, IsText, Tree, EmptyElement, Full, Nothing, LeafThen, TreeThen, IsTree, IsContent, IsProlog, IsName, qualified, IsQName, ends_tag, brackets_with, closes_section, Token, Letter, Referred, SectionOf, Commented, Ended, Given, given, opened, is_in_run, tag_given, begins_with, Opens, Bang, Cdata, Comment, Dash, Done, EndTag, Less, Next, On, Reference, Section, StartTag, Stuck, drop-drop, encode_ascii, end_name_step, slash_step, step_comment, step_reference, step_tag, step_turn, Grammar-reference, Grammar-section, Grammar-comment, Inner, length-append, take-append_seam, leads, IsQuoted, IsSpace, IsEquals, is_blank, begins_name, Stage, Version, Encoding, Standalone, Closing, Declaring, Xml, Gap, PartName, PartEquals, PartValue, YesOrNo, BehindPart, Question, Misc, Blanks, MiscLess, MiscBang, MiscDash, MiscComment, Maybe, MiscPiece, Blank, IsMiscPiece, IsMisc, lower_case, AnyCase, is_quote, IsPseudoAttr, IsYesOrNo, IsDeclaration, byte_order_mark, behind, closing_step, standalone_step, begin_step, value_begins, step_declaration, misc_step, is_between, CommentPiece}
+use Rattle.cds_markup.proofs.Terms.{is_in_name, Byte, IsComment, IsSection, Without, is_any, begins_with_text, Decides-eqb, nat_tests, starts_is, drop-append_seam, append-nil, IsReference, is_allowed, Ampersand, Opened, Content, Slashed, QName, Tag, Open, Turn, Word, Character, Then, Says, Many, name_bytes, IsBlanks, IsTag, Leaf, Text, IsLeaf, is_text, IsStartTag, IsEndTag, is_in_text, IsText, Tree, EmptyElement, Full, Nothing, LeafThen, TreeThen, IsTree, IsContent, IsProlog, IsName, qualified, IsQName, ends_tag, brackets_with, closes_section, Token, Letter, Referred, SectionOf, Commented, Ended, Given, given, opened, is_in_run, tag_given, begins_with, Opens, Bang, Cdata, Comment, Dash, Done, EndTag, Less, Next, On, Reference, Section, StartTag, Stuck, drop-drop, encode_ascii, end_name_step, slash_step, step_comment, step_reference, step_tag, step_turn, Grammar-reference, Grammar-section, Grammar-comment, Inner, length-append, take-append_seam, leads, IsQuoted, IsSpace, IsEquals, is_blank, begins_name, Stage, Version, Encoding, Standalone, Closing, Declaring, Xml, Gap, PartName, PartEquals, PartValue, YesOrNo, BehindPart, Question, Misc, Blanks, MiscLess, MiscBang, MiscDash, MiscComment, Maybe, MiscPiece, Blank, IsMiscPiece, IsMisc, lower_case, AnyCase, is_quote, IsPseudoAttr, IsYesOrNo, IsDeclaration, byte_order_mark, behind, closing_step, standalone_step, begin_step, value_begins, step_declaration, misc_step, is_between, CommentPiece, step, To, Inside}
 use Rattle.cds_markup.proofs.TagForms.{Second, IsClosed, reference-form, reference-reads, tag-reads, same-small, quote-small}
 use Rattle.cds_markup.proofs.ScanForms.{characters-are, clean, state, without-word, comment-reads, sec, section-reads}
 use Rattle.cds_markup.proofs.Ways.{cases, is-byte, and-both, and-first, and-second, and-no, heads, allowed-append, bytes_of, Allowed, none-spelled, same-first, bytes-append, Spell, Form, Alike, Or, same, also, or-alike, then-alike, then-or, assoc, none-alike, word-more, Reads, Behind, reads-as, reads-if, reads-letter, reads-word, reads-or, reads-blanks, reads-state, then-of, then-says, says-then, Said, takes-then, next-by, no-cons, Takes, Steps, steps-done, cut, less-bytes, mark-bytes, is_ascii, ascii-first, ascii-rest, steps-as, way-as, reads-in, reads-many, turned, or-turned, or-assoc, maybe-or, says-alike, blanks-or, reads-byte, reads-space, reads-equals, blank-small, Way, way-then, way-none, way-text, way-byte, way-many, said-on, way-one, Early, AtBegin, AtMarked, AtFirst, InDeclaration, InProlog, early_next, misc_next, marked_next, name-no-bang, mode_of}
@@ -517,6 +517,12 @@ text-more n (d ∷ s) c a e ok t b =
     let m : ℕ = brackets_with n d in
     let r = text-more m s c a.2 (and-second (not (closes_section n d)) (clean m s) e) ok t b in
     ((a.0, a.1, r.0), and-both (not (closes_section n d)) (clean m (s ++ c ∷ [])) (and-first (not (closes_section n d)) (clean m s) e) r.1, r.2)
+
+pub letter-step : (k : ℕ) (o : Open) (outer : List Open) (c : ℕ) → is_in_text c ≡ true → closes_section k c ≡ false → step (Inside (Content k)) (o ∷ outer) c ≡ To (Inside (Content (brackets_with k c))) (o ∷ outer) (Letter c ∷ [])
+letter-step k o outer c e d =
+    let a : (c == 60) ≡ false = grind (arith, nat_tests) in
+    let b : (c == 38) ≡ false = grind (arith, nat_tests) in
+    rw (a, b, d) refl
 
 pub text-characters : (t : List ℕ) → InText t → Many (Character is_in_text) (bytes_of t) t
 text-characters [] a = refl

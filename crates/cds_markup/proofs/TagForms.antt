@@ -202,9 +202,11 @@ and-behind-is : (c : ℕ) (more : List ValuePiece) → and_behind (Literal c) mo
 and-behind-is c (Literal d ∷ more) = cases (c == 13) (λ e. cases (d == 10) (λ f. simp (e, f)) (λ f. simp (e, f))) (λ e. simp e)
 and-behind-is c other = cases (c == 13) (λ e. simp e) (λ e. simp e)
 
-referred-behind-is : (c : ℕ) (more : List ValuePiece) → and_behind (Referred c) more ≡ Referred c ∷ more
-referred-behind-is c [] = refl
-referred-behind-is c (d ∷ more) = refl
+pub and-behind : (piece : ValuePiece) (more : List ValuePiece) → is_return piece ≡ false → and_behind piece more ≡ piece ∷ more
+and-behind piece [] e = refl
+and-behind (Literal c) (Literal d ∷ more) e = rw e refl
+and-behind (Literal c) (Referred d ∷ more) e = refl
+and-behind (Referred c) (second ∷ more) e = refl
 
 -- what pieces say one behind another
 abbrev all_say : Bool → List ValuePiece → List ℕ
@@ -216,7 +218,7 @@ Said ps pieces = (says ps ≡ all_say false pieces) × (says (without_feed ps) �
 
 all-say : (pieces : List ValuePiece) → Said (with_line_ends pieces) pieces
 all-say [] = (refl, refl)
-all-say (Referred c ∷ more) = let h = all-say more in rw (referred-behind-is c (with_line_ends more)) (ap (λ xs. encode_utf8 c ++ xs) h.0, ap (λ xs. encode_utf8 c ++ xs) h.0)
+all-say (Referred c ∷ more) = let h = all-say more in rw (and-behind (Referred c) (with_line_ends more) refl) (ap (λ xs. encode_utf8 c ++ xs) h.0, ap (λ xs. encode_utf8 c ++ xs) h.0)
 all-say (Literal c ∷ more) = rw (and-behind-is c (with_line_ends more)) (by (c == 13) (c == 10) refl refl (all-say more)) where
   by : (s t : Bool) → (c == 13) ≡ s → (c == 10) ≡ t → Said (with_line_ends more) more → Said (Literal c ∷ cond (c == 13) (without_feed (with_line_ends more)) (with_line_ends more)) (Literal c ∷ more)
   by true t e f h = subst (λ x. Said (Literal x ∷ cond (x == 13) (without_feed (with_line_ends more)) (with_line_ends more)) (Literal x ∷ more)) (sym (is-byte c 13 e)) (ap (λ xs. 32 ∷ xs) h.1, ap (λ xs. 32 ∷ xs) h.1)

@@ -2,13 +2,13 @@
 -- it leads the machine of characters.
 use lib.Seq.{take-nil}
 use Rattle.std.proofs.Common.{◌≡◌, ℕ, suc, ◌+◌, ◌<◌, nat_lt, nat_le, true, false, Result, Ok, Err, List, [], ◌∷◌, ◌++◌, take, refl, sym, ap, ◌∙◌, arith, append_assoc, length, zero, zero-add, ◌==◌, ◌-◌, ◌≤◌, Bool, not, ◌&&◌, cond, ◌⊎◌, inl, inr, Some, None, encode_utf8, Option, subst}
-use Rattle.cds_markup.proofs.Terms.{nat_tests, INPUT_LIMIT, Stop, MarkupError, Part, Token, Reading, judge, nothing_read, answer_of, progressed, ended_of, marked, parts_from, parts_of, Telling, telling, begin_telling, last_parts, Told, judged_told, told_byte_within, behind_parts, told_on, told_within, told, answered, run, append-nil, length-append, encode_ascii, is_allowed, begins_name, is_blank, NamespaceRule, Deep, TooLong, Marks, Mode, Open, OpenText, Ampersand, Opened, Name, Turn, Content, Less, Reference, StartTag, Inside, Run, line_ends, Step, any_at, Letter, Given, step_turn, To, step, is_content, inside_move, reading, moved, go_on, byte_step, begins_tag, is_deep, breaks_rule, judged, refusal, said_as, is_between, passed_over, completed_as, marks, ended_part, open_text, line_end_says, or_here, text_with, text_or, Next, On, Done, name_begun, closes_section, brackets_with, is_in_text, first_non_blank, Gone, by-test, next-by, either-if, both-no, none-behind, is-byte, Takes, Steps, and-first, and-second, ok-err, cases}
+use Rattle.cds_markup.proofs.Terms.{nat_tests, INPUT_LIMIT, Stop, MarkupError, Part, Token, Reading, judge, nothing_read, answer_of, progressed, ended_of, marked, parts_from, parts_of, Telling, telling, begin_telling, last_parts, Told, judged_told, told_byte_within, behind_parts, told_on, told_within, told, answered, run, append-nil, length-append, encode_ascii, is_allowed, begins_name, is_blank, NamespaceRule, Deep, TooLong, Marks, Mode, Open, OpenText, Ampersand, Opened, Name, Turn, Content, Less, Reference, StartTag, Inside, Run, line_ends, Step, any_at, Letter, Given, step_turn, To, step, is_content, inside_move, reading, moved, go_on, byte_step, begins_tag, is_deep, breaks_rule, judged, refusal, said_as, is_between, passed_over, completed_as, marks, ended_part, open_text, line_end_says, or_here, text_with, text_or, Next, On, Done, name_begun, closes_section, brackets_with, first_non_blank, Gone, by-test, next-by, either-if, both-no, none-behind, is-byte, Takes, Steps, and-first, and-second, ok-err, cases}
 use Rattle.cds_markup.proofs.Ways.{same-first, bytes_of, Allowed, Early, AtBegin, mode_of, root_or, step-is, landing}
 use Rattle.cds_markup.proofs.Decoded.{found, ok_same, wide-bytes, stuck, decodes, encoded}
 use Rattle.cds_markup.proofs.ScanForms.{ends_return, line_more, ends_more, clean, state, small-or-wide, not-so}
 use Rattle.cds_markup.proofs.Placing.{WellMode, is_to, Goes, no-blank, Mid, turn-mid}
 use Rattle.cds_markup.proofs.GoingOn.{Unfinished, no-both, two-or-more, begins-complete, Reached, reached-nothing, result-by, NoneBefore, next as next-reached, none-here, none-more}
-use Rattle.cds_markup.proofs.Standing.{Leads-root, InText}
+use Rattle.cds_markup.proofs.Standing.{Leads-root, InText, letter-step}
 
 -- one piece behind another
 behind-on : (ps : List Part) (t : Told) (next : Telling → Told) → behind_parts ps (told_on t next) ≡ told_on (behind_parts ps t) next
@@ -42,9 +42,6 @@ answer-behind ps (Err found) = refl
 answer-behind ps (Ok found) = refl
 
 -- What is told of bytes up to a limit is what is read of as many of them.
-longer : (n at k : ℕ) → at ≡ n → nat_lt n (at + suc k) ≡ true
-longer n at k h = grind (arith, nat_tests)
-
 abbrev Whole : ℕ → ℕ → Telling → List ℕ → Type 0
 Whole n m p w =
     (parts-at (told_within n p w) ≡ parts_from p.read p.marks p.at (take m w))
@@ -57,7 +54,8 @@ whole n m [] p e =
     rw (take-nil m, here, under) (refl, refl)
 whole n zero (b ∷ w) p e =
     let over : nat_le n p.at ≡ true = let same : p.at ≡ n = omega (arith, e) in grind (arith, nat_tests) in
-    rw (over, longer n p.at (length w) (omega (arith, e))) (refl, refl)
+    let long : nat_lt n (p.at + suc (length w)) ≡ true = let same : p.at ≡ n = omega (arith, e) in grind (arith, nat_tests) in
+    rw (over, long) (refl, refl)
 whole n (suc m) (b ∷ w) p e =
     let room : nat_le n p.at ≡ false = let less : p.at < n = omega (arith, e) in grind (arith, nat_tests) in
     rw room (result-by (judge p.read b)
@@ -357,12 +355,6 @@ root-told n e (x ∷ w) front us begin g l t ok keeps within s =
     (turn-told n w (mid ++ encode_utf8 x) us u [] (marks (length front) None) g two ok.1 refl (λ c rest f b bs z. shallow-mode (Inside u) [] b refl) keeps fewer.1 (rw name at s))) (λ name. absurd (rw name at s))
 
 -- The characters of a literal text lead the reader of bytes on, and what it keeps of them is what the text says.
-
-pub letter-step : (k : ℕ) (o : Open) (outer : List Open) (c : ℕ) → is_in_text c ≡ true → closes_section k c ≡ false → step (Inside (Content k)) (o ∷ outer) c ≡ To (Inside (Content (brackets_with k c))) (o ∷ outer) (Letter c ∷ [])
-letter-step k o outer c e d =
-    let a : (c == 60) ≡ false = grind (arith, nat_tests) in
-    let b : (c == 38) ≡ false = grind (arith, nat_tests) in
-    rw (a, b, d) refl
 
 -- the first character that is no blank
 pub blank-behind : (text ys : List ℕ) (begin at : ℕ) (blank : Bool) → ((n : ℕ) → first_non_blank n ys ≡ cond {A = Option ℕ} blank None (Some n)) → at ≡ begin + length text → first_non_blank begin (text ++ ys) ≡ or_here (first_non_blank begin text) blank at

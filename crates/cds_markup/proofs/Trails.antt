@@ -1,18 +1,18 @@
 -- One construct of a document behind another: the start tags that are open behind them, the parts so far, and that the reader of bytes
 -- gives them.
-use Rattle.std.proofs.Common.{◌==◌, ◌≡◌, ℕ, ◌+◌, ◌<◌, ◌≤◌, Bool, true, false, ◌&&◌, Some, List, [], ◌∷◌, ◌++◌, max, length, refl, sym, ap, subst, ◌∙◌, arith, append_assoc, ◌⊎◌, inl, inr, Option, None, cond, ◌-◌, Ok, codes, map}
+use Rattle.std.proofs.Common.{◌==◌, ◌≡◌, ℕ, ◌+◌, ◌<◌, ◌≤◌, Bool, true, false, ◌&&◌, Some, List, [], ◌∷◌, ◌++◌, length, refl, sym, ap, subst, ◌∙◌, arith, append_assoc, ◌⊎◌, inl, inr, Option, None, cond, ◌-◌, Ok, codes, map}
 use Rattle.cds_markup.proofs.Terms.{begins_tag, Grammar-content, TextCut, cases_lt, append-nil, length-append, begins_name, Attr, Part, Start, End, Tag, Leaf, Tree, EmptyElement, Full, Nothing, LeafThen, TreeThen, is_text, begins_with_text, IsLeaf, IsStartTag, IsEndTag, IsProlog, IsTag, IsTree, IsContent, tag_says, most_open, depth, depths, scopes_of, Opens, TagEnds, leaf_parts, TreeParts, ContentParts, OpensParts, RootEnds, Character, IsBegun, IsPlain, PartsTo, Run, SlashEnds, ends_with_text, first_non_blank, line_ends, nat_tests, is_blank, Empty, Marks, OpenText, Blanks, Content, Less, Inside, Epilog, Open, Mode, Without, contains, is_in_text, Text, is_empty, ends_tag, Token, Letter, Slash, Shut, Ended, Given, given, opened, tag_given, reading, may_begin_name, scopes_in, is_deep, is_missing, breaks_rule, if_said, said_as, marks, ended_part, completed_as, text_or, ended_text, is_in_content, last_part, Slashed as Slash-turn, Telling, telling, begin_telling, told_within, last_parts, Reading, MarkupError, Refuses, Stop, TooLong, refusal, length-map, by-test, and-no, heads, and-so, apart, Grammar-reference as Reference, Then}
 use Rattle.cds_markup.specs.declared.name.Name.{Name}
 use Rattle.cds_markup.specs.declared.tag.Declaration.{Declaration}
 use Rattle.cds_markup.proofs.TagForms.{IsClosed}
-use Rattle.cds_markup.proofs.Standing.{TagParts, of-parts, parts-of, and_content, ends_by, begins-append, ends-append, InText, text-characters, AllWhole, leaf_token, Leaf-of, End-of, opens-whole, T, piece-said, content-reads, start-reads, closed-tag, prolog-led, Leads-root}
+use Rattle.cds_markup.proofs.Standing.{letter-step, TagParts, of-parts, parts-of, and_content, ends_by, begins-append, ends-append, InText, text-characters, AllWhole, leaf_token, Leaf-of, End-of, opens-whole, T, piece-said, content-reads, start-reads, closed-tag, prolog-led, Leads-root}
 use Rattle.cds_markup.proofs.Ways.{bytes_of, plain-bytes, less-bytes, Early, AtBegin, early_next, mode_of, root_or, step-is, landing, Said, then-says}
 use Rattle.cds_markup.proofs.Decoded.{encoded, wide-bytes}
 use Rattle.cds_markup.proofs.GoingOn.{option-by, NoneBefore, scopes-are, CauseAt, cause-refuses, judged-cause, Reached, two-bytes}
 use Rattle.cds_markup.specs.declared.event.Event.TheVariants.{Start as Began}
 use Rattle.cds_markup.proofs.ScanForms.{without-word, clean, state, word-without, characters-are, wide-open}
 use Rattle.cds_markup.proofs.Alive.{in-text}
-use Rattle.cds_markup.proofs.TokenTold.{shallow-mode, turn-told, token-told, early-less, quiet-told, root-told, letters-told, letter-step, IsRead, blank-behind, Stopped, told-ends, text-part, text-so, front-told, Landed, Lettered, came-so}
+use Rattle.cds_markup.proofs.TokenTold.{shallow-mode, turn-told, token-told, early-less, quiet-told, root-told, letters-told, IsRead, blank-behind, Stopped, told-ends, text-part, text-so, front-told, Landed, Lettered, came-so}
 use Rattle.cds_markup.proofs.Placing.{no-blank, is_to}
 
 -- before the root, inside an element with or without a literal text right before, behind the root, behind the `/` of an
@@ -92,13 +92,10 @@ content-append (TreeThen t c) d b at scopes bytes last inner more (front, back, 
     (front, back ++ last, first, later ++ more, k.0, f, content-append c d false (at + length front) scopes back last later more g k.1 isn, k.2)
 
 -- how deep
-pub deeper-of : (n d e : ℕ) → n + max d e ≤ 16 → (n + d ≤ 16) × (n + e ≤ 16)
-deeper-of n d e h = (grind arith, grind arith)
-
 deep-append : (n : ℕ) (c d : Grammar-content) → n + depths c ≤ 16 → n + depths d ≤ 16 → n + depths (and_content c d) ≤ 16
 deep-append n Nothing d h g = g
 deep-append n (LeafThen l more) d h g = deep-append n more d h g
-deep-append n (TreeThen t more) d h g = let p = deeper-of n (depth t) (depths more) h in let r = deep-append n more d p.1 g in grind (arith, p, r)
+deep-append n (TreeThen t more) d h g = let r = deep-append n more d (grind (arith, h)) g in grind (arith, h, r)
 
 -- what stands at a place
 abbrev pub In-element : Bool → Tag → List Tag → List ℕ → List Part → Type 0
@@ -266,8 +263,8 @@ mutual
       (append_assoc before one two ∙ ap (λ xs. before ++ xs) (sym e)) (append_assoc earlier (leaf_parts (length before) l) later ∙ ap (λ ps. earlier ++ ps) (sym is))
   content-trail (TreeThen tree more) b t outer before bytes earlier inner tr (one, two, first, later, e, f, g, is) isn few =
       trail-as
-      (content-trail more false t outer (before ++ one) two (earlier ++ first) later (tree-trail tree (Within b) (t ∷ outer) before one earlier first tt tr f (deeper-of (length (t ∷ outer)) (depth tree) (depths more) few).0)
-      (subst (λ n. ContentParts more n (scopes_of (t ∷ outer)) two later) (sym (length-append before one)) g) refl (deeper-of (length (t ∷ outer)) (depth tree) (depths more) few).1)
+      (content-trail more false t outer (before ++ one) two (earlier ++ first) later (tree-trail tree (Within b) (t ∷ outer) before one earlier first tt tr f (grind (arith, few)))
+      (subst (λ n. ContentParts more n (scopes_of (t ∷ outer)) two later) (sym (length-append before one)) g) refl (grind (arith, few)))
       (append_assoc before one two ∙ ap (λ xs. before ++ xs) (sym e)) (append_assoc earlier first later ∙ ap (λ ps. earlier ++ ps) (sym is))
 
 pub root-trail : (front : List ℕ) (parts : List Part) → RootEnds front parts → Trail Behind [] front parts

@@ -27,13 +27,9 @@ pub allowed-append : (v w : List ℕ) → Allowed v → Allowed w → Allowed (v
 allowed-append [] w a b = b
 allowed-append (c ∷ v) w a b = (a.0, allowed-append v w a.1 b)
 
-pub allowed-front : (v w : List ℕ) → Allowed (v ++ w) → Allowed v
-allowed-front [] w a = tt
-allowed-front (c ∷ v) w a = (a.0, allowed-front v w a.1)
-
-pub allowed-back : (v w : List ℕ) → Allowed (v ++ w) → Allowed w
-allowed-back [] w a = a
-allowed-back (c ∷ v) w a = allowed-back v w a.1
+pub allowed-apart : (v w : List ℕ) → Allowed (v ++ w) → Allowed v × Allowed w
+allowed-apart [] w a = (tt, a)
+allowed-apart (c ∷ v) w a = let r = allowed-apart v w a.1 in ((a.0, r.0), r.1)
 
 -- the first character
 pub same-first : (c d : ℕ) (x y : List ℕ) → is_allowed c ≡ true → is_allowed d ≡ true → encode_utf8 c ++ x ≡ encode_utf8 d ++ y → (c ≡ d) × (x ≡ y)
@@ -386,8 +382,8 @@ module _ {M A N B : Type 0} (step : M → ℕ → Next M A) (inner : N → ℕ �
   pub reads-in : (f : ℕ → Next M A) (g : ℕ → Next N B) → Led-as f g → Alike (Reads step f) (Then (Reads inner g) (λ b. Behind step (over b)))
   reads-in f g i bytes a = (
     λ r. let t = takes-apart r.text f g i a r.takes in
-        let all = subst Allowed t.3 r.allowed in
-        then-of (bytes_of t.0) (bytes_of t.1) t.2 (r.spelled ∙ ap bytes_of t.3 ∙ bytes-append t.0 t.1) (record { text = t.0; spelled = refl; allowed = allowed-front t.0 t.1 all; takes = t.4 }) (onward-is step (over t.2) t.1 a (allowed-back t.0 t.1 all) t.5),
+        let all = allowed-apart t.0 t.1 (subst Allowed t.3 r.allowed) in
+        then-of (bytes_of t.0) (bytes_of t.1) t.2 (r.spelled ∙ ap bytes_of t.3 ∙ bytes-append t.0 t.1) (record { text = t.0; spelled = refl; allowed = all.0; takes = t.4 }) (onward-is step (over t.2) t.1 a all.1 t.5),
     λ t. let r = t.first in
         let w = is-onward step (over t.what) t.back a t.second in
         record { text = r.text ++ w.0; spelled = t.spelled ∙ ap (λ xs. xs ++ t.back) r.spelled ∙ ap (λ xs. bytes_of r.text ++ xs) w.1 ∙ sym (bytes-append r.text w.0); allowed = allowed-append r.text w.0 r.allowed w.2; takes = takes-both r.text w.0 f g i t.what a r.takes w.3 },
