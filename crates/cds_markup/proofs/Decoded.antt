@@ -279,8 +279,7 @@ read_allowed bytes code left h = by (any_at bytes) refl h where
 
 pub read_whole : (s : Step ℕ) (code : ℕ) (left : List ℕ) → ReadSo s (Some code) left → DecodesSo s (Whole code)
 read_whole (Ok (c, rest)) code left h = h.0
-read_whole (Err []) code left h = absurd h
-read_whole (Err (b ∷ rest)) code left h = absurd h
+read_whole (Err rest) code left h = absurd h
 
 pub read_more : (s : Step ℕ) (left : List ℕ) → ReadSo s None left → (length left == 0) ≡ true → DecodesSo s More
 read_more (Ok (c, rest)) left h e = absurd h

@@ -205,8 +205,7 @@ and-behind-is c other = cases (c == 13) (λ e. simp e) (λ e. simp e)
 pub and-behind : (piece : ValuePiece) (more : List ValuePiece) → is_return piece ≡ false → and_behind piece more ≡ piece ∷ more
 and-behind piece [] e = refl
 and-behind (Literal c) (Literal d ∷ more) e = rw e refl
-and-behind (Literal c) (Referred d ∷ more) e = refl
-and-behind (Referred c) (second ∷ more) e = refl
+and-behind piece (second ∷ more) e = refl
 
 -- what pieces say one behind another
 abbrev all_say : Bool → List ValuePiece → List ℕ

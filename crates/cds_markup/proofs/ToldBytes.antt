@@ -72,9 +72,8 @@ module _ {S : Type 0} (took : S → List Part → S → Type 0) (enough : S → 
     so e other h = h
 
     by : (result : Result (Unit {0}) MarkupError) → ToldSo took enough before (Err (last_parts (told_from p m), e)) result to begin_telling → ToldSo took enough before (Err (last_parts (told_from p m), e)) result to now
-    by (Ok done) r = r
     by (Err Mem) r = r
-    by (Err other) r = r
+    by other r = r
 
 -- One telling behind another, where what takes the parts may have enough.
 module _ {S : Type 0} (took : S → Part → S → Type 0) (enough : S → Bool) where
