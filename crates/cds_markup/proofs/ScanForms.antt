@@ -246,7 +246,7 @@ section-reads bytes said = (
       },
 )
 
--- the same byte by byte from the front, behind a carriage return or not
+-- line ends byte by byte from the front, behind a carriage return or not
 abbrev lines : Bool → List ℕ → List ℕ
 lines behind [] = []
 lines behind (b ∷ w) = cond {A = List ℕ} ((b == 10) && behind) [] (cond {A = List ℕ} (b == 13) (10 ∷ []) (b ∷ [])) ++ lines (b == 13) w
