@@ -2,9 +2,9 @@
 -- Every state that is kept well can go on to the end of a document: by a next character, behind which less is left.
 use Rattle.std.proofs.Common.{◌≡◌, ◌==◌, ◌+◌, ◌-◌, ◌*◌, ◌<◌, ◌≤◌, ℕ, zero, suc, nat_le, nat_lt, Bool, true, false, Option, Some, None, List, [], ◌∷◌, ◌++◌, length, refl, arith, cond, not, ◌&&◌, ◌⊎◌, inl, inr, codes, map, sym, ap, subst, ◌∙◌, append_assoc}
 use Rattle.cds_markup.proofs.Terms.{inside_move, step_turn, encode_ascii, Word, nat_tests, is_allowed, Referring, Ampersand, EntityA, Entity, Sharp, Number, Valuing, Attributing, AttrName, AttrNamed, Equals, Value, Tagging, Opened, Name, Attribute, Naming, Tag, with_digit, Stage, Version, Closing, Declaring, Xml, Gap, PartName, PartEquals, PartValue, YesOrNo, BehindPart, Question, Misc, Blanks, MiscLess, MiscBang, MiscDash, MiscComment, Turn, Content, Less, Bang, Dash, Comment, Cdata, Section, Reference, StartTag, Slashed, EndTag, Mode, First, Declaration, Prolog, Inside, Epilog, Open, Next, Stuck, On, Done, behind, is_letter, Token, Shut, Ended, Given, given, tag_given, Move, Stops, To, step, comes, is_whole, leads, step_attr, step_comment, step_reference, step_tag, step_value, list_all, is_behind, begins_name, Begin, Character, Many, contains, is_in_text, IsTag, Leaf, Text, IsLeaf, is_text, Tree, EmptyElement, Full, Nothing, LeafThen, TreeThen, begins_with_text, IsStartTag, IsTree, IsContent, IsDocument, Opens, closes_section, brackets_with, ends_tag, Slash, opened, epilog_move, misc_step, Inner}
-use Rattle.cds_markup.proofs.Ways.{P, Runs, Ends, takes-run, landing, Anything, next-by, cases, and-first, same-byte, steps-then, Allowed, allowed-append, ascii-first, bytes_of, then-of, then-says, no-blanks, Early, name-no-bang, mode_of, early_next, root_or, step-is, Place, place, takes-last, holds, holds-if, holds-named, leads-any, and-second, Steps, plain-bytes, allowed-front, bytes-append, steps-as, Way, way-as, way-byte, way-none, way-text, way-then}
+use Rattle.cds_markup.proofs.Ways.{P, Runs, Ends, takes-run, landing, Anything, next-by, cases, and-first, same-byte, steps-then, Allowed, allowed-append, ascii-first, bytes_of, then-of, then-says, no-blanks, Early, name-no-bang, mode_of, early_next, root_or, step-is, Place, place, takes-last, holds, holds-if, holds-named, leads-any, and-second, Steps, plain-bytes, allowed-apart, bytes-append, steps-as, Way, way-as, way-byte, way-none, way-text, way-then}
 use Rattle.cds_markup.proofs.Placing.{WellMove, WellReference, WellSome, WellAttr, WellTag, WellTurn, WellDeclaring, WellMode, well-step}
-use Rattle.cds_markup.proofs.Standing.{AllWhole, end-reads, TagParts, closed-tag, parts-of, Piece, Leaf-of, End-of, InText, start-name, opens-whole, piece-said, last-same, prolog-led, misc-way}
+use Rattle.cds_markup.proofs.Standing.{letter-step, AllWhole, end-reads, TagParts, closed-tag, parts-of, Piece, Leaf-of, End-of, InText, start-name, opens-whole, piece-said, last-same, prolog-led, misc-way}
 use Rattle.cds_markup.proofs.ScanForms.{sec, clean, state, word-without, not-so, characters-are}
 use Rattle.cds_markup.proofs.TagForms.{end-plain, tag-reads}
 
@@ -24,10 +24,7 @@ letters-run o outer [] n a e = refl
 letters-run o outer (c ∷ cs) n a e =
     let closes = not-so (closes_section n c) (and-first (not (closes_section n c)) (clean (brackets_with n c) cs) e) in
     let more = letters-run o outer cs (brackets_with n c) a.2 (and-second (not (closes_section n c)) (clean (brackets_with n c) cs) e) in
-    let text = a.1 in
-    let one : (c == 60) ≡ false = grind arith in
-    let two : (c == 38) ≡ false = grind arith in
-    rw (one, two, closes) more
+    subst (λ v. comes (place v) (λ p. Steps P p cs (Inside (Content (state n (c ∷ cs))), o ∷ outer)) (λ u. ⊥)) (sym (letter-step n o outer c a.1 closes)) more
 
 pub in-text : (bytes cs : List ℕ) → Many (Character is_in_text) bytes cs → InText cs
 in-text bytes [] g = tt
@@ -69,7 +66,7 @@ module _ (p : Place) (all : List Open) (r : Starts p all) where
       let l = takes-last step_tag read.text Opened (tag, e) read.takes in
       let last : l.1 ≡ e = sym (rw l.5 at (closes l.2 l.1)) in
       let is = last-same inside e (bytes_of l.0) e (read.spelled ∙ ap bytes_of (l.3 ∙ ap (λ x. l.0 ++ x ∷ []) last) ∙ bytes-append l.0 (e ∷ []) ∙ ap (λ xs. bytes_of l.0 ++ xs) (plain-bytes (e ∷ []) ((end-plain e ends).0, tt))) in
-      by l.0 l.2 is.0 (allowed-front l.0 (l.1 ∷ []) (subst Allowed l.3 read.allowed)) l.4 (ap (step_tag l.2) (sym last) ∙ l.5) where
+      by l.0 l.2 is.0 (allowed-apart l.0 (l.1 ∷ []) (subst Allowed l.3 read.allowed)).0 l.4 (ap (step_tag l.2) (sym last) ∙ l.5) where
         closes : (n : Tagging) (c : ℕ) → holds (step_tag n c) Anything (λ found. found.1 ≡ c)
         closes (Attribute tag m) c = search leads-any
         closes other c = search (holds-named, holds-if)

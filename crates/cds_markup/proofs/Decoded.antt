@@ -1,8 +1,264 @@
--- What is decoded, what a byte and a character do, and what methods answer, from what the methods that they call answer.
-use Rattle.std.proofs.Common.{◌≡◌, ◌==◌, ℕ, ◌<◌, true, false, inl, inr, Option, Some, None, Result, Ok, Err, List, [], ◌∷◌, ◌++◌, length, refl, sym, ap, ◌∙◌, arith, encode_utf8, ◌≤◌, nat_le, subst, ◌+◌, cond, ◌&&◌, Bool, ◌≢◌, zero, suc, drop, slice_get, ◌-◌, nat_lt, IfSome, append_assoc, codes}
-use Rattle.cds_markup.proofs.Terms.{nat_tests, append-nil, encode_ascii, is_allowed, Whole, More, Stop, Broken, Deep, Event, Mode, Open, Step, after, begins_character, any_at, step, Reading, reading, moved, may_begin, go_on, byte_step, is_deep, judge, ReadSo, DecodesSo, AsciiSo, ByteSo, WholeSo, JudgedSo, NoCharacter, OutOfMemory, clash, empty-is, no-cons, INPUT_LIMIT, NamespaceRule, TooLong, Token, refusal, MovesSo, TakenSo, Progress, progressed, NextSo, Blanks, Turn, Inside, Epilog, Next, Stuck, On, Done, Given, To, is_content, is_over, landed, inside_move, opens_after, is_last, and-no, TurnsSo, by-test, Naming, QName, leads, named_or, Agrees, NamedSo, EndTag, begins_with, end_blanks_step, end_name_step, StandsSo, is-spent, some-is, written_name, Attr, TagAttr, OutOfScalarRange, slice_get_within, flat_map-append, tag_attrs, with_name, counted, written_attr, written_attrs}
-use Rattle.cds_markup.proofs.Ways.{allowed-at-most, allowed-no-surrogate, found, decodes}
+-- Reading a character from its bytes, what is decoded, what a byte and a character do, and what methods answer, from what the methods that they call answer.
+use Rattle.std.proofs.Common.{◌≡◌, ◌==◌, ℕ, ◌<◌, true, false, inl, inr, Option, Some, None, Result, Ok, Err, List, [], ◌∷◌, ◌++◌, length, refl, sym, ap, ◌∙◌, arith, encode_utf8, ◌≤◌, nat_le, subst, ◌+◌, cond, ◌&&◌, Bool, ◌≢◌, zero, suc, drop, slice_get, ◌-◌, nat_lt, IfSome, append_assoc, codes, ◌⊎◌, ◌*◌, ◌/◌, ◌%◌, ◌||◌}
+use Rattle.cds_markup.proofs.Terms.{nat_tests, append-nil, encode_ascii, is_allowed, Whole, More, Stop, Broken, Deep, Event, Mode, Open, Step, after, begins_character, any_at, step, Reading, reading, moved, may_begin, go_on, byte_step, is_deep, judge, ReadSo, DecodesSo, AsciiSo, ByteSo, WholeSo, JudgedSo, NoCharacter, OutOfMemory, clash, empty-is, no-cons, INPUT_LIMIT, NamespaceRule, TooLong, Token, refusal, MovesSo, TakenSo, Progress, progressed, NextSo, Blanks, Turn, Inside, Epilog, Next, Stuck, On, Done, Given, To, is_content, is_over, landed, inside_move, opens_after, is_last, and-no, TurnsSo, by-test, Naming, QName, leads, named_or, Agrees, NamedSo, EndTag, begins_with, end_blanks_step, end_name_step, StandsSo, is-spent, some-is, written_name, Attr, TagAttr, OutOfScalarRange, slice_get_within, flat_map-append, tag_attrs, with_name, counted, written_attr, written_attrs, is_within, second_low, second_high, third_high, byte_at, behind_first, two_bytes_at, three_bytes_at, four_bytes_at, tail_at, ok-err, cases, cases, ok-err}
+use lib.Utf8.{encode}
 use Rattle.cds_markup.specs.declared.mode.NameStep.TheVariants.{Ends, Breaks}
+
+less-is : (a n : ℕ) → a < n → nat_lt a n ≡ true
+less-is a n h = grind (arith, nat_tests)
+
+pub more-is : (a n : ℕ) → n ≤ a → nat_lt a n ≡ false
+more-is a n h = grind (arith, nat_tests)
+
+pub encode-two : (c : ℕ) → 128 ≤ c → c < 2048 → encode_utf8 c ≡ (192 + c / 64) ∷ (128 + c % 64) ∷ []
+unfolding encode
+encode-two c low high = rw (more-is c 128 low, less-is c 2048 high) refl
+
+pub encode-three : (c : ℕ) → 2048 ≤ c → c < 65536 → encode_utf8 c ≡ (224 + c / 4096) ∷ (128 + c / 64 % 64) ∷ (128 + c % 64) ∷ []
+unfolding encode
+encode-three c low high = rw (more-is c 128 (omega arith), more-is c 2048 low, less-is c 65536 high) refl
+
+pub encode-four : (c : ℕ) → 65536 ≤ c → encode_utf8 c ≡ (240 + c / 262144) ∷ (128 + c / 4096 % 64) ∷ (128 + c / 64 % 64) ∷ (128 + c % 64) ∷ []
+unfolding encode
+encode-four c low = rw (more-is c 128 (omega arith), more-is c 2048 (omega arith), more-is c 65536 low) refl
+
+tail-within : (b : ℕ) → is_within 128 191 b ≡ true → (128 ≤ b) × (b ≤ 191)
+tail-within b e = (grind (arith, nat_tests), grind (arith, nat_tests))
+
+-- two bytes of which each is in its range are a character
+two-are : (a b n : ℕ) → 194 ≤ a → a < 224 → (128 ≤ b) × (b ≤ 191) → n ≡ (a - 192) * 64 + (b - 128) → (encode_utf8 n ≡ a ∷ b ∷ []) × (is_allowed n ≡ true)
+two-are a b n low high g e =
+    let first : 192 + n / 64 ≡ a = omega arith in
+    let second : 128 + n % 64 ≡ b = omega arith in
+    let big : 128 ≤ n = omega arith in
+    let small : n < 2048 = omega arith in
+    (encode-two n big small ∙ ap (λ x. x ∷ (128 + n % 64) ∷ []) first ∙ ap (λ x. a ∷ x ∷ []) second, grind (arith, nat_tests, big, small))
+
+-- what the table says of a second and a third byte
+second-is : (a b : ℕ) → is_within (second_low a) (second_high a) b ≡ true → (128 ≤ b) × (b ≤ 191) × (a ≡ 224 → 160 ≤ b) × (a ≡ 237 → b ≤ 159) × (a ≡ 240 → 144 ≤ b) × (a ≡ 244 → b ≤ 143)
+second-is a b e = (grind (arith, nat_tests), grind (arith, nat_tests), λ h. grind (arith, nat_tests), λ h. grind (arith, nat_tests), λ h. grind (arith, nat_tests), λ h. grind (arith, nat_tests))
+
+is-second : (a b : ℕ) → 128 ≤ b → b ≤ 191 → (a ≡ 224 → 160 ≤ b) → (a ≡ 237 → b ≤ 159) → (a ≡ 240 → 144 ≤ b) → (a ≡ 244 → b ≤ 143) → is_within (second_low a) (second_high a) b ≡ true
+is-second a b f1 f2 f3 f4 f5 f6 = grind (arith, nat_tests)
+
+pub at-most-or-more : (m n : ℕ) → (m ≤ n) ⊎ (n + 1 ≤ m)
+at-most-or-more m n = cases (nat_le m n) (λ e. inl (grind (arith, nat_tests))) (λ e. inr (grind (arith, nat_tests)))
+
+-- what is allowed, by ranges
+pub allowed-at-most : (c : ℕ) → is_allowed c ≡ true → c ≤ 1114111
+allowed-at-most c e = grind (arith, nat_tests)
+
+pub allowed-no-surrogate : (c : ℕ) → is_allowed c ≡ true → 55296 ≤ c → 57344 ≤ c
+allowed-no-surrogate c e low = grind (arith, nat_tests)
+
+three-are : (a b c n : ℕ) → 224 ≤ a → a ≤ 239 → is_within (second_low a) (second_high a) b ≡ true → is_within 128 (third_high a b) c ≡ true → n ≡ (a - 224) * 4096 + (b - 128) * 64 + (c - 128)
+    → (encode_utf8 n ≡ a ∷ b ∷ c ∷ []) × (is_allowed n ≡ true)
+three-are a b c n low high s t e =
+    let f = second-is a b s in
+    let g : (128 ≤ c) × (c ≤ 191) × (a ≡ 239 → b ≡ 191 → c ≤ 189) = (grind (arith, nat_tests), grind (arith, nat_tests), λ g h. grind (arith, nat_tests)) in
+    let first : 224 + n / 4096 ≡ a = omega arith in
+    let mid : n / 64 ≡ (a - 224) * 64 + (b - 128) = omega arith in
+    let second : 128 + n / 64 % 64 ≡ b = omega arith in
+    let third : 128 + n % 64 ≡ c = omega arith in
+    let big : 2048 ≤ n = grind (arith, f, g) in
+    let small : n ≤ 65533 = grind (arith, f, g) in
+    let apart : (n ≤ 55295) ⊎ (57344 ≤ n) = elim (at-most-or-more a 237) [ inl h ↦ inl (grind (arith, f, g)) | inr h ↦ inr (omega arith) ] in
+    (encode-three n big (omega arith) ∙ ap (λ x. x ∷ (128 + n / 64 % 64) ∷ (128 + n % 64) ∷ []) first ∙ ap (λ x. a ∷ x ∷ (128 + n % 64) ∷ []) second ∙ ap (λ x. a ∷ b ∷ x ∷ []) third, grind (arith, nat_tests, big, small, apart))
+
+four-are : (a b c d n : ℕ) → 240 ≤ a → a ≤ 244 → is_within (second_low a) (second_high a) b ≡ true → (128 ≤ c) × (c ≤ 191) → (128 ≤ d) × (d ≤ 191) → n ≡ (a - 240) * 262144 + (b - 128) * 4096 + (c - 128) * 64 + (d - 128)
+    → (encode_utf8 n ≡ a ∷ b ∷ c ∷ d ∷ []) × (is_allowed n ≡ true)
+four-are a b c d n low high s r q e =
+    let f = second-is a b s in
+    let first : 240 + n / 262144 ≡ a = omega arith in
+    let upper : n / 4096 ≡ (a - 240) * 64 + (b - 128) = omega arith in
+    let mid : n / 64 ≡ ((a - 240) * 64 + (b - 128)) * 64 + (c - 128) = omega arith in
+    let second : 128 + n / 4096 % 64 ≡ b = omega arith in
+    let third : 128 + n / 64 % 64 ≡ c = omega arith in
+    let fourth : 128 + n % 64 ≡ d = omega arith in
+    let big : 65536 ≤ n = grind (arith, f) in
+    let small : n ≤ 1114111 = grind (arith, f) in
+    (encode-four n big ∙ ap (λ x. x ∷ (128 + n / 4096 % 64) ∷ (128 + n / 64 % 64) ∷ (128 + n % 64) ∷ []) first ∙ ap (λ x. a ∷ x ∷ (128 + n / 64 % 64) ∷ (128 + n % 64) ∷ []) second ∙ ap (λ x. a ∷ b ∷ x ∷ (128 + n % 64) ∷ []) third ∙ ap (λ x. a ∷ b ∷ c ∷ x ∷ []) fourth, grind (arith, nat_tests, big, small))
+
+-- Reading a character: what is read is one, each one is read, and what is cut off goes on to one.
+
+-- Steps that go by what comes first: what follows changes nothing of their answer, and what is cut off can go on.
+abbrev Onto : {A : Type 0} → (List ℕ → Step A) → List ℕ → Step A → Type 0
+Onto r left (Ok found) = (more : List ℕ) → r (left ++ more) ≡ Ok (found.0, found.1 ++ more)
+Onto {A} r left (Err []) = (more : List ℕ) × (v : A) × (r (left ++ more) ≡ Ok (v, []))
+Onto r left (Err (b ∷ x)) = (more : List ℕ) → r (left ++ more) ≡ Err (b ∷ (x ++ more))
+
+record Local {A : Type 0} (r : List ℕ → Step A) : Type 0 where
+  pub reads : (left : List ℕ) → Onto r left (r left)
+  pub some : (more : List ℕ) × (v : A) × (r more ≡ Ok (v, []))
+
+module _ {A B : Type 0} (r : List ℕ → Step A) (s : A → List ℕ → Step B) (R : Local r) (S : (a : A) → Local (s a)) where
+  abbrev both : List ℕ → Step B
+  both left = after (r left) s
+
+  goes-on : (left : List ℕ) → Onto r left (Err []) → Onto both left (Err [])
+  goes-on left (more, v, e) =
+      let h = (S v).some in
+      (more ++ h.0, h.1, ap both (sym (append_assoc left more h.0)) ∙ ap (λ x. after x s) (subst (Onto r (left ++ more)) e (R.reads (left ++ more)) h.0) ∙ h.2)
+
+  local-after : Local both
+  local-after = record { reads = λ left. by left (r left) (R.reads left); some = goes-on [] R.some } where
+    behind : (left : List ℕ) (a : A) (mid : List ℕ) → Onto r left (Ok (a, mid)) → (y : Step B) → Onto (s a) mid y → Onto both left y
+    behind left a mid k (Ok found) f = λ more. ap (λ x. after x s) (k more) ∙ f more
+    behind left a mid k (Err []) (more, v, e) = (more, v, ap (λ x. after x s) (k more) ∙ e)
+    behind left a mid k (Err (b ∷ x)) f = λ more. ap (λ x. after x s) (k more) ∙ f more
+
+    by : (left : List ℕ) (x : Step A) → Onto r left x → Onto both left (after x s)
+    by left (Ok (a, mid)) k = behind left a mid k (s a mid) ((S a).reads mid)
+    by left (Err []) k = goes-on left k
+    by left (Err (b ∷ x)) k = λ more. ap (λ y. after y s) (k more)
+
+local-byte : (test : ℕ → Bool) (b : ℕ) → test b ≡ true → Local (byte_at test)
+local-byte test b has = record { reads = reads; some = (b ∷ [], b, rw has refl) } where
+  reads : (left : List ℕ) → Onto (byte_at test) left (byte_at test left)
+  reads [] = (b ∷ [], b, rw has refl)
+  reads (c ∷ left) = cases (test c) (λ e. rw e (λ more. rw e refl)) (λ e. rw e (λ more. rw e refl))
+
+local-value : {A : Type 0} (v : A) → Local (λ left. Ok (v, left))
+local-value v = record { reads = λ left more. refl; some = ([], v, refl) }
+
+local-behind : (b : ℕ) → Local (behind_first b)
+local-behind b = by (nat_lt b 128) (nat_lt b 224) (nat_lt b 240) where
+  tail : Local (tail_at 128 191)
+  tail = local-byte (is_within 128 191) 128 refl
+
+  second : Local (tail_at (second_low b) (second_high b))
+  second = local-byte (is_within (second_low b) (second_high b)) (second_low b) (grind (arith, nat_tests))
+
+  by : (s t u : Bool) → Local (λ rest. cond s (Ok (b, rest)) (cond t (two_bytes_at b rest) (cond u (three_bytes_at b rest) (four_bytes_at b rest))))
+  by true t u = local-value b
+  by false true u = search (local-after, local-value, tail)
+  by false false true = local-after (tail_at (second_low b) (second_high b)) _ second (λ c. search (local-after, local-value, local-byte (is_within 128 (third_high b c)) 128 (grind (arith, nat_tests))))
+  by false false false = search (local-after, local-value, second, tail)
+
+any-local : Local any_at
+unfolding any_at
+any-local = local-after (byte_at begins_character) behind_first (local-byte begins_character 65 refl) local-behind
+
+pub ranges : (c : ℕ) → (c < 128) ⊎ (((128 ≤ c) × (c < 2048)) ⊎ (((2048 ≤ c) × (c < 65536)) ⊎ (65536 ≤ c)))
+ranges c = elim (at-most-or-more 128 c) [
+  | inr low ↦ inl (omega (arith, low))
+  | inl a ↦ elim (at-most-or-more 2048 c) [ inr low ↦ inr (inl (a, omega (arith, low))) | inl b ↦ elim (at-most-or-more 65536 c) [ inr low ↦ inr (inr (inl (b, omega (arith, low)))) | inl d ↦ inr (inr (inr d)) ] ]
+]
+
+pub lead-is-wide : (x : Bool) (b : ℕ) → 194 ≤ b → b ≤ 244 → ((nat_lt b 128 && x) || is_within 194 244 b) ≡ true
+lead-is-wide x b low high = grind (arith, nat_tests)
+
+-- what is read is a character
+pub ok_same : {A B E : Type 0} (v w : A) (x y : B) → ◌≡◌ {A = Result (A × B) E} (Ok (v, x)) (Ok (w, y)) → (v ≡ w) × (x ≡ y)
+ok_same {A} {B} v w x y e = let same : ◌≡◌ {A = A × B} (v, x) (w, y) = cc in (ap (λ p. p.0) same, ap (λ p. p.1) same)
+
+abbrev pub Read : List ℕ → ℕ → List ℕ → Type 0
+Read bytes c rest = (bytes ≡ encode_utf8 c ++ rest) × (is_allowed c ≡ true)
+
+-- what is read behind a byte
+byte-then : {A : Type 0} (test : ℕ → Bool) (left : List ℕ) (next : ℕ → List ℕ → Step A) (v : A) (rest : List ℕ) → after (byte_at test left) next ≡ Ok (v, rest) → (b : ℕ) × (more : List ℕ) × (left ≡ b ∷ more) × (test b ≡ true) × (next b more ≡ Ok (v, rest))
+byte-then test [] next v rest e = ok-err (sym e)
+byte-then test (b ∷ more) next v rest e = cases (test b) (λ t. (b, more, refl, t, rw t at e)) (λ t. ok-err (sym (rw t at e)))
+
+pub found : (bytes : List ℕ) (c : ℕ) (rest : List ℕ) → any_at bytes ≡ Ok (c, rest) → Read bytes c rest
+unfolding any_at
+found bytes c rest e = let f = byte-then begins_character bytes behind_first c rest e in by f.0 f.1 f.2 f.3 (nat_lt f.0 128) (nat_lt f.0 224) (nat_lt f.0 240) refl refl refl f.4 where
+  over : (n : ℕ) (front more : List ℕ) → (encode_utf8 n ≡ front) × (is_allowed n ≡ true) → ◌≡◌ {A = Step ℕ} (Ok (n, more)) (Ok (c, rest)) → bytes ≡ front ++ more → Read bytes c rest
+  over n front more h e d = let s = ok_same n c more rest e in (d ∙ ap (λ xs. xs ++ more) (sym h.0) ∙ ap (λ x. encode_utf8 x ++ more) s.0 ∙ ap (λ xs. encode_utf8 c ++ xs) s.1, ap is_allowed (sym s.0) ∙ h.1)
+
+  by : (a : ℕ) (left : List ℕ) → bytes ≡ a ∷ left → begins_character a ≡ true → (s t u : Bool) → nat_lt a 128 ≡ s → nat_lt a 224 ≡ t → nat_lt a 240 ≡ u → cond s (Ok (a, left)) (cond t (two_bytes_at a left) (cond u (three_bytes_at a left) (four_bytes_at a left))) ≡ Ok (c, rest) → Read bytes c rest
+  by a left d ok true t u f1 f2 f3 e = let low : a < 128 = grind (arith, nat_tests) in over a (a ∷ []) left (encode_ascii a low, grind (arith, nat_tests)) e d
+  by a left d ok false true u f1 f2 f3 e =
+      let low : 194 ≤ a = grind (arith, nat_tests) in
+      let high : a < 224 = grind (arith, nat_tests) in
+      let x = byte-then _ left _ c rest e in
+      over _ (a ∷ x.0 ∷ []) x.1 (two-are a x.0 _ low high (tail-within x.0 x.3) refl) x.4 (d ∙ ap (λ xs. a ∷ xs) x.2)
+  by a left d ok false false true f1 f2 f3 e =
+      let x = byte-then _ left _ c rest e in
+      let y = byte-then _ x.1 _ c rest x.4 in
+      over _ (a ∷ x.0 ∷ y.0 ∷ []) y.1 (three-are a x.0 y.0 _ (grind (arith, nat_tests)) (grind (arith, nat_tests)) x.3 y.3 refl) y.4 (d ∙ ap (λ xs. a ∷ xs) (x.2 ∙ ap (λ xs. x.0 ∷ xs) y.2))
+  by a left d ok false false false f1 f2 f3 e =
+      let x = byte-then _ left _ c rest e in
+      let y = byte-then _ x.1 _ c rest x.4 in
+      let z = byte-then _ y.1 _ c rest y.4 in
+      over _ (a ∷ x.0 ∷ y.0 ∷ z.0 ∷ []) z.1 (four-are a x.0 y.0 z.0 _ (grind (arith, nat_tests)) (grind (arith, nat_tests)) x.3 (tail-within y.0 y.3) (tail-within z.0 z.3) refl) z.4
+      (d ∙ ap (λ xs. a ∷ xs) (x.2 ∙ ap (λ xs. x.0 ∷ xs) (y.2 ∙ ap (λ xs. y.0 ∷ xs) z.2)))
+
+-- each character is read
+within-tail : (b : ℕ) → 128 ≤ b → b ≤ 191 → is_within 128 191 b ≡ true
+within-tail b low high = grind (arith, nat_tests)
+
+read-plain : (c : ℕ) → is_allowed c ≡ true → any_at (encode_utf8 c) ≡ Ok (c, [])
+unfolding any_at
+read-plain c ok = elim (ranges c) [
+  | inl small ↦
+      let lead : ((nat_lt c 128 && is_allowed c) || is_within 194 244 c) ≡ true = rw (less-is c 128 small, ok) refl in
+      rw (encode_ascii c small, lead, less-is c 128 small) refl
+  | inr (inl two) ↦
+      let a : ℕ = 192 + c / 64 in
+      let b : ℕ = 128 + c % 64 in
+      let is : (a - 192) * 64 + (b - 128) ≡ c = omega arith in
+      rw (encode-two c two.0 two.1, lead-is-wide (is_allowed a) a (omega arith) (omega arith), more-is a 128 (omega arith), less-is a 224 (omega arith), within-tail b (omega arith) (omega arith), is) refl
+  | inr (inr (inl three)) ↦
+      let a : ℕ = 224 + c / 4096 in
+      let b : ℕ = 128 + c / 64 % 64 in
+      let d : ℕ = 128 + c % 64 in
+      let over : c / 64 ≡ c / 4096 * 64 + c / 64 % 64 = omega arith in
+      let is : (a - 224) * 4096 + (b - 128) * 64 + (d - 128) ≡ c = omega arith in
+      let most : c ≤ 65533 = grind (arith, nat_tests, three.1) in
+      let gap : 55296 ≤ c → 57344 ≤ c = allowed-no-surrogate c ok in
+      let s = is-second a b (omega arith) (omega arith) (λ h. omega (arith, is, three.0)) (λ h. elim (at-most-or-more b 159) [ inl k ↦ k | inr k ↦ absurd (omega (arith, is, h, k, gap (omega (arith, is, h, k)))) ]) (λ h. absurd (omega arith)) (λ h. absurd (omega arith)) in
+      let last : a ≡ 239 → b ≡ 191 → d ≤ 189 = λ h k. omega (arith, is, most) in
+      let t : is_within 128 (third_high a b) d ≡ true = grind (arith, nat_tests, last) in
+      rw (encode-three c three.0 three.1, lead-is-wide (is_allowed a) a (omega arith) (omega arith), more-is a 128 (omega arith), more-is a 224 (omega arith), less-is a 240 (omega arith), s, t, is) refl
+  | inr (inr (inr four)) ↦
+      let a : ℕ = 240 + c / 262144 in
+      let b : ℕ = 128 + c / 4096 % 64 in
+      let d : ℕ = 128 + c / 64 % 64 in
+      let e : ℕ = 128 + c % 64 in
+      let upper : c / 4096 ≡ c / 262144 * 64 + c / 4096 % 64 = omega arith in
+      let over : c / 64 ≡ c / 4096 * 64 + c / 64 % 64 = omega arith in
+      let is : (a - 240) * 262144 + (b - 128) * 4096 + (d - 128) * 64 + (e - 128) ≡ c = omega arith in
+      let most = allowed-at-most c ok in
+      let s = is-second a b (omega arith) (omega arith) (λ h. absurd (omega arith)) (λ h. absurd (omega arith)) (λ h. omega (arith, is, four)) (λ h. omega (arith, is, most)) in
+      rw (encode-four c four, lead-is-wide (is_allowed a) a (omega arith) (omega arith), more-is a 128 (omega arith), more-is a 224 (omega arith), more-is a 240 (omega arith), s, within-tail d (omega arith) (omega arith), within-tail e (omega arith) (omega arith), is) refl
+]
+
+pub decodes : (c : ℕ) (tail : List ℕ) → is_allowed c ≡ true → any_at (encode_utf8 c ++ tail) ≡ Ok (c, tail)
+decodes c tail ok = subst (Onto any_at (encode_utf8 c)) (read-plain c ok) (any-local.reads (encode_utf8 c)) tail
+
+-- what is no character is none whatever follows, and what is cut off goes on to one
+pub stuck : (bytes : List ℕ) (x : ℕ) (y more : List ℕ) → any_at bytes ≡ Err (x ∷ y) → any_at (bytes ++ more) ≡ Err (x ∷ (y ++ more))
+stuck bytes x y more e = subst (Onto any_at bytes) e (any-local.reads bytes) more
+
+pub viable : (begun : List ℕ) → any_at begun ≡ Err [] → (c : ℕ) × (more : List ℕ) × (encode_utf8 c ≡ begun ++ more) × (is_allowed c ≡ true)
+viable begun u =
+    let g = subst (Onto any_at begun) u (any-local.reads begun) in
+    let f = found (begun ++ g.0) g.1 [] g.2 in
+    (g.1, g.0, sym (f.0 ∙ append-nil (encode_utf8 g.1)), f.1)
+
+pub lead-begins : (b : ℕ) → 194 ≤ b → b ≤ 244 → any_at (b ∷ []) ≡ Err []
+unfolding any_at
+lead-begins b low high =
+    rw (lead-is-wide (is_allowed b) b low high, more-is b 128 (omega arith)) (cases (nat_lt b 224) (λ e. rw e refl) (λ e. cases (nat_lt b 240) (λ d. rw (e, d) refl) (λ d. rw (e, d) refl)))
+
+-- The bytes of a character.
+
+-- bytes beyond ASCII
+abbrev pub High : List ℕ → Type 0
+High [] = Unit {0}
+High (b ∷ w) = (128 ≤ b) × High w
+
+pub wide-bytes : (c : ℕ) → 128 ≤ c → (head : ℕ) × (tail : List ℕ) × (encode_utf8 c ≡ head ∷ tail) × High (head ∷ tail)
+wide-bytes c h = elim (ranges c) [
+  | inl small ↦ absurd (omega (arith, h, small))
+  | inr (inl two) ↦ (_, _, encode-two c two.0 two.1, (omega arith, (omega arith, tt)))
+  | inr (inr (inl three)) ↦ (_, _, encode-three c three.0 three.1, (omega arith, (omega arith, (omega arith, tt))))
+  | inr (inr (inr four)) ↦ (_, _, encode-four c four, (omega arith, (omega arith, (omega arith, (omega arith, tt)))))
+]
+
+pub encoded : (c : ℕ) → (head : ℕ) × (tail : List ℕ) × (encode_utf8 c ≡ head ∷ tail)
+encoded c = elim (at-most-or-more 128 c) [ inl high ↦ let w = wide-bytes c high in (w.0, w.1, w.2) | inr low ↦ (c, [], encode_ascii c (omega (arith, low))) ]
 
 -- an allowed character is a code point
 pub allowed_inside : (c : ℕ) → is_allowed c ≡ true → OutOfScalarRange c → ⊥
@@ -23,8 +279,7 @@ read_allowed bytes code left h = by (any_at bytes) refl h where
 
 pub read_whole : (s : Step ℕ) (code : ℕ) (left : List ℕ) → ReadSo s (Some code) left → DecodesSo s (Whole code)
 read_whole (Ok (c, rest)) code left h = h.0
-read_whole (Err []) code left h = absurd h
-read_whole (Err (b ∷ rest)) code left h = absurd h
+read_whole (Err rest) code left h = absurd h
 
 pub read_more : (s : Step ℕ) (left : List ℕ) → ReadSo s None left → (length left == 0) ≡ true → DecodesSo s More
 read_more (Ok (c, rest)) left h e = absurd h

@@ -1,13 +1,14 @@
 -- What is found where nothing refuses the bytes is among their parts, behind exactly the parts before it, and each part of bytes stands in them.
 use Rattle.std.proofs.Common.{◌≡◌, ◌≢◌, ℕ, ◌+◌, ◌-◌, ◌<◌, ◌≤◌, Bool, true, false, not, ◌&&◌, ◌⊎◌, inl, inr, Option, Some, None, Ok, List, [], ◌∷◌, ◌++◌, codes, map, length, take, refl, sym, ap, subst, ◌∙◌, arith, append_assoc, encode_utf8}
-use Rattle.cds_markup.proofs.Terms.{nat_tests, append-nil, length-append, encode_ascii, INPUT_LIMIT, is_blank, Attr, Part, Start, End, Run, Tag, Content, Inside, Open, OpenText, Leaf, is_text, Text, is_in_text, IsText, IsLeaf, TagEnds, LeafEnds, CanGoOn, Opens, TextByte, opened, reading, marks, Token, given, PartsAreFound, Reading, judge, text_or, text_with, begun_text, or_here, marked, is_in_content, TextGiven, Slashed as Slash-turn, Blanks, Epilog, PartsBegin, parts_of, leaf_parts, OpensParts, first_non_blank, Telling, telling, begin_telling, told_on, told_within, IsPlain, IsBegun, Clear, TagGiven, PartsGiven, StartStands, TextStands, Stands, closes_section, brackets_with, line_ends, Mode, empty-is, and-first, and-second, and-no, and-both, and-so, no-cons, none-behind, some-is, clash, cases, heads, same_from_push, Grammar-reference as Reference, Grammar-section as Section, Grammar-comment as Comment}
+use Rattle.cds_markup.proofs.Terms.{nat_tests, append-nil, length-append, encode_ascii, INPUT_LIMIT, is_blank, Attr, Part, Start, End, Run, Tag, Content, Inside, Open, OpenText, Leaf, is_text, Text, is_in_text, IsText, IsLeaf, TagEnds, LeafEnds, CanGoOn, Opens, TextByte, opened, reading, marks, Token, given, PartsAreFound, Reading, judge, text_or, text_with, begun_text, or_here, marked, is_in_content, TextGiven, Slashed as Slash-turn, Blanks, Epilog, PartsBegin, parts_of, leaf_parts, OpensParts, first_non_blank, Telling, telling, begin_telling, told_on, told_within, IsPlain, IsBegun, Clear, TagGiven, PartsGiven, StartStands, TextStands, Stands, closes_section, brackets_with, line_ends, Mode, empty-is, and-first, and-second, and-no, and-both, and-so, no-cons, none-behind, some-is, clash, cases, heads, same_from_push, Grammar-reference as Reference, Grammar-section as Section, Grammar-comment as Comment, by-test}
 use Rattle.cds_markup.specs.declared.name.Name.{Name}
 use Rattle.cds_markup.specs.GivenParts.{Given}
 use Rattle.cds_markup.proofs.GoingOn.{result-by, NoneBefore, front-of, judged-so, judged-cause, cause-refuses, goes-on, taken}
 use Rattle.cds_markup.proofs.TokenTold.{byte-more, told-append, parts-at, parts-behind, parts-told, last-one, came-so, text-so}
 use Rattle.cds_markup.proofs.Trails.{Tags, Shuts, Cuts, Where, Within, behind, sign, tag-to, tags-to, Keeps, Trail, trail-means, trail-opens, Front, front-less, ends-in, place-in, is-open, tag-at, tag-found, opens-found, opens-is, At-prolog, At-more, Closes, Grows, Leaves, root-trail, alone-trail, place-trail, slash-trail, chars-of, chars-plain, ToldAt, Late, letters-at, trail-told, gives, begun-high, read-to}
 use Rattle.cds_markup.proofs.GivenLaws.{parts-are-one, parts-are-given}
-use Rattle.cds_markup.proofs.Ways.{encoded, wide-bytes, bytes_of}
+use Rattle.cds_markup.proofs.Ways.{bytes_of}
+use Rattle.cds_markup.proofs.Decoded.{encoded, wide-bytes}
 use Rattle.cds_markup.proofs.ScanForms.{clean, small-or-wide}
 use Rattle.cds_markup.proofs.Standing.{TagParts, InText, ends_by}
 use Rattle.cds_markup.proofs.Placing.{no-blank}
@@ -33,10 +34,6 @@ within-limit bytes front at c f =
 given-late : (bytes front rest : List ℕ) (parts ps : List Part) (mode : Mode) (opens : List Open) → Given bytes parts → bytes ≡ front ++ rest → Late INPUT_LIMIT mode opens front ps → (later : List Part) × (parts ≡ ps ++ later)
 given-late bytes front rest parts ps mode opens g e s = (_, given-front bytes front rest parts ps (telling (reading [] mode opens) (marks s.begin None) (length front)) g e s.told)
 
-tag-late : (empty : Bool) (tag : Tag) (tags : List Tag) (front : List ℕ) (ps : List Part) → ToldAt INPUT_LIMIT (tag-to empty) (tags-to empty tag tags) front ps → (mode : Mode) × (opens : List Open) × Late INPUT_LIMIT mode opens front ps
-tag-late true tag tags front ps s = (_, _, s.0)
-tag-late false tag tags front ps s = (_, _, s)
-
 -- start tags
 starts : (bytes : List ℕ) (parts : List Part) → Given bytes parts → (tags : List Tag) (begin at : ℕ) (tag : Tag) → (found : TagEnds bytes tags begin at tag) → Clear bytes at → TagGiven bytes parts tags begin at tag found.before
 starts bytes parts given tags begin at tag f clear =
@@ -49,7 +46,7 @@ starts bytes parts given tags begin at tag f clear =
     let r = opens-found bytes (at + 1) (none-upto bytes at clear) tags f.before f.opens (front-less bytes (at + 1) (none-upto bytes at clear) f.before start front) in
     let k = tag-found bytes (at + 1) (none-upto bytes at clear) (place-in tags b) tags f.before start r.0 tag empty.0 o r.1 (record { inside = f.inside; spelled = ap (λ x. 60 ∷ (f.inside ++ x ∷ [])) empty.1; is = f.is_tag }) front in
     let first : Part = Start (length f.before) (length f.before + 1 + length f.inside) k.0.0 k.0.1 in
-    let s = tag-late empty.0 tag tags (f.before ++ start) (r.0 ++ first ∷ []) (trail-told INPUT_LIMIT k.2 (within-limit bytes (f.before ++ start) at clear front)) in
+    let s = by-test (λ b. ToldAt INPUT_LIMIT (tag-to b) (tags-to b tag tags) (f.before ++ start) (r.0 ++ first ∷ []) → (mode : Mode) × (opens : List Open) × Late INPUT_LIMIT mode opens (f.before ++ start) (r.0 ++ first ∷ [])) (λ s. (_, _, s.0)) (λ s. (_, _, s)) empty.0 (trail-told INPUT_LIMIT k.2 (within-limit bytes (f.before ++ start) at clear front)) in
     let g = given-late bytes (f.before ++ start) f.rest parts (r.0 ++ first ∷ []) s.0 s.1 given all s.2 in
     record {
       name = k.0.0;
@@ -98,7 +95,7 @@ first-at [] k at [] place i l cut f = absurd (cc)
 first-at [] k at (b ∷ ys) place i l (inl z) f = no-cons (sym z)
 first-at [] k at (b ∷ ys) place i l (inr g) f = first-high at k b ys place (begun-high b ys g) f
 first-at (c ∷ cs) k at begun place i l cut f = elim (small-or-wide c) [
-  | inr high ↦ let w = wide-bytes c high in rw w.is (first-high at k w.head ((w.tail ++ bytes_of cs) ++ begun) place w.high.0 (rw w.is at f))
+  | inr high ↦ let w = wide-bytes c high in rw w.2 (first-high at k w.0 ((w.1 ++ bytes_of cs) ++ begun) place w.3.0 (rw w.2 at f))
   | inl low ↦
       let one = encode_ascii c low in
       let g : first_non_blank at (c ∷ (bytes_of cs ++ begun)) ≡ Some place = rw one at f in
@@ -148,7 +145,7 @@ text-byte bytes tag outer before text begun rest earlier at tr e plain cut first
       opens : (pre : List ℕ) → InText pre → clean 0 pre ≡ true → Opens (tag ∷ outer) (before ++ bytes_of pre)
       opens [] i c = subst (Opens (tag ∷ outer)) (sym (append-nil before)) (opens-is (tag ∷ outer) before earlier (trail-opens tt tr))
       opens (x ∷ pre) i c =
-          let leaf : IsText (bytes_of (x ∷ pre)) (bytes_of (x ∷ pre)) = record { characters = chars-plain (x ∷ pre) i c; some = λ d. no-cons (sym d ∙ ap (λ xs. xs ++ bytes_of pre) (encoded x).is) } in
+          let leaf : IsText (bytes_of (x ∷ pre)) (bytes_of (x ∷ pre)) = record { characters = chars-plain (x ∷ pre) i c; some = λ d. no-cons (sym d ∙ ap (λ xs. xs ++ bytes_of pre) (encoded x).2) } in
           opens-is (tag ∷ outer) (before ++ bytes_of (x ∷ pre)) _ (trail-opens tt (At-more tr (Leaves false (Text (bytes_of (x ∷ pre))) leaf refl)))
 
 -- Each part of bytes stands in them.
@@ -299,7 +296,6 @@ no-text [] e = absurd (cc)
 no-text (t ∷ outer) e = absurd (cc)
 
 last-text : {w : Where} {tags : List Tag} {front : List ℕ} {parts : List Part} → Trail w tags front parts → w ≡ Within true → Behind-text tags front
-last-text (At-prolog p) e = absurd (cc)
 last-text (At-more {earlier = earlier} t (Leaves {tag} {outer} {before} {bytes} b (Text text) h a)) e = record {
   before = before;
   earlier = earlier;
@@ -308,12 +304,10 @@ last-text (At-more {earlier = earlier} t (Leaves {tag} {outer} {before} {bytes} 
   spelled = refl;
   plain = record { says = refl; characters = h.characters.characters; each = h.characters.each; none = h.characters.none };
 }
-last-text (At-more t (Leaves b other h a)) e = absurd (cc)
 last-text (At-more t (Tags w true name attrs end k p keeps place)) e = absurd (cc)
-last-text (At-more t (Tags w false name attrs end k p keeps place)) e = absurd (cc)
 last-text (At-more t (Shuts {tags} end place)) e = absurd (no-text tags e)
 last-text (At-more t (Closes {outer} b tag h)) e = absurd (no-text outer e)
-last-text (At-more t (Cuts text begun plain cut)) e = absurd (cc)
+last-text other e = absurd (cc)
 
 behind-text : (b : Bool) (tags : List Tag) (front : List ℕ) (parts : List Part) → Trail (Within b) tags front parts → Behind-text tags front
 behind-text true tags front parts t = last-text t refl

@@ -1,14 +1,15 @@
 -- The parts of an element, nested and joined, are what the element means; what any bytes are answered; and byte by byte, that what the
 -- reader gives is the parts up to a place of the grammar, behind which no others come.
 use Rattle.std.proofs.Common.{take, encode_utf8, ◌≡◌, ℕ, ◌+◌, Some, List, [], ◌∷◌, ◌++◌, length, refl, sym, ap, ◌∙◌, append_assoc, ◌==◌, ◌≤◌, Bool, true, false, cond, None, Ok, Err, subst, arith, inl, inr, Result, ◌≢◌, ◌⊎◌, ◌-◌, not, ◌&&◌, ◌<◌}
-use Rattle.cds_markup.proofs.Terms.{Grammar-content, append-nil, length-append, nat_tests, INPUT_LIMIT, Part, Start, End, Blanks, Epilog, Inside, MarkupError, Bad, TooDeep, TooLong, Failed, Mem, Less, Tree, EmptyElement, Full, Nothing, LeafThen, TreeThen, IsTree, IsContent, IsDocument, declarations, tag_says, Meaning, Meanings, ChildThen, meaning, meanings, DocOf, Doc, TreeParts, ContentParts, leaf_parts, nested, misc_step, epilog_move, step, Reading, reading, may_begin_name, byte_step, answer_of, marks, Telling, telling, begin_telling, told, told_within, CanGoOn, IsTooDeep, IsBad, Refuses, IsFirst, IsRefused, Verdict, AllAreAnswered, AnswersAreSo, AnswersAreExact, OneAnswer, Broken, Deep, NamespaceRule, Stop, may_end, refusal, Childless, OutOfMemory, cases_lt, Turn, Content, Slashed, Tag, is_in_text, is_empty, any_at, Token, Letter, given, Given, step_turn, judge, is_in_content, ended_text, last_part, passed_over, marked, begins, cuts_text, parts_of, last_parts, IsBegun, PartsTo, Tells, PartsAreGiven, PartsAreOne, PartsStandBefore, PartsAreTold, PartsAreOfRoots, OneTelling, NothingCountsPastTheLimit, LeavesHaveOneEnd, AllIsTold, OneElement, next-by, clash, heads, ok-err, none-behind, Takes, cases, some-is, DocumentParts}
+use Rattle.cds_markup.proofs.Terms.{begins, Grammar-content, append-nil, length-append, nat_tests, INPUT_LIMIT, Part, Start, End, Blanks, Epilog, Inside, MarkupError, Bad, TooDeep, TooLong, Failed, Mem, Less, Tree, EmptyElement, Full, Nothing, LeafThen, TreeThen, IsTree, IsContent, IsDocument, declarations, tag_says, Meaning, Meanings, ChildThen, meaning, meanings, DocOf, Doc, TreeParts, ContentParts, leaf_parts, nested, misc_step, epilog_move, step, Reading, reading, may_begin_name, byte_step, answer_of, marks, Telling, telling, begin_telling, told, told_within, CanGoOn, IsTooDeep, IsBad, Refuses, IsFirst, IsRefused, Verdict, AllAreAnswered, AnswersAreSo, AnswersAreExact, OneAnswer, Broken, Deep, NamespaceRule, Stop, may_end, refusal, Childless, OutOfMemory, cases_lt, Turn, Content, Slashed, Tag, is_in_text, is_empty, any_at, Token, Letter, given, Given, step_turn, judge, is_in_content, ended_text, last_part, passed_over, marked, cuts_text, parts_of, last_parts, IsBegun, PartsTo, Tells, PartsAreGiven, PartsAreOne, PartsStandBefore, PartsAreTold, PartsAreOfRoots, OneTelling, NothingCountsPastTheLimit, LeavesHaveOneEnd, AllIsTold, OneElement, next-by, clash, heads, ok-err, none-behind, Takes, cases, some-is, DocumentParts}
 use Rattle.cds_markup.specs.declared.tag.Declaration.{Declaration}
 use Rattle.cds_markup.proofs.Built.{TreeTold, tree-told, no-misc}
 use Rattle.cds_markup.proofs.Standing.{parts-of, Standing, closed, Stands, leaf_token, Leaf-of, begin, piece-said, misc-way}
 use Rattle.cds_markup.proofs.GoingOn.{Reached, taken, refused, document-ends, goes-on, ends-document, Unfinished, longer, no-both, begun-done, option-by, result-by, deep-parts, same-front, front-of, is-deep, NoneBefore, refuses-inside, CauseAt, ends-short, character-name, judged-so}
 use Rattle.cds_markup.proofs.TokenTold.{byte-more, parts-at, answer-at, answer-told, parts-told, quiet-told, told-ends, Stopped, came-so, Came, told-keeps}
 use Rattle.cds_markup.proofs.Trails.{Front, Outside, At-prolog, tree-trail, trail-means, tree-found, tree-is, trail-told, whole-last, cause-so, read-to, Within, Trail, trail-as, At-more, Cuts, front-less, ends-in, place-in, is-open, tag-found, opens-found, trail-place, gives, chars-plain}
-use Rattle.cds_markup.proofs.Ways.{at-most-or-more, bytes_of, decodes, Allowed, same-first, found, then-of}
+use Rattle.cds_markup.proofs.Ways.{bytes_of, Allowed, same-first, then-of}
+use Rattle.cds_markup.proofs.Decoded.{at-most-or-more, decodes, found}
 use Rattle.cds_markup.proofs.Placing.{Goes, InMode, TagsOf, content-stands}
 use Rattle.cds_markup.specs.Parts.{Says}
 use Rattle.cds_markup.specs.GivenParts.{Given as GivenOf}
@@ -168,13 +169,9 @@ not-long bytes at x first long = elim first.short [ inl less ↦ long.1 at less 
 -- Bytes are refused in one way.
 one-refusal : (bytes : List ℕ) (e f : MarkupError) → IsRefused bytes e → IsRefused bytes f → e ≢ Mem → f ≢ Mem → e ≡ f
 one-refusal bytes (Bad a) (Bad b) x y m n = ap (λ p. Bad p) (one-place bytes a b x.1.none_before y.1.none_before (inl x.0) (inl y.0))
-one-refusal bytes (Bad a) (TooDeep b) x y m n =
-    let same = one-place bytes a b x.1.none_before y.1.none_before (inl x.0) (inr y.0) in
-    absurd (never-both bytes a x.1.none_before x.0 (subst (IsTooDeep bytes) (sym same) y.0))
+one-refusal bytes (Bad a) (TooDeep b) x y m n = absurd (never-both bytes a x.1.none_before x.0 (subst (IsTooDeep bytes) (one-place bytes b a y.1.none_before x.1.none_before (inr y.0) (inl x.0)) y.0))
 one-refusal bytes (Bad a) TooLong x y m n = absurd (not-long bytes a (inl x.0) x.1 y)
-one-refusal bytes (TooDeep a) (Bad b) x y m n =
-    let same = one-place bytes a b x.1.none_before y.1.none_before (inr x.0) (inl y.0) in
-    absurd (never-both bytes a x.1.none_before (subst (IsBad bytes) (sym same) y.0) x.0)
+one-refusal bytes (TooDeep a) (Bad b) x y m n = absurd (never-both bytes b y.1.none_before y.0 (subst (IsTooDeep bytes) (one-place bytes a b x.1.none_before y.1.none_before (inr x.0) (inl y.0)) x.0))
 one-refusal bytes (TooDeep a) (TooDeep b) x y m n = ap (λ p. TooDeep p) (one-place bytes a b x.1.none_before y.1.none_before (inr x.0) (inr y.0))
 one-refusal bytes (TooDeep a) TooLong x y m n = absurd (not-long bytes a (inr x.0) x.1 y)
 one-refusal bytes TooLong (Bad b) x y m n = absurd (not-long bytes b (inl y.0) y.1 x)

@@ -2,9 +2,10 @@
 -- What is judged at a byte is a cause there, or there is none.
 use Rattle.std.proofs.Common.{◌≡◌, ◌==◌, ℕ, ◌≤◌, Bool, true, false, cond, ◌⊎◌, inl, inr, Ok, Err, List, [], ◌∷◌, ◌++◌, drop, length, refl, sym, ap, subst, ◌∙◌, arith, append_assoc, encode_utf8, Option, Some, None, Result, ◌+◌, map, ◌<◌, nat_lt, ◌&&◌, take}
 use Rattle.cds_markup.proofs.Terms.{Decides-eqb, Stops, Gone, append-nil, length-append, starts_is, encode_ascii, is_allowed, EndTag, Mode, Begin, Inside, Open, name_bytes, byte_order_mark, Tree, IsDocument, Step, any_at, Token, begins_with, end_name_step, Move, To, inside_move, step, comes, Reading, reading, takes_wide, may_begin, moved, go_on, byte_step, is_behind, may_end, CanGoOn, is_empty, nat_tests, take-append_seam, begins_name, Attr, Tag, NamespaceRule, Deep, Broken, Content, Less, Stop, tag_says, declarations, scopes_of, BreaksRule, GoOnOrBreak, Opens, IsTooDeep, Refuses, BreaksAt, EndsShort, Started, Slash, opened, Given, tag_given, scopes_in, is_missing, breaks_rule, may_begin_name, begins_tag, is_deep, judge, nothing_read, Character, most_open, Done, ends_tag, OutOfMemory, append_cancel_left, length-map, steps-then, and-both, heads, empty-is, clash, cases, ok-err}
-use Rattle.cds_markup.proofs.Ways.{Steps, steps-on, is-byte, none-behind, and-first, and-second, no-cons, some-is, mark-bytes, found, bytes_of, Allowed, decodes, stuck, viable, bytes-append, allowed-append, allowed-back, same-first, cut, Spell, AtBegin, Place, place, P, Runs, Ends, steps-behind, allowed-at-most, ranges, lead-begins, plain-bytes, encode-two, encode-three, encode-four, at-most-or-more, landing}
-use Rattle.cds_markup.proofs.ScanForms.{small-or-wide}
-use Rattle.cds_markup.proofs.Placing.{WellMode, WellMove, well-step, is_to, Goes, PlainMode, narrow-marked, no-blank, no-sign, wide, InMode, TagsOf, InMove, in-whole, step-in, document-is, TagWords, less-words}
+use Rattle.cds_markup.proofs.Ways.{Steps, steps-on, is-byte, none-behind, and-first, and-second, no-cons, some-is, mark-bytes, bytes_of, Allowed, bytes-append, allowed-append, allowed-apart, same-first, cut, Spell, AtBegin, Place, place, P, Runs, Ends, steps-behind, plain-bytes, landing}
+use Rattle.cds_markup.proofs.Decoded.{found, decodes, stuck, viable, allowed-at-most, ranges, lead-begins, encode-two, encode-three, encode-four, at-most-or-more}
+use Rattle.cds_markup.proofs.ScanForms.{small-or-wide, no-sign}
+use Rattle.cds_markup.proofs.Placing.{WellMode, WellMove, well-step, is_to, Goes, PlainMode, narrow-marked, no-blank, wide, InMode, TagsOf, InMove, in-whole, step-in, document-is, TagWords, less-words}
 use Rattle.cds_markup.proofs.Alive.{Spelling, document-led, alive, open-tag-run, open-by, open-at}
 use Rattle.cds_markup.specs.declared.name.Name.{Name as FullName}
 use Rattle.cds_markup.proofs.Standing.{last-same}
@@ -52,18 +53,13 @@ longer (c ∷ a) x (d ∷ b) y e =
     ]
 
 -- one more byte
-pub record IsDone (bytes : List ℕ) (c : ℕ) (left : List ℕ) : Type 0 where
-  pub none : left ≡ []
-  pub is : bytes ≡ encode_utf8 c
-  pub allowed : is_allowed c ≡ true
-
 pub no-both : {X : Type 0} (bytes : List ℕ) (c : ℕ) (left rest : List ℕ) → any_at bytes ≡ Ok (c, left) → any_at bytes ≡ Err rest → X
 no-both bytes c left rest e f = ok-err (sym e ∙ f)
 
-pub done : (begun : List ℕ) (b c : ℕ) (left : List ℕ) → Unfinished begun → any_at (begun ++ b ∷ []) ≡ Ok (c, left) → IsDone (begun ++ b ∷ []) c left
+pub done : (begun : List ℕ) (b c : ℕ) (left : List ℕ) → Unfinished begun → any_at (begun ++ b ∷ []) ≡ Ok (c, left) → (begun ++ b ∷ [] ≡ encode_utf8 c) × (is_allowed c ≡ true)
 done begun b c left u e = let f = found (begun ++ b ∷ []) c left e in by left f.0 f.1 where
-  by : (left : List ℕ) → begun ++ b ∷ [] ≡ encode_utf8 c ++ left → is_allowed c ≡ true → IsDone (begun ++ b ∷ []) c left
-  by [] e ok = record { none = refl; is = e ∙ append-nil (encode_utf8 c); allowed = ok }
+  by : (left : List ℕ) → begun ++ b ∷ [] ≡ encode_utf8 c ++ left → is_allowed c ≡ true → (begun ++ b ∷ [] ≡ encode_utf8 c) × (is_allowed c ≡ true)
+  by [] e ok = (e ∙ append-nil (encode_utf8 c), ok)
   by (x ∷ y) e ok = elim (longer begun (b ∷ []) (encode_utf8 c) (x ∷ y) e) [
     | inl h ↦ no-both begun c h.0 [] (ap any_at h.1 ∙ decodes c h.0 ok) u
     | inr h ↦ absurd (omega (arith, ap length e ∙ length-append (encode_utf8 c) (x ∷ y), ap length h.2 ∙ length-append begun (h.0 ∷ h.1), length-append begun (b ∷ [])))
@@ -89,7 +85,7 @@ begins-prefix left bytes e = (drop (length bytes) left, (starts_is Decides-eqb l
 
 end-complete : (o : Open) (outer : List Open) (n c : ℕ) (bytes more : List ℕ) → 128 ≤ c → encode_utf8 c ≡ bytes ++ more → (left : List ℕ) → Goes (inside_move (o ∷ outer) (end_name_step n left outer c)) → begins_with left bytes ≡ true
 end-complete o outer n c bytes more high e [] g =
-    stops-not (inside_move (o ∷ outer) (end_name_step n [] outer c)) (rw (no-blank c high, no-sign c high 62 (omega arith)) refl) g
+    stops-not (inside_move (o ∷ outer) (end_name_step n [] outer c)) (rw (no-blank c high, no-sign c 62 high (omega arith)) refl) g
 end-complete o outer n c bytes more high e (x ∷ left) g =
     cases (begins_with (x ∷ left) (encode_utf8 c)) (λ d. let p = begins-prefix (x ∷ left) (encode_utf8 c) d in prefix-begins (x ∷ left) bytes (more ++ p.0) (p.1 ∙ ap (λ xs. xs ++ p.0) e ∙ append_assoc bytes more p.0))
     (λ d. stops-not (inside_move (o ∷ outer) (end_name_step n (x ∷ left) outer c)) (rw d refl) g)
@@ -119,7 +115,7 @@ onward : (front : List ℕ) (r : Reading) (more : List ℕ) (q : Reached front r
     → (left : List ℕ) × (r.begun ++ more ≡ bytes_of left) × Allowed left × Runs r.mode r.opens left m o
 onward front r more q text m o ok e ran =
     let c = cut text q.text (r.begun ++ more) ok q.allowed (sym e ∙ ap (λ xs. xs ++ more) q.spelled ∙ append_assoc (bytes_of q.text) r.begun more) in
-    (c.0, c.2, allowed-back q.text c.0 (subst Allowed c.1 ok), steps-behind P q.text c.0 (Begin, []) (r.mode, r.opens) (m, o) q.ran (subst (λ xs. Runs Begin [] xs m o) c.1 ran))
+    (c.0, c.2, (allowed-apart q.text c.0 (subst Allowed c.1 ok)).1, steps-behind P q.text c.0 (Begin, []) (r.mode, r.opens) (m, o) q.ran (subst (λ xs. Runs Begin [] xs m o) c.1 ran))
 
 -- what is read is where its characters run to
 pub told : (front : List ℕ) (r : Reading) (q : Reached front r) (text : List ℕ) (m : Mode) (o : List Open) → Allowed text → front ≡ bytes_of text → Runs Begin [] text m o → (r.begun ≡ []) × (r.mode ≡ m) × (r.opens ≡ o)
@@ -138,7 +134,7 @@ module _ (r : Reading) (b : ℕ) (more : List ℕ) (well : WellMode r.mode r.ope
     by : (s : Step ℕ) → any_at bytes ≡ s → go_on r.mode r.opens bytes s ≡ None → ⊥
     by (Ok (d, rest)) e f =
         let n = done r.begun b d rest u e in
-        let s = same-first d c more (bytes_of left) n.allowed ok (ap (λ xs. xs ++ more) (sym n.is) ∙ is) in
+        let s = same-first d c more (bytes_of left) n.1 ok (ap (λ xs. xs ++ more) (sym n.0) ∙ is) in
         stops-not (step r.mode r.opens c) (ap (step r.mode r.opens) (sym s.0) ∙ none-moved (step r.mode r.opens d) f) goes
     by (Err []) e f = elim (longer bytes more (encode_utf8 c) (bytes_of left) is) [
       | inl h ↦ no-both bytes c h.0 [] (ap any_at h.1 ∙ decodes c h.0 ok) e
@@ -176,15 +172,15 @@ module _ (front : List ℕ) (r : Reading) (b : ℕ) (q : Reached front r) where
   taken-whole c left e Stops d w = tt
   taken-whole c left e (To mode opens vs) d w =
       let n = done r.begun b c left q.unfinished e in
-      let i = subst (λ m. InMove r.opens m (q.text ++ c ∷ [])) d (step-in r.mode r.opens q.text c q.allowed n.allowed q.words) in
+      let i = subst (λ m. InMove r.opens m (q.text ++ c ∷ [])) d (step-in r.mode r.opens q.text c q.allowed n.1 q.words) in
       let bytes : front ++ b ∷ [] ≡ bytes_of (q.text ++ c ∷ []) =
-      ap (λ xs. xs ++ b ∷ []) q.spelled ∙ append_assoc (bytes_of q.text) r.begun (b ∷ []) ∙ ap (λ xs. bytes_of q.text ++ xs) (n.is ∙ sym (append-nil (encode_utf8 c))) ∙ sym (bytes-append q.text (c ∷ []))
+      ap (λ xs. xs ++ b ∷ []) q.spelled ∙ append_assoc (bytes_of q.text) r.begun (b ∷ []) ∙ ap (λ xs. bytes_of q.text ++ xs) (n.0 ∙ sym (append-nil (encode_utf8 c))) ∙ sym (bytes-append q.text (c ∷ []))
       in
       record {
         reached = record {
           text = q.text ++ c ∷ [];
           spelled = bytes ∙ sym (append-nil (bytes_of (q.text ++ c ∷ [])));
-          allowed = allowed-append q.text (c ∷ []) q.allowed (n.allowed, tt);
+          allowed = allowed-append q.text (c ∷ []) q.allowed (n.1, tt);
           well = w (in-whole mode opens (q.text ++ c ∷ []) i.0);
           ran = steps-on P q.text (Begin, []) (r.mode, r.opens) (mode, opens) c q.ran (ap place d);
           words = i.0;
@@ -213,7 +209,7 @@ module _ (front : List ℕ) (r : Reading) (b : ℕ) (q : Reached front r) where
   pub taken : (s : Reading) (us : List Token) → byte_step r b ≡ Some (s, us) → Taken front r b q s us
   taken s us f = subst TakenIf f (by (any_at all) refl) where
     by : (m : Step ℕ) → any_at all ≡ m → TakenIf (go_on r.mode r.opens all m)
-    by (Ok (c, left)) e = taken-whole c left e (step r.mode r.opens c) refl (well-step r.mode r.opens c (done r.begun b c left q.unfinished e).allowed q.well)
+    by (Ok (c, left)) e = taken-whole c left e (step r.mode r.opens c) refl (well-step r.mode r.opens c (done r.begun b c left q.unfinished e).1 q.well)
     by (Err []) e = taken-part e (may_begin r.mode r.opens all) refl
     by (Err (x ∷ y)) e = tt
 

@@ -1,10 +1,10 @@
 -- What is kept of every state: words are of ASCII, numbers are no more than a code point, names are whole characters.
 -- Where a character leads inside a token.
 use Rattle.std.proofs.Common.{codes, ◌≡◌, ◌==◌, ℕ, List, [], ◌∷◌, drop, true, cond, ◌⊎◌, inl, inr, ◌++◌, map, refl, sym, ap, subst, ◌∙◌, arith, append_assoc, ◌≤◌, Bool, false, Option, Some, None, encode_utf8, length, ◌<◌, nat_lt}
-use Rattle.cds_markup.proofs.Terms.{nat_tests, Stops, append-nil, is_allowed, begins_name, Opened, Turn, Content, Less, Cdata, StartTag, Slashed, EndTag, Open, Tag, Blanks, Mode, Inside, Epilog, name_bytes, IsTag, IsProlog, Tree, IsDocument, comes, leads, end_name_step, step_turn, Token, Started, Slash, Given, opened, Opens, Move, To, misc_step, is_behind, is_over, inside_move, step, Grammar-reference as Ref, Grammar-section as Sect, Decides-eqb, drop-drop, Referring, Entity, Number, Valuing, Attributing, Value, Tagging, Attribute, Bang, Dash, Comment, Section, Reference, is_quote, Next, Stuck, On, Done, step_reference, value_step, step_value, step_attr, step_tag, step_comment, step_section, given, tag_given, start_step, section_step, begins_with, Stage, Version, Closing, Declaring, Xml, Gap, PartName, PartEquals, PartValue, YesOrNo, BehindPart, Misc, MiscLess, MiscComment, First, Declaration, Prolog, behind, is_letter, step_declaration, prolog_move, starts_is, list_all, is_blank, is_in_name, Naming, AttrName, Name, Tagged, Encoding, Begin, TagAttr, goes_with, is_whole, name_of, base_of, valuing, attr_of, named_or, named_step, ends_tag, tag_named, with_attr, tagged_step, Commented, Referred, declaration_move, marked_move, is_none, wide_attr, wide_tag, wide_turn, wide_misc, takes_wide, is_digit, Letter}
-use Rattle.cds_markup.proofs.Ways.{then-of, next-by, cases, is-byte, Takes, Steps, steps-on, steps-done, holds, holds-if, leads-any, Anything, only-if, bytes_of, Allowed, bytes-append, plain-bytes, less-bytes, allowed-append, allowed-back, Early, AtBegin, mode_of, early_next, step-is, place, P, Runs, Ends, by-test, holds-leads, holds-named, and-second, cut, is_ascii, ascii-rest, Spell, ascii-first}
+use Rattle.cds_markup.proofs.Terms.{nat_tests, Stops, append-nil, is_allowed, begins_name, Opened, Turn, Content, Less, Cdata, StartTag, Slashed, EndTag, Open, Tag, Blanks, Mode, Inside, Epilog, name_bytes, IsTag, IsProlog, Tree, IsDocument, comes, leads, end_name_step, step_turn, Token, Started, Slash, Given, opened, Opens, Move, To, misc_step, is_behind, is_over, inside_move, step, Grammar-reference as Ref, Decides-eqb, drop-drop, Referring, Entity, Number, Valuing, Attributing, Value, Tagging, Attribute, Bang, Dash, Comment, Section, Reference, is_quote, Next, Stuck, On, Done, step_reference, value_step, step_value, step_attr, step_tag, step_comment, step_section, given, tag_given, start_step, section_step, begins_with, Stage, Version, Closing, Declaring, Xml, Gap, PartName, PartEquals, PartValue, YesOrNo, BehindPart, Misc, MiscLess, MiscComment, First, Declaration, Prolog, is_letter, step_declaration, prolog_move, starts_is, list_all, is_blank, is_in_name, Naming, AttrName, Name, Tagged, Encoding, Begin, TagAttr, goes_with, is_whole, name_of, base_of, valuing, attr_of, named_or, named_step, ends_tag, tag_named, with_attr, tagged_step, Commented, Referred, declaration_move, marked_move, is_none, wide_attr, wide_tag, wide_turn, wide_misc, takes_wide, is_digit, Letter}
+use Rattle.cds_markup.proofs.Ways.{then-of, next-by, cases, is-byte, Takes, Steps, steps-on, steps-done, holds, holds-if, leads-any, Anything, only-if, bytes_of, Allowed, bytes-append, plain-bytes, less-bytes, allowed-append, allowed-apart, Early, AtBegin, mode_of, early_next, step-is, place, P, Runs, Ends, by-test, holds-leads, holds-named, and-second, cut, is_ascii, ascii-rest, Spell, ascii-first}
 use Rattle.cds_markup.proofs.Standing.{AllWhole, Piece, Character-of, Leaf-of, Tag-of, End-of, TagCases, Standing, closed, Stands, Leads, piece-stands, shut-stands, opens-whole, tag-stands, piece-reads, start-reads, tag-form, T, misc-is, prolog-word}
-use Rattle.cds_markup.proofs.ScanForms.{low-with}
+use Rattle.cds_markup.proofs.ScanForms.{low-with, no-sign}
 
 -- words of ASCII, in allowed characters
 abbrev pub Ascii : List ℕ → Type 0
@@ -120,7 +120,7 @@ well-end o outer n c ok (b ∷ left) e s =
     let goes = λ (d : begins_with (b ∷ left) (encode_utf8 c) ≡ true).
     let is = (starts_is Decides-eqb (b ∷ left) (encode_utf8 c) (begins_with (b ∷ left) (encode_utf8 c)) refl).0 d in
     let r = cut s.text (c ∷ []) (drop m (b ∷ left)) s.allowed (ok, tt) (sym s.spelled ∙ is ∙ ap (λ xs. xs ++ drop m (b ∷ left)) (sym (append-nil (encode_utf8 c)))) in
-    subst Spell (sym (sym (drop-drop m n (name_bytes o.name)) ∙ ap (drop m) e ∙ r.2)) (record { text = r.0; spelled = refl; allowed = allowed-back (c ∷ []) r.0 (subst Allowed r.1 s.allowed) })
+    subst Spell (sym (sym (drop-drop m n (name_bytes o.name)) ∙ ap (drop m) e ∙ r.2)) (record { text = r.0; spelled = refl; allowed = (allowed-apart (c ∷ []) r.0 (subst Allowed r.1 s.allowed)).1 })
     in
     search (holds-if, goes)
 
@@ -196,8 +196,7 @@ prolog-well opens (On m) c h = λ all. h
 prolog-well opens (Done u) c h = inside-well opens (start_step opens Opened c) (well-start opens Opened c tt)
 
 move-if : (b : Bool) (x y : Move) → WellMove x → WellMove y → WellMove (cond b x y)
-move-if true x y f g = f
-move-if false x y f g = g
+move-if b x y f g = by-test (λ t. WellMove (cond t x y)) f g b
 
 -- It is kept by every step.
 pub well-step : (mode : Mode) (opens : List Open) (c : ℕ) → is_allowed c ≡ true → WellMode mode opens → WellMove (step mode opens c)
@@ -235,9 +234,6 @@ PlainMode (Inside (EndTag n)) = ⊥
 PlainMode other = Unit {0}
 
 module _ (c : ℕ) (high : 128 ≤ c) where
-  pub no-sign : (k : ℕ) → k < 128 → (c == k) ≡ false
-  no-sign k low = grind (arith, nat_tests)
-
   pub no-blank : is_blank c ≡ false
   no-blank = grind (arith, nat_tests)
 
@@ -259,26 +255,26 @@ module _ (c : ℕ) (high : 128 ≤ c) where
 
   narrow-reference : (r : Referring) → WellReference r → step_reference r c ≡ Stuck
   narrow-reference (Entity [] code) w = refl
-  narrow-reference (Entity (b ∷ []) code) w = rw (no-sign b (ascii-first b [] w).0) refl
-  narrow-reference (Entity (b ∷ d ∷ left) code) w = rw (no-sign b (ascii-first b (d ∷ left) w).0) refl
-  narrow-reference (Number h value) w = rw (no-digit h, no-sign 59 (omega arith)) refl
+  narrow-reference (Entity (b ∷ []) code) w = rw (no-sign c b high (ascii-first b [] w).0) refl
+  narrow-reference (Entity (b ∷ d ∷ left) code) w = rw (no-sign c b high (ascii-first b (d ∷ left) w).0) refl
+  narrow-reference (Number h value) w = rw (no-digit h, no-sign c 59 high (omega arith)) refl
   narrow-reference other w = simp (signs, no-digit false)
 
   no-letter : (stage : Stage) (b : ℕ) → b < 128 → is_letter stage b c ≡ false
   no-letter Encoding b low = grind (arith, nat_tests)
-  no-letter other b low = no-sign b low
+  no-letter other b low = no-sign c b high low
 
   pub narrow-declaration : (d : Declaring) → WellDeclaring d → step_declaration d c ≡ Stuck
-  narrow-declaration (Xml (b ∷ left)) w = rw (no-sign b (ascii-first b left w).0) refl
+  narrow-declaration (Xml (b ∷ left)) w = rw (no-sign c b high (ascii-first b left w).0) refl
   narrow-declaration (Gap Version) w = simp signs
-  narrow-declaration (PartName stage (b ∷ left)) w = rw (no-sign b (ascii-first b left w.1).0) refl
+  narrow-declaration (PartName stage (b ∷ left)) w = rw (no-sign c b high (ascii-first b left w.1).0) refl
   narrow-declaration (PartValue stage quote []) w = let q = w.0 in let no : (c == quote) ≡ false = grind (arith, nat_tests) in rw no refl
   narrow-declaration (PartValue stage quote (b ∷ left)) w = rw (no-letter stage b (ascii-first b left w.1.0).0) refl
   narrow-declaration (BehindPart Version) w = simp signs
   narrow-declaration other w = simp signs
 
   pub narrow-marked : (opens : List Open) → marked_move opens c ≡ Stops
-  narrow-marked opens = rw (no-sign 60 (omega arith), no-blank) refl
+  narrow-marked opens = rw (no-sign c 60 high (omega arith), no-blank) refl
 
   module _ (ok : is_allowed c ≡ true) where
     begins : begins_name c ≡ true
@@ -312,9 +308,9 @@ module _ (c : ℕ) (high : 128 ≤ c) where
     comment-wide n = cases (nat_lt n 2) (λ e. rw e refl) (λ e. simp (e, signs))
 
     turn-wide : (turn : Turn) (opens : List Open) → WellTurn opens turn → PlainMode (Inside turn) → moves (step_turn turn opens c) ≡ wide_turn turn
-    turn-wide Less opens w p = rw (no-sign 47 (omega arith), no-sign 33 (omega arith)) (start-wide opens Opened tt)
+    turn-wide Less opens w p = rw (no-sign c 47 high (omega arith), no-sign c 33 high (omega arith)) (start-wide opens Opened tt)
     turn-wide (Comment n) opens w p = moves-leads (step_comment n c) Comment (λ over. Done (given Commented opens (Content 0))) (λ a. refl) ∙ comment-wide n
-    turn-wide (Cdata (b ∷ left)) opens w p = rw (no-sign b (ascii-first b left w.1).0) (grind (arith, nat_tests))
+    turn-wide (Cdata (b ∷ left)) opens w p = rw (no-sign c b high (ascii-first b left w.1).0) (grind (arith, nat_tests))
     turn-wide (Reference r) opens w p = ap (λ x. moves (leads x Reference (λ code. Done (given (Referred code) opens (Content 0))))) (narrow-reference r w.1)
     turn-wide (StartTag t) opens w p = start-wide opens t w
     turn-wide (EndTag n) opens w p = absurd p
@@ -335,7 +331,7 @@ module _ (c : ℕ) (high : 128 ≤ c) where
     -- Where a character of more than one byte goes on; a byte order mark and an end tag's name are for themselves.
     pub wide : (mode : Mode) (opens : List Open) → WellMode mode opens → PlainMode mode → is_to (step mode opens c) ≡ takes_wide mode
     wide Begin opens w p = absurd p
-    wide First opens w p = rw (no-sign 63 (omega arith)) (prolog-goes opens (misc_step MiscLess c) ∙ misc-wide MiscLess)
+    wide First opens w p = rw (no-sign c 63 high (omega arith)) (prolog-goes opens (misc_step MiscLess c) ∙ misc-wide MiscLess)
     wide (Declaration d) opens w p = ap (λ n. is_to (declaration_move opens n)) (narrow-declaration d w)
     wide (Prolog m) opens w p = prolog-goes opens (misc_step m c) ∙ misc-wide m
     wide (Inside turn) opens w p = inside-goes opens (step_turn turn opens c) ∙ turn-wide turn opens w.1 p
@@ -416,7 +412,6 @@ piece-tags : (n : ℕ) (opens : List Open) (bytes : List ℕ) (g : Given) → Pi
 piece-tags n opens bytes g (Tag-of t) tag o = t
 piece-tags n opens bytes g (Character-of c h d) tag o = absurd (subst (λ x. OfTag x.token tag) d o)
 piece-tags n opens bytes g (Leaf-of (Ref c) h isn d) tag o = absurd (subst (λ x. OfTag x.token tag) d o)
-piece-tags n opens bytes g (Leaf-of (Sect text) h isn d) tag o = absurd (subst (λ x. OfTag x.token tag) d o)
 piece-tags n opens bytes g (Leaf-of other h isn d) tag o = absurd (subst (λ x. OfTag x.token tag) d o)
 piece-tags n opens bytes g (End-of x os f h d) tag o = absurd (subst (λ x. OfTag x.token tag) d o)
 
@@ -544,7 +539,7 @@ inside-in turn opens text c (tags, o, p) ok =
     (next-by (step turn c) (λ e. rw e tt)
     (λ other e. rw e ((tags, refl, record { start = p.start; before = p.before; since = p.since ++ c ∷ []; spelled = whole; starts = p.starts; behind = steps-on step p.since p.start turn other c p.behind e }), tt))
     (λ g e.
-    let a = ends-of p.start tags p.before (p.since ++ c ∷ []) g p.starts (allowed-back p.before (p.since ++ c ∷ []) (subst Allowed whole ok)) (steps-done step p.since p.start turn c g p.behind e) in
+    let a = ends-of p.start tags p.before (p.since ++ c ∷ []) g p.starts (allowed-apart p.before (p.since ++ c ∷ []) (subst Allowed whole ok)).1 (steps-done step p.since p.start turn c g p.behind e) in
     let leads = subst (λ xs. Leads g (bytes_of xs)) (sym whole) a.0 in
     rw e (subst (λ os. InMode (cond (is_over os g.turn) (Epilog Blanks) (Inside g.turn)) os (text ++ c ∷ [])) (sym leads.1) (lands leads.0 g.turn (text ++ c ∷ []) leads.2), (λ tag o. subst (λ xs. TagWords (map opened tags) (bytes_of xs) tag) (sym whole) (a.1 tag o), g, leads))))
 
@@ -579,7 +574,7 @@ ends (Epilog Blanks) opens text ok (none, (before, since, spelled, (tree, prolog
     spelled = ap bytes_of spelled ∙ bytes-append before since ∙ ap (λ xs. xs ++ bytes_of since) d ∙ append_assoc prolog element (bytes_of since);
     is_prolog = is;
     is_element = t;
-    is_epilog = misc-is since (allowed-back before since (subst Allowed spelled ok)) steps;
+    is_epilog = misc-is since (allowed-apart before since (subst Allowed spelled ok)).1 steps;
   },
 )
 ends mode opens text ok p h = absurd (cc)

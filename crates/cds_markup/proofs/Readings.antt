@@ -208,8 +208,7 @@ placed-is (part ∷ more) p =
 
 root-placed : (parts : List Part) (at : ℕ) → root_start parts ≡ Some at → (placed_by no_place parts).at ≡ Some at
 root-placed (Start place end name attrs ∷ more) at e = (placed-is more (and_part no_place (Start place end name attrs))).2 at e
-root-placed [] at e = absurd (cc)
-root-placed (other ∷ more) at e = absurd (cc)
+root-placed other at e = absurd (cc)
 
 placed-append : (one other : List Part) (p : Placing) → placed_by p (one ++ other) ≡ placed_by (placed_by p one) other
 placed-append [] other p = refl

@@ -1,7 +1,8 @@
--- Where a word stands in a text: what is known after each byte.
-use Rattle.std.proofs.Common.{◌≡◌, ◌==◌, ℕ, ◌<◌, ◌≤◌, Bool, true, false, cond, not, ◌&&◌, List, [], ◌∷◌, ◌++◌, take, refl, sym, ap, subst, ◌∙◌, arith, codes, encode_utf8, ◌⊎◌, inl, inr, zero, suc, append_assoc, ◌-◌, length, slice_index}
-use Rattle.cds_markup.proofs.Terms.{nat_tests, encode_ascii, append-nil, length-append, take-append_seam, contains, is_any, Without, brackets_with, closes_section, without_brackets, Word, Character, Then, Says, Many, Next, step_comment, step_section}
-use Rattle.cds_markup.proofs.Ways.{by-test, is-byte, and-both, and-first, and-second, cases, clash, Takes, High, at-most-or-more, wide-bytes, bytes_of, Allowed, bytes-append, allowed-append, allowed-front, plain-bytes, ascii-bytes, ascii-plain, Alike, Reads, then-of, then-says, says-then}
+-- Where a word stands in a text, and where its lines end: what is known after each byte.
+use Rattle.std.proofs.Common.{◌≡◌, ◌==◌, ℕ, ◌<◌, ◌≤◌, Bool, true, false, cond, not, ◌&&◌, List, [], ◌∷◌, ◌++◌, take, refl, sym, ap, subst, ◌∙◌, arith, codes, encode_utf8, ◌⊎◌, inl, inr, zero, suc, append_assoc, ◌-◌, length, slice_index, map}
+use Rattle.cds_markup.proofs.Terms.{nat_tests, encode_ascii, append-nil, length-append, take-append_seam, contains, is_any, Without, brackets_with, closes_section, without_brackets, Word, Character, Then, Says, Many, Next, step_comment, step_section, without_feed, lone_returns, line_ends, line_end_says, is-byte, is-byte}
+use Rattle.cds_markup.proofs.Ways.{by-test, is-byte, and-both, and-first, and-second, cases, clash, Takes, bytes_of, Allowed, bytes-append, allowed-append, allowed-apart, plain-bytes, ascii-bytes, ascii-plain, Alike, Reads, then-of, then-says, says-then}
+use Rattle.cds_markup.proofs.Decoded.{High, at-most-or-more, wide-bytes}
 
 -- a function of a text from a state that passes over each byte past ASCII
 module _ {A : Type 0} (f : ℕ → List ℕ → A) (skip : (n b : ℕ) (u : List ℕ) → 128 ≤ b → f n (b ∷ u) ≡ f 0 u) where
@@ -10,7 +11,7 @@ module _ {A : Type 0} (f : ℕ → List ℕ → A) (skip : (n b : ℕ) (u : List
   skip-all (b ∷ ws) u h = skip 0 b (ws ++ u) h.0 ∙ skip-all ws u h.1
 
   pub skip-wide : (n c : ℕ) (u : List ℕ) → 128 ≤ c → f n (encode_utf8 c ++ u) ≡ f 0 u
-  skip-wide n c u low = let w = wide-bytes c low in ap (λ xs. f n (xs ++ u)) w.is ∙ skip n w.head (w.tail ++ u) w.high.0 ∙ skip-all w.tail u w.high.1
+  skip-wide n c u low = let w = wide-bytes c low in ap (λ xs. f n (xs ++ u)) w.2 ∙ skip n w.0 (w.1 ++ u) w.3.0 ∙ skip-all w.1 u w.3.1
 
 pub small-one : {A : Type 0} (f : List ℕ → A) (c : ℕ) (u : List ℕ) → c < 128 → f (encode_utf8 c ++ u) ≡ f (c ∷ u)
 small-one f c u low = ap (λ xs. f (xs ++ u)) (encode_ascii c low)
@@ -157,7 +158,7 @@ pub comment-reads : Alike (Reads step_comment (step_comment 0)) (Then (Without (
 comment-reads bytes u = (
   λ r. let b = (bodies r.text).0 r.takes in
       then-of (bytes_of b.0) (codes "-->") (bytes_of b.0) (r.spelled ∙ ap bytes_of b.1 ∙ bytes-append b.0 (codes "-->") ∙ ap (λ xs. bytes_of b.0 ++ xs) (ascii-bytes (codes "-->") refl))
-      (without-is (codes "--") b.0 (allowed-front b.0 (codes "-->") (subst Allowed b.1 r.allowed)) ((dashes-are b.0).0 ∙ ap not b.2)) refl,
+      (without-is (codes "--") b.0 (allowed-apart b.0 (codes "-->") (subst Allowed b.1 r.allowed)).0 ((dashes-are b.0).0 ∙ ap not b.2)) refl,
   λ t. let cs : List ℕ = t.first.characters in
       let c = characters-are is_any t.front cs t.first.each in
       let quiet = cases (calm 0 cs) (λ d. d) (λ d. clash ((dashes-are cs).0 ∙ ap not d) (ap (contains (codes "--")) (sym c.0) ∙ t.first.none)) in
@@ -229,7 +230,7 @@ section-reads bytes said = (
       let u = (ends b.0).0 b.3 in
       let whole : r.text ≡ u.0 ++ codes "]]>" = b.1 ∙ ap (λ xs. xs ++ 62 ∷ []) u.1 ∙ append_assoc u.0 (93 ∷ 93 ∷ []) (62 ∷ []) in
       then-of (bytes_of u.0) (codes "]]>") (bytes_of u.0) (r.spelled ∙ ap bytes_of whole ∙ bytes-append u.0 (codes "]]>") ∙ ap (λ xs. bytes_of u.0 ++ xs) (ascii-bytes (codes "]]>") refl))
-      (without-is (codes "]]>") u.0 (allowed-front u.0 (codes "]]>") (subst Allowed whole r.allowed)) (without-word u.0 (clean-front 0 u.0 (93 ∷ 93 ∷ []) (ap (clean 0) (sym u.1) ∙ b.2))))
+      (without-is (codes "]]>") u.0 (allowed-apart u.0 (codes "]]>") (subst Allowed whole r.allowed)).0 (without-word u.0 (clean-front 0 u.0 (93 ∷ 93 ∷ []) (ap (clean 0) (sym u.1) ∙ b.2))))
       (then-says (Word (codes "]]>")) (λ closing. bytes_of u.0) (codes "]]>") said tt refl (b.4 ∙ ap (λ xs. without_brackets (bytes_of xs)) u.1 ∙ ap without_brackets (brackets-bytes u.0) ∙ off (bytes_of u.0))),
   λ t. let cs : List ℕ = t.first.characters in
       let c = characters-are is_any t.front cs t.first.each in
@@ -244,3 +245,69 @@ section-reads bytes said = (
         takes = subst (λ xs. Takes sec (0, []) xs said) (append_assoc cs (93 ∷ 93 ∷ []) (62 ∷ [])) (subst (Takes sec (0, []) (inner ++ 62 ∷ [])) said-so (section-takes inner 0 [] both.0 both.1));
       },
 )
+
+-- line ends byte by byte from the front, behind a carriage return or not
+abbrev lines : Bool → List ℕ → List ℕ
+lines behind [] = []
+lines behind (b ∷ w) = cond {A = List ℕ} ((b == 10) && behind) [] (cond {A = List ℕ} (b == 13) (10 ∷ []) (b ∷ [])) ++ lines (b == 13) w
+
+abbrev fed : ℕ → ℕ
+fed b = cond {A = ℕ} (b == 13) 10 b
+
+abbrev Are : List ℕ → Type 0
+Are w = (lines false w ≡ map fed (lone_returns w)) × (lines true w ≡ map fed (without_feed (lone_returns w)))
+
+are : (w : List ℕ) → Are w
+are [] = (refl, refl)
+are (b ∷ w) = by (b == 13) (b == 10) refl refl (are w) where
+  by : (s t : Bool) → (b == 13) ≡ s → (b == 10) ≡ t → Are w → Are (b ∷ w)
+  by true t e f h = subst (λ x. Are (x ∷ w)) (sym (is-byte b 13 e)) (ap (λ xs. 10 ∷ xs) h.1, ap (λ xs. 10 ∷ xs) h.1)
+  by false true e f h = subst (λ x. Are (x ∷ w)) (sym (is-byte b 10 f)) (ap (λ xs. 10 ∷ xs) h.0, h.0)
+  by false false e f h = simp (e, f) (ap (λ xs. b ∷ xs) h.0, ap (λ xs. b ∷ xs) h.0)
+
+-- one text behind another
+abbrev pub ends_return : Bool → List ℕ → Bool
+ends_return behind [] = behind
+ends_return behind (b ∷ w) = ends_return (b == 13) w
+
+lines-append : (behind : Bool) (v w : List ℕ) → lines behind (v ++ w) ≡ lines behind v ++ lines (ends_return behind v) w
+lines-append behind [] w = refl
+lines-append behind (b ∷ v) w =
+    let says : List ℕ = cond {A = List ℕ} ((b == 10) && behind) [] (cond {A = List ℕ} (b == 13) (10 ∷ []) (b ∷ [])) in
+    ap (λ xs. says ++ xs) (lines-append (b == 13) v w) ∙ sym (append_assoc says (lines (b == 13) v) (lines (ends_return (b == 13) v) w))
+
+ends-append : (behind : Bool) (v w : List ℕ) → ends_return behind (v ++ w) ≡ ends_return (ends_return behind v) w
+ends-append behind [] w = refl
+ends-append behind (b ∷ v) w = ends-append (b == 13) v w
+
+pub no-sign : (b sign : ℕ) → 128 ≤ b → sign < 128 → (b == sign) ≡ false
+no-sign b sign h low = grind (arith, nat_tests)
+
+lines-high : (behind : Bool) (b : ℕ) (w : List ℕ) → High (b ∷ w) → (lines behind (b ∷ w) ≡ b ∷ w) × (ends_return behind (b ∷ w) ≡ false)
+lines-high behind b [] h = simp (no-sign b 13 h.0 (omega arith), no-sign b 10 h.0 (omega arith)) (refl, refl)
+lines-high behind b (x ∷ w) h = simp (no-sign b 13 h.0 (omega arith), no-sign b 10 h.0 (omega arith)) (let r = lines-high false x w h.1 in (ap (λ xs. b ∷ xs) r.0, r.1))
+
+-- one character
+char-lines : (c : ℕ) (behind : Bool) → (lines behind (encode_utf8 c) ≡ line_end_says behind c) × (ends_return behind (encode_utf8 c) ≡ (c == 13))
+char-lines c behind = elim (small-or-wide c) [
+  | inl low ↦
+      let e = encode_ascii c low in
+      let said : List ℕ → List ℕ = λ xs. cond {A = List ℕ} ((c == 10) && behind) [] (cond {A = List ℕ} (c == 13) (10 ∷ []) xs) in
+      (ap (lines behind) e ∙ append-nil (said (c ∷ [])) ∙ ap said (sym e), ap (ends_return behind) e)
+  | inr high ↦
+      let b = wide-bytes c high in
+      let one = no-sign c 13 high (omega arith) in
+      let two = no-sign c 10 high (omega arith) in
+      let s = lines-high behind b.0 b.1 b.3 in
+      (ap (lines behind) b.2 ∙ s.0 ∙ sym b.2 ∙ simp (one, two), ap (ends_return behind) b.2 ∙ s.1 ∙ sym one)
+]
+
+-- one character more
+pub line_more : (xs : List ℕ) (c : ℕ) → line_ends (xs ++ encode_utf8 c) ≡ line_ends xs ++ line_end_says (ends_return false xs) c
+line_more xs c =
+    let behind = ends_return false xs in
+    sym (are (xs ++ encode_utf8 c)).0 ∙ lines-append false xs (encode_utf8 c) ∙ ap (λ ys. ys ++ lines behind (encode_utf8 c)) (are xs).0
+    ∙ ap (λ ys. line_ends xs ++ ys) (char-lines c behind).0
+
+pub ends_more : (xs : List ℕ) (c : ℕ) → ends_return false (xs ++ encode_utf8 c) ≡ (c == 13)
+ends_more xs c = ends-append false xs (encode_utf8 c) ∙ (char-lines c (ends_return false xs)).1

@@ -1,9 +1,10 @@
 -- What stands inside an element, token by token, is what the grammar says.
 use Rattle.std.proofs.Common.{◌≡◌, ◌==◌, ℕ, Bool, true, false, cond, inl, inr, List, [], ◌∷◌, ◌++◌, codes, drop, length, refl, sym, ap, subst, ◌∙◌, arith, encode_utf8, not, ◌&&◌, map, append_assoc, Option, Some, None, ◌+◌, take, ◌<◌}
-use Rattle.cds_markup.proofs.Terms.{is_in_name, Byte, IsComment, IsSection, Without, is_any, begins_with_text, Decides-eqb, nat_tests, starts_is, drop-append_seam, append-nil, IsReference, is_allowed, Ampersand, Opened, Content, Slashed, QName, Tag, Open, Turn, Word, Character, Then, Says, Many, name_bytes, IsBlanks, IsTag, Leaf, Text, IsLeaf, is_text, IsStartTag, IsEndTag, is_in_text, IsText, Tree, EmptyElement, Full, Nothing, LeafThen, TreeThen, IsTree, IsContent, IsProlog, IsName, qualified, IsQName, ends_tag, brackets_with, closes_section, Token, Letter, Referred, SectionOf, Commented, Ended, Given, given, opened, is_in_run, tag_given, begins_with, Opens, Bang, Cdata, Comment, Dash, Done, EndTag, Less, Next, On, Reference, Section, StartTag, Stuck, drop-drop, encode_ascii, end_name_step, slash_step, step_comment, step_reference, step_tag, step_turn, Grammar-reference, Grammar-section, Grammar-comment, Inner, length-append, take-append_seam, leads, IsQuoted, IsSpace, IsEquals, is_blank, begins_name, Stage, Version, Encoding, Standalone, Closing, Declaring, Xml, Gap, PartName, PartEquals, PartValue, YesOrNo, BehindPart, Question, Misc, Blanks, MiscLess, MiscBang, MiscDash, MiscComment, Maybe, MiscPiece, Blank, IsMiscPiece, IsMisc, lower_case, AnyCase, is_quote, IsPseudoAttr, IsYesOrNo, IsDeclaration, byte_order_mark, behind, closing_step, standalone_step, begin_step, value_begins, step_declaration, misc_step, is_between, CommentPiece}
+use Rattle.cds_markup.proofs.Terms.{is_in_name, Byte, IsComment, IsSection, Without, is_any, begins_with_text, Decides-eqb, nat_tests, starts_is, drop-append_seam, append-nil, IsReference, is_allowed, Ampersand, Opened, Content, Slashed, QName, Tag, Open, Turn, Word, Character, Then, Says, Many, name_bytes, IsBlanks, IsTag, Leaf, Text, IsLeaf, is_text, IsStartTag, IsEndTag, is_in_text, IsText, Tree, EmptyElement, Full, Nothing, LeafThen, TreeThen, IsTree, IsContent, IsProlog, IsName, qualified, IsQName, ends_tag, brackets_with, closes_section, Token, Letter, Referred, SectionOf, Commented, Ended, Given, given, opened, is_in_run, tag_given, begins_with, Opens, Bang, Cdata, Comment, Dash, Done, EndTag, Less, Next, On, Reference, Section, StartTag, Stuck, drop-drop, encode_ascii, end_name_step, slash_step, step_comment, step_reference, step_tag, step_turn, Grammar-reference, Grammar-section, Grammar-comment, Inner, length-append, take-append_seam, leads, IsQuoted, IsSpace, IsEquals, is_blank, begins_name, Stage, Version, Encoding, Standalone, Closing, Declaring, Xml, Gap, PartName, PartEquals, PartValue, YesOrNo, BehindPart, Question, Misc, Blanks, MiscLess, MiscBang, MiscDash, MiscComment, Maybe, MiscPiece, Blank, IsMiscPiece, IsMisc, lower_case, AnyCase, is_quote, IsPseudoAttr, IsYesOrNo, IsDeclaration, byte_order_mark, behind, closing_step, standalone_step, begin_step, value_begins, step_declaration, misc_step, is_between, CommentPiece, step, To, Inside}
 use Rattle.cds_markup.proofs.TagForms.{Second, IsClosed, reference-form, reference-reads, tag-reads, same-small, quote-small}
 use Rattle.cds_markup.proofs.ScanForms.{characters-are, clean, state, without-word, comment-reads, sec, section-reads}
-use Rattle.cds_markup.proofs.Ways.{cases, is-byte, and-both, and-first, and-second, and-no, heads, allowed-append, bytes_of, Allowed, none-spelled, same-first, bytes-append, encoded, Spell, Form, Alike, Or, same, also, or-alike, then-alike, then-or, assoc, none-alike, word-more, Reads, Behind, reads-as, reads-if, reads-letter, reads-word, reads-or, reads-blanks, reads-state, then-of, then-says, says-then, Said, takes-then, next-by, no-cons, Takes, Steps, steps-done, cut, less-bytes, mark-bytes, is_ascii, ascii-first, ascii-rest, steps-as, way-as, reads-in, reads-many, turned, or-turned, or-assoc, maybe-or, says-alike, blanks-or, reads-byte, reads-space, reads-equals, blank-small, Way, way-then, way-none, way-text, way-byte, way-many, said-on, way-one, Early, AtBegin, AtMarked, AtFirst, InDeclaration, InProlog, early_next, misc_next, marked_next, name-no-bang, mode_of}
+use Rattle.cds_markup.proofs.Ways.{cases, is-byte, and-both, and-first, and-second, and-no, heads, allowed-append, bytes_of, Allowed, none-spelled, same-first, bytes-append, Spell, Form, Alike, Or, same, also, or-alike, then-alike, then-or, assoc, none-alike, word-more, Reads, Behind, reads-as, reads-if, reads-letter, reads-word, reads-or, reads-blanks, reads-state, then-of, then-says, says-then, Said, takes-then, next-by, no-cons, Takes, Steps, steps-done, cut, less-bytes, mark-bytes, is_ascii, ascii-first, ascii-rest, steps-as, way-as, reads-in, reads-many, turned, or-turned, or-assoc, maybe-or, says-alike, blanks-or, reads-byte, reads-space, reads-equals, blank-small, Way, way-then, way-none, way-text, way-byte, way-many, said-on, way-one, Early, AtBegin, AtMarked, AtFirst, InDeclaration, InProlog, early_next, misc_next, marked_next, name-no-bang, mode_of}
+use Rattle.cds_markup.proofs.Decoded.{encoded}
 
 -- lists
 pub last-same : (xs : List ℕ) (b : ℕ) (ys : List ℕ) (c : ℕ) → xs ++ b ∷ [] ≡ ys ++ c ∷ [] → (xs ≡ ys) × (b ≡ c)
@@ -332,17 +333,17 @@ module _ (o : Open) (outer : List Open) where
       (reads-letter E 62 (Done (given Ended outer (Content 0))) [] (Says (given Ended outer (Content 0))) (omega arith) refl none-alike)) none-alike
   end-reads (d ∷ text) n e ok =
       let s = encoded d in
-      let left : List ℕ = s.tail ++ bytes_of text in
-      let all : bytes_of (d ∷ text) ≡ s.head ∷ left = ap (λ xs. xs ++ bytes_of text) s.is in
+      let left : List ℕ = s.1 ++ bytes_of text in
+      let all : bytes_of (d ∷ text) ≡ s.0 ∷ left = ap (λ xs. xs ++ bytes_of text) s.2 in
       let m : ℕ = length (encode_utf8 d) in
-      let test : ℕ → Bool = λ c. begins_with (s.head ∷ left) (encode_utf8 c) in
+      let test : ℕ → Bool = λ c. begins_with (s.0 ∷ left) (encode_utf8 c) in
       let more = end-reads text (n + m) (sym (drop-drop m n (name_bytes o.name)) ∙ ap (drop m) e ∙ drop-append_seam (encode_utf8 d) (bytes_of text)) ok.1 in
       also (reads-as E {g = λ c. cond (test c) (On (EndTag (n + length (encode_utf8 c)))) Stuck} (λ c. ap (λ l. end_name_step n l outer c) (e ∙ all)) (reads-if E test (λ c. On (EndTag (n + length (encode_utf8 c)))) (λ c. Reads E (E (EndTag (n + length (encode_utf8 c))))) (λ c f. same (Reads E (E (EndTag (n + length (encode_utf8 c))))))))
       (also (λ bytes a. (
-        λ t. let front = (starts_is Decides-eqb (s.head ∷ left) (encode_utf8 t.what) (test t.what) refl).0 t.first.passes in
-            let same-one = same-first d t.what (bytes_of text) (drop (length (encode_utf8 t.what)) (s.head ∷ left)) ok.0 t.first.allowed (all ∙ front) in
+        λ t. let front = (starts_is Decides-eqb (s.0 ∷ left) (encode_utf8 t.what) (test t.what) refl).0 t.first.passes in
+            let same-one = same-first d t.what (bytes_of text) (drop (length (encode_utf8 t.what)) (s.0 ∷ left)) ok.0 t.first.allowed (all ∙ front) in
             then-of t.front t.back tt t.spelled (t.first.spelled ∙ ap encode_utf8 (sym same-one.0)) ((more t.back a).0 (subst (λ x. Reads E (E (EndTag (n + length (encode_utf8 x)))) t.back a) (sym same-one.0) t.second)),
-        λ t. then-of t.front t.back d t.spelled (record { spelled = t.first; allowed = ok.0; passes = (starts_is Decides-eqb (s.head ∷ left) (encode_utf8 d) (test d) refl).1 (bytes_of text) (sym all) }) ((more t.back a).1 t.second),
+        λ t. then-of t.front t.back d t.spelled (record { spelled = t.first; allowed = ok.0; passes = (starts_is Decides-eqb (s.0 ∷ left) (encode_utf8 d) (test d) refl).1 (bytes_of text) (sym all) }) ((more t.back a).1 t.second),
       )) (word-more (encode_utf8 d) (bytes_of text)))
 
 -- a start tag in its parts: what stands between its `<` and the word that closes it
@@ -517,6 +518,12 @@ text-more n (d ∷ s) c a e ok t b =
     let r = text-more m s c a.2 (and-second (not (closes_section n d)) (clean m s) e) ok t b in
     ((a.0, a.1, r.0), and-both (not (closes_section n d)) (clean m (s ++ c ∷ [])) (and-first (not (closes_section n d)) (clean m s) e) r.1, r.2)
 
+pub letter-step : (k : ℕ) (o : Open) (outer : List Open) (c : ℕ) → is_in_text c ≡ true → closes_section k c ≡ false → step (Inside (Content k)) (o ∷ outer) c ≡ To (Inside (Content (brackets_with k c))) (o ∷ outer) (Letter c ∷ [])
+letter-step k o outer c e d =
+    let a : (c == 60) ≡ false = grind (arith, nat_tests) in
+    let b : (c == 38) ≡ false = grind (arith, nat_tests) in
+    rw (a, b, d) refl
+
 pub text-characters : (t : List ℕ) → InText t → Many (Character is_in_text) (bytes_of t) t
 text-characters [] a = refl
 text-characters (c ∷ t) a = (encode_utf8 c, bytes_of t, refl, record { spelled = refl; allowed = a.0; passes = a.1 }, text-characters t a.2)
@@ -639,7 +646,7 @@ qname-whole bytes q t = let s = says-then Second (λ second. qualified t.what se
   by (Some second) u =
       let n = t.first.2 in
       let h = encoded n.what in
-      let some : t.what ≡ h.head ∷ (h.tail ++ n.back) = t.first.0 ∙ n.spelled ∙ ap (λ xs. xs ++ n.back) (n.first.spelled ∙ h.is) in
+      let some : t.what ≡ h.0 ∷ (h.1 ++ n.back) = t.first.0 ∙ n.spelled ∙ ap (λ xs. xs ++ n.back) (n.first.spelled ∙ h.2) in
       let local = name-spell u.back second u.second in
       let whole : t.what ++ codes ":" ++ second ≡ bytes_of (first.text ++ 58 ∷ local.text) = ap (λ xs. xs ++ codes ":" ++ second) first.spelled ∙ ap (λ xs. bytes_of first.text ++ codes ":" ++ xs) local.spelled
       ∙ ap (λ xs. bytes_of first.text ++ xs ++ bytes_of local.text) (sym (encode_ascii 58 (omega arith))) ∙ append_assoc (bytes_of first.text) (encode_utf8 58) (bytes_of local.text) ∙ sym (bytes-append first.text (58 ∷ local.text)) in

@@ -1,7 +1,8 @@
 -- References, values, names, attributes and start tags are what the grammar says.
 use Rattle.std.proofs.Common.{◌≡◌, ◌⊎◌, [], arith, cond, if◌then◌else◌, ◌==◌, ◌+◌, ◌*◌, ◌<◌, ◌≤◌, ◌&&◌, ◌∷◌, ◌++◌, ◌∙◌, ◌^◌, Bool, List, None, Option, Some, ap, append_assoc, codes, encode_utf8, false, inl, inr, length, nat_le, nat_lt, refl, subst, suc, sym, true, ℕ}
 use Rattle.cds_markup.proofs.Terms.{Ampersand, AttrName, AttrNamed, Attribute, Attributing, Byte, Character, Done, Entity, EntityA, Equals, IsBlanks, IsInside, IsName, IsQName, IsReference, IsSpace, IsTag, IsTagAttr, IsValue, IsValuePiece, Literal, Many, Maybe, Name, Naming, Next, Number, On, Opened, QName, Referring, Says, Sharp, Spaced, Stuck, Tag, TagAttr, Tagged, Tagging, Then, Value, ValuePiece, Valuing, Word, and_behind, attr_of, base_of, begins_name, bytes_eq-Decides, code_of, ends_tag, goes_on, is_allowed, is_blank, is_colon, is_in_name, is_in_value, is_number_in, is_quote, is_return, is_whole, name_begun, name_of, named_or, named_step, nat_tests, number_after_sign, number_in, numbered, piece_says, qualified, quote_of, says_behind, step_attr, step_reference, step_tag, step_value, tag_named, tagged_step, value_in, value_says, valuing, where_allowed, with_attr, with_digit, with_line_ends, named, naming, append-nil, is_digit, digit_value, list_all, flat_map, Referred-piece as Referred, IsEquals, bytes_eq}
-use Rattle.cds_markup.proofs.Ways.{taken-if, Takes, and-both, and-first, and-second, cases, clash, either-if, is-byte, only-if, some-is, heads, allowed-at-most, ascii-bytes, ascii-plain, encoded, is_ascii, plain-bytes, then-of, Form, Alike, Or, same, also, or-turned, or-alike, or-assoc, maybe-or, then-alike, assoc, says-alike, none-alike, then-or, blanks-or, Reads, reads-as, reads-if, reads-byte, reads-letter, reads-or, added, reads-many, reads-blanks, reads-space, reads-equals, reads-in, reads-state}
+use Rattle.cds_markup.proofs.Ways.{taken-if, Takes, and-both, and-first, and-second, cases, clash, either-if, is-byte, only-if, some-is, heads, ascii-bytes, ascii-plain, is_ascii, plain-bytes, then-of, Form, Alike, Or, same, also, or-turned, or-alike, or-assoc, maybe-or, then-alike, assoc, says-alike, none-alike, then-or, blanks-or, Reads, reads-as, reads-if, reads-byte, reads-letter, reads-or, added, reads-many, reads-blanks, reads-space, reads-equals, reads-in, reads-state}
+use Rattle.cds_markup.proofs.Decoded.{allowed-at-most, encoded}
 use Rattle.std.proofs.Math.Nat.{pow-suc, pow-zero}
 use Rattle.std.specs.Option.{option_and_then}
 
@@ -201,9 +202,10 @@ and-behind-is : (c : ℕ) (more : List ValuePiece) → and_behind (Literal c) mo
 and-behind-is c (Literal d ∷ more) = cases (c == 13) (λ e. cases (d == 10) (λ f. simp (e, f)) (λ f. simp (e, f))) (λ e. simp e)
 and-behind-is c other = cases (c == 13) (λ e. simp e) (λ e. simp e)
 
-referred-behind-is : (c : ℕ) (more : List ValuePiece) → and_behind (Referred c) more ≡ Referred c ∷ more
-referred-behind-is c [] = refl
-referred-behind-is c (d ∷ more) = refl
+pub and-behind : (piece : ValuePiece) (more : List ValuePiece) → is_return piece ≡ false → and_behind piece more ≡ piece ∷ more
+and-behind piece [] e = refl
+and-behind (Literal c) (Literal d ∷ more) e = rw e refl
+and-behind piece (second ∷ more) e = refl
 
 -- what pieces say one behind another
 abbrev all_say : Bool → List ValuePiece → List ℕ
@@ -215,7 +217,7 @@ Said ps pieces = (says ps ≡ all_say false pieces) × (says (without_feed ps) �
 
 all-say : (pieces : List ValuePiece) → Said (with_line_ends pieces) pieces
 all-say [] = (refl, refl)
-all-say (Referred c ∷ more) = let h = all-say more in rw (referred-behind-is c (with_line_ends more)) (ap (λ xs. encode_utf8 c ++ xs) h.0, ap (λ xs. encode_utf8 c ++ xs) h.0)
+all-say (Referred c ∷ more) = let h = all-say more in rw (and-behind (Referred c) (with_line_ends more) refl) (ap (λ xs. encode_utf8 c ++ xs) h.0, ap (λ xs. encode_utf8 c ++ xs) h.0)
 all-say (Literal c ∷ more) = rw (and-behind-is c (with_line_ends more)) (by (c == 13) (c == 10) refl refl (all-say more)) where
   by : (s t : Bool) → (c == 13) ≡ s → (c == 10) ≡ t → Said (with_line_ends more) more → Said (Literal c ∷ cond (c == 13) (without_feed (with_line_ends more)) (with_line_ends more)) (Literal c ∷ more)
   by true t e f h = subst (λ x. Said (Literal x ∷ cond (x == 13) (without_feed (with_line_ends more)) (with_line_ends more)) (Literal x ∷ more)) (sym (is-byte c 13 e)) (ap (λ xs. 32 ∷ xs) h.1, ap (λ xs. 32 ∷ xs) h.1)
@@ -281,7 +283,7 @@ module _ (quote : ℕ) (is_q : is_quote quote ≡ true) where
       also (reads-many V with_piece (λ x. V (valued x)) (IsValuePiece quote) (λ x. Then (Byte (λ b. b == quote)) (λ same. Says x.0)) some piece-reads ([], false))
       (also (then-alike (same (Many (IsValuePiece quote))) (λ ps. rw (added-says ps ([], false) ∙ sym (all-say ps).0) (says-alike (value_says ps) (λ text. Then (Byte (λ b. b == quote)) (λ same. Says text))))) (assoc (Many (IsValuePiece quote)) (λ ps. Says (value_says ps)) (λ text. Then (Byte (λ b. b == quote)) (λ same. Says text)))) where
         some : (bytes : List ℕ) (p : ValuePiece) → IsValuePiece quote bytes p → 0 < length bytes
-        some bytes (Literal c) h = let s = encoded c in omega (arith, ap length (h.spelled ∙ s.is))
+        some bytes (Literal c) h = let s = encoded c in omega (arith, ap length (h.spelled ∙ s.2))
         some bytes (Referred c) h = omega (arith, ap length h.form)
 
 -- Names.
@@ -300,7 +302,7 @@ module _ {M A : Type 0} (step : M → ℕ → Next M A) (to : Naming → M) (beh
   -- the letters of a name from the second on, and those of a name
   letters-read : (set : List ℕ → Naming) (over : List ℕ → ℕ → Next M A) (K : List ℕ → Form A) → ((t : List ℕ) (c : ℕ) → step (to (set t)) c ≡ cond (is_in_name c) (On (to (set (t ++ encode_utf8 c)))) (over t c)) → ((t : List ℕ) (c : ℕ) → is_in_name c ≡ true → over t c ≡ Stuck)
       → ((t : List ℕ) → Alike (Reads step (over t)) (K t)) → (text : List ℕ) → Alike (Reads step (step (to (set text)))) (Then (Many (Character is_in_name)) (λ cs. K (added step (λ t c. t ++ encode_utf8 c) text cs)))
-  letters-read set over K goes none e = reads-many step (λ t c. t ++ encode_utf8 c) (λ t. step (to (set t))) (Character is_in_name) K (λ bytes c h. let s = encoded c in omega (arith, ap length (h.spelled ∙ s.is)))
+  letters-read set over K goes none e = reads-many step (λ t c. t ++ encode_utf8 c) (λ t. step (to (set t))) (Character is_in_name) K (λ bytes c h. let s = encoded c in omega (arith, ap length (h.spelled ∙ s.2)))
       (λ t. reads-or step is_in_name (step (to (set t))) (λ c. On (to (set (t ++ encode_utf8 c)))) (over t) (Then (Character is_in_name) (λ c. Reads step (step (to (set (t ++ encode_utf8 c)))))) (K t) (goes t) (none t)
       (reads-if step is_in_name (λ c. On (to (set (t ++ encode_utf8 c)))) (λ c. Reads step (step (to (set (t ++ encode_utf8 c))))) (λ c d. same (Reads step (step (to (set (t ++ encode_utf8 c))))))) (e t))
 
@@ -323,9 +325,9 @@ module _ {M A : Type 0} (step : M → ℕ → Next M A) (to : Naming → M) (beh
     from : (c : ℕ) → Alike (Reads step (step (to (naming first (Some (encode_utf8 c)))))) (Then (Many (Character is_in_name)) (λ cs. H (qualified first (Some (added step (λ t c. t ++ encode_utf8 c) (encode_utf8 c) cs)))))
     from c =
         let s = encoded c in
-        let q : List ℕ → QName = λ t. qualified first (Some (s.head ∷ t)) in
-        rw s.is (also (letters-read (λ t. naming first (Some (s.head ∷ t))) (λ t. behind (q t)) (λ t. H (q t)) (λ t c. is (naming first (Some (s.head ∷ t))) c ∙ cases (is_in_name c) (λ d. rw d refl) (λ d. rw d refl)) (λ t c d. apart (q t) c (inl d)) (λ t. next (q t)) s.tail)
-        (then-alike (same (Many (Character is_in_name))) (λ cs. rw (more s.head s.tail cs) (same (H (q (added step (λ t c. t ++ encode_utf8 c) s.tail cs)))))))
+        let q : List ℕ → QName = λ t. qualified first (Some (s.0 ∷ t)) in
+        rw s.2 (also (letters-read (λ t. naming first (Some (s.0 ∷ t))) (λ t. behind (q t)) (λ t. H (q t)) (λ t c. is (naming first (Some (s.0 ∷ t))) c ∙ cases (is_in_name c) (λ d. rw d refl) (λ d. rw d refl)) (λ t c d. apart (q t) c (inl d)) (λ t. next (q t)) s.1)
+        (then-alike (same (Many (Character is_in_name))) (λ cs. rw (more s.0 s.1 cs) (same (H (q (added step (λ t c. t ++ encode_utf8 c) s.1 cs)))))))
 
   pub name-reads : Alike (Reads step (λ c. cond (begins_name c) (On (to (name_begun c))) Stuck)) (Then IsQName H)
   name-reads = also (word-reads (λ c. to (name_begun c)) (λ first. Then Second (λ second. H (qualified first second))) (λ c. letters-read (λ t. naming t None) over (λ first. Then Second (λ second. H (qualified first second))) goes none rest (encode_utf8 c)))

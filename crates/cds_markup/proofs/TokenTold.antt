@@ -2,12 +2,13 @@
 -- it leads the machine of characters.
 use lib.Seq.{take-nil}
 use Rattle.std.proofs.Common.{◌≡◌, ℕ, suc, ◌+◌, ◌<◌, nat_lt, nat_le, true, false, Result, Ok, Err, List, [], ◌∷◌, ◌++◌, take, refl, sym, ap, ◌∙◌, arith, append_assoc, length, zero, zero-add, ◌==◌, ◌-◌, ◌≤◌, Bool, not, ◌&&◌, cond, ◌⊎◌, inl, inr, Some, None, encode_utf8, Option, subst}
-use Rattle.cds_markup.proofs.Terms.{nat_tests, INPUT_LIMIT, Stop, MarkupError, Part, Token, Reading, judge, nothing_read, answer_of, progressed, ended_of, marked, parts_from, parts_of, Telling, telling, begin_telling, last_parts, Told, judged_told, told_byte_within, behind_parts, told_on, told_within, told, answered, run, append-nil, length-append, encode_ascii, is_allowed, begins_name, is_blank, NamespaceRule, Deep, TooLong, Marks, Mode, Open, OpenText, Ampersand, Opened, Name, Turn, Content, Less, Reference, StartTag, Inside, Run, line_ends, Step, any_at, Letter, Given, step_turn, To, step, is_content, inside_move, reading, moved, go_on, byte_step, begins_tag, is_deep, breaks_rule, judged, refusal, said_as, is_between, passed_over, completed_as, marks, ended_part, open_text, line_end_says, or_here, text_with, text_or, Next, On, Done, name_begun, closes_section, brackets_with, is_in_text, first_non_blank, Gone, by-test, next-by, either-if, both-no, none-behind, is-byte, Takes, Steps, and-first, and-second, ok-err, cases}
-use Rattle.cds_markup.proofs.Ways.{wide-bytes, found, stuck, decodes, same-first, bytes_of, Allowed, encoded, ends_return, line_more, ends_more, Early, AtBegin, mode_of, root_or, step-is, landing}
+use Rattle.cds_markup.proofs.Terms.{nat_tests, INPUT_LIMIT, Stop, MarkupError, Part, Token, Reading, judge, nothing_read, answer_of, progressed, ended_of, marked, parts_from, parts_of, Telling, telling, begin_telling, last_parts, Told, judged_told, told_byte_within, behind_parts, told_on, told_within, told, answered, run, append-nil, length-append, encode_ascii, is_allowed, begins_name, is_blank, NamespaceRule, Deep, TooLong, Marks, Mode, Open, OpenText, Ampersand, Opened, Name, Turn, Content, Less, Reference, StartTag, Inside, Run, line_ends, Step, any_at, Letter, Given, step_turn, To, step, is_content, inside_move, reading, moved, go_on, byte_step, begins_tag, is_deep, breaks_rule, judged, refusal, said_as, is_between, passed_over, completed_as, marks, ended_part, open_text, line_end_says, or_here, text_with, text_or, Next, On, Done, name_begun, closes_section, brackets_with, first_non_blank, Gone, by-test, next-by, either-if, both-no, none-behind, is-byte, Takes, Steps, and-first, and-second, ok-err, cases}
+use Rattle.cds_markup.proofs.Ways.{same-first, bytes_of, Allowed, Early, AtBegin, mode_of, root_or, step-is, landing}
+use Rattle.cds_markup.proofs.Decoded.{found, ok_same, wide-bytes, stuck, decodes, encoded}
+use Rattle.cds_markup.proofs.ScanForms.{ends_return, line_more, ends_more, clean, state, small-or-wide, not-so}
 use Rattle.cds_markup.proofs.Placing.{WellMode, is_to, Goes, no-blank, Mid, turn-mid}
 use Rattle.cds_markup.proofs.GoingOn.{Unfinished, no-both, two-or-more, begins-complete, Reached, reached-nothing, result-by, NoneBefore, next as next-reached, none-here, none-more}
-use Rattle.cds_markup.proofs.Standing.{Leads-root, InText}
-use Rattle.cds_markup.proofs.ScanForms.{clean, state, small-or-wide, not-so}
+use Rattle.cds_markup.proofs.Standing.{Leads-root, InText, letter-step}
 
 -- one piece behind another
 behind-on : (ps : List Part) (t : Told) (next : Telling → Told) → behind_parts ps (told_on t next) ≡ told_on (behind_parts ps t) next
@@ -41,9 +42,6 @@ answer-behind ps (Err found) = refl
 answer-behind ps (Ok found) = refl
 
 -- What is told of bytes up to a limit is what is read of as many of them.
-longer : (n at k : ℕ) → at ≡ n → nat_lt n (at + suc k) ≡ true
-longer n at k h = grind (arith, nat_tests)
-
 abbrev Whole : ℕ → ℕ → Telling → List ℕ → Type 0
 Whole n m p w =
     (parts-at (told_within n p w) ≡ parts_from p.read p.marks p.at (take m w))
@@ -56,7 +54,8 @@ whole n m [] p e =
     rw (take-nil m, here, under) (refl, refl)
 whole n zero (b ∷ w) p e =
     let over : nat_le n p.at ≡ true = let same : p.at ≡ n = omega (arith, e) in grind (arith, nat_tests) in
-    rw (over, longer n p.at (length w) (omega (arith, e))) (refl, refl)
+    let long : nat_lt n (p.at + suc (length w)) ≡ true = let same : p.at ≡ n = omega (arith, e) in grind (arith, nat_tests) in
+    rw (over, long) (refl, refl)
 whole n (suc m) (b ∷ w) p e =
     let room : nat_le n p.at ≡ false = let less : p.at < n = omega (arith, e) in grind (arith, nat_tests) in
     rw room (result-by (judge p.read b)
@@ -107,17 +106,14 @@ byte-cases n q b = cases (nat_le n q.at) (λ d. let over : n ≤ q.at = grind (a
     let less : q.at < n = grind (arith, nat_tests) in
     result-by (judge q.read b) (λ x f. inr (x.0, x.1, less, f)) (λ stop f. inl (refusal stop q.at, rw (d, f) refl, inr (less, stop, f, refl))))
 
-ok-second : {A B E : Type 0} {a c : A} {b d : B} → ◌≡◌ {A = Result (A × B) E} (Ok (a, b)) (Ok (c, d)) → b ≡ d
-ok-second {A} {B} {E} {a} {c} {b} {d} e = let same : ◌≡◌ {A = A × B} (a, b) (c, d) = cc in ap (λ p. p.1) same
-
 behind-ok : (ps us : List Part) (q : Telling) (t : Told) → behind_parts ps t ≡ Ok (us, q) → (vs : List Part) × (t ≡ Ok (vs, q))
 behind-ok ps us q (Err found) e = absurd (cc)
-behind-ok ps us q (Ok found) e = (found.0, ap (λ x. Ok (found.0, x)) (ok-second e))
+behind-ok ps us q (Ok found) e = (found.0, ap (λ x. Ok (found.0, x)) (ok_same _ _ _ _ e).1)
 
 -- what each byte that is taken keeps holds of all that is told
 pub told-keeps : (R : List ℕ → Telling → Type 0) (n : ℕ) → ((front : List ℕ) (p : Telling) (b : ℕ) (s : Reading) (us : List Token) → R front p → p.at < n → judge p.read b ≡ Ok (s, us) → R (front ++ b ∷ []) (telling s (marked p.read p.marks p.at s us).1 (p.at + 1)))
     → (w front : List ℕ) (p q : Telling) (us : List Part) → R front p → told_within n p w ≡ Ok (us, q) → R (front ++ w) q
-told-keeps R n step [] front p q us h e = subst (λ xs. R xs q) (sym (append-nil front)) (subst (R front) (ok-second e) h)
+told-keeps R n step [] front p q us h e = subst (λ xs. R xs q) (sym (append-nil front)) (subst (R front) (ok_same _ _ _ _ e).1 h)
 told-keeps R n step (b ∷ w) front p q us h e = elim (byte-cases n p b) [
   | inl c ↦ ok-err (sym e ∙ ap (λ t. told_on t (λ y. told_within n y w)) c.1)
   | inr (s, ts, less, f) ↦
@@ -264,8 +260,8 @@ more-told : (n : ℕ) (front : List ℕ) (us vs : List Part) (mode : Mode) (open
     → length (front ++ encode_utf8 c) ≤ n → char_marks mode opens m (length front) (length (front ++ encode_utf8 c) - 1) next ts ≡ x → us ++ x.0 ≡ vs → told_within n begin_telling (front ++ encode_utf8 c) ≡ Ok (vs, telling (reading [] next os) x.1 (length (front ++ encode_utf8 c)))
 more-told n front us vs mode opens m c next os ts x e ok shallow to keeps within made all =
     let s = encoded c in
-    let l = last-one s.head s.tail in
-    let whole : encode_utf8 c ≡ l.0 ++ l.1 ∷ [] = s.is ∙ l.2 in
+    let l = last-one s.0 s.1 in
+    let whole : encode_utf8 c ≡ l.0 ++ l.1 ∷ [] = s.2 ∙ l.2 in
     let spelled : front ++ encode_utf8 c ≡ (front ++ l.0) ++ l.1 ∷ [] = ap (λ xs. front ++ xs) whole ∙ sym (append_assoc front l.0 (l.1 ∷ [])) in
     let long : length (front ++ encode_utf8 c) ≡ length (front ++ l.0) + 1 = ap length spelled ∙ length-append (front ++ l.0) (l.1 ∷ []) in
     let r = front-told n mode opens m us c ok (ap is_to to) shallow l.0 [] front l.1 [] e whole (omega (arith, within, long)) in
@@ -360,12 +356,6 @@ root-told n e (x ∷ w) front us begin g l t ok keeps within s =
 
 -- The characters of a literal text lead the reader of bytes on, and what it keeps of them is what the text says.
 
-pub letter-step : (k : ℕ) (o : Open) (outer : List Open) (c : ℕ) → is_in_text c ≡ true → closes_section k c ≡ false → step (Inside (Content k)) (o ∷ outer) c ≡ To (Inside (Content (brackets_with k c))) (o ∷ outer) (Letter c ∷ [])
-letter-step k o outer c e d =
-    let a : (c == 60) ≡ false = grind (arith, nat_tests) in
-    let b : (c == 38) ≡ false = grind (arith, nat_tests) in
-    rw (a, b, d) refl
-
 -- the first character that is no blank
 pub blank-behind : (text ys : List ℕ) (begin at : ℕ) (blank : Bool) → ((n : ℕ) → first_non_blank n ys ≡ cond {A = Option ℕ} blank None (Some n)) → at ≡ begin + length text → first_non_blank begin (text ++ ys) ≡ or_here (first_non_blank begin text) blank at
 blank-behind [] ys begin at blank h e = h begin ∙ ap (λ n. cond {A = Option ℕ} blank None (Some n)) (omega (arith, e))
@@ -381,7 +371,7 @@ pub record IsRead (t : OpenText) (begin : ℕ) (xs : List ℕ) : Type 0 where
 read-more : (t : OpenText) (begin at c : ℕ) (xs : List ℕ) → IsRead t begin xs → at ≡ begin + length xs → IsRead (text_with t at c) begin (xs ++ encode_utf8 c)
 read-more t begin at c xs r e = record {
   at = r.at;
-  non_blank = ap (λ o. or_here o (is_blank c) at) r.non_blank ∙ sym (blank-behind xs (encode_utf8 c) begin at (is_blank c) (λ n. elim (small-or-wide c) [ inl low ↦ rw (encode_ascii c low) refl | inr high ↦ let w = wide-bytes c high in rw (w.is, no-blank w.head w.high.0, no-blank c high) refl ]) e);
+  non_blank = ap (λ o. or_here o (is_blank c) at) r.non_blank ∙ sym (blank-behind xs (encode_utf8 c) begin at (is_blank c) (λ n. elim (small-or-wide c) [ inl low ↦ rw (encode_ascii c low) refl | inr high ↦ let w = wide-bytes c high in rw (w.2, no-blank w.0 w.3.0, no-blank c high) refl ]) e);
   said = ap (λ ys. ys ++ line_end_says t.behind_return c) r.said ∙ ap (λ b. line_ends xs ++ line_end_says b c) r.behind ∙ sym (line_more xs c);
   behind = sym (ends_more xs c);
 }

@@ -2,8 +2,8 @@
 -- One byte where content is: a character is whole, or a part of one, or the text is over. A text is open only there, and one that
 -- goes on behind what was given of it: its runs together are its one run.
 use Rattle.std.proofs.Common.{◌≡◌, ◌≢◌, ℕ, ◌+◌, ◌-◌, nat_le, Bool, true, false, cond, Option, Some, None, Result, Ok, Err, List, [], ◌∷◌, length, refl, sym, ap, subst, ◌∙◌, arith, ◌++◌, ◌==◌, ◌<◌, not, ◌&&◌, ◌⊎◌, inl, inr, append_assoc, encode_utf8}
-use Rattle.cds_markup.proofs.Terms.{INPUT_LIMIT, MarkupError, TooLong, Mem, Event, Marks, Part, Token, judge, Progress, passed_byte, begins, passed_over, completed, completed_as, marked, EndsSo, MarksSo, NextSo, Telling, telling, told_from, last_parts, Told, moved_on, judged_told, told_byte, told_on, cuts_text, last_part, behind_parts, told, ToldSo, listed, Puts, TakesAll as Takes, begin_telling, cases, ok-err, clash, unless_enough, nat_tests, encode_ascii, is_blank, Opened, Open, Turn, Content, Less, Reference, StartTag, Mode, Epilog, Inside, Misc, Next, On, Done, Step, any_at, Letter, Started, Slash, Given, given, tag_given, step_tag, start_step, step_turn, brackets_with, tag_says, scopes_in, Move, To, is_content, inside_move, epilog_move, misc_step, step, Reading, reading, may_begin, moved, go_on, byte_step, said_as, is_between, is_in_content, length-append, is_empty, told_within, Ampersand, closes_section, leads, Gone, Stops, text_or, BeginsText, append-nil, OpenText, Run, refusal, marks, text_with, run_of, begun_text, or_here, rest_of, goes_on_as, ended_part, shown, or_then, InRuns, No-runs, A-part, More-text, Meanings, add_part, nested, RunsSay, and-both, and-no, both-no, empty-is, holds, Anything, is-byte, taken-if, by-test, some-is}
-use Rattle.cds_markup.proofs.GoingOn.{same-err, result-by, Reached, done, some-same, two-bytes, Unfinished, reached-nothing, taken, option-by, judged-so, next}
+use Rattle.cds_markup.proofs.Terms.{INPUT_LIMIT, MarkupError, TooLong, Mem, Event, Marks, Part, Token, judge, Progress, passed_byte, begins, passed_over, completed, completed_as, marked, EndsSo, MarksSo, NextSo, Telling, telling, told_from, last_parts, Told, moved_on, judged_told, told_byte, told_on, cuts_text, last_part, behind_parts, told, ToldSo, listed, Puts, TakesAll as Takes, begin_telling, cases, ok-err, clash, unless_enough, nat_tests, encode_ascii, is_blank, Opened, Open, Turn, Content, Less, Reference, StartTag, Mode, Epilog, Inside, Misc, Next, On, Done, Step, any_at, Letter, Started, Slash, Given, tag_given, step_tag, start_step, step_turn, brackets_with, tag_says, scopes_in, Move, To, is_content, inside_move, epilog_move, misc_step, step, Reading, reading, may_begin, moved, go_on, byte_step, said_as, is_between, is_in_content, length-append, is_empty, told_within, Ampersand, closes_section, Gone, Stops, text_or, BeginsText, append-nil, OpenText, Run, refusal, marks, text_with, run_of, begun_text, or_here, rest_of, goes_on_as, ended_part, shown, or_then, InRuns, No-runs, A-part, More-text, Meanings, add_part, nested, RunsSay, and-both, and-no, both-no, empty-is, holds, Anything, is-byte, taken-if, by-test, some-is}
+use Rattle.cds_markup.proofs.GoingOn.{next, same-err, result-by, Reached, done, some-same, two-bytes, Unfinished, reached-nothing, taken, option-by, judged-so}
 use Rattle.cds_markup.proofs.Placing.{WellMode, no-blank, InMode, Mid, turn-mid, Quiet, QuietGiven, tag-quiet}
 use Rattle.cds_markup.proofs.Standing.{last-same}
 use Rattle.cds_markup.proofs.Ways.{Early, early_next, root_or, step-is, leads-any}
@@ -72,9 +72,8 @@ module _ {S : Type 0} (took : S → List Part → S → Type 0) (enough : S → 
     so e other h = h
 
     by : (result : Result (Unit {0}) MarkupError) → ToldSo took enough before (Err (last_parts (told_from p m), e)) result to begin_telling → ToldSo took enough before (Err (last_parts (told_from p m), e)) result to now
-    by (Ok done) r = r
     by (Err Mem) r = r
-    by (Err other) r = r
+    by other r = r
 
 -- One telling behind another, where what takes the parts may have enough.
 module _ {S : Type 0} (took : S → Part → S → Type 0) (enough : S → Bool) where
@@ -164,7 +163,7 @@ ByteWays r b s us =
 pub byte-ways : (r : Reading) (b : ℕ) (s : Reading) (us : List Token) → Unfinished r.begun → byte_step r b ≡ Some (s, us) → ByteWays r b s us
 byte-ways r b s us u f = by (any_at (r.begun ++ b ∷ [])) refl f where
   by : (x : Step ℕ) → any_at (r.begun ++ b ∷ []) ≡ x → go_on r.mode r.opens (r.begun ++ b ∷ []) x ≡ Some (s, us) → ByteWays r b s us
-  by (Ok (c, left)) e d = inl (c, (done r.begun b c left u e).is, d)
+  by (Ok (c, left)) e d = inl (c, (done r.begun b c left u e).0, d)
   by (Err []) e d =
       let same = some-same (reading (r.begun ++ b ∷ []) r.mode r.opens) s [] us (taken-if (may_begin r.mode r.opens (r.begun ++ b ∷ [])) (Some (reading (r.begun ++ b ∷ []) r.mode r.opens, [])) (s, us) d).1 in
       inr (e, sym same.1, sym same.0)

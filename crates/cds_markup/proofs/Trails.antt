@@ -1,17 +1,18 @@
 -- One construct of a document behind another: the start tags that are open behind them, the parts so far, and that the reader of bytes
 -- gives them.
-use Rattle.std.proofs.Common.{◌==◌, ◌≡◌, ℕ, ◌+◌, ◌<◌, ◌≤◌, Bool, true, false, ◌&&◌, Some, List, [], ◌∷◌, ◌++◌, max, length, refl, sym, ap, subst, ◌∙◌, arith, append_assoc, ◌⊎◌, inl, inr, Option, None, cond, ◌-◌, Ok, codes, map}
+use Rattle.std.proofs.Common.{◌==◌, ◌≡◌, ℕ, ◌+◌, ◌<◌, ◌≤◌, Bool, true, false, ◌&&◌, Some, List, [], ◌∷◌, ◌++◌, length, refl, sym, ap, subst, ◌∙◌, arith, append_assoc, ◌⊎◌, inl, inr, Option, None, cond, ◌-◌, Ok, codes, map}
 use Rattle.cds_markup.proofs.Terms.{begins_tag, Grammar-content, TextCut, cases_lt, append-nil, length-append, begins_name, Attr, Part, Start, End, Tag, Leaf, Tree, EmptyElement, Full, Nothing, LeafThen, TreeThen, is_text, begins_with_text, IsLeaf, IsStartTag, IsEndTag, IsProlog, IsTag, IsTree, IsContent, tag_says, most_open, depth, depths, scopes_of, Opens, TagEnds, leaf_parts, TreeParts, ContentParts, OpensParts, RootEnds, Character, IsBegun, IsPlain, PartsTo, Run, SlashEnds, ends_with_text, first_non_blank, line_ends, nat_tests, is_blank, Empty, Marks, OpenText, Blanks, Content, Less, Inside, Epilog, Open, Mode, Without, contains, is_in_text, Text, is_empty, ends_tag, Token, Letter, Slash, Shut, Ended, Given, given, opened, tag_given, reading, may_begin_name, scopes_in, is_deep, is_missing, breaks_rule, if_said, said_as, marks, ended_part, completed_as, text_or, ended_text, is_in_content, last_part, Slashed as Slash-turn, Telling, telling, begin_telling, told_within, last_parts, Reading, MarkupError, Refuses, Stop, TooLong, refusal, length-map, by-test, and-no, heads, and-so, apart, Grammar-reference as Reference, Then}
 use Rattle.cds_markup.specs.declared.name.Name.{Name}
 use Rattle.cds_markup.specs.declared.tag.Declaration.{Declaration}
 use Rattle.cds_markup.proofs.TagForms.{IsClosed}
-use Rattle.cds_markup.proofs.Standing.{TagParts, of-parts, parts-of, and_content, ends_by, begins-append, ends-append, InText, text-characters, AllWhole, leaf_token, Leaf-of, End-of, opens-whole, T, piece-said, content-reads, start-reads, closed-tag, prolog-led, Leads-root}
-use Rattle.cds_markup.proofs.Ways.{encoded, wide-bytes, bytes_of, plain-bytes, less-bytes, Early, AtBegin, early_next, mode_of, root_or, step-is, landing, Said, then-says}
+use Rattle.cds_markup.proofs.Standing.{letter-step, TagParts, of-parts, parts-of, and_content, ends_by, begins-append, ends-append, InText, text-characters, AllWhole, leaf_token, Leaf-of, End-of, opens-whole, T, piece-said, content-reads, start-reads, closed-tag, prolog-led, Leads-root}
+use Rattle.cds_markup.proofs.Ways.{bytes_of, plain-bytes, less-bytes, Early, AtBegin, early_next, mode_of, root_or, step-is, landing, Said, then-says}
+use Rattle.cds_markup.proofs.Decoded.{encoded, wide-bytes}
 use Rattle.cds_markup.proofs.GoingOn.{option-by, NoneBefore, scopes-are, CauseAt, cause-refuses, judged-cause, Reached, two-bytes}
 use Rattle.cds_markup.specs.declared.event.Event.TheVariants.{Start as Began}
 use Rattle.cds_markup.proofs.ScanForms.{without-word, clean, state, word-without, characters-are, wide-open}
 use Rattle.cds_markup.proofs.Alive.{in-text}
-use Rattle.cds_markup.proofs.TokenTold.{shallow-mode, turn-told, token-told, early-less, quiet-told, root-told, letters-told, letter-step, IsRead, blank-behind, Stopped, told-ends, text-part, text-so, front-told, Landed, Lettered, came-so}
+use Rattle.cds_markup.proofs.TokenTold.{shallow-mode, turn-told, token-told, early-less, quiet-told, root-told, letters-told, IsRead, blank-behind, Stopped, told-ends, text-part, text-so, front-told, Landed, Lettered, came-so}
 use Rattle.cds_markup.proofs.Placing.{no-blank, is_to}
 
 -- before the root, inside an element with or without a literal text right before, behind the root, behind the `/` of an
@@ -91,16 +92,10 @@ content-append (TreeThen t c) d b at scopes bytes last inner more (front, back, 
     (front, back ++ last, first, later ++ more, k.0, f, content-append c d false (at + length front) scopes back last later more g k.1 isn, k.2)
 
 -- how deep
-pub deeper-of : (n d e : ℕ) → n + max d e ≤ 16 → (n + d ≤ 16) × (n + e ≤ 16)
-deeper-of n d e h = (grind arith, grind arith)
-
-deeper-both : (n d e : ℕ) → n + d ≤ 16 → n + e ≤ 16 → n + max d e ≤ 16
-deeper-both n d e h g = grind arith
-
 deep-append : (n : ℕ) (c d : Grammar-content) → n + depths c ≤ 16 → n + depths d ≤ 16 → n + depths (and_content c d) ≤ 16
 deep-append n Nothing d h g = g
 deep-append n (LeafThen l more) d h g = deep-append n more d h g
-deep-append n (TreeThen t more) d h g = let p = deeper-of n (depth t) (depths more) h in deeper-both n (depth t) (depths (and_content more d)) p.0 (deep-append n more d p.1 g)
+deep-append n (TreeThen t more) d h g = let r = deep-append n more d (grind (arith, h)) g in grind (arith, h, r)
 
 -- what stands at a place
 abbrev pub In-element : Bool → Tag → List Tag → List ℕ → List Part → Type 0
@@ -156,7 +151,7 @@ finish [] tree before bytes earlier inner o t few = (
   },
 )
 finish (t ∷ outer) tree before bytes earlier inner o h few =
-    open-more t outer before bytes earlier inner (TreeThen tree Nothing) o (bytes, [], inner, [], sym (append-nil bytes), h, (refl, refl), sym (append-nil inner)) (and-no (ends_by false o.6)) (deeper-both (length (t ∷ outer)) (depth tree) 0 few (omega (arith, few)))
+    open-more t outer before bytes earlier inner (TreeThen tree Nothing) o (bytes, [], inner, [], sym (append-nil bytes), h, (refl, refl), sym (append-nil inner)) (and-no (ends_by false o.6)) (grind (arith, few))
 
 -- the parts along the trail are those of the trees
 grow-means : {w v : Where} {tags more : List Tag} {before bytes : List ℕ} {found : List Part} (earlier : List Part) → Grows w tags v more before bytes found → Means w tags before earlier → Means v more (before ++ bytes) (earlier ++ found)
@@ -268,8 +263,8 @@ mutual
       (append_assoc before one two ∙ ap (λ xs. before ++ xs) (sym e)) (append_assoc earlier (leaf_parts (length before) l) later ∙ ap (λ ps. earlier ++ ps) (sym is))
   content-trail (TreeThen tree more) b t outer before bytes earlier inner tr (one, two, first, later, e, f, g, is) isn few =
       trail-as
-      (content-trail more false t outer (before ++ one) two (earlier ++ first) later (tree-trail tree (Within b) (t ∷ outer) before one earlier first tt tr f (deeper-of (length (t ∷ outer)) (depth tree) (depths more) few).0)
-      (subst (λ n. ContentParts more n (scopes_of (t ∷ outer)) two later) (sym (length-append before one)) g) refl (deeper-of (length (t ∷ outer)) (depth tree) (depths more) few).1)
+      (content-trail more false t outer (before ++ one) two (earlier ++ first) later (tree-trail tree (Within b) (t ∷ outer) before one earlier first tt tr f (grind (arith, few)))
+      (subst (λ n. ContentParts more n (scopes_of (t ∷ outer)) two later) (sym (length-append before one)) g) refl (grind (arith, few)))
       (append_assoc before one two ∙ ap (λ xs. before ++ xs) (sym e)) (append_assoc earlier first later ∙ ap (λ ps. earlier ++ ps) (sym is))
 
 pub root-trail : (front : List ℕ) (parts : List Part) → RootEnds front parts → Trail Behind [] front parts
@@ -329,7 +324,7 @@ name-first inside tag t =
     let n = q.first in
     let m = n.2 in
     let s = encoded m.what in
-    (s.head, s.tail ++ (m.back ++ (q.back ++ t.back)), t.spelled ∙ simp (q.spelled, m.spelled, m.first.spelled, s.is, append_assoc), (m.what, s.tail, record { spelled = sym s.is; allowed = m.first.allowed; passes = m.first.passes }))
+    (s.0, s.1 ++ (m.back ++ (q.back ++ t.back)), t.spelled ∙ simp (q.spelled, m.spelled, m.first.spelled, s.2, append_assoc), (m.what, s.1, record { spelled = sym s.2; allowed = m.first.allowed; passes = m.first.passes }))
 
 abbrev pub tag-at : (whole : List ℕ) (tags : List Tag) (before bytes rest : List ℕ) (tag : Tag) (empty : Bool) (at : ℕ) → Opens tags before → TagParts bytes tag (sign empty ∷ []) → whole ≡ before ++ (bytes ++ rest) → at + 1 ≡ length before + length bytes → TagEnds whole tags (length before) at tag
 tag-at whole tags before bytes rest tag empty at opens t e place = record {
@@ -584,7 +579,7 @@ pub begun-high : (b : ℕ) (xs : List ℕ) → IsBegun (b ∷ xs) → 128 ≤ b
 begun-high b xs (some, [], c, others, ch) = absurd (others refl)
 begun-high b xs (some, t ∷ tail, c, others, ch) =
     let w = wide-bytes c (two-bytes c b t xs tail (sym ch.spelled)) in
-    subst (λ x. 128 ≤ x) (heads w.head b w.tail (xs ++ t ∷ tail) (sym w.is ∙ sym ch.spelled)).0 w.high.0
+    subst (λ x. 128 ≤ x) (heads w.0 b w.1 (xs ++ t ∷ tail) (sym w.2 ∙ sym ch.spelled)).0 w.3.0
 
 cut-told : (n : ℕ) (tag : Tag) (outer : List Tag) (before text begun : List ℕ) (earlier : List Part) → Late n (Inside (Content 0)) (map opened (tag ∷ outer)) before earlier → IsPlain text → IsBegun begun → length (before ++ (text ++ begun)) ≤ n
     → Gives n (before ++ (text ++ begun)) (earlier ++ Run (length before) (first_non_blank (length before) (text ++ begun)) (line_ends text) ∷ [])

@@ -1,310 +1,8 @@
--- Forms that say the same of the same bytes, which form a machine reads, and where its words lead.
-use Rattle.std.proofs.Common.{◌≡◌, ◌==◌, ℕ, zero, suc, ◌<◌, ◌≤◌, ◌⊎◌, inl, inr, Bool, true, false, cond, Option, Some, None, List, [], ◌∷◌, ◌++◌, length, refl, sym, ap, subst, ◌∙◌, arith, append_assoc, encode_utf8, codes, ◌+◌, ◌-◌, ◌*◌, ◌/◌, ◌%◌, nat_lt, nat_le, ◌&&◌, ◌||◌, Ok, Err, map}
-use Rattle.cds_markup.proofs.Terms.{nat_tests, append-nil, length-append, encode_ascii, is_allowed, is_blank, is_any, Next, Stuck, On, Done, leads, comes, Byte, Character, Word, Then, Says, Many, Maybe, IsBlanks, IsSpace, IsEquals, Stops, begins_name, Open, Declaring, Xml, Misc, Blanks, MiscLess, Mode, Begin, Marked, First, Declaration, Prolog, step_declaration, Move, To, misc_step, root_move, prolog_move, marked_move, step, Turn, Inside, Epilog, Given, step_turn, is_over, is_behind, byte_order_mark, is_within, second_low, second_high, third_high, Step, after, byte_at, begins_character, behind_first, two_bytes_at, three_bytes_at, four_bytes_at, tail_at, any_at, no-cons, ok-err, cases, and-first, and-second, without_feed, lone_returns, line_ends, line_end_says, is-byte}
+-- Characters in bytes, forms that say the same of the same bytes, which form a machine reads, and where its words lead.
+use Rattle.std.proofs.Common.{◌≡◌, ◌==◌, ℕ, zero, suc, ◌<◌, ◌≤◌, ◌⊎◌, inl, inr, Bool, true, false, cond, Option, Some, None, List, [], ◌∷◌, ◌++◌, length, refl, sym, ap, subst, ◌∙◌, arith, append_assoc, encode_utf8, codes, nat_lt, ◌&&◌}
+use Rattle.cds_markup.proofs.Terms.{nat_tests, append-nil, length-append, encode_ascii, is_allowed, is_blank, is_any, Next, Stuck, On, Done, leads, comes, Byte, Character, Word, Then, Says, Many, Maybe, IsBlanks, IsSpace, IsEquals, Stops, begins_name, Open, Declaring, Xml, Misc, Blanks, MiscLess, Mode, Begin, Marked, First, Declaration, Prolog, step_declaration, Move, To, misc_step, root_move, prolog_move, marked_move, step, Turn, Inside, Epilog, Given, step_turn, is_over, is_behind, byte_order_mark, any_at, no-cons, cases, and-first, and-second, is-byte}
+use Rattle.cds_markup.proofs.Decoded.{encode-three, ok_same, decodes, encoded}
 pub use Rattle.cds_markup.proofs.Terms.{next-by, cases, Enters, Takes, Steps, steps-then, is-byte, same-byte, taken-if, and-both, and-first, and-second, clash, either-if, only-if, some-is, heads, by-test, takes-then, no-cons, steps-done, and-no, takes-last, holds, holds-if, holds-named, leads-any, Anything, steps-on, none-behind, empty-is, ok-err, holds-leads}
-use lib.Utf8.{encode}
-
-less-is : (a n : ℕ) → a < n → nat_lt a n ≡ true
-less-is a n h = grind (arith, nat_tests)
-
-pub more-is : (a n : ℕ) → n ≤ a → nat_lt a n ≡ false
-more-is a n h = grind (arith, nat_tests)
-
-pub encode-two : (c : ℕ) → 128 ≤ c → c < 2048 → encode_utf8 c ≡ (192 + c / 64) ∷ (128 + c % 64) ∷ []
-unfolding encode
-encode-two c low high = rw (more-is c 128 low, less-is c 2048 high) refl
-
-pub encode-three : (c : ℕ) → 2048 ≤ c → c < 65536 → encode_utf8 c ≡ (224 + c / 4096) ∷ (128 + c / 64 % 64) ∷ (128 + c % 64) ∷ []
-unfolding encode
-encode-three c low high = rw (more-is c 128 (omega arith), more-is c 2048 low, less-is c 65536 high) refl
-
-pub encode-four : (c : ℕ) → 65536 ≤ c → encode_utf8 c ≡ (240 + c / 262144) ∷ (128 + c / 4096 % 64) ∷ (128 + c / 64 % 64) ∷ (128 + c % 64) ∷ []
-unfolding encode
-encode-four c low = rw (more-is c 128 (omega arith), more-is c 2048 (omega arith), more-is c 65536 low) refl
-
-tail-within : (b : ℕ) → is_within 128 191 b ≡ true → (128 ≤ b) × (b ≤ 191)
-tail-within b e = (grind (arith, nat_tests), grind (arith, nat_tests))
-
--- two bytes of which each is in its range are a character
-two-are : (a b n : ℕ) → 194 ≤ a → a < 224 → (128 ≤ b) × (b ≤ 191) → n ≡ (a - 192) * 64 + (b - 128) → (encode_utf8 n ≡ a ∷ b ∷ []) × (is_allowed n ≡ true)
-two-are a b n low high g e =
-    let first : 192 + n / 64 ≡ a = omega arith in
-    let second : 128 + n % 64 ≡ b = omega arith in
-    let big : 128 ≤ n = omega arith in
-    let small : n < 2048 = omega arith in
-    (encode-two n big small ∙ ap (λ x. x ∷ (128 + n % 64) ∷ []) first ∙ ap (λ x. a ∷ x ∷ []) second, grind (arith, nat_tests, big, small))
-
--- what the table says of a second and a third byte
-second-is : (a b : ℕ) → is_within (second_low a) (second_high a) b ≡ true → (128 ≤ b) × (b ≤ 191) × (a ≡ 224 → 160 ≤ b) × (a ≡ 237 → b ≤ 159) × (a ≡ 240 → 144 ≤ b) × (a ≡ 244 → b ≤ 143)
-second-is a b e = (grind (arith, nat_tests), grind (arith, nat_tests), λ h. grind (arith, nat_tests), λ h. grind (arith, nat_tests), λ h. grind (arith, nat_tests), λ h. grind (arith, nat_tests))
-
-is-second : (a b : ℕ) → 128 ≤ b → b ≤ 191 → (a ≡ 224 → 160 ≤ b) → (a ≡ 237 → b ≤ 159) → (a ≡ 240 → 144 ≤ b) → (a ≡ 244 → b ≤ 143) → is_within (second_low a) (second_high a) b ≡ true
-is-second a b f1 f2 f3 f4 f5 f6 = grind (arith, nat_tests)
-
-pub at-most-or-more : (m n : ℕ) → (m ≤ n) ⊎ (n + 1 ≤ m)
-at-most-or-more m n = cases (nat_le m n) (λ e. inl (grind (arith, nat_tests))) (λ e. inr (grind (arith, nat_tests)))
-
--- what is allowed, by ranges
-pub allowed-at-most : (c : ℕ) → is_allowed c ≡ true → c ≤ 1114111
-allowed-at-most c e = grind (arith, nat_tests)
-
-pub allowed-no-surrogate : (c : ℕ) → is_allowed c ≡ true → 55296 ≤ c → 57344 ≤ c
-allowed-no-surrogate c e low = grind (arith, nat_tests)
-
-three-are : (a b c n : ℕ) → 224 ≤ a → a ≤ 239 → is_within (second_low a) (second_high a) b ≡ true → is_within 128 (third_high a b) c ≡ true → n ≡ (a - 224) * 4096 + (b - 128) * 64 + (c - 128)
-    → (encode_utf8 n ≡ a ∷ b ∷ c ∷ []) × (is_allowed n ≡ true)
-three-are a b c n low high s t e =
-    let f = second-is a b s in
-    let g : (128 ≤ c) × (c ≤ 191) × (a ≡ 239 → b ≡ 191 → c ≤ 189) = (grind (arith, nat_tests), grind (arith, nat_tests), λ g h. grind (arith, nat_tests)) in
-    let first : 224 + n / 4096 ≡ a = omega arith in
-    let mid : n / 64 ≡ (a - 224) * 64 + (b - 128) = omega arith in
-    let second : 128 + n / 64 % 64 ≡ b = omega arith in
-    let third : 128 + n % 64 ≡ c = omega arith in
-    let big : 2048 ≤ n = grind (arith, f, g) in
-    let small : n ≤ 65533 = grind (arith, f, g) in
-    let apart : (n ≤ 55295) ⊎ (57344 ≤ n) = elim (at-most-or-more a 237) [ inl h ↦ inl (grind (arith, f, g)) | inr h ↦ inr (omega arith) ] in
-    (encode-three n big (omega arith) ∙ ap (λ x. x ∷ (128 + n / 64 % 64) ∷ (128 + n % 64) ∷ []) first ∙ ap (λ x. a ∷ x ∷ (128 + n % 64) ∷ []) second ∙ ap (λ x. a ∷ b ∷ x ∷ []) third, grind (arith, nat_tests, big, small, apart))
-
-four-are : (a b c d n : ℕ) → 240 ≤ a → a ≤ 244 → is_within (second_low a) (second_high a) b ≡ true → (128 ≤ c) × (c ≤ 191) → (128 ≤ d) × (d ≤ 191) → n ≡ (a - 240) * 262144 + (b - 128) * 4096 + (c - 128) * 64 + (d - 128)
-    → (encode_utf8 n ≡ a ∷ b ∷ c ∷ d ∷ []) × (is_allowed n ≡ true)
-four-are a b c d n low high s r q e =
-    let f = second-is a b s in
-    let first : 240 + n / 262144 ≡ a = omega arith in
-    let upper : n / 4096 ≡ (a - 240) * 64 + (b - 128) = omega arith in
-    let mid : n / 64 ≡ ((a - 240) * 64 + (b - 128)) * 64 + (c - 128) = omega arith in
-    let second : 128 + n / 4096 % 64 ≡ b = omega arith in
-    let third : 128 + n / 64 % 64 ≡ c = omega arith in
-    let fourth : 128 + n % 64 ≡ d = omega arith in
-    let big : 65536 ≤ n = grind (arith, f) in
-    let small : n ≤ 1114111 = grind (arith, f) in
-    (encode-four n big ∙ ap (λ x. x ∷ (128 + n / 4096 % 64) ∷ (128 + n / 64 % 64) ∷ (128 + n % 64) ∷ []) first ∙ ap (λ x. a ∷ x ∷ (128 + n / 64 % 64) ∷ (128 + n % 64) ∷ []) second ∙ ap (λ x. a ∷ b ∷ x ∷ (128 + n % 64) ∷ []) third ∙ ap (λ x. a ∷ b ∷ c ∷ x ∷ []) fourth, grind (arith, nat_tests, big, small))
-
--- Reading a character: what is read is one, each one is read, and what is cut off goes on to one.
-
--- Steps that go by what comes first: what follows changes nothing of their answer, and what is cut off can go on.
-abbrev Onto : {A : Type 0} → (List ℕ → Step A) → List ℕ → Step A → Type 0
-Onto r left (Ok found) = (more : List ℕ) → r (left ++ more) ≡ Ok (found.0, found.1 ++ more)
-Onto {A} r left (Err []) = (more : List ℕ) × (v : A) × (r (left ++ more) ≡ Ok (v, []))
-Onto r left (Err (b ∷ x)) = (more : List ℕ) → r (left ++ more) ≡ Err (b ∷ (x ++ more))
-
-record Local {A : Type 0} (r : List ℕ → Step A) : Type 0 where
-  pub reads : (left : List ℕ) → Onto r left (r left)
-  pub some : (more : List ℕ) × (v : A) × (r more ≡ Ok (v, []))
-
-module _ {A B : Type 0} (r : List ℕ → Step A) (s : A → List ℕ → Step B) (R : Local r) (S : (a : A) → Local (s a)) where
-  abbrev both : List ℕ → Step B
-  both left = after (r left) s
-
-  goes-on : (left : List ℕ) → Onto r left (Err []) → Onto both left (Err [])
-  goes-on left (more, v, e) =
-      let h = (S v).some in
-      (more ++ h.0, h.1, ap both (sym (append_assoc left more h.0)) ∙ ap (λ x. after x s) (subst (Onto r (left ++ more)) e (R.reads (left ++ more)) h.0) ∙ h.2)
-
-  local-after : Local both
-  local-after = record { reads = λ left. by left (r left) (R.reads left); some = goes-on [] R.some } where
-    behind : (left : List ℕ) (a : A) (mid : List ℕ) → Onto r left (Ok (a, mid)) → (y : Step B) → Onto (s a) mid y → Onto both left y
-    behind left a mid k (Ok found) f = λ more. ap (λ x. after x s) (k more) ∙ f more
-    behind left a mid k (Err []) (more, v, e) = (more, v, ap (λ x. after x s) (k more) ∙ e)
-    behind left a mid k (Err (b ∷ x)) f = λ more. ap (λ x. after x s) (k more) ∙ f more
-
-    by : (left : List ℕ) (x : Step A) → Onto r left x → Onto both left (after x s)
-    by left (Ok (a, mid)) k = behind left a mid k (s a mid) ((S a).reads mid)
-    by left (Err []) k = goes-on left k
-    by left (Err (b ∷ x)) k = λ more. ap (λ y. after y s) (k more)
-
-local-byte : (test : ℕ → Bool) (b : ℕ) → test b ≡ true → Local (byte_at test)
-local-byte test b has = record { reads = reads; some = (b ∷ [], b, rw has refl) } where
-  reads : (left : List ℕ) → Onto (byte_at test) left (byte_at test left)
-  reads [] = (b ∷ [], b, rw has refl)
-  reads (c ∷ left) = cases (test c) (λ e. rw e (λ more. rw e refl)) (λ e. rw e (λ more. rw e refl))
-
-local-value : {A : Type 0} (v : A) → Local (λ left. Ok (v, left))
-local-value v = record { reads = λ left more. refl; some = ([], v, refl) }
-
-abbrev value_of_two : ℕ → ℕ → ℕ
-value_of_two a b = (a - 192) * 64 + (b - 128)
-
-abbrev value_of_three : ℕ → ℕ → ℕ → ℕ
-value_of_three a b c = (a - 224) * 4096 + (b - 128) * 64 + (c - 128)
-
-abbrev value_of_four : ℕ → ℕ → ℕ → ℕ → ℕ
-value_of_four a b c d = (a - 240) * 262144 + (b - 128) * 4096 + (c - 128) * 64 + (d - 128)
-
-abbrev third : ℕ → ℕ → List ℕ → Step ℕ
-third a b left = after (tail_at 128 (third_high a b) left) (λ c rest. Ok (value_of_three a b c, rest))
-
-abbrev fourth : ℕ → ℕ → ℕ → List ℕ → Step ℕ
-fourth a b c left = after (tail_at 128 191 left) (λ d rest. Ok (value_of_four a b c d, rest))
-
-local-behind : (b : ℕ) → Local (behind_first b)
-local-behind b = by (nat_lt b 128) (nat_lt b 224) (nat_lt b 240) where
-  tail : Local (tail_at 128 191)
-  tail = local-byte (is_within 128 191) 128 refl
-
-  second : Local (tail_at (second_low b) (second_high b))
-  second = local-byte (is_within (second_low b) (second_high b)) (second_low b) (grind (arith, nat_tests))
-
-  by : (s t u : Bool) → Local (λ rest. cond s (Ok (b, rest)) (cond t (two_bytes_at b rest) (cond u (three_bytes_at b rest) (four_bytes_at b rest))))
-  by true t u = local-value b
-  by false true u = search (local-after, local-value, tail)
-  by false false true = local-after (tail_at (second_low b) (second_high b)) (third b) second (λ c. search (local-after, local-value, local-byte (is_within 128 (third_high b c)) 128 (grind (arith, nat_tests))))
-  by false false false = search (local-after, local-value, second, tail)
-
-any-local : Local any_at
-unfolding any_at
-any-local = local-after (byte_at begins_character) behind_first (local-byte begins_character 65 refl) local-behind
-
-abbrev pub Ranges : ℕ → Type 0
-Ranges c = (c < 128) ⊎ (((128 ≤ c) × (c < 2048)) ⊎ (((2048 ≤ c) × (c < 65536)) ⊎ (65536 ≤ c)))
-
-pub ranges : (c : ℕ) → Ranges c
-ranges c = elim (at-most-or-more 128 c) [
-  | inr low ↦ inl (omega (arith, low))
-  | inl a ↦ elim (at-most-or-more 2048 c) [ inr low ↦ inr (inl (a, omega (arith, low))) | inl b ↦ elim (at-most-or-more 65536 c) [ inr low ↦ inr (inr (inl (b, omega (arith, low)))) | inl d ↦ inr (inr (inr d)) ] ]
-]
-
-pub lead-is-wide : (x : Bool) (b : ℕ) → 194 ≤ b → b ≤ 244 → ((nat_lt b 128 && x) || is_within 194 244 b) ≡ true
-lead-is-wide x b low high = grind (arith, nat_tests)
-
--- what is read is a character
-pub ok_same : {A : Type 0} (v w : A) (x y : List ℕ) → ◌≡◌ {A = Step A} (Ok (v, x)) (Ok (w, y)) → (v ≡ w) × (x ≡ y)
-ok_same {A} v w x y e =
-    let pair : A × List ℕ = (v, x) in
-    let other : A × List ℕ = (w, y) in
-    let same : pair ≡ other = cc in
-    (ap (λ p. p.0) same, ap (λ p. p.1) same)
-
-abbrev pub Read : List ℕ → ℕ → List ℕ → Type 0
-Read bytes c rest = (bytes ≡ encode_utf8 c ++ rest) × (is_allowed c ≡ true)
-
--- what is read behind a byte
-byte-then : {A : Type 0} (test : ℕ → Bool) (left : List ℕ) (next : ℕ → List ℕ → Step A) (v : A) (rest : List ℕ) → after (byte_at test left) next ≡ Ok (v, rest) → (b : ℕ) × (more : List ℕ) × (left ≡ b ∷ more) × (test b ≡ true) × (next b more ≡ Ok (v, rest))
-byte-then test [] next v rest e = ok-err (sym e)
-byte-then test (b ∷ more) next v rest e = cases (test b) (λ t. (b, more, refl, t, rw t at e)) (λ t. ok-err (sym (rw t at e)))
-
-pub found : (bytes : List ℕ) (c : ℕ) (rest : List ℕ) → any_at bytes ≡ Ok (c, rest) → Read bytes c rest
-unfolding any_at
-found bytes c rest e = let f = byte-then begins_character bytes behind_first c rest e in by f.0 f.1 f.2 f.3 (nat_lt f.0 128) (nat_lt f.0 224) (nat_lt f.0 240) refl refl refl f.4 where
-  over : (n : ℕ) (front more : List ℕ) → (encode_utf8 n ≡ front) × (is_allowed n ≡ true) → ◌≡◌ {A = Step ℕ} (Ok (n, more)) (Ok (c, rest)) → bytes ≡ front ++ more → Read bytes c rest
-  over n front more h e d = let s = ok_same n c more rest e in (d ∙ ap (λ xs. xs ++ more) (sym h.0) ∙ ap (λ x. encode_utf8 x ++ more) s.0 ∙ ap (λ xs. encode_utf8 c ++ xs) s.1, ap is_allowed (sym s.0) ∙ h.1)
-
-  by : (a : ℕ) (left : List ℕ) → bytes ≡ a ∷ left → begins_character a ≡ true → (s t u : Bool) → nat_lt a 128 ≡ s → nat_lt a 224 ≡ t → nat_lt a 240 ≡ u → cond s (Ok (a, left)) (cond t (two_bytes_at a left) (cond u (three_bytes_at a left) (four_bytes_at a left))) ≡ Ok (c, rest) → Read bytes c rest
-  by a left d ok true t u f1 f2 f3 e = let low : a < 128 = grind (arith, nat_tests) in over a (a ∷ []) left (encode_ascii a low, grind (arith, nat_tests)) e d
-  by a left d ok false true u f1 f2 f3 e =
-      let low : 194 ≤ a = grind (arith, nat_tests) in
-      let high : a < 224 = grind (arith, nat_tests) in
-      let x = byte-then (is_within 128 191) left (λ b more. Ok (value_of_two a b, more)) c rest e in
-      over (value_of_two a x.0) (a ∷ x.0 ∷ []) x.1 (two-are a x.0 (value_of_two a x.0) low high (tail-within x.0 x.3) refl) x.4 (d ∙ ap (λ xs. a ∷ xs) x.2)
-  by a left d ok false false true f1 f2 f3 e =
-      let x = byte-then (is_within (second_low a) (second_high a)) left (third a) c rest e in
-      let y = byte-then (is_within 128 (third_high a x.0)) x.1 (λ c more. Ok (value_of_three a x.0 c, more)) c rest x.4 in
-      over (value_of_three a x.0 y.0) (a ∷ x.0 ∷ y.0 ∷ []) y.1 (three-are a x.0 y.0 (value_of_three a x.0 y.0) (grind (arith, nat_tests)) (grind (arith, nat_tests)) x.3 y.3 refl) y.4 (d ∙ ap (λ xs. a ∷ xs) (x.2 ∙ ap (λ xs. x.0 ∷ xs) y.2))
-  by a left d ok false false false f1 f2 f3 e =
-      let x = byte-then (is_within (second_low a) (second_high a)) left (λ b more. after (tail_at 128 191 more) (fourth a b)) c rest e in
-      let y = byte-then (is_within 128 191) x.1 (fourth a x.0) c rest x.4 in
-      let z = byte-then (is_within 128 191) y.1 (λ d more. Ok (value_of_four a x.0 y.0 d, more)) c rest y.4 in
-      over (value_of_four a x.0 y.0 z.0) (a ∷ x.0 ∷ y.0 ∷ z.0 ∷ []) z.1 (four-are a x.0 y.0 z.0 (value_of_four a x.0 y.0 z.0) (grind (arith, nat_tests)) (grind (arith, nat_tests)) x.3 (tail-within y.0 y.3) (tail-within z.0 z.3) refl) z.4
-      (d ∙ ap (λ xs. a ∷ xs) (x.2 ∙ ap (λ xs. x.0 ∷ xs) (y.2 ∙ ap (λ xs. y.0 ∷ xs) z.2)))
-
--- each character is read
-within-tail : (b : ℕ) → 128 ≤ b → b ≤ 191 → is_within 128 191 b ≡ true
-within-tail b low high = grind (arith, nat_tests)
-
-read-plain : (c : ℕ) → is_allowed c ≡ true → any_at (encode_utf8 c) ≡ Ok (c, [])
-unfolding any_at
-read-plain c ok = by (ranges c) where
-  by : Ranges c → any_at (encode_utf8 c) ≡ Ok (c, [])
-  by (inl small) =
-      let lead : ((nat_lt c 128 && is_allowed c) || is_within 194 244 c) ≡ true = rw (less-is c 128 small, ok) refl in
-      rw (encode_ascii c small, lead, less-is c 128 small) refl
-  by (inr (inl two)) =
-      let a : ℕ = 192 + c / 64 in
-      let b : ℕ = 128 + c % 64 in
-      let is : value_of_two a b ≡ c = omega arith in
-      rw (encode-two c two.0 two.1, lead-is-wide (is_allowed a) a (omega arith) (omega arith), more-is a 128 (omega arith), less-is a 224 (omega arith), within-tail b (omega arith) (omega arith), is) refl
-  by (inr (inr (inl three))) =
-      let a : ℕ = 224 + c / 4096 in
-      let b : ℕ = 128 + c / 64 % 64 in
-      let d : ℕ = 128 + c % 64 in
-      let over : c / 64 ≡ c / 4096 * 64 + c / 64 % 64 = omega arith in
-      let is : value_of_three a b d ≡ c = omega arith in
-      let most : c ≤ 65533 = grind (arith, nat_tests, three.1) in
-      let gap : 55296 ≤ c → 57344 ≤ c = allowed-no-surrogate c ok in
-      let s = is-second a b (omega arith) (omega arith) (λ h. omega (arith, is, three.0)) (λ h. elim (at-most-or-more b 159) [ inl k ↦ k | inr k ↦ absurd (omega (arith, is, h, k, gap (omega (arith, is, h, k)))) ]) (λ h. absurd (omega arith)) (λ h. absurd (omega arith)) in
-      let last : a ≡ 239 → b ≡ 191 → d ≤ 189 = λ h k. omega (arith, is, most) in
-      let t : is_within 128 (third_high a b) d ≡ true = grind (arith, nat_tests, last) in
-      rw (encode-three c three.0 three.1, lead-is-wide (is_allowed a) a (omega arith) (omega arith), more-is a 128 (omega arith), more-is a 224 (omega arith), less-is a 240 (omega arith), s, t, is) refl
-  by (inr (inr (inr four))) =
-      let a : ℕ = 240 + c / 262144 in
-      let b : ℕ = 128 + c / 4096 % 64 in
-      let d : ℕ = 128 + c / 64 % 64 in
-      let e : ℕ = 128 + c % 64 in
-      let upper : c / 4096 ≡ c / 262144 * 64 + c / 4096 % 64 = omega arith in
-      let over : c / 64 ≡ c / 4096 * 64 + c / 64 % 64 = omega arith in
-      let is : value_of_four a b d e ≡ c = omega arith in
-      let most = allowed-at-most c ok in
-      let s = is-second a b (omega arith) (omega arith) (λ h. absurd (omega arith)) (λ h. absurd (omega arith)) (λ h. omega (arith, is, four)) (λ h. omega (arith, is, most)) in
-      rw (encode-four c four, lead-is-wide (is_allowed a) a (omega arith) (omega arith), more-is a 128 (omega arith), more-is a 224 (omega arith), more-is a 240 (omega arith), s, within-tail d (omega arith) (omega arith), within-tail e (omega arith) (omega arith), is) refl
-
-pub decodes : (c : ℕ) (tail : List ℕ) → is_allowed c ≡ true → any_at (encode_utf8 c ++ tail) ≡ Ok (c, tail)
-decodes c tail ok = subst (Onto any_at (encode_utf8 c)) (read-plain c ok) (any-local.reads (encode_utf8 c)) tail
-
--- what is no character is none whatever follows, and what is cut off goes on to one
-pub stuck : (bytes : List ℕ) (x : ℕ) (y more : List ℕ) → any_at bytes ≡ Err (x ∷ y) → any_at (bytes ++ more) ≡ Err (x ∷ (y ++ more))
-stuck bytes x y more e = subst (Onto any_at bytes) e (any-local.reads bytes) more
-
-pub viable : (begun : List ℕ) → any_at begun ≡ Err [] → (c : ℕ) × (more : List ℕ) × (encode_utf8 c ≡ begun ++ more) × (is_allowed c ≡ true)
-viable begun u =
-    let g = subst (Onto any_at begun) u (any-local.reads begun) in
-    let f = found (begun ++ g.0) g.1 [] g.2 in
-    (g.1, g.0, sym (f.0 ∙ append-nil (encode_utf8 g.1)), f.1)
-
-pub lead-begins : (b : ℕ) → 194 ≤ b → b ≤ 244 → any_at (b ∷ []) ≡ Err []
-unfolding any_at
-lead-begins b low high =
-    rw (lead-is-wide (is_allowed b) b low high, more-is b 128 (omega arith)) (cases (nat_lt b 224) (λ e. rw e refl) (λ e. cases (nat_lt b 240) (λ d. rw (e, d) refl) (λ d. rw (e, d) refl)))
-
--- The bytes of a character.
-
--- bytes beyond ASCII
-abbrev pub High : List ℕ → Type 0
-High [] = Unit {0}
-High (b ∷ w) = (128 ≤ b) × High w
-
-pub record Wide-bytes (c : ℕ) : Type 0 where
-  pub head : ℕ
-  pub tail : List ℕ
-  pub is : encode_utf8 c ≡ head ∷ tail
-  pub high : High (head ∷ tail)
-
-pub wide-bytes : (c : ℕ) → 128 ≤ c → Wide-bytes c
-wide-bytes c h = by (ranges c) where
-  by : Ranges c → Wide-bytes c
-  by (inl small) = absurd (omega (arith, h, small))
-  by (inr (inl two)) = record { head = 192 + c / 64; tail = (128 + c % 64) ∷ []; is = encode-two c two.0 two.1; high = (omega arith, (omega arith, tt)) }
-  by (inr (inr (inl three))) = record {
-    head = 224 + c / 4096;
-    tail = (128 + c / 64 % 64) ∷ (128 + c % 64) ∷ [];
-    is = encode-three c three.0 three.1;
-    high = (omega arith, (omega arith, (omega arith, tt)));
-  }
-  by (inr (inr (inr four))) = record {
-    head = 240 + c / 262144;
-    tail = (128 + c / 4096 % 64) ∷ (128 + c / 64 % 64) ∷ (128 + c % 64) ∷ [];
-    is = encode-four c four;
-    high = (omega arith, (omega arith, (omega arith, (omega arith, tt))));
-  }
-
-pub record Some-bytes (bytes : List ℕ) : Type 0 where
-  pub head : ℕ
-  pub tail : List ℕ
-  pub is : bytes ≡ head ∷ tail
-
-pub encoded : (c : ℕ) → Some-bytes (encode_utf8 c)
-encoded c = elim (at-most-or-more 128 c) [
-  | inl high ↦ let w = wide-bytes c high in record { head = w.head; tail = w.tail; is = w.is }
-  | inr low ↦ record { head = c; tail = []; is = encode_ascii c (omega (arith, low)) }
-]
 
 -- Characters in bytes: a text of allowed characters is spelled in one way, and is cut only between characters.
 
@@ -319,8 +17,7 @@ Allowed (c ∷ w) = (is_allowed c ≡ true) × Allowed w
 
 -- the byte order mark
 pub mark-bytes : bytes_of (65279 ∷ []) ≡ byte_order_mark
-unfolding encode
-mark-bytes = refl
+mark-bytes = rw (encode-three 65279 (omega arith) (omega arith)) refl
 
 pub bytes-append : (v w : List ℕ) → bytes_of (v ++ w) ≡ bytes_of v ++ bytes_of w
 bytes-append [] w = refl
@@ -330,20 +27,16 @@ pub allowed-append : (v w : List ℕ) → Allowed v → Allowed w → Allowed (v
 allowed-append [] w a b = b
 allowed-append (c ∷ v) w a b = (a.0, allowed-append v w a.1 b)
 
-pub allowed-front : (v w : List ℕ) → Allowed (v ++ w) → Allowed v
-allowed-front [] w a = tt
-allowed-front (c ∷ v) w a = (a.0, allowed-front v w a.1)
-
-pub allowed-back : (v w : List ℕ) → Allowed (v ++ w) → Allowed w
-allowed-back [] w a = a
-allowed-back (c ∷ v) w a = allowed-back v w a.1
+pub allowed-apart : (v w : List ℕ) → Allowed (v ++ w) → Allowed v × Allowed w
+allowed-apart [] w a = (tt, a)
+allowed-apart (c ∷ v) w a = let r = allowed-apart v w a.1 in ((a.0, r.0), r.1)
 
 -- the first character
 pub same-first : (c d : ℕ) (x y : List ℕ) → is_allowed c ≡ true → is_allowed d ≡ true → encode_utf8 c ++ x ≡ encode_utf8 d ++ y → (c ≡ d) × (x ≡ y)
 same-first c d x y a b e = ok_same c d x y (sym (decodes c x a) ∙ ap any_at e ∙ decodes d y b)
 
 pub none-spelled : (c : ℕ) (x : List ℕ) → [] ≡ encode_utf8 c ++ x → ⊥
-none-spelled c x e = let s = encoded c in no-cons {a = s.head} {xs = s.tail ++ x} (e ∙ ap (λ xs. xs ++ x) s.is)
+none-spelled c x e = let s = encoded c in no-cons {a = s.0} {xs = s.1 ++ x} (e ∙ ap (λ xs. xs ++ x) s.2)
 
 -- characters that begin bytes begin the characters of the bytes
 pub cut : (w u tail : List ℕ) → Allowed w → Allowed u → bytes_of w ≡ bytes_of u ++ tail → (left : List ℕ) × (w ≡ u ++ left) × (tail ≡ bytes_of left)
@@ -392,77 +85,6 @@ pub record Spell (bytes : List ℕ) : Type 0 where
   pub text : List ℕ
   pub spelled : bytes ≡ bytes_of text
   pub allowed : Allowed text
-
--- the same byte by byte from the front, behind a carriage return or not
-abbrev lines : Bool → List ℕ → List ℕ
-lines behind [] = []
-lines behind (b ∷ w) = cond {A = List ℕ} ((b == 10) && behind) [] (cond {A = List ℕ} (b == 13) (10 ∷ []) (b ∷ [])) ++ lines (b == 13) w
-
-abbrev fed : ℕ → ℕ
-fed b = cond {A = ℕ} (b == 13) 10 b
-
-abbrev Are : List ℕ → Type 0
-Are w = (lines false w ≡ map fed (lone_returns w)) × (lines true w ≡ map fed (without_feed (lone_returns w)))
-
-are : (w : List ℕ) → Are w
-are [] = (refl, refl)
-are (b ∷ w) = by (b == 13) (b == 10) refl refl (are w) where
-  by : (s t : Bool) → (b == 13) ≡ s → (b == 10) ≡ t → Are w → Are (b ∷ w)
-  by true t e f h = subst (λ x. Are (x ∷ w)) (sym (is-byte b 13 e)) (ap (λ xs. 10 ∷ xs) h.1, ap (λ xs. 10 ∷ xs) h.1)
-  by false true e f h = subst (λ x. Are (x ∷ w)) (sym (is-byte b 10 f)) (ap (λ xs. 10 ∷ xs) h.0, h.0)
-  by false false e f h = simp (e, f) (ap (λ xs. b ∷ xs) h.0, ap (λ xs. b ∷ xs) h.0)
-
--- one text behind another
-abbrev pub ends_return : Bool → List ℕ → Bool
-ends_return behind [] = behind
-ends_return behind (b ∷ w) = ends_return (b == 13) w
-
-lines-append : (behind : Bool) (v w : List ℕ) → lines behind (v ++ w) ≡ lines behind v ++ lines (ends_return behind v) w
-lines-append behind [] w = refl
-lines-append behind (b ∷ v) w =
-    let says : List ℕ = cond {A = List ℕ} ((b == 10) && behind) [] (cond {A = List ℕ} (b == 13) (10 ∷ []) (b ∷ [])) in
-    ap (λ xs. says ++ xs) (lines-append (b == 13) v w) ∙ sym (append_assoc says (lines (b == 13) v) (lines (ends_return (b == 13) v) w))
-
-ends-append : (behind : Bool) (v w : List ℕ) → ends_return behind (v ++ w) ≡ ends_return (ends_return behind v) w
-ends-append behind [] w = refl
-ends-append behind (b ∷ v) w = ends-append (b == 13) v w
-
-no-sign : (b sign : ℕ) → 128 ≤ b → sign < 128 → (b == sign) ≡ false
-no-sign b sign h low = grind (arith, nat_tests)
-
-lines-high : (behind : Bool) (b : ℕ) (w : List ℕ) → High (b ∷ w) → (lines behind (b ∷ w) ≡ b ∷ w) × (ends_return behind (b ∷ w) ≡ false)
-lines-high behind b [] h = simp (no-sign b 13 h.0 (omega arith), no-sign b 10 h.0 (omega arith)) (refl, refl)
-lines-high behind b (x ∷ w) h = simp (no-sign b 13 h.0 (omega arith), no-sign b 10 h.0 (omega arith)) (let r = lines-high false x w h.1 in (ap (λ xs. b ∷ xs) r.0, r.1))
-
--- one character
-abbrev Char-lines : ℕ → Type 0
-Char-lines c = (behind : Bool) → (lines behind (encode_utf8 c) ≡ line_end_says behind c) × (ends_return behind (encode_utf8 c) ≡ (c == 13))
-
-ascii-lines : (c : ℕ) → c < 128 → Char-lines c
-ascii-lines c low behind =
-    let e = encode_ascii c low in
-    let said : List ℕ → List ℕ = λ xs. cond {A = List ℕ} ((c == 10) && behind) [] (cond {A = List ℕ} (c == 13) (10 ∷ []) xs) in
-    (ap (lines behind) e ∙ append-nil (said (c ∷ [])) ∙ ap said (sym e), ap (ends_return behind) e)
-
-char-lines : (c : ℕ) → Char-lines c
-char-lines c = elim (at-most-or-more 128 c) [ inl high ↦ wide high | inr low ↦ ascii-lines c (omega (arith, low)) ] where
-  wide : 128 ≤ c → Char-lines c
-  wide high behind =
-      let b = wide-bytes c high in
-      let one = no-sign c 13 high (omega arith) in
-      let two = no-sign c 10 high (omega arith) in
-      let s = lines-high behind b.head b.tail b.high in
-      (ap (lines behind) b.is ∙ s.0 ∙ sym b.is ∙ simp (one, two), ap (ends_return behind) b.is ∙ s.1 ∙ sym one)
-
--- one character more
-pub line_more : (xs : List ℕ) (c : ℕ) → line_ends (xs ++ encode_utf8 c) ≡ line_ends xs ++ line_end_says (ends_return false xs) c
-line_more xs c =
-    let behind = ends_return false xs in
-    sym (are (xs ++ encode_utf8 c)).0 ∙ lines-append false xs (encode_utf8 c) ∙ ap (λ ys. ys ++ lines behind (encode_utf8 c)) (are xs).0
-    ∙ ap (λ ys. line_ends xs ++ ys) (char-lines c behind).0
-
-pub ends_more : (xs : List ℕ) (c : ℕ) → ends_return false (xs ++ encode_utf8 c) ≡ (c == 13)
-ends_more xs c = ends-append false xs (encode_utf8 c) ∙ (char-lines c (ends_return false xs)).1
 
 -- one word behind another
 pub then-of : {A B : Type 0} {G : List ℕ → A → Type 0} {H : A → List ℕ → B → Type 0} {bytes : List ℕ} {b : B} (front back : List ℕ) (a : A) → bytes ≡ front ++ back → G front a → H a back b → Then G H bytes b
@@ -760,8 +382,8 @@ module _ {M A N B : Type 0} (step : M → ℕ → Next M A) (inner : N → ℕ �
   pub reads-in : (f : ℕ → Next M A) (g : ℕ → Next N B) → Led-as f g → Alike (Reads step f) (Then (Reads inner g) (λ b. Behind step (over b)))
   reads-in f g i bytes a = (
     λ r. let t = takes-apart r.text f g i a r.takes in
-        let all = subst Allowed t.3 r.allowed in
-        then-of (bytes_of t.0) (bytes_of t.1) t.2 (r.spelled ∙ ap bytes_of t.3 ∙ bytes-append t.0 t.1) (record { text = t.0; spelled = refl; allowed = allowed-front t.0 t.1 all; takes = t.4 }) (onward-is step (over t.2) t.1 a (allowed-back t.0 t.1 all) t.5),
+        let all = allowed-apart t.0 t.1 (subst Allowed t.3 r.allowed) in
+        then-of (bytes_of t.0) (bytes_of t.1) t.2 (r.spelled ∙ ap bytes_of t.3 ∙ bytes-append t.0 t.1) (record { text = t.0; spelled = refl; allowed = all.0; takes = t.4 }) (onward-is step (over t.2) t.1 a all.1 t.5),
     λ t. let r = t.first in
         let w = is-onward step (over t.what) t.back a t.second in
         record { text = r.text ++ w.0; spelled = t.spelled ∙ ap (λ xs. xs ++ t.back) r.spelled ∙ ap (λ xs. bytes_of r.text ++ xs) w.1 ∙ sym (bytes-append r.text w.0); allowed = allowed-append r.text w.0 r.allowed w.2; takes = takes-both r.text w.0 f g i t.what a r.takes w.3 },

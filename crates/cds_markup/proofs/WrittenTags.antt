@@ -9,9 +9,11 @@ use Rattle.cds_markup.specs.declared.name.Name.{Name}
 use Rattle.cds_markup.specs.declared.tag.Declaration.{Declaration}
 pub use Rattle.cds_markup.specs.Drafts.{CanBeDraftAttr as Stands, CanBeDraftTag as TagStands}
 use Rattle.cds_markup.specs.Written.{numbered, under, declares, with_name, counted, tag_attrs, default_declared, tag_of, CanBeAttr, CanBeTag, written_attr, written_attrs, written_start, written_end}
-use Rattle.cds_markup.proofs.Terms.{nat_tests, encode_ascii, bytes_eq-Decides, list_all, begins_name, is_in_name, Attr, QName, TagAttr, Tag, Character, Then, Many, IsName, IsQName, IsSpace, IsEquals, IsTagAttr, IsStartTag, IsEndTag, name_bytes, and_more, declarations, is_empty, tag_says, and-both, and-first, and-second, cases, clash, empty-is, some-is, AllByRecursion, list_any, bytes_eq, escaped, xml_space, is_declaration, declaration, is_sound, declared, space_of, attr_name, with_value, named_attrs, same_qname, same_name, no_attr_twice, no_name_twice, flat_map, is_allowed, is_blank, IsReference, named, ValuePiece, Literal, Referred-piece, Grammar-reference, Text, LeafThen, Inner, Meanings, and_behind, piece_says, with_line_ends, is_in_value, is_in_text, IsValuePiece, IsInside, IsValue, IsText, IsContent, contains, begins_with_text, line_ends, and_joined, meanings, depths, no-cons, eqb-true, list_all-append, flat_map-append, encode_utf8_all, escaped_byte}
+use Rattle.cds_markup.proofs.Terms.{is_return, nat_tests, encode_ascii, bytes_eq-Decides, list_all, begins_name, is_in_name, Attr, QName, TagAttr, Tag, Character, Then, Many, IsName, IsQName, IsSpace, IsEquals, IsTagAttr, IsStartTag, IsEndTag, name_bytes, and_more, declarations, is_empty, tag_says, and-both, and-first, and-second, cases, clash, empty-is, some-is, AllByRecursion, list_any, bytes_eq, escaped, xml_space, is_declaration, declaration, is_sound, declared, space_of, attr_name, with_value, named_attrs, same_qname, same_name, no_attr_twice, no_name_twice, flat_map, is_allowed, is_blank, IsReference, named, ValuePiece, Literal, Referred-piece, Grammar-reference, Text, LeafThen, Inner, Meanings, and_behind, piece_says, with_line_ends, is_in_value, is_in_text, IsValuePiece, IsInside, IsValue, IsText, IsContent, contains, begins_with_text, line_ends, and_joined, meanings, depths, no-cons, eqb-true, list_all-append, flat_map-append, encode_utf8_all, escaped_byte}
 use Rattle.cds_markup.proofs.NodesForm.{is-some, and-joined-more, and-joined-none}
-use Rattle.cds_markup.proofs.Ways.{then-of, no-blanks, encoded}
+use Rattle.cds_markup.proofs.Ways.{then-of, no-blanks}
+use Rattle.cds_markup.proofs.TagForms.{and-behind}
+use Rattle.cds_markup.proofs.Decoded.{encoded}
 use Rattle.cds_base.specs.Unescape.{AreAllowed}
 use Rattle.cds_base.proofs.Escapes.{kept_char}
 
@@ -84,16 +86,6 @@ record Pieces (bytes said : List ℕ) : Type 0 where
   says : flat_map piece_says pieces ≡ said
   no_ends : with_line_ends pieces ≡ pieces
 
-abbrev is_return : ValuePiece → Bool
-is_return (Literal c) = c == 13
-is_return (Referred-piece c) = false
-
-and-behind : (piece : ValuePiece) (more : List ValuePiece) → is_return piece ≡ false → and_behind piece more ≡ piece ∷ more
-and-behind piece [] e = refl
-and-behind (Literal c) (Literal d ∷ more) e = rw e refl
-and-behind (Literal c) (Referred-piece d ∷ more) e = refl
-and-behind (Referred-piece c) (second ∷ more) e = refl
-
 one-more : (c : ℕ) (cs : List ℕ) (piece : ValuePiece) → IsValuePiece 34 (escaped (encode_utf8 c)) piece → piece_says piece ≡ encode_utf8 c → is_return piece ≡ false → Pieces (escaped (encode_utf8_all cs)) (encode_utf8_all cs) → Pieces (escaped (encode_utf8_all (c ∷ cs))) (encode_utf8_all (c ∷ cs))
 one-more c cs piece is says lone p = record {
   pieces = piece ∷ p.pieces;
@@ -145,7 +137,7 @@ module _ (scopes : List (List Declaration)) (deep : ℕ) where
       let no : list_all is_quiet all ≡ true = both-quiet (encode_utf8 c) text (subst (λ w. list_all is_quiet w ≡ true) plain.stays (quiet (encode_utf8 c))) still in
       let is_text : IsText all all = record {
         characters = record { says = refl; characters = c ∷ cs; each = (encode_utf8 c, text, refl, record { spelled = refl; allowed = ok; passes = (unmarked c plain.none).1 }, each); none = no-section-end all no };
-        some = λ e. let first = encoded c in no-cons {a = first.head} {xs = first.tail ++ text} (sym e ∙ ap (λ xs. xs ++ text) first.is);
+        some = λ e. let first = encoded c in no-cons {a = first.0} {xs = first.1 ++ text} (sym e ∙ ap (λ xs. xs ++ text) first.2);
       } in record {
         content = LeafThen (Text all) more;
         clean = no;

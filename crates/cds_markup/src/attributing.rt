@@ -1,4 +1,4 @@
-ghost use Rattle.std.specs.Prelude.{◌≡◌, ◌==◌, true, false, Option, Some, None, List, ℕ, []};
+ghost use Rattle.std.specs.Prelude.{◌≡◌, ◌==◌, false, Option, Some, None, []};
 ghost use Rattle.cds_base.specs.Characters.{is_blank};
 ghost use Rattle.cds_markup.specs.Values.{valuing};
 ghost use Rattle.cds_markup.specs.Attributes.{named_step, equals_step, step_attr};

@@ -1,7 +1,7 @@
 //! Where characters of more than one byte may begin.
 
-ghost use Rattle.std.specs.Prelude.{◌≡◌, ◌==◌, ◌&&◌, nat_lt, length};
-ghost use Rattle.cds_markup.specs.Bytes.{is_none, wide_attr, wide_tag, wide_turn, wide_misc, takes_wide, end_begins, turn_begins, may_begin, begins_tag, may_begin_name};
+ghost use Rattle.std.specs.Prelude.{◌≡◌, ◌==◌, ◌&&◌};
+ghost use Rattle.cds_markup.specs.Bytes.{is_none, wide_attr, wide_tag, wide_turn, wide_misc, takes_wide, turn_begins, may_begin, begins_tag, may_begin_name};
 
 use crate::ending::name_goes_on;
 use crate::mode::{Attributing, Misc, Mode, Tagging, Turn};

@@ -1,7 +1,7 @@
-ghost use Rattle.std.specs.Prelude.{◌≡◌, ◌==◌, true, false, List, ℕ, [], ◌∷◌};
+ghost use Rattle.std.specs.Prelude.{◌≡◌, ◌==◌, []};
 ghost use Rattle.cds_markup.specs.declared.mode.Declaring.{Declaring};
 ghost use Rattle.cds_markup.specs.Grammar.{lower_case, is_quote};
-ghost use Rattle.cds_markup.specs.Declares.{behind, closing_step, standalone_step, begin_step, right_step, part_step, xml_step, name_step, value_begins, value_letter, step_declaration};
+ghost use Rattle.cds_markup.specs.Declares.{behind, closing_step, standalone_step, begin_step, part_step, name_step, value_begins, value_letter, step_declaration};
 ghost use Rattle.cds_markup.specs.Steps.{Agrees, is_next_letter, stage_of, quote_in};
 
 use crate::attributing::is_blank;

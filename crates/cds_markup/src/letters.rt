@@ -1,6 +1,5 @@
-ghost use Rattle.std.specs.Prelude.{◌≡◌, List, ℕ, [], ◌++◌, string_bytes, encode_utf8, length, ◌==◌, IfOk, OnOk, true, slice_index};
+ghost use Rattle.std.specs.Prelude.{◌≡◌, List, ℕ, [], ◌++◌, string_bytes, encode_utf8, length, ◌==◌, IfOk, OnOk, slice_index};
 ghost use Rattle.std.specs.Str.{IsAscii};
-ghost use Rattle.cds_base.specs.Characters.{is_allowed};
 ghost use Rattle.cds_markup.specs.Scans.{without_brackets};
 ghost use Rattle.cds_markup.specs.Running.{is_plain, Collects};
 

@@ -1,9 +1,9 @@
-ghost use Rattle.std.specs.Prelude.{◌≡◌, ◌<◌, ◌==◌, ◌&&◌, ◌++◌, ◌∷◌, true, false, List, ℕ, [], length, drop, Ok, Err, Some, None, IfOk};
+ghost use Rattle.std.specs.Prelude.{◌≡◌, ◌<◌, ◌==◌, ◌&&◌, [], Ok, Err, Some, None, IfOk};
 ghost use Rattle.cds_base.specs.Characters.{is_allowed};
 ghost use Rattle.cds_markup.specs.declared.tag.Open.{Open};
 ghost use Rattle.cds_markup.specs.declared.event.Event.TheVariants.{Start, Empty};
 ghost use Rattle.cds_markup.specs.Namespaces.{declarations, tag_says};
-ghost use Rattle.cds_markup.specs.Bytes.{scopes_in, is_deep, nothing_read, may_end, is_behind};
+ghost use Rattle.cds_markup.specs.Bytes.{is_deep, nothing_read, may_end, is_behind};
 ghost use Rattle.cds_markup.specs.Marks.{cuts_text, is_in_content};
 ghost use Rattle.cds_markup.specs.Reads.{reading_of, AsciiSo, ByteSo, TaggedSo, TakenSo, WholeSo, JudgedSo};
 

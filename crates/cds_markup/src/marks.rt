@@ -1,6 +1,6 @@
 //! Parts of a document, as its bytes complete them.
 
-ghost use Rattle.std.specs.Prelude.{◌≡◌, ◌==◌, ◌&&◌, ◌++◌, not, true, false, List, ℕ, [], ◌∷◌, Ok, Some, None, IfOk, OnOk, encode_utf8};
+ghost use Rattle.std.specs.Prelude.{◌≡◌, ◌==◌, ◌&&◌, ◌++◌, not, false, Ok, Some, None, IfOk, OnOk, encode_utf8};
 ghost use Rattle.cds_base.specs.Characters.{is_blank};
 ghost use Rattle.cds_markup.specs.declared.part.Part.TheVariants.{Start, End, Run};
 ghost use Rattle.cds_markup.specs.Document.{line_ends};

@@ -1,6 +1,6 @@
-ghost use Rattle.std.specs.Prelude.{◌≡◌, ◌==◌, ◌≤◌, ◌++◌, ◌∷◌, true, false, Option, Some, None, List, ℕ, [], encode_utf8, length};
+ghost use Rattle.std.specs.Prelude.{◌≡◌, ◌==◌, true, false, Some, None, []};
 ghost use Rattle.cds_base.specs.Characters.{begins_name, is_in_name};
-ghost use Rattle.cds_markup.specs.Names.{naming, goes_with, goes_on, is_whole, name_of};
+ghost use Rattle.cds_markup.specs.Names.{naming, goes_on, is_whole, name_of};
 ghost use Rattle.cds_markup.specs.Steps.{GoesSo, NamedSo};
 
 use crate::letters::Letters;

@@ -1,6 +1,6 @@
 //! The parts of documents that come in pieces.
 
-ghost use Rattle.std.specs.Prelude.{◌≡◌, ◌≤◌, ◌+◌, ◌&&◌, true, if◌then◌else◌, ℕ, List, [], length, Ok, Err, Some, None, IsOkAnd};
+ghost use Rattle.std.specs.Prelude.{◌≡◌, ◌≤◌, ◌+◌, true, if◌then◌else◌, ℕ, List, [], length, Ok, Err, Some, None, IsOkAnd};
 ghost use Rattle.cds_markup.specs.declared.error.MarkupError.TheVariants.{Failed};
 ghost use Rattle.cds_markup.specs.declared.part.Part.{Part};
 ghost use Rattle.cds_markup.specs.Taking.{Takes};

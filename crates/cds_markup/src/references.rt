@@ -1,6 +1,6 @@
-ghost use Rattle.std.specs.Prelude.{◌≡◌, ◌==◌, ◌≤◌, ◌<◌, true, if◌then◌else◌, Option, Some, None, List, ℕ, option_copied, slice_get, drop, length};
+ghost use Rattle.std.specs.Prelude.{◌≡◌, ◌==◌, true, if◌then◌else◌, Option, Some, None};
 ghost use Rattle.cds_base.specs.Characters.{is_allowed};
-ghost use Rattle.cds_markup.specs.References.{entity_step, number_step, step_reference};
+ghost use Rattle.cds_markup.specs.References.{number_step, step_reference};
 ghost use Rattle.cds_markup.specs.Steps.{Agrees, entity_code};
 
 use crate::error::Stop;

@@ -1,7 +1,7 @@
-ghost use Rattle.std.specs.Prelude.{◌≡◌, ◌∷◌, ◌++◌, length, List, ℕ, Some, [], IfOk, IfNone};
+ghost use Rattle.std.specs.Prelude.{◌≡◌, ◌∷◌, Some, [], IfOk};
 ghost use Rattle.std.specs.Str.{bytes_eq};
 ghost use Rattle.std.specs.List.{list_all, list_any};
-ghost use Rattle.cds_markup.specs.Namespaces.{declares_default, declares_prefix, is_declaration, declaration, declarations, is_sound, declared, declared_in, space_of, in_space, attr_name, with_value, named_attrs, same_qname, same_name, no_attr_twice, no_name_twice, keeps_rules, tag_says};
+ghost use Rattle.cds_markup.specs.Namespaces.{declares_default, declares_prefix, is_declaration, declaration, declarations, is_sound, declared, declared_in, space_of, in_space, attr_name, with_value, named_attrs, same_qname, same_name, no_attr_twice, no_name_twice, tag_says};
 ghost use Rattle.cds_markup.specs.Bytes.{scopes_in};
 
 use crate::tag::{Declaration, Open, QName, TagAttr};

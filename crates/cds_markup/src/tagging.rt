@@ -1,7 +1,6 @@
-ghost use Rattle.std.specs.Prelude.{◌≡◌, ◌==◌, true, false, List, ℕ, [], ◌++◌, ◌∷◌, OnOk};
-ghost use Rattle.cds_markup.specs.Tags.{ends_tag, tag_named, with_attr, tagged_step, spaced_step, step_tag};
+ghost use Rattle.std.specs.Prelude.{◌≡◌, ◌==◌, OnOk};
+ghost use Rattle.cds_markup.specs.Tags.{ends_tag, with_attr, tagged_step, spaced_step, step_tag};
 ghost use Rattle.cds_markup.specs.Names.{name_begun};
-ghost use Rattle.cds_markup.specs.Attributes.{named_or};
 ghost use Rattle.cds_markup.specs.Steps.{Agrees, tag_open, IsBegun, BeginsTag};
 
 use crate::attributing::{is_blank, no_name};

@@ -1,7 +1,6 @@
-ghost use Rattle.std.specs.Prelude.{◌≡◌, ◌==◌, ◌++◌, ◌+◌, ◌^◌, ◌<◌, true, false, List, ℕ, [], ◌∷◌, Some, OnOk, length, drop, encode_utf8};
+ghost use Rattle.std.specs.Prelude.{◌≡◌, ◌==◌, true, List, [], ◌∷◌, Some};
 ghost use Rattle.cds_markup.specs.declared.tag.Open.{Open};
-ghost use Rattle.cds_markup.specs.Grammar.{name_bytes};
-ghost use Rattle.cds_markup.specs.Turns.{given, content_step, tag_given, less_step, bang_step, section_step, cdata_step, end_blanks_step, end_name_step, end_step, step_turn};
+ghost use Rattle.cds_markup.specs.Turns.{given, content_step, tag_given, less_step, bang_step, section_step, end_blanks_step, end_step, step_turn};
 ghost use Rattle.cds_markup.specs.Scans.{step_section};
 ghost use Rattle.cds_markup.specs.Steps.{Agrees, TurnsSo, opens_after, is_start_tag, is_seldom};
 

@@ -1,6 +1,5 @@
-ghost use Rattle.std.specs.Prelude.{◌≡◌, ◌==◌, ◌++◌, true, false, if◌then◌else◌, Option, Some, None, List, ℕ, [], encode_utf8, OnOk};
-ghost use Rattle.cds_base.specs.Characters.{is_blank};
-ghost use Rattle.cds_markup.specs.Values.{says_behind, quote_of, valuing, literal_step, value_step, step_value};
+ghost use Rattle.std.specs.Prelude.{◌≡◌, ◌==◌, ◌++◌, false, Option, Some, None, OnOk};
+ghost use Rattle.cds_markup.specs.Values.{says_behind, literal_step, step_value};
 ghost use Rattle.cds_markup.specs.Steps.{Agrees};
 
 use crate::error::Stop;

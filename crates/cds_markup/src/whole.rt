@@ -1,4 +1,4 @@
-ghost use Rattle.std.specs.Prelude.{◌≡◌, ◌==◌, true, false, List, ℕ, [], ◌∷◌, length};
+ghost use Rattle.std.specs.Prelude.{◌≡◌, ◌==◌, true, false, List};
 ghost use Rattle.cds_markup.specs.declared.tag.Open.{Open};
 ghost use Rattle.cds_markup.specs.Wholes.{misc_step, is_content, root_move, prolog_move, marked_move, step};
 ghost use Rattle.cds_markup.specs.Steps.{Agrees, MovesSo, is_last, is_outside};

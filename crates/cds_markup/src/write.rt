@@ -1,11 +1,9 @@
 //! The one written form of an element (XML 1.0, Namespaces in XML).
 
 ghost use Rattle.std.specs.Prelude.{◌≡◌, ◌+◌, ◌<◌, ◌++◌, ◌^◌, codes, IfOk, OnOk, OnErr, string_bytes};
-ghost use Rattle.std.specs.Fmt.{decimal};
-ghost use Rattle.cds_base.specs.Escape.{escaped};
 ghost use Rattle.cds_markup.specs.Grammar.{written_name};
 ghost use Rattle.cds_markup.specs.Document.{Doc};
-ghost use Rattle.cds_markup.specs.Written.{attr_text, own_text, with_prefix, with_name, counted, tag_attrs, default_declared, tag_of, written_attr, written_attrs, written_start, written_end, written_in, written, CanBeWritten};
+ghost use Rattle.cds_markup.specs.Written.{attr_text, own_text, with_prefix, with_name, counted, tag_attrs, default_declared, tag_of, written_attrs, written_start, written_in, written, CanBeWritten};
 
 use crate::scope::XML_SPACE;
 use crate::{Attr, Element, Name, Node};

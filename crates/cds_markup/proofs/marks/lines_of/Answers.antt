@@ -1,7 +1,7 @@
 -- One more character adds what it says behind those before it.
 use Rattle.std.proofs.Common.{◌≡◌, List, ℕ, [], ◌∷◌, ◌++◌, encode_utf8, refl, ap, ◌∙◌}
 use Rattle.cds_markup.proofs.Terms.{append-nil, encodes-append, encode_utf8_all}
-use Rattle.cds_markup.proofs.Ways.{line_more, ends_more}
+use Rattle.cds_markup.proofs.ScanForms.{line_more, ends_more}
 use Rattle.cds_markup.proofs.marks.lines_of.Goals as goal
 
 pub loop-c-preserved : goal.loop-c-preserved

@@ -1,7 +1,7 @@
 -- What was built so far is what the characters so far say.
 use Rattle.std.proofs.Common.{◌≡◌, false}
 use Rattle.cds_markup.proofs.Terms.{encode_utf8_all, line_ends}
-use Rattle.cds_markup.proofs.Ways.{ends_return}
+use Rattle.cds_markup.proofs.ScanForms.{ends_return}
 use Rattle.cds_markup.proofs.marks.lines_of.Given as goal
 
 abbrev pub invariant-loop-c : goal.invariant-loop-c
