@@ -475,10 +475,11 @@ begin-adds : (at b : ℕ) → is_plain (in_text (text_before at b).non_blank) b 
 begin-adds at b e =
     let same : at - 0 ≡ at = omega arith in
     rw same (cases (is_line_blank b) (λ f. blank f (rw f at e)) (λ f. letter f (rw f at e))) where
-  blank : is_line_blank b ≡ true → is_line_blank b ≡ true → text_with (open_text at) at b ≡ text-of at (text_before at b).non_blank (b ∷ []) false
-  blank f g = rw (f, and-no (b == 10), apart is_line_blank b 13 g refl, encode_ascii b (plain-byte Blanks b g).0) refl
-  letter : is_line_blank b ≡ false → stands_for_itself b ≡ true → text_with (open_text at) at b ≡ text-of at (text_before at b).non_blank (b ∷ []) false
-  letter f g = rw (f, apart stands_for_itself b 10 g refl, apart stands_for_itself b 13 g refl, encode_ascii b (plain-byte Letters b g).0) refl
+      blank : is_line_blank b ≡ true → is_line_blank b ≡ true → text_with (open_text at) at b ≡ text-of at (text_before at b).non_blank (b ∷ []) false
+      blank f g = rw (f, and-no (b == 10), apart is_line_blank b 13 g refl, encode_ascii b (plain-byte Blanks b g).0) refl
+
+      letter : is_line_blank b ≡ false → stands_for_itself b ≡ true → text_with (open_text at) at b ≡ text-of at (text_before at b).non_blank (b ∷ []) false
+      letter f g = rw (f, apart stands_for_itself b 10 g refl, apart stands_for_itself b 13 g refl, encode_ascii b (plain-byte Letters b g).0) refl
 
 pub begin_run : (r : Reading) (m : Marks) (at b n : ℕ) (w : List ℕ) (u : OpenText) → takes_run r ≡ true → m.text ≡ None → at + length (b ∷ w) ≤ INPUT_LIMIT → TextRuns (text_before at b) (b ∷ w) (Ok n) u → 0 < n → RunSo (telling r m at) (b ∷ w) (Ok n) (telling r (marks m.begin (Some u)) (at + n))
 begin_run r m at b zero w u e none room h some = absurd (omega (arith, some))
@@ -490,9 +491,11 @@ begin_run r m at b (suc k) w u e none room h some =
     let run = some-run c.0 c.1 m.begin (suc k) (b ∷ w) at place [] false u.said h.1 in
     let begun = text-of at place (b ∷ []) false in
     let low : at < INPUT_LIMIT = omega (arith, room) in
-    rw (c.2, none, h.0)
-    (run.0, letter-one c.0 c.1 m.begin (suc k) (b ∷ w) None begun place at b (take k w) low plain (begin-adds at b plain)
-    ∙ sym (letter-one c.0 c.1 m.begin (suc k) (b ∷ w) (Some (text-of at place [] false)) begun place at b (take k w) low plain (text-adds at place [] (at - 0) b plain)) ∙ run.1 at room)
+    rw (c.2, none, h.0) (
+      run.0,
+      letter-one c.0 c.1 m.begin (suc k) (b ∷ w) None begun place at b (take k w) low plain (begin-adds at b plain)
+          ∙ sym (letter-one c.0 c.1 m.begin (suc k) (b ∷ w) (Some (text-of at place [] false)) begun place at b (take k w) low plain (text-adds at place [] (at - 0) b plain)) ∙ run.1 at room,
+    )
 
 -- what is told behind a run
 pub run_more : {S : Type 0} (took : S → Part → S → Type 0) (enough : S → Bool) (before to : S) (whole : Told) (p q : Telling) (rest : List ℕ) (n : ℕ) → SoFar took enough before whole to p rest → RunSo p rest (Ok n) q
