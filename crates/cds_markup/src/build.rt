@@ -23,9 +23,9 @@ pub struct Builder {
     pub frames: Vec<Frame>,
     /// What stands in the innermost so far.
     pub nodes: Nodes,
-    /// The first run of a text behind it that may go on.
+    /// A text behind it that may go on, as long as it is one run.
     pub text: Text,
-    /// Its other runs.
+    /// The same text where it is more than one.
     pub more: String,
 }
 
@@ -42,7 +42,7 @@ impl Builder {
         }
     }
 
-    /// Takes the text, of which no other run came, as a node.
+    /// Adds the text to the nodes, where there is one and it is one run.
     fn flush_one(&mut self, alloc: Global) -> Result<(), Mem>
         requires { string_bytes self.old.more ≡ [] }
         ensures { IfOk result (λ done. state_of self.new ≡ flushed (state_of self.old)) }
@@ -61,11 +61,9 @@ impl Builder {
         if self.more.is_empty() {
             return self.flush_one(alloc);
         }
-        let mut all = String::from_str(alloc, self.text.as_str())?;
-        all.push_str(self.more.as_str())?;
         self.text = Text::from(String::new(alloc));
-        self.more.clear();
-        self.nodes.push(Node::Text(Text::from(all)))
+        let text = std::mem::replace(&mut self.more, String::new(alloc));
+        self.nodes.push(Node::Text(Text::from(text)))
     }
 
     /// A start tag, where no text is left.
@@ -107,9 +105,12 @@ impl Builder {
     fn run(&mut self, text: Text) -> Result<(), Mem>
         ensures { IfOk result (λ done. state_of self.new ≡ with_text text (state_of self.old)) }
     {
-        if self.text.len() == 0 && self.more.is_empty() {
-            self.text = text;
-            return Ok(());
+        if self.more.is_empty() {
+            if self.text.len() == 0 {
+                self.text = text;
+                return Ok(());
+            }
+            self.more.push_str(self.text.as_str())?;
         }
         self.more.push_str(text.as_str())?;
         Ok(())
