@@ -7,7 +7,7 @@ use Rattle.cds_base.specs.Runs.{stands_for_itself}
 use Rattle.cds_markup.specs.declared.plain.Plain.{Plain}
 use Rattle.cds_markup.specs.declared.plain.Plain.TheVariants.{Letters, InName, Written, Blanks}
 use Rattle.cds_markup.proofs.Terms.{nat_tests, append-nil, take-append_seam, drop-append_seam, encode_ascii, begins_name, is_allowed, is_blank, is_in_name, INPUT_LIMIT, Marks, OpenText, Attributing, AttrName, Equals, Value, Tagging, Name, Tagged, Spaced, Attribute, Naming, Valuing, Referring, Misc, MiscComment, Turn, Content, Less, Comment, Section, StartTag, EndTag, Mode, Prolog, Inside, Epilog, Open, QName, Tag, Literal, Part, is_empty, On, Token, Letter, naming, goes_on, is_whole, name_of, written_name, name_bytes, begins_with, slash_step, drop-drop, length-take-le, ends_tag, with_attr, valuing, literal_step, says_behind, quote_of, To, step, Reading, reading, go_on, moved, begins_tag, most_open, is_deep, may_begin_name, breaks_rule, is_none, is_between, passed_over, marked, marks, text_with, text_or, open_text, Telling, telling, behind_parts, told_within, told_on, told, Told, ToldSo, TakesAll as Takes, and-no, and-so, and-both, and-first, and-second, is-byte, empty-is, cases, clash, list_all, take_while, take-append-drop, length-prefix_len, IsAscii}
-use Rattle.cds_markup.specs.Running.{begins_plain_name, is_plain_name, is_plain_qname, begins_blank, attr_with, plain_attr, HasAttr, SpacedRuns, HasName, plain_naming, PartAt, NameAt, ValueAt, is_plain_in_name, is_written, is_line_blank, is_plain, EndRuns, HasSlash, in_text, text_before, TextRuns, Passes, Collects, AttrRuns, TagRuns, TurnRuns, MiscRuns, ModeRuns, is_plain_content, takes_run, marks_run, MarksRun, QuietSo, RunSo}
+use Rattle.cds_markup.specs.Running.{begins_plain_name, is_plain_name, is_plain_qname, begins_blank, attr_with, plain_attr, HasAttr, SpacedRuns, HasName, plain_naming, PartAt, NameAt, ValueAt, is_plain_in_name, is_written, is_line_blank, is_plain, EndRuns, HasSlash, in_text, text_before, TextRuns, Passes, Collects, AttrRuns, TagRuns, TurnRuns, MiscRuns, ModeRuns, is_plain_content, takes_run, QuietSo, RunSo}
 use Rattle.cds_markup.proofs.Decoded.{ascii_whole}
 use Rattle.cds_markup.proofs.TokenTold.{behind-none, told-append, byte-told, judged-ok, shallow-mode}
 use Rattle.cds_markup.proofs.ToldBytes.{SoFar}
@@ -438,11 +438,6 @@ module _ (o : Open) (outer : List Open) (begin n : ℕ) (bytes : List ℕ) where
   some-run from place said false now h =
       collected (is_plain (in_text place)) (λ t. text-spot (Some (text-of from place t false))) said bytes n now true (λ e. walks (is_plain (in_text place)) (λ t. text-spot (Some (text-of from place t false))) (text-one from place) said) h
 
-  texts-run : (text behind : Option OpenText) (now : ℕ) → marks_run begin text bytes (Ok n) now behind → RunFrom (text-spot text) bytes n (λ at. telling in-content (marks now behind) at)
-  texts-run None None now h = rw h.1 (stays (text-spot None) bytes n (stays-at [] (marks 0 None) bytes n h.0))
-  texts-run (Some t) (Some u) now h = rw (h.0, h.1.0) (some-run t.at t.non_blank t.said t.behind_return u.said h.1.1)
-  texts-run text behind now h = absurd h
-
 content-is : (mode : Mode) → is_plain_content mode ≡ true → mode ≡ Inside (Content 0)
 content-is (Inside (Content k)) e = ap (λ j. Inside (Content j)) (is-byte k 0 e)
 content-is mode e = clash e refl
@@ -456,11 +451,12 @@ content-so r e =
       by (o ∷ outer) is some mode =
           (o, outer, ap (λ x. reading x r.mode r.opens) (empty-is r.begun (and-first (is_empty r.begun) (not (length r.opens == 0) && is_plain_content r.mode) e)) ∙ ap (λ x. reading [] x r.opens) mode ∙ ap (reading [] (Inside (Content 0))) is)
 
-pub text_run : (r : Reading) (m now : Marks) (at n : ℕ) (bytes : List ℕ) → takes_run r ≡ true → at + length bytes ≤ INPUT_LIMIT → MarksRun m bytes (Ok n) now → RunSo (telling r m at) bytes (Ok n) (telling r now (at + n))
-text_run r m now at n bytes e room h =
+pub text_run : (r : Reading) (m : Marks) (at n : ℕ) (bytes : List ℕ) (t u : OpenText) → takes_run r ≡ true → m.text ≡ Some t → at + length bytes ≤ INPUT_LIMIT → TextRuns t bytes (Ok n) u
+    → RunSo (telling r m at) bytes (Ok n) (telling r (marks m.begin (Some u)) (at + n))
+text_run r m at n bytes t u e some room h =
     let c = content-so r e in
-    let t = texts-run c.0 c.1 m.begin n bytes m.text now.text now.begin h in
-    rw c.2 (t.0, t.1 at room)
+    let run = some-run c.0 c.1 m.begin n bytes t.at t.non_blank t.said t.behind_return u.said h.1 in
+    rw (c.2, some, h.0) (run.0, run.1 at room)
 
 -- what begins where no literal text is open
 pub tag_run : (r : Reading) (m : Marks) (at b : ℕ) (bytes w : List ℕ) → bytes ≡ b ∷ w → b ≡ 60 → takes_run r ≡ true → m.text ≡ None → at + length bytes ≤ INPUT_LIMIT

@@ -18,12 +18,12 @@ pub record State : Type 0 where
   pub text : List ℕ
 
 -- The text is kept in one place where it is one run, and in another where it is more.
-abbrev pub text_in : List ℕ → List ℕ → List ℕ
-text_in one [] = one
-text_in one (b ∷ more) = b ∷ more
+abbrev pub text_kept : List ℕ → List ℕ → List ℕ
+text_kept one [] = one
+text_kept one (b ∷ more) = b ∷ more
 
 abbrev pub state_of : Builder → State
-state_of b = record { frames = b.frames.items; nodes = b.nodes; text = text_in b.text (string_bytes b.more) }
+state_of b = record { frames = b.frames.items; nodes = b.nodes; text = text_kept b.text (string_bytes b.more) }
 
 abbrev pub state : List Frame → Meanings → List ℕ → State
 state frames nodes text = record { frames = frames; nodes = nodes; text = text }

@@ -226,14 +226,6 @@ TextRuns t bytes result now =
     (now ≡ record { at = t.at; non_blank = t.non_blank; said = now.said; behind_return = t.behind_return })
     × Collects (not t.behind_return) (is_plain (in_text t.non_blank)) t.said bytes result now.said
 
-abbrev pub marks_run : ℕ → Option OpenText → List ℕ → Result ℕ Mem → ℕ → Option OpenText → Type 0
-marks_run begin None bytes result now None = (result ≡ Ok 0) × (now ≡ begin)
-marks_run begin (Some t) bytes result now (Some u) = (now ≡ begin) × TextRuns t bytes result u
-marks_run begin text bytes result now behind = ⊥
-
-abbrev pub MarksRun : Marks → List ℕ → Result ℕ Mem → Marks → Type 0
-MarksRun m bytes result now = marks_run m.begin m.text bytes result now.begin now.text
-
 -- Bytes that complete nothing lead from one state to another, whatever is open and wherever they stand.
 abbrev pub QuietSo : Reading → List ℕ → Result ℕ Mem → Reading → Type 0
 QuietSo r bytes (Err e) now = ⊤

@@ -4,7 +4,7 @@ ghost use Rattle.std.specs.Prelude.{◌≡◌, ◌==◌, ◌&&◌, ◌++◌, not
 ghost use Rattle.cds_base.specs.Characters.{is_blank};
 ghost use Rattle.cds_markup.specs.declared.part.Part.TheVariants.{Start, End, Run};
 ghost use Rattle.cds_markup.specs.Document.{line_ends};
-ghost use Rattle.cds_markup.specs.Running.{TextRuns, MarksRun, text_before};
+ghost use Rattle.cds_markup.specs.Running.{TextRuns, text_before};
 ghost use Rattle.cds_markup.specs.Marks.{is_between, open_text, line_end_says, text_with, letter_in, ended_text, run_of, begun_text, text_or, last_part, rest_of, goes_on_as, passed_over, marks, EndsSo, MarksSo};
 
 use crate::Part;
@@ -188,16 +188,6 @@ impl Marks {
         text.push(at, c)?;
         self.text = Some(text);
         Ok(())
-    }
-
-    /// Passes over letters at the front of what comes, where a literal text is open.
-    pub fn run(&mut self, bytes: &[u8]) -> Result<usize, Mem>
-        ensures { MarksRun self.old bytes.now result self.new }
-    {
-        match &mut self.text {
-            Some(text) => text.run(bytes),
-            None => Ok(0),
-        }
     }
 
     /// The literal text that is open ends.

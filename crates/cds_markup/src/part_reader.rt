@@ -151,10 +151,10 @@ impl Spot {
         ensures { RunSo (telling_of self.old) bytes.now result (telling_of self.new) }
     {
         if self.place.machine.takes_run() {
-            if self.marks.text.is_none() {
+            let Some(text) = &mut self.marks.text else {
                 return self.begin_run(alloc, bytes);
-            }
-            let count = self.marks.run(bytes)?;
+            };
+            let count = text.run(bytes)?;
             self.place.at += count;
             return Ok(count);
         }

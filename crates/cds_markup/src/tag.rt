@@ -1,7 +1,4 @@
-ghost use Rattle.std.specs.Prelude.{◌≡◌, IfOk};
-
-use cds_base::{Mem, Sequence, Text};
-use std::alloc::Global;
+use cds_base::{Sequence, Text};
 
 /// A qualified name as it is written (Namespaces in XML).
 #[derive(Drop, Debug)]
@@ -10,17 +7,6 @@ pub struct QName {
     pub prefix: Text,
     /// What stands behind it.
     pub local: Text,
-}
-
-impl QName {
-    /// An equal name.
-    pub fn copy(&self, alloc: Global) -> Result<Self, Mem>
-        ensures { IfOk result (λ copy. copy ≡ self.now) }
-    {
-        let prefix = self.prefix.copy(alloc)?;
-        let local = self.local.copy(alloc)?;
-        Ok(QName { prefix, local })
-    }
 }
 
 /// An attribute as a tag has it.
