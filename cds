@@ -1,6 +1,7 @@
 #!/usr/bin/env bash
 # Runs the program where it is built, which it is once it is proved. Where it is not, runs the same sources unproved, and
-# says so. `./cds --prove` proves every crate and builds it, which takes its minutes.
+# says so. `./cds --prove` proves every crate and builds it, which takes its minutes. `./cds --test` runs all tests and
+# examples unproved.
 set -u
 top=$(cd "$(dirname "$0")" && pwd)
 crate=$top/crates/cds_cli
@@ -8,6 +9,9 @@ program=$crate/out/cds_cli
 
 if [ $# -eq 1 ] && [ "$1" = --prove ]; then
   cd "$crate" && exec rt run -- --version
+fi
+if [ $# -eq 1 ] && [ "$1" = --test ]; then
+  exec "$top/.ci/quick"
 fi
 if [ -x "$program" ]; then
   exec "$program" "$@"

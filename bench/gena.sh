@@ -17,16 +17,16 @@ trap 'rm -rf "$work"' EXIT
 mkdir -p "$work/crates/gena_pace/src"
 gather "$top" "$work" cds_notify
 cp "$top/HANDLES" "$work"
-printf '%s\n' 'gena_pace: cds_notify cds_gena cds_http cds_event cds_base url anyhow' >>"$work/crates.txt"
+printf '%s\n' 'gena_pace: cds_notify cds_gena cds_http cds_object cds_base url anyhow' >>"$work/crates.txt"
 cat >"$work/crates/gena_pace/src/main.rt" <<'RT'
 //! Times of notes and of the book of subscriptions.
 #![tactic(auto)]
 
 use cds_base::{Mem, Text};
-use cds_event::{Class, Event, Events};
 use cds_gena::{Address, Addresses, Book, GenaError, Sid, is_deliverable};
 use cds_http::{HttpError, Message, MessageReader, Side};
 use cds_notify::{NoteError, read_notify, write_notify, write_propertyset};
+use cds_object::{Class, Event, Events};
 use std::alloc::Global;
 use std::env;
 use std::io::{Write, writer};

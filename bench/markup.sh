@@ -76,12 +76,12 @@ PY
 
 # A program over the crates, in a repository of its own.
 mkdir -p "$work/crates/markup_bench/src"
-below="cds_base cds_object cds_event cds_markup cds_lastchange"
+below="cds_base cds_object cds_markup cds_lastchange"
 # shellcheck disable=SC2086
 tar -C "$top/crates" --exclude=out --exclude=must-fail -cf - $below | tar -C "$work/crates" -xf -
 cp "$top/HANDLES" "$work"
 for name in $below; do grep "^$name:" "$top/crates.txt"; done >"$work/crates.txt"
-echo 'markup_bench: cds_lastchange cds_markup cds_event cds_object cds_base anyhow' >>"$work/crates.txt"
+echo 'markup_bench: cds_lastchange cds_markup cds_object cds_base anyhow' >>"$work/crates.txt"
 cat >"$work/crates/markup_bench/src/main.rt" <<'RT'
 //! Times of reading documents in pieces.
 #![tactic(auto)]

@@ -1,9 +1,10 @@
 pub mod Parts
-pub mod Ascending
 pub mod Escapes
-pub mod Items
+pub mod Given
 pub mod Lanes
 pub mod Numbers
 pub mod Pieces
 pub mod References
 pub mod Semicolons
+pub mod Plain
+pub mod Wide

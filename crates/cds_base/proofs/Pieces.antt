@@ -11,8 +11,8 @@ use Rattle.cds_base.specs.Characters.{is_allowed}
 use Rattle.cds_base.specs.Escape.{escaped, escaped_byte}
 use Rattle.cds_base.specs.Reference.{IsReference, BeginsNoReference, named}
 use Rattle.cds_base.specs.Unescape.{Piece, IsPiece, is_literal, Says, ReadsTo, IsBadReference, IsBadCharacter, IsFault, IsFaultHere, IsOrMem, AreAllowed}
-use Rattle.cds_base.specs.declared.unescaping.TextError.{TextError}
-use Rattle.cds_base.specs.declared.unescaping.TextError.TheVariants.{BadReference, BadCharacter, Mem}
+use Rattle.cds_base.specs.declared.text.unescaping.TextError.{TextError}
+use Rattle.cds_base.specs.declared.text.unescaping.TextError.TheVariants.{BadReference, BadCharacter, Mem}
 use Rattle.cds_base.proofs.Escapes.{kept_char}
 use Rattle.cds_base.proofs.Semicolons.{and_parts, same_reference}
 

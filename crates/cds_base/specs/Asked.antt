@@ -1,7 +1,7 @@
 -- The words of what gives the objects of the outside.
 use Rattle.std.specs.Prelude.{◌≡◌, ℕ, Bool, true, false, Result, Ok, Err, List}
-use Rattle.cds_base.specs.declared.exterior.OutsideFault.{OutsideFault}
-use Rattle.cds_base.specs.declared.exterior.OutsideFault.TheVariants.{Failed, Mem}
+use Rattle.cds_base.specs.declared.outside.exterior.OutsideFault.{OutsideFault}
+use Rattle.cds_base.specs.declared.outside.exterior.OutsideFault.TheVariants.{Failed, Mem}
 use Rattle.cds_base.specs.Outside.{Rose}
 
 -- What the outside was asked for: a folder at a path, a link, a clock, a door at a port or a spawner.

@@ -2,19 +2,15 @@
 use Rattle.std.specs.Prelude.{◌≡◌, ◌==◌, ◌+◌, ℕ, Bool, true, false, not, ◌&&◌, ◌||◌, Option, Some, None, Result, Ok, Err, List, [], ◌∷◌, ◌++◌, length, take, drop}
 use Rattle.std.specs.List.{list_any, list_all}
 use Rattle.std.specs.Str.{bytes_eq}
-use Rattle.cds_base.specs.declared.folder.Entry.{Entry}
-use Rattle.cds_base.specs.declared.folder.Entry.TheVariants.{Folder, File, End}
-use Rattle.cds_base.specs.declared.folder.FolderFault.{FolderFault}
-use Rattle.cds_base.specs.declared.folder.FolderFault.TheVariants.{Failed, Mem}
+use Rattle.cds_base.specs.declared.outside.folder.Entry.{Entry}
+use Rattle.cds_base.specs.declared.outside.folder.Entry.TheVariants.{Folder, File, End}
+use Rattle.cds_base.specs.declared.outside.folder.FolderFault.{FolderFault}
+use Rattle.cds_base.specs.declared.outside.folder.FolderFault.TheVariants.{Failed, Mem}
 use Rattle.cds_base.specs.Outside.{Rose}
 
 -- What files hold, by their paths. A path without a file has no bytes.
 abbrev pub Contents : Type 0
 Contents = List ℕ → Option (List ℕ)
-
--- What holds of something that is told. Where it is not told, nothing is claimed.
-abbrev pub Told : {A : Type 0} → Option A → (A → Type 0) → Type 0
-Told {A} told P = (value : A) → told ≡ Some value → P value
 
 -- Whether an entry is a file at a path, a folder at a path, or either.
 abbrev pub is_file_at : List ℕ → Entry → Bool

@@ -1,16 +1,10 @@
 pub mod Asked
 pub mod Characters
-pub mod Clocks
-pub mod Doors
 pub mod Entries
 pub mod Escape
-pub mod Exterior
-pub mod Folders
 pub mod Links
-pub mod Memory
 pub mod Number
 pub mod Outside
 pub mod Reference
 pub mod Runs
 pub mod Unescape
-pub mod Writing

@@ -1,8 +1,8 @@
--- The words of links: requests sent, replies that came, and what callers see of the links in memory.
+-- The words of links: requests sent, and replies that came.
 use Rattle.std.specs.Prelude.{◌≡◌, ◌<◌, ℕ, Bool, true, false, Option, Some, Result, Ok, Err, List, [], ◌∷◌, ◌++◌, length}
-use Rattle.cds_base.specs.declared.link.LinkFault.{LinkFault}
-use Rattle.cds_base.specs.declared.link.LinkFault.TheVariants.{Failed, Mem, Over}
-use Rattle.cds_base.specs.declared.link.LinkRequest.{LinkRequest}
+use Rattle.cds_base.specs.declared.outside.link.LinkFault.{LinkFault}
+use Rattle.cds_base.specs.declared.outside.link.LinkFault.TheVariants.{Failed, Mem, Over}
+use Rattle.cds_base.specs.declared.outside.link.LinkRequest.{LinkRequest}
 use Rattle.cds_base.specs.Outside.{Rose}
 
 -- What was sent after an exchange: the request besides, but where memory ran out.
@@ -48,23 +48,3 @@ pub record LinkTold : Type 0 where
   pub replies : Option (List (List ℕ))
   -- how many faults there were
   pub faults : ℕ
-
--- A link in memory.
-pub record LinkState : Type 0 where
-  -- the replies that it has left, the next one first
-  pub replies : List (List ℕ)
-  -- the requests that it took
-  pub requests : List LinkRequest
-  -- how many calls it answered, and how many faults there were
-  pub calls : ℕ
-  pub faults : ℕ
-  -- the numbers, counted from 1, of the calls that are to fail
-  pub fails : List ℕ
-
--- The same link before anything was asked of it.
-abbrev pub fresh_link : LinkState → LinkState
-fresh_link link = record { replies = link.replies; requests = []; calls = 0; faults = 0; fails = link.fails }
-
--- What a link in memory tells of itself.
-abbrev pub link_told_of : LinkState → LinkTold
-link_told_of link = record { requests = Some link.requests; replies = Some link.replies; faults = link.faults }

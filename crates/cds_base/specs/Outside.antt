@@ -9,9 +9,9 @@ raised n by = min (n + by) (2 ^ 64 - 1)
 abbrev pub Rose : ℕ → ℕ → Type 0
 Rose old new = (old < new) ⊎ (2 ^ 64 - 1 ≤ new)
 
--- What holds of the bytes that a stream tells. A stream that tells none claims nothing.
-abbrev pub WhereTold : Option (List ℕ) → (List ℕ → Type 0) → Type 0
-WhereTold told P = (bytes : List ℕ) → told ≡ Some bytes → P bytes
+-- What holds of something that is told. Where it is not told, nothing is claimed.
+abbrev pub Told : {A : Type 0} → Option A → (A → Type 0) → Type 0
+Told {A} told P = (value : A) → told ≡ Some value → P value
 
 -- A sink that held these bytes holds them and a front part of the piece.
 abbrev pub HoldsPart : List ℕ → List ℕ → Option (List ℕ) → Type 0

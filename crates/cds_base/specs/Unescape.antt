@@ -4,8 +4,8 @@ use Rattle.std.specs.List.{AllByRecursion, flat_map, list_all}
 use Rattle.std.specs.Str.{encode_utf8_all}
 use Rattle.cds_base.specs.Characters.{is_allowed}
 use Rattle.cds_base.specs.Reference.{IsReference, BeginsNoReference}
-use Rattle.cds_base.specs.declared.unescaping.TextError.{TextError}
-use Rattle.cds_base.specs.declared.unescaping.TextError.TheVariants.{BadReference, BadCharacter, Mem}
+use Rattle.cds_base.specs.declared.text.unescaping.TextError.{TextError}
+use Rattle.cds_base.specs.declared.text.unescaping.TextError.TheVariants.{BadReference, BadCharacter, Mem}
 
 -- A piece of a text, and the character that it says.
 pub record Piece : Type 0 where

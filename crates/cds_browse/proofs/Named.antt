@@ -6,7 +6,7 @@ use Rattle.std.specs.Fmt.{decimal}
 use Rattle.std.proofs.lemmas.Bool.Decides.{nat_tests}
 use Rattle.std.proofs.lemmas.Slice.Eq.{bytes_eq-Decides}
 use Rattle.cds_base.specs.Number.{number_below}
-use Rattle.cds_didl.proofs.PlainValues.{decimal-read}
+use Rattle.cds_base.proofs.Plain.{decimal-read}
 use Rattle.cds_object.specs.Object.{ObjectRow}
 use Rattle.cds_object.specs.Tree.{row_of}
 use Rattle.cds_browse.specs.Browsing.{has_id_text, row_named}

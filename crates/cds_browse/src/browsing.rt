@@ -8,8 +8,7 @@ ghost use Rattle.cds_object.specs.Tree.{row_of, children_of, is_container_row};
 ghost use Rattle.cds_catalog.specs.History.{History, end_of};
 ghost use Rattle.cds_catalog.specs.Catalog.{catalog};
 ghost use Rattle.cds_store.specs.Stands.{StandsFor};
-ghost use Rattle.cds_browse.specs.Browsing.{target_named, target_at, target_asked, row_named, can_answer, most_rows, holder_of};
-ghost use Rattle.cds_browse.specs.Browsing.{container_update_in, container_update_of, update_of, page_of, browse_answer, Answers};
+ghost use Rattle.cds_browse.specs.Browsing.{target_named, target_at, target_asked, row_named, can_answer, most_rows, holder_of, container_update_in, container_update_of, update_of, page_of, browse_answer, Answers};
 ghost use Rattle.cds_browse.specs.Kept.{kept_rows, kept_answer};
 
 use crate::page::Target;

@@ -3,8 +3,8 @@ use Rattle.std.proofs.Common.{◌≡◌, ◌⊎◌, inl, inr, ◌&&◌, ◌||◌
 use Rattle.std.specs.List.{AllByRecursion, list_any}
 use Rattle.cds_object.specs.Path.{same_path, parent_of}
 use Rattle.cds_object.specs.declared.content.Content.{Content}
-use Rattle.cds_event.specs.declared.Event.{Event}
-use Rattle.cds_event.specs.declared.Event.TheVariants.{StDone}
+use Rattle.cds_object.specs.declared.event.Event.{Event}
+use Rattle.cds_object.specs.declared.event.Event.TheVariants.{StDone}
 use Rattle.cds_catalog.specs.Library.{found}
 use Rattle.cds_catalog.specs.History.{place_of, is_addition, is_deletion}
 use Rattle.cds_catalog.specs.Catalog.{id_of}

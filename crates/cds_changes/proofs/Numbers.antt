@@ -3,13 +3,13 @@ use Rattle.std.proofs.Common.{◌≡◌, ◌+◌, ℕ, zero, suc, Bool, true, co
 use Rattle.std.specs.List.{range_with_len}
 use Rattle.std.proofs.lemmas.List.{map-append}
 use Rattle.std.proofs.lemmas.List.Elements.{filter-append}
-use Rattle.cds_event.specs.declared.Event.{Event}
+use Rattle.cds_object.specs.declared.event.Event.{Event}
 use Rattle.cds_catalog.specs.Library.{FolderMap, found}
 use Rattle.cds_catalog.specs.History.{latest, changes_of}
 use Rattle.cds_catalog.specs.declared.change.Change.{Change}
 use Rattle.cds_catalog.specs.declared.change.Change.TheVariants.{Deletion, Addition, Modification}
 use Rattle.cds_changes.specs.Events.{event_of, scan_events, all_events, is_in_subtree, heads_done, done_events}
-use Rattle.cds_event.specs.Events.{update_of, is_change}
+use Rattle.cds_object.specs.Events.{update_of, is_change}
 
 pub numbered : (number : ℕ) (older : List Change) (change : Change) (st : Bool) → update_of (event_of number older change st) ≡ number
 numbered number older (Deletion path) st = refl

@@ -16,7 +16,7 @@ use Rattle.cds_changes.specs.EventsWithParents.{change_with_parent, without_pare
 use Rattle.cds_catalog.proofs.StepsFind.{count_by-cons}
 use Rattle.cds_catalog.proofs.StepsIds.{id_drawn}
 use Rattle.cds_changes.proofs.Numbers.{numbered}
-use Rattle.cds_event.specs.Events.{update_of}
+use Rattle.cds_object.specs.Events.{update_of}
 
 -- ---- lists one behind the other
 

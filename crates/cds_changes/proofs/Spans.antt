@@ -4,7 +4,7 @@ use Rattle.std.specs.List.{AllByRecursion}
 use Rattle.std.proofs.lemmas.Bool.{lt-leb}
 use Rattle.std.proofs.lemmas.List.{append-nil}
 use Rattle.std.proofs.lemmas.List.Elements.{filter-append}
-use Rattle.cds_event.specs.declared.Event.{Event}
+use Rattle.cds_object.specs.declared.event.Event.{Event}
 use Rattle.cds_catalog.specs.Library.{FolderMap, found}
 use Rattle.cds_catalog.specs.History.{History, latest, changes_of, end_of}
 use Rattle.cds_catalog.specs.declared.change.Change.{Change}
@@ -12,7 +12,7 @@ use Rattle.cds_catalog.proofs.Numbers.{length_of_more}
 use Rattle.cds_changes.specs.Events.{scan_events, all_events, heads_done, is_in_subtree, change_events, events_between}
 use Rattle.cds_changes.proofs.Numbers.{numbered}
 use Rattle.cds_changes.proofs.Within.{Lies, scan-lies, all-lie, done-are}
-use Rattle.cds_event.specs.Events.{update_of}
+use Rattle.cds_object.specs.Events.{update_of}
 
 -- whether an event lies in a span
 abbrev pub is_in : ℕ → ℕ → Event → Bool

@@ -4,12 +4,12 @@ use Rattle.std.specs.List.{range_with_len}
 use Rattle.std.proofs.lemmas.Bool.{lt-leb}
 use Rattle.std.proofs.lemmas.List.{append-nil}
 use Rattle.std.proofs.lemmas.List.Elements.{filter-append}
-use Rattle.cds_event.specs.declared.Event.{Event}
+use Rattle.cds_object.specs.declared.event.Event.{Event}
 use Rattle.cds_catalog.specs.History.{History, changes_of, end_of}
 use Rattle.cds_changes.specs.Events.{all_events, events_between}
 use Rattle.cds_changes.proofs.Numbers.{numbers, all-numbers, range-append}
 use Rattle.cds_changes.proofs.Spans.{is_in, span}
-use Rattle.cds_event.specs.Events.{update_of, is_change}
+use Rattle.cds_object.specs.Events.{update_of, is_change}
 
 -- whether a number lies in a span
 abbrev pub has_number : ℕ → ℕ → ℕ → Bool

@@ -1,14 +1,14 @@
 -- Between which numbers the events of a scan lie.
 use Rattle.std.proofs.Common.{◌≡◌, ◌+◌, ◌≤◌, ◌<◌, ℕ, List, [], ◌∷◌, ◌++◌, length, refl, subst, arith, length-append}
 use Rattle.std.specs.List.{AllByRecursion}
-use Rattle.cds_event.specs.declared.Event.{Event}
+use Rattle.cds_object.specs.declared.event.Event.{Event}
 use Rattle.cds_catalog.specs.Library.{FolderMap, found}
 use Rattle.cds_catalog.specs.History.{latest, changes_of, end_of}
 use Rattle.cds_catalog.specs.declared.change.Change.{Change}
 use Rattle.cds_catalog.proofs.StepsFind.{each-append, each-weaker}
 use Rattle.cds_changes.specs.Events.{event_of, scan_events, all_events, done_events, heads_done, is_in_subtree, change_events}
 use Rattle.cds_changes.proofs.Numbers.{numbered}
-use Rattle.cds_event.specs.Events.{update_of}
+use Rattle.cds_object.specs.Events.{update_of}
 
 -- an event lies above one number and not above another
 pub record Lies (low high : ℕ) (event : Event) : Type 0 where

@@ -1,7 +1,7 @@
 -- Spans of small histories, evaluated from the definitions.
 use Rattle.std.specs.Prelude.{◌≡◌, true, false, [], ◌∷◌, codes}
-use Rattle.cds_event.specs.declared.Class.TheVariants.{Container, Track}
-use Rattle.cds_event.specs.declared.Event.TheVariants.{ObjAdd, ObjMod, ObjDel, StDone}
+use Rattle.cds_object.specs.declared.event.Class.TheVariants.{Container, Track}
+use Rattle.cds_object.specs.declared.event.Event.TheVariants.{ObjAdd, ObjMod, ObjDel, StDone}
 use Rattle.cds_catalog.specs.Library.{FolderMap}
 use Rattle.cds_catalog.specs.History.{History, end_of}
 use Rattle.cds_catalog.specs.Evaluated.{one_folder, changed_track, a_track, a_folder, two_tracks, folder_and_track}

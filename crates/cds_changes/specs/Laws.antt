@@ -8,7 +8,7 @@ use Rattle.cds_changes.specs.Events.{all_events, events_between}
 use Rattle.cds_changes.specs.Containers.{last_touch, was_deleted, changes_to}
 use Rattle.cds_changes.specs.EventsWithParents.{all_with_parents, last_touch_in, was_deleted_in}
 use Rattle.cds_changes.specs.declared.event_with_parent.EventWithParent.{EventWithParent}
-use Rattle.cds_event.specs.Events.{update_of, is_change}
+use Rattle.cds_object.specs.Events.{update_of, is_change}
 
 -- all events of a history tell its changes, each once and in order: their numbers are those from the one after the first
 -- number on

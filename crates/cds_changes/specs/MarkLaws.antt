@@ -2,7 +2,7 @@
 -- ContentDirectory:4 on LastChange), in terms of the folders that a scan adds or deletes with something below them.
 use Rattle.std.specs.Prelude.{◌≡◌, ◌&&◌, ℕ, Bool, true, false, cond, List, [], ◌∷◌, ◌++◌}
 use Rattle.std.specs.List.{AllByRecursion, list_any}
-use Rattle.cds_event.specs.declared.Event.TheVariants.{StDone}
+use Rattle.cds_object.specs.declared.event.Event.TheVariants.{StDone}
 use Rattle.cds_catalog.specs.Library.{FolderMap, found}
 use Rattle.cds_catalog.specs.History.{place_of}
 use Rattle.cds_catalog.specs.Catalog.{id_of}

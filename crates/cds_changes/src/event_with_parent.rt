@@ -1,4 +1,4 @@
-use cds_event::Event;
+use cds_object::Event;
 
 /// An event with the id of the parent that its change names; that a subtree update is done names none.
 #[derive(Clone, Copy, Debug, PartialEq, Eq)]

@@ -4,7 +4,7 @@ use Rattle.std.specs.List.{range_with_len, filter_map, cons_option}
 use Rattle.std.proofs.lemmas.Bool.{cases_lt}
 use Rattle.std.proofs.lemmas.List.{append-nil}
 use Rattle.std.proofs.lemmas.List.Elements.{filter-append, filter_map-append}
-use Rattle.cds_event.specs.declared.Event.{Event}
+use Rattle.cds_object.specs.declared.event.Event.{Event}
 use Rattle.cds_catalog.specs.History.{end_of}
 use Rattle.cds_catalog.proofs.StepsFind.{none≢some}
 use Rattle.cds_changes.specs.Events.{events_between}
@@ -17,7 +17,7 @@ use Rattle.cds_commands.specs.NoteLaws.{notes_hold_every_change}
 use Rattle.cds_commands.proofs.Among.{Among, among-all, among-left, among-right, among-filter, filter-among, seq-append}
 use Rattle.cds_commands.proofs.Sent.{Sound, all-sound, all-fresh, Follows, follows-all}
 use Rattle.cds_commands.proofs.Spanned.{above-told, none-told, told-then-new}
-use Rattle.cds_event.specs.Events.{is_change, update_of}
+use Rattle.cds_object.specs.Events.{is_change, update_of}
 
 -- ---- the note of a SEQ
 

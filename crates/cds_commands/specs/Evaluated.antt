@@ -2,8 +2,8 @@
 use Rattle.std.specs.Prelude.{◌≡◌, ◌-◌, ◌^◌, ℕ, zero, suc, List, [], ◌∷◌, map, None, Some, codes, true, false}
 use Rattle.cds_catalog.specs.Library.{FolderMap}
 use Rattle.cds_catalog.specs.Evaluated.{a_track}
-use Rattle.cds_event.specs.declared.Class.TheVariants.{Track}
-use Rattle.cds_event.specs.declared.Event.TheVariants.{ObjAdd}
+use Rattle.cds_object.specs.declared.event.Class.TheVariants.{Track}
+use Rattle.cds_object.specs.declared.event.Event.TheVariants.{ObjAdd}
 use Rattle.cds_commands.specs.Commands.{Command, Scans, Grants, Renews, Ends, Ticks, Stops, is_stopped, scans_of}
 use Rattle.cds_commands.specs.Releases.{releases_of, released_containers}
 use Rattle.cds_commands.specs.Subscriptions.{runs_until, callback_of}

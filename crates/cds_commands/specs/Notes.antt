@@ -2,13 +2,13 @@
 -- Architecture 2.0 on event messages and keys).
 use Rattle.std.specs.Prelude.{◌+◌, ◌-◌, ◌&&◌, ℕ, Bool, cond, nat_eq, nat_lt, List, [], ◌∷◌, ◌++◌, map, filter, length, Option, Some, None}
 use Rattle.std.specs.List.{filter_map, range_with_len}
-use Rattle.cds_event.specs.declared.Event.{Event}
+use Rattle.cds_object.specs.declared.event.Event.{Event}
 use Rattle.cds_catalog.specs.History.{History, end_of}
 use Rattle.cds_changes.specs.Events.{events_between}
 use Rattle.cds_commands.specs.Commands.{Command, Grants, Ticks, scans_of}
 use Rattle.cds_commands.specs.Releases.{Release, release_at, releases_of}
 use Rattle.cds_commands.specs.Subscriptions.{granted, is_alive, subscription_limit}
-use Rattle.cds_event.specs.Events.{is_change, update_of}
+use Rattle.cds_object.specs.Events.{is_change, update_of}
 
 -- a note: the name of its subscription, its SEQ, its SystemUpdateID and its events
 pub record Note : Type 0 where

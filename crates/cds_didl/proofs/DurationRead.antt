@@ -11,7 +11,7 @@ use Rattle.std.proofs.lemmas.Iterator.Adapters.{position_from-zero}
 use Rattle.cds_base.specs.Number.{number_below}
 use Rattle.cds_object.specs.Fragment.{two_digits, three_digits, seconds_text, duration_text}
 use Rattle.cds_didl.specs.Duration.{parts_at, cut_at, where_below, sixtieth, scaled, thousandths, with_point, seconds_in, seconds_read, duration_read}
-use Rattle.cds_didl.proofs.PlainValues.{and-first, and-second, is_plain, ArePlain, plain-append, Digits, one-digit, digit-more, decimal-digits, digits-read}
+use Rattle.cds_base.proofs.Plain.{and-first, and-second, is_plain, ArePlain, plain-append, Digits, one-digit, digit-more, decimal-digits, digits-read}
 
 -- a text is cut at the first byte of a kind
 abbrev Lacks : ℕ → List ℕ → Type 0

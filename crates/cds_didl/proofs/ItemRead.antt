@@ -21,7 +21,7 @@ use Rattle.cds_didl.specs.Spelled.{didl_space, dc_space, upnp_space, track_class
 use Rattle.cds_didl.specs.Duration.{◌>>=◌}
 use Rattle.cds_didl.specs.Reading.{needed, maybe, number_said, number_needed, number_maybe, parent_said, class_said, duration_there, duration_said, rate_there, rate_said, media_path, where_media, resource_of, sound_of, work_of, content_with, item_of}
 use Rattle.cds_didl.specs.ReadBack.{AreTrackNumbers, HasRanges}
-use Rattle.cds_didl.proofs.PlainValues.{decimal-read}
+use Rattle.cds_base.proofs.Plain.{decimal-read}
 use Rattle.cds_didl.proofs.DurationRead.{bind, duration-read}
 use Rattle.cds_didl.proofs.RowDrafts.{rate_value, duration_value, place}
 use Rattle.cds_didl.proofs.RowSays.{text_said, upnp_said, number_in, said_name, sound_said, resource_said, work_said, back_said, item_said}

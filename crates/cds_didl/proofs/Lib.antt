@@ -3,7 +3,6 @@ pub mod Whole
 pub mod Spaces
 pub mod Joined
 pub mod OneAnswer
-pub mod PlainValues
 pub mod DurationRead
 pub mod RowDrafts
 pub mod RowSays

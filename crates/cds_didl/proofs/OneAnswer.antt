@@ -6,8 +6,7 @@ use Rattle.cds_markup.specs.declared.part.Part.{Part}
 use Rattle.cds_markup.specs.Document.{Meaning, Doc}
 use Rattle.cds_markup.specs.Refusal.{IsRefused}
 use Rattle.cds_markup.specs.Children.{child_starts, root_start, IsPlace}
-use Rattle.cds_markup.proofs.Public.{places-are-one}
-use Rattle.cds_markup.proofs.Public.{one-answer, one-element}
+use Rattle.cds_markup.proofs.Public.{places-are-one, one-answer, one-element}
 use Rattle.cds_object.specs.Object.{ObjectRow}
 use Rattle.cds_didl.specs.declared.error.Fault.{Fault}
 use Rattle.cds_didl.specs.declared.error.Fault.TheVariants.{Root, NotRow, BadRow, OutOfMemory}

@@ -19,7 +19,7 @@ use Rattle.cds_catalog.specs.Library.{FolderMap, map_from, map_of}
 use Rattle.cds_catalog.specs.History.{History, latest, changes_of}
 use Rattle.cds_catalog.specs.Catalog.{PlacedRow, row_at, put_row, in_order, root_entry, placed_rows, catalog}
 use Rattle.cds_didl.specs.Plain.{IsPlainText, IsPlain, ContentsArePlain, history_of, ArePlainRecords, RowsArePlain}
-use Rattle.cds_didl.proofs.PlainValues.{and-both, and-first, and-second, allowed-plain}
+use Rattle.cds_base.proofs.Plain.{and-both, and-first, and-second, allowed-plain}
 
 -- a text that was cleaned
 allowed-all : (cs : List ℕ) → list_all is_clean_character cs ≡ true → list_all is_allowed cs ≡ true

@@ -6,7 +6,7 @@ use Rattle.std.specs.Fmt.{decimal}
 use Rattle.std.specs.Option.{option_map}
 use Rattle.std.proofs.lemmas.Grind.{flat_map-append}
 use Rattle.cds_base.specs.Escape.{escaped, escaped_byte}
-use Rattle.cds_base.specs.Writing.{number_attribute, text_element, number_element}
+use Rattle.cds_object.specs.Writing.{number_attribute, text_element, number_element}
 use Rattle.cds_markup.specs.declared.tag.TagAttr.{TagAttr}
 use Rattle.cds_markup.specs.declared.tag.Tag.{Tag}
 use Rattle.cds_markup.specs.Written.{written_attr, written_attrs, written_start}
@@ -21,7 +21,7 @@ use Rattle.cds_didl.specs.Spelled.{didl_space, dc_space, upnp_space, container_c
 use Rattle.cds_didl.specs.Filter.{wants_resource}
 use Rattle.cds_didl.specs.Fragment.{container_attributes, container_start, trackers_wanted, container_wanted, sound_wanted, resource_attributes_wanted, place_text, resource_wanted, work_wanted, item_wanted, text_of, fragment_of, didl_start, fragments, didl_text}
 use Rattle.cds_didl.specs.ReadBack.{AreTrackNumbers, HasNumbers, AreCounts, HasRanges}
-use Rattle.cds_didl.proofs.PlainValues.{ArePlain, escaped-plain, plain-append, decimal-digits}
+use Rattle.cds_base.proofs.Plain.{ArePlain, escaped-plain, plain-append, decimal-digits}
 use Rattle.cds_didl.proofs.DurationRead.{duration-plain}
 
 -- tags, elements of a text alone, and what may be missing

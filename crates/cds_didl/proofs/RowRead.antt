@@ -19,7 +19,7 @@ use Rattle.cds_didl.specs.Spelled.{didl_space, dc_space, upnp_space, container_c
 use Rattle.cds_didl.specs.Duration.{◌>>=◌}
 use Rattle.cds_didl.specs.Reading.{own_text, needed, maybe, number_said, number_needed, number_there, number_maybe, parent_in, parent_said, where_class, class_said, trackers_of, container_of}
 use Rattle.cds_didl.specs.ReadBack.{AreCounts, HasRanges}
-use Rattle.cds_didl.proofs.PlainValues.{decimal-read}
+use Rattle.cds_base.proofs.Plain.{decimal-read}
 use Rattle.cds_didl.proofs.DurationRead.{bind}
 use Rattle.cds_didl.proofs.RowSays.{text_said, upnp_said, number_in, if_said, container_said, resource_said, work_said, back_said}
 

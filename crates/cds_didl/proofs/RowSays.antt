@@ -21,7 +21,7 @@ use Rattle.cds_object.specs.Object.{ObjectRow}
 use Rattle.cds_object.specs.Fragment.{parent_text}
 use Rattle.cds_didl.specs.Spelled.{didl_space, dc_space, upnp_space, container_class, track_class}
 use Rattle.cds_didl.specs.ReadBack.{AreTrackTexts, HasAllowedTexts, AreTrackNumbers, HasNumbers, AreCounts, HasRanges, IsWritable}
-use Rattle.cds_didl.proofs.PlainValues.{ArePlain, allowed-plain, allowed-append, plain-append}
+use Rattle.cds_base.proofs.Plain.{ArePlain, allowed-plain, allowed-append, plain-append}
 use Rattle.cds_didl.proofs.DurationRead.{duration-plain}
 use Rattle.cds_didl.proofs.RowDrafts.{tag, plain_attr, dc_draft, upnp_draft, number_draft, if_draft, if_attr, object_attrs, container_draft, rate_value, duration_value, sound_attrs, place, resource_draft, item_back, item_work, item_draft, row_then, rows_inside, root_tag, didl_draft, decimal-plain, parent-plain}
 

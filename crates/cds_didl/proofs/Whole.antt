@@ -1,6 +1,6 @@
 -- With everything let through and an empty base, the text of a row is that of the report.
 use Rattle.std.proofs.Common.{◌≡◌, ℕ, List, [], ◌++◌, codes, decimal, Option, Some, None, refl, ap, sym, ◌∙◌, append_assoc}
-use Rattle.cds_base.specs.Writing.{number_attribute, number_element, text_element}
+use Rattle.cds_object.specs.Writing.{number_attribute, number_element, text_element}
 use Rattle.cds_object.specs.declared.content.Content.{Content}
 use Rattle.cds_object.specs.declared.content.Content.TheVariants.{Folder, Track}
 use Rattle.cds_object.specs.declared.row.Trackers.{Trackers}

@@ -4,7 +4,7 @@ use Rattle.std.specs.Prelude.{◌≡◌, ◌++◌, ℕ, Bool, true, false, Optio
 use Rattle.std.specs.List.{flat_map}
 use Rattle.std.specs.Fmt.{decimal}
 use Rattle.cds_base.specs.Escape.{escaped}
-use Rattle.cds_base.specs.Writing.{number_attribute, text_element, number_element}
+use Rattle.cds_object.specs.Writing.{number_attribute, text_element, number_element}
 use Rattle.cds_object.specs.declared.content.Content.{Content}
 use Rattle.cds_object.specs.declared.content.TrackContent.{TrackContent}
 use Rattle.cds_object.specs.declared.content.Content.TheVariants.{Folder, Track}

@@ -3,8 +3,8 @@
 ghost use Rattle.std.specs.Prelude.{◌≡◌, ◌++◌, ◌/◌, ◌%◌, OnOk, string_bytes};
 ghost use Rattle.cds_object.specs.Fragment.{object_attributes, parent_text, two_digits, three_digits, duration_text, seconds_text, duration_attribute, rate_attribute, item_front};
 
-use cds_base::{Mem, put, put_number, put_number_attribute, put_text_element};
-use cds_object::{Row, TrackContent};
+use cds_base::{Mem, put, put_number};
+use cds_object::{Row, TrackContent, put_number_attribute, put_text_element};
 
 /// Puts the id of an object's parent.
 fn put_parent(out: &mut String, row: &Row) -> Result<(), Mem>

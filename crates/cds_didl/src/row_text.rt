@@ -1,17 +1,18 @@
 //! The text of a row, with the properties that a filter lets through.
 
 ghost use Rattle.std.specs.Prelude.{◌≡◌, ◌++◌, OnOk, codes, string_bytes};
-ghost use Rattle.cds_base.specs.Writing.{text_element, number_element, number_attribute};
+ghost use Rattle.cds_object.specs.Writing.{text_element, number_element, number_attribute};
 ghost use Rattle.cds_object.specs.Fragment.{if_there, duration_attribute};
 ghost use Rattle.cds_didl.specs.Filter.{wants_resource};
 ghost use Rattle.cds_didl.specs.Fragment.{where_wanted, number_wanted, text_wanted, number_there, searchable_wanted, child_count_wanted, container_attributes, container_start, trackers_wanted, container_wanted, duration_wanted, rate_wanted, attribute_wanted, sound_wanted, resource_attributes_wanted, place_text, resource_wanted, work_wanted, resource_where, item_wanted, fragment_of};
 
 use crate::Filter;
 use crate::pieces::{put_attributes, put_item_front, put_known_duration, put_rate_attribute};
-use cds_base::{
-    Mem, Text, escape, put, put_number, put_number_attribute, put_number_element, put_text_element,
+use cds_base::{Mem, Text, escape, put, put_number};
+use cds_object::{
+    Content, Row, TrackContent, Trackers, put_number_attribute, put_number_element,
+    put_text_element,
 };
-use cds_object::{Content, Row, TrackContent, Trackers};
 
 /// Puts an element round a number, where its name is wanted.
 fn put_number_wanted(out: &mut String, filter: &Filter, name: &str, number: u32) -> Result<(), Mem>

@@ -3,7 +3,7 @@ use Rattle.std.proofs.Common.{◌≡◌, ℕ, ◌≤◌, nat_le, true, ◌&&◌,
 use Rattle.std.specs.List.{list_all}
 use Rattle.std.proofs.lemmas.Bool.Decides.{nat_tests}
 use Rattle.cds_soap.specs.Laws.{is_host_byte}
-use Rattle.cds_didl.proofs.PlainValues.{is_plain, ArePlain, allowed-plain, plain-append, and-both, and-first, and-second}
+use Rattle.cds_base.proofs.Plain.{is_plain, ArePlain, allowed-plain, plain-append, and-both, and-first, and-second}
 use Rattle.cds_exchange.specs.Laws.{HostsMakeBases}
 
 byte-plain : (b : ℕ) → is_host_byte b ≡ true → is_plain b ≡ true

@@ -11,11 +11,11 @@ use Rattle.std.proofs.lemmas.Str.{encode_ascii}
 use Rattle.cds_base.specs.Characters.{is_allowed}
 use Rattle.cds_base.specs.Escape.{escaped, escaped_byte}
 use Rattle.cds_base.specs.Unescape.{AreAllowed}
-use Rattle.cds_base.specs.Writing.{number_attribute, text_element, number_element}
+use Rattle.cds_object.specs.Writing.{number_attribute, text_element, number_element}
 use Rattle.cds_base.proofs.Escapes.{kept_char}
 use Rattle.cds_object.specs.Fragment.{if_there}
 use Rattle.cds_didl.specs.Plain.{IsPlainText}
-use Rattle.cds_didl.proofs.PlainValues.{ArePlain, allowed-plain, allowed-append, escaped-plain, and-first, and-second}
+use Rattle.cds_base.proofs.Plain.{ArePlain, allowed-plain, allowed-append, escaped-plain, and-first, and-second}
 use Rattle.cds_didl.proofs.RowDrafts.{decimal-plain}
 
 within : (n m : ℕ) → nat_le n m ≡ true → n ≤ m

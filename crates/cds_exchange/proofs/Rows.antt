@@ -4,7 +4,7 @@ use Rattle.std.specs.Prelude.{IfSome}
 use Rattle.std.specs.List.{AllByRecursion}
 use Rattle.std.specs.Fmt.{decimal}
 use Rattle.std.proofs.lemmas.Fmt.{length-decimal-le}
-use Rattle.cds_base.specs.Writing.{text_element, number_element, number_attribute}
+use Rattle.cds_object.specs.Writing.{text_element, number_element, number_attribute}
 use Rattle.cds_object.specs.declared.content.Content.{Content}
 use Rattle.cds_object.specs.declared.content.TrackContent.{TrackContent}
 use Rattle.cds_object.specs.declared.content.Content.TheVariants.{Folder, Track}

@@ -1,6 +1,6 @@
 ghost use Rattle.std.specs.Prelude.{◌≡◌, ◌==◌, ◌+◌, ◌%◌, ◌<◌, ◌≤◌, ◌^◌, nat_le, false, IfOk};
 ghost use Rattle.cds_base.specs.declared.limits.TheConstants.{INPUT_LIMIT};
-ghost use Rattle.cds_base.specs.Outside.{WhereTold};
+ghost use Rattle.cds_base.specs.Outside.{Told};
 ghost use Rattle.cds_flac.specs.Agree.{Agrees, FaultRose, Took};
 ghost use Rattle.cds_flac.specs.Reading.{header_at, block_body, further_blocks, is_first_comment, is_last, kind_of};
 
@@ -48,7 +48,7 @@ pub fn read_further_blocks<S: Source>(
     source: &mut S,
     last: bool,
 ) -> Result<Option<Comments>, FlacError>
-    ensures told { WhereTold (S.left source.old) (λ bytes. Agrees (further_blocks last 42 bytes) result (S.left source.new)) }
+    ensures told { Told (S.left source.old) (λ bytes. Agrees (further_blocks last 42 bytes) result (S.left source.new)) }
     ensures took { Took result (λ _. 67108826) 42 (S.moved source.old) (S.moved source.new) }
     ensures fault { FaultRose result (S.faults source.old) (S.faults source.new) }
     ensures never_falls { S.faults source.old ≤ S.faults source.new }
@@ -62,7 +62,7 @@ pub fn read_further_blocks<S: Source>(
 
 /// The comments of the blocks behind STREAMINFO, to the end of the last one.
 fn read_blocks<S: Source>(alloc: Global, source: &mut S) -> Result<Option<Comments>, FlacError>
-    ensures told { WhereTold (S.left source.old) (λ bytes. Agrees (further_blocks false 42 bytes) result (S.left source.new)) }
+    ensures told { Told (S.left source.old) (λ bytes. Agrees (further_blocks false 42 bytes) result (S.left source.new)) }
     ensures took { Took result (λ _. 67108826) 42 (S.moved source.old) (S.moved source.new) }
     ensures fault { FaultRose result (S.faults source.old) (S.faults source.new) }
     ensures never_falls { S.faults source.old ≤ S.faults source.new }
@@ -82,7 +82,7 @@ fn read_blocks<S: Source>(alloc: Global, source: &mut S) -> Result<Option<Commen
 /// The header of the block at `at`.
 fn read_header<S: Source>(source: &mut S, at: usize) -> Result<Header, FlacError>
     requires { at ≤ 67108868 }
-    ensures told { WhereTold (S.left source.old) (λ bytes. Agrees (header_at at bytes) result (S.left source.new)) }
+    ensures told { Told (S.left source.old) (λ bytes. Agrees (header_at at bytes) result (S.left source.new)) }
     ensures within { IfOk result (λ header. at + header.length ≤ INPUT_LIMIT) }
     ensures short { IfOk result (λ header. header.length < 2 ^ 24) }
     ensures took { Took result (λ _. 4) at (S.moved source.old) (S.moved source.new) }
@@ -116,7 +116,7 @@ fn read_body<S: Source>(
 ) -> Result<Option<Comments>, FlacError>
     requires near { at + length ≤ 67108868 }
     requires short { length < 2 ^ 24 }
-    ensures told { WhereTold (S.left source.old) (λ bytes. Agrees (block_body kind found at length bytes) result (S.left source.new)) }
+    ensures told { Told (S.left source.old) (λ bytes. Agrees (block_body kind found at length bytes) result (S.left source.new)) }
     ensures took { Took result (λ _. length) at (S.moved source.old) (S.moved source.new) }
     ensures fault { FaultRose result (S.faults source.old) (S.faults source.new) }
     ensures never_falls { S.faults source.old ≤ S.faults source.new }

@@ -1,7 +1,7 @@
 ghost use Rattle.std.specs.Prelude.{◌≡◌, ◌==◌, position, ◌+◌, ◌-◌, ◌≤◌, length, IfOk};
 ghost use Rattle.std.specs.Str.{is_utf8};
 ghost use Rattle.std.specs.List.{list_all};
-ghost use Rattle.cds_base.specs.Outside.{WhereTold};
+ghost use Rattle.cds_base.specs.Outside.{Told};
 ghost use Rattle.cds_flac.specs.Agree.{Agrees, FaultRose, Took};
 ghost use Rattle.cds_flac.specs.Comment.{comment_of, is_name, is_name_byte, named};
 ghost use Rattle.cds_flac.specs.Reading.{comment_block, counted_comments, comments_from, text_at};
@@ -21,7 +21,7 @@ pub fn read_comment_block<S: Source>(
     requires in_block { at ≤ end }
     requires near { end ≤ 67108868 }
     requires short { end ≤ at + 16777216 }
-    ensures told { WhereTold (S.left source.old) (λ bytes. Agrees (comment_block at end bytes) result (S.left source.new)) }
+    ensures told { Told (S.left source.old) (λ bytes. Agrees (comment_block at end bytes) result (S.left source.new)) }
     ensures took { Took result (λ _. end - at) at (S.moved source.old) (S.moved source.new) }
     ensures fault { FaultRose result (S.faults source.old) (S.faults source.new) }
     ensures never_falls { S.faults source.old ≤ S.faults source.new }
@@ -44,7 +44,7 @@ fn read_counted<S: Source>(
     requires in_block { at ≤ end }
     requires near { end ≤ 67108868 }
     requires short { end ≤ at + 16777216 }
-    ensures told { WhereTold (S.left source.old) (λ bytes. Agrees (counted_comments at end bytes) result (S.left source.new)) }
+    ensures told { Told (S.left source.old) (λ bytes. Agrees (counted_comments at end bytes) result (S.left source.new)) }
     ensures took { Took result (λ _. end - at) at (S.moved source.old) (S.moved source.new) }
     ensures fault { FaultRose result (S.faults source.old) (S.faults source.new) }
     ensures never_falls { S.faults source.old ≤ S.faults source.new }
@@ -68,7 +68,7 @@ fn read_comments<S: Source>(
     requires in_block { at ≤ end }
     requires near { end ≤ 67108868 }
     requires short { end ≤ at + 16777216 }
-    ensures told { WhereTold (S.left source.old) (λ bytes. Agrees (comments_from count at end bytes) result (S.left source.new)) }
+    ensures told { Told (S.left source.old) (λ bytes. Agrees (comments_from count at end bytes) result (S.left source.new)) }
     ensures took { Took result (λ _. end - at) at (S.moved source.old) (S.moved source.new) }
     ensures fault { FaultRose result (S.faults source.old) (S.faults source.new) }
     ensures never_falls { S.faults source.old ≤ S.faults source.new }
@@ -99,7 +99,7 @@ fn read_text_at<S: Source>(
     requires in_block { at ≤ end }
     requires near { end ≤ 67108868 }
     requires short { end ≤ at + 16777216 }
-    ensures told { WhereTold (S.left source.old) (λ bytes. Agrees (text_at at end bytes) result (S.left source.new)) }
+    ensures told { Told (S.left source.old) (λ bytes. Agrees (text_at at end bytes) result (S.left source.new)) }
     ensures in_block { IfOk result (λ text. at + 4 + length text ≤ end) }
     ensures took { Took result (λ text. 4 + length text) at (S.moved source.old) (S.moved source.new) }
     ensures fault { FaultRose result (S.faults source.old) (S.faults source.new) }

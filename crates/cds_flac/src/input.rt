@@ -1,5 +1,5 @@
 ghost use Rattle.std.specs.Prelude.{◌≡◌, ◌+◌, ◌*◌, ◌<◌, ◌≤◌, ◌^◌, length, IfOk};
-ghost use Rattle.cds_base.specs.Outside.{WhereTold};
+ghost use Rattle.cds_base.specs.Outside.{Told};
 ghost use Rattle.cds_flac.specs.Step.{taken, big_number, little_number};
 ghost use Rattle.cds_flac.specs.Agree.{Agrees, Fills, Passes, FaultRose, Took};
 
@@ -14,7 +14,7 @@ const PIECE: usize = 4096;
 /// Fills `into` with the next bytes, which stand at `at`.
 pub fn fill<S: Source>(source: &mut S, at: usize, into: &mut [u8]) -> Result<(), FlacError>
     requires { at + length into.old ≤ 67108872 }
-    ensures told { WhereTold (S.left source.old) (λ bytes. Fills (taken at (length into.old) bytes) into.new result (S.left source.new)) }
+    ensures told { Told (S.left source.old) (λ bytes. Fills (taken at (length into.old) bytes) into.new result (S.left source.new)) }
     ensures took { Took result (λ _. length into.old) at (S.moved source.old) (S.moved source.new) }
     ensures fault { FaultRose result (S.faults source.old) (S.faults source.new) }
     ensures never_falls { S.faults source.old ≤ S.faults source.new }
@@ -33,7 +33,7 @@ pub fn fill<S: Source>(source: &mut S, at: usize, into: &mut [u8]) -> Result<(),
 /// Passes over the next `n` bytes, which stand at `at`.
 pub fn pass_over<S: Source>(source: &mut S, at: usize, n: usize) -> Result<(), FlacError>
     requires { at + n ≤ 67108872 }
-    ensures told { WhereTold (S.left source.old) (λ bytes. Passes (taken at n bytes) result (S.left source.new)) }
+    ensures told { Told (S.left source.old) (λ bytes. Passes (taken at n bytes) result (S.left source.new)) }
     ensures took { Took result (λ _. n) at (S.moved source.old) (S.moved source.new) }
     ensures fault { FaultRose result (S.faults source.old) (S.faults source.new) }
     ensures never_falls { S.faults source.old ≤ S.faults source.new }
@@ -59,7 +59,7 @@ pub fn read_text<S: Source>(
     n: usize,
 ) -> Result<Bytes, FlacError>
     requires { at + n ≤ 67108872 }
-    ensures told { WhereTold (S.left source.old) (λ bytes. Agrees (taken at n bytes) result (S.left source.new)) }
+    ensures told { Told (S.left source.old) (λ bytes. Agrees (taken at n bytes) result (S.left source.new)) }
     ensures size { IfOk result (λ text. length text ≡ n) }
     ensures took { Took result (λ text. length text) at (S.moved source.old) (S.moved source.new) }
     ensures fault { FaultRose result (S.faults source.old) (S.faults source.new) }
@@ -83,7 +83,7 @@ pub fn read_text<S: Source>(
 /// The byte at `at`.
 pub fn read_byte<S: Source>(source: &mut S, at: usize) -> Result<u8, FlacError>
     requires { at + 1 ≤ 67108872 }
-    ensures told { WhereTold (S.left source.old) (λ bytes. Agrees (big_number at 1 bytes) result (S.left source.new)) }
+    ensures told { Told (S.left source.old) (λ bytes. Agrees (big_number at 1 bytes) result (S.left source.new)) }
     ensures took { Took result (λ _. 1) at (S.moved source.old) (S.moved source.new) }
     ensures fault { FaultRose result (S.faults source.old) (S.faults source.new) }
     ensures never_falls { S.faults source.old ≤ S.faults source.new }
@@ -96,7 +96,7 @@ pub fn read_byte<S: Source>(source: &mut S, at: usize) -> Result<u8, FlacError>
 /// The number of three bytes at `at`, the highest first.
 pub fn read_length<S: Source>(source: &mut S, at: usize) -> Result<usize, FlacError>
     requires { at + 3 ≤ 67108872 }
-    ensures told { WhereTold (S.left source.old) (λ bytes. Agrees (big_number at 3 bytes) result (S.left source.new)) }
+    ensures told { Told (S.left source.old) (λ bytes. Agrees (big_number at 3 bytes) result (S.left source.new)) }
     ensures small { IfOk result (λ n. n < 2 ^ 24) }
     ensures took { Took result (λ _. 3) at (S.moved source.old) (S.moved source.new) }
     ensures fault { FaultRose result (S.faults source.old) (S.faults source.new) }
@@ -118,7 +118,7 @@ fn joined(high: u8, middle: u8, low: u8) -> usize
 /// The number of four bytes at `at`, the lowest first.
 pub fn read_count<S: Source>(source: &mut S, at: usize) -> Result<usize, FlacError>
     requires { at + 4 ≤ 67108872 }
-    ensures told { WhereTold (S.left source.old) (λ bytes. Agrees (little_number at bytes) result (S.left source.new)) }
+    ensures told { Told (S.left source.old) (λ bytes. Agrees (little_number at bytes) result (S.left source.new)) }
     ensures small { IfOk result (λ n. n < 2 ^ 32) }
     ensures took { Took result (λ _. 4) at (S.moved source.old) (S.moved source.new) }
     ensures fault { FaultRose result (S.faults source.old) (S.faults source.new) }

@@ -1,5 +1,5 @@
 ghost use Rattle.std.specs.Prelude.{◌≡◌, ◌<◌, ◌≤◌, ◌^◌, IfOk};
-ghost use Rattle.cds_base.specs.Outside.{WhereTold};
+ghost use Rattle.cds_base.specs.Outside.{Told};
 ghost use Rattle.cds_flac.specs.Agree.{Agrees, FaultRose, Took};
 ghost use Rattle.cds_flac.specs.Form.{BeginsWith, ReadsWhatBegins};
 ghost use Rattle.cds_flac.specs.Numbers.{sound_bits};
@@ -18,11 +18,11 @@ use std::alloc::Global;
 /// answered, with no byte taken behind what it is known by: of `BadComment` at most the greatest length of a block behind
 /// its place. `ReadFault` comes only where the count of faults rose.
 pub fn read_flac<S: Source>(alloc: Global, source: &mut S) -> Result<FlacInfo, FlacError>
-    ensures told { WhereTold (S.left source.old) (λ bytes. Agrees (metadata bytes) result (S.left source.new)) }
-    ensures form { IfOk result (λ info. WhereTold (S.left source.old) (λ bytes. BeginsWith bytes info (S.left source.new))) }
-    ensures all { WhereTold (S.left source.old) (λ bytes. ReadsWhatBegins bytes result) }
-    ensures refused { WhereTold (S.left source.old) (λ bytes. RefusedAs bytes result) }
-    ensures all_refused { WhereTold (S.left source.old) (λ bytes. RefusesWhatIs bytes result) }
+    ensures told { Told (S.left source.old) (λ bytes. Agrees (metadata bytes) result (S.left source.new)) }
+    ensures form { IfOk result (λ info. Told (S.left source.old) (λ bytes. BeginsWith bytes info (S.left source.new))) }
+    ensures all { Told (S.left source.old) (λ bytes. ReadsWhatBegins bytes result) }
+    ensures refused { Told (S.left source.old) (λ bytes. RefusedAs bytes result) }
+    ensures all_refused { Told (S.left source.old) (λ bytes. RefusesWhatIs bytes result) }
     ensures rate { IfOk result (λ info. info.rate < 2 ^ 20) }
     ensures channels { IfOk result (λ info. (1 ≤ info.channels) × (info.channels ≤ 8)) }
     ensures bits { IfOk result (λ info. (1 ≤ info.bits) × (info.bits ≤ 32)) }
@@ -37,7 +37,7 @@ pub fn read_flac<S: Source>(alloc: Global, source: &mut S) -> Result<FlacInfo, F
 
 /// The marker and the blocks, one after another.
 fn read_metadata<S: Source>(alloc: Global, source: &mut S) -> Result<FlacInfo, FlacError>
-    ensures told { WhereTold (S.left source.old) (λ bytes. Agrees (metadata bytes) result (S.left source.new)) }
+    ensures told { Told (S.left source.old) (λ bytes. Agrees (metadata bytes) result (S.left source.new)) }
     ensures rate { IfOk result (λ info. info.rate < 2 ^ 20) }
     ensures channels { IfOk result (λ info. (1 ≤ info.channels) × (info.channels ≤ 8)) }
     ensures bits { IfOk result (λ info. (1 ≤ info.bits) × (info.bits ≤ 32)) }
@@ -55,7 +55,7 @@ fn read_metadata<S: Source>(alloc: Global, source: &mut S) -> Result<FlacInfo, F
 
 /// The marker `fLaC`.
 fn read_marker<S: Source>(source: &mut S) -> Result<(), FlacError>
-    ensures told { WhereTold (S.left source.old) (λ bytes. Agrees (marker_at bytes) result (S.left source.new)) }
+    ensures told { Told (S.left source.old) (λ bytes. Agrees (marker_at bytes) result (S.left source.new)) }
     ensures took { Took result (λ _. 4) 0 (S.moved source.old) (S.moved source.new) }
     ensures fault { FaultRose result (S.faults source.old) (S.faults source.new) }
     ensures never_falls { S.faults source.old ≤ S.faults source.new }
@@ -70,7 +70,7 @@ fn read_marker<S: Source>(source: &mut S) -> Result<(), FlacError>
 
 /// The first byte of STREAMINFO's header, which is the first block.
 fn read_stream_head<S: Source>(source: &mut S) -> Result<u8, FlacError>
-    ensures told { WhereTold (S.left source.old) (λ bytes. Agrees (stream_head bytes) result (S.left source.new)) }
+    ensures told { Told (S.left source.old) (λ bytes. Agrees (stream_head bytes) result (S.left source.new)) }
     ensures took { Took result (λ _. 4) 4 (S.moved source.old) (S.moved source.new) }
     ensures fault { FaultRose result (S.faults source.old) (S.faults source.new) }
     ensures never_falls { S.faults source.old ≤ S.faults source.new }
@@ -92,7 +92,7 @@ fn read_stream_head<S: Source>(source: &mut S) -> Result<u8, FlacError>
 
 /// The 64 bits of STREAMINFO's body that describe the sound.
 fn read_sound<S: Source>(source: &mut S) -> Result<u64, FlacError>
-    ensures told { WhereTold (S.left source.old) (λ bytes. Agrees (sound_at bytes) result (S.left source.new)) }
+    ensures told { Told (S.left source.old) (λ bytes. Agrees (sound_at bytes) result (S.left source.new)) }
     ensures took { Took result (λ _. 34) 8 (S.moved source.old) (S.moved source.new) }
     ensures fault { FaultRose result (S.faults source.old) (S.faults source.new) }
     ensures never_falls { S.faults source.old ≤ S.faults source.new }

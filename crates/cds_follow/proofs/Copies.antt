@@ -6,8 +6,8 @@ use Rattle.std.proofs.lemmas.List.{reverse-append}
 use Rattle.cds_object.specs.Object.{ObjectRow}
 use Rattle.cds_object.specs.Tree.{row_of}
 use Rattle.cds_object.specs.declared.row.Trackers.{Trackers}
-use Rattle.cds_event.specs.declared.Event.{Event}
-use Rattle.cds_event.specs.declared.Event.TheVariants.{ObjAdd, ObjMod, ObjDel, StDone}
+use Rattle.cds_object.specs.declared.event.Event.{Event}
+use Rattle.cds_object.specs.declared.event.Event.TheVariants.{ObjAdd, ObjMod, ObjDel, StDone}
 use Rattle.cds_catalog.proofs.StepsFind.{none≢some, each-filter, each-weaker}
 use Rattle.cds_follow.specs.Copy.{Version, KnownRow, known_row, known_of, counted, counts_addition, counts_modification, counts_deletion, parent_in, added_row, put_known, changed, newer, read_anew, Happening, Changes, deletes, marks, since_deletion, read_up_to}
 use Rattle.cds_follow.specs.StepLaws.{IsLike, AreLike, changed_by}

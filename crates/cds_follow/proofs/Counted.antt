@@ -4,7 +4,7 @@ use Rattle.std.specs.List.{AllByRecursion}
 use Rattle.std.specs.Option.{option_map}
 use Rattle.cds_object.specs.Path.{same_path}
 use Rattle.cds_object.specs.Object.{ObjectRow}
-use Rattle.cds_event.specs.Events.{class_of}
+use Rattle.cds_object.specs.Events.{class_of}
 use Rattle.cds_object.specs.declared.content.Content.{Content}
 use Rattle.cds_object.specs.declared.content.Content.TheVariants.{Folder, Track}
 use Rattle.cds_object.specs.declared.row.Trackers.{Trackers}

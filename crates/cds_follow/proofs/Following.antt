@@ -5,7 +5,7 @@ use Rattle.std.specs.Option.{option_map}
 use Rattle.std.proofs.lemmas.Bool.{cases_lt}
 use Rattle.cds_object.specs.Object.{ObjectRow, is_folder}
 use Rattle.cds_object.specs.Tree.{row_of}
-use Rattle.cds_event.specs.declared.Event.{Event}
+use Rattle.cds_object.specs.declared.event.Event.{Event}
 use Rattle.cds_catalog.specs.History.{end_of}
 use Rattle.cds_catalog.proofs.StepsFind.{none≢some}
 use Rattle.cds_load.specs.declared.exchange.Ask.{Ask}
@@ -29,7 +29,7 @@ use Rattle.cds_commands.proofs.Sent.{first-is, grows-rise}
 use Rattle.cds_follow.proofs.Copies.{known-like}
 use Rattle.cds_follow.proofs.CopyOf.{IsCopy, copy-begins, copy-goes, copy-reads, least-is-unread, unread-known}
 use Rattle.cds_follow.proofs.Stages.{Bounds, taken-bounds, reply-number, greatest-least, greatest-max, Past, IsLoading, Stage, IsFollowing, AreNext, AreTaken, past-low}
-use Rattle.cds_event.specs.Events.{update_of}
+use Rattle.cds_object.specs.Events.{update_of}
 
 -- what becomes of a note or a reply: it is taken, and what is known then follows the server
 abbrev pub Follows : List ℕ → ℕ → List Command → ℕ → Outcome → Type 0

@@ -6,15 +6,15 @@ use Rattle.std.proofs.lemmas.Bool.{eqb-false}
 use Rattle.std.proofs.lemmas.List.{reverse-append}
 use Rattle.cds_object.specs.Object.{ObjectRow}
 use Rattle.cds_object.specs.declared.row.Trackers.{Trackers}
-use Rattle.cds_event.specs.declared.Event.{Event}
-use Rattle.cds_event.specs.declared.Event.TheVariants.{ObjAdd, ObjMod, ObjDel, StDone}
+use Rattle.cds_object.specs.declared.event.Event.{Event}
+use Rattle.cds_object.specs.declared.event.Event.TheVariants.{ObjAdd, ObjMod, ObjDel, StDone}
 use Rattle.cds_catalog.proofs.StepsFind.{none≢some}
 use Rattle.cds_follow.specs.Copy.{Version, KnownRow, known_of, knows, knows_container, counted, counts_addition, counts_modification, counts_deletion, parent_in, added_row, put_known, cannot_be, changed, newer, read_anew, Happening, Changes, Reads, rows_after, deletes, marks, shows_from, since_deletion}
 use Rattle.cds_follow.specs.Follow.{first_torn}
 use Rattle.cds_follow.specs.StepLaws.{changed_by}
 use Rattle.cds_follow.specs.ServerLaws.{befalling}
 use Rattle.cds_commands.proofs.Among.{Among}
-use Rattle.cds_event.specs.Events.{object_of}
+use Rattle.cds_object.specs.Events.{object_of}
 
 -- ---- what is known of an id after one change
 

@@ -1,14 +1,14 @@
 -- What notes and replies leave of what is known: the load, the number that it began from, and the greatest number last_note.
 use Rattle.std.proofs.Common.{◌≡◌, ◌+◌, ℕ, Bool, true, false, cond, nat_eq, List, [], ◌∷◌, ◌++◌, map, reverse, Option, Some, None, refl, sym, ap, ◌∙◌}
 use Rattle.cds_object.specs.Object.{ObjectRow}
-use Rattle.cds_event.specs.declared.Event.{Event}
+use Rattle.cds_object.specs.declared.event.Event.{Event}
 use Rattle.cds_load.specs.declared.exchange.Shown.{Shown}
 use Rattle.cds_load.specs.declared.exchange.Shown.TheVariants.{Text, Number, Page, Fault}
 use Rattle.cds_load.specs.Stages.{Held, Idle, Begun, HasToken, HasNumber, HasRoot, Lists, HasPage, HasCopy, Taken, Holds, Unreadable, Torn, taken}
 use Rattle.cds_commands.specs.Notes.{Note, changes_above}
 use Rattle.cds_follow.specs.Copy.{Changes, Reads, rows_after, known_of, least_unread}
 use Rattle.cds_follow.specs.Follow.{Known, position, Outcome, Knows, CannotBeRead, Jumps, Tears, first_torn, judged, counted_from, with_changes, load_begun, new_changes, greatest_of, is_drop, dropped, heard_of, with_notes, loaded, is_of, row_read, copy_read, with_reply}
-use Rattle.cds_event.specs.Events.{update_of}
+use Rattle.cds_object.specs.Events.{update_of}
 
 pub knows-is : (a b : Known) → Knows a ≡ Knows b → a ≡ b
 knows-is a b e = cc

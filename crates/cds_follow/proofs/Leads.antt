@@ -6,10 +6,10 @@ use Rattle.std.proofs.lemmas.Bool.{false_from_ne_true}
 use Rattle.std.proofs.lemmas.List.Sums.{count_by-le-length}
 use Rattle.cds_object.specs.Path.{same_path, parent_of}
 use Rattle.cds_object.specs.Object.{is_folder}
-use Rattle.cds_event.specs.Events.{class_of}
+use Rattle.cds_object.specs.Events.{class_of}
 use Rattle.cds_object.specs.declared.content.Content.{Content}
 use Rattle.cds_object.specs.declared.row.Trackers.{Trackers}
-use Rattle.cds_event.specs.declared.Event.{Event}
+use Rattle.cds_object.specs.declared.event.Event.{Event}
 use Rattle.cds_catalog.specs.History.{is_addition}
 use Rattle.cds_catalog.specs.Catalog.{PlacedRow, id_of, parent_id_of}
 use Rattle.cds_catalog.specs.Laws.{IsWithin}

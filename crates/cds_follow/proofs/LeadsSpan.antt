@@ -3,7 +3,7 @@ use Rattle.std.proofs.Common.{◌≡◌, ◌+◌, ◌≤◌, ℕ, Bool, true, fa
 use Rattle.std.specs.List.{AllByRecursion}
 use Rattle.std.proofs.lemmas.List.Elements.{filter-append}
 use Rattle.cds_object.specs.Object.{ObjectRow}
-use Rattle.cds_event.specs.declared.Event.{Event}
+use Rattle.cds_object.specs.declared.event.Event.{Event}
 use Rattle.cds_catalog.specs.Library.{FolderMap, found}
 use Rattle.cds_catalog.specs.History.{History, latest, changes_of, end_of}
 use Rattle.cds_catalog.specs.Catalog.{catalog}
@@ -23,7 +23,7 @@ use Rattle.cds_follow.specs.Follow.{first_torn}
 use Rattle.cds_follow.specs.StepLaws.{AreLike, changed_by, spans_lead_to_the_rows}
 use Rattle.cds_follow.proofs.Like.{unplaced}
 use Rattle.cds_follow.proofs.Leads.{change-leads}
-use Rattle.cds_event.specs.Events.{update_of, is_change, object_of}
+use Rattle.cds_object.specs.Events.{update_of, is_change, object_of}
 
 -- changes that can all be, one by one, and what they lead to
 abbrev pub LeadsTo : List KnownRow → List Event → List ObjectRow → Type 0

@@ -6,7 +6,7 @@ use Rattle.std.specs.Option.{option_map, option_eq}
 use Rattle.std.proofs.lemmas.Bool.{eqb-false}
 use Rattle.std.proofs.lemmas.List.{map-append}
 use Rattle.cds_catalog.proofs.StepsWithin.{length-map}
-use Rattle.cds_event.specs.declared.Event.{Event}
+use Rattle.cds_object.specs.declared.event.Event.{Event}
 use Rattle.cds_commands.specs.Notes.{Note, note_of, notes_from_to, changes_above}
 use Rattle.cds_follow.specs.Inbox.{ReplicaTurn, Begins, Shows, Requests, Accepts, Refuses, Delivers, is_out, accepted, is_accepted, is_early, early_notes, received, has_seq, least_outside, next_seq, missing_of, missing, is_same_note, different, waiting_notes, held_notes, held_limit, taken_by, IsUnknown, IsRepeat, IsTooMany, IsEarly, IsHeld, IsNext, is_repeat, is_next, arrival}
 use Rattle.cds_follow.specs.Follow.{Known, Outcome, Knows, CannotBeRead, Jumps, Tears, position, new_changes, greatest_of, is_drop, load_begun, heard_of, with_changes, with_notes, with_reply, known_after, known_by, is_no, is_turned_away, is_refused, and_turn, says_of}

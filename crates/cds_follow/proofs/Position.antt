@@ -3,7 +3,7 @@ use Rattle.std.proofs.Common.{◌≡◌, ◌+◌, ◌≤◌, ℕ, max, Bool, tru
 use Rattle.std.proofs.lemmas.List.{append-nil, reverse-append}
 use Rattle.std.proofs.lemmas.List.Elements.{filter-append}
 use Rattle.cds_object.specs.Object.{ObjectRow}
-use Rattle.cds_event.specs.declared.Event.{Event}
+use Rattle.cds_object.specs.declared.event.Event.{Event}
 use Rattle.cds_load.specs.declared.exchange.Shown.{Shown}
 use Rattle.cds_load.specs.declared.exchange.Shown.TheVariants.{Text, Number, Page, Fault}
 use Rattle.cds_load.specs.Stages.{Held, Idle, Begun, HasToken, HasNumber, HasRoot, Lists, HasPage, HasCopy, Taken, Holds, Unreadable, Torn, taken}
@@ -14,7 +14,7 @@ use Rattle.cds_follow.specs.Follow.{Known, position, Outcome, Knows, CannotBeRea
 use Rattle.cds_follow.specs.ServerLaws.{befalling}
 use Rattle.cds_follow.specs.KnownLaws.{taken_notes, and_told, told_since, counted_changes, position_is_the_greatest, counted_changes_are_fresh, notes_leave_the_load}
 use Rattle.cds_follow.proofs.Heard.{knows-is, notes-leave, notes-heard, reply-heard}
-use Rattle.cds_event.specs.Events.{update_of, is_change}
+use Rattle.cds_object.specs.Events.{update_of, is_change}
 
 -- ---- the position
 

@@ -1,7 +1,7 @@
 -- Each change that was counted on a copy could be, and each read was of an object that stood, over every list of turns.
 use Rattle.std.proofs.Common.{◌≡◌, ◌+◌, ℕ, Bool, true, false, cond, not, ◌&&◌, nat_eq, List, [], ◌∷◌, ◌++◌, Option, Some, None, refl, sym, subst}
 use Rattle.cds_object.specs.Object.{ObjectRow, is_folder}
-use Rattle.cds_event.specs.declared.Event.{Event}
+use Rattle.cds_object.specs.declared.event.Event.{Event}
 use Rattle.cds_load.specs.declared.exchange.Shown.{Shown}
 use Rattle.cds_load.specs.declared.exchange.Shown.TheVariants.{Text, Number, Page, Fault}
 use Rattle.cds_load.specs.Stages.{Held, Idle, Begun, HasToken, HasNumber, HasRoot, Lists, HasPage, HasCopy, Taken, Holds, Unreadable, Torn, taken}
@@ -12,7 +12,7 @@ use Rattle.cds_follow.specs.Follow.{Known, position, Outcome, Knows, CannotBeRea
 use Rattle.cds_follow.specs.ServerLaws.{befalling}
 use Rattle.cds_follow.proofs.Happened.{Possible, possible-befalling}
 use Rattle.cds_follow.proofs.Heard.{knows-is}
-use Rattle.cds_event.specs.Events.{update_of}
+use Rattle.cds_object.specs.Events.{update_of}
 
 -- where a copy stands, all that befell it could be
 abbrev On : Held → Known → Type 0

@@ -5,8 +5,8 @@ use Rattle.std.specs.Option.{option_eq, option_map}
 use Rattle.std.proofs.lemmas.List.{reverse-append}
 use Rattle.cds_object.specs.Object.{ObjectRow, is_folder}
 use Rattle.cds_object.specs.declared.row.Trackers.{Trackers}
-use Rattle.cds_event.specs.declared.Event.{Event}
-use Rattle.cds_event.specs.declared.Event.TheVariants.{ObjAdd, ObjMod, ObjDel, StDone}
+use Rattle.cds_object.specs.declared.event.Event.{Event}
+use Rattle.cds_object.specs.declared.event.Event.TheVariants.{ObjAdd, ObjMod, ObjDel, StDone}
 use Rattle.cds_catalog.proofs.StepsFind.{none≢some, each-weaker, each-filter}
 use Rattle.cds_load.specs.declared.exchange.Shown.{Shown}
 use Rattle.cds_load.specs.declared.exchange.Shown.TheVariants.{Text, Number, Page, Fault}
@@ -23,7 +23,7 @@ use Rattle.cds_follow.specs.LoadTurns.{load_turns}
 use Rattle.cds_follow.specs.Seen.{WasShown, copied_rows_were_shown}
 use Rattle.cds_follow.proofs.Heard.{knows-is}
 use Rattle.cds_follow.proofs.LoadTurns.{loads-are-of-turns}
-use Rattle.cds_event.specs.Events.{update_of}
+use Rattle.cds_object.specs.Events.{update_of}
 
 -- the row of an object, with a version of it
 abbrev row_of_version : ℕ → Option ℕ → Version → Option Trackers → ObjectRow

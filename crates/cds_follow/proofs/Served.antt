@@ -6,7 +6,7 @@ use Rattle.std.proofs.lemmas.List.{length-reverse}
 use Rattle.std.proofs.lemmas.List.FromFn.{length-range_with_len}
 use Rattle.cds_object.specs.Object.{ObjectRow, is_folder}
 use Rattle.cds_object.specs.Tree.{row_of, IsTree}
-use Rattle.cds_event.specs.declared.Event.{Event}
+use Rattle.cds_object.specs.declared.event.Event.{Event}
 use Rattle.cds_catalog.specs.Library.{FolderMap, found}
 use Rattle.cds_catalog.specs.History.{History, latest, changes_of, end_of}
 use Rattle.cds_catalog.specs.Catalog.{catalog}
@@ -32,7 +32,7 @@ use Rattle.cds_follow.proofs.Like.{unplaced}
 use Rattle.cds_follow.proofs.LeadsSpan.{LeadsTo, told, scan_told, nothing-told, told-more, catalog-over, spans-lead}
 use Rattle.cds_follow.proofs.Settled.{settled-rows, one-id-rows, told-rows, span-tells}
 use Rattle.cds_commands.proofs.Scanned.{scans-first, dropped-grows, oldest-grows}
-use Rattle.cds_event.specs.Events.{is_change, update_of}
+use Rattle.cds_object.specs.Events.{is_change, update_of}
 
 -- ---- how many changes are told
 

@@ -7,7 +7,7 @@ use Rattle.cds_object.specs.Path.{same_path}
 use Rattle.cds_object.specs.Object.{ObjectRow, is_folder}
 use Rattle.cds_object.specs.Tree.{row_of}
 use Rattle.cds_object.specs.declared.content.Content.{Content}
-use Rattle.cds_event.specs.declared.Event.{Event}
+use Rattle.cds_object.specs.declared.event.Event.{Event}
 use Rattle.cds_catalog.specs.Library.{FolderMap, found}
 use Rattle.cds_catalog.specs.History.{latest, changes_of, sets, up_to}
 use Rattle.cds_catalog.specs.Catalog.{PlacedRow, id_of, parent_id_of}
@@ -28,7 +28,7 @@ use Rattle.cds_follow.proofs.Like.{unplaced}
 use Rattle.cds_follow.proofs.Told.{numbers-tell}
 use Rattle.cds_follow.proofs.Kept.{not-deleted, kept-one, settled-place, of-one-id}
 use Rattle.cds_follow.proofs.LeadsSpan.{told, scan_told, nothing-told, told-more, one-change}
-use Rattle.cds_event.specs.Events.{is_change}
+use Rattle.cds_object.specs.Events.{is_change}
 
 -- ---- rows and places
 

@@ -6,14 +6,14 @@ use Rattle.std.proofs.lemmas.Bool.{eqb-false}
 use Rattle.cds_object.specs.Object.{ObjectRow}
 use Rattle.cds_object.specs.Tree.{row_of}
 use Rattle.cds_object.specs.declared.row.Trackers.{Trackers}
-use Rattle.cds_event.specs.declared.Class.{Class}
-use Rattle.cds_event.specs.declared.Event.{Event}
-use Rattle.cds_event.specs.declared.Event.TheVariants.{ObjAdd, ObjMod, ObjDel, StDone}
+use Rattle.cds_object.specs.declared.event.Class.{Class}
+use Rattle.cds_object.specs.declared.event.Event.{Event}
+use Rattle.cds_object.specs.declared.event.Event.TheVariants.{ObjAdd, ObjMod, ObjDel, StDone}
 use Rattle.cds_catalog.proofs.StepsFind.{none≢some, count_by-cons}
 use Rattle.cds_follow.specs.Copy.{Version, KnownRow, known_row, known_of, knows, knows_container, knows_child, counted, counts_addition, counts_modification, counts_deletion, parent_in, added_row, put_known, cannot_be, newer, Happening, Changes, Reads, rows_after}
 use Rattle.cds_follow.specs.TrackerLaws.{is_added, is_deleted, changes_under, began_with, last_number, CountEach}
 use Rattle.cds_follow.proofs.Happened.{put-other, keeps-others, neither, not-false, Possible}
-use Rattle.cds_event.specs.Events.{is_container}
+use Rattle.cds_object.specs.Events.{is_container}
 
 nat-swap : (a b : ℕ) → nat_eq a b ≡ nat_eq b a
 nat-swap a b = by (nat_eq b a) refl

@@ -6,10 +6,10 @@ use Rattle.std.specs.Option.{option_map, option_eq}
 use Rattle.cds_object.specs.Object.{ObjectRow, is_folder}
 use Rattle.cds_object.specs.declared.content.Content.{Content}
 use Rattle.cds_object.specs.declared.row.Trackers.{Trackers}
-use Rattle.cds_event.specs.declared.Class.{Class}
-use Rattle.cds_event.specs.declared.Event.{Event}
-use Rattle.cds_event.specs.declared.Event.TheVariants.{ObjAdd, ObjMod, ObjDel, StDone}
-use Rattle.cds_event.specs.Events.{object_of, is_container}
+use Rattle.cds_object.specs.declared.event.Class.{Class}
+use Rattle.cds_object.specs.declared.event.Event.{Event}
+use Rattle.cds_object.specs.declared.event.Event.TheVariants.{ObjAdd, ObjMod, ObjDel, StDone}
+use Rattle.cds_object.specs.Events.{object_of, is_container}
 
 -- what an object says, and the number of the change since which it says so
 pub record Version : Type 0 where

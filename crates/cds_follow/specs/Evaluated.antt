@@ -2,9 +2,9 @@
 -- sends where a row says so.
 use Rattle.std.specs.Prelude.{◌≡◌, ℕ, List, [], ◌∷◌, map, None, Some, codes, true, false}
 use Rattle.cds_catalog.specs.Evaluated.{Outline, outline}
-use Rattle.cds_event.specs.declared.Class.TheVariants.{Track}
+use Rattle.cds_object.specs.declared.event.Class.TheVariants.{Track}
 use Rattle.cds_load.specs.declared.exchange.Ask.TheVariants.{Token, Metadata}
-use Rattle.cds_event.specs.declared.Event.TheVariants.{ObjAdd, ObjMod, ObjDel}
+use Rattle.cds_object.specs.declared.event.Event.TheVariants.{ObjAdd, ObjMod, ObjDel}
 use Rattle.cds_commands.specs.Commands.{Command, Scans, Grants, Ends, Ticks, AreAccepted}
 use Rattle.cds_commands.specs.Notes.{Note, notes_of}
 use Rattle.cds_commands.specs.Evaluated.{one, another, two, first, added, added_other}

@@ -4,7 +4,7 @@ use Rattle.std.specs.Prelude.{◌+◌, ◌&&◌, ◌||◌, ℕ, Bool, true, fals
 use Rattle.std.specs.List.{filter_map}
 use Rattle.std.specs.Option.{option_map}
 use Rattle.cds_object.specs.Object.{ObjectRow, is_folder}
-use Rattle.cds_event.specs.declared.Event.{Event}
+use Rattle.cds_object.specs.declared.event.Event.{Event}
 use Rattle.cds_commands.specs.Notes.{Note, changes_above}
 use Rattle.cds_follow.specs.Inbox.{ReplicaTurn, Begins, Shows, Requests, Accepts, Refuses, Delivers, Arrival, IsUnknown, IsRepeat, IsTooMany, IsEarly, IsHeld, IsNext, arrival, missing, taken_by}
 use Rattle.cds_follow.specs.Copy.{KnownRow, Happening, Changes, Reads, rows_after, shown_row, known_of, cannot_be, changed, least_unread, read_up_to}
@@ -15,7 +15,7 @@ use Rattle.cds_follow.specs.declared.says.Says.{Says}
 use Rattle.cds_follow.specs.declared.says.Says.TheVariants.{Gap, BehindLoad, BehindRead, BehindVersion, Stands}
 use Rattle.cds_load.specs.declared.exchange.Shown.{Shown}
 use Rattle.cds_load.specs.declared.exchange.Shown.TheVariants.{Text, Number, Page, Fault}
-use Rattle.cds_event.specs.Events.{update_of, object_of}
+use Rattle.cds_object.specs.Events.{update_of, object_of}
 
 -- what a replica knows beside its notes: the load, or the copy that it ended with; the number of the last load that ended;
 -- the greatest number of a note that was taken; the changes of notes that were taken since the load began; and, since it

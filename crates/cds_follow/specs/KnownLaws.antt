@@ -2,7 +2,7 @@
 -- notes leave a running load as it is.
 use Rattle.std.specs.Prelude.{◌≡◌, ◌≤◌, ◌&&◌, ℕ, Bool, true, false, cond, not, max, List, [], ◌∷◌, ◌++◌, length}
 use Rattle.cds_object.specs.Object.{ObjectRow}
-use Rattle.cds_event.specs.declared.Event.{Event}
+use Rattle.cds_object.specs.declared.event.Event.{Event}
 use Rattle.cds_load.specs.Stages.{Held, Idle, Begun, HasToken, HasNumber, HasRoot, Lists, HasPage, HasCopy}
 use Rattle.cds_load.specs.declared.exchange.Shown.{Shown}
 use Rattle.cds_load.specs.declared.exchange.Shown.TheVariants.{Text, Number, Page, Fault}

@@ -3,7 +3,7 @@ use Rattle.std.specs.Prelude.{◌≡◌, ◌<◌, ◌≤◌, ℕ, true, false, n
 use Rattle.std.specs.List.{AllByRecursion, list_any, filter_map}
 use Rattle.cds_object.specs.Object.{ObjectRow, is_folder}
 use Rattle.cds_object.specs.Tree.{row_of}
-use Rattle.cds_event.specs.declared.Event.{Event}
+use Rattle.cds_object.specs.declared.event.Event.{Event}
 use Rattle.cds_catalog.specs.Laws.{AreLibraries}
 use Rattle.cds_load.specs.Server.{Moment}
 use Rattle.cds_load.specs.Loads.{IsServer}

@@ -1,7 +1,7 @@
 -- The events of a span lead from the rows at its beginning to those at its end: words and laws.
 use Rattle.std.specs.Prelude.{◌≡◌, ◌≤◌, ℕ, List, [], ◌∷◌, ◌++◌, filter, None}
 use Rattle.cds_object.specs.Object.{ObjectRow, is_folder}
-use Rattle.cds_event.specs.declared.Event.{Event}
+use Rattle.cds_object.specs.declared.event.Event.{Event}
 use Rattle.cds_catalog.specs.Library.{FolderMap}
 use Rattle.cds_catalog.specs.History.{end_of}
 use Rattle.cds_catalog.specs.Catalog.{catalog}
@@ -9,7 +9,7 @@ use Rattle.cds_catalog.specs.Laws.{AreLibraries}
 use Rattle.cds_changes.specs.Events.{events_between}
 use Rattle.cds_follow.specs.Copy.{KnownRow, changed}
 use Rattle.cds_follow.specs.Follow.{first_torn}
-use Rattle.cds_event.specs.Events.{is_change}
+use Rattle.cds_object.specs.Events.{is_change}
 
 -- a known row is like a row: it has its id, its parent, its kind and its trackers, whatever is known of what the object says
 pub record IsLike (known : KnownRow) (row : ObjectRow) : Type 0 where

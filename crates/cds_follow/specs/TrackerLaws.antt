@@ -5,14 +5,14 @@ use Rattle.std.specs.Option.{option_eq, option_and_then}
 use Rattle.cds_object.specs.Object.{ObjectRow}
 use Rattle.cds_object.specs.Tree.{row_of}
 use Rattle.cds_object.specs.declared.row.Trackers.{Trackers}
-use Rattle.cds_event.specs.declared.Event.{Event}
-use Rattle.cds_event.specs.declared.Event.TheVariants.{ObjAdd, ObjMod, ObjDel, StDone}
+use Rattle.cds_object.specs.declared.event.Event.{Event}
+use Rattle.cds_object.specs.declared.event.Event.TheVariants.{ObjAdd, ObjMod, ObjDel, StDone}
 use Rattle.cds_load.specs.Stages.{HasCopy}
 use Rattle.cds_follow.specs.Copy.{KnownRow, known_of, parent_in, Happening, Changes, Reads, rows_after}
 use Rattle.cds_follow.specs.Inbox.{ReplicaTurn}
 use Rattle.cds_follow.specs.Follow.{known_by}
 use Rattle.cds_follow.specs.LoadTurns.{ShowsRows}
-use Rattle.cds_event.specs.Events.{update_of}
+use Rattle.cds_object.specs.Events.{update_of}
 
 -- whether a change is of an object under a container: the parent is the one that an addition names, and else that of the
 -- object's row before the change

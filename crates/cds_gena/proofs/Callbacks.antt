@@ -31,7 +31,7 @@ use Rattle.cds_http.proofs.Numerals.{decimal-digits}
 use Rattle.cds_gena.specs.Asked.{behind_spaces, callback_in, enclosed, is_deliverable, url_in}
 use Rattle.cds_gena.specs.Written.{host_of, target_of, callback_text}
 use Rattle.cds_gena.proofs.Delivered.{kind-is, own-url}
-use Rattle.cds_gena.proofs.Visible.{is_visible, Seen, AreVisible, visible-literal, visible-append}
+use Rattle.cds_http.proofs.Visible.{is_visible, Seen, AreVisible, visible-literal, visible-append}
 
 -- ---- the bytes of an address are visible, and none is `>`
 

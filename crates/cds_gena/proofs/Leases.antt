@@ -22,7 +22,8 @@ use Rattle.cds_gena.specs.Leased.{has_status, lease_in, leased, only_field}
 use Rattle.cds_gena.specs.Written.{lease_fields, timeout_text}
 use Rattle.cds_gena.specs.WrittenLaws.{leases_are_read, others_grant_nothing}
 use Rattle.cds_gena.proofs.Served.{read-back}
-use Rattle.cds_gena.proofs.Visible.{field-back, token, visible-timeout}
+use Rattle.cds_http.proofs.Visible.{token, visible-back}
+use Rattle.cds_gena.proofs.Visible.{visible-timeout}
 use Rattle.cds_gena.proofs.Requests.{sid-back}
 
 -- ---- the seconds are read
@@ -96,7 +97,7 @@ unfolding is_token_byte
 lease-back name seconds high =
     All-from_recursion IsReadBack (lease_fields name seconds) (
       sid-back name,
-      (field-back (codes "TIMEOUT") (timeout_text seconds) (token (codes "TIMEOUT") (omega arith) refl) refl refl (visible-timeout seconds (omega (arith, high))), tt),
+      (visible-back (codes "TIMEOUT") (timeout_text seconds) (token (codes "TIMEOUT") (omega arith) refl) refl refl (visible-timeout seconds (omega (arith, high))), tt),
     )
 
 abbrev message_of : ℕ → ℕ → Message

@@ -20,7 +20,8 @@ use Rattle.cds_gena.specs.Asked.{callback_in, ending, gena_of, is_deliverable, r
 use Rattle.cds_gena.specs.Written.{callback_text, host_of, target_of, subscribe_fields, renewal_fields, unsubscribe_fields}
 use Rattle.cds_gena.specs.WrittenLaws.{subscribes_are_read, renewals_are_read, unsubscribes_are_read}
 use Rattle.cds_gena.proofs.Served.{read-back}
-use Rattle.cds_gena.proofs.Visible.{all-stand, field-back, token, visible-literal, visible-sid}
+use Rattle.cds_http.proofs.Visible.{all-stand, token, visible-back, visible-literal}
+use Rattle.cds_gena.proofs.Visible.{visible-sid}
 use Rattle.cds_gena.proofs.Callbacks.{ascii-target, callback-back, target-is, visible-callback, visible-host}
 
 -- ---- the fields can be written
@@ -54,15 +55,15 @@ renewal-can url name valid =
 
 host-back : (url : Parts) → IsValid url → IsReadBack (record { name = codes "HOST"; value = host_of url })
 unfolding is_token_byte
-host-back url valid = field-back (codes "HOST") (host_of url) (token (codes "HOST") (omega arith) refl) refl refl (visible-host url valid)
+host-back url valid = visible-back (codes "HOST") (host_of url) (token (codes "HOST") (omega arith) refl) refl refl (visible-host url valid)
 
 pub sid-back : (name : ℕ) → IsReadBack (record { name = codes "SID"; value = sid_text name })
 unfolding is_token_byte
-sid-back name = field-back (codes "SID") (sid_text name) (token (codes "SID") (omega arith) refl) refl refl (visible-sid name)
+sid-back name = visible-back (codes "SID") (sid_text name) (token (codes "SID") (omega arith) refl) refl refl (visible-sid name)
 
 timeout-back : IsReadBack (record { name = codes "TIMEOUT"; value = codes "Second-1800" })
 unfolding is_token_byte
-timeout-back = field-back (codes "TIMEOUT") (codes "Second-1800") (token (codes "TIMEOUT") (omega arith) refl) refl refl (visible-literal (codes "Second-1800") refl)
+timeout-back = visible-back (codes "TIMEOUT") (codes "Second-1800") (token (codes "TIMEOUT") (omega arith) refl) refl refl (visible-literal (codes "Second-1800") refl)
 
 subscribe-back : (url callback : Parts) → IsValid url → IsValid callback → IsTrue (is_deliverable callback) → All IsReadBack (subscribe_fields url callback)
 unfolding is_token_byte
@@ -70,9 +71,9 @@ subscribe-back url callback valid sound can =
     All-from_recursion IsReadBack (subscribe_fields url callback) (
       host-back url valid,
       (
-        field-back (codes "CALLBACK") (callback_text callback) (token (codes "CALLBACK") (omega arith) refl) refl refl (visible-callback callback sound can),
+        visible-back (codes "CALLBACK") (callback_text callback) (token (codes "CALLBACK") (omega arith) refl) refl refl (visible-callback callback sound can),
         (
-          field-back (codes "NT") (codes "upnp:event") (token (codes "NT") (omega arith) refl) refl refl (visible-literal (codes "upnp:event") refl),
+          visible-back (codes "NT") (codes "upnp:event") (token (codes "NT") (omega arith) refl) refl refl (visible-literal (codes "upnp:event") refl),
           (timeout-back, tt),
         ),
       ),

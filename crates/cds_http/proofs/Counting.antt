@@ -6,10 +6,9 @@ use Rattle.std.proofs.lemmas.List.{append-nil, take_at, drop_at, take_all, lengt
 use Rattle.cds_http.specs.declared.error.HttpError.TheVariants.{TooLong}
 use Rattle.cds_http.specs.declared.body.Part.TheVariants.{Counted, ToEnd, Data}
 use Rattle.cds_http.specs.declared.body.Progress.TheVariants.{More, Whole as WholeBody}
-use Rattle.cds_http.specs.Known.{Known, Whole, Needs, Refused}
+use Rattle.cds_http.specs.Known.{Known, Whole, Needs, Refused, Then}
 use Rattle.cds_http.specs.Framing.{body_limit}
 use Rattle.cds_http.specs.Chunks.{counted, open_body, behind, closing, ChunksFrom}
-use Rattle.cds_http.specs.Known.{Then}
 use Rattle.cds_http.specs.Steps.{Waits, Goes}
 use Rattle.cds_http.proofs.Cuts.{le_true, le_false}
 

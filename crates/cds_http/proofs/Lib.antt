@@ -20,3 +20,4 @@ pub mod HeadEnds
 pub mod Sayings
 pub mod Numerals
 pub mod Returning
+pub mod Visible

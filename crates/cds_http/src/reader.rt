@@ -68,7 +68,7 @@ impl MessageReader {
             Ok(true) => Ok(Fed::More),
             Ok(false) => self.turn(alloc, piece),
             Err(refusal) => {
-                self.stage = Stage::Refused;
+                put_stage(&mut self.stage, Stage::Refused);
                 Err(refusal)
             }
         }
@@ -83,7 +83,7 @@ impl MessageReader {
         match take(alloc, self.side, stage, piece) {
             Ok(taken) => {
                 let Taken { stage, fed } = taken;
-                self.stage = stage;
+                put_stage(&mut self.stage, stage);
                 Ok(fed)
             }
             Err(refusal) => Err(refusal),
@@ -97,6 +97,13 @@ impl MessageReader {
     {
         end_stage(self.stage)
     }
+}
+
+/// Goes over to a stage.
+fn put_stage(stage: &mut Stage, next: Stage)
+    ensures { stage.new ≡ next }
+{
+    drop(mem::replace(stage, next));
 }
 
 /// Adds a piece in place that only makes longer what is kept, and says whether it did.

@@ -110,8 +110,7 @@ fn put_field(out: &mut Vec<u8>, name: &[u8], value: &[u8]) -> Result<(), Mem>
     put(out, name)?;
     put(out, b": ")?;
     put(out, value)?;
-    put(out, b"\r\n")?;
-    Ok(())
+    put(out, b"\r\n")
 }
 
 /// Puts the given fields at the end.
@@ -136,8 +135,7 @@ fn put_last(out: &mut Vec<u8>, count: u64) -> Result<(), Mem>
     put_number(out, count)?;
     put(out, b"\r\n")?;
     put_field(out, b"CONNECTION", b"close")?;
-    put(out, b"\r\n")?;
-    Ok(())
+    put(out, b"\r\n")
 }
 
 /// Puts the first line of a request at the end.
@@ -147,8 +145,7 @@ fn put_request_line(out: &mut Vec<u8>, method: &str, target: &str) -> Result<(),
     put(out, method.as_bytes())?;
     put(out, b" ")?;
     put(out, target.as_bytes())?;
-    put(out, b" HTTP/1.1\r\n")?;
-    Ok(())
+    put(out, b" HTTP/1.1\r\n")
 }
 
 /// Puts the first line of a reply at the end.
@@ -159,8 +156,7 @@ fn put_status_line(out: &mut Vec<u8>, status: u16) -> Result<(), Mem>
     put_number(out, u64::from(status))?;
     put(out, b" ")?;
     put(out, reason(status))?;
-    put(out, b"\r\n")?;
-    Ok(())
+    put(out, b"\r\n")
 }
 
 /// Puts the fields of every reply at the end.
@@ -168,8 +164,7 @@ fn put_own(out: &mut Vec<u8>) -> Result<(), Mem>
     ensures { OnOk result (out.new.items ≡ out.old.items ++ own_lines) }
 {
     put(out, b"EXT:\r\n")?;
-    put_field(out, b"SERVER", b"unix/1.0 UPnP/2.0 cds/1.0")?;
-    Ok(())
+    put_field(out, b"SERVER", b"unix/1.0 UPnP/2.0 cds/1.0")
 }
 
 /// The head of a request with a body of so many bytes.

@@ -1,6 +1,6 @@
 -- Bytes that are events are white space or a document.
 use Rattle.std.proofs.Common.{ℕ, ◌≤◌, ◌⊎◌, inl, inr, List, length, arith}
-use Rattle.cds_event.specs.declared.Event.{Event}
+use Rattle.cds_object.specs.declared.event.Event.{Event}
 use Rattle.cds_markup.specs.Document.{Meaning, Doc, most_bytes}
 use Rattle.cds_lastchange.specs.StateEvent.{IsDocumentOf, IsEmpty, IsStateEvent}
 use Rattle.cds_lastchange.proofs.Meanings.{root-means}

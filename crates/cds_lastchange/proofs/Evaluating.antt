@@ -1,9 +1,9 @@
 -- Answers that are computed stand against their bytes.
 use Rattle.std.proofs.Common.{◌≡◌, ℕ, false, Ok, Err, List, [], ◌∷◌, ◌++◌, codes, refl, subst}
 use Rattle.std.specs.Fmt.{digits}
-use Rattle.cds_base.specs.Writing.{attribute, number_attribute}
-use Rattle.cds_event.specs.declared.Event.{Event}
-use Rattle.cds_event.specs.declared.Event.TheVariants.{ObjDel}
+use Rattle.cds_object.specs.Writing.{attribute, number_attribute}
+use Rattle.cds_object.specs.declared.event.Event.{Event}
+use Rattle.cds_object.specs.declared.event.Event.TheVariants.{ObjDel}
 use Rattle.cds_markup.proofs.Public.{markup_on_literals}
 use Rattle.cds_lastchange.specs.declared.error.StateError.{StateError}
 use Rattle.cds_lastchange.specs.declared.error.StateError.TheVariants.{Bad, NotStateEvent}

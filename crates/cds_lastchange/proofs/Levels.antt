@@ -1,6 +1,6 @@
 -- Where parts stand: behind parts that are judged as they should be, what is open is told by what is said so far.
 use Rattle.std.proofs.Common.{◌≡◌, ℕ, ◌+◌, Bool, true, false, cond, Option, Some, None, is_some, Ok, Err, List, [], ◌∷◌, ◌++◌, length, refl, sym, ap, ◌∙◌, append_assoc, append-nil}
-use Rattle.cds_event.specs.declared.Event.{Event}
+use Rattle.cds_object.specs.declared.event.Event.{Event}
 use Rattle.cds_markup.specs.declared.name.Name.{Name}
 use Rattle.cds_markup.specs.declared.name.Attr.{Attr}
 use Rattle.cds_markup.specs.declared.part.Part.{Part}

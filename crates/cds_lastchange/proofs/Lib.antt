@@ -7,7 +7,7 @@ pub mod Meanings
 pub mod Documents
 pub mod Deciding
 pub mod Feeding
-pub mod PlainValues
 pub mod Tags
 pub mod WrittenRead
 pub mod Evaluating
+pub mod WideEvents

@@ -1,15 +1,15 @@
 -- What is written of events is a StateEvent of these events.
-use Rattle.std.proofs.Common.{◌≡◌, ℕ, ◌^◌, ◌<◌, Bool, true, false, cond, Option, Some, None, List, [], ◌∷◌, ◌++◌, codes, refl, sym, ap, subst, ◌∙◌, append_assoc, append-nil, inr}
+use Rattle.std.proofs.Common.{◌≡◌, ℕ, ◌^◌, ◌<◌, Bool, true, false, cond, Option, Some, None, List, [], ◌∷◌, ◌++◌, codes, refl, sym, ap, subst, ◌∙◌, append_assoc, append-nil, inr, arith}
 use Rattle.std.specs.List.{flat_map, AllByRecursion}
 use Rattle.std.specs.Fmt.{decimal}
 use Rattle.std.specs.Option.{option_and_then}
 use Rattle.cds_base.specs.Escape.{escaped}
 use Rattle.cds_base.specs.Number.{number_below}
-use Rattle.cds_base.specs.Writing.{attribute, number_attribute}
-use Rattle.cds_event.specs.declared.Class.{Class}
-use Rattle.cds_event.specs.declared.Class.TheVariants.{Container, Track}
-use Rattle.cds_event.specs.declared.Event.{Event}
-use Rattle.cds_event.specs.declared.Event.TheVariants.{ObjAdd, ObjMod, ObjDel, StDone}
+use Rattle.cds_object.specs.Writing.{attribute, number_attribute}
+use Rattle.cds_object.specs.declared.event.Class.{Class}
+use Rattle.cds_object.specs.declared.event.Class.TheVariants.{Container, Track}
+use Rattle.cds_object.specs.declared.event.Event.{Event}
+use Rattle.cds_object.specs.declared.event.Event.TheVariants.{ObjAdd, ObjMod, ObjDel, StDone}
 use Rattle.cds_markup.specs.declared.name.Name.{Name}
 use Rattle.cds_markup.specs.declared.name.Attr.{Attr}
 use Rattle.cds_markup.specs.declared.tag.Declaration.{Declaration}
@@ -23,7 +23,7 @@ use Rattle.cds_lastchange.specs.Spelled.{event_space, change_text, flag_text, fl
 use Rattle.cds_lastchange.specs.Attributes.{flag_said, flag_of, class_said, class_of, added, modified, deleted, done, event_of, is_state_event}
 use Rattle.cds_lastchange.specs.StateEvent.{event_said, event_in, and_more, events_in, is_root, IsDocumentOf}
 use Rattle.cds_lastchange.specs.Laws.{WrittenIsRead}
-use Rattle.cds_lastchange.proofs.PlainValues.{ArePlain, escaped-plain, allowed-plain, decimal-digits, decimal-read}
+use Rattle.cds_base.proofs.Plain.{ArePlain, escaped-plain, allowed-plain, decimal-digits, decimal-read}
 use Rattle.cds_lastchange.proofs.Tags.{empty-of}
 
 -- the tags
@@ -63,7 +63,7 @@ class-plain Container = refl
 class-plain Track = refl
 
 decimal-plain : (n : ℕ) → n < 2 ^ 32 → ArePlain (decimal n)
-decimal-plain n h = (decimal-digits n h).plain
+decimal-plain n h = (decimal-digits n (omega (arith, h))).plain
 
 abbrev PlainAttr : TagAttr → Type 0
 PlainAttr a = (a.name.prefix ≡ []) × ArePlain a.value
@@ -208,22 +208,22 @@ Number n = number_below (2 ^ 32) (decimal n)
 event-read : (event : Event) → IsNumbered event → event_of (said_name (event_name event)) (said_attrs (event_attrs event)) ≡ Some event
 unfolding event_of added modified deleted done flag_of class_of
 event-read (ObjAdd id update st parent class) (i, u, p) =
-    ap (λ o. Five o (Number update) (flag_said (flag_text st)) (Number parent) (class_said (class_text class))) (decimal-read id i)
-    ∙ ap (λ o. Five (Some id) o (flag_said (flag_text st)) (Number parent) (class_said (class_text class))) (decimal-read update u)
+    ap (λ o. Five o (Number update) (flag_said (flag_text st)) (Number parent) (class_said (class_text class))) (decimal-read (2 ^ 32) id (omega arith) i)
+    ∙ ap (λ o. Five (Some id) o (flag_said (flag_text st)) (Number parent) (class_said (class_text class))) (decimal-read (2 ^ 32) update (omega arith) u)
     ∙ ap (λ o. Five (Some id) (Some update) o (Number parent) (class_said (class_text class))) (flag-read st)
-    ∙ ap (λ o. Five (Some id) (Some update) (Some st) o (class_said (class_text class))) (decimal-read parent p)
+    ∙ ap (λ o. Five (Some id) (Some update) (Some st) o (class_said (class_text class))) (decimal-read (2 ^ 32) parent (omega arith) p)
     ∙ ap (λ o. Five (Some id) (Some update) (Some st) (Some parent) o) (class-read class)
 event-read (ObjMod id update st) (i, u) =
-    ap (λ o. With o (λ id. With (Number update) (λ update. With (flag_said (flag_text st)) (λ st. Some (ObjMod id update st))))) (decimal-read id i)
-    ∙ ap (λ o. With o (λ update. With (flag_said (flag_text st)) (λ st. Some (ObjMod id update st)))) (decimal-read update u)
+    ap (λ o. With o (λ id. With (Number update) (λ update. With (flag_said (flag_text st)) (λ st. Some (ObjMod id update st))))) (decimal-read (2 ^ 32) id (omega arith) i)
+    ∙ ap (λ o. With o (λ update. With (flag_said (flag_text st)) (λ st. Some (ObjMod id update st)))) (decimal-read (2 ^ 32) update (omega arith) u)
     ∙ ap (λ o. With o (λ st. Some (ObjMod id update st))) (flag-read st)
 event-read (ObjDel id update st) (i, u) =
-    ap (λ o. With o (λ id. With (Number update) (λ update. With (flag_said (flag_text st)) (λ st. Some (ObjDel id update st))))) (decimal-read id i)
-    ∙ ap (λ o. With o (λ update. With (flag_said (flag_text st)) (λ st. Some (ObjDel id update st)))) (decimal-read update u)
+    ap (λ o. With o (λ id. With (Number update) (λ update. With (flag_said (flag_text st)) (λ st. Some (ObjDel id update st))))) (decimal-read (2 ^ 32) id (omega arith) i)
+    ∙ ap (λ o. With o (λ update. With (flag_said (flag_text st)) (λ st. Some (ObjDel id update st)))) (decimal-read (2 ^ 32) update (omega arith) u)
     ∙ ap (λ o. With o (λ st. Some (ObjDel id update st))) (flag-read st)
 event-read (StDone id update) (i, u) =
-    ap (λ o. With o (λ id. With (Number update) (λ update. Some (StDone id update)))) (decimal-read id i)
-    ∙ ap (λ o. With o (λ update. Some (StDone id update))) (decimal-read update u)
+    ap (λ o. With o (λ id. With (Number update) (λ update. Some (StDone id update)))) (decimal-read (2 ^ 32) id (omega arith) i)
+    ∙ ap (λ o. With o (λ update. Some (StDone id update))) (decimal-read (2 ^ 32) update (omega arith) u)
 
 -- all of it
 abbrev content_of : List Event → Content

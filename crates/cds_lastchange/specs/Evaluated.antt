@@ -1,7 +1,7 @@
 -- Small StateEvents, evaluated from the definitions.
 use Rattle.std.specs.Prelude.{◌≡◌, ℕ, true, false, List, [], ◌∷◌, ◌++◌, codes}
-use Rattle.cds_event.specs.declared.Class.TheVariants.{Container, Track}
-use Rattle.cds_event.specs.declared.Event.TheVariants.{ObjAdd, ObjDel, StDone}
+use Rattle.cds_object.specs.declared.event.Class.TheVariants.{Container, Track}
+use Rattle.cds_object.specs.declared.event.Event.TheVariants.{ObjAdd, ObjDel, StDone}
 use Rattle.cds_lastchange.specs.declared.error.StateError.TheVariants.{Bad, NotStateEvent}
 use Rattle.cds_lastchange.specs.Spelled.{event_text, spelled}
 use Rattle.cds_lastchange.specs.StateEvent.{IsStateEvent}

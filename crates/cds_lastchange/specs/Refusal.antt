@@ -3,7 +3,7 @@ use Rattle.std.specs.Prelude.{◌≡◌, ◌≢◌, ℕ, ◌<◌, Bool, true, fa
 use Rattle.std.specs.List.{list_all}
 use Rattle.cds_base.specs.declared.limits.TheConstants.{INPUT_LIMIT}
 use Rattle.cds_base.specs.Characters.{is_blank}
-use Rattle.cds_event.specs.declared.Event.{Event}
+use Rattle.cds_object.specs.declared.event.Event.{Event}
 use Rattle.cds_markup.specs.declared.name.Name.{Name}
 use Rattle.cds_markup.specs.declared.name.Attr.{Attr}
 use Rattle.cds_markup.specs.declared.tag.Tag.{Tag}

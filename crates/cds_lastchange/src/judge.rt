@@ -11,7 +11,7 @@ use cds_markup::{Attr, Name, Part};
 use std::alloc::Global;
 
 /// What is open where a part stands.
-#[derive(Clone, Copy, Debug, PartialEq, Eq)]
+#[derive(Clone, Copy)]
 pub enum Level {
     /// Nothing.
     Outside,
@@ -22,7 +22,7 @@ pub enum Level {
 }
 
 /// Why a part is not taken.
-#[derive(Clone, Copy, Debug, PartialEq, Eq)]
+#[derive(Clone, Copy)]
 pub enum Unfit {
     /// It makes the document no StateEvent, which is answered at this place.
     Misplaced { at: usize },
@@ -39,7 +39,7 @@ impl From<Mem> for Unfit {
 }
 
 /// What the parts so far say.
-#[derive(Drop, Debug)]
+#[derive(Drop)]
 pub struct Judge {
     /// What is open.
     pub level: Level,

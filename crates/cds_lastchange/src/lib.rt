@@ -11,7 +11,7 @@ mod reader;
 mod sink;
 mod write;
 
-pub use cds_event::{Class, Event, Events};
+pub use cds_object::{Class, Event, Events};
 pub use error::StateError;
 pub use reader::StateReader;
 pub use write::write_state_event;

@@ -13,6 +13,8 @@ use crate::{Events, StateError};
 use cds_base::Mem;
 use cds_markup::{MarkupError, PartReader};
 use std::alloc::Global;
+use std::fmt;
+use std::fmt::{Debug, Formatter};
 use std::marker::Model;
 
 /// Whether there is nothing but white space.
@@ -67,7 +69,7 @@ fn ended(
 
 /// Reads a StateEvent that comes in pieces, without keeping them. Contracts see what is read so far, or nothing from a
 /// refusal on, want of memory included, what the parts so far say, and whether nothing but white space came.
-#[derive(Drop, Debug)]
+#[derive(Drop)]
 pub struct StateReader {
     parts: PartReader,
     judging: Judging,
@@ -80,6 +82,13 @@ impl Model for StateReader {
     ghost Value = { Came };
 
     ghost view = { λ r. came r.parts r.judging r.blank };
+}
+
+/// Its name alone: deriving it for all that it holds would be dear to prove, and nothing prints it.
+impl Debug for StateReader {
+    fn fmt<W: fmt::Write>(&self, f: &mut Formatter<W>) -> fmt::Result {
+        f.debug_struct("StateReader").finish_non_exhaustive()
+    }
 }
 
 impl StateReader {

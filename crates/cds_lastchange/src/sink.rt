@@ -11,7 +11,7 @@ use std::marker::Model;
 
 /// What takes the parts of a document up to the first that does not stand, and keeps none. Contracts see what they say, or the place of the first that does
 /// not stand.
-#[derive(Drop, Debug)]
+#[derive(Drop)]
 pub struct Judging {
     said: Result<Judge, usize>,
 }
@@ -62,10 +62,11 @@ impl PartSink for Judging {
 
     fn take(&mut self, part: Part) -> Result<(), Mem> {
         let before = std::mem::replace(&mut self.said, Err(0));
-        self.said = match before {
+        let said = match before {
             Ok(judge) => judged(judge, &part)?,
             Err(at) => Err(at),
         };
+        drop(std::mem::replace(&mut self.said, said));
         Ok(())
     }
 

@@ -7,7 +7,8 @@ ghost use Rattle.cds_lastchange.specs.Spelled.{change_text, flag_text, flagged_t
 ghost use Rattle.cds_lastchange.specs.StateEvent.{IsStateEvent};
 
 use crate::{Class, Event};
-use cds_base::{Mem, put, put_attribute, put_number_attribute};
+use cds_base::{Mem, put};
+use cds_object::{put_attribute, put_number_attribute};
 use std::alloc::Global;
 
 /// Puts an object and the number of a change of it.

@@ -9,7 +9,7 @@ use Rattle.cds_load.specs.declared.exchange.Ask.TheVariants.{Number as AskNumber
 use Rattle.cds_load.specs.Server.{Moment, page_size, reply_to, metadata_reply, children_reply}
 use Rattle.cds_load.specs.Stages.{BehindLoad, Waiting, Listing, Held, Idle, Begun, HasToken, HasNumber, HasRoot, Lists, HasPage, HasCopy, Holds, Torn, listing_of, listed, listed_id, listed_children, others_waiting, fits, after_page, page_taken, taken, held_after, next_ask, says, put_rows, put_containers}
 use Rattle.cds_load.specs.Loads.{load_reads, read_once, reads}
-use Rattle.cds_load.proofs.Trees.{found-id, folder-found}
+use Rattle.cds_load.proofs.Trees.{found-id, folder-found, ascend-rises}
 use Rattle.cds_load.proofs.Frontier.{known, waiting_at}
 use Rattle.cds_load.proofs.Advance.{Stands, nothing-waits, known-first, waiting-first, first-stands}
 use Rattle.cds_load.proofs.Whole.{rows-after, waiting-after}
@@ -18,7 +18,6 @@ use Rattle.cds_load.proofs.Listings.{IsListing, page-fits}
 use Rattle.cds_load.proofs.Honest.{root-lists, root-first}
 use Rattle.cds_load.proofs.Replies.{page-of}
 use Rattle.cds_load.proofs.Counts.{pages_from, from-first, pages-here, pages-first, pages-none, own-pages}
-use Rattle.cds_load.proofs.Trees.{ascend-rises}
 
 -- a listing with so many whole pages of its first container shown, and so many reads to go
 pub record Lasts (rows : List ObjectRow) (l : Listing) (left : ℕ) : Type 0 where

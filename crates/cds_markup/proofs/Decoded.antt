@@ -1,6 +1,6 @@
 -- Reading a character from its bytes, what is decoded, what a byte and a character do, and what methods answer, from what the methods that they call answer.
 use Rattle.std.proofs.Common.{◌≡◌, ◌==◌, ℕ, ◌<◌, true, false, inl, inr, Option, Some, None, Result, Ok, Err, List, [], ◌∷◌, ◌++◌, length, refl, sym, ap, ◌∙◌, arith, encode_utf8, ◌≤◌, nat_le, subst, ◌+◌, cond, ◌&&◌, Bool, ◌≢◌, zero, suc, drop, slice_get, ◌-◌, nat_lt, IfSome, append_assoc, codes, ◌⊎◌, ◌*◌, ◌/◌, ◌%◌, ◌||◌}
-use Rattle.cds_markup.proofs.Terms.{nat_tests, append-nil, encode_ascii, is_allowed, Whole, More, Stop, Broken, Deep, Event, Mode, Open, Step, after, begins_character, any_at, step, Reading, reading, moved, may_begin, go_on, byte_step, is_deep, judge, ReadSo, DecodesSo, AsciiSo, ByteSo, WholeSo, JudgedSo, NoCharacter, OutOfMemory, clash, empty-is, no-cons, INPUT_LIMIT, NamespaceRule, TooLong, Token, refusal, MovesSo, TakenSo, Progress, progressed, NextSo, Blanks, Turn, Inside, Epilog, Next, Stuck, On, Done, Given, To, is_content, is_over, landed, inside_move, opens_after, is_last, and-no, TurnsSo, by-test, Naming, QName, leads, named_or, Agrees, NamedSo, EndTag, begins_with, end_blanks_step, end_name_step, StandsSo, is-spent, some-is, written_name, Attr, TagAttr, OutOfScalarRange, slice_get_within, flat_map-append, tag_attrs, with_name, counted, written_attr, written_attrs, is_within, second_low, second_high, third_high, byte_at, behind_first, two_bytes_at, three_bytes_at, four_bytes_at, tail_at, ok-err, cases, cases, ok-err}
+use Rattle.cds_markup.proofs.Terms.{nat_tests, append-nil, encode_ascii, is_allowed, Whole, More, Stop, Broken, Deep, Event, Mode, Open, Step, after, begins_character, any_at, step, Reading, reading, moved, may_begin, go_on, byte_step, is_deep, judge, ReadSo, DecodesSo, AsciiSo, ByteSo, WholeSo, JudgedSo, NoCharacter, OutOfMemory, clash, empty-is, no-cons, INPUT_LIMIT, NamespaceRule, TooLong, Token, refusal, MovesSo, TakenSo, Progress, progressed, NextSo, Blanks, Turn, Inside, Epilog, Next, Stuck, On, Done, Given, To, is_content, is_over, landed, inside_move, opens_after, is_last, and-no, TurnsSo, by-test, Naming, QName, leads, named_or, Agrees, NamedSo, EndTag, begins_with, end_blanks_step, end_name_step, StandsSo, is-spent, some-is, written_name, Attr, TagAttr, OutOfScalarRange, slice_get_within, flat_map-append, tag_attrs, with_name, counted, written_attr, written_attrs, is_within, second_low, second_high, third_high, byte_at, behind_first, two_bytes_at, three_bytes_at, four_bytes_at, tail_at, ok-err, cases}
 use lib.Utf8.{encode}
 use Rattle.cds_markup.specs.declared.mode.NameStep.TheVariants.{Ends, Breaks}
 

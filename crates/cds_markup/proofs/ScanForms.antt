@@ -1,6 +1,6 @@
 -- Where a word stands in a text, and where its lines end: what is known after each byte.
 use Rattle.std.proofs.Common.{◌≡◌, ◌==◌, ℕ, ◌<◌, ◌≤◌, Bool, true, false, cond, not, ◌&&◌, List, [], ◌∷◌, ◌++◌, take, refl, sym, ap, subst, ◌∙◌, arith, codes, encode_utf8, ◌⊎◌, inl, inr, zero, suc, append_assoc, ◌-◌, length, slice_index, map}
-use Rattle.cds_markup.proofs.Terms.{nat_tests, encode_ascii, append-nil, length-append, take-append_seam, contains, is_any, Without, brackets_with, closes_section, without_brackets, Word, Character, Then, Says, Many, Next, step_comment, step_section, without_feed, lone_returns, line_ends, line_end_says, is-byte, is-byte}
+use Rattle.cds_markup.proofs.Terms.{nat_tests, encode_ascii, append-nil, length-append, take-append_seam, contains, is_any, Without, brackets_with, closes_section, without_brackets, Word, Character, Then, Says, Many, Next, step_comment, step_section, without_feed, lone_returns, line_ends, line_end_says, is-byte}
 use Rattle.cds_markup.proofs.Ways.{by-test, is-byte, and-both, and-first, and-second, cases, clash, Takes, bytes_of, Allowed, bytes-append, allowed-append, allowed-apart, plain-bytes, ascii-bytes, ascii-plain, Alike, Reads, then-of, then-says, says-then}
 use Rattle.cds_markup.proofs.Decoded.{High, at-most-or-more, wide-bytes}
 

@@ -15,7 +15,6 @@ use Rattle.cds_markup.specs.Document.{Meaning, Doc, line_ends, most_open, depth}
 use Rattle.cds_markup.specs.Refusal.{scopes_of, IsRefused}
 use Rattle.cds_markup.specs.Taking.{Takes, Answered}
 use Rattle.cds_markup.specs.Parts.{first_non_blank, TreeParts, OpensParts, DocumentParts, Says}
-use Rattle.cds_markup.specs.Taking.{Takes, Answered}
 
 -- The root that is over there.
 pub record RootEnds (front : List ℕ) (parts : List Part) : Type 0 where

@@ -41,16 +41,23 @@ fn new_value(alloc: Global, double: bool) -> Valuing
 }
 
 impl Attributing {
+    /// Goes over to this state.
+    fn go_to(&mut self, attributing: Attributing)
+        ensures { self.new ≡ attributing }
+    {
+        drop(std::mem::replace(self, attributing));
+    }
+
     /// Behind the name.
     fn named(&mut self, name: QName, c: char) -> Result<Option<TagAttr>, Stop>
         ensures { Agrees (named_step name c) result self.new }
     {
         if is_blank(c) {
-            *self = Attributing::AttrNamed(name);
+            self.go_to(Attributing::AttrNamed(name));
             return Ok(None);
         }
         if c == '=' {
-            *self = Attributing::Equals(name);
+            self.go_to(Attributing::Equals(name));
             return Ok(None);
         }
         Err(Stop::Broken)
@@ -61,11 +68,11 @@ impl Attributing {
         ensures { Agrees (equals_step name c) result self.new }
     {
         if is_blank(c) {
-            *self = Attributing::Equals(name);
+            self.go_to(Attributing::Equals(name));
             return Ok(None);
         }
         if c == '"' || c == '\'' {
-            *self = Attributing::Value(name, new_value(alloc, c == '"'));
+            self.go_to(Attributing::Value(name, new_value(alloc, c == '"')));
             return Ok(None);
         }
         Err(Stop::Broken)

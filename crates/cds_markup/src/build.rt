@@ -6,7 +6,7 @@ use cds_base::{Mem, Text};
 use std::alloc::Global;
 
 /// An element that is open.
-#[derive(Drop, Debug)]
+#[derive(Drop)]
 pub struct Frame {
     /// Its name.
     pub name: Name,
@@ -17,7 +17,7 @@ pub struct Frame {
 }
 
 /// What the parts so far say.
-#[derive(Drop, Debug)]
+#[derive(Drop)]
 pub struct Builder {
     /// The elements that are open, the innermost first; at most sixteen.
     pub frames: Vec<Frame>,
@@ -61,7 +61,7 @@ impl Builder {
         if self.more.is_empty() {
             return self.flush_one(alloc);
         }
-        self.text = Text::from(String::new(alloc));
+        drop(std::mem::replace(&mut self.text, Text::from(String::new(alloc))));
         let text = std::mem::replace(&mut self.more, String::new(alloc));
         self.nodes.push(Node::Text(Text::from(text)))
     }
@@ -107,7 +107,7 @@ impl Builder {
     {
         if self.more.is_empty() {
             if self.text.len() == 0 {
-                self.text = text;
+                drop(std::mem::replace(&mut self.text, text));
                 return Ok(());
             }
             self.more.push_str(self.text.as_str())?;

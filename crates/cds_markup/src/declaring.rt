@@ -56,6 +56,13 @@ fn question(c: char) -> Result<Option<()>, Stop>
 }
 
 impl Declaring {
+    /// Goes over to this state.
+    fn go_to(&mut self, declaring: Declaring)
+        ensures { self.new ≡ declaring }
+    {
+        drop(std::mem::replace(self, declaring));
+    }
+
     /// The end of the declaration.
     fn closing(&mut self, c: char) -> Result<Option<()>, Stop>
         ensures { Agrees (closing_step c) result self.new }
@@ -63,7 +70,7 @@ impl Declaring {
         if c != '?' {
             return Err(Stop::Broken);
         }
-        *self = Declaring::Question;
+        self.go_to(Declaring::Question);
         Ok(None)
     }
 
@@ -74,7 +81,7 @@ impl Declaring {
         if c != 's' {
             return self.closing(c);
         }
-        *self = Declaring::PartName(Stage::Standalone, Left::of(b"tandalone"));
+        self.go_to(Declaring::PartName(Stage::Standalone, Left::of(b"tandalone")));
         Ok(None)
     }
 
@@ -87,14 +94,14 @@ impl Declaring {
                 if c != 'v' {
                     return Err(Stop::Broken);
                 }
-                *self = Declaring::PartName(Stage::Version, Left::of(b"ersion"));
+                self.go_to(Declaring::PartName(Stage::Version, Left::of(b"ersion")));
                 Ok(None)
             }
             Stage::Encoding => {
                 if c != 'e' {
                     return self.standalone(c);
                 }
-                *self = Declaring::PartName(Stage::Encoding, Left::of(b"ncoding"));
+                self.go_to(Declaring::PartName(Stage::Encoding, Left::of(b"ncoding")));
                 Ok(None)
             }
             Stage::Standalone => self.standalone(c),
@@ -107,7 +114,7 @@ impl Declaring {
         ensures { Agrees (part_step stage c) result self.new }
     {
         if is_blank(c) {
-            *self = Declaring::Gap(stage);
+            self.go_to(Declaring::Gap(stage));
             return Ok(None);
         }
         match stage {
@@ -121,13 +128,13 @@ impl Declaring {
         ensures { Agrees (name_step stage [] c) result self.new }
     {
         if is_blank(c) {
-            *self = Declaring::PartName(stage, Left::of(b""));
+            self.go_to(Declaring::PartName(stage, Left::of(b"")));
             return Ok(None);
         }
         if c != '=' {
             return Err(Stop::Broken);
         }
-        *self = Declaring::PartEquals(stage);
+        self.go_to(Declaring::PartEquals(stage));
         Ok(None)
     }
 
@@ -136,12 +143,13 @@ impl Declaring {
         ensures { Agrees (value_begins stage quote) result self.new }
     {
         let quote = quote as u32;
-        *self = match stage {
+        let value = match stage {
             Stage::Version => Declaring::PartValue(stage, quote, Left::of(b"1.0")),
             Stage::Encoding => Declaring::PartValue(stage, quote, Left::of(b"utf-8")),
             Stage::Standalone => Declaring::YesOrNo(quote),
             Stage::Closing => return Err(Stop::Broken),
         };
+        self.go_to(value);
         Ok(None)
     }
 
@@ -178,7 +186,7 @@ impl Declaring {
         if c as u32 != quote {
             return Err(Stop::Broken);
         }
-        *self = Declaring::BehindPart(stage.behind());
+        self.go_to(Declaring::BehindPart(stage.behind()));
         Ok(None)
     }
 
@@ -191,7 +199,7 @@ impl Declaring {
             'n' => Left::of(b"o"),
             _ => return Err(Stop::Broken),
         };
-        *self = Declaring::PartValue(Stage::Standalone, quote, left);
+        self.go_to(Declaring::PartValue(Stage::Standalone, quote, left));
         Ok(None)
     }
 
@@ -202,7 +210,7 @@ impl Declaring {
         if !is_blank(c) {
             return self.begin(stage, c);
         }
-        *self = Declaring::Gap(stage);
+        self.go_to(Declaring::Gap(stage));
         Ok(None)
     }
 
@@ -211,7 +219,7 @@ impl Declaring {
         ensures { Agrees (step_declaration (Declaring.PartEquals stage) c) result self.new }
     {
         if is_blank(c) {
-            *self = Declaring::PartEquals(stage);
+            self.go_to(Declaring::PartEquals(stage));
             return Ok(None);
         }
         if !is_quote(c) {

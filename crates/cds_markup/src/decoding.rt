@@ -8,7 +8,7 @@ ghost use Rattle.cds_markup.specs.Steps.{ReadSo, DecodesSo};
 use std::marker::Model;
 
 /// What bytes begin with.
-#[derive(Clone, Copy, Debug, PartialEq, Eq)]
+#[derive(Clone, Copy, PartialEq, Eq)]
 pub enum Decoded {
     /// An allowed character.
     Whole(char),
@@ -19,7 +19,7 @@ pub enum Decoded {
 }
 
 /// The bytes that are left.
-#[derive(Drop, Debug)]
+#[derive(Drop)]
 struct Coming<'a> {
     left: &'a [u8],
 }

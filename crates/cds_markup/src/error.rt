@@ -42,7 +42,7 @@ impl From<AllocError> for MarkupError {
 }
 
 /// Why reading stopped at the bytes that are left.
-#[derive(Clone, Copy, Debug, PartialEq, Eq)]
+#[derive(Clone, Copy, PartialEq, Eq)]
 pub enum Stop {
     /// The next byte cannot stand there, or the input ended.
     Broken,

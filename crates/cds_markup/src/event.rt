@@ -2,7 +2,7 @@ use crate::letters::Letters;
 use crate::{Attrs, Name};
 
 /// What a byte completes inside the root.
-#[derive(Drop, Debug)]
+#[derive(Drop)]
 pub enum Event {
     /// A character of a literal text.
     Letter(char),

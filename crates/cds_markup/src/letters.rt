@@ -9,7 +9,7 @@ use std::alloc::Global;
 use std::marker::Model;
 
 /// A text that grows. Contracts see the list of its bytes.
-#[derive(Drop, Debug)]
+#[derive(Drop)]
 pub struct Letters {
     value: String,
 }

@@ -23,7 +23,7 @@ use std::alloc::Global;
 pub const MOST_OPEN: usize = 16;
 
 /// A reader of documents byte by byte.
-#[derive(Drop, Debug)]
+#[derive(Drop)]
 pub struct Machine {
     /// The first bytes of a character that is not whole yet.
     pub begun: Vec<u8>,

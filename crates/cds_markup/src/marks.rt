@@ -17,7 +17,7 @@ use cds_base::{Mem, Text};
 use std::alloc::Global;
 
 /// A literal text that is not over.
-#[derive(Drop, Debug)]
+#[derive(Drop)]
 pub struct OpenText {
     /// Where it begins.
     pub at: usize,
@@ -30,7 +30,7 @@ pub struct OpenText {
 }
 
 /// Where what is not complete yet began.
-#[derive(Drop, Debug)]
+#[derive(Drop)]
 pub struct Marks {
     /// The place of the first byte of what is open: a tag, a reference or a section; or the `/` of an empty element's tag.
     pub begin: usize,
@@ -186,7 +186,7 @@ impl Marks {
             None => OpenText::new(alloc, at),
         };
         text.push(at, c)?;
-        self.text = Some(text);
+        drop(std::mem::replace(&mut self.text, Some(text)));
         Ok(())
     }
 
@@ -271,7 +271,7 @@ impl Marks {
         let begin = self.begin;
         let text = self.rest(alloc, cut, first);
         let part = self.last(alloc, cut, first);
-        *self = Marks { begin, text };
+        drop(std::mem::replace(self, Marks { begin, text }));
         part
     }
 

@@ -8,7 +8,7 @@ use crate::tag::{QName, Tag};
 use std::marker::Model;
 
 /// Bytes of a word that are still to come. Contracts see the list of them.
-#[derive(Drop, Debug)]
+#[derive(Drop)]
 pub struct Left {
     bytes: &'static [u8],
 }
@@ -69,7 +69,7 @@ impl Left {
 }
 
 /// Inside a reference, behind its `&`.
-#[derive(Drop, Debug)]
+#[derive(Drop)]
 pub enum Referring {
     /// The `&` came.
     Ampersand,
@@ -84,7 +84,7 @@ pub enum Referring {
 }
 
 /// Inside a qualified name.
-#[derive(Drop, Debug)]
+#[derive(Drop)]
 pub struct Naming {
     /// The name before the colon, if one comes.
     pub first: Letters,
@@ -93,7 +93,7 @@ pub struct Naming {
 }
 
 /// What a character makes of a name.
-#[derive(Drop, Debug)]
+#[derive(Drop)]
 pub enum NameStep {
     /// It belongs to the name.
     Goes,
@@ -104,7 +104,7 @@ pub enum NameStep {
 }
 
 /// Inside an attribute's value, behind its first quote.
-#[derive(Drop, Debug)]
+#[derive(Drop)]
 pub struct Valuing {
     /// Whether the quote is a double one.
     pub double: bool,
@@ -117,7 +117,7 @@ pub struct Valuing {
 }
 
 /// Inside an attribute.
-#[derive(Drop, Debug)]
+#[derive(Drop)]
 pub enum Attributing {
     /// Its name.
     AttrName(Naming),
@@ -130,7 +130,7 @@ pub enum Attributing {
 }
 
 /// Inside a start tag, behind its `<`.
-#[derive(Drop, Debug)]
+#[derive(Drop)]
 pub enum Tagging {
     /// The `<` came.
     Opened,
@@ -145,7 +145,7 @@ pub enum Tagging {
 }
 
 /// A part of the declaration.
-#[derive(Clone, Copy, Debug, PartialEq, Eq)]
+#[derive(Clone, Copy, PartialEq, Eq)]
 pub enum Stage {
     /// The version.
     Version,
@@ -158,7 +158,7 @@ pub enum Stage {
 }
 
 /// Inside the declaration, behind its `<?`.
-#[derive(Drop, Debug)]
+#[derive(Drop)]
 pub enum Declaring {
     /// The rest of `xml` is to come, and white space behind it.
     Xml(Left),
@@ -179,7 +179,7 @@ pub enum Declaring {
 }
 
 /// White space and comments before the root or behind it.
-#[derive(Drop, Debug)]
+#[derive(Drop)]
 pub enum Misc {
     /// Between them.
     Blanks,
@@ -194,7 +194,7 @@ pub enum Misc {
 }
 
 /// Inside an element, or in the root's start tag.
-#[derive(Drop, Debug)]
+#[derive(Drop)]
 pub enum Turn {
     /// Between tags, behind so many closing brackets of those that count in a literal text.
     Content(u32),
@@ -221,7 +221,7 @@ pub enum Turn {
 }
 
 /// What a document may have next.
-#[derive(Drop, Debug)]
+#[derive(Drop)]
 pub enum Mode {
     /// Nothing came.
     Begin,

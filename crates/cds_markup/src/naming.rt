@@ -72,7 +72,7 @@ impl Naming {
                     return Ok(true);
                 }
                 if c == ':' {
-                    self.second = Some(Letters::new(alloc));
+                    drop(std::mem::replace(&mut self.second, Some(Letters::new(alloc))));
                     return Ok(true);
                 }
                 Ok(false)

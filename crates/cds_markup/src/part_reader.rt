@@ -15,10 +15,12 @@ use crate::place::Place;
 use crate::{MarkupError, Part, PartSink};
 use cds_base::{INPUT_LIMIT, Mem};
 use std::alloc::Global;
+use std::fmt;
+use std::fmt::{Debug, Formatter};
 use std::marker::Model;
 
 /// A machine at a place of the input, with what is open there.
-#[derive(Drop, Debug)]
+#[derive(Drop)]
 pub struct Spot {
     /// The machine and its place.
     pub place: Place,
@@ -28,7 +30,7 @@ pub struct Spot {
 
 /// Gives the parts of a document that comes in pieces, without keeping the bytes. Contracts see what is read so far and what
 /// is open, or `None` from a refusal on, want of memory included, and where what takes the parts has enough.
-#[derive(Drop, Debug)]
+#[derive(Drop)]
 pub struct PartReader {
     spot: Option<Spot>,
 }
@@ -40,6 +42,13 @@ impl Model for PartReader {
     ghost Value = { Option Telling };
 
     ghost view = { λ r. telling_in r.spot };
+}
+
+/// Its name alone: deriving it for all that it holds would be dear to prove, and nothing prints it.
+impl Debug for PartReader {
+    fn fmt<W: fmt::Write>(&self, f: &mut Formatter<W>) -> fmt::Result {
+        f.debug_struct("PartReader").finish_non_exhaustive()
+    }
 }
 
 /// Gives the part, where there is one and it is wanted.
@@ -251,7 +260,7 @@ impl PartReader {
             return Err(MarkupError::Failed);
         };
         spot.piece(alloc, piece, to)?;
-        self.spot = spot.unless(to.has_enough());
+        drop(std::mem::replace(&mut self.spot, spot.unless(to.has_enough())));
         Ok(())
     }
 

@@ -13,7 +13,7 @@ use cds_base::INPUT_LIMIT;
 use std::alloc::Global;
 
 /// A machine at a place of the input.
-#[derive(Drop, Debug)]
+#[derive(Drop)]
 pub struct Place {
     /// The machine.
     pub machine: Machine,

@@ -21,7 +21,7 @@ pub struct Placed {
 }
 
 /// What the parts so far say, with the places of the start tags of the root and of its child elements.
-#[derive(Drop, Debug)]
+#[derive(Drop)]
 pub struct PlacedBuilder {
     /// What they say.
     pub builder: Builder,

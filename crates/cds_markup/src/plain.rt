@@ -7,7 +7,7 @@ use crate::naming::begins_name;
 use cds_base::letters_run;
 
 /// What a run is of.
-#[derive(Clone, Copy, Debug)]
+#[derive(Clone, Copy)]
 pub enum Plain {
     /// Letters that stand for themselves wherever letters stand.
     Letters,

@@ -82,13 +82,13 @@ fn append(alloc: Global, out: &mut Parts, found: Parts) -> Result<(), Mem>
     ensures err { OnErr result (out.new ≡ out.old) }
 {
     if out.is_empty() {
-        *out = found;
+        drop(std::mem::replace(out, found));
         return Ok(());
     }
     let mut all = std::mem::replace(out, Parts::new(alloc)).into_vec();
     let mut more = found.into_vec();
     let done = all.append(&mut more);
-    *out = Parts::from(all);
+    drop(std::mem::replace(out, Parts::from(all)));
     done?;
     Ok(())
 }

@@ -8,11 +8,13 @@ use crate::placed::{Placed, PlacedBuilder};
 use crate::{Element, MarkupError, PartReader};
 use cds_base::Mem;
 use std::alloc::Global;
+use std::fmt;
+use std::fmt::{Debug, Formatter};
 use std::marker::Model;
 
 /// Reads a document that comes in pieces, without keeping them. Contracts see what is read so far, or nothing from a
 /// refusal on, want of memory included, and what the parts so far say.
-#[derive(Drop, Debug)]
+#[derive(Drop)]
 pub struct Reader {
     parts: PartReader,
     builder: PlacedBuilder,
@@ -29,6 +31,12 @@ impl Model for Reader {
     ghost coded = { Prim.hlevel (codes, nodes.the_row.coded) };
 
     ghost view = { λ r. came r.parts (placing_of r.builder) };
+}
+
+impl Debug for Reader {
+    fn fmt<W: fmt::Write>(&self, f: &mut Formatter<W>) -> fmt::Result {
+        f.debug_struct("Reader").finish_non_exhaustive()
+    }
 }
 
 impl Reader {

@@ -26,6 +26,13 @@ fn allowed(code: u32) -> Option<char>
 }
 
 impl Referring {
+    /// Goes over to this state.
+    fn go_to(&mut self, referring: Referring)
+        ensures { self.new ≡ referring }
+    {
+        drop(std::mem::replace(self, referring));
+    }
+
     /// A digit of a number, or its `;`.
     fn number(&mut self, hexadecimal: bool, value: u32, c: char) -> Result<Option<char>, Stop>
         ensures { Agrees (number_step hexadecimal value c) result self.new }
@@ -37,7 +44,7 @@ impl Referring {
                 if more > LAST {
                     return Err(Stop::Broken);
                 }
-                *self = Referring::Number(hexadecimal, more as u32);
+                self.go_to(Referring::Number(hexadecimal, more as u32));
                 Ok(None)
             }
             None => {
@@ -57,11 +64,11 @@ impl Referring {
         ensures { Agrees (step_reference Referring.Ampersand c) result self.new }
     {
         match c {
-            '#' => *self = Referring::Sharp,
-            'a' => *self = Referring::EntityA,
-            'g' => *self = Referring::Entity(Left::of(b"t;"), '>'),
-            'l' => *self = Referring::Entity(Left::of(b"t;"), '<'),
-            'q' => *self = Referring::Entity(Left::of(b"uot;"), '"'),
+            '#' => self.go_to(Referring::Sharp),
+            'a' => self.go_to(Referring::EntityA),
+            'g' => self.go_to(Referring::Entity(Left::of(b"t;"), '>')),
+            'l' => self.go_to(Referring::Entity(Left::of(b"t;"), '<')),
+            'q' => self.go_to(Referring::Entity(Left::of(b"uot;"), '"')),
             _ => return Err(Stop::Broken),
         }
         Ok(None)
@@ -72,8 +79,8 @@ impl Referring {
         ensures { Agrees (step_reference Referring.EntityA c) result self.new }
     {
         match c {
-            'm' => *self = Referring::Entity(Left::of(b"p;"), '&'),
-            'p' => *self = Referring::Entity(Left::of(b"os;"), '\''),
+            'm' => self.go_to(Referring::Entity(Left::of(b"p;"), '&')),
+            'p' => self.go_to(Referring::Entity(Left::of(b"os;"), '\'')),
             _ => return Err(Stop::Broken),
         }
         Ok(None)
@@ -108,7 +115,7 @@ impl Referring {
             }
             Referring::Sharp => {
                 if c == 'x' {
-                    *self = Referring::Number(true, 0);
+                    self.go_to(Referring::Number(true, 0));
                     return Ok(None);
                 }
                 self.number(false, 0, c)

@@ -100,13 +100,6 @@ impl Tag {
 }
 
 impl Tagging {
-    /// Goes over to this state.
-    fn go_to(&mut self, tagging: Tagging)
-        ensures { self.new ≡ tagging }
-    {
-        *self = tagging;
-    }
-
     /// Passes over letters of a value, or over an attribute that stands there whole and the white space behind it, or the name of
     /// another.
     fn run(&mut self, alloc: Global, bytes: &[u8]) -> Result<usize, Mem>
@@ -142,14 +135,14 @@ impl Turn {
         ensures { self.new ≡ Turn.StartTag (Tagging.Spaced (tag_named name)) }
     {
         let attrs = Sequence::new(alloc);
-        *self = Turn::StartTag(Tagging::Spaced(Tag { name, attrs }));
+        self.go_to(Turn::StartTag(Tagging::Spaced(Tag { name, attrs })));
     }
 
     /// Goes over to a start tag of whose name so much came.
     fn begin_name(&mut self, naming: Naming)
         ensures { self.new ≡ Turn.StartTag (Tagging.Name naming) }
     {
-        *self = Turn::StartTag(Tagging::Name(naming));
+        self.go_to(Turn::StartTag(Tagging::Name(naming)));
     }
 
     /// Passes over an element's name that stands at the front as `name_at` finds it, and over white space behind it.
@@ -174,7 +167,7 @@ impl Turn {
     fn end_at(&mut self, n: usize)
         ensures { self.new ≡ Turn.EndTag n }
     {
-        *self = Turn::EndTag(n);
+        self.go_to(Turn::EndTag(n));
     }
 
     /// Goes over to an end tag, behind so many bytes of its name, and passes over more of them: how many.

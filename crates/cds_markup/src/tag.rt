@@ -1,7 +1,7 @@
 use cds_base::{Sequence, Text};
 
 /// A qualified name as it is written (Namespaces in XML).
-#[derive(Drop, Debug)]
+#[derive(Drop)]
 pub struct QName {
     /// The prefix, empty for none.
     pub prefix: Text,
@@ -10,7 +10,7 @@ pub struct QName {
 }
 
 /// An attribute as a tag has it.
-#[derive(Drop, Debug)]
+#[derive(Drop)]
 pub struct TagAttr {
     /// Its name.
     pub name: QName,
@@ -19,7 +19,7 @@ pub struct TagAttr {
 }
 
 /// What stands in a start tag.
-#[derive(Drop, Debug)]
+#[derive(Drop)]
 pub struct Tag {
     /// The element's name.
     pub name: QName,
@@ -28,7 +28,7 @@ pub struct Tag {
 }
 
 /// A namespace that a tag declares.
-#[derive(Drop, Debug)]
+#[derive(Drop)]
 pub struct Declaration {
     /// The prefix, empty for names without one.
     pub prefix: Text,
@@ -37,7 +37,7 @@ pub struct Declaration {
 }
 
 /// An element that is open.
-#[derive(Drop, Debug)]
+#[derive(Drop)]
 pub struct Open {
     /// Its name, which its end tag repeats.
     pub name: QName,

@@ -36,6 +36,13 @@ fn name_begun(alloc: Global, c: char) -> Result<Naming, Mem>
 }
 
 impl Tagging {
+    /// Goes over to this state.
+    pub fn go_to(&mut self, tagging: Tagging)
+        ensures { self.new ≡ tagging }
+    {
+        drop(std::mem::replace(self, tagging));
+    }
+
     /// A tag that begins with this character.
     pub fn begin(alloc: Global, c: char) -> Result<Self, Stop>
         ensures { BeginsTag c result }
@@ -51,7 +58,7 @@ impl Tagging {
         ensures { Agrees (tagged_step tag c) result self.new }
     {
         if is_blank(c) {
-            *self = Tagging::Spaced(tag);
+            self.go_to(Tagging::Spaced(tag));
             return Ok(None);
         }
         if ends_tag(c) {
@@ -65,7 +72,7 @@ impl Tagging {
         ensures { Agrees (spaced_step tag c) result self.new }
     {
         if is_blank(c) {
-            *self = Tagging::Spaced(tag);
+            self.go_to(Tagging::Spaced(tag));
             return Ok(None);
         }
         if ends_tag(c) {
@@ -73,7 +80,7 @@ impl Tagging {
         }
         if begins_name(c) {
             let naming = name_begun(alloc, c)?;
-            *self = Tagging::Attribute(tag, Attributing::AttrName(naming));
+            self.go_to(Tagging::Attribute(tag, Attributing::AttrName(naming)));
             return Ok(None);
         }
         Err(Stop::Broken)
@@ -92,7 +99,7 @@ impl Tagging {
             },
         };
         tag.attrs.push(attr)?;
-        *self = Tagging::Tagged(tag);
+        self.go_to(Tagging::Tagged(tag));
         Ok(())
     }
 
@@ -102,7 +109,7 @@ impl Tagging {
     {
         match self {
             Tagging::Opened => {
-                *self = Tagging::begin(alloc, c)?;
+                self.go_to(Tagging::begin(alloc, c)?);
                 Ok(None)
             }
             Tagging::Name(naming) => match name_step(naming, alloc, c)? {

@@ -2,7 +2,7 @@ use crate::letters::Letters;
 use crate::tag::Tag;
 
 /// What a character completes inside the root.
-#[derive(Drop, Debug)]
+#[derive(Drop)]
 pub enum Token {
     /// A character of a literal text.
     Letter(char),

@@ -34,23 +34,30 @@ fn section_step(
 }
 
 impl Turn {
+    /// Goes over to this state.
+    pub fn go_to(&mut self, turn: Turn)
+        ensures { self.new ≡ turn }
+    {
+        drop(std::mem::replace(self, turn));
+    }
+
     /// A literal character, or what begins at it.
     #[inline(never)]
     fn content(&mut self, brackets: u32, c: char) -> Result<Option<Token>, Stop>
         ensures { (opens : List Open) → TurnsSo opens (content_step brackets opens c) result self.new }
     {
         if c == '<' {
-            *self = Turn::Less;
+            self.go_to(Turn::Less);
             return Ok(None);
         }
         if c == '&' {
-            *self = Turn::Reference(Referring::Ampersand);
+            self.go_to(Turn::Reference(Referring::Ampersand));
             return Ok(None);
         }
         if closes_section(brackets, c) {
             return Err(Stop::Broken);
         }
-        *self = Turn::Content(brackets_with(brackets, c));
+        self.go_to(Turn::Content(brackets_with(brackets, c)));
         Ok(Some(Token::Letter(c)))
     }
 
@@ -60,10 +67,10 @@ impl Turn {
         ensures { (opens : List Open) → tag_given opens (tag, end) ≡ given result (opens_after result opens) self.new }
     {
         if end == '>' {
-            *self = Turn::Content(0);
+            self.go_to(Turn::Content(0));
             return Token::Started(tag);
         }
-        *self = Turn::Slashed;
+        self.go_to(Turn::Slashed);
         Token::Slash(tag)
     }
 
@@ -76,14 +83,14 @@ impl Turn {
             if opens.is_empty() {
                 return Err(Stop::Broken);
             }
-            *self = Turn::EndTag(0);
+            self.go_to(Turn::EndTag(0));
             return Ok(None);
         }
         if c == '!' {
-            *self = Turn::Bang;
+            self.go_to(Turn::Bang);
             return Ok(None);
         }
-        *self = Turn::StartTag(Tagging::begin(alloc, c)?);
+        self.go_to(Turn::StartTag(Tagging::begin(alloc, c)?));
         Ok(None)
     }
 
@@ -93,8 +100,8 @@ impl Turn {
         ensures { (opens : List Open) → TurnsSo opens (bang_step c) result self.new }
     {
         match c {
-            '-' => *self = Turn::Dash,
-            '[' => *self = Turn::Cdata(Left::of(b"CDATA[")),
+            '-' => self.go_to(Turn::Dash),
+            '[' => self.go_to(Turn::Cdata(Left::of(b"CDATA["))),
             _ => return Err(Stop::Broken),
         }
         Ok(None)
@@ -107,7 +114,7 @@ impl Turn {
     {
         let mut text = Letters::new(alloc);
         text.push(c)?;
-        *self = Turn::Section(brackets_with(0, c), text);
+        self.go_to(Turn::Section(brackets_with(0, c), text));
         Ok(None)
     }
 
@@ -116,11 +123,11 @@ impl Turn {
         ensures { (innermost : Open) (outer : List Open) → TurnsSo (innermost ∷ outer) (end_blanks_step n outer c) result self.new }
     {
         if is_blank(c) {
-            *self = Turn::EndTag(n);
+            self.go_to(Turn::EndTag(n));
             return Ok(None);
         }
         if c == '>' {
-            *self = Turn::Content(0);
+            self.go_to(Turn::Content(0));
             return Ok(Some(Token::Ended));
         }
         Err(Stop::Broken)
@@ -140,7 +147,7 @@ impl Turn {
         }
         match name_has(&innermost.name, n, c) {
             Some(behind) => {
-                *self = Turn::EndTag(behind);
+                self.go_to(Turn::EndTag(behind));
                 Ok(None)
             }
             None => Err(Stop::Broken),
@@ -154,7 +161,7 @@ impl Turn {
         if c != '-' {
             return Err(Stop::Broken);
         }
-        *self = Turn::Comment(0);
+        self.go_to(Turn::Comment(0));
         Ok(None)
     }
 
@@ -166,7 +173,7 @@ impl Turn {
         if c != '>' {
             return Err(Stop::Broken);
         }
-        *self = Turn::Content(0);
+        self.go_to(Turn::Content(0));
         Ok(Some(Token::Shut))
     }
 
@@ -175,7 +182,7 @@ impl Turn {
         ensures token { result ≡ Some token }
         ensures content { self.new ≡ Turn.Content 0 }
     {
-        *self = Turn::Content(0);
+        self.go_to(Turn::Content(0));
         Some(token)
     }
 

@@ -1,5 +1,5 @@
 /// A piece of an attribute's value.
-#[derive(Clone, Copy, Debug)]
+#[derive(Clone, Copy)]
 pub enum ValuePiece {
     /// A character that stands there itself, as its code point.
     Literal(u32),

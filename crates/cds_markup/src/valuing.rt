@@ -35,7 +35,7 @@ impl Valuing {
             return Ok(Some(text));
         }
         if c == '&' {
-            self.reference = Some(Referring::Ampersand);
+            drop(std::mem::replace(&mut self.reference, Some(Referring::Ampersand)));
             return Ok(None);
         }
         if c == '<' {
@@ -43,7 +43,7 @@ impl Valuing {
         }
         push_literal(&mut self.text, self.behind_return, c)?;
         self.behind_return = c == '\r';
-        self.reference = None;
+        drop(std::mem::replace(&mut self.reference, None));
         Ok(None)
     }
 
@@ -59,7 +59,7 @@ impl Valuing {
                 Some(character) => {
                     self.text.push(character)?;
                     self.behind_return = false;
-                    self.reference = None;
+                    drop(std::mem::replace(&mut self.reference, None));
                     Ok(None)
                 }
             },

@@ -12,6 +12,13 @@ use crate::token::Token;
 use std::alloc::Global;
 
 impl Misc {
+    /// Goes over to this state.
+    fn go_to(&mut self, misc: Misc)
+        ensures { self.new ≡ misc }
+    {
+        drop(std::mem::replace(self, misc));
+    }
+
     /// One character. It gives `()` where a `<` came and no comment, and the character belongs to what follows.
     pub fn step(&mut self, c: char) -> Result<Option<()>, Stop>
         ensures { Agrees (misc_step self.old c) result self.new }
@@ -24,29 +31,29 @@ impl Misc {
                 if c != '<' {
                     return Err(Stop::Broken);
                 }
-                *self = Misc::MiscLess;
+                self.go_to(Misc::MiscLess);
             }
             Misc::MiscLess => {
                 if c != '!' {
                     return Ok(Some(()));
                 }
-                *self = Misc::MiscBang;
+                self.go_to(Misc::MiscBang);
             }
             Misc::MiscBang => {
                 if c != '-' {
                     return Err(Stop::Broken);
                 }
-                *self = Misc::MiscDash;
+                self.go_to(Misc::MiscDash);
             }
             Misc::MiscDash => {
                 if c != '-' {
                     return Err(Stop::Broken);
                 }
-                *self = Misc::MiscComment(0);
+                self.go_to(Misc::MiscComment(0));
             }
             Misc::MiscComment(dashes) => {
                 if comment_step(dashes, c)?.is_some() {
-                    *self = Misc::Blanks;
+                    self.go_to(Misc::Blanks);
                 }
             }
         }
@@ -81,14 +88,14 @@ impl Mode {
     fn leave(&mut self)
         ensures { self.new ≡ Mode.Epilog Misc.Blanks }
     {
-        *self = Mode::Epilog(Misc::Blanks);
+        self.go_to(Mode::Epilog(Misc::Blanks));
     }
 
     /// Goes over to a `<` inside the root.
     pub fn begin_less(&mut self)
         ensures { self.new ≡ Mode.Inside Turn.Less }
     {
-        *self = Mode::Inside(Turn::Less);
+        self.go_to(Mode::Inside(Turn::Less));
     }
 
     /// The first character of the root's name.
@@ -97,7 +104,7 @@ impl Mode {
         ensures { (opens : List Open) → MovesSo opens (root_move opens c) result self.new }
     {
         let tagging = Tagging::begin(alloc, c)?;
-        *self = Mode::Inside(Turn::StartTag(tagging));
+        self.go_to(Mode::Inside(Turn::StartTag(tagging)));
         Ok(None)
     }
 
@@ -110,7 +117,7 @@ impl Mode {
         if misc.step(c)?.is_some() {
             return self.root(alloc, c);
         }
-        *self = Mode::Prolog(misc);
+        self.go_to(Mode::Prolog(misc));
         Ok(None)
     }
 
@@ -120,7 +127,7 @@ impl Mode {
         ensures { (opens : List Open) → MovesSo opens (marked_move opens c) result self.new }
     {
         if c == '<' {
-            *self = Mode::First;
+            self.go_to(Mode::First);
             return Ok(None);
         }
         self.prolog(alloc, Misc::Blanks, c)
@@ -130,7 +137,7 @@ impl Mode {
     fn go_to(&mut self, mode: Mode)
         ensures { self.new ≡ mode }
     {
-        *self = mode;
+        drop(std::mem::replace(self, mode));
     }
 
     /// One character outside the root.

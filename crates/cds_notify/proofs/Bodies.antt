@@ -9,11 +9,11 @@ use Rattle.cds_base.specs.Characters.{is_allowed}
 use Rattle.cds_base.specs.Escape.{escaped, escaped_byte}
 use Rattle.cds_base.specs.Number.{number_below}
 use Rattle.cds_base.specs.Unescape.{AreAllowed}
-use Rattle.cds_base.specs.Writing.{attribute, number_attribute}
-use Rattle.cds_event.specs.declared.Class.{Class}
-use Rattle.cds_event.specs.declared.Class.TheVariants.{Container, Track}
-use Rattle.cds_event.specs.declared.Event.{Event}
-use Rattle.cds_event.specs.declared.Event.TheVariants.{ObjAdd, ObjMod, ObjDel, StDone}
+use Rattle.cds_object.specs.Writing.{attribute, number_attribute}
+use Rattle.cds_object.specs.declared.event.Class.{Class}
+use Rattle.cds_object.specs.declared.event.Class.TheVariants.{Container, Track}
+use Rattle.cds_object.specs.declared.event.Event.{Event}
+use Rattle.cds_object.specs.declared.event.Event.TheVariants.{ObjAdd, ObjMod, ObjDel, StDone}
 use Rattle.cds_markup.specs.declared.name.Name.{Name}
 use Rattle.cds_markup.specs.declared.tag.QName.{QName}
 use Rattle.cds_markup.specs.declared.tag.TagAttr.{TagAttr}
@@ -26,70 +26,14 @@ use Rattle.cds_markup.specs.Drafts.{Draft, Tagged, Drafts, Done, TextThen, Draft
 use Rattle.cds_markup.proofs.WrittenTags.{small-name, xmlns-name, without-prefix, behind-prefix}
 use Rattle.cds_markup.proofs.DraftsForm.{drafts-are-read}
 use Rattle.cds_lastchange.specs.Spelled.{change_text, flag_text, flagged_text, class_text, added_text, event_text, opening, closing, spelled, IsNumbered}
-use Rattle.cds_lastchange.proofs.PlainValues.{ArePlain, is_plain, escaped-plain, decimal-digits, decimal-read}
+use Rattle.cds_base.proofs.Plain.{ArePrinted, allowed-printed, decimal-read, printed-append, printed-decimal, stays-decimal}
+use Rattle.cds_base.proofs.Wide.{escaped-append}
 use Rattle.cds_lastchange.proofs.WrittenRead.{written-read}
 use Rattle.cds_notify.specs.declared.body.Said.{Said}
 use Rattle.cds_notify.specs.Propertyset.{named, property, pair_text, further_text, pairs_text, set_opening, propertyset_text}
 use Rattle.cds_notify.specs.Said.{event_space, said_of, Says}
 use Rattle.cds_notify.specs.Laws.{IsPair, AreNumbers}
 use Rattle.cds_notify.proofs.Pieces.{long-property}
-
--- ---- printed texts: ASCII from the space on
-
-abbrev pub is_printed : ℕ → Bool
-is_printed b = nat_lt 31 b && nat_lt b 127
-
-abbrev pub ArePrinted : List ℕ → Type 0
-ArePrinted text = list_all is_printed text ≡ true
-
-first-of : (a b : Bool) → (a && b) ≡ true → a ≡ true
-first-of true b e = refl
-first-of false b e = let no : false ≡ true = e in cc
-
-second-of : (a b : Bool) → (a && b) ≡ true → b ≡ true
-second-of true b e = e
-second-of false b e = let no : false ≡ true = e in cc
-
-printed-append : (a b : List ℕ) → ArePrinted a → ArePrinted b → ArePrinted (a ++ b)
-printed-append [] b h k = k
-printed-append (x ∷ a) b h k =
-    ap (λ t. t && list_all is_printed (a ++ b)) (first-of (is_printed x) (list_all is_printed a) h)
-    ∙ printed-append a b (second-of (is_printed x) (list_all is_printed a) h) k
-
-printed-plain : (text : List ℕ) → ArePlain text → ArePrinted text
-printed-plain [] h = refl
-printed-plain (b ∷ rest) h =
-    ap (λ t. t && list_all is_printed rest) (one b (first-of (is_plain b) (list_all is_plain rest) h)) ∙ printed-plain rest (second-of (is_plain b) (list_all is_plain rest) h)
-  where
-    one : (b : ℕ) → is_plain b ≡ true → is_printed b ≡ true
-    one b e = grind (arith, nat_tests)
-
-pub printed-decimal : (n : ℕ) → n < 2 ^ 32 → ArePrinted (decimal n)
-printed-decimal n h = printed-plain (decimal n) (decimal-digits n h).plain
-
-allowed-one : (b : ℕ) → is_printed b ≡ true → is_allowed b ≡ true
-allowed-one b e = grind (arith, nat_tests)
-
-all-allowed : (text : List ℕ) → ArePrinted text → list_all is_allowed text ≡ true
-all-allowed [] h = refl
-all-allowed (b ∷ rest) h =
-    ap (λ t. t && list_all is_allowed rest) (allowed-one b (first-of (is_printed b) (list_all is_printed rest) h))
-    ∙ all-allowed rest (second-of (is_printed b) (list_all is_printed rest) h)
-
-all-ascii : (text : List ℕ) → ArePrinted text → encode_utf8_all text ≡ text
-all-ascii [] h = refl
-all-ascii (b ∷ rest) h =
-    ap (λ x. x ++ encode_utf8_all rest) (one b (first-of (is_printed b) (list_all is_printed rest) h))
-    ∙ ap (λ x. b ∷ x) (all-ascii rest (second-of (is_printed b) (list_all is_printed rest) h))
-  where
-    small : (b : ℕ) → is_printed b ≡ true → b < 128
-    small b e = grind (arith, nat_tests)
-
-    one : (b : ℕ) → is_printed b ≡ true → encode_utf8 b ≡ b ∷ []
-    one b e = encode_ascii b (small b e)
-
-allowed-printed : (text : List ℕ) → ArePrinted text → AreAllowed text
-allowed-printed text h = (text, all-allowed text h, all-ascii text h)
 
 -- ---- a StateEvent is printed
 
@@ -153,14 +97,7 @@ abbrev Stays : List ℕ → Type 0
 Stays text = escaped text ≡ text
 
 stays-append : (a b : List ℕ) → Stays a → Stays b → Stays (a ++ b)
-stays-append a b h k = spread a b ∙ (λ i. h i ++ k i)
-  where
-    spread : (a b : List ℕ) → escaped (a ++ b) ≡ escaped a ++ escaped b
-    spread [] b = refl
-    spread (x ∷ a) b = ap (λ t. escaped_byte x ++ t) (spread a b) ∙ sym (append_assoc (escaped_byte x) (escaped a) (escaped b))
-
-pub stays-decimal : (n : ℕ) → n < 2 ^ 32 → Stays (decimal n)
-stays-decimal n h = escaped-plain (decimal n) (decimal-digits n h).plain
+stays-append a b h k = escaped-append a b ∙ (λ i. h i ++ k i)
 
 pub record IsList (text : List ℕ) : Type 0 where
   pub printed : ArePrinted text
@@ -288,7 +225,7 @@ said-is : (number : ℕ) (pairs changes : List ℕ) → number < 2 ^ 32
 said-is number pairs changes fits =
     said-both (decimal number) pairs changes
     ∙ (λ i. Both (number_below (2 ^ 32) (own-is (decimal number) i)) (own-is changes i))
-    ∙ ap (λ n. Both n changes) (decimal-read number fits)
+    ∙ ap (λ n. Both n changes) (decimal-read (2 ^ 32) number (omega arith) fits)
 
 -- ---- that it can be written
 

@@ -11,7 +11,7 @@ use Rattle.cds_catalog.specs.declared.change.Change.{Change}
 use Rattle.cds_catalog.specs.declared.change.Change.TheVariants.{Deletion, Addition, Modification}
 use Rattle.cds_changes.specs.Containers.{adds_container, is_in_container, last_touch, was_deleted, changes_to, touched_containers, containers_between}
 use Rattle.cds_commands.specs.Releases.{Release, release_size, released_containers}
-use Rattle.cds_event.specs.declared.Event.{Event}
+use Rattle.cds_object.specs.declared.event.Event.{Event}
 use Rattle.cds_notify.specs.Propertyset.{propertyset_text}
 use Rattle.cds_notify.specs.Laws.{AreNumbers}
 use Rattle.cds_notify.proofs.Lengths.{bodies-short}

@@ -1,93 +1,16 @@
 -- How long a body is at most.
-use Rattle.std.proofs.Common.{◌≡◌, ℕ, ◌+◌, ◌*◌, ◌<◌, ◌≤◌, ◌^◌, Bool, true, false, List, [], ◌∷◌, ◌++◌, length, codes, refl, sym, ap, ◌∙◌, arith, append_assoc, length-append}
+use Rattle.std.proofs.Common.{◌≡◌, ℕ, ◌+◌, ◌*◌, ◌<◌, ◌≤◌, ◌^◌, List, [], ◌∷◌, ◌++◌, length, codes, refl, arith, length-append}
 use Rattle.std.specs.List.{flat_map, AllByRecursion}
 use Rattle.std.specs.Fmt.{decimal}
-use Rattle.std.proofs.lemmas.Fmt.{length-decimal-le}
-use Rattle.cds_base.specs.Escape.{escaped, escaped_byte}
-use Rattle.cds_base.specs.Writing.{attribute, number_attribute}
-use Rattle.cds_event.specs.declared.Class.{Class}
-use Rattle.cds_event.specs.declared.Class.TheVariants.{Container, Track}
-use Rattle.cds_event.specs.declared.Event.{Event}
-use Rattle.cds_event.specs.declared.Event.TheVariants.{ObjAdd, ObjMod, ObjDel, StDone}
-use Rattle.cds_lastchange.specs.Spelled.{change_text, flag_text, flagged_text, class_text, added_text, event_text, opening, closing, spelled, IsNumbered}
+use Rattle.cds_base.specs.Escape.{escaped}
+use Rattle.cds_base.proofs.Wide.{wide, wide-append, short-decimal}
+use Rattle.cds_object.specs.declared.event.Event.{Event}
+use Rattle.cds_object.specs.declared.event.Event.TheVariants.{ObjAdd, ObjMod, ObjDel, StDone}
+use Rattle.cds_lastchange.specs.Spelled.{change_text, flagged_text, added_text, event_text, opening, closing, spelled, IsNumbered}
+use Rattle.cds_lastchange.proofs.WideEvents.{wide-change, wide-flagged, wide-added}
 use Rattle.cds_notify.specs.Propertyset.{property, pair_text, further_text, pairs_text, set_opening, propertyset_text}
 use Rattle.cds_notify.specs.Laws.{IsPair, AreNumbers}
 use Rattle.cds_notify.proofs.Pieces.{long-property}
-use Rattle.cds_notify.proofs.Bodies.{stays-decimal}
-
--- how many bytes stand for a text
-abbrev wide : List ℕ → ℕ
-wide text = length (escaped text)
-
-wide-append : (a b : List ℕ) → wide (a ++ b) ≡ wide a + wide b
-wide-append a b = ap length (spread a b) ∙ length-append (escaped a) (escaped b)
-  where
-    spread : (a b : List ℕ) → escaped (a ++ b) ≡ escaped a ++ escaped b
-    spread [] b = refl
-    spread (x ∷ a) b = ap (λ t. escaped_byte x ++ t) (spread a b) ∙ sym (append_assoc (escaped_byte x) (escaped a) (escaped b))
-
-short-decimal : (n : ℕ) → n < 2 ^ 32 → length (decimal n) ≤ 10
-short-decimal n h = length-decimal-le 10 n (omega arith) (omega (arith, h)) (omega (arith, h))
-
-wide-decimal : (n : ℕ) → n < 2 ^ 32 → wide (decimal n) ≤ 10
-wide-decimal n h = let same = ap length (stays-decimal n h) in let short = short-decimal n h in omega (arith, same, short)
-
--- an attribute has 14 bytes round its name and its value
-wide-attribute : (name value : List ℕ) → wide (attribute name value) ≡ wide name + wide value + 14
-unfolding attribute
-wide-attribute name value =
-    let a = wide-append (((codes " " ++ name) ++ codes "=\"") ++ value) (codes "\"") in
-    let b = wide-append ((codes " " ++ name) ++ codes "=\"") value in
-    let c = wide-append (codes " " ++ name) (codes "=\"") in
-    let d = wide-append (codes " ") name in
-    let e : wide (codes " ") ≡ 1 = refl in
-    let f : wide (codes "=\"") ≡ 7 = refl in
-    let g : wide (codes "\"") ≡ 6 = refl in
-    omega (arith, a, b, c, d, e, f, g)
-
-wide-number : (name : List ℕ) (n : ℕ) → n < 2 ^ 32 → wide (number_attribute name n) ≤ wide name + 24
-unfolding attribute number_attribute
-wide-number name n h = let all = wide-attribute name (decimal n) in let short = wide-decimal n h in omega (arith, all, short)
-
-wide-change : (id update : ℕ) → id < 2 ^ 32 → update < 2 ^ 32 → wide (change_text id update) ≤ 61
-unfolding change_text
-wide-change id update i u =
-    let all = wide-append (number_attribute (codes "objID") id) (number_attribute (codes "updateID") update) in
-    let a = wide-number (codes "objID") id i in
-    let b = wide-number (codes "updateID") update u in
-    let c : wide (codes "objID") ≡ 5 = refl in
-    let d : wide (codes "updateID") ≡ 8 = refl in
-    omega (arith, all, a, b, c, d)
-
-wide-flag : (st : Bool) → wide (flag_text st) ≡ 1
-wide-flag true = refl
-wide-flag false = refl
-
-wide-flagged : (id update : ℕ) (st : Bool) → id < 2 ^ 32 → update < 2 ^ 32 → wide (flagged_text id update st) ≤ 84
-unfolding flagged_text
-wide-flagged id update st i u =
-    let all = wide-append (change_text id update) (attribute (codes "stUpdate") (flag_text st)) in
-    let a = wide-change id update i u in
-    let b = wide-attribute (codes "stUpdate") (flag_text st) in
-    let c = wide-flag st in
-    let d : wide (codes "stUpdate") ≡ 8 = refl in
-    omega (arith, all, a, b, c, d)
-
-wide-class : (class : Class) → wide (class_text class) ≤ 32
-unfolding class_text
-wide-class Container = omega arith
-wide-class Track = omega arith
-
-wide-added : (parent : ℕ) (class : Class) → parent < 2 ^ 32 → wide (added_text parent class) ≤ 89
-unfolding added_text
-wide-added parent class p =
-    let all = wide-append (number_attribute (codes "objParentID") parent) (attribute (codes "objClass") (class_text class)) in
-    let a = wide-number (codes "objParentID") parent p in
-    let b = wide-attribute (codes "objClass") (class_text class) in
-    let c = wide-class class in
-    let d : wide (codes "objParentID") ≡ 11 = refl in
-    let e : wide (codes "objClass") ≡ 8 = refl in
-    omega (arith, all, a, b, c, d, e)
 
 -- an event has at most 188 bytes
 wide-event : (event : Event) → IsNumbered event → wide (event_text event) ≤ 188

@@ -1,5 +1,4 @@
 pub mod Pieces
-pub mod Visible
 pub mod Bodies
 pub mod Lengths
 pub mod Reading

@@ -35,14 +35,15 @@ use Rattle.cds_gena.specs.SidText.{sid_text}
 use Rattle.cds_gena.specs.Asked.{is_deliverable}
 use Rattle.cds_gena.proofs.Delivered.{kind-is}
 use Rattle.cds_gena.proofs.Served.{read-back}
-use Rattle.cds_lastchange.proofs.PlainValues.{decimal-read}
+use Rattle.cds_base.proofs.Plain.{decimal-read}
 use Rattle.cds_base.specs.Number.{number_below}
 use Rattle.cds_notify.specs.Notify.{host_of, target_of, field, note_fields}
 use Rattle.cds_notify.specs.Propertyset.{propertyset_text}
 use Rattle.cds_notify.specs.Said.{heading_of, named_note, with_seq}
 use Rattle.cds_notify.specs.Laws.{note_message, NotesAreReadBack}
 use Rattle.cds_notify.proofs.Bodies.{bodies-read}
-use Rattle.cds_notify.proofs.Visible.{AreVisible, is_visible, visible-literal, visible-decimal, visible-sid, all-stand, all-values, no-front, no-back}
+use Rattle.cds_http.proofs.Visible.{AreVisible, Seen, is_visible, visible-literal, visible-decimal, all-stand, all-values, no-front, no-back}
+use Rattle.cds_gena.proofs.Visible.{visible-sid}
 
 -- ---- the fields can be written
 
@@ -69,9 +70,6 @@ fields-can url name seq valid few =
     && ((is_token (codes "SID") && s i) && ((is_token (codes "SEQ") && q i) && true)))))
 
 -- ---- the host and the target are visible
-
-abbrev Seen : ℕ → Type 0
-Seen b = IsTrue (is_visible b)
 
 opaque-seen : (b : ℕ) → IsKept FORBIDDEN_HOST b → IsKept CONTROLS b → Seen b
 opaque-seen b allowed visible =
@@ -186,7 +184,7 @@ heading-computed url to body = refl
 heading-is : (url : Parts) (to : Address) (body : List ℕ) → to.sid.0 < 2 ^ 128 → to.seq < 2 ^ 32 → heading_of (note_message url to body) ≡ Ok (record { sid = to.sid; seq = to.seq })
 heading-is url to body short few =
     heading-computed url to body
-    ∙ ap (with_seq (Some (codes "upnp:event")) (Some (codes "upnp:propchange")) (Some (sid_text to.sid.0))) (decimal-read to.seq few)
+    ∙ ap (with_seq (Some (codes "upnp:event")) (Some (codes "upnp:propchange")) (Some (sid_text to.sid.0))) (decimal-read (2 ^ 32) to.seq (omega arith) few)
     ∙ ap (named_note to.seq) (read-back to.sid.0 short)
 
 pub notes-read : NotesAreReadBack

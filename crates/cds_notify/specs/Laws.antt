@@ -6,7 +6,7 @@ use Rattle.cds_base.specs.declared.limits.TheConstants.{INPUT_LIMIT}
 use Rattle.cds_catalog.specs.History.{History}
 use Rattle.cds_commands.specs.Notes.{Note}
 use Rattle.cds_commands.specs.Releases.{Release, release_size, released_containers}
-use Rattle.cds_event.specs.declared.Event.{Event}
+use Rattle.cds_object.specs.declared.event.Event.{Event}
 use Rattle.cds_http.specs.declared.message.Message.{Message}
 use Rattle.cds_http.specs.declared.message.Side.TheVariants.{Request}
 use Rattle.cds_http.specs.declared.message.Start.TheVariants.{Request as request_start}

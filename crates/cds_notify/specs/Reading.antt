@@ -1,6 +1,6 @@
 -- What the parts of reading a note's body answer.
 use Rattle.std.specs.Prelude.{◌≡◌, ℕ, Bool, ◌&&◌, List, filter, codes, Option, Some, None, Result, Ok, Err, ⊤, if◌then◌else◌}
-use Rattle.cds_event.specs.declared.Event.{Event}
+use Rattle.cds_object.specs.declared.event.Event.{Event}
 use Rattle.cds_markup.specs.declared.element.Node.{Node}
 use Rattle.cds_markup.specs.declared.error.MarkupError.{MarkupError}
 use Rattle.cds_markup.specs.declared.error.MarkupError.TheVariants.{Mem as OutOfMemory, Bad as BadAt, TooDeep, TooLong as TooManyBytes, Failed as RefusedBefore}

@@ -4,7 +4,7 @@ use Rattle.std.specs.Prelude.{◌≡◌, ◌^◌, ℕ, Bool, true, false, ◌&&�
 use Rattle.std.specs.List.{flat_map}
 use Rattle.cds_base.specs.Number.{number_below}
 use Rattle.cds_commands.specs.Notes.{Note}
-use Rattle.cds_event.specs.declared.Event.{Event}
+use Rattle.cds_object.specs.declared.event.Event.{Event}
 use Rattle.cds_http.specs.declared.message.Message.{Message}
 use Rattle.cds_markup.specs.declared.element.Node.{Node}
 use Rattle.cds_markup.specs.Document.{Meaning, Doc}

@@ -3,8 +3,8 @@
 ghost use Rattle.std.specs.Prelude.{◌≡◌, ◌+◌, ◌^◌, ◌≤◌, ◌&&◌, nat_eq, nat_lt};
 
 use cds_base::Mem;
-use cds_event::Events;
 use cds_gena::Sid;
+use cds_object::Events;
 use std::marker::Model;
 use thiserror::Error;
 

@@ -1,14 +1,14 @@
 //! The body of a note, written.
 
-ghost use Rattle.std.specs.Prelude.{◌≡◌, ◌∷◌, ◌++◌, [], codes, MatchOption, OnOk, OnErr, IfOk};
+ghost use Rattle.std.specs.Prelude.{◌≡◌, ◌++◌, codes, OnOk, OnErr, IfOk};
 ghost use Rattle.std.specs.Fmt.{decimal};
-ghost use Rattle.cds_base.specs.Escape.{escaped, escaped_byte};
+ghost use Rattle.cds_base.specs.Escape.{escaped};
 ghost use Rattle.cds_lastchange.specs.Spelled.{spelled};
 ghost use Rattle.cds_notify.specs.Propertyset.{further_text, named, pair_text, pairs_text, property, propertyset_text};
 
-use cds_base::Mem;
-use cds_event::Event;
+use cds_base::{Mem, escaped_length, put_escaped};
 use cds_lastchange::write_state_event;
+use cds_object::Event;
 use std::alloc::Global;
 
 /// Puts bytes at the end.
@@ -25,44 +25,6 @@ fn put_number(out: &mut Vec<u8>, number: u32) -> Result<(), Mem>
 {
     let digits = number.to_string(*out.allocator())?;
     out.extend_from_slice(digits.as_bytes())?;
-    Ok(())
-}
-
-/// What stands for a byte that cannot stand for itself.
-fn replacement(byte: u8) -> Option<&'static [u8]>
-    ensures { MatchOption result (escaped_byte byte ≡ byte ∷ []) (λ text. text.now ≡ escaped_byte byte) }
-{
-    match byte {
-        b'&' => Some(b"&amp;"),
-        b'<' => Some(b"&lt;"),
-        b'>' => Some(b"&gt;"),
-        b'"' => Some(b"&quot;"),
-        b'\'' => Some(b"&apos;"),
-        b'\t' => Some(b"&#9;"),
-        b'\n' => Some(b"&#10;"),
-        b'\r' => Some(b"&#13;"),
-        _ => None,
-    }
-}
-
-/// Puts a byte at the end, escaped.
-fn put_escaped_byte(out: &mut Vec<u8>, byte: u8) -> Result<(), Mem>
-    ensures { OnOk result (out.new.items ≡ out.old.items ++ escaped_byte byte) }
-{
-    match replacement(byte) {
-        Some(text) => out.extend_from_slice(text)?,
-        None => out.push(byte)?,
-    }
-    Ok(())
-}
-
-/// Puts bytes at the end, escaped.
-fn put_escaped(out: &mut Vec<u8>, bytes: &[u8]) -> Result<(), Mem>
-    ensures { OnOk result (out.new.items ≡ out.old.items ++ escaped bytes.now) }
-{
-    for byte in bytes {
-        put_escaped_byte(out, *byte)?;
-    }
     Ok(())
 }
 
@@ -149,8 +111,10 @@ fn events_text(alloc: Global, events: &[Event]) -> Result<Vec<u8>, Mem>
 {
     let mut bytes = Vec::new(alloc);
     write_state_event(alloc, events, &mut bytes)?;
+    let size = escaped_length(bytes.as_slice())?;
     let mut text = Vec::new(alloc);
-    put_escaped(&mut text, bytes.as_slice())?;
+    text.reserve(size)?;
+    put_escaped(bytes.as_slice(), &mut text);
     Ok(text)
 }
 

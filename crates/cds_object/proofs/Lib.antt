@@ -1,3 +1,4 @@
 pub mod Firsts
 pub mod BadNames
 pub mod Cleans
+pub mod WideAttributes

@@ -3,7 +3,7 @@
 use Rattle.std.specs.Prelude.{◌/◌, ◌%◌, ℕ, nat_eq, nat_lt, cond, List, [], ◌∷◌, ◌++◌, Option, Some, None, codes}
 use Rattle.std.specs.List.{flat_map}
 use Rattle.std.specs.Fmt.{decimal}
-use Rattle.cds_base.specs.Writing.{number_attribute, text_element, number_element}
+use Rattle.cds_object.specs.Writing.{number_attribute, text_element, number_element}
 use Rattle.cds_object.specs.declared.content.Content.{Content}
 use Rattle.cds_object.specs.declared.content.TrackContent.{TrackContent}
 use Rattle.cds_object.specs.declared.content.Content.TheVariants.{Folder, Track}

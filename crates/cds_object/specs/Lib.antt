@@ -2,6 +2,7 @@ pub mod Object
 pub mod Clean
 pub mod Content
 pub mod ContentOf
+pub mod Events
 pub mod First
 pub mod Fragment
 pub mod Laws
@@ -9,3 +10,4 @@ pub mod Path
 pub mod PathAnswer
 pub mod PathOrder
 pub mod Tree
+pub mod Writing

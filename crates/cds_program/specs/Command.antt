@@ -29,6 +29,11 @@ command_of (word ∷ port ∷ folder ∷ requests ∷ []) =
     cond (same_text word (codes "serve")) (service_of (plain_below (2 ^ 16) port) (plain_below (2 ^ 32) requests)) None
 command_of (word ∷ port ∷ folder ∷ requests ∷ more ∷ words) = None
 
+-- the folder that the words of `scan` name
+abbrev pub folder_in : List (List ℕ) → List ℕ
+folder_in (word ∷ folder ∷ words) = folder
+folder_in words = []
+
 -- the folder that the words of `serve` name
 abbrev pub place_in : List (List ℕ) → List ℕ
 place_in (word ∷ port ∷ folder ∷ words) = folder

@@ -2,15 +2,14 @@
 
 ghost use Rattle.std.specs.Prelude.{◌≡◌, ◌^◌, ◌∷◌, Some, None, codes, cond};
 ghost use Rattle.cds_base.specs.Number.{plain_below};
-ghost use Rattle.cds_program.specs.Command.{command_of, command_named, place_in, service_of};
-ghost use Rattle.cds_program.specs.Scan.{folder_in};
+ghost use Rattle.cds_program.specs.Command.{command_of, command_named, folder_in, place_in, service_of};
 ghost use Rattle.cds_program.specs.declared.command.Command.TheVariants.{Scan};
 ghost use Rattle.cds_object.specs.Content.{same_text};
 
 use cds_base::{Text, read_plain};
 
 /// What the program is asked to do.
-#[derive(Clone, Copy, Debug, PartialEq, Eq)]
+#[derive(Clone, Copy)]
 pub enum Command {
     /// Plays the script on standard input and writes its report.
     Replay,

@@ -2,7 +2,7 @@
 
 ghost use Rattle.std.specs.Prelude.{◌≡◌, ◌≢◌, ◌⊎◌, ◌≤◌, ◌<◌, ◌+◌, ◌++◌, ℕ, [], Some, None, List, OnErr, OnOk};
 ghost use Rattle.cds_base.specs.declared.limits.TheConstants.{INPUT_LIMIT};
-ghost use Rattle.cds_base.specs.Outside.{raised, Rose, WhereTold};
+ghost use Rattle.cds_base.specs.Outside.{raised, Rose, Told};
 ghost use Rattle.cds_script.specs.Lines.{line_limit};
 ghost use Rattle.cds_script.specs.Complete.{AnswersAreComplete};
 ghost use Rattle.cds_script.specs.LoadBounds.{BoundsLoads};
@@ -10,19 +10,17 @@ ghost use Rattle.cds_script.specs.Played.{script_turns, script_stop, report_of, 
 ghost use Rattle.cds_script.specs.Report.{script_ending};
 ghost use Rattle.cds_script.specs.ScriptGiven.{StandsAtScanEnds};
 ghost use Rattle.cds_serve.specs.Life.{EndsLife};
-ghost use Rattle.cds_program.specs.Check.{EndsCheck, WritesCheck};
-ghost use Rattle.cds_program.specs.Command.{command_of, place_in, Serves, TakesInput, help_text, version_text, usage_text};
-ghost use Rattle.cds_program.specs.Run.{Ends, Writes, EndsText, WritesText};
-ghost use Rattle.cds_program.specs.Scan.{AsksFor, EndsScan, GivesBack, WritesScan, folder_in};
+ghost use Rattle.cds_subcommands.specs.Check.{EndsCheck, WritesCheck};
+ghost use Rattle.cds_subcommands.specs.Run.{Ends, Writes, EndsText, WritesText};
+ghost use Rattle.cds_subcommands.specs.Scan.{AsksFor, EndsScan, GivesBack, WritesScan};
+ghost use Rattle.cds_program.specs.Command.{command_of, folder_in, place_in, Serves, TakesInput, help_text, version_text, usage_text};
 ghost use Rattle.cds_program.specs.declared.command.Command.TheVariants.{Replay, Check, Scan, Serve, Help, Version};
 
-use crate::checking::check;
 use crate::command::{Command, folder_in, place_in, read_command};
-use crate::scanning::scan_folder;
 use crate::serving::serve_folder;
-use crate::written::write_text;
 use cds_base::{Door, Folder, Outside, Sink, Source, Words};
 use cds_replay::{ReplayError, replay};
+use cds_subcommands::{check, scan_folder, write_text};
 use std::alloc::Global;
 use std::marker::{Send, Sync};
 use std::sync::Wait;
@@ -61,20 +59,20 @@ Exit status:
 
 /// Plays the script on the source.
 fn play<S: Source, K: Sink>(alloc: Global, source: &mut S, sink: &mut K) -> u8
-    ensures ends { WhereTold (S.left source.old) (λ bytes. Ends result (script_ending bytes).status) }
-    ensures writes { WhereTold (S.left source.old) (λ bytes. WhereTold (K.holds sink.old)
+    ensures ends { Told (S.left source.old) (λ bytes. Ends result (script_ending bytes).status) }
+    ensures writes { Told (S.left source.old) (λ bytes. Told (K.holds sink.old)
         (λ before. Writes result (script_ending bytes).text before (K.holds sink.new))) }
-    ensures whole { WhereTold (S.left source.old) (λ bytes. result ≡ 0 → S.left source.new ≡ Some []) }
+    ensures whole { Told (S.left source.old) (λ bytes. result ≡ 0 → S.left source.new ≡ Some []) }
     ensures within { result ≡ 0 → S.moved source.new ≤ raised (S.moved source.old) INPUT_LIMIT }
     ensures taken { S.moved source.new ≤ S.moved source.old + (INPUT_LIMIT + 1) }
     ensures long { result ≡ 6 → raised (S.moved source.old) (line_limit + 1) ≤ S.moved source.new }
     ensures read_fault { result ≡ 2 → Rose (S.faults source.old) (S.faults source.new) }
     ensures write_fault { result ≡ 3 → Rose (K.faults sink.old) (K.faults sink.new) }
     ensures known { (result ≡ 5 → ⊥) × (result ≤ 6) }
-    ensures turns { WhereTold (S.left source.old) (λ bytes. IsReportOf (script_turns bytes) (script_stop bytes) (script_ending bytes)) }
-    ensures load_bound { WhereTold (S.left source.old) (λ bytes. BoundsLoads (script_turns bytes)) }
-    ensures stands { WhereTold (S.left source.old) (λ bytes. StandsAtScanEnds (script_turns bytes)) }
-    ensures complete { WhereTold (S.left source.old) (λ bytes. AnswersAreComplete (script_turns bytes)) }
+    ensures turns { Told (S.left source.old) (λ bytes. IsReportOf (script_turns bytes) (script_stop bytes) (script_ending bytes)) }
+    ensures load_bound { Told (S.left source.old) (λ bytes. BoundsLoads (script_turns bytes)) }
+    ensures stands { Told (S.left source.old) (λ bytes. StandsAtScanEnds (script_turns bytes)) }
+    ensures complete { Told (S.left source.old) (λ bytes. AnswersAreComplete (script_turns bytes)) }
 {
     match replay(alloc, source, sink) {
         Ok(()) => 0,
@@ -90,7 +88,7 @@ fn play<S: Source, K: Sink>(alloc: Global, source: &mut S, sink: &mut K) -> u8
 /// Writes the page on the commands and the exit statuses.
 fn write_help<K: Sink>(sink: &mut K) -> u8
     ensures ends { EndsText result 0 }
-    ensures writes { WhereTold (K.holds sink.old) (λ before. WritesText result help_text before (K.holds sink.new)) }
+    ensures writes { Told (K.holds sink.old) (λ before. WritesText result help_text before (K.holds sink.new)) }
     ensures write_fault { result ≡ 3 → Rose (K.faults sink.old) (K.faults sink.new) }
 {
     write_text(sink, HELP.as_bytes(), 0)
@@ -99,7 +97,7 @@ fn write_help<K: Sink>(sink: &mut K) -> u8
 /// Writes what words are that are no command's.
 fn write_usage<K: Sink>(sink: &mut K) -> u8
     ensures ends { EndsText result 5 }
-    ensures writes { WhereTold (K.holds sink.old) (λ before. WritesText result usage_text before (K.holds sink.new)) }
+    ensures writes { Told (K.holds sink.old) (λ before. WritesText result usage_text before (K.holds sink.new)) }
     ensures write_fault { result ≡ 3 → Rose (K.faults sink.old) (K.faults sink.new) }
 {
     write_text(sink, USAGE.as_bytes(), 5)
@@ -128,10 +126,10 @@ where
     <O::D as Door>::Conn: Send,
     <O::F as Folder>::File: Send,
     // What was written is exactly the report of the script, up to its end, its broken line or its limit.
-    ensures report { command_of words.now ≡ Some Replay → WhereTold (S.left source.old)
-        (λ bytes. WhereTold (K.holds sink.old) (λ before. Writes result (script_ending bytes).text before (K.holds sink.new))) }
-    ensures status { command_of words.now ≡ Some Replay → WhereTold (S.left source.old) (λ bytes. Ends result (script_ending bytes).status) }
-    ensures read_to_its_end { TakesInput (command_of words.now) → WhereTold (S.left source.old) (λ bytes. result ≡ 0 → S.left source.new ≡ Some []) }
+    ensures report { command_of words.now ≡ Some Replay → Told (S.left source.old)
+        (λ bytes. Told (K.holds sink.old) (λ before. Writes result (script_ending bytes).text before (K.holds sink.new))) }
+    ensures status { command_of words.now ≡ Some Replay → Told (S.left source.old) (λ bytes. Ends result (script_ending bytes).status) }
+    ensures read_to_its_end { TakesInput (command_of words.now) → Told (S.left source.old) (λ bytes. result ≡ 0 → S.left source.new ≡ Some []) }
 
     // The limit of an input, by the number of bytes that the source moved: however the program ends, it took at most one byte
     // more than an input may have.
@@ -143,29 +141,29 @@ where
     // What was written is what the script's turns write, one after the other, and then its last line. Each ask of these
     // turns that writes `behind load` comes before any load was begun, or after fewer reads than a load of the catalog takes,
     // and two more, since the load began, a first note dropped the copy, or the catalog last changed.
-    ensures turns { command_of words.now ≡ Some Replay → WhereTold (S.left source.old) (λ bytes. WhereTold (K.holds sink.old)
+    ensures turns { command_of words.now ≡ Some Replay → Told (S.left source.old) (λ bytes. Told (K.holds sink.old)
         (λ before. Writes result (report_of (script_turns bytes) ++ (script_stop bytes).text) before (K.holds sink.new))) }
-    ensures load_bound { command_of words.now ≡ Some Replay → WhereTold (S.left source.old) (λ bytes. BoundsLoads (script_turns bytes)) }
+    ensures load_bound { command_of words.now ≡ Some Replay → Told (S.left source.old) (λ bytes. BoundsLoads (script_turns bytes)) }
 
     // Each ask of these turns that writes `stands` and a number writes a scan end of the scans that were accepted by then, and
     // after it the rows of the catalog after the scans up to this one.
-    ensures stands { command_of words.now ≡ Some Replay → WhereTold (S.left source.old) (λ bytes. StandsAtScanEnds (script_turns bytes)) }
+    ensures stands { command_of words.now ≡ Some Replay → Told (S.left source.old) (λ bytes. StandsAtScanEnds (script_turns bytes)) }
 
     // The answer is complete: an ask of these turns writes the server's number and the catalog after all scans where a load
     // was begun, the subscription that was accepted last lives, each note that was sent to it was delivered and none of them
     // answered `full`, no change waits for its release, and a read wrote `read none` since the last load, acceptance and delivery.
-    ensures complete { command_of words.now ≡ Some Replay → WhereTold (S.left source.old) (λ bytes. AnswersAreComplete (script_turns bytes)) }
+    ensures complete { command_of words.now ≡ Some Replay → Told (S.left source.old) (λ bytes. AnswersAreComplete (script_turns bytes)) }
 
     // What `check` wrote is the one written form of the events that the input is and LF, where it is a StateEvent; else the place
     // of its first fault, or that it is too long.
-    ensures check { command_of words.now ≡ Some Check → WhereTold (S.left source.old)
-        (λ bytes. WhereTold (K.holds sink.old) (λ before. WritesCheck bytes result before (K.holds sink.new))) }
-    ensures check_status { command_of words.now ≡ Some Check → WhereTold (S.left source.old) (λ bytes. EndsCheck bytes result) }
+    ensures check { command_of words.now ≡ Some Check → Told (S.left source.old)
+        (λ bytes. Told (K.holds sink.old) (λ before. WritesCheck bytes result before (K.holds sink.new))) }
+    ensures check_status { command_of words.now ≡ Some Check → Told (S.left source.old) (λ bytes. EndsCheck bytes result) }
 
     // What `scan` wrote is the catalog of one scan of the folder from the first number 0, and the files that were refused, where
     // the scan came to the end of the folder's tree; else that it stopped at an entry. The outside was asked for this folder
     // alone, which came back with all its files.
-    ensures scan { command_of words.now ≡ Some Scan → WhereTold (K.holds sink.old)
+    ensures scan { command_of words.now ≡ Some Scan → Told (K.holds sink.old)
         (λ before. WritesScan (O.ended outside.old) (O.ended outside.new) result before (K.holds sink.new)) }
     ensures scan_status { command_of words.now ≡ Some Scan → EndsScan (O.ended outside.old) (O.ended outside.new) result }
     ensures scan_asks { command_of words.now ≡ Some Scan → AsksFor (folder_in words.now) (O.asked outside.old) (O.asked outside.new) }
@@ -203,11 +201,11 @@ where
     ensures write_fault { result ≡ 3 → Rose (K.faults sink.old) (K.faults sink.new) }
 
     // The other commands, and words that are no command's, write one text and take nothing of the source.
-    ensures help { command_of words.now ≡ Some Help → EndsText result 0 × WhereTold (K.holds sink.old)
+    ensures help { command_of words.now ≡ Some Help → EndsText result 0 × Told (K.holds sink.old)
         (λ before. WritesText result help_text before (K.holds sink.new)) }
-    ensures version { command_of words.now ≡ Some Version → EndsText result 0 × WhereTold (K.holds sink.old)
+    ensures version { command_of words.now ≡ Some Version → EndsText result 0 × Told (K.holds sink.old)
         (λ before. WritesText result version_text before (K.holds sink.new)) }
-    ensures usage { command_of words.now ≡ None → EndsText result 5 × WhereTold (K.holds sink.old)
+    ensures usage { command_of words.now ≡ None → EndsText result 5 × Told (K.holds sink.old)
         (λ before. WritesText result usage_text before (K.holds sink.new)) }
     ensures untouched { (TakesInput (command_of words.now) → ⊥) → source.new ≡ source.old }
     ensures outside_untouched { command_of words.now ≢ Some Scan → (Serves (command_of words.now) → ⊥) → outside.new ≡ outside.old }

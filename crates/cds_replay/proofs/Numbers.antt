@@ -4,7 +4,7 @@ use Rattle.std.specs.List.{AllByRecursion, count_by, filter_map, range_with_len,
 use Rattle.std.specs.Option.{option_map}
 use Rattle.std.proofs.lemmas.List.Sums.{count_by-le-length}
 use Rattle.cds_object.specs.Path.{parent_of}
-use Rattle.cds_event.specs.Events.{update_of}
+use Rattle.cds_object.specs.Events.{update_of}
 use Rattle.cds_catalog.specs.Library.{FolderMap, found}
 use Rattle.cds_catalog.specs.History.{History, latest, changes_of, end_of, is_addition, place_of}
 use Rattle.cds_catalog.specs.Catalog.{id_of}

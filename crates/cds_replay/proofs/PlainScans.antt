@@ -11,7 +11,7 @@ use Rattle.cds_catalog.specs.Catalog.{catalog}
 use Rattle.cds_catalog.specs.Scans.{bad_record, scan_answer}
 use Rattle.cds_didl.specs.Plain.{IsPlainText, ArePlainRecords, HasSoundNumbers}
 use Rattle.cds_didl.proofs.Plain.{contents-are-plain}
-use Rattle.cds_didl.proofs.PlainValues.{allowed-plain}
+use Rattle.cds_base.proofs.Plain.{allowed-plain}
 use Rattle.cds_exchange.specs.Honest.{IsPlainMoment}
 use Rattle.cds_exchange.proofs.Histories.{histories-are-plain}
 use Rattle.cds_commands.specs.Commands.{Command, Scans, Grants, Renews, Ends, Stops, Ticks, scans_of, AreAccepted}

@@ -1,7 +1,7 @@
 -- A replay under way, at its next piece and at its end.
 use Rattle.std.proofs.Common.{◌≡◌, ℕ, ◌+◌, ◌-◌, ◌≤◌, min, ◌^◌, List, [], ◌++◌, take, drop, Option, Some, None, Result, Ok, Err, IfErr, OnOk, refl, ap, sym, subst, ◌∙◌, append_assoc, arith}
 use Rattle.std.proofs.lemmas.List.{append-nil, take-append-drop}
-use Rattle.cds_base.specs.Outside.{raised, WhereTold}
+use Rattle.cds_base.specs.Outside.{raised, Told}
 use Rattle.cds_replay.specs.declared.script.Script.{Script}
 use Rattle.cds_replay.specs.declared.script.Stop.{Stop}
 use Rattle.cds_replay.specs.declared.script.Stop.TheVariants.{Outside, Limit as PastLimit, Refused as RefusedAt}
@@ -159,14 +159,14 @@ never-limit Mem P none = tt
 
 -- what holds where the source tells its bytes
 pub ok-told : (result : Result (Unit {0}) ReplayError) (told : Option (List ℕ)) (P : List ℕ → Type 0) →
-    ((bytes : List ℕ) → told ≡ Some bytes → OnOk result (P bytes)) → OnOk result (WhereTold told P)
+    ((bytes : List ℕ) → told ≡ Some bytes → OnOk result (P bytes)) → OnOk result (Told told P)
 ok-told (Ok done) told P from = from
 ok-told (Err e) told P from = tt
 
 pub line-told : (carried : List ℕ → List ℕ) (result : Result (Unit {0}) ReplayError) (told held after : Option (List ℕ)) (P : ℕ → List ℕ → Type 0) →
     ((bytes : List ℕ) → told ≡ Some bytes → IfErr result (λ e. Stopped carried e bytes [] held after)) →
     ((line : ℕ) (bytes : List ℕ) → StopsIn carried bytes [] (Outside line) held after → P line bytes) →
-    IfErr result (λ e. OnLine e (λ line. WhereTold told (P line)))
+    IfErr result (λ e. OnLine e (λ line. Told told (P line)))
 line-told carried (Ok done) told held after P stops from = tt
 line-told carried (Err (Line line)) told held after P stops from = λ bytes is. from line bytes (stops bytes is)
 line-told carried (Err ReadFault) told held after P stops from = tt
@@ -178,7 +178,7 @@ line-told carried (Err Mem) told held after P stops from = tt
 pub refused-told : (carried : List ℕ → List ℕ) (result : Result (Unit {0}) ReplayError) (told held after : Option (List ℕ)) (P : ℕ → List ℕ → Type 0) →
     ((bytes : List ℕ) → told ≡ Some bytes → IfErr result (λ e. Stopped carried e bytes [] held after)) →
     ((line : ℕ) (bytes : List ℕ) → StopsIn carried bytes [] (RefusedAt line) held after → P line bytes) →
-    IfErr result (λ e. OnRefused e (λ line. WhereTold told (P line)))
+    IfErr result (λ e. OnRefused e (λ line. Told told (P line)))
 refused-told carried (Ok done) told held after P stops from = tt
 refused-told carried (Err (Line line)) told held after P stops from = tt
 refused-told carried (Err ReadFault) told held after P stops from = tt
@@ -190,7 +190,7 @@ refused-told carried (Err Mem) told held after P stops from = tt
 pub limit-told : (carried : List ℕ → List ℕ) (result : Result (Unit {0}) ReplayError) (told held after : Option (List ℕ)) (P : List ℕ → Type 0) →
     ((bytes : List ℕ) → told ≡ Some bytes → IfErr result (λ e. Stopped carried e bytes [] held after)) →
     ((bytes : List ℕ) → StopsIn carried bytes [] PastLimit held after → P bytes) →
-    IfErr result (λ e. OnLimit e (WhereTold told P))
+    IfErr result (λ e. OnLimit e (Told told P))
 limit-told carried (Ok done) told held after P stops from = tt
 limit-told carried (Err (Line line)) told held after P stops from = tt
 limit-told carried (Err ReadFault) told held after P stops from = tt

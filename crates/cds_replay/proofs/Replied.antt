@@ -9,7 +9,7 @@ use Rattle.uuid.specs.Text.{by_index}
 use Rattle.cds_object.specs.Object.{ObjectRow, is_folder}
 use Rattle.cds_object.specs.Tree.{row_of, children_of, is_child_of, is_container_row, IsHeld, IdsAscend}
 use Rattle.cds_object.specs.declared.row.Trackers.{Trackers}
-use Rattle.cds_didl.proofs.PlainValues.{decimal-read}
+use Rattle.cds_base.proofs.Plain.{decimal-read}
 use Rattle.cds_didl.specs.Filter.{filter_of}
 use Rattle.cds_didl.specs.Fragment.{didl_text}
 use Rattle.cds_soap.specs.declared.action.BrowseRequest.{BrowseRequest}

@@ -1,7 +1,7 @@
 -- Over a wire that leaves all as it is a replay reports what the script reports.
 use Rattle.std.proofs.Common.{◌≡◌, ℕ, List, ◌++◌, Option, Some, None, Result, Ok, Err, IfErr, OnOk, refl, ap, sym, subst, ◌∙◌}
 use Rattle.std.proofs.lemmas.Result.{on_ok_weaker, IfErr-weaker}
-use Rattle.cds_base.specs.Outside.{WhereTold}
+use Rattle.cds_base.specs.Outside.{Told}
 use Rattle.cds_script.specs.Report.{Ending, outside_ending, script_ending}
 use Rattle.cds_replay.specs.declared.play.ReplayError.{ReplayError}
 use Rattle.cds_replay.specs.declared.play.ReplayError.TheVariants.{Line, ReadFault, WriteFault, Limit, Refused, Mem}
@@ -35,45 +35,45 @@ module _ (law : straight_reports_are_the_scripts) (carried : List ℕ → List �
   report-is : (refused : Option ℕ) (status : ℕ) (script : List ℕ) → Reported refused status script → Holds before (script_ending script).text after
   report-is refused status script w = subst (λ (e : Ending). Holds before e.text after) (law carried script w.0 same w.1).1 w.2.report
 
-  pub ok-status : OnOk result (WhereTold told (Reported None 0)) → OnOk result (WhereTold told (λ script. (script_ending script).status ≡ 0))
+  pub ok-status : OnOk result (Told told (Reported None 0)) → OnOk result (Told told (λ script. (script_ending script).status ≡ 0))
   ok-status = on_ok_weaker result (λ from script is. status-is None 0 script (from script is))
 
-  pub ok-report : OnOk result (WhereTold told (Reported None 0)) → OnOk result (WhereTold told (λ script. Holds before (script_ending script).text after))
+  pub ok-report : OnOk result (Told told (Reported None 0)) → OnOk result (Told told (λ script. Holds before (script_ending script).text after))
   ok-report = on_ok_weaker result (λ from script is. report-is None 0 script (from script is))
 
-  pub line-status : IfErr result (λ e. OnLine e (λ line. WhereTold told (Reported None 1))) →
-      IfErr result (λ e. OnLine e (λ line. WhereTold told (λ script. (script_ending script).status ≡ 1)))
+  pub line-status : IfErr result (λ e. OnLine e (λ line. Told told (Reported None 1))) →
+      IfErr result (λ e. OnLine e (λ line. Told told (λ script. (script_ending script).status ≡ 1)))
   line-status =
       IfErr-weaker result _ _
-      (λ e. on-line e (λ line. WhereTold told (Reported None 1)) (λ line. WhereTold told (λ script. (script_ending script).status ≡ 1))
+      (λ e. on-line e (λ line. Told told (Reported None 1)) (λ line. Told told (λ script. (script_ending script).status ≡ 1))
       (λ line from script is. status-is None 1 script (from script is)))
 
-  pub line-report : IfErr result (λ e. OnLine e (λ line. WhereTold told (Reported None 1))) →
-      IfErr result (λ e. OnLine e (λ line. WhereTold told (λ script. Holds before (script_ending script).text after)))
+  pub line-report : IfErr result (λ e. OnLine e (λ line. Told told (Reported None 1))) →
+      IfErr result (λ e. OnLine e (λ line. Told told (λ script. Holds before (script_ending script).text after)))
   line-report =
       IfErr-weaker result _ _
-      (λ e. on-line e (λ line. WhereTold told (Reported None 1)) (λ line. WhereTold told (λ script. Holds before (script_ending script).text after))
+      (λ e. on-line e (λ line. Told told (Reported None 1)) (λ line. Told told (λ script. Holds before (script_ending script).text after))
       (λ line from script is. report-is None 1 script (from script is)))
 
-  pub line-number : IfErr result (λ e. OnLine e (λ line. WhereTold told (λ script. OnWire carried script (EndsWith (outside_ending line).text)))) →
-      IfErr result (λ e. OnLine e (λ line. WhereTold told (λ script. (front : List ℕ) × ((script_ending script).text ≡ front ++ (outside_ending line).text))))
+  pub line-number : IfErr result (λ e. OnLine e (λ line. Told told (λ script. OnWire carried script (EndsWith (outside_ending line).text)))) →
+      IfErr result (λ e. OnLine e (λ line. Told told (λ script. (front : List ℕ) × ((script_ending script).text ≡ front ++ (outside_ending line).text))))
   line-number =
       IfErr-weaker result _ _
-      (λ e. on-line e (λ line. WhereTold told (λ script. OnWire carried script (EndsWith (outside_ending line).text)))
-      (λ line. WhereTold told (λ script. (front : List ℕ) × ((script_ending script).text ≡ front ++ (outside_ending line).text)))
+      (λ e. on-line e (λ line. Told told (λ script. OnWire carried script (EndsWith (outside_ending line).text)))
+      (λ line. Told told (λ script. (front : List ℕ) × ((script_ending script).text ≡ front ++ (outside_ending line).text)))
       (λ line from script is.
       let w = from script is in
       (w.2.0, ap (λ (e : Ending). e.text) (sym (law carried script w.0 same w.1).1) ∙ w.2.1)))
 
-  pub limit-status : IfErr result (λ e. OnLimit e (WhereTold told (Reported None 6))) →
-      IfErr result (λ e. OnLimit e (WhereTold told (λ script. (script_ending script).status ≡ 6)))
+  pub limit-status : IfErr result (λ e. OnLimit e (Told told (Reported None 6))) →
+      IfErr result (λ e. OnLimit e (Told told (λ script. (script_ending script).status ≡ 6)))
   limit-status =
       IfErr-weaker result _ _
-      (λ e. on-limit e (WhereTold told (Reported None 6)) (WhereTold told (λ script. (script_ending script).status ≡ 6)) (λ from script is. status-is None 6 script (from script is)))
+      (λ e. on-limit e (Told told (Reported None 6)) (Told told (λ script. (script_ending script).status ≡ 6)) (λ from script is. status-is None 6 script (from script is)))
 
-  pub limit-report : IfErr result (λ e. OnLimit e (WhereTold told (Reported None 6))) →
-      IfErr result (λ e. OnLimit e (WhereTold told (λ script. Holds before (script_ending script).text after)))
+  pub limit-report : IfErr result (λ e. OnLimit e (Told told (Reported None 6))) →
+      IfErr result (λ e. OnLimit e (Told told (λ script. Holds before (script_ending script).text after)))
   limit-report =
       IfErr-weaker result _ _
-      (λ e. on-limit e (WhereTold told (Reported None 6)) (WhereTold told (λ script. Holds before (script_ending script).text after))
+      (λ e. on-limit e (Told told (Reported None 6)) (Told told (λ script. Holds before (script_ending script).text after))
       (λ from script is. report-is None 6 script (from script is)))

@@ -1,6 +1,6 @@
 -- How a replay ends, and what its sink holds then.
 use Rattle.std.specs.Prelude.{◌≡◌, ℕ, List, [], ◌++◌, Option, Some, None, Result, Ok, Err}
-use Rattle.cds_base.specs.Outside.{WhereTold}
+use Rattle.cds_base.specs.Outside.{Told}
 use Rattle.cds_replay.specs.Script.{GoesOn, stop_status, stop_text, stop_refused}
 use Rattle.cds_replay.specs.Wire.{WiredEnding, EndsOver}
 use Rattle.cds_replay.specs.declared.script.Script.{Script}
@@ -56,7 +56,7 @@ OnWriteFault Mem P = Unit {0}
 
 -- what a sink holds after a text, where it tells what it held before
 abbrev pub Holds : Option (List ℕ) → List ℕ → Option (List ℕ) → Type 0
-Holds before text after = WhereTold before (λ held. after ≡ Some (held ++ text))
+Holds before text after = Told before (λ held. after ≡ Some (held ++ text))
 
 -- a script ends so: the line that was refused, if one was, the status, and all that it writes is in the sink
 pub record Reports (refused : Option ℕ) (status : ℕ) (before after : Option (List ℕ)) (ending : WiredEnding) : Type 0 where

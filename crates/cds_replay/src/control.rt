@@ -42,12 +42,20 @@ pub fn carried_reply<W: Wire>(
         IfOk result (λ reply. reply.items ≡ W.carried wire.now (server_reply (moment_after script_token first commands) ask)) }
     ensures same { server.new ≡ server.old }
 {
-    let url = control_url(alloc)?;
-    let mut request = Vec::new(alloc);
-    Replica::ask_bytes(&ask, &url, &mut request)?;
+    let request = request_of(alloc, ask)?;
     let mut reply = reply_to(alloc, server, now, ask, request.as_slice())?;
     carry_over(wire, &mut reply);
     Ok(reply)
+}
+
+/// The bytes of an ask's control request.
+fn request_of(alloc: Global, ask: Ask) -> Result<Vec<u8>, Mem>
+    ensures { IfOk result (λ request. request.items ≡ written_action (action_of ask) control_url) }
+{
+    let url = control_url(alloc)?;
+    let mut request = Vec::new(alloc);
+    Replica::ask_bytes(&ask, &url, &mut request)?;
+    Ok(request)
 }
 
 /// What a server replies to the bytes of an ask's control request.

@@ -1,5 +1,5 @@
 /// What the last turn of a session was.
-#[derive(Clone, Copy, Drop, Debug, PartialEq, Eq)]
+#[derive(Clone, Copy, Drop)]
 pub enum Last {
     /// No turn came yet.
     NoTurn,

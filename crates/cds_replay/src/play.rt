@@ -2,7 +2,7 @@
 
 ghost use Rattle.std.specs.Prelude.{◌≡◌, ℕ, ◌+◌, ◌-◌, ◌<◌, ◌≤◌, ◌++◌, ◌⊎◌, [], ◌∷◌, List, true, Option, Some, None, length, take, drop, IfOk, IfErr, OnOk, OnErr};
 ghost use Rattle.cds_base.specs.declared.limits.TheConstants.{INPUT_LIMIT};
-ghost use Rattle.cds_base.specs.Outside.{raised, Rose, WhereTold};
+ghost use Rattle.cds_base.specs.Outside.{raised, Rose, Told};
 ghost use Rattle.cds_script.specs.Lines.{is_unbroken, line_limit, script_limit};
 ghost use Rattle.cds_script.specs.Report.{outside_ending, script_ending};
 ghost use Rattle.cds_script.specs.Complete.{AnswersAreComplete};
@@ -67,17 +67,17 @@ pub fn replay<S: Source, K: Sink>(
     source: &mut S,
     sink: &mut K,
 ) -> Result<(), ReplayError>
-    ensures ok_status { OnOk result (WhereTold (S.left source.old) (λ script. (script_ending script).status ≡ 0)) }
-    ensures ok_report { OnOk result (WhereTold (S.left source.old) (λ script. Holds (K.holds sink.old) (script_ending script).text (K.holds sink.new))) }
-    ensures ok_end { OnOk result (WhereTold (S.left source.old) (λ script. S.left source.new ≡ Some [])) }
+    ensures ok_status { OnOk result (Told (S.left source.old) (λ script. (script_ending script).status ≡ 0)) }
+    ensures ok_report { OnOk result (Told (S.left source.old) (λ script. Holds (K.holds sink.old) (script_ending script).text (K.holds sink.new))) }
+    ensures ok_end { OnOk result (Told (S.left source.old) (λ script. S.left source.new ≡ Some [])) }
     ensures ok_moved { OnOk result (S.moved source.new ≤ raised (S.moved source.old) INPUT_LIMIT) }
-    ensures line_status { IfErr result (λ e. OnLine e (λ line. WhereTold (S.left source.old) (λ script. (script_ending script).status ≡ 1))) }
-    ensures line_report { IfErr result (λ e. OnLine e (λ line. WhereTold (S.left source.old)
+    ensures line_status { IfErr result (λ e. OnLine e (λ line. Told (S.left source.old) (λ script. (script_ending script).status ≡ 1))) }
+    ensures line_report { IfErr result (λ e. OnLine e (λ line. Told (S.left source.old)
         (λ script. Holds (K.holds sink.old) (script_ending script).text (K.holds sink.new)))) }
-    ensures line_number { IfErr result (λ e. OnLine e (λ line. WhereTold (S.left source.old)
+    ensures line_number { IfErr result (λ e. OnLine e (λ line. Told (S.left source.old)
         (λ script. (front : List ℕ) × ((script_ending script).text ≡ front ++ (outside_ending line).text)))) }
-    ensures limit_status { IfErr result (λ e. OnLimit e (WhereTold (S.left source.old) (λ script. (script_ending script).status ≡ 6))) }
-    ensures limit_report { IfErr result (λ e. OnLimit e (WhereTold (S.left source.old)
+    ensures limit_status { IfErr result (λ e. OnLimit e (Told (S.left source.old) (λ script. (script_ending script).status ≡ 6))) }
+    ensures limit_report { IfErr result (λ e. OnLimit e (Told (S.left source.old)
         (λ script. Holds (K.holds sink.old) (script_ending script).text (K.holds sink.new)))) }
     ensures limit_moved { IfErr result (λ e. OnLimit e (raised (S.moved source.old) (line_limit + 1) ≤ S.moved source.new)) }
     ensures never_refused { IfErr result (λ e. OnRefused e (λ line. ⊥)) }
@@ -86,10 +86,10 @@ pub fn replay<S: Source, K: Sink>(
     ensures taken { S.moved source.new ≤ S.moved source.old + (INPUT_LIMIT + 1) }
     ensures source_faults { S.faults source.old ≤ S.faults source.new }
     ensures sink_faults { K.faults sink.old ≤ K.faults sink.new }
-    ensures turns { WhereTold (S.left source.old) (λ script. IsReportOf (script_turns script) (script_stop script) (script_ending script)) }
-    ensures load_bound { WhereTold (S.left source.old) (λ script. BoundsLoads (script_turns script)) }
-    ensures stands { WhereTold (S.left source.old) (λ script. StandsAtScanEnds (script_turns script)) }
-    ensures complete { WhereTold (S.left source.old) (λ script. AnswersAreComplete (script_turns script)) }
+    ensures turns { Told (S.left source.old) (λ script. IsReportOf (script_turns script) (script_stop script) (script_ending script)) }
+    ensures load_bound { Told (S.left source.old) (λ script. BoundsLoads (script_turns script)) }
+    ensures stands { Told (S.left source.old) (λ script. StandsAtScanEnds (script_turns script)) }
+    ensures complete { Told (S.left source.old) (λ script. AnswersAreComplete (script_turns script)) }
 {
     cds_script::laws::script_turns_may_be();
     cds_script::laws::reports_are_of_turns();
@@ -113,17 +113,17 @@ pub fn replay_by<S: Source, K: Sink, W: Wire>(
     sink: &mut K,
     wire: &W,
 ) -> Result<(), ReplayError>
-    ensures ok { OnOk result (WhereTold (S.left source.old) (λ script. OnWire (W.carried wire.now) script (Reports None 0 (K.holds sink.old) (K.holds sink.new)))) }
-    ensures ok_end { OnOk result (WhereTold (S.left source.old) (λ script. S.left source.new ≡ Some [])) }
+    ensures ok { OnOk result (Told (S.left source.old) (λ script. OnWire (W.carried wire.now) script (Reports None 0 (K.holds sink.old) (K.holds sink.new)))) }
+    ensures ok_end { OnOk result (Told (S.left source.old) (λ script. S.left source.new ≡ Some [])) }
     ensures ok_moved { OnOk result (S.moved source.new ≤ raised (S.moved source.old) INPUT_LIMIT) }
-    ensures line_report { IfErr result (λ e. OnLine e (λ line. WhereTold (S.left source.old)
+    ensures line_report { IfErr result (λ e. OnLine e (λ line. Told (S.left source.old)
         (λ script. OnWire (W.carried wire.now) script (Reports None 1 (K.holds sink.old) (K.holds sink.new))))) }
-    ensures line_number { IfErr result (λ e. OnLine e (λ line. WhereTold (S.left source.old)
+    ensures line_number { IfErr result (λ e. OnLine e (λ line. Told (S.left source.old)
         (λ script. OnWire (W.carried wire.now) script (EndsWith (outside_ending line).text)))) }
-    ensures limit_report { IfErr result (λ e. OnLimit e (WhereTold (S.left source.old)
+    ensures limit_report { IfErr result (λ e. OnLimit e (Told (S.left source.old)
         (λ script. OnWire (W.carried wire.now) script (Reports None 6 (K.holds sink.old) (K.holds sink.new))))) }
     ensures limit_moved { IfErr result (λ e. OnLimit e (raised (S.moved source.old) (line_limit + 1) ≤ S.moved source.new)) }
-    ensures refused_report { IfErr result (λ e. OnRefused e (λ line. WhereTold (S.left source.old)
+    ensures refused_report { IfErr result (λ e. OnRefused e (λ line. Told (S.left source.old)
         (λ script. OnWire (W.carried wire.now) script (Reports (Some line) 0 (K.holds sink.old) (K.holds sink.new))))) }
     ensures straight { ((bytes : List ℕ) → W.carried wire.now bytes ≡ bytes) → IfErr result (λ e. OnRefused e (λ line. ⊥)) }
     ensures read_fault { IfErr result (λ e. OnReadFault e (Rose (S.faults source.old) (S.faults source.new))) }
@@ -131,12 +131,12 @@ pub fn replay_by<S: Source, K: Sink, W: Wire>(
     ensures taken { S.moved source.new ≤ S.moved source.old + (INPUT_LIMIT + 1) }
     ensures source_faults { S.faults source.old ≤ S.faults source.new }
     ensures sink_faults { K.faults sink.old ≤ K.faults sink.new }
-    ensures asks { WhereTold (S.left source.old) (λ script. (ending : WiredEnding) → EndsOver (W.carried wire.now) script ending → AsksShow ending.steps) }
-    ensures once { WhereTold (S.left source.old) (λ script. (one other : WiredEnding) → EndsOver (W.carried wire.now) script one →
+    ensures asks { Told (S.left source.old) (λ script. (ending : WiredEnding) → EndsOver (W.carried wire.now) script ending → AsksShow ending.steps) }
+    ensures once { Told (S.left source.old) (λ script. (one other : WiredEnding) → EndsOver (W.carried wire.now) script one →
         EndsOver (W.carried wire.now) script other → one ≡ other) }
-    ensures reported { WhereTold (S.left source.old) (λ script. (ending : WiredEnding) → EndsOver (W.carried wire.now) script ending →
+    ensures reported { Told (S.left source.old) (λ script. (ending : WiredEnding) → EndsOver (W.carried wire.now) script ending →
         IsReported (W.carried wire.now) script ending) }
-    ensures straight_report { ((bytes : List ℕ) → W.carried wire.now bytes ≡ bytes) → WhereTold (S.left source.old)
+    ensures straight_report { ((bytes : List ℕ) → W.carried wire.now bytes ≡ bytes) → Told (S.left source.old)
         (λ script. (ending : WiredEnding) → EndsOver (W.carried wire.now) script ending → IsTheScripts script ending) }
 {
     crate::wire_laws::asks_write_what_was_left();

@@ -18,8 +18,7 @@ fn put_numbered_line(out: &mut String, word: &str, number: u64) -> Result<(), Me
 {
     put(out, word)?;
     put_number(out, number)?;
-    put(out, "\n")?;
-    Ok(())
+    put(out, "\n")
 }
 
 /// Whether a scan was answered: memory did not run out.
@@ -84,8 +83,7 @@ fn put_copy(out: &mut String, number: u32, rows: &[CopyRow]) -> Result<(), Mem>
     ensures { OnOk result (string_bytes out.new ≡ string_bytes out.old ++ stands_text number (known_rows rows.now)) }
 {
     put_numbered_line(out, "stands ", u64::from(number))?;
-    put_rows(out, rows)?;
-    Ok(())
+    put_rows(out, rows)
 }
 
 /// Puts the rows of which it is known what they say, in their order, each ended by LF.
@@ -113,8 +111,7 @@ fn put_row(out: &mut String, row: &Row) -> Result<(), Mem>
     ensures { OnOk result (string_bytes out.new ≡ string_bytes out.old ++ (fragment row.now ++ 10 ∷ [])) }
 {
     put_fragment(out, row)?;
-    put(out, "\n")?;
-    Ok(())
+    put(out, "\n")
 }
 
 /// Puts a line for each note that was sent, from a place on that is counted from 0.
@@ -137,8 +134,7 @@ fn put_note(out: &mut String, number: u64, head: SentHead) -> Result<(), Mem>
     put_number(out, number)?;
     put(out, " seq ")?;
     put_number(out, u64::from(head.seq))?;
-    put_numbered_line(out, " at ", u64::from(head.number))?;
-    Ok(())
+    put_numbered_line(out, " at ", u64::from(head.number))
 }
 
 /// Puts what became of the note of a number. Want of memory is no answer, nor is what no note of a script is answered, and
@@ -154,8 +150,7 @@ pub fn put_delivered(
     put_number(out, number)?;
     put(out, " ")?;
     put_taken(out, answer)?;
-    put(out, "\n")?;
-    Ok(())
+    put(out, "\n")
 }
 
 /// Puts the word of what became of a note.
@@ -178,8 +173,7 @@ fn put_numbered(out: &mut String, word: &str, number: u64) -> Result<(), Mem>
     ensures { OnOk result (string_bytes out.new ≡ string_bytes out.old ++ (word.now ++ decimal number)) }
 {
     put(out, word)?;
-    put_number(out, number)?;
-    Ok(())
+    put_number(out, number)
 }
 
 /// Whether a note was answered: memory did not run out.

@@ -21,7 +21,7 @@ use std::mem::replace;
 const LINE_LIMIT: usize = 4_096;
 
 /// Why a script ends before its last byte.
-#[derive(Clone, Copy, Debug, PartialEq, Eq)]
+#[derive(Clone, Copy)]
 pub enum Stop {
     /// The line of this number, counted from 1, is outside the grammar.
     Outside { line: u32 },

@@ -14,14 +14,14 @@ use std::alloc::Global;
 use std::marker::Model;
 
 /// What a script writes of a note: its SEQ and its SystemUpdateID.
-#[derive(Clone, Copy, Debug)]
+#[derive(Clone, Copy)]
 pub struct SentHead {
     pub seq: u32,
     pub number: u32,
 }
 
 /// Where a note goes, the number that it tells, and the place of its body.
-#[derive(Drop, Debug)]
+#[derive(Drop)]
 pub struct KeptNote {
     pub to: Address,
     pub number: u32,
@@ -30,7 +30,7 @@ pub struct KeptNote {
 
 /// All notes that were sent, the oldest first, and each of their bodies once. Contracts see the list of the notes with their
 /// bodies.
-#[derive(Drop, Debug)]
+#[derive(Drop)]
 pub struct Sent {
     notes: Vec<KeptNote>,
     bodies: Vec<Bytes>,

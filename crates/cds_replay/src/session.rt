@@ -211,7 +211,7 @@ impl Session {
         if !was_answered(&answer) {
             return Err(Mem);
         }
-        self.found = FoundList::new(alloc);
+        drop(replace(&mut self.found, FoundList::new(alloc)));
         self.last = Last::Other;
         put_scan(out, answer)
     }
@@ -259,7 +259,8 @@ impl Session {
         requires { self.old.last ≡ NoTurn }
         ensures after { (steps : List Step) → IsAfter self.old steps → OnOk result (IsAfter self.new (quiet (First number) ∷ steps)) }
     {
-        self.server = Server::new(alloc, BOOT, number)?;
+        let server = Server::new(alloc, BOOT, number)?;
+        drop(replace(&mut self.server, server));
         self.last = Last::Other;
         Ok(())
     }
@@ -303,7 +304,7 @@ impl Session {
         let number = self.server.system_update_id();
         self.sent.send_granted(alloc, note, number)?;
         let held = Bytes::from(reply);
-        self.reply = Some(held);
+        drop(replace(&mut self.reply, Some(held)));
         self.last = Last::Other;
         put_notes(out, &self.sent, sent)
     }

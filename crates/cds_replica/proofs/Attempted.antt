@@ -3,13 +3,12 @@ use Rattle.std.proofs.Common.{◌≡◌, inl, inr, ◌+◌, ℕ, Bool, true, fal
 use Rattle.std.specs.Prelude.{IfSome, option_copied, slice_get}
 use Rattle.std.specs.List.{AllByRecursion}
 use Rattle.cds_object.specs.Object.{ObjectRow}
-use Rattle.cds_event.specs.declared.Event.{Event}
+use Rattle.cds_object.specs.declared.event.Event.{Event}
 use Rattle.cds_load.specs.Attempts.{Verdict, CannotBe as CannotCome, verdict_of, attempt_of, says_by, ShowsRows}
-use Rattle.cds_load.specs.Stages.{Held, Idle, Begun, HasToken, HasNumber, HasRoot, Lists, HasPage, HasCopy, Taken, Holds, Unreadable as NotReadable, Torn as CannotBe, Shows as LoadShows, held_after, held_by, taken, next_ask as load_ask, says as load_says, copied as load_copied}
+use Rattle.cds_load.specs.Stages.{Held, Idle, Begun, HasToken, HasNumber, HasRoot, Lists, HasPage, HasCopy, Taken, Holds, Unreadable as NotReadable, Torn as CannotBe, Shows as LoadShows, held_after, held_by, taken, next_ask as load_ask, says as load_says, copied as load_copied, BehindLoad as LoadRuns, Stands as LoadStands}
 use Rattle.cds_load.specs.declared.exchange.Ask.{Ask}
 use Rattle.cds_load.specs.declared.exchange.Read.{Read}
 use Rattle.cds_load.specs.declared.exchange.Shown.{Shown}
-use Rattle.cds_load.specs.Stages.{BehindLoad as LoadRuns, Stands as LoadStands}
 use Rattle.cds_follow.specs.Copy.{KnownRow, Happening, rows_after, least_unread, read_up_to}
 use Rattle.cds_follow.specs.Inbox.{ReplicaTurn}
 use Rattle.cds_follow.specs.Follow.{Known, position, Outcome, Knows, CannotBeRead, Jumps, Tears, first_torn, judged, counted_from, load_ended, loaded, with_reply, known_by, next_ask, ask_of, copy_says, says_without_gap, says_of, says, copied}
@@ -29,7 +28,7 @@ use Rattle.cds_follow.proofs.Seen.{copies-shown}
 use Rattle.cds_load.proofs.Traces.{asks-of_attempts, refusals-of_attempts, answers-of_attempts, copies-of_attempts}
 use Rattle.cds_replica.specs.declared.error.AnswerError.{AnswerError}
 use Rattle.cds_replica.specs.declared.error.AnswerError.TheVariants.{Unreadable, Jump, Torn, Mem}
-use Rattle.cds_event.specs.Events.{update_of}
+use Rattle.cds_object.specs.Events.{update_of}
 
 -- ---- the next ask
 

@@ -4,7 +4,7 @@ use Rattle.std.specs.Prelude.{reverse}
 use Rattle.std.specs.Option.{option_map}
 use Rattle.std.specs.List.{filter_map}
 use Rattle.cds_object.specs.Object.{ObjectRow}
-use Rattle.cds_event.specs.declared.Event.{Event}
+use Rattle.cds_object.specs.declared.event.Event.{Event}
 use Rattle.cds_load.specs.Stages.{Held, Idle, Begun, HasToken, HasNumber, HasRoot, Lists, HasPage, HasCopy, Taken, Holds, Unreadable as NotReadable, Torn as CannotBe, taken}
 use Rattle.cds_load.specs.declared.exchange.Ask.TheVariants.{Metadata}
 use Rattle.cds_load.specs.declared.exchange.Shown.{Shown}
@@ -23,7 +23,7 @@ use Rattle.cds_replica.proofs.Inboxed.{missing-kept}
 use Rattle.cds_replica.proofs.KeptCounts.{count-kept, known-copied, can-same, read-copied}
 use Rattle.cds_replica.proofs.KeptTurns.{SoundHeld, SoundKnown, SoundTaken, taken-sound, above-filter, new-above, turns-sound}
 use Rattle.cds_replica.proofs.KeptUnread.{least-kept}
-use Rattle.cds_event.specs.Events.{update_of}
+use Rattle.cds_object.specs.Events.{update_of}
 
 -- ---- changes are counted
 

@@ -2,8 +2,8 @@
 use Rattle.std.proofs.Common.{◌≡◌, ◌+◌, ◌<◌, ℕ, max, Bool, true, false, cond, not, ◌||◌, nat_eq, List, [], ◌∷◌, ◌++◌, map, Option, Some, None, refl, sym, ap, ◌∙◌, subst, true≢false, eqb-true, append_assoc, arith}
 use Rattle.std.proofs.lemmas.List.{reverse-append}
 use Rattle.cds_object.specs.Object.{ObjectRow}
-use Rattle.cds_event.specs.declared.Event.{Event}
-use Rattle.cds_event.specs.declared.Event.TheVariants.{ObjAdd, ObjMod, ObjDel, StDone}
+use Rattle.cds_object.specs.declared.event.Event.{Event}
+use Rattle.cds_object.specs.declared.event.Event.TheVariants.{ObjAdd, ObjMod, ObjDel, StDone}
 use Rattle.cds_catalog.proofs.StepsFind.{none≢some}
 use Rattle.cds_follow.specs.Copy.{KnownRow, known_of, knows, knows_container, cannot_be, changed, Happening, Changes, Reads, rows_after, read_up_to}
 use Rattle.cds_follow.specs.Follow.{Known, Knows, Jumps, first_torn, judged, counted_from, is_of}
@@ -13,7 +13,7 @@ use Rattle.cds_replica.specs.CopyState.{KeptRow, IsSound, AreAbove, kept_row, co
 use Rattle.cds_replica.specs.CopySteps.{rows_changed_by, cannot_come, first_cannot, Counts, Leaps, judged_count, count_from, count_of, version_of, copy_read, can_be_of}
 use Rattle.cds_replica.proofs.KeptIds.{root-stays, root-stands, distinct-after}
 use Rattle.cds_replica.proofs.KeptSteps.{rows-of, change-kept, read-kept}
-use Rattle.cds_event.specs.Events.{update_of, object_of}
+use Rattle.cds_object.specs.Events.{update_of, object_of}
 
 -- ---- several changes
 

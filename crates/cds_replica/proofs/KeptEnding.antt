@@ -8,7 +8,7 @@ use Rattle.std.proofs.lemmas.List.{map-append}
 use Rattle.std.proofs.lemmas.List.Elements.{filter_map-append}
 use Rattle.cds_object.specs.Object.{ObjectRow}
 use Rattle.cds_object.specs.declared.row.Trackers.{Trackers}
-use Rattle.cds_event.specs.declared.Event.{Event}
+use Rattle.cds_object.specs.declared.event.Event.{Event}
 use Rattle.cds_load.specs.Stages.{Lists, HasCopy, Waiting, Listing as Progress, put_by, puts_by, put_rows, put_containers, waiting_of, others_waiting, listed}
 use Rattle.cds_commands.specs.Notes.{changes_above}
 use Rattle.cds_replica.specs.CopyState.{KeptRow, KeptCopy, copy_of, bare_rows}
@@ -21,7 +21,7 @@ use Rattle.cds_replica.specs.declared.count_error.CountError.TheVariants.{Jump}
 use Rattle.cds_replica.proofs.Placing.{puts_by-append}
 use Rattle.cds_replica.proofs.KeptOutlines.{outlined-cannot}
 use Rattle.cds_replica.proofs.KeptLoops.{count-torn, count-counts, no-root}
-use Rattle.cds_event.specs.Events.{update_of}
+use Rattle.cds_object.specs.Events.{update_of}
 
 -- ---- rows that a load has read
 

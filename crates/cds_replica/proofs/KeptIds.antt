@@ -3,8 +3,8 @@ use Rattle.std.proofs.Common.{◌≡◌, ℕ, Bool, true, false, cond, not, ◌&
 use Rattle.std.specs.Option.{option_map, option_eq}
 use Rattle.cds_object.specs.Object.{ObjectRow}
 use Rattle.cds_object.specs.declared.row.Trackers.{Trackers}
-use Rattle.cds_event.specs.declared.Event.{Event}
-use Rattle.cds_event.specs.declared.Event.TheVariants.{ObjAdd, ObjMod, ObjDel, StDone}
+use Rattle.cds_object.specs.declared.event.Event.{Event}
+use Rattle.cds_object.specs.declared.event.Event.TheVariants.{ObjAdd, ObjMod, ObjDel, StDone}
 use Rattle.cds_follow.specs.Copy.{Version, KnownRow, knows, knows_container, knows_child, counted, parent_in, added_row, put_known, cannot_be, changed, counts_addition, counts_modification, counts_deletion, newer, read_anew, Happening, Changes, Reads, rows_after}
 use Rattle.cds_replica.specs.CopyState.{AreDistinct, IsSound}
 

@@ -5,8 +5,8 @@ use Rattle.std.proofs.Math.ListN.{set}
 use Rattle.std.proofs.lemmas.List.{take-append-drop, take-set, drop-set, drop_more}
 use Rattle.std.proofs.lemmas.List.Edits.{map_over_more}
 use Rattle.std.specs.List.{AllByRecursion}
-use Rattle.cds_event.specs.declared.Event.{Event}
-use Rattle.cds_event.specs.declared.Event.TheVariants.{ObjAdd, ObjMod, ObjDel, StDone}
+use Rattle.cds_object.specs.declared.event.Event.{Event}
+use Rattle.cds_object.specs.declared.event.Event.TheVariants.{ObjAdd, ObjMod, ObjDel, StDone}
 use Rattle.cds_catalog.proofs.StepsFind.{none≢some}
 use Rattle.cds_follow.specs.Copy.{Version, KnownRow, changed, cannot_be}
 use Rattle.cds_replica.specs.CopyState.{KeptRow, KeptCopy, bare_rows}
@@ -15,7 +15,7 @@ use Rattle.cds_replica.specs.Outlines.{outlines_of, outlines_cannot}
 use Rattle.cds_replica.specs.declared.outline.Outline.{Outline}
 use Rattle.cds_replica.specs.declared.count_error.CountError.TheVariants.{Jump}
 use Rattle.cds_replica.proofs.KeptOutlines.{outlined-cannot}
-use Rattle.cds_event.specs.Events.{update_of, object_of}
+use Rattle.cds_object.specs.Events.{update_of, object_of}
 
 -- a loop that changes each item of a list in its place
 pub one_more_changed : {X : Type 0} (f : X → X) (xs ys : List X) (i : ℕ) (x : X) → i < length xs →

@@ -2,15 +2,15 @@
 use Rattle.std.proofs.Common.{◌≡◌, ℕ, Bool, true, false, cond, not, ◌&&◌, ◌||◌, nat_eq, nat_lt, List, [], ◌∷◌, map, filter, Option, Some, refl, sym, ap, ◌∙◌}
 use Rattle.std.specs.Option.{option_map, option_eq}
 use Rattle.cds_object.specs.declared.row.Trackers.{Trackers}
-use Rattle.cds_event.specs.declared.Event.{Event}
-use Rattle.cds_event.specs.declared.Event.TheVariants.{ObjAdd, ObjMod, ObjDel, StDone}
+use Rattle.cds_object.specs.declared.event.Event.{Event}
+use Rattle.cds_object.specs.declared.event.Event.TheVariants.{ObjAdd, ObjMod, ObjDel, StDone}
 use Rattle.cds_load.specs.Stages.{put_by}
 use Rattle.cds_follow.specs.Copy.{KnownRow, knows, knows_container, knows_child, counted, parent_in, added_row, put_known, changed, counts_addition, counts_modification, counts_deletion}
 use Rattle.cds_replica.specs.CopyState.{KeptRow}
 use Rattle.cds_replica.specs.CopySteps.{cannot_come, first_cannot}
 use Rattle.cds_replica.specs.Outlines.{outline_of, outlines_of, outline_id, has_object, has_container, has_child, outline_cannot, outlines_changed, outlines_cannot}
 use Rattle.cds_replica.specs.declared.outline.Outline.{Outline}
-use Rattle.cds_event.specs.Events.{object_of}
+use Rattle.cds_object.specs.Events.{object_of}
 
 has-object : (id : ℕ) (rows : List KnownRow) → has_object id (map outline_of rows) ≡ knows id rows
 has-object id [] = refl

@@ -4,9 +4,9 @@ use Rattle.std.specs.List.{filter_map, cons_option}
 use Rattle.std.specs.Option.{option_map, option_eq}
 use Rattle.cds_object.specs.Object.{ObjectRow}
 use Rattle.cds_object.specs.declared.row.Trackers.{Trackers}
-use Rattle.cds_event.specs.declared.Class.{Class}
-use Rattle.cds_event.specs.declared.Event.{Event}
-use Rattle.cds_event.specs.declared.Event.TheVariants.{ObjAdd, ObjMod, ObjDel, StDone}
+use Rattle.cds_object.specs.declared.event.Class.{Class}
+use Rattle.cds_object.specs.declared.event.Event.{Event}
+use Rattle.cds_object.specs.declared.event.Event.TheVariants.{ObjAdd, ObjMod, ObjDel, StDone}
 use Rattle.cds_load.specs.Stages.{put_by}
 use Rattle.cds_follow.specs.Copy.{Version, KnownRow, knows, knows_container, counted, parent_in, added_row, put_known, changed, counts_addition, counts_modification, counts_deletion, newer, read_anew, Happening, Changes, Reads, rows_after, marks, since_deletion}
 use Rattle.cds_replica.specs.CopyState.{KeptRow, AreDistinct, IsSound, kept_id, greatest, shows, wanted_at, shown_at, kept_row}

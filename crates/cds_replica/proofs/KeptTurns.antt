@@ -4,7 +4,7 @@ use Rattle.std.proofs.Common.{◌≡◌, ◌+◌, ◌-◌, ◌≤◌, ℕ, max, 
 use Rattle.std.specs.List.{list_all, list_any}
 use Rattle.cds_object.specs.Object.{ObjectRow, is_folder}
 use Rattle.cds_object.specs.Tree.{is_child_of}
-use Rattle.cds_event.specs.declared.Event.{Event}
+use Rattle.cds_object.specs.declared.event.Event.{Event}
 use Rattle.cds_load.specs.Stages.{Held, Idle, Begun, HasToken, HasNumber, HasRoot, Lists, HasPage, HasCopy, Listing, Waiting, listing_of, listed_id, listed_children, all_new, known_ids, fits, put_by, put_rows, put_containers, others_waiting, listed, after_page, Taken, Holds, Unreadable, Torn, taken, page_taken, root_taken}
 use Rattle.cds_load.specs.Server.{page_size}
 use Rattle.cds_load.specs.declared.exchange.Shown.{Shown}
@@ -19,7 +19,7 @@ use Rattle.cds_replica.proofs.KeptIds.{swapped-eq, knows-put, distinct-put}
 use Rattle.cds_replica.specs.CopySteps.{count_of}
 use Rattle.cds_replica.specs.Ended.{end_count}
 use Rattle.cds_replica.proofs.KeptCounts.{count-kept, count-sound, read-sound}
-use Rattle.cds_event.specs.Events.{update_of, is_change}
+use Rattle.cds_object.specs.Events.{update_of, is_change}
 
 -- ---- the rows of a load
 

@@ -3,7 +3,7 @@ use Rattle.std.proofs.Common.{◌≡◌, ◌⊎◌, inl, inr, ◌<◌, ◌≤◌
 use Rattle.std.specs.List.{AllByRecursion, list_any, filter_map, cons_option}
 use Rattle.std.proofs.lemmas.Bool.{cases_lt, leb-true, leb-false, le-leb, lt-leb, ltb-true, lt-ltb, le-ltb}
 use Rattle.cds_object.specs.Object.{ObjectRow}
-use Rattle.cds_event.specs.declared.Event.TheVariants.{ObjAdd, ObjMod, ObjDel, StDone}
+use Rattle.cds_object.specs.declared.event.Event.TheVariants.{ObjAdd, ObjMod, ObjDel, StDone}
 use Rattle.cds_catalog.proofs.StepsFind.{none≢some}
 use Rattle.cds_follow.specs.Copy.{KnownRow, knows, Happening, Changes, Reads, rows_after, marks, shows_from, since_deletion, is_unread, named, least, least_unread}
 use Rattle.cds_replica.specs.CopyState.{IsSound, kept_id, greatest, shows, wanted_at, shown_at, kept_row, copy_of, is_wanted, lesser_of, least_wanted}

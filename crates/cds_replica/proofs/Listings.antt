@@ -1,7 +1,7 @@
 -- How a listing goes on with a page, and how a load ends with one.
 use Rattle.std.proofs.Common.{◌≡◌, ℕ, Bool, true, false, cond, ◌&&◌, nat_eq, List, [], ◌∷◌, ◌++◌, length, drop, Err, refl, sym, ap, ◌∙◌, subst, true≢false}
 use Rattle.cds_object.specs.Object.{ObjectRow}
-use Rattle.cds_event.specs.declared.Event.{Event}
+use Rattle.cds_object.specs.declared.event.Event.{Event}
 use Rattle.cds_load.specs.Stages.{Lists, HasCopy, Waiting, Listing as Progress, put_rows, put_containers, others_waiting, listed, listed_children, after_page}
 use Rattle.cds_replica.specs.CopySteps.{Count}
 use Rattle.cds_replica.specs.Ended.{end_count, whole_rows, is_end, IsRefusal}

@@ -5,7 +5,7 @@ use Rattle.std.specs.Borrow.{Bor}
 use Rattle.std.specs.List.{filter_map, cons_option, range_with_len}
 use Rattle.std.proofs.lemmas.Bool.{cases_lt}
 use Rattle.std.proofs.lemmas.List.{append-nil, drop_more, drop_all}
-use Rattle.cds_event.specs.declared.Event.{Event}
+use Rattle.cds_object.specs.declared.event.Event.{Event}
 use Rattle.cds_commands.specs.Notes.{Note, note_of, notes_from_to, changes_above}
 use Rattle.cds_follow.specs.Inbox.{has_seq}
 use Rattle.cds_follow.specs.Follow.{new_changes, greatest_of}

@@ -3,11 +3,10 @@
 use Rattle.std.specs.Prelude.{◌≡◌, ◌⊎◌, ℕ, true, false, List, ◌∷◌, Option, None, Result, Ok, Err}
 use Rattle.std.specs.Option.{option_and_then}
 use Rattle.cds_load.specs.Attempts.{Verdict, Fine, CannotBeRead, CannotBe, attempt_of, ask_in, verdict_by, says_by, copied_by, ShowsRows}
-use Rattle.cds_load.specs.Stages.{Shows as LoadShows}
+use Rattle.cds_load.specs.Stages.{Shows as LoadShows, BehindLoad as LoadRuns, Stands as LoadStands}
 use Rattle.cds_load.specs.declared.exchange.Ask.{Ask}
 use Rattle.cds_load.specs.declared.exchange.Read.{Read}
 use Rattle.cds_load.specs.declared.exchange.Shown.{Shown}
-use Rattle.cds_load.specs.Stages.{BehindLoad as LoadRuns, Stands as LoadStands}
 use Rattle.cds_follow.specs.Copy.{KnownRow, rows_after}
 use Rattle.cds_follow.specs.Inbox.{ReplicaTurn, missing}
 use Rattle.cds_follow.specs.Follow.{Outcome, Jumps, Tears, load_ended, known_by}

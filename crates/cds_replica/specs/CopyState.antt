@@ -3,9 +3,9 @@
 use Rattle.std.specs.Prelude.{◌≡◌, ◌<◌, ℕ, Bool, true, false, cond, nat_eq, nat_lt, max, min, List, [], ◌∷◌, map, filter, Option, Some, None}
 use Rattle.std.specs.List.{AllByRecursion, filter_map}
 use Rattle.cds_object.specs.Object.{ObjectRow, is_folder}
-use Rattle.cds_event.specs.declared.Event.{Event}
+use Rattle.cds_object.specs.declared.event.Event.{Event}
 use Rattle.cds_follow.specs.Copy.{KnownRow, known_row, Happening, Changes, Reads, rows_after, cannot_be, knows, marks, since_deletion, least, read_up_to}
-use Rattle.cds_event.specs.Events.{update_of, is_change}
+use Rattle.cds_object.specs.Events.{update_of, is_change}
 
 -- a row of a copy; the greatest number at which a change added or modified its object since the object's last deletion; and
 -- the greatest version of it that a read showed since then. Where there is none it is 0

@@ -5,9 +5,9 @@ use Rattle.std.specs.Option.{option_map, option_eq}
 use Rattle.cds_object.specs.Object.{ObjectRow, is_folder}
 use Rattle.cds_object.specs.declared.content.Content.{Content}
 use Rattle.cds_object.specs.declared.row.Trackers.{Trackers}
-use Rattle.cds_event.specs.declared.Class.{Class}
-use Rattle.cds_event.specs.declared.Event.{Event}
-use Rattle.cds_event.specs.declared.Event.TheVariants.{ObjAdd, ObjMod, ObjDel, StDone}
+use Rattle.cds_object.specs.declared.event.Class.{Class}
+use Rattle.cds_object.specs.declared.event.Event.{Event}
+use Rattle.cds_object.specs.declared.event.Event.TheVariants.{ObjAdd, ObjMod, ObjDel, StDone}
 use Rattle.cds_load.specs.Stages.{put_by}
 use Rattle.cds_follow.specs.Copy.{Version, KnownRow, known_row, known_of, parent_in, counts_addition, counts_modification, counts_deletion, added_row, changed, cannot_be, newer}
 use Rattle.cds_follow.specs.Follow.{Outcome, Knows, CannotBeRead, Jumps, Tears as Cannot, is_of}
@@ -16,7 +16,7 @@ use Rattle.cds_replica.specs.declared.copy_row.ChildChange.{ChildChange}
 use Rattle.cds_replica.specs.declared.copy_row.ChildChange.TheVariants.{Added, Modified, Deleted}
 use Rattle.cds_replica.specs.declared.count_error.CountError.{CountError}
 use Rattle.cds_replica.specs.declared.count_error.CountError.TheVariants.{Jump, Torn, Mem}
-use Rattle.cds_event.specs.Events.{update_of, is_container, object_of}
+use Rattle.cds_object.specs.Events.{update_of, is_container, object_of}
 
 -- a row that a load has read
 abbrev pub loaded_row : ObjectRow → KeptRow

@@ -3,7 +3,7 @@ use Rattle.std.specs.Prelude.{◌≡◌, ◌+◌, ◌≤◌, ◌&&◌, ℕ, Bool
 use Rattle.std.specs.List.{AllByRecursion, list_any}
 use Rattle.std.specs.Global.{Vec}
 use Rattle.cds_object.specs.Object.{ObjectRow}
-use Rattle.cds_event.specs.declared.Event.{Event}
+use Rattle.cds_object.specs.declared.event.Event.{Event}
 use Rattle.cds_load.specs.Stages.{Listing as Progress, put_rows}
 use Rattle.cds_commands.specs.Notes.{changes_above}
 use Rattle.cds_replica.specs.CopyState.{copy_of}

@@ -1,6 +1,6 @@
 -- What notes that are taken one after the other tell.
 use Rattle.std.specs.Prelude.{ℕ, Bool, false, nat_lt, max, List, [], ◌++◌, Option, Some, None}
-use Rattle.cds_event.specs.declared.Event.{Event}
+use Rattle.cds_object.specs.declared.event.Event.{Event}
 use Rattle.cds_commands.specs.Notes.{Note, changes_above}
 use Rattle.cds_follow.specs.Follow.{new_changes, greatest_of}
 

@@ -3,13 +3,13 @@ use Rattle.std.specs.Prelude.{◌&&◌, ◌||◌, ℕ, Bool, false, cond, not, n
 use Rattle.std.specs.List.{list_any}
 use Rattle.std.specs.Option.{option_eq}
 use Rattle.cds_object.specs.Object.{ObjectRow, is_folder}
-use Rattle.cds_event.specs.declared.Event.{Event}
-use Rattle.cds_event.specs.declared.Event.TheVariants.{ObjAdd, ObjMod, ObjDel, StDone}
+use Rattle.cds_object.specs.declared.event.Event.{Event}
+use Rattle.cds_object.specs.declared.event.Event.TheVariants.{ObjAdd, ObjMod, ObjDel, StDone}
 use Rattle.cds_load.specs.Stages.{put_by}
 use Rattle.cds_follow.specs.Copy.{KnownRow}
 use Rattle.cds_replica.specs.CopyState.{KeptRow}
 use Rattle.cds_replica.specs.declared.outline.Outline.{Outline}
-use Rattle.cds_event.specs.Events.{is_container, object_of}
+use Rattle.cds_object.specs.Events.{is_container, object_of}
 
 -- the outline of a row
 abbrev pub outline_of : KnownRow → Outline

@@ -1,7 +1,7 @@
 -- What a replica keeps: what it knows beside its notes, and its inbox. It keeps no list of turns, of happenings or of notes
 -- that it took (this project's profile).
 use Rattle.std.specs.Prelude.{◌≡◌, ℕ, max, List}
-use Rattle.cds_event.specs.declared.Event.{Event}
+use Rattle.cds_object.specs.declared.event.Event.{Event}
 use Rattle.cds_load.specs.Stages.{Held, Idle, Begun, HasToken, HasNumber, HasRoot, Lists, HasPage, HasCopy}
 use Rattle.cds_follow.specs.Inbox.{ReplicaTurn}
 use Rattle.cds_follow.specs.Copy.{Happening}

@@ -3,10 +3,10 @@
 ghost use Rattle.std.specs.Prelude.{◌≡◌, ◌&&◌, ◌++◌, nat_lt, IfOk, OnOk};
 ghost use Rattle.cds_commands.specs.Notes.{changes_above};
 ghost use Rattle.cds_replica.specs.CopyState.{AreAbove};
-ghost use Rattle.cds_event.specs.Events.{update_of, is_change};
+ghost use Rattle.cds_object.specs.Events.{update_of, is_change};
 
 use cds_base::Mem;
-use cds_event::Event;
+use cds_object::Event;
 use std::alloc::Global;
 
 /// Whether an event is a change above a number.

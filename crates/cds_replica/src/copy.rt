@@ -15,14 +15,15 @@ use crate::count_error::CountError;
 use crate::order::Identified;
 use crate::outline::{first_cannot, outlines_of};
 use crate::taking::only_row;
-use cds_event::Event;
 use cds_load::{Read, Shown};
-use cds_object::{Row, Rows};
+use cds_object::{Event, Row, Rows};
 use std::alloc::Global;
+use std::fmt;
+use std::fmt::{Debug, Formatter};
 use std::marker::Model;
 
 /// The rows of a copy in ascending order of ids, with what is to be read of them.
-#[derive(Drop, Debug)]
+#[derive(Drop)]
 pub struct CatalogCopy {
     rows: Vec<CopyRow>,
     /// The greatest version that a read showed since the load; 0 where none did.
@@ -35,6 +36,13 @@ impl Model for CatalogCopy {
     ghost Value = { KeptCopy };
 
     ghost view = { λ c. record { rows = c.rows.items; read_up_to = c.read_up_to } };
+}
+
+/// Its name alone: deriving it for all that it holds would be dear to prove, and nothing prints it.
+impl Debug for CatalogCopy {
+    fn fmt<W: fmt::Write>(&self, f: &mut Formatter<W>) -> fmt::Result {
+        f.debug_struct("CatalogCopy").finish_non_exhaustive()
+    }
 }
 
 /// Whether the first change is not the one after the position; then the number of it.

@@ -1,6 +1,6 @@
 //! A row of a copy, and what each change and each read makes of it.
 
-ghost use Rattle.cds_event.specs.Events.{is_container};
+ghost use Rattle.cds_object.specs.Events.{is_container};
 ghost use Rattle.std.specs.Prelude.{◌≡◌, ◌<◌, nat_eq, option_copied};
 ghost use Rattle.std.specs.Option.{option_eq};
 ghost use Rattle.cds_object.specs.Object.{is_folder};
@@ -10,13 +10,14 @@ ghost use Rattle.cds_replica.specs.CopySteps.{loaded_row, new_row, new_trackers,
 
 use crate::order::Identified;
 use cds_base::Text;
-use cds_event::Class;
-use cds_object::{Content, ObjectId, Row, TrackContent, Trackers};
+use cds_object::{Class, Content, ObjectId, Row, TrackContent, Trackers};
 use std::alloc::Global;
+use std::fmt::{Debug, Formatter};
 use std::marker::Model;
+use std::{fmt, mem};
 
 /// What befell a child of a container.
-#[derive(Clone, Copy, Debug)]
+#[derive(Clone, Copy)]
 pub enum ChildChange {
     Added,
     Modified,
@@ -24,7 +25,7 @@ pub enum ChildChange {
 }
 
 /// A row of a copy, which tells besides whether its object is to be read.
-#[derive(Drop, Debug)]
+#[derive(Drop)]
 pub struct CopyRow {
     /// What is known of the object. Where it was not read yet its content says nothing but its kind.
     row: Row,
@@ -42,6 +43,13 @@ impl Model for CopyRow {
     ghost Value = { KeptRow };
 
     ghost view = { λ c. kept_in c.row c.known c.wanted c.shown };
+}
+
+/// Its name alone: deriving it for all that it holds would be dear to prove, and nothing prints it.
+impl Debug for CopyRow {
+    fn fmt<W: fmt::Write>(&self, f: &mut Formatter<W>) -> fmt::Result {
+        f.debug_struct("CopyRow").finish_non_exhaustive()
+    }
 }
 
 impl Identified for CopyRow {
@@ -217,7 +225,7 @@ impl CopyRow {
     {
         self.shown = version.max(self.shown);
         if !self.known || version >= self.row.object_update {
-            self.row.content = content;
+            drop(mem::replace(&mut self.row.content, content));
             self.row.object_update = version;
             self.known = true;
         }

@@ -8,8 +8,7 @@ ghost use Rattle.cds_replica.specs.CopySteps.{counts, counted_rows, wanted_rows,
 
 use crate::copy_row::{ChildChange, CopyRow};
 use crate::order::{Identified, put};
-use cds_event::{Class, Event};
-use cds_object::Content;
+use cds_object::{Class, Content, Event};
 use std::alloc::Global;
 
 /// Counts a change of a child in the trackers of its parent.

@@ -23,7 +23,7 @@ use std::mem;
 const HELD_LIMIT: u32 = 64;
 
 /// What becomes of a delivered note by the notes alone, in the order in which it is asked.
-#[derive(Clone, Copy, Debug, PartialEq, Eq)]
+#[derive(Clone, Copy)]
 pub enum Arrival {
     /// Its name is not the accepted one, and no subscribe request is out.
     Unknown,
@@ -41,7 +41,7 @@ pub enum Arrival {
 
 /// The name that was accepted last, whether a subscribe request is out, the SEQ after those that were taken, the notes
 /// that were received and not taken, and the early ones. Of the held notes the newest stands first.
-#[derive(Drop, Debug)]
+#[derive(Drop)]
 pub struct Inbox {
     accepted: Option<Sid>,
     out: bool,

@@ -15,17 +15,16 @@ use crate::count_error::CountError;
 use crate::new_changes::NewChanges;
 use crate::phase::Phase;
 use crate::stage::Stage;
-use cds_event::Event;
 use cds_follow::Says;
 use cds_load::{Ask, Read, Shown};
-use cds_object::Row;
+use cds_object::{Event, Row};
 use std::alloc::Global;
 use std::marker::Model;
 use std::mem;
 
 /// The load or the copy; the number that the last ended load read; the greatest number of a note that was taken; and, while
 /// no copy stands, the changes of the notes that were taken since the load began.
-#[derive(Drop, Debug)]
+#[derive(Drop)]
 pub struct Knowledge {
     phase: Phase,
     base: u32,
@@ -73,7 +72,7 @@ impl Knowledge {
     pub fn begin_load(&mut self)
         ensures { self.new ≡ kept_begun self.old }
     {
-        self.phase = Phase::Load(Stage::Begun);
+        self.phase.go_to(Phase::Load(Stage::Begun));
         self.changes.clear();
     }
 
@@ -85,16 +84,16 @@ impl Knowledge {
         if drops {
             self.begin_load();
             self.last_note = told.last_note();
-            self.changes = told.into_changes();
+            drop(mem::replace(&mut self.changes, told.into_changes()));
             return Ok(());
         }
-        self.hear_changes(alloc, told)
+        self.hear_changes(alloc, &told)
     }
 
     /// Takes what notes tell, of which the first does not drop the copy.
-    fn hear_changes(&mut self, alloc: Global, told: NewChanges) -> Result<(), CountError>
-        requires { AreAbove (kept_position self.old) told.changes }
-        ensures { IsHeard (hears told self.old) self.old self.new result }
+    fn hear_changes(&mut self, alloc: Global, told: &NewChanges) -> Result<(), CountError>
+        requires { AreAbove (kept_position self.old) told.now.changes }
+        ensures { IsHeard (hears told.now self.old) self.old self.new result }
     {
         let at = self.position();
         self.phase
@@ -123,7 +122,7 @@ impl Knowledge {
             }
             Phase::Copy { number, mut copy } => {
                 let answer = copy.take(shown);
-                self.phase = Phase::Copy { number, copy };
+                self.phase.go_to(Phase::Copy { number, copy });
                 answer
             }
         }
@@ -137,7 +136,7 @@ impl Knowledge {
             self.base = *number;
             self.changes.clear();
         }
-        self.phase = phase;
+        self.phase.go_to(phase);
     }
 
     /// What is said where no SEQ is missing.

@@ -9,7 +9,7 @@ use cds_object::Row;
 use std::marker::Model;
 
 /// A container that waits to be listed, with its child count.
-#[derive(Drop, Debug)]
+#[derive(Drop)]
 pub struct Container {
     id: u32,
     children: u32,
@@ -57,7 +57,7 @@ impl Container {
 
 /// The rows of whole listings in ascending order of ids, the containers among them that are not listed yet, and the
 /// children shown so far of the first of these.
-#[derive(Drop, Debug)]
+#[derive(Drop)]
 pub struct Listing {
     pub rows: Vec<Row>,
     pub waiting: Vec<Container>,

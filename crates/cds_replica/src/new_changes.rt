@@ -8,14 +8,14 @@ ghost use Rattle.cds_replica.specs.NewChanges.{nothing_told, tells, tells_note};
 
 use crate::changes::add_changes_above;
 use cds_base::Mem;
-use cds_event::Event;
 use cds_gena::Sid;
 use cds_notify::Note;
+use cds_object::Event;
 use std::alloc::Global;
 use std::marker::Model;
 
 /// The position and the greatest number of a note after some notes, and the changes that were new in them.
-#[derive(Drop, Debug)]
+#[derive(Drop)]
 pub struct NewChanges {
     position: u32,
     last_note: u32,

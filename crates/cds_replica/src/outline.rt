@@ -9,11 +9,11 @@ ghost use Rattle.cds_replica.specs.Outlines.{outline_of, outlines_of, outline_id
 use crate::copy_row::CopyRow;
 use crate::order::{Identified, put};
 use cds_base::Mem;
-use cds_event::{Class, Event};
+use cds_object::{Class, Event};
 use std::alloc::Global;
 
 /// What of a row decides whether a change can be.
-#[derive(Clone, Copy, Debug, Drop)]
+#[derive(Clone, Copy, Drop)]
 pub struct Outline {
     pub id: u32,
     pub parent: Option<u32>,
@@ -22,7 +22,7 @@ pub struct Outline {
 
 impl Identified for Outline {
     ghost use Rattle.cds_replica.specs.Outlines.{outline_id};
-    ghost use Rattle.cds_event.specs.Events.{is_container, object_of};
+    ghost use Rattle.cds_object.specs.Events.{is_container, object_of};
 
     ghost id_of = { outline_id };
 

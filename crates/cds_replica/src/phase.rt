@@ -9,13 +9,13 @@ use crate::copy::CatalogCopy;
 use crate::copy_row::CopyRow;
 use crate::count_error::CountError;
 use crate::stage::Stage;
-use cds_event::Event;
 use cds_load::Ask;
-use cds_object::Row;
+use cds_object::{Event, Row};
 use std::alloc::Global;
+use std::mem;
 
 /// The stage of a load, or the copy that it ended with.
-#[derive(Drop, Debug)]
+#[derive(Drop)]
 pub enum Phase {
     Load(Stage),
     /// The copy of a load that read this number.
@@ -23,6 +23,13 @@ pub enum Phase {
 }
 
 impl Phase {
+    /// Goes over to this phase.
+    pub fn go_to(&mut self, phase: Phase)
+        ensures { self.new ≡ phase }
+    {
+        drop(mem::replace(self, phase));
+    }
+
     /// The next read.
     pub fn next_ask(&self) -> Option<Ask>
         ensures { result ≡ phase_ask (phase_in self.now) }

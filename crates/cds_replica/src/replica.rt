@@ -31,13 +31,15 @@ use cds_load::{Ask, Read, Shown};
 use cds_notify::Note;
 use cds_object::Row;
 use std::alloc::Global;
+use std::fmt;
+use std::fmt::{Debug, Formatter};
 use std::marker::Model;
 use url::Url;
 
 /// A copy of a server's catalog that goes on with the notes of a subscription, or the load that is to give one. It stands for
 /// the turns that it took, the newest first, though it keeps none of them: a load that was begun, a reply, a subscribe
 /// request, its answer, a note. A turn that is refused is none.
-#[derive(Drop, Debug)]
+#[derive(Drop)]
 pub struct Replica {
     known: Knowledge,
     inbox: Inbox,
@@ -49,6 +51,13 @@ impl Model for Replica {
     ghost Value = { ReplicaState };
 
     ghost view = { λ r. record { known = r.known; inbox = r.inbox } };
+}
+
+/// Its name alone: deriving it for all that it holds would be dear to prove, and nothing prints it.
+impl Debug for Replica {
+    fn fmt<W: fmt::Write>(&self, f: &mut Formatter<W>) -> fmt::Result {
+        f.debug_struct("Replica").finish_non_exhaustive()
+    }
 }
 
 impl Replica {
@@ -178,10 +187,10 @@ impl Replica {
                 self.inbox.hold(note)?;
                 Ok(Taken::Held { missing })
             }
-            Arrival::Next => {
-                self.take_note(alloc, &note)?;
-                Ok(Taken::Took)
-            }
+            Arrival::Next => match self.take_note(alloc, &note) {
+                Ok(()) => Ok(Taken::Took),
+                Err(refusal) => Err(refusal),
+            },
         }
     }
 

@@ -9,7 +9,7 @@ use cds_load::Ask;
 use cds_object::{Row, Rows};
 
 /// How far a load has come.
-#[derive(Drop, Debug)]
+#[derive(Drop)]
 pub enum Stage {
     /// No load was begun.
     Idle,

@@ -2,7 +2,7 @@
 
 ghost use Rattle.std.specs.Prelude.{◌≡◌, ◌+◌, ◌<◌, ◌^◌, ◌&&◌, List, true, false, nat_eq, length, IfOk};
 ghost use Rattle.cds_object.specs.Object.{is_folder};
-ghost use Rattle.cds_event.specs.declared.Event.{Event};
+ghost use Rattle.cds_object.specs.declared.event.Event.{Event};
 ghost use Rattle.cds_load.specs.Stages.{Held, Taken, Begun as HoldsBegun, HasToken as HoldsToken, HasNumber as HoldsNumber, HasRoot as HoldsRoot, Lists as HoldsListing, HasPage as HoldsPage, Holds, taken, page_taken, after_page};
 ghost use Rattle.cds_replica.specs.Answer.{IsOutcome, read_of, only};
 ghost use Rattle.cds_replica.specs.Holding.{held_in, listing_in};
@@ -15,9 +15,8 @@ use crate::count_error::CountError;
 use crate::listing::Listing;
 use crate::phase::Phase;
 use crate::stage::Stage;
-use cds_event::Event;
 use cds_load::{Read, Shown};
-use cds_object::{Row, Rows};
+use cds_object::{Event, Row, Rows};
 use std::alloc::Global;
 
 /// The stage that follows, and the answer.
@@ -34,18 +33,18 @@ impl Stage {
     {
         match self {
             Stage::Idle => goes_on((Stage::Idle, Err(AnswerError::Unreadable))),
-            Stage::Begun => goes_on(take_token(shown)),
-            Stage::HasToken => goes_on(take_number(shown)),
+            Stage::Begun => goes_on(take_token(&shown)),
+            Stage::HasToken => goes_on(take_number(&shown)),
             Stage::HasNumber(number) => goes_on(take_root(number, shown)),
             Stage::HasRoot { number, root } => {
-                goes_on(take_number_after_root(alloc, number, root, shown))
+                goes_on(take_number_after_root(alloc, number, root, &shown))
             }
             Stage::Lists { number, listing } => goes_on(take_page(number, listing, shown)),
             Stage::HasPage {
                 number,
                 listing,
                 page,
-            } => take_number_after_page(alloc, number, listing, page, changes, shown),
+            } => take_number_after_page(alloc, number, listing, page, changes, &shown),
         }
     }
 }
@@ -59,9 +58,9 @@ fn goes_on(step: Step) -> PhaseStep
     (Phase::Load(step.0), step.1)
 }
 
-fn take_token(shown: Shown) -> Step
-    ensures outcome { IsOutcome (taken HoldsBegun shown) HoldsBegun (held_in result.0) result.1 }
-    ensures read { IfOk result.1 (λ read. read ≡ read_of shown) }
+fn take_token(shown: &Shown) -> Step
+    ensures outcome { IsOutcome (taken HoldsBegun shown.now) HoldsBegun (held_in result.0) result.1 }
+    ensures read { IfOk result.1 (λ read. read ≡ read_of shown.now) }
 {
     match shown {
         Shown::Text(_) => (Stage::HasToken, Ok(Read::Ok)),
@@ -69,12 +68,12 @@ fn take_token(shown: Shown) -> Step
     }
 }
 
-fn take_number(shown: Shown) -> Step
-    ensures outcome { IsOutcome (taken HoldsToken shown) HoldsToken (held_in result.0) result.1 }
-    ensures read { IfOk result.1 (λ read. read ≡ read_of shown) }
+fn take_number(shown: &Shown) -> Step
+    ensures outcome { IsOutcome (taken HoldsToken shown.now) HoldsToken (held_in result.0) result.1 }
+    ensures read { IfOk result.1 (λ read. read ≡ read_of shown.now) }
 {
     match shown {
-        Shown::Number(number) => (Stage::HasNumber(number), Ok(Read::Ok)),
+        Shown::Number(number) => (Stage::HasNumber(*number), Ok(Read::Ok)),
         _ => (Stage::HasToken, Err(AnswerError::Unreadable)),
     }
 }
@@ -113,9 +112,9 @@ fn is_root(row: &Row) -> bool
     row.id.0 == 0 && row.content.is_folder()
 }
 
-fn take_number_after_root(alloc: Global, number: u32, root: Row, shown: Shown) -> Step
-    ensures outcome { IsOutcome (taken (HoldsRoot number root) shown) (HoldsRoot number root) (held_in result.0) result.1 }
-    ensures read { IfOk result.1 (λ read. read ≡ read_of shown) }
+fn take_number_after_root(alloc: Global, number: u32, root: Row, shown: &Shown) -> Step
+    ensures outcome { IsOutcome (taken (HoldsRoot number root) shown.now) (HoldsRoot number root) (held_in result.0) result.1 }
+    ensures read { IfOk result.1 (λ read. read ≡ read_of shown.now) }
 {
     let Shown::Number(second) = shown else {
         return (
@@ -123,7 +122,7 @@ fn take_number_after_root(alloc: Global, number: u32, root: Row, shown: Shown) -
             Err(AnswerError::Unreadable),
         );
     };
-    if second != number {
+    if *second != number {
         return (Stage::Begun, Ok(Read::Ok));
     }
     match Listing::new(alloc, root) {
@@ -173,11 +172,11 @@ fn take_number_after_page(
     listing: Listing,
     page: Option<Rows>,
     changes: &[Event],
-    shown: Shown,
+    shown: &Shown,
 ) -> PhaseStep
-    ensures outcome { IsStep (load_takes changes.now (taken (HoldsPage number (listing_in listing) page) shown))
+    ensures outcome { IsStep (load_takes changes.now (taken (HoldsPage number (listing_in listing) page) shown.now))
         (Loads (HoldsPage number (listing_in listing) page)) (phase_in result.0) result.1 }
-    ensures read { IfOk result.1 (λ read. read ≡ read_of shown) }
+    ensures read { IfOk result.1 (λ read. read ≡ read_of shown.now) }
 {
     let Shown::Number(again) = shown else {
         return (
@@ -185,7 +184,7 @@ fn take_number_after_page(
             Err(AnswerError::Unreadable),
         );
     };
-    if again != number {
+    if *again != number {
         return (Phase::Load(Stage::Begun), Ok(Read::Ok));
     }
     judge_page(alloc, number, listing, page, changes)

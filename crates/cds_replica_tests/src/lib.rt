@@ -1,19 +1,16 @@
-//! Tests alone, of the replica, of lines of scripts and of replays.
+//! Tests alone, of what a replica refuses, of replays over wires and streams that fail, of the program over an outside in
+//! memory, and of the objects of the system.
 #![tactic(auto)]
 
 #[cfg(test)]
-mod copy_tests;
+mod made;
 #[cfg(test)]
-mod note_tests;
-#[cfg(test)]
-mod play_tests;
+mod program_tests;
 #[cfg(test)]
 mod replica_tests;
 #[cfg(test)]
-mod script_tests;
+mod stream_tests;
 #[cfg(test)]
-mod served;
-#[cfg(test)]
-mod wire;
+mod system_tests;
 #[cfg(test)]
 mod wire_tests;

@@ -1,276 +1,372 @@
-use crate::served::{Object, folder, reply_to, rows_of, track};
+//! What a replica is given that no honest server shows or sends. What it makes of honest ones, the examples show.
+
+use crate::made::PAGE;
 use cds_base::{Mem, Text};
-use cds_replica::{AnswerError, Ask, Read, Replica, Says, Shown};
-use std::alloc::{AllocError, Global};
+use cds_object::{Class, Content, Event, Events, ObjectId, Row, Rows, TrackContent, Trackers};
+use cds_replica::{AnswerError, Ask, Note, NotifyError, Read, Replica, Says, Shown, Sid, Taken};
+use std::alloc::Global;
 use std::test::Fail;
 
-/// What a reply is to show.
+/// An object: its id, which is its objectUpdateID too, its parent's, and how many children it has where it is a folder.
+type Object = (u32, u32, Option<u32>);
+
+/// What a reply shows.
 #[derive(Clone, Copy)]
-enum Reply<'a> {
+enum Reply {
     Token,
     Number(u32),
-    Page(&'a [Object]),
+    Page(&'static [Object]),
     Refusal,
 }
 
-fn shown_of(alloc: Global, reply: Reply) -> Result<Shown, Mem> {
+const ROOT: Object = (0, 0, Some(2));
+
+const ONE: Object = (1, 0, None);
+
+const TWO: Object = (2, 0, None);
+
+/// The replies to a whole load of two tracks.
+const HONEST: [Reply; 6] = [
+    Reply::Token,
+    Reply::Number(7),
+    Reply::Page(&[ROOT]),
+    Reply::Number(7),
+    Reply::Page(&[ONE, TWO]),
+    Reply::Number(7),
+];
+
+/// The same of nothing.
+const EMPTY: [Reply; 6] = [
+    Reply::Token,
+    Reply::Number(0),
+    Reply::Page(&[(0, 0, Some(0))]),
+    Reply::Number(0),
+    Reply::Page(&[]),
+    Reply::Number(0),
+];
+
+fn content_of(alloc: Global, object: &Object) -> Result<Content, Mem> {
+    let title = Text::read(alloc, "title")?;
+    Ok(match object.2 {
+        Some(_) => Content::Folder { title },
+        None => Content::Track(TrackContent {
+            title,
+            artist: None,
+            album: None,
+            genre: None,
+            number: None,
+            size: 1000,
+            duration: Some(10000),
+            rate: 44100,
+            channels: 2,
+            bits: 16,
+        }),
+    })
+}
+
+fn row_of(alloc: Global, object: &Object) -> Result<Row, Mem> {
+    let content = content_of(alloc, object)?;
+    let trackers = match &content {
+        Content::Folder { .. } => Some(Trackers {
+            container_update: 0,
+            child_count: object.2.unwrap_or(0),
+            deleted: 0,
+        }),
+        Content::Track(_) => None,
+    };
+    let parent = if object.0 == 0 {
+        None
+    } else {
+        Some(ObjectId(object.1))
+    };
+    Ok(Row {
+        id: ObjectId(object.0),
+        parent,
+        content,
+        object_update: object.0,
+        trackers,
+    })
+}
+
+fn page_of(alloc: Global, objects: &[Object]) -> Result<Shown, Mem> {
+    let mut rows = Rows::new(alloc);
+    for object in objects {
+        rows.push(row_of(alloc, object)?)?;
+    }
+    Ok(Shown::Page {
+        rows,
+        total: 0,
+        update: 0,
+    })
+}
+
+fn shown_of(alloc: Global, reply: &Reply) -> Result<Shown, Mem> {
     match reply {
         Reply::Token => Ok(Shown::Text(Text::read(alloc, "token")?)),
-        Reply::Number(number) => Ok(Shown::Number(number)),
-        Reply::Page(objects) => Ok(Shown::Page {
-            rows: rows_of(alloc, objects)?,
-            total: 0,
-            update: 0,
-        }),
+        Reply::Number(number) => Ok(Shown::Number(*number)),
+        Reply::Page(objects) => page_of(alloc, objects),
         Reply::Refusal => Ok(Shown::Fault { code: 701 }),
     }
 }
 
-/// An ask in short: the token, the number, the root, or the container and the place where a page starts.
-fn write_ask(alloc: Global, ask: Ask, out: &mut String) -> Result<(), AllocError> {
-    match ask {
-        Ask::Token => out.push_str("T "),
-        Ask::Number => out.push_str("N "),
-        Ask::Metadata { id } => out.push_str(&format!(in alloc; "M{id} ")?),
-        Ask::Children { id, start } => out.push_str(&format!(in alloc; "{id}+{start} ")?),
-    }
-}
-
-fn write_says(alloc: Global, says: Says, out: &mut String) -> Result<(), AllocError> {
-    match says {
-        Says::BehindLoad => out.push_str("behind"),
-        Says::Stands { at } => out.push_str(&format!(in alloc; "at {at}")?),
-        Says::Gap { .. } | Says::BehindRead { .. } | Says::BehindVersion { .. } => {
-            out.push_str("behind notes")
-        }
-    }
-}
-
-/// Takes up to 20 honest replies and writes what was asked. The server's number is 7, and 9 from the read on that is
-/// given, counted from 1.
-fn load(
+/// Whether a replica asks something, and answers this to a reply.
+fn takes(
     alloc: Global,
     replica: &mut Replica,
-    objects: &[Object],
-    changes: u32,
-    out: &mut String,
-) -> Result<(), Fail> {
-    for read in 1..=20u32 {
-        let Some(ask) = replica.next_ask() else {
-            break;
-        };
-        if replica.says() != Says::BehindLoad {
-            out.push_str("early ")?;
+    reply: &Reply,
+    want: Result<Read, AnswerError>,
+) -> Result<bool, Mem> {
+    let shown = shown_of(alloc, reply)?;
+    if replica.next_ask().is_none() {
+        return Ok(false);
+    }
+    Ok(replica.take(alloc, shown) == want)
+}
+
+/// Whether a load begins that takes all these replies.
+fn loads(alloc: Global, replica: &mut Replica, replies: &[Reply]) -> Result<bool, Mem> {
+    replica.begin_load()?;
+    for reply in replies {
+        if !takes(alloc, replica, reply, Ok(Read::Ok))? {
+            return Ok(false);
         }
-        write_ask(alloc, ask, out)?;
-        let number = if read < changes { 7 } else { 9 };
-        let shown = reply_to(alloc, objects, number, ask)?;
-        replica.take(alloc, shown)?;
+    }
+    Ok(true)
+}
+
+/// How many replies of a load were taken, the reply that is refused, and why.
+const REFUSED: [(usize, Reply, AnswerError); 11] = [
+    (0, Reply::Number(7), AnswerError::Unreadable),
+    (1, Reply::Token, AnswerError::Unreadable),
+    (1, Reply::Refusal, AnswerError::Unreadable),
+    (2, Reply::Refusal, AnswerError::Unreadable),
+    (2, Reply::Page(&[]), AnswerError::Unreadable),
+    (2, Reply::Page(&[ROOT, ONE]), AnswerError::Unreadable),
+    (
+        2,
+        Reply::Page(&[(1, 0, Some(0))]),
+        AnswerError::Torn { id: 0 },
+    ),
+    (2, Reply::Page(&[(0, 0, None)]), AnswerError::Torn { id: 0 }),
+    (3, Reply::Page(&[ROOT]), AnswerError::Unreadable),
+    (4, Reply::Number(7), AnswerError::Unreadable),
+    (5, Reply::Refusal, AnswerError::Unreadable),
+];
+
+/// Whether a replica refuses a reply after so many honest ones, and asks and says the same afterwards.
+fn is_refused(
+    alloc: Global,
+    reads: usize,
+    reply: &Reply,
+    refusal: AnswerError,
+) -> Result<bool, Mem> {
+    let mut replica = Replica::new(alloc);
+    let loads = loads(alloc, &mut replica, &HONEST[..reads.min(6)])?;
+    let before = (replica.next_ask(), replica.says());
+    let refuses = takes(alloc, &mut replica, reply, Err(refusal))?;
+    Ok(loads && refuses && (replica.next_ask(), replica.says()) == before)
+}
+
+#[test]
+fn replies_that_are_refused(rt: HostRuntime) -> Result<(), Fail> {
+    for (at, (reads, reply, refusal)) in REFUSED.iter().enumerate() {
+        assert!(rt; is_refused(rt.alloc(), *reads, reply, *refusal)?, "{at}");
     }
     Ok(())
 }
 
-/// Whether the copy has exactly these objects, in this order.
-fn has_copied(replica: &Replica, objects: &[Object]) -> bool {
-    for (at, object) in objects.iter().enumerate() {
-        match replica.rows(at) {
-            Some(row) if row.id.0 == object.id => {}
-            _ => return false,
-        }
-    }
-    replica.rows(objects.len()).is_none()
-}
+/// Pages of the root that cannot be, and what was read where they came.
+const PAGES: [(Reply, Read); 7] = [
+    (Reply::Refusal, Read::Fault { code: 701 }),
+    (Reply::Page(&[]), Read::Ok),
+    (Reply::Page(&[ONE]), Read::Ok),
+    (Reply::Page(&[ONE, TWO, (3, 0, None)]), Read::Ok),
+    (Reply::Page(&[ONE, (2, 1, None)]), Read::Ok),
+    (Reply::Page(&[ONE, ONE]), Read::Ok),
+    (Reply::Page(&[ONE, (0, 0, Some(0))]), Read::Ok),
+];
 
-/// A whole load: what was asked, what is known at last, and whether all objects were copied.
-fn loaded(alloc: Global, objects: &[Object], changes: u32) -> Result<(String, bool), Fail> {
+/// Whether a page is taken, the same number after it tells that it cannot be, and another one begins the load again.
+fn is_judged(alloc: Global, page: &Reply, read: Read) -> Result<bool, Mem> {
     let mut replica = Replica::new(alloc);
-    let mut out = String::new(alloc);
-    write_says(alloc, replica.says(), &mut out)?;
-    out.push_str(": ")?;
-    replica.begin_load()?;
-    load(alloc, &mut replica, objects, changes, &mut out)?;
-    write_says(alloc, replica.says(), &mut out)?;
-    Ok((out, has_copied(&replica, objects)))
+    let torn = Err(AnswerError::Torn { id: 0 });
+    Ok(
+        loads(alloc, &mut replica, &HONEST[..4])?
+            && takes(alloc, &mut replica, page, Ok(read))?
+            && takes(alloc, &mut replica, &Reply::Number(7), torn)?
+            && takes(alloc, &mut replica, &Reply::Number(9), Ok(Read::Ok))?
+            && replica.next_ask() == Some(Ask::Token),
+    )
 }
 
-/// A root with so many tracks.
-fn root_with(alloc: Global, tracks: u32) -> Result<Vec<Object>, AllocError> {
-    let mut objects = Vec::new(alloc);
-    objects.push(folder(0, 0, tracks))?;
-    for id in 1..=tracks {
-        objects.push(track(id, 0))?;
+#[test]
+fn pages_that_cannot_be(rt: HostRuntime) -> Result<(), Fail> {
+    for (at, (page, read)) in PAGES.iter().enumerate() {
+        assert!(rt; is_judged(rt.alloc(), page, *read)?, "{at}");
     }
-    Ok(objects)
+    Ok(())
 }
 
-/// The objects of a load, the read from which on the server's number is another, counted from 1, and what is known
-/// before, asked, and known at last.
-type Case<'a> = (&'a [Object], u32, &'a str);
+/// Whether the bytes of a reply are answered so.
+fn answers(
+    alloc: Global,
+    replica: &mut Replica,
+    reply: &[u8],
+    want: Result<Read, AnswerError>,
+) -> bool {
+    if replica.next_ask().is_none() {
+        return false;
+    }
+    replica.answer(alloc, reply) == want
+}
 
-/// What is wanted of the first load that asks or knows something else, or that does not copy all objects.
-fn first_wrong<'a>(alloc: Global, cases: &[Case<'a>]) -> Result<Option<&'a str>, Fail> {
-    for (objects, changes, want) in cases {
-        let (asked, copied) = loaded(alloc, objects, *changes)?;
-        if asked.as_str() != *want || !copied {
-            return Ok(Some(*want));
+/// How many bytes of a page are the first that are not unreadable. What stands behind it does not matter.
+fn first_readable(alloc: Global) -> Result<Option<usize>, Mem> {
+    let bytes = PAGE.as_bytes();
+    let mut replica = Replica::new(alloc);
+    let _loads = loads(alloc, &mut replica, &HONEST[..4])?;
+    for end in 0..bytes.len() {
+        let refusal = Err(AnswerError::Unreadable);
+        if !answers(alloc, &mut replica, &bytes[..end], refusal) {
+            return Ok(Some(end));
         }
     }
     Ok(None)
 }
 
-#[test]
-fn loads_of_a_number_that_stays(rt: HostRuntime) -> Result<(), Fail> {
-    let alloc = rt.alloc();
-    let many = root_with(alloc, 257)?;
-    let full = root_with(alloc, 512)?;
-    let empty = [folder(0, 0, 0)];
-    let rock = [folder(0, 0, 1), folder(1, 0, 1), track(2, 1)];
-    let nested = [
-        folder(0, 0, 2),
-        folder(1, 0, 2),
-        track(2, 1),
-        folder(3, 1, 0),
-        folder(4, 0, 1),
-        track(5, 4),
-    ];
-    let cases: [Case; 5] = [
-        (&empty[..], 99, "behind: T N M0 N 0+0 N at 7"),
-        (&rock[..], 99, "behind: T N M0 N 0+0 N 1+0 N at 7"),
-        (
-            &nested[..],
-            99,
-            "behind: T N M0 N 0+0 N 1+0 N 3+0 N 4+0 N at 7",
-        ),
-        (&many[..], 99, "behind: T N M0 N 0+0 N 0+256 N at 7"),
-        (&full[..], 99, "behind: T N M0 N 0+0 N 0+256 N at 7"),
-    ];
-    assert_eq!(rt; first_wrong(alloc, &cases)?, None);
-    Ok(())
-}
-
-#[test]
-fn loads_begin_again_at_another_number(rt: HostRuntime) -> Result<(), Fail> {
-    let alloc = rt.alloc();
-    let empty = [folder(0, 0, 0)];
-    let rock = [folder(0, 0, 1), folder(1, 0, 1), track(2, 1)];
-    let cases: [Case; 6] = [
-        (&empty[..], 4, "behind: T N M0 N T N M0 N 0+0 N at 9"),
-        (&empty[..], 5, "behind: T N M0 N 0+0 N T N M0 N 0+0 N at 9"),
-        (&rock[..], 2, "behind: T N M0 N 0+0 N 1+0 N at 9"),
-        (&rock[..], 3, "behind: T N M0 N T N M0 N 0+0 N 1+0 N at 9"),
-        (
-            &rock[..],
-            6,
-            "behind: T N M0 N 0+0 N T N M0 N 0+0 N 1+0 N at 9",
-        ),
-        (
-            &rock[..],
-            7,
-            "behind: T N M0 N 0+0 N 1+0 N T N M0 N 0+0 N 1+0 N at 9",
-        ),
-    ];
-    assert_eq!(rt; first_wrong(alloc, &cases)?, None);
-    Ok(())
-}
-
-/// What a replica answers to a reply after so many honest ones, and whether it asks and says the same afterwards.
-fn answer_after(
-    alloc: Global,
-    objects: &[Object],
-    reads: u32,
-    reply: Reply,
-) -> Result<(Option<AnswerError>, bool), Fail> {
+/// Whether the whole page is read, with bytes of another reply behind it.
+fn whole_is_read(alloc: Global) -> Result<bool, Mem> {
+    let mut reply = Vec::from_slice(alloc, PAGE.as_bytes())?;
+    reply.extend_from_slice(b"HTTP/1.1 200 OK")?;
     let mut replica = Replica::new(alloc);
-    replica.begin_load()?;
-    for _ in 0..reads {
-        if let Some(ask) = replica.next_ask() {
-            replica.take(alloc, reply_to(alloc, objects, 7, ask)?)?;
-        }
-    }
-    let (ask, says) = (replica.next_ask(), replica.says());
-    if ask.is_none() {
-        return Ok((None, false));
-    }
-    let refusal = replica.take(alloc, shown_of(alloc, reply)?).err();
-    Ok((refusal, replica.next_ask() == ask && replica.says() == says))
+    Ok(
+        loads(alloc, &mut replica, &HONEST[..4])?
+            && answers(alloc, &mut replica, reply.as_slice(), Ok(Read::Ok))
+            && replica.next_ask() == Some(Ask::Number),
+    )
 }
 
-/// Replies that are refused. The replica asks and says the same afterwards.
 #[test]
-fn refuses(rt: HostRuntime) -> Result<(), Fail> {
-    let alloc = rt.alloc();
-    let objects = [folder(0, 0, 2), track(1, 0), track(2, 0)];
-    let unreadable = AnswerError::Unreadable;
-    let torn = AnswerError::Torn { id: 0 };
-    for (reads, reply, refusal) in [
-        (0, Reply::Number(7), unreadable),
-        (1, Reply::Token, unreadable),
-        (1, Reply::Refusal, unreadable),
-        (2, Reply::Refusal, unreadable),
-        (2, Reply::Page(&[]), unreadable),
-        (2, Reply::Page(&objects[..2]), unreadable),
-        (2, Reply::Page(&[folder(1, 0, 0)]), torn),
-        (2, Reply::Page(&[track(0, 0)]), torn),
-        (3, Reply::Page(&objects[..1]), unreadable),
-        (4, Reply::Number(7), unreadable),
-        (5, Reply::Refusal, unreadable),
-    ] {
-        let answer = answer_after(alloc, &objects, reads, reply)?;
-        assert!(rt; answer == (Some(refusal), true), "after {reads}");
-    }
+fn replies_that_are_cut_off(rt: HostRuntime) -> Result<(), Fail> {
+    assert!(rt; first_readable(rt.alloc())?.is_none());
+    assert!(rt; whole_is_read(rt.alloc())?);
     Ok(())
 }
 
-/// What becomes of a page of the root after the same number, and after another: what was read at the page, the
-/// refusal, and what is asked then.
-fn page_judged(
-    alloc: Global,
-    objects: &[Object],
-    reply: Reply,
-) -> Result<(Read, Option<AnswerError>, Option<Ask>), Fail> {
-    let mut replica = Replica::new(alloc);
-    replica.begin_load()?;
-    let mut read = Read::Ok;
-    for at in 0..5 {
-        if let Some(ask) = replica.next_ask() {
-            let shown = if at == 4 {
-                shown_of(alloc, reply)?
-            } else {
-                reply_to(alloc, objects, 7, ask)?
-            };
-            read = replica.take(alloc, shown)?;
-        }
-    }
-    let mut refusal = None;
-    for number in [7, 9] {
-        if replica.next_ask().is_some() {
-            refusal = replica.take(alloc, Shown::Number(number)).err().or(refusal);
-        }
-    }
-    Ok((read, refusal, replica.next_ask()))
+/// The SEQ of a note of the name 1, its number and its events; what is answered, and what the replica says then.
+type Told = (u32, u32, &'static [Event], Result<Taken, NotifyError>, Says);
+
+/// The addition of a track with this number.
+const LATE: Event = Event::ObjAdd {
+    id: 1,
+    update: 5,
+    st: false,
+    parent: 0,
+    class: Class::Track,
+};
+
+const NEXT: Event = Event::ObjAdd {
+    id: 1,
+    update: 1,
+    st: false,
+    parent: 0,
+    class: Class::Track,
+};
+
+/// The change of an object that is not there.
+const OTHER: Event = Event::ObjMod {
+    id: 7,
+    update: 1,
+    st: false,
+};
+
+/// Notes of which two tell what cannot be.
+const NOTES: [Told; 4] = [
+    (0, 0, &[], Ok(Taken::Took), Says::Stands { at: 0 }),
+    (
+        1,
+        5,
+        &[LATE],
+        Err(NotifyError::Jump {
+            expected: 1,
+            first: 5,
+        }),
+        Says::Stands { at: 0 },
+    ),
+    (
+        1,
+        1,
+        &[OTHER],
+        Err(NotifyError::Torn { id: 7 }),
+        Says::Stands { at: 0 },
+    ),
+    (1, 1, &[NEXT], Ok(Taken::Took), Says::BehindRead { id: 1 }),
+];
+
+/// Whether a note is answered so.
+fn hears(alloc: Global, replica: &mut Replica, told: &Told) -> Result<bool, Mem> {
+    let mut events = Events::new(alloc);
+    events.extend(told.2)?;
+    let note = Note {
+        sid: Sid(1),
+        seq: told.0,
+        number: told.1,
+        events,
+    };
+    Ok(replica.notify(alloc, note) == told.3 && replica.says() == told.4)
 }
 
-/// Pages of the root that cannot be, as the same number after them tells. Another number then begins the load again.
-#[test]
-fn refuses_pages(rt: HostRuntime) -> Result<(), Fail> {
-    let alloc = rt.alloc();
-    let objects = [folder(0, 0, 2), track(1, 0), track(2, 0)];
-    let refused = Read::Fault { code: 701 };
-    let torn = AnswerError::Torn { id: 0 };
-    for (reply, read) in [
-        (Reply::Refusal, refused),
-        (Reply::Page(&[]), Read::Ok),
-        (Reply::Page(&[track(1, 0)]), Read::Ok),
-        (
-            Reply::Page(&[track(1, 0), track(2, 0), track(3, 0)]),
-            Read::Ok,
-        ),
-        (Reply::Page(&[track(1, 0), track(2, 1)]), Read::Ok),
-        (Reply::Page(&[track(1, 0), track(1, 0)]), Read::Ok),
-        (Reply::Page(&[track(1, 0), folder(0, 0, 0)]), Read::Ok),
-    ] {
-        let judged = page_judged(alloc, &objects, reply)?;
-        assert!(rt; judged == (read, Some(torn), Some(Ask::Token)));
+/// Whether a replica with a copy of nothing is subscribed under the name 1.
+fn subscribes(alloc: Global, replica: &mut Replica) -> Result<bool, Fail> {
+    let loads = loads(alloc, replica, &EMPTY)?;
+    replica.subscribing()?;
+    if !replica.is_subscribing() {
+        return Ok(false);
     }
+    replica.subscribed(alloc, Sid(1))?;
+    Ok(loads)
+}
+
+/// Whether all notes are answered so.
+fn hears_all(alloc: Global, replica: &mut Replica) -> Result<bool, Mem> {
+    for told in &NOTES {
+        if !hears(alloc, replica, told)? {
+            return Ok(false);
+        }
+    }
+    Ok(true)
+}
+
+/// Whether the replica stands at 1, with a track under the root.
+fn has_track(replica: &Replica) -> bool {
+    let (Some(root), Some(track)) = (replica.rows(0), replica.rows(1)) else {
+        return false;
+    };
+    let counted = Trackers {
+        container_update: 1,
+        child_count: 1,
+        deleted: 0,
+    };
+    replica.says() == Says::Stands { at: 1 }
+        && root.trackers == Some(counted)
+        && track.id.0 == 1
+        && track.object_update == 1
+        && replica.rows(2).is_none()
+}
+
+/// Whether a replica goes its way through its public calls alone: a load, a subscription, notes, a read and its rows.
+fn follows(alloc: Global) -> Result<bool, Fail> {
+    let mut replica = Replica::new(alloc);
+    Ok(
+        subscribes(alloc, &mut replica)?
+            && hears_all(alloc, &mut replica)?
+            && takes(alloc, &mut replica, &Reply::Page(&[ONE]), Ok(Read::Ok))?
+            && has_track(&replica),
+    )
+}
+
+#[test]
+fn a_replica_goes_its_way(rt: HostRuntime) -> Result<(), Fail> {
+    assert!(rt; follows(rt.alloc())?);
     Ok(())
 }

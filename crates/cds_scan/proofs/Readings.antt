@@ -1,8 +1,8 @@
 -- What a file that was opened and read says.
 use Rattle.std.proofs.Common.{◌≡◌, ℕ, List, Option, Some, None, Result, Ok, Err, IfOk, sym, subst}
 use Rattle.cds_base.specs.declared.mem.Mem.{Mem as Memory}
-use Rattle.cds_base.specs.Entries.{Contents, HasBytes, Told}
-use Rattle.cds_base.specs.Outside.{WhereTold}
+use Rattle.cds_base.specs.Entries.{Contents, HasBytes}
+use Rattle.cds_base.specs.Outside.{Told}
 use Rattle.cds_flac.specs.declared.error.FlacError.{FlacError}
 use Rattle.cds_flac.specs.declared.error.FlacError.TheVariants.{NotFlac, NoStreamInfo, BadStreamInfo, Forbidden, Truncated, BadComment, TooLong, ReadFault, Mem}
 use Rattle.cds_flac.specs.Agree.{Agrees}
@@ -13,11 +13,11 @@ use Rattle.cds_scan.specs.declared.file.Reading.TheVariants.{Read, Unread}
 use Rattle.cds_scan.specs.Outcomes.{AreRefused, SayInfo}
 use Rattle.cds_scan.specs.Reading.{IsReading, IsReadingOf}
 
-says : (bytes left after : Option (List ℕ)) (info : FlacInfo) → HasBytes bytes left → WhereTold left (λ bs. Agrees (metadata bs) (Ok info) after) → SayInfo bytes info
+says : (bytes left after : Option (List ℕ)) (info : FlacInfo) → HasBytes bytes left → Told left (λ bs. Agrees (metadata bs) (Ok info) after) → SayInfo bytes info
 says None left after info has agrees = has
 says (Some bytes) left after info has agrees = let read = agrees bytes has in (read.0, read.1)
 
-refused : (bytes left after : Option (List ℕ)) (refusal : FlacError) → (P : List ℕ → Type 0) → ((bs : List ℕ) → P bs → metadata bs ≡ Err refusal) → HasBytes bytes left → WhereTold left P → AreRefused bytes refusal
+refused : (bytes left after : Option (List ℕ)) (refusal : FlacError) → (P : List ℕ → Type 0) → ((bs : List ℕ) → P bs → metadata bs ≡ Err refusal) → HasBytes bytes left → Told left P → AreRefused bytes refusal
 refused None left after refusal P judged has agrees = has
 refused (Some bytes) left after refusal P judged has agrees = judged bytes (agrees bytes has)
 
@@ -33,7 +33,7 @@ module _ (contents : Option Contents) (path : List ℕ) (left after : Option (Li
   unfolding Reads
   unread memory answer is = subst Reads (sym is) tt
 
-  pub reading_told : (info : Result FlacInfo FlacError) (answer : Result Reading Memory) → WhereTold left (λ bs. Agrees (metadata bs) info after) → IsReadingOf info answer → IfOk answer (λ r. IsReading contents path r)
+  pub reading_told : (info : Result FlacInfo FlacError) (answer : Result Reading Memory) → Told left (λ bs. Agrees (metadata bs) info after) → IsReadingOf info answer → IfOk answer (λ r. IsReading contents path r)
   unfolding Reads
   reading_told (Ok info) answer agrees is = answered (Read info) answer is (λ c told. says (c path) left after info (has c told) agrees)
   reading_told (Err NotFlac) answer agrees is = answered (Unread NotFlac) answer is (λ c told. refused (c path) left after NotFlac (λ bs. metadata bs ≡ Err NotFlac) (λ bs h. h) (has c told) agrees)

@@ -1,6 +1,6 @@
 ghost use Rattle.std.specs.Prelude.{◌≡◌, ◌+◌, ◌≤◌, [], None, IfOk, IfErr};
 ghost use Rattle.std.specs.List.{count_by};
-ghost use Rattle.cds_base.specs.declared.folder.Entry.TheVariants.{File as FileEntry};
+ghost use Rattle.cds_base.specs.declared.outside.folder.Entry.TheVariants.{File as FileEntry};
 ghost use Rattle.cds_catalog.specs.Scans.{bad_record};
 ghost use Rattle.cds_scan.specs.Found.{Adds};
 ghost use Rattle.cds_scan.specs.Scanning.{CameBack, Covers, IsRefused, IsScan, is_read_fault};

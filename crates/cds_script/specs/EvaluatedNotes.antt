@@ -1,8 +1,8 @@
 -- Scripts with notes whose reports are evaluated from the definitions, from bytes to status and text.
 use Rattle.std.specs.Prelude.{◌≡◌, ◌+◌, ℕ, zero, suc, false, List, [], ◌∷◌, ◌++◌, map, Some, codes}
 use Rattle.std.specs.Fmt.{decimal}
-use Rattle.cds_event.specs.declared.Class.TheVariants.{Track as IsTrack}
-use Rattle.cds_event.specs.declared.Event.TheVariants.{ObjAdd}
+use Rattle.cds_object.specs.declared.event.Class.TheVariants.{Track as IsTrack}
+use Rattle.cds_object.specs.declared.event.Event.TheVariants.{ObjAdd}
 use Rattle.cds_commands.specs.Commands.{Command, scans_of}
 use Rattle.cds_commands.specs.Notes.{Note, notes_of}
 use Rattle.cds_commands.specs.Releases.{releases_of, released_containers}

@@ -3,8 +3,7 @@ use Rattle.std.proofs.Common.{◌≡◌, ◌+◌, inl, inr, ℕ, true, List, [],
 use Rattle.std.specs.Prelude.{⊤}
 use Rattle.std.proofs.lemmas.List.{take_all}
 use Rattle.cds_base.specs.declared.mem.Mem.{Mem as Memory}
-use Rattle.cds_base.specs.Entries.{Told}
-use Rattle.cds_base.specs.Outside.{HoldsPart, Rose}
+use Rattle.cds_base.specs.Outside.{Told, HoldsPart, Rose}
 use Rattle.cds_commands.specs.Commands.{Command, Start}
 use Rattle.cds_http.specs.declared.message.Message.{Message}
 use Rattle.cds_http.specs.declared.message.Side.TheVariants as side

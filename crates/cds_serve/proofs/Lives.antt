@@ -5,10 +5,9 @@ use Rattle.std.proofs.lemmas.List.Sums.{sum_by-cons}
 use Rattle.std.specs.Prelude.{⊤}
 use Rattle.std.specs.List.{AllByRecursion}
 use Rattle.cds_base.specs.Asked.{Asked, ForClock, ForLink, OutsideRose}
-use Rattle.cds_base.specs.declared.exterior.OutsideFault.{OutsideFault}
-use Rattle.cds_base.specs.declared.exterior.OutsideFault.TheVariants as outside_fault
-use Rattle.cds_base.specs.Entries.{Told}
-use Rattle.cds_base.specs.Outside.{HoldsPart, Rose, raised}
+use Rattle.cds_base.specs.declared.outside.exterior.OutsideFault.{OutsideFault}
+use Rattle.cds_base.specs.declared.outside.exterior.OutsideFault.TheVariants as outside_fault
+use Rattle.cds_base.specs.Outside.{Told, HoldsPart, Rose, raised}
 use Rattle.cds_serve.specs.Jobs.{DoorTold}
 use Rattle.cds_serve.specs.Life.{AreCounts, Asks, AsksFor, Counts, EndsLife, IsCaused, IsFresh, OfFirst, Outer, OutsideTold, Served, Stops, Takes, WritesLife, WritesLine, fault_of, life_asks, life_text, served_line, serving_line, share_of, status_of, worker_asks}
 use Rattle.cds_serve.specs.Told.{ClockTold}

@@ -2,7 +2,7 @@
 use Rattle.std.proofs.Common.{◌≡◌, ◌≢◌, ◌⊎◌, inl, inr, ℕ, Bool, true, false, true≢false, ◌+◌, ◌-◌, ◌^◌, ◌<◌, ◌≤◌, min, List, [], ◌∷◌, ◌++◌, length, map, suc, Option, Result, Ok, Err, IfErr, IsTrue, OnOk, refl, sym, ap, subst, ◌∙◌, append_assoc, arith, le_trans}
 use Rattle.std.proofs.Math.Nat.{le-min}
 use Rattle.std.specs.List.{AllByRecursion}
-use Rattle.cds_base.specs.declared.folder.Entry.{Entry}
+use Rattle.cds_base.specs.declared.outside.folder.Entry.{Entry}
 use Rattle.cds_base.specs.Entries.{Contents, FolderTold}
 use Rattle.cds_base.specs.Outside.{Rose, raised}
 use Rattle.cds_catalog.specs.Library.{map_of}

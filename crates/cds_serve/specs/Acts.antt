@@ -1,6 +1,6 @@
 -- The jobs on a shared server, each done in one turn: the commands that it appends, and what it answers.
 use Rattle.std.specs.Prelude.{◌≡◌, ℕ, Bool, List, [], ◌∷◌, Result, Ok, Err, IfSome, ⊤}
-use Rattle.cds_base.specs.declared.link.LinkRequest.{LinkRequest}
+use Rattle.cds_base.specs.declared.outside.link.LinkRequest.{LinkRequest}
 use Rattle.cds_base.specs.declared.mem.Mem.{Mem}
 use Rattle.cds_catalog.specs.Library.{map_of}
 use Rattle.cds_catalog.specs.Scans.{Accepted, scan_answer}

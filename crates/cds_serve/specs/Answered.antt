@@ -2,10 +2,9 @@
 -- URLs of control and of eventing).
 use Rattle.std.specs.Prelude.{◌≡◌, ◌+◌, ◌≤◌, ℕ, Bool, true, false, ◌||◌, bytes_eq, codes, if◌then◌else◌, List, [], ◌∷◌, ◌++◌, length, Option, Some, None, IsSome, Result, Ok, Err, IsErr, IsOk, ⊤}
 use Rattle.cds_base.specs.declared.mem.Mem.{Mem as Memory}
-use Rattle.cds_base.specs.declared.link.LinkRequest.{LinkRequest}
-use Rattle.cds_base.specs.Entries.{Told}
+use Rattle.cds_base.specs.declared.outside.link.LinkRequest.{LinkRequest}
+use Rattle.cds_base.specs.Outside.{Told, Rose}
 use Rattle.cds_base.specs.Links.{LinkTold}
-use Rattle.cds_base.specs.Outside.{Rose}
 use Rattle.cds_http.specs.declared.error.HttpError.{HttpError}
 use Rattle.cds_http.specs.declared.error.HttpError.TheVariants.{BadHead, HeadTooLong, BadLength, BadChunk, TooLong, Truncated, Failed, Mem}
 use Rattle.cds_http.specs.declared.message.Message.{Message}

@@ -2,11 +2,11 @@
 use Rattle.std.specs.Prelude.{◌≡◌, ◌⊎◌, ◌+◌, ◌*◌, ◌/◌, ◌%◌, ◌^◌, ◌≤◌, ◌<◌, ℕ, codes, nat_lt, if◌then◌else◌, slice_index, List, [], ◌∷◌, ◌++◌, take, zero, suc, Option, Some, Result, Ok, Err, ⊤}
 use Rattle.std.specs.Fmt.{decimal}
 use Rattle.cds_base.specs.Asked.{Asked, ForClock, ForDoor, ForFolder, ForLink, ForSpawner}
-use Rattle.cds_base.specs.Entries.{FolderTold, Told}
+use Rattle.cds_base.specs.Entries.{FolderTold}
+use Rattle.cds_base.specs.Outside.{Told, HoldsPart, Rose, raised}
 use Rattle.cds_base.specs.Links.{LinkTold}
-use Rattle.cds_base.specs.Outside.{HoldsPart, Rose, raised}
-use Rattle.cds_base.specs.declared.exterior.OutsideFault.{OutsideFault}
-use Rattle.cds_base.specs.declared.exterior.OutsideFault.TheVariants as outside_fault
+use Rattle.cds_base.specs.declared.outside.exterior.OutsideFault.{OutsideFault}
+use Rattle.cds_base.specs.declared.outside.exterior.OutsideFault.TheVariants as outside_fault
 use Rattle.cds_commands.specs.Commands.{Start}
 use Rattle.cds_serve.specs.Jobs.{DoorTold}
 use Rattle.cds_serve.specs.Told.{ClockTold, IsMoment}

@@ -2,7 +2,7 @@
 -- the moderation of events).
 use Rattle.std.specs.Prelude.{◌≡◌, ◌⊎◌, ◌+◌, ℕ, Bool, List, ◌∷◌, Option, Result, Ok, Err}
 use Rattle.cds_base.specs.declared.mem.Mem.{Mem}
-use Rattle.cds_base.specs.declared.link.LinkRequest.{LinkRequest}
+use Rattle.cds_base.specs.declared.outside.link.LinkRequest.{LinkRequest}
 use Rattle.cds_base.specs.Links.{LinkTold}
 use Rattle.cds_commands.specs.Commands.{Command, Start, Ticks, is_stopped}
 use Rattle.cds_turn.specs.Line.{Extends}

@@ -1,7 +1,6 @@
 -- What the objects of the outside and a seat tell of themselves before and after a call.
 use Rattle.std.specs.Prelude.{◌≡◌, ◌⊎◌, ℕ, List, [], ◌∷◌, ◌++◌, Option, Some}
-use Rattle.cds_base.specs.Entries.{Told}
-use Rattle.cds_base.specs.Outside.{HoldsPart, Rose}
+use Rattle.cds_base.specs.Outside.{Told, HoldsPart, Rose}
 use Rattle.cds_commands.specs.Commands.{Command}
 
 -- a seat: the commands that it has seen, newest first, how many seats may be made of it, itself counted, how many turns it took, and how many

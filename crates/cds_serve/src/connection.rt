@@ -1,7 +1,7 @@
 //! One connection.
 
 ghost use Rattle.std.specs.Prelude.{◌≡◌, ◌≤◌, ◌++◌, Some, IfOk, IsErr, IsSome, OnErr, OnOk};
-ghost use Rattle.cds_base.specs.Outside.{HoldsPart, Rose, WhereTold};
+ghost use Rattle.cds_base.specs.Outside.{HoldsPart, Rose, Told};
 ghost use Rattle.cds_turn.specs.Turn.{IsSeatOf, passes_of, seats_of, seen_by, start_of, turns_of};
 ghost use Rattle.cds_server.specs.Outcome.{GoesOut, empty_reply};
 ghost use Rattle.cds_serve.specs.Answered.{Serves, no_memory_reply};
@@ -88,6 +88,7 @@ pub fn serve_one<R: Wait, C: Conn, T: Clock, L: Link, G: Gate>(
                     message: &message,
                 },
             );
+            drop(message);
             answer(alloc, conn, link, gate, reply)
         }
         Request::Free(status) => answer_free(alloc, conn, gate, status),
@@ -117,7 +118,10 @@ fn answer<C: Conn, L: Link, G: Gate>(
     match reply {
         Ok(Reply { text, note }) => {
             write(conn, gate, text.as_slice());
-            send_first(alloc, link, &note)
+            drop(text);
+            let sent = send_first(alloc, link, &note);
+            drop(note);
+            sent
         }
         Err(Mem) => starve(conn, gate),
     }
@@ -187,8 +191,8 @@ fn write<C: Conn, G: Gate>(conn: &mut C, gate: &mut G, text: &[u8])
 
 /// Sends the whole text. After a failure some front of it may have been taken.
 fn send_all<C: Conn>(conn: &mut C, text: &[u8]) -> Result<(), Failed>
-    ensures content { OnOk result (WhereTold (C.holds conn.old) (λ held. C.holds conn.new ≡ Some (held ++ text.now))) }
-    ensures part { OnErr result (WhereTold (C.holds conn.old) (λ held. HoldsPart held text.now (C.holds conn.new))) }
+    ensures content { OnOk result (Told (C.holds conn.old) (λ held. C.holds conn.new ≡ Some (held ++ text.now))) }
+    ensures part { OnErr result (Told (C.holds conn.old) (λ held. HoldsPart held text.now (C.holds conn.new))) }
     ensures rose { OnErr result (Rose (C.Sink.faults conn.old) (C.Sink.faults conn.new)) }
     ensures never_falls { C.Sink.faults conn.old ≤ C.Sink.faults conn.new }
     ensures left_stays { C.left conn.new ≡ C.left conn.old }

@@ -52,6 +52,16 @@ struct Place {
     ghost own: { IsSeatOf (arc_value turn) seat },
 }
 
+/// What each job has: a runtime, a gate, and a place.
+#[derive(Drop)]
+struct Post<R, G> {
+    rt: R,
+    gate: G,
+    turn: Arc<Turn<Served>>,
+    seat: Seat<Served>,
+    ghost own: { IsSeatOf (arc_value turn) seat },
+}
+
 /// The jobs that were started.
 #[derive(Drop)]
 struct Started<W: Job, S: Job, N: Job> {
@@ -108,17 +118,15 @@ pub(crate) fn hire_crew<
     ensures few { IfOk result (λ crew. length crew.workers.items ≡ 4) }
     ensures start { IfOk result (λ crew. start_of (arc_value crew.turn) crew.seat ≡ start_with means.boot) }
 {
+    let Place { turn, mut seat } = open_turn(alloc, means.boot)?;
     let Means {
-        boot,
+        boot: _,
         folder,
         workers,
         scanner,
         notifier,
         link,
     } = means;
-    let served = Served::new(alloc, boot, 0)?;
-    let (turn, mut seat) = Turn::new(alloc, served, SEATS)?;
-    let turn = Arc::new(alloc, turn)?;
     let workers = hire_workers(rt, alloc, &turn, &mut seat, requests, workers, gate)?;
     let scanner = hire_scanner(rt, alloc, &turn, &mut seat, folder, scanner, gate)?;
     let notifier = hire_notifier(rt, alloc, &turn, &mut seat, notifier, link, gate)?;
@@ -129,6 +137,17 @@ pub(crate) fn hire_crew<
         scanner,
         notifier,
     })
+}
+
+/// A server that is opened with these boot words, before any command, and the one seat of its turn.
+fn open_turn(alloc: Global, boot: [u64; 2]) -> Result<Place, Mem>
+    ensures seats { IfOk result (λ place. passes_of place.seat ≡ 7) }
+    ensures start { IfOk result (λ place. start_of (arc_value place.turn) place.seat ≡ start_with boot) }
+{
+    let served = Served::new(alloc, boot, 0)?;
+    let (turn, seat) = Turn::new(alloc, served, SEATS)?;
+    let turn = Arc::new(alloc, turn)?;
+    Ok(Place { turn, seat })
 }
 
 /// A place for one job, whose seat takes one of the passes.
@@ -142,6 +161,35 @@ fn place_of(turn: &Arc<Turn<Served>>, seat: &mut Seat<Served>) -> Result<Place, 
     let shared = Arc::try_clone(turn)?;
     let theirs = turn.split(seat);
     Ok(Place {
+        turn: shared,
+        seat: theirs,
+    })
+}
+
+/// The post of the job of a number, whose seat takes one of the passes.
+fn post_of<R: Clone + Drop, G: Gate + Drop>(
+    rt: &R,
+    alloc: Global,
+    turn: &Arc<Turn<Served>>,
+    seat: &mut Seat<Served>,
+    number: u32,
+    gate: &mut G,
+) -> Result<Post<R, G>, Mem>
+    requires seat { IsSeatOf (arc_value turn.now) seat.old }
+    requires passes { 2 ≤ passes_of seat.old }
+    ensures seat { IsSeatOf (arc_value turn.now) seat.new }
+    ensures passes { OnOk result (passes_of seat.new + 1 ≡ passes_of seat.old) }
+    ensures shares { IfOk result (λ post. arc_value post.turn ≡ arc_value turn.now) }
+{
+    let gate = gate.again(alloc, number)?;
+    let rt = rt.clone()?;
+    let Place {
+        turn: shared,
+        seat: theirs,
+    } = place_of(turn, seat)?;
+    Ok(Post {
+        rt,
+        gate,
         turn: shared,
         seat: theirs,
     })
@@ -210,19 +258,16 @@ fn hire_worker<
     ensures door { IfOk result (λ worker. worker.door ≡ ends.door) }
     ensures turn { IfOk result (λ worker. arc_value worker.turn ≡ arc_value turn.now) }
 {
-    let gate = gate.again(alloc, number)?;
-    let rt = rt.clone()?;
-    let place = place_of(turn, seat)?;
-    let Ends { door, clock, link } = ends;
+    let post = post_of(rt, alloc, turn, seat, number, gate)?;
     Ok(Worker {
-        rt,
+        rt: post.rt,
         alloc,
-        turn: place.turn,
-        seat: place.seat,
-        door,
-        clock,
-        link,
-        gate,
+        turn: post.turn,
+        seat: post.seat,
+        door: ends.door,
+        clock: ends.clock,
+        link: ends.link,
+        gate: post.gate,
         share: share_of(requests, number),
     })
 }
@@ -248,17 +293,15 @@ fn hire_scanner<
     ensures passes { OnOk result (passes_of seat.new + 1 ≡ passes_of seat.old) }
     ensures shares { IfOk result (λ scanner. arc_value scanner.turn ≡ arc_value turn.now) }
 {
-    let gate = gate.again(alloc, SCANNER)?;
-    let rt = rt.clone()?;
-    let place = place_of(turn, seat)?;
+    let post = post_of(rt, alloc, turn, seat, SCANNER, gate)?;
     Ok(Scanner {
-        rt,
+        rt: post.rt,
         alloc,
-        turn: place.turn,
-        seat: place.seat,
+        turn: post.turn,
+        seat: post.seat,
         folder,
         clock,
-        gate,
+        gate: post.gate,
     })
 }
 
@@ -283,17 +326,15 @@ fn hire_notifier<
     ensures passes { OnOk result (passes_of seat.new + 1 ≡ passes_of seat.old) }
     ensures shares { IfOk result (λ notifier. arc_value notifier.turn ≡ arc_value turn.now) }
 {
-    let gate = gate.again(alloc, NOTIFIER)?;
-    let rt = rt.clone()?;
-    let place = place_of(turn, seat)?;
+    let post = post_of(rt, alloc, turn, seat, NOTIFIER, gate)?;
     Ok(Notifier {
-        rt,
+        rt: post.rt,
         alloc,
-        turn: place.turn,
-        seat: place.seat,
+        turn: post.turn,
+        seat: post.seat,
         clock,
         link,
-        gate,
+        gate: post.gate,
     })
 }
 
@@ -348,6 +389,8 @@ where
     stop_if(started, rt, &turn, &mut seat);
     let counts = join_scanner(rt, &turn, &mut seat, scanner);
     join_notifier(rt, &turn, &mut seat, notifier);
+    drop(seat);
+    drop(turn);
     outcome_of(started, served, requests, counts)
 }
 
@@ -430,6 +473,7 @@ fn start_if<R: Threads, W: Spawner, J: Job>(
     if wanted {
         spawner.start(rt, job).ok()
     } else {
+        drop(job);
         None
     }
 }

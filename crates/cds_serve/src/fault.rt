@@ -6,7 +6,7 @@ use cds_base::Mem;
 use std::alloc::{AllocError, AllocFailed};
 
 /// Why a server that listens ended before it had served.
-#[derive(Clone, Copy, PartialEq, Eq, Debug)]
+#[derive(Clone, Copy)]
 pub(crate) enum Fault {
     /// The sink could not be written.
     Sink,

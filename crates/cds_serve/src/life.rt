@@ -1,6 +1,6 @@
 //! A server that listens at a port, from its start to its end.
 
-ghost use Rattle.std.specs.Prelude.{◌≡◌, ◌⊎◌, ◌+◌, ◌≤◌, ℕ, ◌++◌, drop, Ok, Err, IfOk, OnOk, string_bytes};
+ghost use Rattle.std.specs.Prelude.{◌≡◌, ◌⊎◌, ◌+◌, ◌≤◌, ℕ, [], ◌++◌, drop, Ok, Err, IfOk, OnOk, string_bytes};
 ghost use Rattle.std.specs.Fmt.{decimal};
 ghost use Rattle.cds_base.specs.Outside.{Rose, raised};
 ghost use Rattle.cds_serve.specs.Life.{AsksFor, EndsLife, IsCaused, WritesLife, WritesLine, life_asks, served_line, serving_line, status_of};
@@ -185,8 +185,7 @@ fn serving_line(alloc: Global, port: u16) -> Result<String, Mem>
     ensures { IfOk result (λ line. string_bytes line ≡ serving_line port) }
 {
     let mut line = String::new(alloc);
-    put(&mut line, "serving ")?;
-    put_number(&mut line, u64::from(port))?;
+    put_count(&mut line, "serving ", u64::from(port))?;
     put(&mut line, "\n")?;
     Ok(line)
 }
@@ -197,12 +196,22 @@ fn served_line(alloc: Global, requests: u32, counts: Counts) -> Result<String, M
         ≡ served_line requests (record { accepted = counts.accepted; refused = counts.refused; memory = counts.memory })) }
 {
     let mut line = String::new(alloc);
-    put_count(&mut line, "served ", u64::from(requests))?;
-    put_count(&mut line, " scans ", counts.accepted)?;
-    put_count(&mut line, " refused ", counts.refused)?;
-    put_count(&mut line, " memory ", counts.memory)?;
-    put(&mut line, "\n")?;
+    put_served(&mut line, requests, counts)?;
     Ok(line)
+}
+
+/// Puts the line that says what was done.
+fn put_served(line: &mut String, requests: u32, counts: Counts) -> Result<(), Mem>
+    requires { string_bytes line.old ≡ [] }
+    ensures { OnOk result (string_bytes line.new
+        ≡ served_line requests (record { accepted = counts.accepted; refused = counts.refused; memory = counts.memory })) }
+{
+    put_count(line, "served ", u64::from(requests))?;
+    put_count(line, " scans ", counts.accepted)?;
+    put_count(line, " refused ", counts.refused)?;
+    put_count(line, " memory ", counts.memory)?;
+    put(line, "\n")?;
+    Ok(())
 }
 
 /// Puts a word and a number at the end.
@@ -210,8 +219,7 @@ fn put_count(line: &mut String, word: &str, number: u64) -> Result<(), Mem>
     ensures { OnOk result (string_bytes line.new ≡ string_bytes line.old ++ word.now ++ decimal number) }
 {
     put(line, word)?;
-    put_number(line, number)?;
-    Ok(())
+    put_number(line, number)
 }
 
 /// Writes a line.

@@ -1,7 +1,7 @@
 //! Requests as they come over a connection.
 
 ghost use Rattle.std.specs.Prelude.{◌≡◌, ◌≤◌, ◌<◌, ℕ, true, List, length, Option, Some, IfOk, OnErr};
-ghost use Rattle.cds_base.specs.Outside.{WhereTold};
+ghost use Rattle.cds_base.specs.Outside.{Told};
 ghost use Rattle.cds_http.specs.declared.error.HttpError.TheVariants as cause;
 ghost use Rattle.cds_http.specs.declared.message.Message.{Message};
 ghost use Rattle.cds_http.specs.declared.message.Side.TheVariants as side;
@@ -44,8 +44,8 @@ pub(crate) enum Filled {
 
 /// The request of a connection, of which nothing was read yet.
 pub(crate) fn read_request<C: Conn>(alloc: Global, conn: &mut C) -> Request
-    ensures request { WhereTold (C.left conn.old) (λ bytes. (known : Known Message) → Decides true side.Request bytes known → IsRequest known result) }
-    ensures read { WhereTold (C.left conn.old) (λ bytes. ReadsFrom bytes (C.left conn.new) (IsLastIn result)) }
+    ensures request { Told (C.left conn.old) (λ bytes. (known : Known Message) → Decides true side.Request bytes known → IsRequest known result) }
+    ensures read { Told (C.left conn.old) (λ bytes. ReadsFrom bytes (C.left conn.new) (IsLastIn result)) }
     ensures rose { BrokenRose result (C.Source.faults conn.old) (C.Source.faults conn.new) }
     ensures never_falls { C.Source.faults conn.old ≤ C.Source.faults conn.new }
     ensures taken_stay { C.holds conn.new ≡ C.holds conn.old }
@@ -59,17 +59,18 @@ pub(crate) fn read_request<C: Conn>(alloc: Global, conn: &mut C) -> Request
 
 /// The request, where there is memory for a piece of it.
 fn read_message<C: Conn>(alloc: Global, conn: &mut C) -> Result<Request, Mem>
-    ensures request { IfOk result (λ request. WhereTold (C.left conn.old) (λ bytes. (known : Known Message) → Decides true side.Request bytes known → IsRequest known request)) }
-    ensures read { IfOk result (λ request. WhereTold (C.left conn.old) (λ bytes. ReadsFrom bytes (C.left conn.new) (IsLastIn request))) }
+    ensures request { IfOk result (λ request. Told (C.left conn.old) (λ bytes. (known : Known Message) → Decides true side.Request bytes known → IsRequest known request)) }
+    ensures read { IfOk result (λ request. Told (C.left conn.old) (λ bytes. ReadsFrom bytes (C.left conn.new) (IsLastIn request))) }
     ensures unread { OnErr result (C.left conn.new ≡ C.left conn.old) }
     ensures rose { IfOk result (λ request. BrokenRose request (C.Source.faults conn.old) (C.Source.faults conn.new)) }
     ensures never_falls { C.Source.faults conn.old ≤ C.Source.faults conn.new }
     ensures taken_stay { C.holds conn.new ≡ C.holds conn.old }
     ensures write_faults_stay { C.Sink.faults conn.new ≡ C.Sink.faults conn.old }
 {
-    let mut reader = MessageReader::new(alloc, Side::Request)?;
     let mut piece = empty_piece(alloc)?;
+    let mut reader = MessageReader::new(alloc, Side::Request)?;
     let filled = fill(alloc, conn, &mut reader, piece.as_mut_slice());
+    drop(piece);
     Ok(request_of(filled, reader))
 }
 
@@ -144,8 +145,14 @@ fn request_of(filled: Filled, reader: MessageReader) -> Request
 {
     match filled {
         Filled::Done => finish(reader),
-        Filled::Refused(refusal) => refused(refusal),
-        Filled::Broken => Request::Broken,
+        Filled::Refused(refusal) => {
+            drop(reader);
+            refused(refusal)
+        }
+        Filled::Broken => {
+            drop(reader);
+            Request::Broken
+        }
     }
 }
 
@@ -166,7 +173,10 @@ fn judged(message: Message) -> Request
     ensures rose { (old new : ℕ) → BrokenRose result old new }
 {
     match request_status(&message.start) {
-        Some(status) => Request::Free(status),
+        Some(status) => {
+            drop(message);
+            Request::Free(status)
+        }
         None => Request::Needing(message),
     }
 }

@@ -119,6 +119,9 @@ impl<
             gate: _,
         } = self;
         let counts = scan_until_stopped(&rt, alloc, &turn, &mut seat, &mut folder, &mut clock);
+        drop(clock);
+        drop(turn);
+        drop(rt);
         ended(folder, seat, counts)
     }
 }

@@ -2,8 +2,8 @@
 
 ghost use Rattle.std.specs.Prelude.{◌≡◌, ◌≤◌, List, ◌∷◌, [], map, Option, Some, IfOk, IfSome, IsErr, IsSome, OnErr};
 ghost use Rattle.std.specs.List.{AllByRecursion};
-ghost use Rattle.cds_base.specs.declared.link.LinkRequest.{LinkRequest};
-ghost use Rattle.cds_base.specs.Entries.{Told};
+ghost use Rattle.cds_base.specs.declared.outside.link.LinkRequest.{LinkRequest};
+ghost use Rattle.cds_base.specs.Outside.{Told};
 ghost use Rattle.cds_base.specs.Links.{requests_after};
 ghost use Rattle.cds_gena.specs.Subscribed.{IsDelivered};
 ghost use Rattle.cds_server.specs.Due.{AllGoOut};

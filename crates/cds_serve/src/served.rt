@@ -20,7 +20,7 @@ use std::snapshot::Snapshot;
 
 /// What a server is opened with, which no command changes: two boot words, of which its names are made, and its first
 /// number.
-#[derive(Drop, Debug)]
+#[derive(Drop)]
 pub struct Opening {
     pub boot: [u64; 2],
     pub first: u32,

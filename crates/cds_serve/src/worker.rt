@@ -66,6 +66,12 @@ impl<
         let served = serve_share(
             &rt, alloc, &turn, &mut seat, &mut door, &mut clock, &mut link, &mut gate, share,
         );
+        drop(gate);
+        drop(link);
+        drop(clock);
+        drop(seat);
+        drop(turn);
+        drop(rt);
         Worked { door, served }
     }
 }

@@ -11,7 +11,8 @@ use Rattle.cds_gena.specs.declared.error.GenaError.{GenaError}
 use Rattle.cds_gena.specs.declared.error.GenaError.TheVariants.{Mem, Precondition, Spent}
 use Rattle.cds_gena.specs.declared.gena.Gena.{Gena}
 use Rattle.cds_base.specs.declared.mem.Mem.{Mem as Memory}
-use Rattle.cds_notify.proofs.Visible.{all-stand, visible-append, visible-decimal, visible-literal, visible-sid}
+use Rattle.cds_http.proofs.Visible.{all-stand, visible-append, visible-decimal, visible-literal}
+use Rattle.cds_gena.proofs.Visible.{visible-sid}
 use Rattle.cds_server.specs.declared.notes.FirstNote.{FirstNote}
 use Rattle.cds_server.specs.Outcome.{GoesOut, IsDone, empty_reply, ending, granting, lease_fields, lease_reply, noted, outcome_in, renewing, status_of}
 

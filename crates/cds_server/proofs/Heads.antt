@@ -8,8 +8,8 @@ use Rattle.std.specs.Cmp.{tied_itself}
 use Rattle.std.specs.Cmp.Lexicographic.{slice_cmp, bytes_decides, nat_list_cmp_total, texts_ties}
 use Rattle.cds_object.specs.Path.{path_cmp, same_path}
 use Rattle.cds_object.specs.declared.content.Content.{Content}
-use Rattle.cds_event.specs.declared.Event.{Event}
-use Rattle.cds_event.specs.declared.Event.TheVariants.{StDone}
+use Rattle.cds_object.specs.declared.event.Event.{Event}
+use Rattle.cds_object.specs.declared.event.Event.TheVariants.{StDone}
 use Rattle.cds_catalog.specs.Library.{FolderMap, found}
 use Rattle.cds_catalog.specs.History.{place_of, is_addition}
 use Rattle.cds_catalog.specs.Laws.{IsLibrary}

@@ -4,20 +4,19 @@ use Rattle.std.specs.List.{flat_map, filter_map, cons_option, AllByRecursion}
 use Rattle.std.specs.Prelude.{MatchOption, option_and_then}
 use Rattle.std.specs.Fmt.{decimal}
 use Rattle.std.proofs.lemmas.Bool.{cases_lt}
-use Rattle.std.proofs.lemmas.Fmt.{length-decimal-le}
 use Rattle.std.proofs.lemmas.List.{drop-drop}
 use Rattle.std.proofs.lemmas.List.Elements.{filter-append}
 use Rattle.std.proofs.lemmas.List.Sums.{count_by-le-length}
-use Rattle.cds_base.specs.Escape.{escaped, escaped_byte}
-use Rattle.cds_base.specs.Writing.{attribute, number_attribute}
+use Rattle.cds_base.specs.Escape.{escaped}
+use Rattle.cds_base.proofs.Wide.{wide, wide-append, short-decimal}
 use Rattle.cds_object.specs.Object.{ObjectRow}
 use Rattle.cds_object.specs.Path.{parent_of}
 use Rattle.cds_object.specs.declared.row.Trackers.{Trackers}
-use Rattle.cds_event.specs.Events.{class_of, update_of}
-use Rattle.cds_event.specs.declared.Class.{Class}
-use Rattle.cds_event.specs.declared.Class.TheVariants.{Container, Track}
-use Rattle.cds_event.specs.declared.Event.{Event}
-use Rattle.cds_event.specs.declared.Event.TheVariants.{StDone}
+use Rattle.cds_object.specs.Events.{class_of, update_of}
+use Rattle.cds_object.specs.declared.event.Class.{Class}
+use Rattle.cds_object.specs.declared.event.Class.TheVariants.{Container, Track}
+use Rattle.cds_object.specs.declared.event.Event.{Event}
+use Rattle.cds_object.specs.declared.event.Event.TheVariants.{StDone}
 use Rattle.cds_catalog.specs.Library.{FolderMap, found}
 use Rattle.cds_catalog.specs.History.{History, changes_of, end_of, is_addition, latest, place_of}
 use Rattle.cds_catalog.specs.Catalog.{catalog, id_of}
@@ -34,11 +33,11 @@ use Rattle.cds_changes.specs.ContainerLaws.{changed_container}
 use Rattle.cds_changes.proofs.ContainerNumbers.{containers-numbered}
 use Rattle.cds_changes.proofs.Spans.{is_in, none_above, span, spans-join, spans-stay}
 use Rattle.cds_changes.proofs.Within.{all-lie}
+use Rattle.cds_lastchange.proofs.WideEvents.{wide-change, wide-flagged, wide-class, wide-added}
 use Rattle.cds_lastchange.specs.Spelled.{change_text, flag_text, flagged_text, class_text, added_text, event_text, opening, closing, spelled}
 use Rattle.cds_notify.specs.Propertyset.{property, pair_text, further_text, pairs_text, set_opening, propertyset_text}
 use Rattle.cds_notify.specs.Laws.{IsPair}
 use Rattle.cds_notify.proofs.Pieces.{long-property}
-use Rattle.cds_notify.proofs.Bodies.{stays-decimal}
 use Rattle.cds_commands.specs.Commands.{scans_of}
 use Rattle.cds_commands.specs.Releases.{release_size, released_to, releases_of, scan_end_within}
 use Rattle.cds_commands.proofs.Scanned.{Grows, dropped-grows, scans-first}
@@ -47,78 +46,6 @@ use Rattle.cds_server.specs.Laws.{bodies_are_short}
 use Rattle.cds_server.proofs.Heads.{base, cost, costs-few, ends}
 
 -- ---- the bytes of events, as they are escaped
-
-abbrev wide : List ℕ → ℕ
-wide text = length (escaped text)
-
-wide-append : (a b : List ℕ) → wide (a ++ b) ≡ wide a + wide b
-wide-append a b = ap length (spread a b) ∙ length-append (escaped a) (escaped b)
-  where
-    spread : (a b : List ℕ) → escaped (a ++ b) ≡ escaped a ++ escaped b
-    spread [] b = refl
-    spread (x ∷ a) b = ap (λ t. escaped_byte x ++ t) (spread a b) ∙ sym (append_assoc (escaped_byte x) (escaped a) (escaped b))
-
-short-decimal : (n : ℕ) → n < 2 ^ 32 → length (decimal n) ≤ 10
-short-decimal n h = length-decimal-le 10 n (omega arith) (omega (arith, h)) (omega (arith, h))
-
-wide-decimal : (n : ℕ) → n < 2 ^ 32 → wide (decimal n) ≤ 10
-wide-decimal n h = let same = ap length (stays-decimal n h) in let short = short-decimal n h in omega (arith, same, short)
-
-wide-attribute : (name value : List ℕ) → wide (attribute name value) ≡ wide name + wide value + 14
-unfolding attribute
-wide-attribute name value =
-    let a = wide-append (((codes " " ++ name) ++ codes "=\"") ++ value) (codes "\"") in
-    let b = wide-append ((codes " " ++ name) ++ codes "=\"") value in
-    let c = wide-append (codes " " ++ name) (codes "=\"") in
-    let d = wide-append (codes " ") name in
-    let e : wide (codes " ") ≡ 1 = refl in
-    let f : wide (codes "=\"") ≡ 7 = refl in
-    let g : wide (codes "\"") ≡ 6 = refl in
-    omega (arith, a, b, c, d, e, f, g)
-
-wide-number : (name : List ℕ) (n : ℕ) → n < 2 ^ 32 → wide (number_attribute name n) ≤ wide name + 24
-unfolding attribute number_attribute
-wide-number name n h = let all = wide-attribute name (decimal n) in let short = wide-decimal n h in omega (arith, all, short)
-
-wide-change : (id update : ℕ) → id < 2 ^ 32 → update < 2 ^ 32 → wide (change_text id update) ≤ 61
-unfolding change_text
-wide-change id update i u =
-    let all = wide-append (number_attribute (codes "objID") id) (number_attribute (codes "updateID") update) in
-    let a = wide-number (codes "objID") id i in
-    let b = wide-number (codes "updateID") update u in
-    let c : wide (codes "objID") ≡ 5 = refl in
-    let d : wide (codes "updateID") ≡ 8 = refl in
-    omega (arith, all, a, b, c, d)
-
-wide-flagged : (id update : ℕ) (st : Bool) → id < 2 ^ 32 → update < 2 ^ 32 → wide (flagged_text id update st) ≤ 84
-unfolding flagged_text
-wide-flagged id update st i u =
-    let all = wide-append (change_text id update) (attribute (codes "stUpdate") (flag_text st)) in
-    let a = wide-change id update i u in
-    let b = wide-attribute (codes "stUpdate") (flag_text st) in
-    let c = flag st in
-    let d : wide (codes "stUpdate") ≡ 8 = refl in
-    omega (arith, all, a, b, c, d)
-  where
-    flag : (st : Bool) → wide (flag_text st) ≡ 1
-    flag true = refl
-    flag false = refl
-
-wide-class : (class : Class) → wide (class_text class) ≤ 32
-unfolding class_text
-wide-class Container = omega arith
-wide-class Track = omega arith
-
-wide-added : (parent : ℕ) (class : Class) → parent < 2 ^ 32 → wide (added_text parent class) ≤ 89
-unfolding added_text
-wide-added parent class p =
-    let all = wide-append (number_attribute (codes "objParentID") parent) (attribute (codes "objClass") (class_text class)) in
-    let a = wide-number (codes "objParentID") parent p in
-    let b = wide-attribute (codes "objClass") (class_text class) in
-    let c = wide-class class in
-    let d : wide (codes "objParentID") ≡ 11 = refl in
-    let e : wide (codes "objClass") ≡ 8 = refl in
-    omega (arith, all, a, b, c, d, e)
 
 wide-change-event : (name : List ℕ) (id update : ℕ) (st : Bool) → wide name ≡ 10 → id < 2 ^ 32 → update < 2 ^ 32
     → wide ((name ++ flagged_text id update st) ++ codes "/>") ≤ 99

@@ -15,10 +15,9 @@ use Rattle.cds_store.specs.declared.span.Span.{Span}
 use Rattle.cds_http.specs.declared.message.Message.{Message}
 use Rattle.cds_commands.specs.Commands.{Command, Start, Scans, Stops, AreAccepted, scans_of}
 use Rattle.cds_commands.specs.Names.{names_of}
-use Rattle.cds_commands.specs.Subscriptions.{granted}
+use Rattle.cds_commands.specs.Subscriptions.{granted, end_after}
 use Rattle.cds_gena.specs.Asked.{gena_of}
 use Rattle.cds_gena.specs.Subscribed.{Booked, Subscribed, StandsFor as BookStandsFor, grant_refusal, if_alive, if_full, last_number, living_named, number_of, subscribed_by, with_grant, renewed, without}
-use Rattle.cds_commands.specs.Subscriptions.{end_after}
 use Rattle.cds_gena.specs.declared.error.GenaError.{GenaError}
 use Rattle.cds_gena.specs.declared.error.GenaError.TheVariants.{Spent}
 use Rattle.cds_gena.specs.declared.gena.Gena.{Gena}

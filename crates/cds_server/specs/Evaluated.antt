@@ -8,8 +8,8 @@ use Rattle.cds_soap.specs.declared.action.Action.TheVariants as action
 use Rattle.cds_soap.specs.declared.answer.Answer.{Answer}
 use Rattle.cds_soap.specs.declared.answer.Answer.TheVariants as answer
 use Rattle.cds_catalog.specs.Evaluated.{one_folder}
-use Rattle.cds_event.specs.declared.Class.TheVariants.{Track}
-use Rattle.cds_event.specs.declared.Event.TheVariants.{ObjAdd}
+use Rattle.cds_object.specs.declared.event.Class.TheVariants.{Track}
+use Rattle.cds_object.specs.declared.event.Event.TheVariants.{ObjAdd}
 use Rattle.cds_commands.specs.Commands.{Command, Start as Beginning, Scans, Grants, Ticks}
 use Rattle.cds_commands.specs.Names.{name_of}
 use Rattle.cds_commands.specs.Evaluated.{grants, one}

@@ -13,7 +13,7 @@ use cds_base::{Bytes, Mem, Text};
 use cds_browse::{BrowseError, Page, browse};
 use cds_didl::{Filter, put_didl_end, put_didl_start, put_row};
 use cds_soap::{Action, Answer, BrowseRequest};
-use cds_store::Store;
+use cds_store::{Keeping, Store};
 use std::alloc::Global;
 use uuid::Uuid;
 

@@ -13,10 +13,10 @@ ghost use Rattle.cds_server.specs.Outcome.{IsDone, GoesOut, empty_reply, ending,
 use crate::notes::FirstNote;
 use crate::replying::put_empty;
 use cds_base::{Bytes, Mem, Text};
-use cds_event::Events;
 use cds_gena::{Address, Book, Gena, GenaError, Sid, asks_of_subscription, read_gena};
 use cds_http::{Fields, Message, Start, write_reply};
 use cds_notify::write_propertyset;
+use cds_object::Events;
 use std::alloc::Global;
 use url::Url;
 

@@ -21,7 +21,7 @@ use cds_http::Message;
 use cds_moderator::Moderator;
 use cds_object::Records;
 use cds_scan::Scan;
-use cds_store::{ApplyError, Span, Store};
+use cds_store::{ApplyError, Keeping, Span, Store};
 use std::alloc::Global;
 use std::marker::Model;
 

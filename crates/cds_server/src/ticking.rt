@@ -12,10 +12,10 @@ ghost use Rattle.cds_store.specs.Stands.{StandsFor as StoreStandsFor};
 ghost use Rattle.cds_server.specs.Serving.{CanFollow};
 
 use cds_base::{Bytes, Mem};
-use cds_event::Events;
 use cds_moderator::Moderator;
 use cds_notify::write_propertyset;
-use cds_store::{Span, Store};
+use cds_object::Events;
+use cds_store::{Keeping, Span, Store};
 use std::alloc::Global;
 
 /// Whether a span has no change.

@@ -1,11 +1,20 @@
-//! Tests alone, of subscriptions, of notes and of the server whole.
+//! Tests alone, of what a server keeps and gives: both bodies of the store, scans whose folders fail, and servers that listen
+//! over objects in memory, whole with their threads.
 #![tactic(auto)]
 
 #[cfg(test)]
-mod event_tests;
+mod desk;
 #[cfg(test)]
-mod gena_tests;
+mod life;
 #[cfg(test)]
-mod notify_tests;
+mod listening_tests;
 #[cfg(test)]
-mod server_tests;
+mod made;
+#[cfg(test)]
+mod scan_tests;
+#[cfg(test)]
+mod sharing_tests;
+#[cfg(test)]
+mod store_tests;
+#[cfg(test)]
+mod thread_tests;

@@ -5,7 +5,7 @@ use Rattle.std.specs.Option.{option_and_then}
 use Rattle.std.proofs.lemmas.Bool.Decides.{Decides-eqb}
 use Rattle.cds_base.specs.declared.limits.TheConstants.{INPUT_LIMIT}
 use Rattle.cds_base.specs.Unescape.{AreAllowed}
-use Rattle.cds_base.specs.Writing.{text_element, number_element}
+use Rattle.cds_object.specs.Writing.{text_element, number_element}
 use Rattle.cds_markup.specs.declared.tag.Tag.{Tag}
 use Rattle.cds_markup.specs.Document.{Meaning, Meanings, Element, End, ChildThen, most_open, Doc}
 use Rattle.cds_markup.specs.Drafts.{Draft, Tagged, Drafts, Done, DraftThen, drafted, drafted_in, draft_says, drafts_say, CanBeDraft, CanBeDrafted, draft_depth, version_declared}
@@ -23,7 +23,8 @@ use Rattle.cds_soap.specs.Answered.{control_space, code_in, Results, Says}
 use Rattle.cds_soap.specs.Written.{description, fault_front, fault_end, fault_text, text_result, answer_inside, answer_body, answer_status, is_known_code, Fits}
 use Rattle.cds_soap.specs.Laws.{IsAllowedAnswer}
 use Rattle.cds_soap.proofs.Naming.{true-both, same-bytes}
-use Rattle.cds_soap.proofs.Printed.{allowed-printed, decimal-read}
+use Rattle.cds_base.proofs.Plain.{allowed-printed}
+use Rattle.cds_soap.proofs.Printed.{decimal-read}
 use Rattle.cds_soap.proofs.Envelopes.{named, attribute, plain_tag, text_draft, text-written, number-written, said_name, text_said, alone, number-one, AName, text-can, number-can, service_draft, service-written, envelope_draft, envelope-written, Around, envelope_said, envelope-says, envelope-holds, Inner, service_said, service-says, name-s, service-can, envelope-can}
 
 -- ---- drafts of answers

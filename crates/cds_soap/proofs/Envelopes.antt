@@ -6,7 +6,7 @@ use Rattle.std.specs.Option.{option_and_then}
 use Rattle.std.proofs.lemmas.Bool.Decides.{nat_tests}
 use Rattle.cds_base.specs.Escape.{escaped}
 use Rattle.cds_base.specs.Unescape.{AreAllowed}
-use Rattle.cds_base.specs.Writing.{text_element, number_element}
+use Rattle.cds_object.specs.Writing.{text_element, number_element}
 use Rattle.cds_markup.specs.declared.name.Name.{Name}
 use Rattle.cds_markup.specs.declared.tag.QName.{QName}
 use Rattle.cds_markup.specs.declared.tag.TagAttr.{TagAttr}
@@ -25,7 +25,8 @@ use Rattle.cds_soap.specs.Names.{IsVersion, service_front, service_type}
 use Rattle.cds_soap.specs.Envelope.{envelope_space, in_envelope}
 use Rattle.cds_soap.specs.Written.{envelope_start, envelope_end, enveloped, service_start, service_end, in_service}
 use Rattle.cds_soap.specs.Given.{text_given, number_given, number_in}
-use Rattle.cds_soap.proofs.Printed.{allowed-printed, stays-decimal, allowed-decimal, decimal-read}
+use Rattle.cds_base.proofs.Plain.{allowed-printed, stays-decimal}
+use Rattle.cds_soap.proofs.Printed.{allowed-decimal, decimal-read}
 
 -- ---- elements of a text alone
 

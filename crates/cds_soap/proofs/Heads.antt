@@ -21,7 +21,8 @@ use Rattle.cds_soap.specs.Names.{service_front, service_type, soap_action, in_qu
 use Rattle.cds_soap.specs.Control.{soap_action_in}
 use Rattle.cds_soap.specs.Written.{content_type, host_in, target_in, request_fields, answer_fields, answer_status, CanBeToken}
 use Rattle.cds_soap.specs.Laws.{is_host}
-use Rattle.cds_soap.proofs.Visible.{AreVisible, visible-literal, within, field, back, visible-back, token-visible, host-text-visible}
+use Rattle.cds_http.proofs.Visible.{AreVisible, back, field_of as field, visible-back, visible-literal}
+use Rattle.cds_soap.proofs.Visible.{within, token-visible, host-text-visible}
 
 -- ---- lines and their lengths
 

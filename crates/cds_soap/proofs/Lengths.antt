@@ -2,9 +2,9 @@
 use Rattle.std.proofs.Common.{◌≡◌, ◌==◌, ℕ, zero, suc, ◌+◌, ◌*◌, ◌≤◌, ◌<◌, ◌^◌, Bool, true, false, cond, List, [], ◌++◌, length, codes, refl, ap, ◌∙◌, arith, length-append}
 use Rattle.std.specs.Fmt.{decimal, digits}
 use Rattle.std.proofs.lemmas.Fmt.{length-decimal-le}
-use Rattle.std.proofs.lemmas.Grind.{flat_map-append}
-use Rattle.cds_base.specs.Escape.{escaped, escaped_byte}
-use Rattle.cds_base.specs.Writing.{text_element, number_element}
+use Rattle.cds_base.specs.Escape.{escaped}
+use Rattle.cds_base.proofs.Wide.{wide, wide-append}
+use Rattle.cds_object.specs.Writing.{text_element, number_element}
 use Rattle.cds_soap.specs.declared.action.ActionName.{ActionName}
 use Rattle.cds_soap.specs.declared.action.ActionName.TheVariants as name
 use Rattle.cds_soap.specs.declared.action.Action.{Action}
@@ -16,13 +16,6 @@ use Rattle.cds_soap.specs.Written.{envelope_start, envelope_end, enveloped, serv
 use Rattle.cds_soap.specs.Laws.{IsAllowedAction, IsAllowedAnswer, action_texts, answer_texts, BodiesAreShort}
 use Rattle.cds_soap.proofs.AnswerBodies.{code-known}
 use Rattle.cds_soap.proofs.Visible.{within}
-
--- how many bytes stand for a text
-abbrev wide : List ℕ → ℕ
-wide text = length (escaped text)
-
-wide-append : (a b : List ℕ) → wide (a ++ b) ≡ wide a + wide b
-wide-append a b = ap length (flat_map-append escaped_byte a b) ∙ length-append (escaped a) (escaped b)
 
 -- ---- elements
 

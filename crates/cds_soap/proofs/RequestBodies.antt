@@ -3,7 +3,7 @@ use Rattle.std.proofs.Common.{◌≡◌, ℕ, ◌≤◌, ◌<◌, ◌^◌, Some,
 use Rattle.std.specs.Fmt.{decimal}
 use Rattle.cds_base.specs.declared.limits.TheConstants.{INPUT_LIMIT}
 use Rattle.cds_base.specs.Unescape.{AreAllowed}
-use Rattle.cds_base.specs.Writing.{text_element}
+use Rattle.cds_object.specs.Writing.{text_element}
 use Rattle.cds_markup.specs.Document.{Meaning, Meanings, End, ChildThen, most_open, Doc}
 use Rattle.cds_markup.specs.Drafts.{Draft, Drafts, Done, DraftThen, drafted, drafted_in, drafts_say, CanBeDrafts, CanBeDrafted, draft_depth, version_declared}
 use Rattle.cds_markup.proofs.Public.{small-name, drafts-are-read}

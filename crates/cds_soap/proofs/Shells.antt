@@ -1,7 +1,7 @@
 -- The body of an answer is what stands round its page, with the page escaped between.
 use Rattle.std.proofs.Common.{◌≡◌, ℕ, Option, Result, Ok, Err, OnOk, List, [], ◌++◌, length, codes, refl, sym, ap, ◌∙◌, append_assoc}
 use Rattle.cds_base.specs.Escape.{escaped}
-use Rattle.cds_base.specs.Writing.{text_element, number_element}
+use Rattle.cds_object.specs.Writing.{text_element, number_element}
 use Rattle.cds_soap.specs.declared.action.ActionName.{ActionName}
 use Rattle.cds_soap.specs.declared.answer.Answer.{Answer}
 use Rattle.cds_soap.specs.declared.answer.Answer.TheVariants as answer

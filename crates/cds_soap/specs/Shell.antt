@@ -1,6 +1,6 @@
 -- The body of an answer round its page.
 use Rattle.std.specs.Prelude.{ℕ, List, [], ◌++◌, codes}
-use Rattle.cds_base.specs.Writing.{text_element, number_element}
+use Rattle.cds_object.specs.Writing.{text_element, number_element}
 use Rattle.cds_soap.specs.declared.action.ActionName.{ActionName}
 use Rattle.cds_soap.specs.declared.answer.Answer.{Answer}
 use Rattle.cds_soap.specs.declared.answer.Answer.TheVariants as answer

@@ -2,7 +2,7 @@
 use Rattle.std.specs.Prelude.{◌≡◌, ◌==◌, ◌≤◌, ℕ, Bool, true, false, ◌&&◌, nat_le, IsTrue, if◌then◌else◌, Option, Some, None, List, [], ◌∷◌, ◌++◌, length, codes, ⊤}
 use Rattle.std.specs.List.{list_all}
 use Rattle.std.specs.Fmt.{decimal}
-use Rattle.cds_base.specs.Writing.{text_element, number_element}
+use Rattle.cds_object.specs.Writing.{text_element, number_element}
 use Rattle.url.specs.declared.slicing.Position.TheVariants.{BeforeHost, AfterPort, BeforePath, AfterQuery}
 use Rattle.url.specs.Parts.{Parts, text_between}
 use Rattle.cds_http.specs.declared.fields.Field.{Field}

@@ -2,19 +2,19 @@
 
 ghost use Rattle.std.specs.Prelude.{◌≡◌, ◌++◌, ℕ, List, IfOk, OnOk, OnErr, codes, length, string_bytes, option_copied};
 ghost use Rattle.cds_base.specs.Escape.{escaped};
-ghost use Rattle.cds_base.specs.Writing.{text_element, number_element};
+ghost use Rattle.cds_object.specs.Writing.{text_element, number_element};
 ghost use Rattle.cds_soap.specs.Names.{name_of_action};
 ghost use Rattle.cds_soap.specs.Written.{description, fault_front, fault_end, fault_text, text_result, answer_status, answer_fields, written_answer, is_known_code, fits, Fits, CanBeToken};
 ghost use Rattle.cds_soap.specs.declared.action.ActionName.{ActionName};
 ghost use Rattle.cds_soap.specs.Shell.{page_of, page_front, page_back, in_response, front_inside, back_inside, front_of, back_of};
 
-use crate::escape::{escaped_length, put_escaped};
 use crate::request_text::{
     put_envelope_end, put_envelope_start, put_service_end, put_service_start, put_u32_element,
 };
 use crate::{Action, ActionName, Answer};
-use cds_base::{Mem, put, put_text_element};
+use cds_base::{Mem, escaped_length, put, put_escaped};
 use cds_http::{Fields, write_reply_head};
+use cds_object::put_text_element;
 use std::alloc::Global;
 
 /// Appends the reply that answers an action in a version of the service: with status 200 and its results, or with 500 and a

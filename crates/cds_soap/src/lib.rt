@@ -8,7 +8,6 @@ mod answer_text;
 mod ask;
 mod envelope;
 mod error;
-mod escape;
 mod examples;
 mod given;
 mod laws;

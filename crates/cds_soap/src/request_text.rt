@@ -1,13 +1,14 @@
 //! Writing control requests.
 
 ghost use Rattle.std.specs.Prelude.{◌≡◌, ◌++◌, IfOk, OnOk, OnErr, codes, string_bytes};
-ghost use Rattle.cds_base.specs.Writing.{number_element, text_element};
+ghost use Rattle.cds_object.specs.Writing.{number_element, text_element};
 ghost use Rattle.cds_soap.specs.Written.{envelope_start, envelope_end, service_start, service_end, slice_text, browse_text, search_text, arguments_text, request_body, request_fields, written_action};
 
 use crate::names::{put_service_type, quoted_soap_action};
 use crate::{Action, ActionName, BrowseRequest, SearchRequest};
-use cds_base::{Mem, Text, put, put_number_element, put_text_element};
+use cds_base::{Mem, Text, put};
 use cds_http::{Fields, write_request};
+use cds_object::{put_number_element, put_text_element};
 use std::alloc::Global;
 use url::{Position, Url};
 

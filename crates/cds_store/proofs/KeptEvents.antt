@@ -4,7 +4,7 @@ use Rattle.std.specs.List.{AllByRecursion}
 use Rattle.std.proofs.lemmas.Bool.Decides.{nat_tests}
 use Rattle.std.proofs.lemmas.List.{append-nil}
 use Rattle.std.proofs.lemmas.List.Elements.{filter-append}
-use Rattle.cds_event.specs.declared.Event.{Event}
+use Rattle.cds_object.specs.declared.event.Event.{Event}
 use Rattle.cds_catalog.specs.Library.{FolderMap, found}
 use Rattle.cds_catalog.specs.History.{History, latest, changes_of, end_of, with_scan}
 use Rattle.cds_catalog.specs.declared.change.Change.{Change}
@@ -16,7 +16,7 @@ use Rattle.cds_changes.proofs.ParentsEvents.{events_of, scan-with_parents, all-w
 use Rattle.cds_changes.proofs.Within.{Lies, scan-lies}
 use Rattle.cds_catalog.specs.Steps.{Standing}
 use Rattle.cds_store.specs.Stands.{Stored, StandsFor}
-use Rattle.cds_event.specs.Events.{update_of}
+use Rattle.cds_object.specs.Events.{update_of}
 
 -- ---- a scan more
 

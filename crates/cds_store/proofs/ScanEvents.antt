@@ -4,8 +4,8 @@ use Rattle.std.specs.Option.{option_to_list}
 use Rattle.std.proofs.lemmas.List.{append-nil}
 use Rattle.cds_object.specs.Path.{same_path, parent_of}
 use Rattle.cds_object.specs.declared.content.Content.{Content}
-use Rattle.cds_event.specs.declared.Event.{Event}
-use Rattle.cds_event.specs.declared.Event.TheVariants.{ObjAdd, ObjMod, ObjDel, StDone}
+use Rattle.cds_object.specs.declared.event.Event.{Event}
+use Rattle.cds_object.specs.declared.event.Event.TheVariants.{ObjAdd, ObjMod, ObjDel, StDone}
 use Rattle.cds_catalog.specs.Library.{FolderMap, found}
 use Rattle.cds_catalog.specs.History.{History, latest, changes_of, place_of}
 use Rattle.cds_catalog.specs.Catalog.{id_of, root_entry}
@@ -32,7 +32,7 @@ use Rattle.cds_store.specs.ChangeEvents.{changes_in, event_by, done_by, events_b
 use Rattle.cds_store.specs.SubtreeIndex.{AreMarked}
 use Rattle.cds_store.specs.declared.subtrees.MarkedChange.{MarkedChange}
 use Rattle.cds_catalog.proofs.Live.{live}
-use Rattle.cds_event.specs.Events.{class_of}
+use Rattle.cds_object.specs.Events.{class_of}
 
 -- ---- ids
 

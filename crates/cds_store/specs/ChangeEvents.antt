@@ -1,15 +1,15 @@
 -- The events of a scan's changes, by the rows that stand before each.
 use Rattle.std.specs.Prelude.{◌+◌, ℕ, Bool, List, [], ◌∷◌, ◌++◌, map, Option, Some, None}
 use Rattle.cds_object.specs.Path.{parent_of}
-use Rattle.cds_event.specs.declared.Event.{Event}
-use Rattle.cds_event.specs.declared.Event.TheVariants.{ObjAdd, ObjMod, ObjDel, StDone}
+use Rattle.cds_object.specs.declared.event.Event.{Event}
+use Rattle.cds_object.specs.declared.event.Event.TheVariants.{ObjAdd, ObjMod, ObjDel, StDone}
 use Rattle.cds_catalog.specs.History.{place_of}
 use Rattle.cds_catalog.specs.Steps.{Standing, id_at, stepped}
 use Rattle.cds_catalog.specs.declared.change.Change.{Change}
 use Rattle.cds_catalog.specs.declared.change.Change.TheVariants.{Deletion, Addition, Modification}
 use Rattle.cds_changes.specs.declared.event_with_parent.EventWithParent.{EventWithParent}
 use Rattle.cds_store.specs.declared.subtrees.MarkedChange.{MarkedChange}
-use Rattle.cds_event.specs.Events.{class_of}
+use Rattle.cds_object.specs.Events.{class_of}
 
 -- the changes of a plan
 abbrev pub changes_in : List MarkedChange → List Change

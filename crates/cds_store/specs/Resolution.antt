@@ -19,6 +19,17 @@ abbrev pub Notes : (List (List ℕ) → Option ℕ) → MarkedChange → ℕ × 
 Notes ids p own_and_parent =
     (own_and_parent.0 ≡ ids_by ids (place_of p.change)) × (own_and_parent.1 ≡ ids_by ids (parent_of (place_of p.change)))
 
+-- what comes of one more change beside its place among those that are resolved, by the ids of what it names
+pub record Comes (ids_before ids_now : List (List ℕ) → Option ℕ) (before now : Resolution) (p : MarkedChange) (ids : ℕ × ℕ) : Type 0 where
+  pub names : Notes ids_before p ids
+  pub number : now.number ≡ before.number + 1
+  pub drawn : now.drawn ≡ drawn_after before.drawn p.change
+  pub resolved : now.resolved.items ≡ before.resolved.items
+  pub told : now.told.items ≡ before.told.items ++ events_with (ids_by ids_before) before.number before.drawn p
+  pub goes : (id : ℕ) → contains nat_cmp now.gone id ≡ goes_after p.change (ids_by ids_before (place_of p.change)) (contains nat_cmp before.gone) id
+  pub come : now.come.items ≡ come_after p.change (before.drawn + 1) (ids_by ids_before (parent_of (place_of p.change))) before.come.items
+  pub learns : Learns ids_before ids_now p.change (before.drawn + 1)
+
 -- what one more change adds
 pub record Takes (ids_before ids_now : List (List ℕ) → Option ℕ) (before now : Resolution) (p : MarkedChange) : Type 0 where
   pub number : now.number ≡ before.number + 1

@@ -5,7 +5,7 @@ use Rattle.cds_catalog.specs.History.{History, latest, end_of, with_scan}
 use Rattle.cds_catalog.specs.Laws.{IsLibrary, AreLibraries}
 use Rattle.cds_catalog.specs.Steps.{Standing, standing_of}
 use Rattle.cds_catalog.specs.declared.change.Change.{Change}
-use Rattle.cds_event.specs.declared.Event.{Event}
+use Rattle.cds_object.specs.declared.event.Event.{Event}
 use Rattle.cds_changes.specs.Events.{events_between}
 use Rattle.cds_changes.specs.Containers.{containers_between}
 use Rattle.cds_changes.specs.EventsWithParents.{all_after}

@@ -63,8 +63,11 @@ Marks before now path found = (kind : Kind) (scan later earlier : List Change) (
     Indexes (is_kind kind) scan (later ++ change ∷ []) now × IsMarked scan change earlier found.0 found.1
 
 -- what is said of any change after all later ones, and that it is among the later ones from then on
-abbrev pub MarksNext : SubtreeIndex → SubtreeIndex → SubtreeIndex → SubtreeIndex → Change → MarkedChange → Type 0
-MarksNext gone come gone_now come_now change marked = (scan later earlier : List Change) →
+abbrev pub SaysNext : SubtreeIndex → SubtreeIndex → SubtreeIndex → SubtreeIndex → Change → Bool × Option (List (List ℕ)) → Type 0
+SaysNext gone come gone_now come_now change said = (scan later earlier : List Change) →
     Indexes is_deletion scan later gone → Indexes is_addition scan later come → IsOrderly scan → scan ≡ later ++ change ∷ earlier →
     Indexes is_deletion scan (later ++ change ∷ []) gone_now × Indexes is_addition scan (later ++ change ∷ []) come_now
-    × IsMarked scan change earlier marked.st marked.done
+    × IsMarked scan change earlier said.0 said.1
+
+abbrev pub MarksNext : SubtreeIndex → SubtreeIndex → SubtreeIndex → SubtreeIndex → Change → MarkedChange → Type 0
+MarksNext gone come gone_now come_now change marked = SaysNext gone come gone_now come_now change (marked.st, marked.done)

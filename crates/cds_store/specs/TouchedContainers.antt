@@ -1,6 +1,6 @@
 -- What is gathered of the containers that a span touches, while its events are read one by one.
 use Rattle.std.specs.Prelude.{◌≡◌, ◌≤◌, ℕ, cond, List, Option, Some, None}
-use Rattle.cds_event.specs.Events.{update_of}
+use Rattle.cds_object.specs.Events.{update_of}
 use Rattle.cds_changes.specs.declared.event_with_parent.EventWithParent.{EventWithParent}
 use Rattle.cds_changes.specs.EventsWithParents.{touches, last_touch_in, containers_in}
 

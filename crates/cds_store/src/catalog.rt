@@ -16,13 +16,13 @@ use crate::touch::{ChildEvent, touch_parent};
 use cds_base::{Mem, Text};
 use cds_catalog::Change;
 use cds_changes::EventWithParent;
-use cds_event::{Class, Event};
-use cds_object::{Content, ObjectId, Path, Row, Trackers};
+use cds_object::{Class, Content, Event, ObjectId, Path, Row, Trackers};
 use std::alloc::Global;
 use std::marker::Model;
+use std::mem;
 
 /// What stands: the number of the newest change, how many ids were drawn, and the rows in ascending order of ids.
-#[derive(Drop, Debug)]
+#[derive(Drop)]
 pub(crate) struct Catalog {
     pub(crate) number: u32,
     pub(crate) drawn: u32,
@@ -64,7 +64,7 @@ pub(crate) fn modify_row(row: &mut Row, content: Content, number: u32)
     requires { is_folder row.old.content ≡ is_folder content }
     ensures { row.new ≡ modified number content row.old }
 {
-    row.content = content;
+    drop(mem::replace(&mut row.content, content));
     row.object_update = number;
 }
 
@@ -214,13 +214,13 @@ impl Catalog {
         Ok(())
     }
 
-    fn modify(&mut self, alloc: Global, path: Path, content: Content) -> Result<(), Mem>
-        requires { CanMake self.old (Change.Modification path content) }
-        ensures { IfOk result (λ _. self.new ≡ step self.old (Change.Modification path content)) }
+    fn modify(&mut self, alloc: Global, path: &Path, content: &Content) -> Result<(), Mem>
+        requires { CanMake self.old (Change.Modification path.now content.now) }
+        ensures { IfOk result (λ _. self.new ≡ step self.old (Change.Modification path.now content.now)) }
     {
         let parent = path.parent(alloc)?;
         self.number += 1;
-        modify_rows(alloc, &mut self.rows, &path, &content, self.number)?;
+        modify_rows(alloc, &mut self.rows, path, content, self.number)?;
         touch_parent(&mut self.rows, &parent, ChildEvent::Modified, self.number);
         Ok(())
     }
@@ -232,7 +232,7 @@ impl Catalog {
         match change {
             Change::Deletion { path } => self.delete(alloc, path),
             Change::Addition { path, content } => self.add(alloc, path, content),
-            Change::Modification { path, content } => self.modify(alloc, path, content),
+            Change::Modification { path, content } => self.modify(alloc, &path, &content),
         }
     }
 

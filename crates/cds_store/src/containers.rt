@@ -11,7 +11,7 @@ use crate::Span;
 use crate::kept::lies_in;
 use cds_base::Mem;
 use cds_changes::EventWithParent;
-use cds_event::Event;
+use cds_object::Event;
 use std::alloc::Global;
 use std::collections::{BTreeMap, BTreeSet};
 

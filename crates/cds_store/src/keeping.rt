@@ -7,10 +7,9 @@ ghost use Rattle.cds_store.specs.Rows.{rows_of, AddsPage};
 ghost use Rattle.cds_store.specs.Stands.{StandsFor, IsStore, AddsChanges, AddsContainers};
 ghost use Rattle.cds_store.specs.Applied.{Applied};
 
-use crate::{ApplyError, PlainStore, Span, Store};
+use crate::{ApplyError, Span};
 use cds_base::Mem;
-use cds_event::Events;
-use cds_object::{Records, Row};
+use cds_object::{Events, Records, Row};
 use std::alloc::Global;
 
 /// A catalog that is kept from scan to scan, with the changes that are not forgotten. What is kept now stands for a history of
@@ -98,136 +97,4 @@ pub trait Keeping {
     /// What holds of whatever is kept, which this makes known where a proof needs it.
     fn facts(&self)
         ensures { IsStore (stored self.now) };
-}
-
-impl Keeping for PlainStore {
-    ghost use Rattle.cds_store.specs.Stands.{Stored};
-
-    ghost stored = { λ (s : Stored). s };
-
-    fn apply(&mut self, alloc: Global, records: &Records) -> Result<Span, ApplyError> {
-        PlainStore::apply(self, alloc, records)
-    }
-
-    fn get(&self, id: u32) -> Option<&Row> {
-        PlainStore::get(self, id)
-    }
-
-    fn row(&self, at: usize) -> Option<&Row> {
-        PlainStore::row(self, at)
-    }
-
-    fn is_container(&self, id: u32) -> bool {
-        PlainStore::is_container(self, id)
-    }
-
-    fn len(&self) -> usize {
-        PlainStore::len(self)
-    }
-
-    fn children(
-        &self,
-        alloc: Global,
-        id: u32,
-        start: u32,
-        count: u32,
-        out: &mut Vec<u32>,
-    ) -> Result<u32, Mem> {
-        PlainStore::children(self, alloc, id, start, count, out)
-    }
-
-    fn system_update_id(&self) -> u32 {
-        PlainStore::system_update_id(self)
-    }
-
-    fn forgotten(&self) -> u32 {
-        PlainStore::forgotten(self)
-    }
-
-    fn changes_after(&self, alloc: Global, span: Span, out: &mut Events) -> Result<(), Mem> {
-        PlainStore::changes_after(self, alloc, span, out)
-    }
-
-    fn containers_after(
-        &self,
-        alloc: Global,
-        span: Span,
-        out: &mut Vec<(u32, u32)>,
-    ) -> Result<(), Mem> {
-        PlainStore::containers_after(self, alloc, span, out)
-    }
-
-    fn forget(&mut self, to: u32) {
-        PlainStore::forget(self, to)
-    }
-
-    fn facts(&self) {
-        PlainStore::facts(self)
-    }
-}
-
-impl Keeping for Store {
-    ghost use Rattle.cds_store.specs.Stands.{Stored};
-
-    ghost stored = { λ (s : Stored). s };
-
-    fn apply(&mut self, alloc: Global, records: &Records) -> Result<Span, ApplyError> {
-        Store::apply(self, alloc, records)
-    }
-
-    fn get(&self, id: u32) -> Option<&Row> {
-        Store::get(self, id)
-    }
-
-    fn row(&self, at: usize) -> Option<&Row> {
-        Store::row(self, at)
-    }
-
-    fn is_container(&self, id: u32) -> bool {
-        Store::is_container(self, id)
-    }
-
-    fn len(&self) -> usize {
-        Store::len(self)
-    }
-
-    fn children(
-        &self,
-        alloc: Global,
-        id: u32,
-        start: u32,
-        count: u32,
-        out: &mut Vec<u32>,
-    ) -> Result<u32, Mem> {
-        Store::children(self, alloc, id, start, count, out)
-    }
-
-    fn system_update_id(&self) -> u32 {
-        Store::system_update_id(self)
-    }
-
-    fn forgotten(&self) -> u32 {
-        Store::forgotten(self)
-    }
-
-    fn changes_after(&self, alloc: Global, span: Span, out: &mut Events) -> Result<(), Mem> {
-        Store::changes_after(self, alloc, span, out)
-    }
-
-    fn containers_after(
-        &self,
-        alloc: Global,
-        span: Span,
-        out: &mut Vec<(u32, u32)>,
-    ) -> Result<(), Mem> {
-        Store::containers_after(self, alloc, span, out)
-    }
-
-    fn forget(&mut self, to: u32) {
-        Store::forget(self, to)
-    }
-
-    fn facts(&self) {
-        Store::facts(self)
-    }
 }

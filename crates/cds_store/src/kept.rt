@@ -6,7 +6,7 @@ ghost use Rattle.cds_changes.specs.EventsWithParents.{lies_in, events_in, is_aft
 use crate::Span;
 use cds_base::Mem;
 use cds_changes::EventWithParent;
-use cds_event::Event;
+use cds_object::Event;
 use std::alloc::Global;
 
 /// Whether an event lies in a span.

@@ -13,7 +13,7 @@ use cds_base::Mem;
 use std::alloc::Global;
 
 /// An object under its parent.
-#[derive(Clone, Copy, Debug, PartialEq, Eq)]
+#[derive(Clone, Copy)]
 pub(crate) struct Child {
     pub(crate) parent: u32,
     pub(crate) id: u32,

@@ -6,7 +6,7 @@ use std::alloc::Global;
 use std::marker::Model;
 
 /// A row with the place that its object has in the library.
-#[derive(Drop, Debug)]
+#[derive(Drop)]
 pub(crate) struct Placed {
     pub(crate) path: Path,
     pub(crate) row: Row,

@@ -1,7 +1,7 @@
 //! What a scan would change, and parts of rows: what both bodies of the store have in common.
 
 ghost use Rattle.std.specs.Prelude.{◌≡◌, ◌+◌, ◌≤◌, ◌<◌, ◌^◌, [], map, reverse, take, drop, length, nat_lt, IfOk, IfErr};
-ghost use Rattle.cds_object.specs.Tree.{children_of};
+ghost use Rattle.cds_object.specs.Tree.{children_of, is_child_of};
 ghost use Rattle.cds_catalog.specs.Library.{map_of, found};
 ghost use Rattle.cds_catalog.specs.History.{History};
 ghost use Rattle.cds_store.specs.Rows.{rows_of, put_places};
@@ -21,16 +21,24 @@ use std::alloc::Global;
 /// How many objects a library can have beside the root.
 const MAX_OBJECTS: usize = 65_535;
 
+/// Whether the parent of the object of a row is this one.
+fn is_child(placed: &Placed, parent: u32) -> bool
+    ensures { result ≡ is_child_of parent placed.now.1 }
+{
+    match placed.row.parent {
+        Some(of) => of.0 == parent,
+        None => false,
+    }
+}
+
 /// The ids of the children of an object, in ascending order.
 pub(crate) fn child_ids(alloc: Global, rows: &[Placed], id: u32) -> Result<Vec<u32>, Mem>
     ensures { IfOk result (λ ids. ids.items ≡ map (λ r. r.id) (children_of id (rows_of rows.now))) }
 {
     let mut ids = Vec::new(alloc);
     for placed in rows {
-        if let Some(parent) = placed.row.parent
-            && parent.0 == id
-        {
-            ids.push(placed.row.id.0)?;
+        if is_child(placed, id) {
+            ids.push(placed.id())?;
         }
     }
     Ok(ids)

@@ -10,7 +10,7 @@ ghost use Rattle.cds_catalog.specs.Steps.{Standing, stepped};
 ghost use Rattle.cds_store.specs.ChangeEvents.{changes_in, event_with, events_with, all_events_by};
 ghost use Rattle.cds_store.specs.Found.{KnowsPlaces, id_or_none, Puts, Learns};
 ghost use Rattle.cds_store.specs.Resolved.{ids_by, goes_after, come_after, drawn_after};
-ghost use Rattle.cds_store.specs.Resolution.{IsResolutionOf, Takes, Notes};
+ghost use Rattle.cds_store.specs.Resolution.{IsResolutionOf, Takes, Comes, Notes};
 ghost use Rattle.cds_store.specs.Stands.{IsScan};
 
 use crate::catalog::Catalog;
@@ -20,8 +20,7 @@ use crate::subtrees::{MarkedChange, place_of};
 use cds_base::Mem;
 use cds_catalog::Change;
 use cds_changes::EventWithParent;
-use cds_event::{Class, Event};
-use cds_object::Path;
+use cds_object::{Class, Event, Path};
 use std::alloc::Global;
 use std::collections::{BTreeMap, BTreeSet};
 
@@ -29,7 +28,7 @@ use std::collections::{BTreeMap, BTreeSet};
 type Places = BTreeMap<Path, u32>;
 
 /// A change with the ids of what it names.
-#[derive(Drop, Debug)]
+#[derive(Drop)]
 pub(crate) struct Resolved {
     pub(crate) change: Change,
     /// The id of its object; 0 where it adds it.
@@ -39,7 +38,7 @@ pub(crate) struct Resolved {
 }
 
 /// The changes of a scan, resolved, and what comes of them.
-#[derive(Drop, Debug)]
+#[derive(Drop)]
 pub(crate) struct Resolution {
     /// The number of the newest change.
     pub(crate) number: u32,
@@ -190,6 +189,45 @@ fn note(
     Ok(())
 }
 
+/// The ids of what a change names: of its object, 0 where it adds it, and of its parent.
+fn ids_of(alloc: Global, places: &Places, marked: &MarkedChange) -> Result<(u32, u32), Mem>
+    ensures { IfOk result (Notes (get path_cmp places.now) marked.now) }
+{
+    let above = place_of(&marked.change).parent(alloc)?;
+    let own = id_in(places, place_of(&marked.change));
+    let parent = id_in(places, &above);
+    Ok((own, parent))
+}
+
+/// Takes what comes of the next change of a scan, and answers the ids of what it names.
+fn take_next(
+    alloc: Global,
+    places: &mut Places,
+    so_far: &mut Resolution,
+    marked: &MarkedChange,
+) -> Result<(u32, u32), Mem>
+    requires number { so_far.old.number + 1 < 2 ^ 32 }
+    requires drawn { so_far.old.drawn + 1 < 2 ^ 32 }
+    ensures { IfOk result (Comes (get path_cmp places.old) (get path_cmp places.new) so_far.old so_far.new marked.now) }
+{
+    let ids = ids_of(alloc, places, marked)?;
+    note(
+        places,
+        so_far.number,
+        so_far.drawn,
+        marked,
+        ids,
+        &mut so_far.told,
+    )?;
+    let next = so_far.drawn + 1;
+    learn(alloc, places, &marked.change, next)?;
+    take_gone(&mut so_far.gone, &marked.change, ids.0)?;
+    take_come(&mut so_far.come, &marked.change, next, ids.1)?;
+    so_far.number += 1;
+    so_far.drawn = drawn_after(so_far.drawn, &marked.change);
+    Ok(ids)
+}
+
 /// Resolves the next change of a scan.
 fn resolve_next(
     alloc: Global,
@@ -201,23 +239,7 @@ fn resolve_next(
     requires drawn { so_far.old.drawn + 1 < 2 ^ 32 }
     ensures { IfOk result (λ _. Takes (get path_cmp places.old) (get path_cmp places.new) so_far.old so_far.new marked) }
 {
-    let above = place_of(&marked.change).parent(alloc)?;
-    let parent = id_in(places, &above);
-    let own = id_in(places, place_of(&marked.change));
-    note(
-        places,
-        so_far.number,
-        so_far.drawn,
-        &marked,
-        (own, parent),
-        &mut so_far.told,
-    )?;
-    let next = so_far.drawn + 1;
-    learn(alloc, places, &marked.change, next)?;
-    take_gone(&mut so_far.gone, &marked.change, own)?;
-    take_come(&mut so_far.come, &marked.change, next, parent)?;
-    so_far.number += 1;
-    so_far.drawn = drawn_after(so_far.drawn, &marked.change);
+    let (own, parent) = take_next(alloc, places, so_far, &marked)?;
     so_far.resolved.push(Resolved {
         change: marked.change,
         own,

@@ -7,7 +7,7 @@ ghost use Rattle.cds_object.specs.Path.{path_cmp, same_path};
 ghost use Rattle.cds_catalog.specs.History.{place_of};
 ghost use Rattle.cds_changes.specs.Subtrees.{some_of, IsOrderly};
 ghost use Rattle.cds_store.specs.ChangeEvents.{changes_in};
-ghost use Rattle.cds_store.specs.SubtreeIndex.{is_kind, IsOutermost, Indexes, AreMarked, holds_one, FindsHead, Marks, MarksNext};
+ghost use Rattle.cds_store.specs.SubtreeIndex.{is_kind, IsOutermost, Indexes, AreMarked, holds_one, FindsHead, Marks, MarksNext, SaysNext};
 
 use cds_base::Mem;
 use cds_catalog::Change;
@@ -16,7 +16,7 @@ use std::alloc::Global;
 use std::collections::BTreeSet;
 
 /// A change of a scan with what its events say of subtree updates.
-#[derive(Drop, Debug)]
+#[derive(Drop)]
 pub(crate) struct MarkedChange {
     pub(crate) change: Change,
     /// Whether it belongs to a subtree update.
@@ -33,7 +33,7 @@ enum Kind {
 }
 
 /// The changes of one kind, by which their subtree updates are told apart.
-#[derive(Drop, Debug)]
+#[derive(Drop)]
 struct SubtreeIndex {
     /// Their places.
     places: BTreeSet<Path>,
@@ -152,6 +152,24 @@ impl SubtreeIndex {
     }
 }
 
+/// What the events of a change say of subtree updates, after all newer ones were looked at.
+fn said_of(
+    alloc: Global,
+    gone: &mut SubtreeIndex,
+    come: &mut SubtreeIndex,
+    change: &Change,
+) -> Result<(bool, Option<Path>), Mem>
+    requires gone { contains path_cmp gone.old.places [] ≡ false }
+    requires come { contains path_cmp come.old.places [] ≡ false }
+    ensures { IfOk result (SaysNext gone.old come.old gone.new come.new change.now) }
+{
+    match change {
+        Change::Deletion { path } => gone.look(alloc, path),
+        Change::Addition { path, .. } => come.look(alloc, path),
+        Change::Modification { .. } => Ok((false, None)),
+    }
+}
+
 /// A change with what its events say of subtree updates, after all newer ones were looked at.
 fn look_at(
     alloc: Global,
@@ -164,11 +182,7 @@ fn look_at(
     ensures change { IfOk result (λ marked_change. marked_change.change ≡ change) }
     ensures said { IfOk result (MarksNext gone.old come.old gone.new come.new change) }
 {
-    let (st, done) = match &change {
-        Change::Deletion { path } => gone.look(alloc, path)?,
-        Change::Addition { path, .. } => come.look(alloc, path)?,
-        Change::Modification { .. } => (false, None),
-    };
+    let (st, done) = said_of(alloc, gone, come, &change)?;
     Ok(MarkedChange { change, st, done })
 }
 

@@ -1,12 +1,12 @@
 -- So far the front of the piece was taken, up to the place that the loop is at.
 use Rattle.std.proofs.Common.{length, ◌-◌, ◌≡◌, ◌≤◌, Some, ◌++◌, take}
-use Rattle.cds_base.specs.Outside.{WhereTold}
+use Rattle.cds_base.specs.Outside.{Told}
 use Rattle.cds_base.proofs.outside.write_all.Given as goal
 
 abbrev pub invariant-loop-at : goal.invariant-loop-at
 invariant-loop-at g l =
     (l.at ≤ length l.piece)
-    × WhereTold (g.K.Sink.holds l.initial.sink) (λ bytes. g.K.Sink.holds l.sink ≡ Some (bytes ++ take l.at l.piece))
+    × Told (g.K.Sink.holds l.initial.sink) (λ bytes. g.K.Sink.holds l.sink ≡ Some (bytes ++ take l.at l.piece))
     × (g.K.Sink.faults l.initial.sink ≤ g.K.Sink.faults l.sink)
 
 abbrev pub decreases-loop-at : goal.decreases-loop-at

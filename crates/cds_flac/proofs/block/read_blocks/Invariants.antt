@@ -1,6 +1,6 @@
 -- The definition's answer for what is left is that for all. More blocks may come than the limit lets in.
 use Rattle.std.proofs.Common.{◌≡◌, ℕ, ◌-◌, ◌+◌, ◌<◌, ◌≤◌, false, Some, List}
-use Rattle.cds_base.specs.Outside.{WhereTold}
+use Rattle.cds_base.specs.Outside.{Told}
 use Rattle.cds_flac.specs.Reading.{blocks_from, further_blocks}
 use Rattle.cds_flac.proofs.block.read_blocks.Given as goal
 
@@ -9,7 +9,7 @@ invariant-loop-found g l =
     (l.place ≤ 67108868)
     × (42 ≤ l.place)
     × (g.S.Source.moved l.source ≤ g.S.Source.moved l.initial.source + (l.place - 42))
-    × WhereTold (g.S.Source.left l.initial.source) (λ bytes.
+    × Told (g.S.Source.left l.initial.source) (λ bytes.
     (fewer : ℕ) × (rest : List ℕ)
     × (g.S.Source.left l.source ≡ Some rest)
     × (67108868 < fewer + l.place)

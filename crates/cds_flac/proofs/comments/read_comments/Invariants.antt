@@ -1,6 +1,6 @@
 -- The comments so far, and the definition's of what is left behind them, are the definition's of all.
 use Rattle.std.proofs.Common.{◌≡◌, ◌+◌, ◌-◌, ◌≤◌, Some, List, ℕ}
-use Rattle.cds_base.specs.Outside.{WhereTold}
+use Rattle.cds_base.specs.Outside.{Told}
 use Rattle.cds_flac.specs.Reading.{comments_from}
 use Rattle.cds_flac.proofs.Fronts.{with_front}
 use Rattle.cds_flac.proofs.comments.read_comments.Given as goal
@@ -10,7 +10,7 @@ invariant-loop-more g l =
     (l.place ≤ l.end)
     × (l.at ≤ l.place)
     × (g.S.Source.moved l.source ≤ g.S.Source.moved l.initial.source + (l.place - l.at))
-    × WhereTold (g.S.Source.left l.initial.source) (λ bytes.
+    × Told (g.S.Source.left l.initial.source) (λ bytes.
     (rest : List ℕ)
     × (g.S.Source.left l.source ≡ Some rest)
     × (comments_from l.count l.at l.end bytes ≡ with_front l.comments (comments_from l.more l.place l.end rest)))

@@ -1,12 +1,12 @@
 -- The front of `into` has the bytes so far.
 use Rattle.std.proofs.Common.{length, ◌+◌, ◌-◌, ◌≡◌, ◌≤◌, Some, take, drop}
-use Rattle.cds_base.specs.Outside.{WhereTold}
+use Rattle.cds_base.specs.Outside.{Told}
 use Rattle.cds_flac.proofs.input.fill.Given as goal
 
 abbrev pub invariant-loop-got : goal.invariant-loop-got
 invariant-loop-got g l =
     (l.got ≤ length l.into)
-    × WhereTold (g.S.Source.left l.initial.source) (λ bytes.
+    × Told (g.S.Source.left l.initial.source) (λ bytes.
     (l.got ≤ length bytes)
     × (take l.got l.into ≡ take l.got bytes)
     × (g.S.Source.left l.source ≡ Some (drop l.got bytes)))

@@ -1,12 +1,12 @@
 -- The text so far is the front of the bytes.
 use Rattle.std.proofs.Common.{length, ◌+◌, ◌-◌, ◌≡◌, ◌≤◌, Some, take, drop}
-use Rattle.cds_base.specs.Outside.{WhereTold}
+use Rattle.cds_base.specs.Outside.{Told}
 use Rattle.cds_flac.proofs.input.read_text.Given as goal
 
 abbrev pub invariant-loop-piece : goal.invariant-loop-piece
 invariant-loop-piece g l =
     (length l.text ≤ l.n)
-    × WhereTold (g.S.Source.left l.initial.source) (λ bytes.
+    × Told (g.S.Source.left l.initial.source) (λ bytes.
     (length l.text ≤ length bytes)
     × (l.text ≡ take (length l.text) bytes)
     × (g.S.Source.left l.source ≡ Some (drop (length l.text) bytes)))

@@ -1,6 +1,6 @@
 -- One attribute behind the other.
 use Rattle.std.proofs.Common.{◌++◌, codes, string_bytes, ap, ◌∙◌, append_assoc}
-use Rattle.cds_base.specs.Writing.{attribute, number_attribute}
+use Rattle.cds_object.specs.Writing.{attribute, number_attribute}
 use Rattle.cds_lastchange.specs.Spelled.{class_text, added_text}
 use Rattle.cds_lastchange.proofs.write.put_added.Goals as goal
 

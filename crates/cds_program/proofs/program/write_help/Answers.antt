@@ -1,5 +1,5 @@
 use Rattle.std.proofs.Common.{subst}
-use Rattle.cds_program.specs.Run.{WritesText}
+use Rattle.cds_subcommands.specs.Run.{WritesText}
 use Rattle.cds_program.proofs.program.write_help.Goals as goal
 
 pub returns-clause-writes : goal.returns-clause-writes

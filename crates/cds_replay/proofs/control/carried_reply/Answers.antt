@@ -1,14 +1,6 @@
 -- The request is the one of the ask; that the reply is carried, the prover finds alone.
-use Rattle.std.proofs.Common.{◌++◌, ap, ◌∙◌}
-use Rattle.url.specs.Parts.{Parts}
-use Rattle.cds_exchange.specs.Asking.{action_of}
-use Rattle.cds_soap.specs.Written.{written_action}
+use Rattle.std.proofs.Common.{◌∙◌}
 use Rattle.cds_replay.proofs.control.carried_reply.Goals as goal
 
-pub ask_bytes-requires : goal.ask_bytes-requires
-ask_bytes-requires g c = record { http = ap (λ (p : Parts). p.scheme) c.in_ok-url.ensures }
-
 pub reply_to-requires : goal.reply_to-requires
-reply_to-requires g c =
-    c.as_slice.ensures.value ∙ c.in_ok-ask_bytes.ensures.ok
-    ∙ (λ i. c.new-request.ensures.items i ++ written_action (action_of c.args.ask) (c.in_ok-url.ensures i))
+reply_to-requires g c = c.as_slice.ensures.value ∙ c.in_ok-request.ensures

@@ -1,6 +1,6 @@
 -- The walk from the folder's beginning, and what it found as lists.
 use Rattle.std.proofs.Common.{ℕ, Option, List, sym, subst, ◌∙◌}
-use Rattle.cds_base.specs.declared.folder.Entry.{Entry}
+use Rattle.cds_base.specs.declared.outside.folder.Entry.{Entry}
 use Rattle.cds_base.specs.Entries.{Contents}
 use Rattle.cds_catalog.specs.Laws.{IsLibrary}
 use Rattle.cds_catalog.specs.Library.{FolderMap}

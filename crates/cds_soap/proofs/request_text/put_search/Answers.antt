@@ -1,5 +1,5 @@
 use Rattle.std.proofs.Common.{codes}
-use Rattle.cds_base.specs.Writing.{text_element}
+use Rattle.cds_object.specs.Writing.{text_element}
 use Rattle.cds_soap.specs.Written.{search_text, slice_text}
 use Rattle.cds_soap.proofs.Joined.{three}
 use Rattle.cds_soap.proofs.request_text.put_search.Goals as goal

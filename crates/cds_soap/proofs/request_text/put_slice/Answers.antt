@@ -1,5 +1,5 @@
 use Rattle.std.proofs.Common.{codes}
-use Rattle.cds_base.specs.Writing.{text_element, number_element}
+use Rattle.cds_object.specs.Writing.{text_element, number_element}
 use Rattle.cds_soap.specs.Written.{slice_text}
 use Rattle.cds_soap.proofs.Joined.{four}
 use Rattle.cds_soap.proofs.request_text.put_slice.Goals as goal

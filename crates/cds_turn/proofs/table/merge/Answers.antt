@@ -1,8 +1,7 @@
 use Rattle.std.proofs.Common.{rules, ◌≡◌, ◌≤◌, ℕ, List, length, sym, ap, ◌∙◌, subst}
-use Rattle.cds_turn.proofs.Keeps.{joins, settles, joined_shorter}
+use Rattle.cds_turn.proofs.Keeps.{joins, settles, joined_shorter, rests_of}
 use mathlib.Core.Option.{some}
 use lib.ListN.{get_elem?}
-use Rattle.cds_turn.proofs.Keeps.{rests_of}
 use Rattle.cds_turn.proofs.table.merge.Goals as goal
 
 pub join_seat-requires : goal.join_seat-requires

@@ -1,6 +1,5 @@
 use Rattle.std.proofs.Common.{rules, ap, ◌∙◌}
-use Rattle.cds_turn.proofs.Keeps.{splits}
-use Rattle.cds_turn.proofs.Keeps.{rests_of}
+use Rattle.cds_turn.proofs.Keeps.{splits, rests_of}
 use Rattle.cds_turn.proofs.table.part.Goals as goal
 
 pub split_seat-requires : goal.split_seat-requires

@@ -1,7 +1,6 @@
 use Rattle.std.proofs.Common.{rules, ap, ◌∙◌}
 use Rattle.cds_turn.specs.Moves.{found_of}
-use Rattle.cds_turn.proofs.Keeps.{passes_on}
-use Rattle.cds_turn.proofs.Keeps.{rests_of}
+use Rattle.cds_turn.proofs.Keeps.{passes_on, rests_of}
 use Rattle.cds_turn.proofs.table.pass_on.Goals as goal
 
 pub fetch_add-requires : goal.fetch_add-requires

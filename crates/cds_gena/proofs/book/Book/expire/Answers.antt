@@ -1,8 +1,7 @@
 use Rattle.std.proofs.Common.{sym, subst}
-use Rattle.cds_gena.specs.Subscribed.{IsBook}
+use Rattle.cds_gena.specs.Subscribed.{IsBook, Booked, expired}
 use Rattle.cds_gena.proofs.Delivered.{book-filter}
 use Rattle.std.proofs.Common.{ap, ◌∙◌}
-use Rattle.cds_gena.specs.Subscribed.{Booked, expired}
 use Rattle.cds_gena.proofs.Commands.{booked-silent}
 use Rattle.cds_gena.proofs.book.Book.expire.Goals as goal
 

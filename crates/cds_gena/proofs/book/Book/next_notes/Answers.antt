@@ -1,8 +1,7 @@
 use Rattle.std.proofs.Common.{sym, subst, map, filter, ap, ◌∙◌}
 use Rattle.std.specs.List.{AllByRecursion}
-use Rattle.cds_gena.specs.Subscribed.{IsBook, IsDelivered, address_of, alive, has_next, raised}
+use Rattle.cds_gena.specs.Subscribed.{IsBook, IsDelivered, address_of, alive, has_next, raised, Booked, expired, notified}
 use Rattle.cds_gena.proofs.Delivered.{addresses-go, book-raised}
-use Rattle.cds_gena.specs.Subscribed.{Booked, expired, notified}
 use Rattle.cds_gena.proofs.Commands.{booked-released}
 use Rattle.cds_gena.proofs.book.Book.next_notes.Goals as goal
 

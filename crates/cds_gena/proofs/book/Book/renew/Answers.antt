@@ -1,10 +1,9 @@
 use Rattle.std.proofs.Common.{sym, subst}
-use Rattle.cds_gena.specs.Subscribed.{IsBook}
+use Rattle.cds_gena.specs.Subscribed.{IsBook, Booked, StandsFor, living_named, renewed}
 use Rattle.cds_gena.proofs.Delivered.{book-until}
 use Rattle.std.proofs.Common.{rules, ◌≡◌, ◌∷◌, Some, IfSome, ap, ◌∙◌}
 use Rattle.cds_commands.specs.Commands.{Renews}
 use Rattle.cds_commands.specs.Subscriptions.{end_after}
-use Rattle.cds_gena.specs.Subscribed.{Booked, StandsFor, living_named, renewed}
 use Rattle.cds_gena.proofs.Commands.{booked-renewal}
 use Rattle.cds_gena.proofs.book.Book.renew.Goals as goal
 

@@ -1,11 +1,10 @@
 use Rattle.std.proofs.Common.{IsAscii, IsSome, refl, rules, sym, subst, arith, ◌+◌}
 use Rattle.cds_gena.specs.Asked.{url_in}
-use Rattle.cds_gena.specs.Subscribed.{IsBook}
+use Rattle.cds_gena.specs.Subscribed.{IsBook, Booked, Subscribed, with_grant}
 use Rattle.cds_gena.proofs.Delivered.{book-more, own-url}
 use Rattle.cds_gena.proofs.Granted.{none-numbered}
 use Rattle.std.proofs.Common.{◌≡◌, ap, ◌∙◌}
 use Rattle.url.specs.Parts.{serialize}
-use Rattle.cds_gena.specs.Subscribed.{Booked, Subscribed, with_grant}
 use Rattle.cds_gena.proofs.Commands.{booked-grant}
 use Rattle.cds_gena.proofs.book.Book.subscribe.Goals as goal
 

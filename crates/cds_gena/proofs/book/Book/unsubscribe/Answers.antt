@@ -1,9 +1,8 @@
 use Rattle.std.proofs.Common.{sym, subst}
-use Rattle.cds_gena.specs.Subscribed.{IsBook}
+use Rattle.cds_gena.specs.Subscribed.{IsBook, Booked, StandsFor, living_named, without}
 use Rattle.cds_gena.proofs.Delivered.{book-filter}
 use Rattle.std.proofs.Common.{rules, ◌≡◌, ◌∷◌, Some, IfSome, ap, ◌∙◌}
 use Rattle.cds_commands.specs.Commands.{Ends}
-use Rattle.cds_gena.specs.Subscribed.{Booked, StandsFor, living_named, without}
 use Rattle.cds_gena.proofs.Commands.{booked-end}
 use Rattle.cds_gena.proofs.book.Book.unsubscribe.Goals as goal
 

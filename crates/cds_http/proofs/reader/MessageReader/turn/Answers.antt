@@ -7,7 +7,7 @@ returns-in-Ok c side came stands =
     let takes = rw c.replace-stage.ensures.value at c.take.ensures.takes in
     let failed = rw c.replace-stage.ensures.value at c.take.ensures.failed in
     let ends = rw c.replace-stage.ensures.value at c.take.ensures.ends in
-    reader_takes side came c.args.self.now (record { side = c.args.self.now.side; stage = c.in-Ok.taken.stage }) c.args.piece.now c.take.result c.in-Ok.taken refl refl c.in-Ok.is stands takes failed ends
+    reader_takes side came c.args.self.now (record { side = c.args.self.now.side; stage = c.put_stage.new.stage }) c.args.piece.now c.take.result c.in-Ok.taken refl c.put_stage.ensures c.in-Ok.is stands takes failed ends
 
 pub returns-in-Err : goal.returns-in-Err
 returns-in-Err c side came stands =

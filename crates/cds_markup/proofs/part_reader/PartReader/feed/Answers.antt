@@ -14,4 +14,4 @@ returns-in_err-piece-clause-takes g c = λ came given stands.
 pub returns-clause-takes : goal.returns-clause-takes
 returns-clause-takes g c = λ came given stands.
     let view = ap telling_in (sym c.in-Some.is ∙ c.take.ensures.value) ∙ c.self.view_is in
-    rw (c.unless.ensures, c.has_enough.ensures) (feed_taken (Takes g.S.PartSink.took g.S.PartSink.enough) g.S.PartSink.enough c.args.self.now (telling_of c.in-Some.spot) (telling_of c.piece.new.self) c.args.piece.now (Ok tt) c.args.to.now c.piece.new.to view c.in_ok-piece.ensures came given stands)
+    rw (c.replace.ensures.after, c.unless.ensures, c.has_enough.ensures) (feed_taken (Takes g.S.PartSink.took g.S.PartSink.enough) g.S.PartSink.enough c.args.self.now (telling_of c.in-Some.spot) (telling_of c.piece.new.self) c.args.piece.now (Ok tt) c.args.to.now c.piece.new.to view c.in_ok-piece.ensures came given stands)

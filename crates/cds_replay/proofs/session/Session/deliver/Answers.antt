@@ -3,12 +3,11 @@ use Rattle.std.proofs.Common.{sym, subst, string_bytes}
 use Rattle.cds_commands.specs.Notes.{notes_of}
 use Rattle.cds_follow.specs.Named.{named_note}
 use Rattle.cds_script.specs.Report.{first_of, sent_note}
-use Rattle.cds_replay.specs.Sending.{sent_of}
+use Rattle.cds_replay.specs.Sending.{sent_of, is_request_of}
 use Rattle.cds_replay.specs.Session.{Playing, IsAfter, script_names}
 use Rattle.cds_replay.specs.Wired.{turns_in, played_by}
 use Rattle.cds_replay.proofs.SentNotes.{number-at}
 use Rattle.cds_replay.proofs.Taking.{none-sent, some-sent, deliver-turn, no-note-turn}
-use Rattle.cds_replay.specs.Sending.{is_request_of}
 use Rattle.cds_replay.proofs.session.Session.deliver.Goals as goal
 
 pub note_of-requires : goal.note_of-requires

@@ -29,7 +29,7 @@ returns-clause-after c = λ steps after.
     (c.accept_records-answer.ensures.scanned (script_start first) commands old.server) in
     let now = scan-after was c.accept_records-answer.new.self c.accept_records-answer.result steps old scans told in
     on_ok_weaker c.put_scan.result
-    (λ written. subst (λ (found : List Found). IsAfter (record was { server = c.accept_records-answer.new.self; found = found; last = Other }) (quiet Scan ∷ steps)) (sym c.new.ensures) now)
+    (λ written. subst (λ (found : List Found). IsAfter (record was { server = c.accept_records-answer.new.self; found = found; last = Other }) (quiet Scan ∷ steps)) (sym (c.replace.ensures.after ∙ c.new.ensures)) now)
     c.put_scan.ensures
 
 pub returns-clause-written : goal.returns-clause-written

@@ -1,5 +1,5 @@
 -- The request is answered, and the first note is sent with a grant.
-use Rattle.std.proofs.Common.{ℕ, ◌+◌, ◌<◌, ◌^◌, List, [], ◌∷◌, Some, drop, sym, ap, subst, ◌∙◌, string_bytes}
+use Rattle.std.proofs.Common.{ℕ, ◌+◌, ◌<◌, ◌^◌, List, [], ◌∷◌, Option, Some, drop, sym, ap, subst, ◌∙◌, string_bytes}
 use Rattle.std.proofs.lemmas.Result.{on_ok_weaker}
 use Rattle.cds_commands.specs.Commands.{Command, Start}
 use Rattle.cds_http.specs.declared.message.Side.TheVariants.{Request}
@@ -42,8 +42,8 @@ returns-clause-after c = λ steps after.
     c.subscribing.ensures.stands (subst (λ (p : Playing). p.server.book.subscribed.granted + 1 < 2 ^ 32) (sym c.self.view_is) c.requires.granted) asked
     c.system_update_id-number.ensures.counted c.in_ok-send_granted.ensures in
     on_ok_weaker c.put_notes.result
-    (λ written. subst (λ (r : List ℕ). IsAfter (record was { server = c.answered.new.server; replica = c.subscribing.new.self; sent = c.send_granted.new.self; reply = Some r; last = Other }) (quiet Subscribe ∷ steps))
-    (sym c.from-held.ensures) t.0)
+    (λ written. subst (λ (r : Option (List ℕ)). IsAfter (record was { server = c.answered.new.server; replica = c.subscribing.new.self; sent = c.send_granted.new.self; reply = r; last = Other }) (quiet Subscribe ∷ steps))
+    (sym (c.replace.ensures.after ∙ ap (λ (r : List ℕ). Some r) c.from-held.ensures)) t.0)
     c.put_notes.ensures
 
 pub returns-clause-written : goal.returns-clause-written

@@ -10,4 +10,4 @@ pub touch_parent-requires : goal.touch_parent-requires
 touch_parent-requires c =
     let room = subst (λ (s : Standing). AllByRecursion (λ (placed : PlacedRow). HasRoom placed.1) s.rows) (sym c.self.view_is) c.requires.room in
     rw c.in_ok-modify_rows.ensures
-    (room_when_modified c.args.path (c.self.inside.number + 1) c.args.content c.self.inside.rows.items room)
+    (room_when_modified c.args.path.now (c.self.inside.number + 1) c.args.content.now c.self.inside.rows.items room)

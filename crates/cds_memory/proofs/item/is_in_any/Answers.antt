@@ -1,0 +1,8 @@
+use Rattle.std.proofs.Common.{sym, ◌∙◌}
+use Rattle.cds_base.specs.Entries.{is_parent_of}
+use Rattle.cds_memory.specs.Folders.{entry_of}
+use Rattle.cds_memory.proofs.Items.{any_of_map}
+use Rattle.cds_memory.proofs.item.is_in_any.Goals as goal
+
+pub returns : goal.returns
+returns c = c.any_holds.ensures ∙ sym (any_of_map (is_parent_of c.args.path.now) entry_of c.args.items.now)

@@ -1,0 +1,48 @@
+-- What callers see of the outside in memory.
+use Rattle.std.specs.Prelude.{◌≡◌, ℕ, List, [], ◌∷◌}
+use Rattle.cds_memory.specs.declared.asking.Ask.{Ask}
+use Rattle.cds_memory.specs.declared.asking.Ask.TheVariants.{Folder, Link, Clock, Door, Spawner}
+use Rattle.cds_base.specs.Asked.{Asked, ForClock, ForDoor, ForFolder, ForLink, ForSpawner}
+use Rattle.cds_memory.specs.Clocks.{ClockState}
+use Rattle.cds_memory.specs.Doors.{DoorState, SpawnerState}
+use Rattle.cds_memory.specs.Folders.{FolderState, fresh_folder}
+use Rattle.cds_memory.specs.Links.{LinkState}
+
+-- What gives objects in memory.
+pub record OutsideState : Type 0 where
+  -- the objects that it has left, of each kind the next one first
+  pub folders : List FolderState
+  pub links : List LinkState
+  pub clocks : List ClockState
+  pub doors : List DoorState
+  pub spawners : List SpawnerState
+  -- what it was asked for
+  pub asked : List Asked
+  -- the folders and links that came back
+  pub ended : List FolderState
+  pub ended_links : List LinkState
+  -- how many connections the doors that came back gave, and how many jobs the spawners that came back started
+  pub connections : ℕ
+  pub started : ℕ
+  -- how many calls that ask for an object it answered, and how many faults there were
+  pub calls : ℕ
+  pub faults : ℕ
+  -- the numbers, counted from 1, of the calls that ask for an object that are to fail
+  pub fails : List ℕ
+
+-- What was asked for, as the outside tells it.
+abbrev pub asked_of : Ask → Asked
+asked_of (Folder path) = ForFolder path
+asked_of Link = ForLink
+asked_of Clock = ForClock
+asked_of (Door port) = ForDoor port
+asked_of Spawner = ForSpawner
+
+-- A folder as it is when nothing was asked of it.
+abbrev pub folder_afresh : FolderState → FolderState
+folder_afresh folder = fresh_folder folder.items folder.fails
+
+-- The first object of a list, before anything was asked of it, and the others.
+abbrev pub IsFirstOf : {A : Type 0} → (A → A) → A → List A → List A → Type 0
+IsFirstOf afresh object [] left = ⊥
+IsFirstOf afresh object (first ∷ others) left = (object ≡ afresh first) × (left ≡ others)

@@ -1,0 +1,6 @@
+pub mod Clocks
+pub mod Doors
+pub mod Exterior
+pub mod Folders
+pub mod Links
+pub mod Memory

@@ -1,0 +1,22 @@
+//! The outside in memory: streams, folders, clocks, connections, doors, links, spawners and what gives them, each of which
+//! tells its content and fails at the calls that it was told.
+#![tactic(auto)]
+
+mod asking;
+mod clock;
+mod door;
+mod folder;
+mod item;
+mod link;
+mod outside;
+mod spawner;
+mod streams;
+
+pub use clock::MemClock;
+pub use door::{MemConn, MemDoor, SharedConn};
+pub use folder::MemFolder;
+pub use item::{MemItem, are_tree};
+pub use link::MemLink;
+pub use outside::{MemObjects, MemOutside};
+pub use spawner::MemSpawner;
+pub use streams::{MemSink, MemSource};

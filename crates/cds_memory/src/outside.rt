@@ -1,0 +1,381 @@
+ghost use Rattle.std.specs.Prelude.{◌≡◌, ◌==◌, ◌≤◌, ◌||◌, if◌then◌else◌, not, [], ◌∷◌, ◌++◌, length, Some, IfOk, OnErr};
+ghost use Rattle.cds_base.specs.Asked.{ForClock, ForDoor, ForFolder, ForLink, ForSpawner, OutsideRose, gave_nothing};
+ghost use Rattle.cds_memory.specs.Clocks.{fresh_clock};
+ghost use Rattle.cds_memory.specs.Doors.{fresh_door, fresh_spawner};
+ghost use Rattle.cds_base.specs.Outside.{Told, raised};
+ghost use Rattle.cds_memory.specs.Exterior.{IsFirstOf, asked_of, folder_afresh};
+ghost use Rattle.cds_memory.specs.Folders.{given_of};
+ghost use Rattle.cds_memory.specs.Links.{fresh_link};
+ghost use Rattle.cds_memory.specs.Memory.{next_fails};
+
+use crate::asking::Ask;
+use crate::streams::is_listed;
+use crate::{MemClock, MemDoor, MemFolder, MemLink, MemSpawner};
+use cds_base::{Numbers, Outside, OutsideFault, Sequence, Trace};
+use std::alloc::Global;
+use std::marker::{Model, Send};
+use std::sync::Wait;
+
+/// The objects that the outside in memory gives, each kind in its order.
+#[derive(Drop)]
+pub struct MemObjects<R> {
+    pub folders: Sequence<MemFolder>,
+    pub links: Sequence<MemLink>,
+    pub clocks: Sequence<MemClock>,
+    pub doors: Sequence<MemDoor<R>>,
+    pub spawners: Sequence<MemSpawner>,
+}
+
+impl<R> MemObjects<R> {
+    /// No objects, which take no memory.
+    pub fn new(alloc: Global) -> Self
+        ensures folders { result.folders ≡ [] }
+        ensures links { result.links ≡ [] }
+        ensures clocks { result.clocks ≡ [] }
+        ensures doors { result.doors ≡ [] }
+        ensures spawners { result.spawners ≡ [] }
+    {
+        MemObjects {
+            folders: Sequence::new(alloc),
+            links: Sequence::new(alloc),
+            clocks: Sequence::new(alloc),
+            doors: Sequence::new(alloc),
+            spawners: Sequence::new(alloc),
+        }
+    }
+}
+
+/// What gives the objects in memory that it was made with, whatever the paths and ports, and fails at the calls that it
+/// was told and where no such object is left.
+#[derive(Drop)]
+pub struct MemOutside<R> {
+    folders: Vec<MemFolder>,
+    links: Vec<MemLink>,
+    clocks: Vec<MemClock>,
+    doors: Vec<MemDoor<R>>,
+    spawners: Vec<MemSpawner>,
+    asked: Trace<Ask>,
+    ended: Trace<MemFolder>,
+    ended_links: Trace<MemLink>,
+    connections: u64,
+    started: u64,
+    calls: u64,
+    faults: u64,
+    fails: Numbers,
+}
+
+impl<R> Model for MemOutside<R> {
+    ghost use Rattle.std.specs.Prelude.{map};
+    ghost use Rattle.cds_memory.specs.Exterior.{OutsideState, asked_of};
+
+    ghost Value = { OutsideState };
+
+    ghost view = { λ s.
+        record {
+          folders = s.folders.items;
+          links = s.links.items;
+          clocks = s.clocks.items;
+          doors = s.doors.items;
+          spawners = s.spawners.items;
+          asked = map asked_of s.asked;
+          ended = s.ended;
+          ended_links = s.ended_links;
+          connections = s.connections;
+          started = s.started;
+          calls = s.calls;
+          faults = s.faults;
+          fails = s.fails;
+        } };
+}
+
+impl<R> MemOutside<R> {
+    /// What gives these objects. `fails` are the numbers, counted from 1 over the calls that ask for an object, of those
+    /// that are to fail.
+    pub fn new(objects: MemObjects<R>, fails: Numbers) -> Self
+        ensures { result ≡ record {
+          folders = objects.folders;
+          links = objects.links;
+          clocks = objects.clocks;
+          doors = objects.doors;
+          spawners = objects.spawners;
+          asked = [];
+          ended = [];
+          ended_links = [];
+          connections = 0;
+          started = 0;
+          calls = 0;
+          faults = 0;
+          fails = fails;
+        } }
+    {
+        let MemObjects {
+            folders,
+            links,
+            clocks,
+            doors,
+            spawners,
+        } = objects;
+        MemOutside {
+            folders: folders.into_vec(),
+            links: links.into_vec(),
+            clocks: clocks.into_vec(),
+            doors: doors.into_vec(),
+            spawners: spawners.into_vec(),
+            asked: Trace::new(),
+            ended: Trace::new(),
+            ended_links: Trace::new(),
+            connections: 0,
+            started: 0,
+            calls: 0,
+            faults: 0,
+            fails,
+        }
+    }
+
+    /// How many calls failed, and how many objects with faults came back.
+    pub fn faults(&self) -> u64
+        ensures { result ≡ self.now.faults }
+    {
+        self.faults
+    }
+
+    /// How many connections the doors that came back gave.
+    pub fn connections(&self) -> u64
+        ensures { result ≡ self.now.connections }
+    {
+        self.connections
+    }
+
+    /// How many jobs the spawners that came back started.
+    pub fn started(&self) -> u64
+        ensures { result ≡ self.now.started }
+    {
+        self.started
+    }
+    /// Counts a call that asks for an object, of which there is one or none, and answers whether it is given.
+    fn admits(&mut self, ask: Ask, has_one: bool) -> bool
+        ensures answer { not result ≡ (not has_one || next_fails self.old.fails self.old.calls) }
+        ensures asked { self.new.asked ≡ self.old.asked ++ asked_of ask ∷ [] }
+        ensures calls { self.new.calls ≡ raised self.old.calls 1 }
+        ensures faults { self.new.faults ≡ (if result then self.old.faults else raised self.old.faults 1) }
+        ensures never_falls { self.old.faults ≤ self.new.faults }
+        ensures folders { self.new.folders ≡ self.old.folders }
+        ensures links { self.new.links ≡ self.old.links }
+        ensures clocks { self.new.clocks ≡ self.old.clocks }
+        ensures doors { self.new.doors ≡ self.old.doors }
+        ensures spawners { self.new.spawners ≡ self.old.spawners }
+        ensures ended { self.new.ended ≡ self.old.ended }
+        ensures ended_links { self.new.ended_links ≡ self.old.ended_links }
+        ensures connections { self.new.connections ≡ self.old.connections }
+        ensures started { self.new.started ≡ self.old.started }
+        ensures fails { self.new.fails ≡ self.old.fails }
+    {
+        drop(self.asked.push(ask));
+        self.calls = self.calls.saturating_add(1);
+        let is_given = has_one && !is_listed(self.fails.as_slice(), self.calls);
+        if !is_given {
+            self.faults = self.faults.saturating_add(1);
+        }
+        is_given
+    }
+}
+
+/// The bytes of a text, for contracts alone.
+fn traced(text: &str) -> Trace<u8>
+    ensures { result ≡ text.now }
+{
+    let mut trace = Trace::new();
+    let bytes = text.as_bytes();
+    for byte in bytes {
+        trace.push(*byte);
+    }
+    trace
+}
+
+impl<R: Wait + Clone + Send + Drop + 'static> Outside for MemOutside<R> {
+    ghost use Rattle.std.specs.Prelude.{map};
+    ghost use Rattle.cds_memory.specs.Folders.{told_of};
+    ghost use Rattle.cds_memory.specs.Links.{link_told_of};
+
+    type F = MemFolder;
+
+    type L = MemLink;
+
+    type C = MemClock;
+
+    type D = MemDoor<R>;
+
+    type W = MemSpawner;
+
+    ghost faults = { λ s. s.faults };
+
+    ghost asked = { λ s. Some s.asked };
+
+    ghost ended = { λ s. Some (map told_of s.ended) };
+
+    ghost ended_links = { λ s. Some (map link_told_of s.ended_links) };
+
+    ghost connections = { λ s. s.connections };
+
+    ghost started = { λ s. s.started };
+
+    fn folder(&mut self, _alloc: Global, path: &str) -> Result<MemFolder, OutsideFault>
+        ensures failed { gave_nothing result ≡ ((length self.old.folders == 0) || next_fails self.old.fails self.old.calls) }
+        ensures first { IfOk result (λ folder. IsFirstOf folder_afresh folder self.old.folders self.new.folders) }
+        ensures left { OnErr result (self.new.folders ≡ self.old.folders) }
+        ensures links_stay { self.new.links ≡ self.old.links }
+        ensures clocks_stay { self.new.clocks ≡ self.old.clocks }
+        ensures doors_stay { self.new.doors ≡ self.old.doors }
+        ensures spawners_stay { self.new.spawners ≡ self.old.spawners }
+        ensures calls { self.new.calls ≡ raised self.old.calls 1 }
+        ensures same_fails { self.new.fails ≡ self.old.fails }
+        ensures given { IfOk result (λ folder. given_of folder ≡ []) }
+        ensures entries { IfOk result (λ folder. folder.entries ≡ 0) }
+        ensures opened { IfOk result (λ folder. folder.opened ≡ 0) }
+        ensures returned { IfOk result (λ folder. folder.returned ≡ 0) }
+        ensures entry_faults { IfOk result (λ folder. folder.entry_faults ≡ 0) }
+        ensures file_faults { IfOk result (λ folder. folder.file_faults ≡ 0) }
+        ensures asked { Told (Some self.old.asked) (λ list. Some self.new.asked ≡ Some (list ++ ForFolder path.now ∷ [])) }
+        ensures ended_stay { self.new.ended ≡ self.old.ended }
+        ensures ended_links_stay { self.new.ended_links ≡ self.old.ended_links }
+        ensures connections_stay { self.new.connections ≡ self.old.connections }
+        ensures started_stay { self.new.started ≡ self.old.started }
+        ensures rose { OutsideRose result self.old.faults self.new.faults }
+        ensures never_falls { self.old.faults ≤ self.new.faults }
+    {
+        let has_one = !self.folders.is_empty();
+        if !self.admits(Ask::Folder { path: traced(path) }, has_one) {
+            return Err(OutsideFault::Failed);
+        }
+        Ok(self.folders.remove(0).afresh())
+    }
+
+    fn link(&mut self, alloc: Global) -> Result<MemLink, OutsideFault>
+        ensures failed { gave_nothing result ≡ ((length self.old.links == 0) || next_fails self.old.fails self.old.calls) }
+        ensures first { IfOk result (λ link. IsFirstOf fresh_link link self.old.links self.new.links) }
+        ensures left { OnErr result (self.new.links ≡ self.old.links) }
+        ensures folders_stay { self.new.folders ≡ self.old.folders }
+        ensures clocks_stay { self.new.clocks ≡ self.old.clocks }
+        ensures doors_stay { self.new.doors ≡ self.old.doors }
+        ensures spawners_stay { self.new.spawners ≡ self.old.spawners }
+        ensures calls { self.new.calls ≡ raised self.old.calls 1 }
+        ensures same_fails { self.new.fails ≡ self.old.fails }
+        ensures no_requests { IfOk result (λ link. Told (Some link.requests) (λ list. list ≡ [])) }
+        ensures no_faults { IfOk result (λ link. link.faults ≡ 0) }
+        ensures asked { Told (Some self.old.asked) (λ list. Some self.new.asked ≡ Some (list ++ ForLink ∷ [])) }
+        ensures ended_stay { self.new.ended ≡ self.old.ended }
+        ensures ended_links_stay { self.new.ended_links ≡ self.old.ended_links }
+        ensures connections_stay { self.new.connections ≡ self.old.connections }
+        ensures started_stay { self.new.started ≡ self.old.started }
+        ensures rose { OutsideRose result self.old.faults self.new.faults }
+        ensures never_falls { self.old.faults ≤ self.new.faults }
+    {
+        let has_one = !self.links.is_empty();
+        if !self.admits(Ask::Link, has_one) {
+            return Err(OutsideFault::Failed);
+        }
+        Ok(self.links.remove(0).afresh(alloc))
+    }
+
+    fn clock(&mut self, _alloc: Global) -> Result<MemClock, OutsideFault>
+        ensures failed { gave_nothing result ≡ ((length self.old.clocks == 0) || next_fails self.old.fails self.old.calls) }
+        ensures first { IfOk result (λ clock. IsFirstOf fresh_clock clock self.old.clocks self.new.clocks) }
+        ensures left { OnErr result (self.new.clocks ≡ self.old.clocks) }
+        ensures folders_stay { self.new.folders ≡ self.old.folders }
+        ensures links_stay { self.new.links ≡ self.old.links }
+        ensures doors_stay { self.new.doors ≡ self.old.doors }
+        ensures spawners_stay { self.new.spawners ≡ self.old.spawners }
+        ensures calls { self.new.calls ≡ raised self.old.calls 1 }
+        ensures same_fails { self.new.fails ≡ self.old.fails }
+        ensures no_moments { IfOk result (λ clock. Told (Some clock.gave) (λ list. list ≡ [])) }
+        ensures last { IfOk result (λ clock. clock.last ≡ 0) }
+        ensures no_faults { IfOk result (λ clock. clock.faults ≡ 0) }
+        ensures asked { Told (Some self.old.asked) (λ list. Some self.new.asked ≡ Some (list ++ ForClock ∷ [])) }
+        ensures ended_stay { self.new.ended ≡ self.old.ended }
+        ensures ended_links_stay { self.new.ended_links ≡ self.old.ended_links }
+        ensures connections_stay { self.new.connections ≡ self.old.connections }
+        ensures started_stay { self.new.started ≡ self.old.started }
+        ensures rose { OutsideRose result self.old.faults self.new.faults }
+        ensures never_falls { self.old.faults ≤ self.new.faults }
+    {
+        let has_one = !self.clocks.is_empty();
+        if !self.admits(Ask::Clock, has_one) {
+            return Err(OutsideFault::Failed);
+        }
+        Ok(self.clocks.remove(0).afresh())
+    }
+
+    fn door(&mut self, _alloc: Global, port: u16) -> Result<MemDoor<R>, OutsideFault>
+        ensures failed { gave_nothing result ≡ ((length self.old.doors == 0) || next_fails self.old.fails self.old.calls) }
+        ensures first { IfOk result (λ door. IsFirstOf (λ _. fresh_door) door self.old.doors self.new.doors) }
+        ensures left { OnErr result (self.new.doors ≡ self.old.doors) }
+        ensures folders_stay { self.new.folders ≡ self.old.folders }
+        ensures links_stay { self.new.links ≡ self.old.links }
+        ensures clocks_stay { self.new.clocks ≡ self.old.clocks }
+        ensures spawners_stay { self.new.spawners ≡ self.old.spawners }
+        ensures calls { self.new.calls ≡ raised self.old.calls 1 }
+        ensures same_fails { self.new.fails ≡ self.old.fails }
+        ensures none_given { IfOk result (λ door. door.connections ≡ 0) }
+        ensures no_faults { IfOk result (λ door. door.faults ≡ 0) }
+        ensures asked { Told (Some self.old.asked) (λ list. Some self.new.asked ≡ Some (list ++ ForDoor port ∷ [])) }
+        ensures ended_stay { self.new.ended ≡ self.old.ended }
+        ensures ended_links_stay { self.new.ended_links ≡ self.old.ended_links }
+        ensures connections_stay { self.new.connections ≡ self.old.connections }
+        ensures started_stay { self.new.started ≡ self.old.started }
+        ensures rose { OutsideRose result self.old.faults self.new.faults }
+        ensures never_falls { self.old.faults ≤ self.new.faults }
+    {
+        let has_one = !self.doors.is_empty();
+        if !self.admits(Ask::Door { port }, has_one) {
+            return Err(OutsideFault::Failed);
+        }
+        Ok(self.doors.remove(0).afresh())
+    }
+
+    fn spawner(&mut self, _alloc: Global) -> Result<MemSpawner, OutsideFault>
+        ensures failed { gave_nothing result ≡ ((length self.old.spawners == 0) || next_fails self.old.fails self.old.calls) }
+        ensures first { IfOk result (λ spawner. IsFirstOf fresh_spawner spawner self.old.spawners self.new.spawners) }
+        ensures left { OnErr result (self.new.spawners ≡ self.old.spawners) }
+        ensures folders_stay { self.new.folders ≡ self.old.folders }
+        ensures links_stay { self.new.links ≡ self.old.links }
+        ensures clocks_stay { self.new.clocks ≡ self.old.clocks }
+        ensures doors_stay { self.new.doors ≡ self.old.doors }
+        ensures calls { self.new.calls ≡ raised self.old.calls 1 }
+        ensures same_fails { self.new.fails ≡ self.old.fails }
+        ensures none_started { IfOk result (λ spawner. spawner.started ≡ 0) }
+        ensures no_faults { IfOk result (λ spawner. spawner.faults ≡ 0) }
+        ensures asked { Told (Some self.old.asked) (λ list. Some self.new.asked ≡ Some (list ++ ForSpawner ∷ [])) }
+        ensures ended_stay { self.new.ended ≡ self.old.ended }
+        ensures ended_links_stay { self.new.ended_links ≡ self.old.ended_links }
+        ensures connections_stay { self.new.connections ≡ self.old.connections }
+        ensures started_stay { self.new.started ≡ self.old.started }
+        ensures rose { OutsideRose result self.old.faults self.new.faults }
+        ensures never_falls { self.old.faults ≤ self.new.faults }
+    {
+        let has_one = !self.spawners.is_empty();
+        if !self.admits(Ask::Spawner, has_one) {
+            return Err(OutsideFault::Failed);
+        }
+        Ok(self.spawners.remove(0).afresh())
+    }
+
+    fn end_folder(&mut self, folder: MemFolder) {
+        let folder = self.ended.push(folder);
+        self.faults = self.faults.saturating_add(folder.entry_faults().min(1));
+    }
+
+    fn end_link(&mut self, link: MemLink) {
+        let link = self.ended_links.push(link);
+        self.faults = self.faults.saturating_add(link.faults().min(1));
+    }
+
+    fn end_door(&mut self, door: MemDoor<R>) {
+        self.connections = self.connections.saturating_add(door.connections());
+        self.faults = self.faults.saturating_add(door.faults().min(1));
+    }
+
+    fn end_spawner(&mut self, spawner: MemSpawner) {
+        self.started = self.started.saturating_add(spawner.started());
+        self.faults = self.faults.saturating_add(spawner.faults().min(1));
+    }
+}

@@ -1,0 +1,72 @@
+//! What a replica asks and is shown.
+
+use crate::requests::sent;
+use crate::row::Row;
+use crate::show::show;
+use cds_base::Mem;
+use cds_exchange::{ask_bytes, read_reply};
+use cds_load::{Ask, Shown};
+use std::alloc::Global;
+use url::Url;
+
+/// The ask that fields from a place on are: its name, an id and a place.
+fn ask(row: &Row, at: usize) -> Ask {
+    let id = row.small(at.saturating_add(1));
+    match row.text(at) {
+        "token" => Ask::Token,
+        "number" => Ask::Number,
+        "metadata" => Ask::Metadata { id },
+        _ => Ask::Children {
+            id,
+            start: row.small(at.saturating_add(2)),
+        },
+    }
+}
+
+/// `ask | address | ask | id | place`: the request of an ask.
+pub fn written(alloc: Global, row: &Row, out: &mut String) -> Result<(), Mem> {
+    let mut text = Vec::new(alloc);
+    put_ask(alloc, ask(row, 2), row.text(1), &mut text)?;
+    show(out, text.as_slice())
+}
+
+/// The request of an ask to an address, nothing where that is none.
+fn put_ask(alloc: Global, ask: Ask, address: &str, out: &mut Vec<u8>) -> Result<(), Mem> {
+    match Url::parse(alloc, address) {
+        Ok(url) => put_ask_to(ask, &url, out),
+        Err(_) => Ok(()),
+    }
+}
+
+/// The request of an ask to an address, nothing where that is none of `http`.
+fn put_ask_to(ask: Ask, url: &Url, out: &mut Vec<u8>) -> Result<(), Mem> {
+    if url.scheme() == "http" {
+        return ask_bytes(&ask, url, out);
+    }
+    Ok(())
+}
+
+/// `shown | ask | id | place | head | body | behind`: what a reply shows to an ask.
+pub fn shown(alloc: Global, row: &Row, out: &mut String) -> Result<(), Mem> {
+    let text = sent(alloc, row, 4)?;
+    match read_reply(alloc, &ask(row, 1), text.as_bytes())? {
+        Some(shown) => what_is_shown(&shown, out),
+        None => Ok(out.push_str("none")?),
+    }
+}
+
+fn what_is_shown(shown: &Shown, out: &mut String) -> Result<(), Mem> {
+    match shown {
+        Shown::Text(token) => {
+            out.push_str("text ")?;
+            show(out, token.as_str().as_bytes())
+        }
+        Shown::Number(number) => Ok(write!(out, "number {number}")?),
+        Shown::Page {
+            rows,
+            total,
+            update,
+        } => Ok(write!(out, "page {} of {total} at {update}", rows.len())?),
+        Shown::Fault { code } => Ok(write!(out, "fault {code}")?),
+    }
+}

@@ -1,0 +1,35 @@
+//! `cds_probe`: reads rows from its standard input, one a line, and writes one line for each with what the libraries' calls
+//! answer. An empty line and one that begins with `#` are written as they stand, so that line by line the output answers the
+//! input.
+#![tactic(auto)]
+
+mod asks;
+mod didl;
+mod events;
+mod files;
+mod markup;
+mod messages;
+mod objects;
+mod replies;
+mod requests;
+mod row;
+mod show;
+mod subjects;
+mod texts;
+
+use row::Pieces;
+use std::io;
+use std::io::{Error, ErrorKind};
+
+fn main(rt: HostRuntime) -> io::Result<()> {
+    let alloc = rt.alloc();
+    let mut pieces = Pieces::new(alloc);
+    for line in rt.lines(alloc) {
+        let line = line?;
+        match subjects::answer(alloc, &mut pieces, line.as_str()) {
+            Ok(text) => println!(rt; "{}", text.as_str())?,
+            Err(_) => return Err(Error::from(ErrorKind::OutOfMemory)),
+        }
+    }
+    Ok(())
+}

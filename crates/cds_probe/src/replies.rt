@@ -1,0 +1,130 @@
+//! Replies to control requests (SOAP).
+
+ghost use Rattle.std.specs.Prelude.{◌≡◌};
+ghost use Rattle.std.specs.List.{list_all};
+ghost use Rattle.cds_soap.specs.Written.{is_token_byte, is_reset_token};
+
+use crate::requests::{action, sent};
+use crate::row::Row;
+use crate::show::{refuse, show};
+use cds_base::{Bytes, Mem, Text};
+use cds_soap::{Action, Answer, fits, read_answer, write_answer};
+use std::alloc::Global;
+use std::convert::From;
+
+/// `answer | action | head | body | behind`: what a reply answers.
+pub fn read(alloc: Global, row: &Row, out: &mut String) -> Result<(), Mem> {
+    let action = action(alloc, row, 1)?;
+    answered(alloc, &action, row, out)
+}
+
+fn answered(alloc: Global, action: &Action, row: &Row, out: &mut String) -> Result<(), Mem> {
+    let text = sent(alloc, row, 2)?;
+    match read_answer(alloc, action, text.as_bytes()) {
+        Ok(answer) => answer_shown(&answer, out),
+        Err(refusal) => refuse(out, &refusal),
+    }
+}
+
+fn answer_shown(answer: &Answer, out: &mut String) -> Result<(), Mem> {
+    match answer {
+        Answer::Page {
+            result,
+            returned,
+            total,
+            update,
+        } => {
+            show(out, result.as_slice())?;
+            Ok(write!(out, "|{returned}|{total}|{update}")?)
+        }
+        Answer::Number(number) => Ok(write!(out, "number {number}")?),
+        Answer::Text(text) => {
+            out.push_str("text ")?;
+            show(out, text.as_str().as_bytes())
+        }
+        Answer::Fault { code } => Ok(write!(out, "fault {code}")?),
+    }
+}
+
+/// The answer that fields from a place on are: its kind and what it says.
+fn answer(alloc: Global, row: &Row, at: usize) -> Result<Answer, Mem> {
+    let says = at.saturating_add(1);
+    match row.text(at) {
+        "page" => page(alloc, row, says),
+        "text" => Ok(Answer::Text(Text::read(alloc, row.text(says))?)),
+        "number" => Ok(Answer::Number(row.small(says))),
+        _ => Ok(Answer::Fault {
+            code: u16::try_from(row.number(says)).unwrap_or(0),
+        }),
+    }
+}
+
+fn page(alloc: Global, row: &Row, at: usize) -> Result<Answer, Mem> {
+    let result = Bytes::from(Vec::from_slice(alloc, row.bytes(at))?);
+    Ok(Answer::Page {
+        result,
+        returned: row.small(at.saturating_add(1)),
+        total: row.small(at.saturating_add(2)),
+        update: row.small(at.saturating_add(3)),
+    })
+}
+
+/// `answer-write | action | version | token | kind | what it says ..`: the reply with an answer.
+pub fn written(alloc: Global, row: &Row, out: &mut String) -> Result<(), Mem> {
+    let action = action(alloc, row, 1)?;
+    written_to(alloc, &action, row, out)
+}
+
+fn written_to(alloc: Global, action: &Action, row: &Row, out: &mut String) -> Result<(), Mem> {
+    let answer = answer(alloc, row, 4)?;
+    reply_shown(alloc, action, row, &answer, out)
+}
+
+fn reply_shown(
+    alloc: Global,
+    action: &Action,
+    row: &Row,
+    answer: &Answer,
+    out: &mut String,
+) -> Result<(), Mem> {
+    let mut text = Vec::new(alloc);
+    reply_to(action, row, answer, &mut text)?;
+    show(out, text.as_slice())
+}
+
+/// The reply to an action with an answer and a token, nothing where they are none.
+fn reply_to(action: &Action, row: &Row, answer: &Answer, out: &mut Vec<u8>) -> Result<(), Mem> {
+    let version = u8::try_from(row.number(2)).unwrap_or(0);
+    let token = row.text(3);
+    if !fits(action.name(), answer) {
+        return Ok(());
+    }
+    if token.is_empty() {
+        return write_answer(action, version, answer, None, out);
+    }
+    if is_token(token) {
+        return write_answer(action, version, answer, Some(token), out);
+    }
+    Ok(())
+}
+
+/// Whether a byte may stand in a token.
+fn is_token_byte(byte: u8) -> bool
+    ensures { result ≡ is_token_byte byte }
+{
+    33 <= byte && byte <= 126
+}
+
+/// Whether bytes may stand in a token.
+fn are_token_bytes(bytes: &[u8]) -> bool
+    ensures { result ≡ list_all is_token_byte bytes.now }
+{
+    bytes.iter().all(|byte| is_token_byte(*byte))
+}
+
+/// Whether a text is a token.
+fn is_token(text: &str) -> bool
+    ensures { result ≡ is_reset_token text.now }
+{
+    are_token_bytes(text.as_bytes()) && 1 <= text.len() && text.len() <= 255
+}

@@ -1,0 +1,84 @@
+//! What each subject asks the libraries.
+
+use crate::row::{Pieces, Row, keep};
+use crate::{asks, didl, events, files, markup, messages, objects, replies, requests, texts};
+use cds_base::Mem;
+use cds_http::Side;
+use std::alloc::Global;
+
+/// The line that answers a line.
+pub fn answer(alloc: Global, pieces: &mut Pieces, line: &str) -> Result<String, Mem> {
+    let mut out = String::new(alloc);
+    if line.is_empty() || line.starts_with("#") {
+        out.push_str(line)?;
+    } else {
+        answer_row(alloc, pieces, line, &mut out)?;
+    }
+    Ok(out)
+}
+
+/// `piece | name | bytes` keeps a piece for later rows; the answer is how many bytes it has.
+fn answer_row(alloc: Global, pieces: &mut Pieces, line: &str, out: &mut String) -> Result<(), Mem> {
+    let row = Row::read(alloc, pieces.as_slice(), line)?;
+    if row.text(0) == "piece" {
+        keep(alloc, pieces, &row)?;
+        return Ok(write!(out, "{} bytes", row.bytes(2).len())?);
+    }
+    ask(alloc, &row, out)
+}
+
+/// What the library that a row is about answers.
+fn ask(alloc: Global, row: &Row, out: &mut String) -> Result<(), Mem> {
+    match row.text(0) {
+        "escape" => texts::escaped(alloc, row, out),
+        "unescape" => texts::unescaped(alloc, row, out),
+        "number" => texts::number(row, out),
+        "run" => texts::run(row, out),
+        "clean" => texts::cleaned(alloc, row, out),
+        "path" => objects::path(alloc, row, out),
+        "folder" => objects::folder(alloc, row, out),
+        "track" => objects::track(alloc, row, out),
+        "flac" => files::flac(alloc, row, out),
+        "flac-cut" => files::cuts(alloc, row, out),
+        _ => ask_of_documents(alloc, row, out),
+    }
+}
+
+fn ask_of_documents(alloc: Global, row: &Row, out: &mut String) -> Result<(), Mem> {
+    match row.text(0) {
+        "document" => markup::document(alloc, row, out),
+        "marks" => markup::marks(alloc, row, out),
+        "parts" => markup::parts(alloc, row, out),
+        "placed" => markup::placed(alloc, row, out),
+        "rewrite" => markup::rewritten(alloc, row, out),
+        "events" => events::read(alloc, row, out),
+        "events-rewrite" => events::rewritten(alloc, row, out),
+        "didl" => didl::read(alloc, row, out),
+        "didl-rewrite" => didl::rewritten(alloc, row, out),
+        "fragment" => didl::fragments(alloc, row, out),
+        _ => ask_of_messages(alloc, row, out),
+    }
+}
+
+fn ask_of_messages(alloc: Global, row: &Row, out: &mut String) -> Result<(), Mem> {
+    match row.text(0) {
+        "request" => messages::read(alloc, Side::Request, row, out),
+        "reply" => messages::read(alloc, Side::Reply, row, out),
+        "request-write" => messages::written(alloc, row, out),
+        "reply-write" => messages::written(alloc, row, out),
+        "head-write" => messages::written(alloc, row, out),
+        _ => ask_of_control(alloc, row, out),
+    }
+}
+
+fn ask_of_control(alloc: Global, row: &Row, out: &mut String) -> Result<(), Mem> {
+    match row.text(0) {
+        "action" => requests::read(alloc, row, out),
+        "action-write" => requests::written(alloc, row, out),
+        "answer" => replies::read(alloc, row, out),
+        "answer-write" => replies::written(alloc, row, out),
+        "ask" => asks::written(alloc, row, out),
+        "shown" => asks::shown(alloc, row, out),
+        _ => Ok(out.push_str("no such subject")?),
+    }
+}

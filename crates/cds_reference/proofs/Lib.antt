@@ -1,4 +1,0 @@
-pub mod Ordered
-pub mod Scanned
-pub mod Spans
-pub mod Standing

@@ -1,0 +1,4 @@
+pub mod Check
+pub mod Found
+pub mod Run
+pub mod Scan

@@ -1,0 +1,11 @@
+//! What the commands `check` and `scan` do: one reads a StateEvent and writes its one written form, the other scans a folder
+//! of FLAC files and writes its catalog. Each takes the streams and the outside that it is given, and answers an exit status.
+#![tactic(auto)]
+
+mod checking;
+mod scanning;
+mod written;
+
+pub use checking::check;
+pub use scanning::scan_folder;
+pub use written::write_text;

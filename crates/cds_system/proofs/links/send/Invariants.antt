@@ -1,0 +1,9 @@
+-- The place is within the request, and each write moves it on.
+use Rattle.std.proofs.Common.{length, ◌-◌, ◌≤◌}
+use Rattle.cds_system.proofs.links.send.Given as goal
+
+abbrev pub invariant-loop-at : goal.invariant-loop-at
+invariant-loop-at g l = l.at ≤ length l.request
+
+abbrev pub decreases-loop-at : goal.decreases-loop-at
+decreases-loop-at g l = length l.request - l.at

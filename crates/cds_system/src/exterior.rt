@@ -1,0 +1,135 @@
+//! What gives the objects of the system: folders, links, clocks, doors and what starts threads. It tells nothing of what
+//! it was asked.
+
+ghost use Rattle.std.specs.Prelude.{◌≡◌};
+
+use crate::clocks::{RealClock, ahead};
+use crate::doors::RealDoor;
+use crate::files::{RealFolder, real_folder};
+use crate::links::RealLink;
+use crate::spawners::RealSpawner;
+use cds_base::{Mem, Outside, OutsideFault};
+use std::alloc::Global;
+use std::marker::Send;
+use std::net::Net;
+use std::rt::Files;
+use std::sync::Wait;
+use std::time::Clock;
+
+/// What gives the objects of the system.
+#[derive(Drop)]
+pub struct RealOutside<R: Files + AllocGlobal + Net + Clock + Wait + Clone + Drop> {
+    rt: R,
+    ahead: u64,
+    connections: u64,
+    started: u64,
+    faults: u64,
+}
+
+impl<R: Files + AllocGlobal + Net + Clock + Wait + Clone + Drop> RealOutside<R> {
+    /// No call has failed. Its clocks begin with the milliseconds since 1970, where the system tells them.
+    pub fn new(rt: R) -> Self
+        ensures connections { result.connections ≡ 0 }
+        ensures started { result.started ≡ 0 }
+        ensures faults { result.faults ≡ 0 }
+    {
+        let ahead = ahead(&rt);
+        RealOutside {
+            rt,
+            ahead,
+            connections: 0,
+            started: 0,
+            faults: 0,
+        }
+    }
+}
+
+/// Another owner of the runtime.
+fn another<R: Clone>(rt: &R) -> Result<R, Mem> {
+    Ok(rt.clone()?)
+}
+
+impl<R: Files + AllocGlobal + Net + Clock + Wait + Clone + Drop + Send + 'static> Outside
+    for RealOutside<R>
+where
+    R::File: Send + 'static,
+    R::Dir: Send + 'static,
+{
+    ghost use Rattle.std.specs.Prelude.{None};
+
+    type F = RealFolder<R>;
+
+    type L = RealLink<R>;
+
+    type C = RealClock<R>;
+
+    type D = RealDoor<R>;
+
+    type W = RealSpawner;
+
+    ghost faults = { λ s. s.faults };
+
+    ghost asked = { λ _. None };
+
+    ghost ended = { λ _. None };
+
+    ghost ended_links = { λ _. None };
+
+    ghost connections = { λ s. s.connections };
+
+    ghost started = { λ s. s.started };
+
+    fn folder(&mut self, alloc: Global, path: &str) -> Result<RealFolder<R>, OutsideFault> {
+        Ok(real_folder(&self.rt, alloc, path)?)
+    }
+
+    fn link(&mut self, _alloc: Global) -> Result<RealLink<R>, OutsideFault> {
+        let rt = another(&self.rt)?;
+        Ok(RealLink::new(rt))
+    }
+
+    fn clock(&mut self, _alloc: Global) -> Result<RealClock<R>, OutsideFault> {
+        let rt = another(&self.rt)?;
+        Ok(RealClock::new(rt, self.ahead))
+    }
+
+    fn door(&mut self, alloc: Global, port: u16) -> Result<RealDoor<R>, OutsideFault> {
+        let rt = another(&self.rt)?;
+        match RealDoor::open(rt, alloc, port) {
+            Ok(door) => Ok(door),
+            Err(OutsideFault::Mem) => Err(OutsideFault::Mem),
+            Err(OutsideFault::Failed) => {
+                self.faults = self.faults.saturating_add(1);
+                Err(OutsideFault::Failed)
+            }
+        }
+    }
+
+    fn spawner(&mut self, _alloc: Global) -> Result<RealSpawner, OutsideFault> {
+        Ok(RealSpawner::new())
+    }
+
+    fn end_folder(&mut self, folder: RealFolder<R>) {
+        let faults = folder.entry_faults();
+        drop(folder);
+        self.faults = self.faults.saturating_add(faults.min(1));
+    }
+
+    fn end_link(&mut self, link: RealLink<R>) {
+        let faults = link.faults();
+        drop(link);
+        self.faults = self.faults.saturating_add(faults.min(1));
+    }
+
+    fn end_door(&mut self, door: RealDoor<R>) {
+        let (connections, faults) = (door.connections(), door.faults());
+        drop(door);
+        self.connections = self.connections.saturating_add(connections);
+        self.faults = self.faults.saturating_add(faults.min(1));
+    }
+
+    fn end_spawner(&mut self, spawner: RealSpawner) {
+        self.started = self.started.saturating_add(spawner.started());
+        self.faults = self.faults.saturating_add(spawner.faults().min(1));
+    }
+}

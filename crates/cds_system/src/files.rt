@@ -1,0 +1,215 @@
+//! The folders of the real file system. They tell nothing of what they hold beside the paths and kinds that they gave, and
+//! count their faults. What the file system gives is trusted.
+
+ghost use Rattle.std.specs.Prelude.{◌≡◌, ◌∷◌, ◌++◌, [], IfOk, OnErr, None};
+ghost use Rattle.cds_system.specs.Given.{GivesEntry, IsPathOf};
+
+use crate::given::Given;
+use crate::streams::Input;
+use crate::walk::{Walk, joined};
+use cds_base::{Entry, Folder, FolderFault, Mem, Text};
+use std::alloc::Global;
+use std::fs;
+use std::io::{BufReader, ErrorKind};
+use std::rt::Files;
+
+/// How many bytes of a file are read at once.
+const PIECE: usize = 4096;
+
+/// A folder of the real file system, whose whole tree is listed.
+#[derive(Drop)]
+pub struct RealFolder<R: Files + AllocGlobal + Clone + Drop> {
+    rt: R,
+    root: Text,
+    walk: Walk<R>,
+    given: Given,
+    entries: u64,
+    opened: u64,
+    returned: u64,
+    entry_faults: u64,
+    file_faults: u64,
+}
+
+impl<R: Files + AllocGlobal + Clone + Drop> RealFolder<R> {
+    /// How many calls of `entry` failed.
+    pub fn entry_faults(&self) -> u64
+        ensures { result ≡ self.now.entry_faults }
+    {
+        self.entry_faults
+    }
+
+    /// The next entry of the walk, where there is room for it.
+    #[tactic(auto, using(crate::proofs::Guarded::gives_entry))]
+    fn give(&mut self, alloc: Global) -> Result<Entry, FolderFault>
+        ensures given { IfOk result (λ e. GivesEntry self.old.given e self.new.given) }
+        ensures entries_stay { self.new.entries ≡ self.old.entries }
+        ensures opened_stays { self.new.opened ≡ self.old.opened }
+        ensures returned_stays { self.new.returned ≡ self.old.returned }
+        ensures entry_faults_stay { self.new.entry_faults ≡ self.old.entry_faults }
+        ensures file_faults_stay { self.new.file_faults ≡ self.old.file_faults }
+    {
+        self.given.facts();
+        let entry = self.walk.next(alloc)?;
+        match entry_path(alloc, &entry)? {
+            None => Ok(entry),
+            Some(path) => {
+                if self.given.has_room(self.walk.here(), &path) {
+                    Ok(self.given.add(path, entry)?)
+                } else {
+                    drop(entry);
+                    drop(path);
+                    Err(FolderFault::Failed)
+                }
+            }
+        }
+    }
+
+    /// Begins the tree anew.
+    fn begin(&mut self)
+        ensures given { self.new.given ≡ [] }
+        ensures entries_stay { self.new.entries ≡ self.old.entries }
+        ensures opened_stays { self.new.opened ≡ self.old.opened }
+        ensures returned_stays { self.new.returned ≡ self.old.returned }
+        ensures entry_faults_stay { self.new.entry_faults ≡ self.old.entry_faults }
+        ensures file_faults_stay { self.new.file_faults ≡ self.old.file_faults }
+    {
+        self.walk.restart();
+        self.given.clear();
+    }
+}
+
+/// The path of an entry; the end has none.
+fn entry_path(alloc: Global, entry: &Entry) -> Result<Option<Text>, Mem>
+    ensures { IfOk result (λ path. IsPathOf path entry.now) }
+{
+    match entry {
+        Entry::Folder { path } => Ok(Some(path.copy(alloc)?)),
+        Entry::File { path, .. } => Ok(Some(path.copy(alloc)?)),
+        Entry::End => Ok(None),
+    }
+}
+
+impl<R: Files + AllocGlobal + Clone + Drop> Folder for RealFolder<R> {
+    ghost use Rattle.std.specs.Prelude.{None};
+
+    type File = Input<BufReader<R::File>>;
+
+    ghost tree = { λ _. None };
+
+    ghost contents = { λ _. None };
+
+    ghost given = { λ s. s.given };
+
+    ghost entries = { λ s. s.entries };
+
+    ghost opened = { λ s. s.opened };
+
+    ghost returned = { λ s. s.returned };
+
+    ghost entry_faults = { λ s. s.entry_faults };
+
+    ghost file_faults = { λ s. s.file_faults };
+
+    fn entry(&mut self, alloc: Global) -> Result<Entry, FolderFault> {
+        match self.give(alloc) {
+            Ok(Entry::End) => {
+                self.begin();
+                Ok(Entry::End)
+            }
+            Ok(Entry::Folder { path }) => {
+                self.entries = self.entries.saturating_add(1);
+                Ok(Entry::Folder { path })
+            }
+            Ok(Entry::File { path, size }) => {
+                self.entries = self.entries.saturating_add(1);
+                Ok(Entry::File { path, size })
+            }
+            Err(FolderFault::Failed) => {
+                self.begin();
+                self.entry_faults = self.entry_faults.saturating_add(1);
+                Err(FolderFault::Failed)
+            }
+            Err(FolderFault::Mem) => {
+                self.begin();
+                Err(FolderFault::Mem)
+            }
+        }
+    }
+
+    fn open(
+        &mut self,
+        alloc: Global,
+        path: &str,
+    ) -> Result<Input<BufReader<R::File>>, FolderFault> {
+        let place = joined(alloc, &self.root, path)?;
+        match open_file(&self.rt, alloc, place.as_str()) {
+            Ok(file) => {
+                self.opened = self.opened.saturating_add(1);
+                Ok(file)
+            }
+            Err(FolderFault::Failed) => {
+                self.file_faults = self.file_faults.saturating_add(1);
+                Err(FolderFault::Failed)
+            }
+            Err(FolderFault::Mem) => Err(FolderFault::Mem),
+        }
+    }
+
+    fn done(&mut self, file: Input<BufReader<R::File>>) {
+        self.returned = self.returned.saturating_add(1);
+        self.file_faults = self.file_faults.saturating_add(file.faults());
+    }
+
+    fn restart(&mut self) {
+        self.begin();
+    }
+}
+
+/// Opens a file, to be read in pieces.
+fn open_file<R: Files + AllocGlobal + Clone + Drop>(
+    rt: &R,
+    alloc: Global,
+    place: &str,
+) -> Result<Input<BufReader<R::File>>, FolderFault>
+    ensures no_faults { IfOk result (λ file. file.faults ≡ 0) }
+    ensures unread { IfOk result (λ file. file.moved ≡ 0) }
+{
+    match fs::open(rt, place) {
+        Ok(file) => match BufReader::with_capacity(alloc, PIECE, file) {
+            Ok(reader) => Ok(Input::new(reader)),
+            Err(_) => Err(FolderFault::Mem),
+        },
+        Err(error) if error.kind() == ErrorKind::OutOfMemory => Err(FolderFault::Mem),
+        Err(_) => Err(FolderFault::Failed),
+    }
+}
+
+/// The folder at a path, of which nothing was asked yet.
+pub fn real_folder<R: Files + AllocGlobal + Clone + Drop>(
+    rt: &R,
+    alloc: Global,
+    path: &str,
+) -> Result<RealFolder<R>, Mem>
+    ensures given { IfOk result (λ folder. folder.given ≡ []) }
+    ensures entries { IfOk result (λ folder. folder.entries ≡ 0) }
+    ensures opened { IfOk result (λ folder. folder.opened ≡ 0) }
+    ensures returned { IfOk result (λ folder. folder.returned ≡ 0) }
+    ensures entry_faults { IfOk result (λ folder. folder.entry_faults ≡ 0) }
+    ensures file_faults { IfOk result (λ folder. folder.file_faults ≡ 0) }
+{
+    let root = Text::read(alloc, path)?;
+    let walked = root.copy(alloc)?;
+    let walking = rt.clone()?;
+    let rt = rt.clone()?;
+    Ok(RealFolder {
+        rt,
+        root,
+        walk: Walk::new(walking, alloc, walked),
+        given: Given::new(alloc),
+        entries: 0,
+        opened: 0,
+        returned: 0,
+        entry_faults: 0,
+        file_faults: 0,
+    })
+}
