@@ -2,7 +2,7 @@
 
 use crate::requests::sent;
 use crate::row::Row;
-use crate::show::show;
+use crate::show::Out;
 use cds_base::Mem;
 use cds_exchange::{ask_bytes, read_reply};
 use cds_load::{Ask, Shown};
@@ -24,10 +24,11 @@ fn ask(row: &Row, at: usize) -> Ask {
 }
 
 /// `ask | address | ask | id | place`: the request of an ask.
-pub fn written(alloc: Global, row: &Row, out: &mut String) -> Result<(), Mem> {
+pub fn written(alloc: Global, row: &Row, out: &mut Out) {
     let mut text = Vec::new(alloc);
-    put_ask(alloc, ask(row, 2), row.text(1), &mut text)?;
-    show(out, text.as_slice())
+    let is_done = put_ask(alloc, ask(row, 2), row.text(1), &mut text).is_ok();
+    out.note(is_done);
+    out.show(text.as_slice());
 }
 
 /// The request of an ask to an address, nothing where that is none.
@@ -47,26 +48,32 @@ fn put_ask_to(ask: Ask, url: &Url, out: &mut Vec<u8>) -> Result<(), Mem> {
 }
 
 /// `shown | ask | id | place | head | body | behind`: what a reply shows to an ask.
-pub fn shown(alloc: Global, row: &Row, out: &mut String) -> Result<(), Mem> {
-    let text = sent(alloc, row, 4)?;
-    match read_reply(alloc, &ask(row, 1), text.as_bytes())? {
-        Some(shown) => what_is_shown(&shown, out),
-        None => Ok(out.push_str("none")?),
+pub fn shown(alloc: Global, row: &Row, out: &mut Out) {
+    let text = sent(alloc, row, 4);
+    out.note(text.is_whole());
+    match read_reply(alloc, &ask(row, 1), text.as_str().as_bytes()) {
+        Ok(Some(shown)) => what_is_shown(&shown, out),
+        Ok(None) => out.put("none"),
+        Err(refusal) => out.refuse(&refusal),
     }
 }
 
-fn what_is_shown(shown: &Shown, out: &mut String) -> Result<(), Mem> {
+fn what_is_shown(shown: &Shown, out: &mut Out) {
     match shown {
         Shown::Text(token) => {
-            out.push_str("text ")?;
-            show(out, token.as_str().as_bytes())
+            out.put("text ");
+            out.show(token.as_str().as_bytes());
         }
-        Shown::Number(number) => Ok(write!(out, "number {number}")?),
+        Shown::Number(number) => out.say("number ", number),
         Shown::Page {
             rows,
             total,
             update,
-        } => Ok(write!(out, "page {} of {total} at {update}", rows.len())?),
-        Shown::Fault { code } => Ok(write!(out, "fault {code}")?),
+        } => {
+            out.say("page ", &rows.len());
+            out.say(" of ", total);
+            out.say(" at ", update);
+        }
+        Shown::Fault { code } => out.say("fault ", code),
     }
 }

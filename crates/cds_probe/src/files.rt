@@ -1,11 +1,10 @@
 //! FLAC files.
 
 use crate::row::Row;
-use crate::show::{quote, refuse};
-use cds_base::{Bytes, Mem, Numbers};
+use crate::show::Out;
+use cds_base::{Bytes, Numbers};
 use cds_flac::{FlacError, FlacInfo, read_flac};
 use cds_memory::MemSource;
-use cds_object::Comment;
 use std::alloc::Global;
 use std::convert::From;
 
@@ -17,26 +16,22 @@ fn read(alloc: Global, bytes: &[u8]) -> Result<FlacInfo, FlacError> {
 }
 
 /// `flac | bytes`: rate, channels, bits, samples and comments of a file.
-pub fn flac(alloc: Global, row: &Row, out: &mut String) -> Result<(), Mem> {
+pub fn flac(alloc: Global, row: &Row, out: &mut Out) {
     match read(alloc, row.bytes(1)) {
         Ok(info) => info_shown(&info, out),
-        Err(refusal) => refuse(out, &refusal),
+        Err(refusal) => out.refuse(&refusal),
     }
 }
 
-fn info_shown(info: &FlacInfo, out: &mut String) -> Result<(), Mem> {
-    let (rate, samples) = (info.rate, info.samples);
-    let (channels, bits) = (info.channels, info.bits);
-    write!(out, "{rate} {channels} {bits} {samples}")?;
+fn info_shown(info: &FlacInfo, out: &mut Out) {
+    out.value(&info.rate);
+    out.say(" ", &info.channels);
+    out.say(" ", &info.bits);
+    out.say(" ", &info.samples);
     for comment in info.comments.as_slice() {
-        comment_shown(comment, out)?;
+        out.quote(comment.name.as_str().as_bytes());
+        out.quote(comment.value.as_str().as_bytes());
     }
-    Ok(())
-}
-
-fn comment_shown(comment: &Comment, out: &mut String) -> Result<(), Mem> {
-    quote(out, comment.name.as_str().as_bytes())?;
-    quote(out, comment.value.as_str().as_bytes())
 }
 
 /// Whether so many first bytes are refused at their end.
@@ -46,7 +41,7 @@ fn is_cut_off(alloc: Global, bytes: &[u8], count: usize) -> bool {
 }
 
 /// `flac-cut | bytes`: how many beginnings are refused at their end.
-pub fn cuts(alloc: Global, row: &Row, out: &mut String) -> Result<(), Mem> {
+pub fn cuts(alloc: Global, row: &Row, out: &mut Out) {
     let bytes = row.bytes(1);
     let mut refused: usize = 0;
     for count in 0..bytes.len() {
@@ -54,5 +49,6 @@ pub fn cuts(alloc: Global, row: &Row, out: &mut String) -> Result<(), Mem> {
             refused = refused.saturating_add(1);
         }
     }
-    Ok(write!(out, "{refused} of {}", bytes.len())?)
+    out.value(&refused);
+    out.say(" of ", &bytes.len());
 }

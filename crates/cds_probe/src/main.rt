@@ -26,10 +26,11 @@ fn main(rt: HostRuntime) -> io::Result<()> {
     let mut pieces = Pieces::new(alloc);
     for line in rt.lines(alloc) {
         let line = line?;
-        match subjects::answer(alloc, &mut pieces, line.as_str()) {
-            Ok(text) => println!(rt; "{}", text.as_str())?,
-            Err(_) => return Err(Error::from(ErrorKind::OutOfMemory)),
+        let out = subjects::answer(alloc, &mut pieces, line.as_str());
+        if !out.is_whole() {
+            return Err(Error::from(ErrorKind::OutOfMemory));
         }
+        println!(rt; "{}", out.as_str())?;
     }
     Ok(())
 }

@@ -1,8 +1,7 @@
 //! Documents of XML.
 
 use crate::row::{Row, SIZES};
-use crate::show::{quote, refuse, show};
-use cds_base::Mem;
+use crate::show::Out;
 use cds_markup::{
     Attrs, Element, MarkupError, Name, Part, Parts, Placed, Reader, read_document, read_parts,
     read_placed, write_document,
@@ -10,17 +9,18 @@ use cds_markup::{
 use std::alloc::Global;
 
 /// `document | text`: whether the text is a document, and the size of pieces in which that is answered otherwise.
-pub fn document(alloc: Global, row: &Row, out: &mut String) -> Result<(), Mem> {
+pub fn document(alloc: Global, row: &Row, out: &mut Out) {
     let bytes = row.bytes(1);
     let refusal = read_document(alloc, bytes).err();
     for size in &SIZES {
         if refusal_by(alloc, bytes, *size) != refusal {
-            write!(out, "otherwise in pieces of {size}: ")?;
+            out.say("otherwise in pieces of ", size);
+            out.put(": ");
         }
     }
     match refusal {
-        Some(refusal) => refuse(out, &refusal),
-        None => Ok(out.push_str("a document")?),
+        Some(refusal) => out.refuse(&refusal),
+        None => out.put("a document"),
     }
 }
 
@@ -55,47 +55,48 @@ fn feed_by(
 
 /// `marks | document | byte`: for each number of first bytes of a document what the byte behind them is: `x` that it cannot
 /// stand there, `.` that it can and the document then ends too early, `=` that a document ends with it.
-pub fn marks(alloc: Global, row: &Row, out: &mut String) -> Result<(), Mem> {
+pub fn marks(alloc: Global, row: &Row, out: &mut Out) {
     let mut bytes = Vec::new(alloc);
+    put_mark(alloc, &mut bytes, row.bytes(2), out);
     for next in row.bytes(1) {
-        out.push_str(mark(alloc, &mut bytes, row.bytes(2))?)?;
-        bytes.push(*next)?;
+        let is_done = bytes.push(*next).is_ok();
+        out.note(is_done);
+        put_mark(alloc, &mut bytes, row.bytes(2), out);
     }
-    Ok(out.push_str(mark(alloc, &mut bytes, row.bytes(2))?)?)
 }
 
-/// What more bytes behind these are.
-fn mark(alloc: Global, bytes: &mut Vec<u8>, more: &[u8]) -> Result<&'static str, Mem> {
+/// Puts what more bytes behind these are.
+fn put_mark(alloc: Global, bytes: &mut Vec<u8>, more: &[u8], out: &mut Out) {
     let before = bytes.len();
-    bytes.extend_from_slice(more)?;
-    let answer = mark_of(read_document(alloc, bytes.as_slice()), before);
+    let is_done = bytes.extend_from_slice(more).is_ok();
+    out.note(is_done);
+    out.put(mark(read_document(alloc, bytes.as_slice()).err(), before));
     bytes.truncate(before);
-    Ok(answer)
 }
 
-fn mark_of(answer: Result<Element, MarkupError>, before: usize) -> &'static str {
-    match answer {
-        Ok(_) => "=",
-        Err(MarkupError::Bad { at }) if at == before => "x",
-        Err(MarkupError::Bad { at }) if at == before.saturating_add(1) => ".",
-        Err(_) => "?",
+fn mark(refusal: Option<MarkupError>, before: usize) -> &'static str {
+    match refusal {
+        None => "=",
+        Some(MarkupError::Bad { at }) if at == before => "x",
+        Some(MarkupError::Bad { at }) if at == before.saturating_add(1) => ".",
+        Some(_) => "?",
     }
 }
 
 /// `parts | text`: the parts of the text and where it breaks.
-pub fn parts(alloc: Global, row: &Row, out: &mut String) -> Result<(), Mem> {
+pub fn parts(alloc: Global, row: &Row, out: &mut Out) {
     let mut parts = Parts::new(alloc);
     let answer = read_parts(alloc, row.bytes(1), &mut parts);
     for part in parts.as_slice() {
-        part_shown(part, out)?;
+        part_shown(part, out);
     }
     match answer {
-        Ok(()) => Ok(out.push_str("a document")?),
-        Err(refusal) => refuse(out, &refusal),
+        Ok(()) => out.put("a document"),
+        Err(refusal) => out.refuse(&refusal),
     }
 }
 
-fn part_shown(part: &Part, out: &mut String) -> Result<(), Mem> {
+fn part_shown(part: &Part, out: &mut Out) {
     match part {
         Part::Start {
             at,
@@ -103,68 +104,66 @@ fn part_shown(part: &Part, out: &mut String) -> Result<(), Mem> {
             name,
             attrs,
         } => {
-            write!(out, "start {at} {end}")?;
-            name_shown(name, out)?;
-            attrs_shown(attrs, out)
+            out.say("start ", at);
+            out.say(" ", end);
+            name_shown(name, out);
+            attrs_shown(attrs, out);
         }
-        Part::End { at } => Ok(write!(out, "end {at}; ")?),
+        Part::End { at } => out.say("end ", at),
         Part::Run {
             at,
             non_blank,
             text,
         } => {
-            write!(out, "run {at} {non_blank:?}")?;
-            quote(out, text.as_str().as_bytes())?;
-            Ok(out.push_str("; ")?)
+            out.say("run ", at);
+            out.say(" ", non_blank);
+            out.quote(text.as_str().as_bytes());
         }
     }
+    out.put("; ");
 }
 
-fn name_shown(name: &Name, out: &mut String) -> Result<(), Mem> {
-    quote(out, name.space.as_str().as_bytes())?;
-    quote(out, name.local.as_str().as_bytes())
+fn name_shown(name: &Name, out: &mut Out) {
+    out.quote(name.space.as_str().as_bytes());
+    out.quote(name.local.as_str().as_bytes());
 }
 
-fn attrs_shown(attrs: &Attrs, out: &mut String) -> Result<(), Mem> {
+fn attrs_shown(attrs: &Attrs, out: &mut Out) {
     for attr in attrs.as_slice() {
-        out.push_str(",")?;
-        name_shown(&attr.name, out)?;
-        quote(out, attr.value.as_str().as_bytes())?;
+        out.put(",");
+        name_shown(&attr.name, out);
+        out.quote(attr.value.as_str().as_bytes());
     }
-    Ok(out.push_str("; ")?)
 }
 
 /// `placed | text`: where the root and its child elements begin, and how many nodes the root has.
-pub fn placed(alloc: Global, row: &Row, out: &mut String) -> Result<(), Mem> {
+pub fn placed(alloc: Global, row: &Row, out: &mut Out) {
     match read_placed(alloc, row.bytes(1)) {
         Ok(placed) => placed_shown(&placed, out),
-        Err(refusal) => refuse(out, &refusal),
+        Err(refusal) => out.refuse(&refusal),
     }
 }
 
-fn placed_shown(placed: &Placed, out: &mut String) -> Result<(), Mem> {
-    write!(
-        out,
-        "{} with {} nodes",
-        placed.at,
-        placed.element.children.len()
-    )?;
+fn placed_shown(placed: &Placed, out: &mut Out) {
+    out.value(&placed.at);
+    out.say(" with ", &placed.element.children.len());
+    out.put(" nodes");
     for child in placed.children.as_slice() {
-        write!(out, ", {child}")?;
+        out.say(", ", child);
     }
-    Ok(())
 }
 
 /// `rewrite | document`: what is written of what is read, byte by byte.
-pub fn rewritten(alloc: Global, row: &Row, out: &mut String) -> Result<(), Mem> {
+pub fn rewritten(alloc: Global, row: &Row, out: &mut Out) {
     match element_by(alloc, row.bytes(1), 1) {
         Ok(element) => element_shown(alloc, &element, out),
-        Err(refusal) => refuse(out, &refusal),
+        Err(refusal) => out.refuse(&refusal),
     }
 }
 
-fn element_shown(alloc: Global, element: &Element, out: &mut String) -> Result<(), Mem> {
+fn element_shown(alloc: Global, element: &Element, out: &mut Out) {
     let mut text = Vec::new(alloc);
-    write_document(element, &mut text)?;
-    show(out, text.as_slice())
+    let is_done = write_document(element, &mut text).is_ok();
+    out.note(is_done);
+    out.show(text.as_slice());
 }

@@ -1,7 +1,7 @@
 //! Messages of HTTP.
 
 use crate::row::{Row, SIZES, cut, text_of};
-use crate::show::{quote, refuse, show};
+use crate::show::Out;
 use cds_base::Mem;
 use cds_http::{
     Fed, Fields, HttpError, Message, MessageReader, Side, Start, write_reply, write_reply_head,
@@ -9,80 +9,51 @@ use cds_http::{
 };
 use std::alloc::Global;
 
-/// A message and how many bytes came behind it.
-#[derive(Drop)]
-struct Heard {
-    message: Message,
-    behind: usize,
-}
-
 /// `request | bytes | field`, `reply | bytes | field`: the first line, the values of a field, the body, and how many bytes are
-/// behind it, or why the bytes are no message, and the size of pieces in which that is answered otherwise. No text is read in more
-/// than 512 pieces.
-pub fn read(alloc: Global, side: Side, row: &Row, out: &mut String) -> Result<(), Mem> {
-    let bytes = row.bytes(1);
-    let whole = heard_by(alloc, side, bytes, bytes.len());
-    compared(alloc, side, bytes, &whole, out)?;
-    answer_shown(&whole, row.text(2), out)
-}
-
-/// Names the sizes of pieces in which bytes are answered otherwise.
-fn compared(
-    alloc: Global,
-    side: Side,
-    bytes: &[u8],
-    whole: &Result<Heard, HttpError>,
-    out: &mut String,
-) -> Result<(), Mem> {
+/// behind it, or why the bytes are no message, and the first size of pieces in which that is answered otherwise. No text is read in
+/// more than 512 pieces.
+pub fn read(alloc: Global, side: Side, row: &Row, out: &mut Out) {
+    let count = row.bytes(1).len();
+    read_by(alloc, side, row, count, out);
     for size in &SIZES {
-        let is_short = bytes.len() < size.saturating_mul(512);
-        if is_short && !is_same_by(alloc, side, bytes, *size, whole) {
-            write!(out, "otherwise in pieces of {size}: ")?;
+        if count < size.saturating_mul(512) && !is_same_by(alloc, side, row, *size, out.as_str()) {
+            out.say("; otherwise in pieces of ", size);
+            break;
         }
     }
-    Ok(())
 }
 
 /// Whether bytes in pieces of so many are answered as this.
-fn is_same_by(
+fn is_same_by(alloc: Global, side: Side, row: &Row, size: usize, answer: &str) -> bool {
+    let mut other = Out::new(alloc);
+    read_by(alloc, side, row, size, &mut other);
+    other.as_str() == answer
+}
+
+/// Shows what bytes in pieces of so many are.
+fn read_by(alloc: Global, side: Side, row: &Row, size: usize, out: &mut Out) {
+    let mut behind = 0;
+    match message_by(alloc, side, row.bytes(1), size, &mut behind) {
+        Ok(message) => {
+            message_shown(&message, row.text(2), out);
+            out.say(", ", &behind);
+            out.put(" behind");
+        }
+        Err(refusal) => out.refuse(&refusal),
+    }
+}
+
+/// The message that comes in pieces of so many bytes, and how many bytes came behind it.
+pub fn message_by(
     alloc: Global,
     side: Side,
     bytes: &[u8],
     size: usize,
-    whole: &Result<Heard, HttpError>,
-) -> bool {
-    let other = heard_by(alloc, side, bytes, size);
-    are_same(whole, &other)
-}
-
-fn answer_shown(
-    answer: &Result<Heard, HttpError>,
-    field: &str,
-    out: &mut String,
-) -> Result<(), Mem> {
-    match answer {
-        Ok(heard) => heard_shown(heard, field, out),
-        Err(refusal) => refuse(out, refusal),
-    }
-}
-
-/// Whether two answers have the same body and bytes behind it, or the same refusal.
-fn are_same(one: &Result<Heard, HttpError>, other: &Result<Heard, HttpError>) -> bool {
-    match (one, other) {
-        (Ok(one), Ok(other)) => {
-            one.behind == other.behind
-                && one.message.body.as_slice() == other.message.body.as_slice()
-        }
-        (Err(one), Err(other)) => one == other,
-        _ => false,
-    }
-}
-
-/// The message that comes in pieces of so many bytes.
-fn heard_by(alloc: Global, side: Side, bytes: &[u8], size: usize) -> Result<Heard, HttpError> {
+    behind: &mut usize,
+) -> Result<Message, HttpError> {
     let mut reader = MessageReader::new(alloc, side)?;
-    match feed_by(alloc, bytes, size, &mut reader) {
-        Ok(behind) => with_rest(reader.finish(), behind),
+    match feed_by(alloc, bytes, size, &mut reader, behind) {
+        Ok(()) => reader.finish(),
         Err(refusal) => {
             drop(reader);
             Err(refusal)
@@ -90,47 +61,37 @@ fn heard_by(alloc: Global, side: Side, bytes: &[u8], size: usize) -> Result<Hear
     }
 }
 
-fn with_rest(message: Result<Message, HttpError>, behind: usize) -> Result<Heard, HttpError> {
-    match message {
-        Ok(message) => Ok(Heard { message, behind }),
-        Err(refusal) => Err(refusal),
-    }
-}
-
-/// Feeds bytes in pieces, and gives how many are behind the message.
 fn feed_by(
     alloc: Global,
     bytes: &[u8],
     size: usize,
     reader: &mut MessageReader,
-) -> Result<usize, HttpError> {
-    let mut behind: usize = 0;
+    behind: &mut usize,
+) -> Result<(), HttpError> {
     for piece in bytes.chunks(size.max(1)) {
-        match reader.feed(alloc, piece)? {
-            Fed::More => {}
-            Fed::Whole { rest } => behind = behind.saturating_add(rest),
+        if let Fed::Whole { rest } = reader.feed(alloc, piece)? {
+            *behind = behind.saturating_add(rest);
         }
     }
-    Ok(behind)
+    Ok(())
 }
 
-fn heard_shown(heard: &Heard, field: &str, out: &mut String) -> Result<(), Mem> {
-    start_shown(&heard.message.start, out)?;
-    for value in heard.message.fields.get_all(field) {
-        quote(out, value.as_bytes())?;
+fn message_shown(message: &Message, field: &str, out: &mut Out) {
+    start_shown(&message.start, out);
+    for value in message.fields.get_all(field) {
+        out.quote(value.as_bytes());
     }
-    out.push_str(", body")?;
-    quote(out, heard.message.body.as_slice())?;
-    Ok(write!(out, ", {} behind", heard.behind)?)
+    out.put(", body");
+    out.quote(message.body.as_slice());
 }
 
-fn start_shown(start: &Start, out: &mut String) -> Result<(), Mem> {
+fn start_shown(start: &Start, out: &mut Out) {
     match start {
         Start::Request { method, target } => {
-            show(out, method.as_str().as_bytes())?;
-            quote(out, target.as_str().as_bytes())
+            out.show(method.as_str().as_bytes());
+            out.quote(target.as_str().as_bytes());
         }
-        Start::Reply { status } => Ok(write!(out, "status {status}")?),
+        Start::Reply { status } => out.say("status ", status),
     }
 }
 
@@ -146,16 +107,19 @@ fn fields_of(alloc: Global, texts: &[Vec<u8>]) -> Result<Fields, Mem> {
 
 /// `request-write | method | target | body | name: value ..`, `reply-write | status | body | name: value ..`, `head-write |
 /// status | number of bytes | name: value ..`: what is written.
-pub fn written(alloc: Global, row: &Row, out: &mut String) -> Result<(), Mem> {
+pub fn written(alloc: Global, row: &Row, out: &mut Out) {
     let from = if row.text(0) == "request-write" { 4 } else { 3 };
-    let fields = fields_of(alloc, row.from(from))?;
-    written_with(alloc, row, &fields, out)
+    match fields_of(alloc, row.from(from)) {
+        Ok(fields) => written_with(alloc, row, &fields, out),
+        Err(refusal) => out.refuse(&refusal),
+    }
 }
 
-fn written_with(alloc: Global, row: &Row, fields: &Fields, out: &mut String) -> Result<(), Mem> {
+fn written_with(alloc: Global, row: &Row, fields: &Fields, out: &mut Out) {
     let mut text = Vec::new(alloc);
-    put_message(row, fields, &mut text)?;
-    show(out, text.as_slice())
+    let is_done = put_message(row, fields, &mut text).is_ok();
+    out.note(is_done);
+    out.show(text.as_slice());
 }
 
 fn put_message(row: &Row, fields: &Fields, out: &mut Vec<u8>) -> Result<(), Mem> {

@@ -1,94 +1,98 @@
 //! Paths and contents.
 
 use crate::row::{Row, cut, text_of};
-use crate::show::{quote, quote_maybe, refuse};
+use crate::show::Out;
 use cds_base::{Mem, Text};
 use cds_object::{Comment, Comments, Content, FlacInfo, Path, TrackContent, content_of, folder_of};
 use std::alloc::Global;
 
 /// `path | text`: how many names, and the last.
-pub fn path(alloc: Global, row: &Row, out: &mut String) -> Result<(), Mem> {
+pub fn path(alloc: Global, row: &Row, out: &mut Out) {
     match Path::read(alloc, row.text(1)) {
         Ok(path) => path_shown(&path, out),
-        Err(refusal) => refuse(out, &refusal),
+        Err(refusal) => out.refuse(&refusal),
     }
 }
 
-fn path_shown(path: &Path, out: &mut String) -> Result<(), Mem> {
-    write!(out, "{} to", path.names().len())?;
-    quote(out, path.name().as_bytes())
+fn path_shown(path: &Path, out: &mut Out) {
+    out.value(&path.names().len());
+    out.put(" to");
+    out.quote(path.name().as_bytes());
 }
 
 /// `folder | name`: the content of a folder.
-pub fn folder(alloc: Global, row: &Row, out: &mut String) -> Result<(), Mem> {
-    let content = folder_of(alloc, row.text(1))?;
-    content_shown(&content, out)
+pub fn folder(alloc: Global, row: &Row, out: &mut Out) {
+    made_shown(folder_of(alloc, row.text(1)), out);
 }
 
 /// `track | name | size | samples | rate | NAME=value ..`: the content of a file of 16 bits and two channels.
-pub fn track(alloc: Global, row: &Row, out: &mut String) -> Result<(), Mem> {
-    let info = FlacInfo {
+pub fn track(alloc: Global, row: &Row, out: &mut Out) {
+    let mut info = FlacInfo {
         rate: row.small(4),
         channels: 2,
         bits: 16,
         samples: row.number(3),
-        comments: comments(alloc, row.from(5))?,
+        comments: Comments::new(alloc),
     };
-    track_of(alloc, &info, row, out)
+    let is_done = put_comments(alloc, row.from(5), &mut info.comments).is_ok();
+    out.note(is_done);
+    track_of(alloc, &info, row, out);
 }
 
-fn track_of(alloc: Global, info: &FlacInfo, row: &Row, out: &mut String) -> Result<(), Mem> {
+fn track_of(alloc: Global, info: &FlacInfo, row: &Row, out: &mut Out) {
     if info.samples >= 68_719_476_736 {
-        return Ok(out.push_str("too many samples")?);
+        out.put("too many samples");
+    } else {
+        made_shown(content_of(alloc, info, row.text(1), row.number(2)), out);
     }
-    let content = content_of(alloc, info, row.text(1), row.number(2))?;
-    content_shown(&content, out)
 }
 
-/// The comments that fields are.
-fn comments(alloc: Global, fields: &[Vec<u8>]) -> Result<Comments, Mem> {
-    let mut list = Comments::new(alloc);
+/// Puts the comments that fields are.
+fn put_comments(alloc: Global, fields: &[Vec<u8>], list: &mut Comments) -> Result<(), Mem> {
     for field in fields {
-        list.push(comment(alloc, text_of(field.as_slice()))?)?;
+        put_comment(alloc, text_of(field.as_slice()), list)?;
     }
-    Ok(list)
+    Ok(())
 }
 
-/// The comment that a text is.
-fn comment(alloc: Global, text: &str) -> Result<Comment, Mem> {
+/// Puts the comment that a text is.
+fn put_comment(alloc: Global, text: &str, list: &mut Comments) -> Result<(), Mem> {
     let (name, value) = cut(text, "=");
     let name = Text::read(alloc, name)?;
     let value = Text::read(alloc, value)?;
-    Ok(Comment { name, value })
+    list.push(Comment { name, value })
+}
+
+/// Shows a content that was made.
+fn made_shown(content: Result<Content, Mem>, out: &mut Out) {
+    match content {
+        Ok(content) => content_shown(&content, out),
+        Err(refusal) => out.refuse(&refusal),
+    }
 }
 
 /// Shows a content.
-pub fn content_shown(content: &Content, out: &mut String) -> Result<(), Mem> {
+pub fn content_shown(content: &Content, out: &mut Out) {
     match content {
         Content::Folder { title } => {
-            out.push_str("folder")?;
-            quote(out, title.as_str().as_bytes())
+            out.put("folder");
+            out.quote(title.as_str().as_bytes());
         }
         Content::Track(track) => track_shown(track, out),
     }
 }
 
-fn track_shown(track: &TrackContent, out: &mut String) -> Result<(), Mem> {
-    out.push_str("track")?;
-    quote(out, track.title.as_str().as_bytes())?;
-    quote_maybe(out, &track.artist)?;
-    quote_maybe(out, &track.album)?;
-    quote_maybe(out, &track.genre)?;
-    numbers_shown(track, out)
-}
-
-/// Shows the number of a track, its size, its duration, its rate, its channels and its bits.
-fn numbers_shown(track: &TrackContent, out: &mut String) -> Result<(), Mem> {
-    let (number, duration) = (track.number, track.duration);
-    let (size, rate) = (track.size, track.rate);
-    let (channels, bits) = (track.channels, track.bits);
-    Ok(write!(
-        out,
-        " {number:?} {size} {duration:?} {rate} {channels} {bits}"
-    )?)
+/// Shows the texts of a track, its number, its size, its duration, its rate, its channels and its bits.
+fn track_shown(track: &TrackContent, out: &mut Out) {
+    out.put("track");
+    out.quote(track.title.as_str().as_bytes());
+    out.quote_maybe(&track.artist);
+    out.quote_maybe(&track.album);
+    out.quote_maybe(&track.genre);
+    out.say(" ", &track.number);
+    out.say(" ", &track.size);
+    out.say(" ", &track.duration);
+    out.say(" ", &track.rate);
+    out.say(" ", &track.channels);
+    out.say(" ", &track.bits);
 }

@@ -1,32 +1,45 @@
-//! Replies to control requests (SOAP).
+//! Replies to control requests (SOAP), and what is asked and answered by an action.
 
 ghost use Rattle.std.specs.Prelude.{◌≡◌};
 ghost use Rattle.std.specs.List.{list_all};
 ghost use Rattle.cds_soap.specs.Written.{is_token_byte, is_reset_token};
 
-use crate::requests::{action, sent};
+use crate::requests::{action, action_written, sent};
 use crate::row::Row;
-use crate::show::{refuse, show};
+use crate::show::Out;
 use cds_base::{Bytes, Mem, Text};
 use cds_soap::{Action, Answer, fits, read_answer, write_answer};
 use std::alloc::Global;
 use std::convert::From;
 
-/// `answer | action | head | body | behind`: what a reply answers.
-pub fn read(alloc: Global, row: &Row, out: &mut String) -> Result<(), Mem> {
-    let action = action(alloc, row, 1)?;
-    answered(alloc, &action, row, out)
-}
-
-fn answered(alloc: Global, action: &Action, row: &Row, out: &mut String) -> Result<(), Mem> {
-    let text = sent(alloc, row, 2)?;
-    match read_answer(alloc, action, text.as_bytes()) {
-        Ok(answer) => answer_shown(&answer, out),
-        Err(refusal) => refuse(out, &refusal),
+/// `action-write | address | action | what it asks with ..`: the request for an action. `answer | action | head | body | behind`:
+/// what a reply answers. `answer-write | action | version | token | kind | what it says ..`: the reply with an answer.
+pub fn of_action(alloc: Global, row: &Row, out: &mut Out) {
+    let at = if row.text(0) == "action-write" { 2 } else { 1 };
+    match action(alloc, row, at) {
+        Ok(action) => acted(alloc, &action, row, out),
+        Err(refusal) => out.refuse(&refusal),
     }
 }
 
-fn answer_shown(answer: &Answer, out: &mut String) -> Result<(), Mem> {
+fn acted(alloc: Global, action: &Action, row: &Row, out: &mut Out) {
+    match row.text(0) {
+        "action-write" => action_written(alloc, action, row.text(1), out),
+        "answer" => answered(alloc, action, row, out),
+        _ => written_to(alloc, action, row, out),
+    }
+}
+
+fn answered(alloc: Global, action: &Action, row: &Row, out: &mut Out) {
+    let text = sent(alloc, row, 2);
+    out.note(text.is_whole());
+    match read_answer(alloc, action, text.as_str().as_bytes()) {
+        Ok(answer) => answer_shown(&answer, out),
+        Err(refusal) => out.refuse(&refusal),
+    }
+}
+
+fn answer_shown(answer: &Answer, out: &mut Out) {
     match answer {
         Answer::Page {
             result,
@@ -34,15 +47,17 @@ fn answer_shown(answer: &Answer, out: &mut String) -> Result<(), Mem> {
             total,
             update,
         } => {
-            show(out, result.as_slice())?;
-            Ok(write!(out, "|{returned}|{total}|{update}")?)
+            out.show(result.as_slice());
+            out.say("|", returned);
+            out.say("|", total);
+            out.say("|", update);
         }
-        Answer::Number(number) => Ok(write!(out, "number {number}")?),
+        Answer::Number(number) => out.say("number ", number),
         Answer::Text(text) => {
-            out.push_str("text ")?;
-            show(out, text.as_str().as_bytes())
+            out.put("text ");
+            out.show(text.as_str().as_bytes());
         }
-        Answer::Fault { code } => Ok(write!(out, "fault {code}")?),
+        Answer::Fault { code } => out.say("fault ", code),
     }
 }
 
@@ -69,27 +84,18 @@ fn page(alloc: Global, row: &Row, at: usize) -> Result<Answer, Mem> {
     })
 }
 
-/// `answer-write | action | version | token | kind | what it says ..`: the reply with an answer.
-pub fn written(alloc: Global, row: &Row, out: &mut String) -> Result<(), Mem> {
-    let action = action(alloc, row, 1)?;
-    written_to(alloc, &action, row, out)
+fn written_to(alloc: Global, action: &Action, row: &Row, out: &mut Out) {
+    match answer(alloc, row, 4) {
+        Ok(answer) => reply_shown(alloc, action, row, &answer, out),
+        Err(refusal) => out.refuse(&refusal),
+    }
 }
 
-fn written_to(alloc: Global, action: &Action, row: &Row, out: &mut String) -> Result<(), Mem> {
-    let answer = answer(alloc, row, 4)?;
-    reply_shown(alloc, action, row, &answer, out)
-}
-
-fn reply_shown(
-    alloc: Global,
-    action: &Action,
-    row: &Row,
-    answer: &Answer,
-    out: &mut String,
-) -> Result<(), Mem> {
+fn reply_shown(alloc: Global, action: &Action, row: &Row, answer: &Answer, out: &mut Out) {
     let mut text = Vec::new(alloc);
-    reply_to(action, row, answer, &mut text)?;
-    show(out, text.as_slice())
+    let is_done = reply_to(action, row, answer, &mut text).is_ok();
+    out.note(is_done);
+    out.show(text.as_slice());
 }
 
 /// The reply to an action with an answer and a token, nothing where they are none.

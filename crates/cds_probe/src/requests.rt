@@ -1,103 +1,78 @@
 //! Control requests (SOAP).
 
+use crate::messages::message_by;
 use crate::row::Row;
-use crate::show::{refuse, show};
+use crate::show::Out;
 use cds_base::{Mem, Text};
-use cds_http::{HttpError, Message, MessageReader, Side};
+use cds_http::{Message, Side};
 use cds_soap::{Action, Asked, BrowseRequest, SearchRequest, read_action, write_action};
 use std::alloc::Global;
 use url::Url;
 
 /// The bytes of a message: a head whose last field is the length of a body, the body and what is behind it, or one field alone.
-pub fn sent(alloc: Global, row: &Row, at: usize) -> Result<String, Mem> {
-    let head = row.text(at);
-    if !row.has(at.saturating_add(1)) {
-        return Ok(String::from_str(alloc, head)?);
+pub fn sent(alloc: Global, row: &Row, at: usize) -> Out {
+    let mut out = Out::new(alloc);
+    out.put(row.text(at));
+    if row.has(at.saturating_add(1)) {
+        let body = row.text(at.saturating_add(1));
+        out.say("CONTENT-LENGTH: ", &body.len());
+        out.put("\r\n\r\n");
+        out.put(body);
+        out.put(row.text(at.saturating_add(2)));
     }
-    let body = row.text(at.saturating_add(1));
-    let behind = row.text(at.saturating_add(2));
-    Ok(format!(in alloc;
-        "{head}CONTENT-LENGTH: {}\r\n\r\n{body}{behind}",
-        body.len()
-    )?)
+    out
 }
 
 /// `action | head | body`: what a request asks for.
-pub fn read(alloc: Global, row: &Row, out: &mut String) -> Result<(), Mem> {
-    let text = sent(alloc, row, 1)?;
-    match request(alloc, text.as_bytes()) {
+pub fn read(alloc: Global, row: &Row, out: &mut Out) {
+    let text = sent(alloc, row, 1);
+    out.note(text.is_whole());
+    let bytes = text.as_str().as_bytes();
+    match message_by(alloc, Side::Request, bytes, bytes.len(), &mut 0) {
         Ok(message) => message_asks(alloc, &message, out),
-        Err(refusal) => refuse(out, &refusal),
+        Err(refusal) => out.refuse(&refusal),
     }
 }
 
-/// The request that bytes are.
-fn request(alloc: Global, bytes: &[u8]) -> Result<Message, HttpError> {
-    let mut reader = MessageReader::new(alloc, Side::Request)?;
-    match reader.feed(alloc, bytes) {
-        Ok(_) => reader.finish(),
-        Err(refusal) => {
-            drop(reader);
-            Err(refusal)
-        }
-    }
-}
-
-fn message_asks(alloc: Global, message: &Message, out: &mut String) -> Result<(), Mem> {
+fn message_asks(alloc: Global, message: &Message, out: &mut Out) {
     match read_action(alloc, message) {
         Ok(asked) => asked_shown(&asked, out),
-        Err(refusal) => refuse(out, &refusal),
+        Err(refusal) => out.refuse(&refusal),
     }
 }
 
-fn asked_shown(asked: &Asked, out: &mut String) -> Result<(), Mem> {
-    write!(out, "{}|", asked.version)?;
+fn asked_shown(asked: &Asked, out: &mut Out) {
+    out.value(&asked.version);
+    out.put("|");
     match &asked.action {
         Action::Browse(request) => browse_shown(request, out),
         Action::Search(request) => search_shown(request, out),
-        action => show(out, action.name().as_str().as_bytes()),
+        action => out.show(action.name().as_str().as_bytes()),
     }
 }
 
-fn browse_shown(request: &BrowseRequest, out: &mut String) -> Result<(), Mem> {
-    let texts = [
-        request.object.as_str(),
-        request.flag.as_str(),
-        request.filter.as_str(),
-    ];
-    texts_shown(
-        texts,
-        request.start,
-        request.count,
-        request.sort.as_str(),
-        out,
-    )
+fn browse_shown(request: &BrowseRequest, out: &mut Out) {
+    out.put(request.object.as_str());
+    out.put("|");
+    out.put(request.flag.as_str());
+    out.put("|");
+    out.put(request.filter.as_str());
+    out.say("|", &request.start);
+    out.say("|", &request.count);
+    out.put("|");
+    out.put(request.sort.as_str());
 }
 
-fn search_shown(request: &SearchRequest, out: &mut String) -> Result<(), Mem> {
-    let texts = [
-        request.container.as_str(),
-        request.criteria.as_str(),
-        request.filter.as_str(),
-    ];
-    texts_shown(
-        texts,
-        request.start,
-        request.count,
-        request.sort.as_str(),
-        out,
-    )
-}
-
-fn texts_shown(
-    texts: [&str; 3],
-    start: u32,
-    count: u32,
-    sort: &str,
-    out: &mut String,
-) -> Result<(), Mem> {
-    let [first, second, filter] = texts;
-    Ok(write!(out, "{first}|{second}|{filter}|{start}|{count}|{sort}")?)
+fn search_shown(request: &SearchRequest, out: &mut Out) {
+    out.put(request.container.as_str());
+    out.put("|");
+    out.put(request.criteria.as_str());
+    out.put("|");
+    out.put(request.filter.as_str());
+    out.say("|", &request.start);
+    out.say("|", &request.count);
+    out.put("|");
+    out.put(request.sort.as_str());
 }
 
 /// The action that fields from a place on are: its name, and what it asks with.
@@ -151,21 +126,12 @@ fn search(alloc: Global, row: &Row, at: usize) -> Result<Action, Mem> {
     }))
 }
 
-/// `action-write | address | action | what it asks with ..`: the request for an action.
-pub fn written(alloc: Global, row: &Row, out: &mut String) -> Result<(), Mem> {
-    let action = action(alloc, row, 2)?;
-    action_written(alloc, &action, row.text(1), out)
-}
-
-fn action_written(
-    alloc: Global,
-    action: &Action,
-    address: &str,
-    out: &mut String,
-) -> Result<(), Mem> {
+/// Shows the request for an action to an address.
+pub fn action_written(alloc: Global, action: &Action, address: &str, out: &mut Out) {
     let mut text = Vec::new(alloc);
-    put_action(alloc, action, address, &mut text)?;
-    show(out, text.as_slice())
+    let is_done = put_action(alloc, action, address, &mut text).is_ok();
+    out.note(is_done);
+    out.show(text.as_slice());
 }
 
 /// The request for an action to an address, nothing where that is none.

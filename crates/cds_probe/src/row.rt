@@ -4,7 +4,7 @@
 
 use cds_base::{Mem, Sequence, Text, read_plain};
 use percent_encoding::percent_decode;
-use std::alloc::Global;
+use std::alloc::{AllocError, Global};
 
 /// In pieces of how many bytes what comes in pieces is read.
 pub const SIZES: [usize; 8] = [1, 2, 3, 5, 7, 16, 54, 112];
@@ -83,7 +83,7 @@ pub fn cut<'a>(text: &'a str, mark: &str) -> (&'a str, &'a str) {
 }
 
 /// The bytes of a field.
-fn field(alloc: Global, pieces: &[Piece], text: &str) -> Result<Vec<u8>, Mem> {
+fn field(alloc: Global, pieces: &[Piece], text: &str) -> Result<Vec<u8>, AllocError> {
     let mut out = Vec::new(alloc);
     for part in text.split("{") {
         put_part(pieces, part, &mut out)?;
@@ -92,7 +92,7 @@ fn field(alloc: Global, pieces: &[Piece], text: &str) -> Result<Vec<u8>, Mem> {
 }
 
 /// Puts what stands behind a `{`: a piece up to the `}` and the text behind it, or a text alone.
-fn put_part(pieces: &[Piece], part: &str, out: &mut Vec<u8>) -> Result<(), Mem> {
+fn put_part(pieces: &[Piece], part: &str, out: &mut Vec<u8>) -> Result<(), AllocError> {
     match part.split_once("}") {
         Some((inside, text)) => {
             put_named(pieces, inside, out)?;
@@ -103,13 +103,12 @@ fn put_part(pieces: &[Piece], part: &str, out: &mut Vec<u8>) -> Result<(), Mem> 
 }
 
 /// Puts a text with the bytes for its escapes.
-fn put_text(text: &str, out: &mut Vec<u8>) -> Result<(), Mem> {
-    percent_decode(text.as_bytes()).append_to(out)?;
-    Ok(())
+fn put_text(text: &str, out: &mut Vec<u8>) -> Result<(), AllocError> {
+    percent_decode(text.as_bytes()).append_to(out)
 }
 
 /// Puts what braces name.
-fn put_named(pieces: &[Piece], inside: &str, out: &mut Vec<u8>) -> Result<(), Mem> {
+fn put_named(pieces: &[Piece], inside: &str, out: &mut Vec<u8>) -> Result<(), AllocError> {
     match inside.split_once("~") {
         Some((name, change)) => put_changed(text_of(bytes_of(pieces, name)), change, out),
         None => put_repeated(pieces, inside, out),
@@ -117,21 +116,20 @@ fn put_named(pieces: &[Piece], inside: &str, out: &mut Vec<u8>) -> Result<(), Me
 }
 
 /// Puts a text with a piece of it replaced by another.
-fn put_changed(text: &str, change: &str, out: &mut Vec<u8>) -> Result<(), Mem> {
+fn put_changed(text: &str, change: &str, out: &mut Vec<u8>) -> Result<(), AllocError> {
     let (old, new) = cut(change, "~");
     match text.split_once(old) {
         Some((front, back)) => {
             out.extend_from_slice(front.as_bytes())?;
             out.extend_from_slice(new.as_bytes())?;
-            out.extend_from_slice(back.as_bytes())?;
+            out.extend_from_slice(back.as_bytes())
         }
-        None => out.extend_from_slice(b"(nothing to replace)")?,
+        None => out.extend_from_slice(b"(nothing to replace)"),
     }
-    Ok(())
 }
 
 /// Puts a piece once, or as often as a number with `*` before it says.
-fn put_repeated(pieces: &[Piece], inside: &str, out: &mut Vec<u8>) -> Result<(), Mem> {
+fn put_repeated(pieces: &[Piece], inside: &str, out: &mut Vec<u8>) -> Result<(), AllocError> {
     let (count, name) = counted(inside);
     for _ in 0..count {
         out.extend_from_slice(bytes_of(pieces, name))?;

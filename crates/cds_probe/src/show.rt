@@ -1,34 +1,89 @@
 //! How answers are shown: in ASCII on one line, with every other byte and `%` as `%XX`.
 
-use cds_base::{Mem, Text};
+use cds_base::Text;
 use percent_encoding::{AsciiSet, CONTROLS, ascii_set, percent_encode};
+use std::alloc::Global;
 use std::fmt::Debug;
 
 /// The bytes of ASCII that are shown as `%XX`.
 const HIDDEN: AsciiSet = ascii_set!(CONTROLS.add(b'%'));
 
-/// Shows bytes.
-pub fn show(out: &mut String, bytes: &[u8]) -> Result<(), Mem> {
-    percent_encode(bytes, HIDDEN).append_to(out)?;
-    Ok(())
+/// What answers a row. It keeps in mind that memory ran out, so that only the end has to look.
+#[derive(Drop)]
+pub struct Out {
+    text: String,
+    is_cut: bool,
 }
 
-/// Shows bytes in quotes, behind a space.
-pub fn quote(out: &mut String, bytes: &[u8]) -> Result<(), Mem> {
-    out.push_str(" \"")?;
-    show(out, bytes)?;
-    Ok(out.push_str("\"")?)
-}
-
-/// Shows a text in quotes or `-` where there is none, behind a space.
-pub fn quote_maybe(out: &mut String, text: &Option<Text>) -> Result<(), Mem> {
-    match text {
-        Some(text) => quote(out, text.as_str().as_bytes()),
-        None => Ok(out.push_str(" -")?),
+impl Out {
+    /// An empty answer.
+    pub fn new(alloc: Global) -> Out {
+        Out {
+            text: String::new(alloc),
+            is_cut: false,
+        }
     }
-}
 
-/// Shows why something is refused.
-pub fn refuse<E: Debug>(out: &mut String, refusal: &E) -> Result<(), Mem> {
-    Ok(write!(out, "refused: {refusal:?}")?)
+    /// Notes whether memory was there for a call.
+    pub fn note(&mut self, is_done: bool) {
+        if !is_done {
+            self.is_cut = true;
+        }
+    }
+
+    /// Whether memory was there for each call.
+    pub fn is_whole(&self) -> bool {
+        !self.is_cut
+    }
+
+    /// What is written.
+    pub fn as_str(&self) -> &str {
+        self.text.as_str()
+    }
+
+    /// Puts a text as it is.
+    pub fn put(&mut self, text: &str) {
+        let is_done = self.text.push_str(text).is_ok();
+        self.note(is_done);
+    }
+
+    /// Puts a value as `{:?}` has it.
+    pub fn value<T: Debug>(&mut self, value: &T) {
+        let is_done = write!(self.text, "{value:?}").is_ok();
+        self.note(is_done);
+    }
+
+    /// Puts a text and a value.
+    pub fn say<T: Debug>(&mut self, text: &str, value: &T) {
+        self.put(text);
+        self.value(value);
+    }
+
+    /// Shows bytes.
+    pub fn show(&mut self, bytes: &[u8]) {
+        let is_done = percent_encode(bytes, HIDDEN)
+            .append_to(&mut self.text)
+            .is_ok();
+        self.note(is_done);
+    }
+
+    /// Shows bytes in quotes, behind a space.
+    pub fn quote(&mut self, bytes: &[u8]) {
+        self.put(" \"");
+        self.show(bytes);
+        self.put("\"");
+    }
+
+    /// Shows a text in quotes or `-` where there is none, behind a space.
+    pub fn quote_maybe(&mut self, text: &Option<Text>) {
+        match text {
+            Some(text) => self.quote(text.as_str().as_bytes()),
+            None => self.put(" -"),
+        }
+    }
+
+    /// Shows why something is refused.
+    pub fn refuse<E: Debug>(&mut self, refusal: &E) {
+        self.say("refused: ", refusal);
+    }
 }

@@ -1,34 +1,43 @@
 //! What each subject asks the libraries.
 
 use crate::row::{Pieces, Row, keep};
+use crate::show::Out;
 use crate::{asks, didl, events, files, markup, messages, objects, replies, requests, texts};
-use cds_base::Mem;
 use cds_http::Side;
 use std::alloc::Global;
 
 /// The line that answers a line.
-pub fn answer(alloc: Global, pieces: &mut Pieces, line: &str) -> Result<String, Mem> {
-    let mut out = String::new(alloc);
+pub fn answer(alloc: Global, pieces: &mut Pieces, line: &str) -> Out {
+    let mut out = Out::new(alloc);
     if line.is_empty() || line.starts_with("#") {
-        out.push_str(line)?;
+        out.put(line);
     } else {
-        answer_row(alloc, pieces, line, &mut out)?;
+        answer_row(alloc, pieces, line, &mut out);
     }
-    Ok(out)
+    out
+}
+
+fn answer_row(alloc: Global, pieces: &mut Pieces, line: &str, out: &mut Out) {
+    match Row::read(alloc, pieces.as_slice(), line) {
+        Ok(row) => answer_to(alloc, pieces, &row, out),
+        Err(refusal) => out.refuse(&refusal),
+    }
 }
 
 /// `piece | name | bytes` keeps a piece for later rows; the answer is how many bytes it has.
-fn answer_row(alloc: Global, pieces: &mut Pieces, line: &str, out: &mut String) -> Result<(), Mem> {
-    let row = Row::read(alloc, pieces.as_slice(), line)?;
+fn answer_to(alloc: Global, pieces: &mut Pieces, row: &Row, out: &mut Out) {
     if row.text(0) == "piece" {
-        keep(alloc, pieces, &row)?;
-        return Ok(write!(out, "{} bytes", row.bytes(2).len())?);
+        let is_done = keep(alloc, pieces, row).is_ok();
+        out.note(is_done);
+        out.value(&row.bytes(2).len());
+        out.put(" bytes");
+    } else {
+        ask(alloc, row, out);
     }
-    ask(alloc, &row, out)
 }
 
 /// What the library that a row is about answers.
-fn ask(alloc: Global, row: &Row, out: &mut String) -> Result<(), Mem> {
+fn ask(alloc: Global, row: &Row, out: &mut Out) {
     match row.text(0) {
         "escape" => texts::escaped(alloc, row, out),
         "unescape" => texts::unescaped(alloc, row, out),
@@ -44,7 +53,7 @@ fn ask(alloc: Global, row: &Row, out: &mut String) -> Result<(), Mem> {
     }
 }
 
-fn ask_of_documents(alloc: Global, row: &Row, out: &mut String) -> Result<(), Mem> {
+fn ask_of_documents(alloc: Global, row: &Row, out: &mut Out) {
     match row.text(0) {
         "document" => markup::document(alloc, row, out),
         "marks" => markup::marks(alloc, row, out),
@@ -54,31 +63,26 @@ fn ask_of_documents(alloc: Global, row: &Row, out: &mut String) -> Result<(), Me
         "events" => events::read(alloc, row, out),
         "events-rewrite" => events::rewritten(alloc, row, out),
         "didl" => didl::read(alloc, row, out),
-        "didl-rewrite" => didl::rewritten(alloc, row, out),
-        "fragment" => didl::fragments(alloc, row, out),
+        "didl-rewrite" | "fragment" => didl::rewritten(alloc, row, out),
         _ => ask_of_messages(alloc, row, out),
     }
 }
 
-fn ask_of_messages(alloc: Global, row: &Row, out: &mut String) -> Result<(), Mem> {
+fn ask_of_messages(alloc: Global, row: &Row, out: &mut Out) {
     match row.text(0) {
         "request" => messages::read(alloc, Side::Request, row, out),
         "reply" => messages::read(alloc, Side::Reply, row, out),
-        "request-write" => messages::written(alloc, row, out),
-        "reply-write" => messages::written(alloc, row, out),
-        "head-write" => messages::written(alloc, row, out),
+        "request-write" | "reply-write" | "head-write" => messages::written(alloc, row, out),
         _ => ask_of_control(alloc, row, out),
     }
 }
 
-fn ask_of_control(alloc: Global, row: &Row, out: &mut String) -> Result<(), Mem> {
+fn ask_of_control(alloc: Global, row: &Row, out: &mut Out) {
     match row.text(0) {
         "action" => requests::read(alloc, row, out),
-        "action-write" => requests::written(alloc, row, out),
-        "answer" => replies::read(alloc, row, out),
-        "answer-write" => replies::written(alloc, row, out),
+        "action-write" | "answer" | "answer-write" => replies::of_action(alloc, row, out),
         "ask" => asks::written(alloc, row, out),
         "shown" => asks::shown(alloc, row, out),
-        _ => Ok(out.push_str("no such subject")?),
+        _ => out.put("no such subject"),
     }
 }

@@ -1,48 +1,46 @@
 //! Texts and numbers.
 
 use crate::row::Row;
-use crate::show::{refuse, show};
-use cds_base::{
-    Mem, escape, first_forbidden, letters_run, plain_run, read_plain, read_u32, unescape,
-};
+use crate::show::Out;
+use cds_base::{escape, first_forbidden, letters_run, plain_run, read_plain, read_u32, unescape};
 use cds_object::clean;
 use std::alloc::Global;
 
 /// `escape | text`: the text as XML has it.
-pub fn escaped(alloc: Global, row: &Row, out: &mut String) -> Result<(), Mem> {
+pub fn escaped(alloc: Global, row: &Row, out: &mut Out) {
     let mut text = String::new(alloc);
-    escape(row.text(1), &mut text)?;
-    show(out, text.as_bytes())
+    let is_done = escape(row.text(1), &mut text).is_ok();
+    out.note(is_done);
+    out.show(text.as_bytes());
 }
 
 /// `unescape | text`: what the text says, or where it says nothing.
-pub fn unescaped(alloc: Global, row: &Row, out: &mut String) -> Result<(), Mem> {
+pub fn unescaped(alloc: Global, row: &Row, out: &mut Out) {
     match unescape(alloc, row.text(1)) {
-        Ok(text) => show(out, text.as_bytes()),
-        Err(refusal) => refuse(out, &refusal),
+        Ok(text) => out.show(text.as_bytes()),
+        Err(refusal) => out.refuse(&refusal),
     }
 }
 
 /// `number | digits`: the number where any digits count, and where a first 0 does not.
-pub fn number(row: &Row, out: &mut String) -> Result<(), Mem> {
+pub fn number(row: &Row, out: &mut Out) {
     let digits = row.bytes(1);
-    Ok(write!(out, "{:?} {:?}", read_u32(digits), read_plain(digits))?)
+    out.value(&read_u32(digits));
+    out.say(" ", &read_plain(digits));
 }
 
 /// `run | bytes`: how many first bytes are plain, how many are letters, and the place of the first that is forbidden.
-pub fn run(row: &Row, out: &mut String) -> Result<(), Mem> {
+pub fn run(row: &Row, out: &mut Out) {
     let bytes = row.bytes(1);
-    let forbidden = first_forbidden(bytes);
-    Ok(write!(
-        out,
-        "{} {} {forbidden:?}",
-        plain_run(bytes),
-        letters_run(bytes)
-    )?)
+    out.value(&plain_run(bytes));
+    out.say(" ", &letters_run(bytes));
+    out.say(" ", &first_forbidden(bytes));
 }
 
 /// `clean | text`: the text as a content keeps it.
-pub fn cleaned(alloc: Global, row: &Row, out: &mut String) -> Result<(), Mem> {
-    let text = clean(alloc, row.text(1))?;
-    show(out, text.as_bytes())
+pub fn cleaned(alloc: Global, row: &Row, out: &mut Out) {
+    match clean(alloc, row.text(1)) {
+        Ok(text) => out.show(text.as_bytes()),
+        Err(refusal) => out.refuse(&refusal),
+    }
 }

@@ -116,10 +116,10 @@ fn takes(
     reply: &Reply,
     want: Result<Read, AnswerError>,
 ) -> Result<bool, Mem> {
-    let shown = shown_of(alloc, reply)?;
     if replica.next_ask().is_none() {
         return Ok(false);
     }
+    let shown = shown_of(alloc, reply)?;
     Ok(replica.take(alloc, shown) == want)
 }
 
@@ -132,6 +132,12 @@ fn loads(alloc: Global, replica: &mut Replica, replies: &[Reply]) -> Result<bool
         }
     }
     Ok(true)
+}
+
+/// Whether a load begins that takes the first four honest replies, behind which the page of the tracks is asked for.
+fn loads_up_to_a_page(alloc: Global, replica: &mut Replica) -> Result<bool, Mem> {
+    let honest = &HONEST;
+    loads(alloc, replica, &honest[..4])
 }
 
 /// How many replies of a load were taken, the reply that is refused, and why.
@@ -153,6 +159,34 @@ const REFUSED: [(usize, Reply, AnswerError); 11] = [
     (5, Reply::Refusal, AnswerError::Unreadable),
 ];
 
+/// Whether a replica refuses a reply, and asks and says the same afterwards.
+fn refuses(
+    alloc: Global,
+    replica: &mut Replica,
+    reply: &Reply,
+    refusal: AnswerError,
+) -> Result<bool, Mem> {
+    let ask = replica.next_ask();
+    let says = replica.says();
+    Ok(
+        takes(alloc, replica, reply, Err(refusal))?
+            && replica.next_ask() == ask
+            && replica.says() == says,
+    )
+}
+
+/// Whether a fresh replica refuses a reply after so many honest ones.
+fn refuses_after(
+    alloc: Global,
+    replica: &mut Replica,
+    reads: usize,
+    reply: &Reply,
+    refusal: AnswerError,
+) -> Result<bool, Mem> {
+    let honest = &HONEST;
+    Ok(loads(alloc, replica, &honest[..reads.min(6)])? && refuses(alloc, replica, reply, refusal)?)
+}
+
 /// Whether a replica refuses a reply after so many honest ones, and asks and says the same afterwards.
 fn is_refused(
     alloc: Global,
@@ -161,16 +195,17 @@ fn is_refused(
     refusal: AnswerError,
 ) -> Result<bool, Mem> {
     let mut replica = Replica::new(alloc);
-    let loads = loads(alloc, &mut replica, &HONEST[..reads.min(6)])?;
-    let before = (replica.next_ask(), replica.says());
-    let refuses = takes(alloc, &mut replica, reply, Err(refusal))?;
-    Ok(loads && refuses && (replica.next_ask(), replica.says()) == before)
+    let refuses = refuses_after(alloc, &mut replica, reads, reply, refusal);
+    drop(replica);
+    refuses
 }
 
 #[test]
 fn replies_that_are_refused(rt: HostRuntime) -> Result<(), Fail> {
-    for (at, (reads, reply, refusal)) in REFUSED.iter().enumerate() {
-        assert!(rt; is_refused(rt.alloc(), *reads, reply, *refusal)?, "{at}");
+    let refused = &REFUSED;
+    for at in 0..refused.len() {
+        let case = &refused[at];
+        assert!(rt; is_refused(rt.alloc(), case.0, &case.1, case.2)?, "{at}");
     }
     Ok(())
 }
@@ -186,23 +221,32 @@ const PAGES: [(Reply, Read); 7] = [
     (Reply::Page(&[ONE, (0, 0, Some(0))]), Read::Ok),
 ];
 
-/// Whether a page is taken, the same number after it tells that it cannot be, and another one begins the load again.
-fn is_judged(alloc: Global, page: &Reply, read: Read) -> Result<bool, Mem> {
-    let mut replica = Replica::new(alloc);
+/// Whether a replica takes a page, the same number after it tells that it cannot be, and another one begins the load again.
+fn judges(alloc: Global, replica: &mut Replica, page: &Reply, read: Read) -> Result<bool, Mem> {
     let torn = Err(AnswerError::Torn { id: 0 });
     Ok(
-        loads(alloc, &mut replica, &HONEST[..4])?
-            && takes(alloc, &mut replica, page, Ok(read))?
-            && takes(alloc, &mut replica, &Reply::Number(7), torn)?
-            && takes(alloc, &mut replica, &Reply::Number(9), Ok(Read::Ok))?
+        loads_up_to_a_page(alloc, replica)?
+            && takes(alloc, replica, page, Ok(read))?
+            && takes(alloc, replica, &Reply::Number(7), torn)?
+            && takes(alloc, replica, &Reply::Number(9), Ok(Read::Ok))?
             && replica.next_ask() == Some(Ask::Token),
     )
 }
 
+/// Whether a page is judged so after the first four honest replies.
+fn is_judged(alloc: Global, page: &Reply, read: Read) -> Result<bool, Mem> {
+    let mut replica = Replica::new(alloc);
+    let judges = judges(alloc, &mut replica, page, read);
+    drop(replica);
+    judges
+}
+
 #[test]
 fn pages_that_cannot_be(rt: HostRuntime) -> Result<(), Fail> {
-    for (at, (page, read)) in PAGES.iter().enumerate() {
-        assert!(rt; is_judged(rt.alloc(), page, *read)?, "{at}");
+    let pages = &PAGES;
+    for at in 0..pages.len() {
+        let case = &pages[at];
+        assert!(rt; is_judged(rt.alloc(), &case.0, case.1)?, "{at}");
     }
     Ok(())
 }
@@ -220,35 +264,63 @@ fn answers(
     replica.answer(alloc, reply) == want
 }
 
-/// How many bytes of a page are the first that are not unreadable. What stands behind it does not matter.
-fn first_readable(alloc: Global) -> Result<Option<usize>, Mem> {
+/// How many bytes of the page are the first that this replica does not call unreadable.
+fn first_readable_by(alloc: Global, replica: &mut Replica) -> Option<usize> {
     let bytes = PAGE.as_bytes();
-    let mut replica = Replica::new(alloc);
-    let _loads = loads(alloc, &mut replica, &HONEST[..4])?;
     for end in 0..bytes.len() {
-        let refusal = Err(AnswerError::Unreadable);
-        if !answers(alloc, &mut replica, &bytes[..end], refusal) {
-            return Ok(Some(end));
+        if !answers(alloc, replica, &bytes[..end], Err(AnswerError::Unreadable)) {
+            return Some(end);
         }
     }
-    Ok(None)
+    None
 }
 
-/// Whether the whole page is read, with bytes of another reply behind it.
-fn whole_is_read(alloc: Global) -> Result<bool, Mem> {
+/// Whether the page is unreadable for a replica, wherever it is cut off.
+fn refuses_pieces(alloc: Global, replica: &mut Replica) -> Result<bool, Mem> {
+    Ok(loads_up_to_a_page(alloc, replica)? && first_readable_by(alloc, replica).is_none())
+}
+
+/// The same of a fresh replica.
+fn pieces_are_refused(alloc: Global) -> Result<bool, Mem> {
+    let mut replica = Replica::new(alloc);
+    let refuses = refuses_pieces(alloc, &mut replica);
+    drop(replica);
+    refuses
+}
+
+/// The whole page, with bytes of another reply behind it.
+fn more_than_the_page(alloc: Global) -> Result<Vec<u8>, Mem> {
     let mut reply = Vec::from_slice(alloc, PAGE.as_bytes())?;
     reply.extend_from_slice(b"HTTP/1.1 200 OK")?;
-    let mut replica = Replica::new(alloc);
+    Ok(reply)
+}
+
+/// Whether a replica reads a page.
+fn reads_page(alloc: Global, replica: &mut Replica, reply: &[u8]) -> Result<bool, Mem> {
     Ok(
-        loads(alloc, &mut replica, &HONEST[..4])?
-            && answers(alloc, &mut replica, reply.as_slice(), Ok(Read::Ok))
+        loads_up_to_a_page(alloc, replica)?
+            && answers(alloc, replica, reply, Ok(Read::Ok))
             && replica.next_ask() == Some(Ask::Number),
     )
 }
 
+/// The same of a fresh replica.
+fn page_is_read(alloc: Global, reply: &[u8]) -> Result<bool, Mem> {
+    let mut replica = Replica::new(alloc);
+    let reads = reads_page(alloc, &mut replica, reply);
+    drop(replica);
+    reads
+}
+
+/// Whether the whole page is read, whatever stands behind it.
+fn whole_is_read(alloc: Global) -> Result<bool, Mem> {
+    let reply = more_than_the_page(alloc)?;
+    page_is_read(alloc, reply.as_slice())
+}
+
 #[test]
 fn replies_that_are_cut_off(rt: HostRuntime) -> Result<(), Fail> {
-    assert!(rt; first_readable(rt.alloc())?.is_none());
+    assert!(rt; pieces_are_refused(rt.alloc())?);
     assert!(rt; whole_is_read(rt.alloc())?);
     Ok(())
 }
@@ -303,16 +375,21 @@ const NOTES: [Told; 4] = [
     (1, 1, &[NEXT], Ok(Taken::Took), Says::BehindRead { id: 1 }),
 ];
 
-/// Whether a note is answered so.
-fn hears(alloc: Global, replica: &mut Replica, told: &Told) -> Result<bool, Mem> {
+/// A note of the name 1.
+fn note_of(alloc: Global, told: &Told) -> Result<Note, Mem> {
     let mut events = Events::new(alloc);
     events.extend(told.2)?;
-    let note = Note {
+    Ok(Note {
         sid: Sid(1),
         seq: told.0,
         number: told.1,
         events,
-    };
+    })
+}
+
+/// Whether a note is answered so.
+fn hears(alloc: Global, replica: &mut Replica, told: &Told) -> Result<bool, Mem> {
+    let note = note_of(alloc, told)?;
     Ok(replica.notify(alloc, note) == told.3 && replica.says() == told.4)
 }
 
@@ -354,15 +431,22 @@ fn has_track(replica: &Replica) -> bool {
         && replica.rows(2).is_none()
 }
 
-/// Whether a replica goes its way through its public calls alone: a load, a subscription, notes, a read and its rows.
+/// Whether a replica takes a load, a subscription, notes and a read, and gives its rows.
+fn goes(alloc: Global, replica: &mut Replica) -> Result<bool, Fail> {
+    Ok(
+        subscribes(alloc, replica)?
+            && hears_all(alloc, replica)?
+            && takes(alloc, replica, &Reply::Page(&[ONE]), Ok(Read::Ok))?
+            && has_track(replica),
+    )
+}
+
+/// Whether a replica goes its way through its public calls alone.
 fn follows(alloc: Global) -> Result<bool, Fail> {
     let mut replica = Replica::new(alloc);
-    Ok(
-        subscribes(alloc, &mut replica)?
-            && hears_all(alloc, &mut replica)?
-            && takes(alloc, &mut replica, &Reply::Page(&[ONE]), Ok(Read::Ok))?
-            && has_track(&replica),
-    )
+    let goes = goes(alloc, &mut replica);
+    drop(replica);
+    goes
 }
 
 #[test]

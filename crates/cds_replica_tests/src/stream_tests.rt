@@ -3,7 +3,8 @@
 ghost use Rattle.std.specs.Prelude.{None};
 
 use crate::made::{sink, source};
-use cds_base::{Failed, Sink, Source};
+use cds_base::{Failed, Mem, Sink, Source};
+use cds_memory::MemSink;
 use cds_replay::{ReplayError, replay};
 use std::alloc::Global;
 use std::cell::Cell;
@@ -30,12 +31,16 @@ const FAILING: [Failing; 3] = [
     ("ask\n# w\n", &[], &[1], ReplayError::WriteFault, ""),
 ];
 
-/// Whether a script fails so.
-fn fails(alloc: Global, case: &Failing) -> Result<bool, Fail> {
+/// Whether a replay into a sink has this fault.
+fn has_fault(alloc: Global, case: &Failing, sink: &mut MemSink) -> Result<bool, Mem> {
     let mut source = source(alloc, case.0.as_bytes(), case.1)?;
+    Ok(replay(alloc, &mut source, sink) == Err(case.3))
+}
+
+/// Whether a script fails so.
+fn fails(alloc: Global, case: &Failing) -> Result<bool, Mem> {
     let mut sink = sink(alloc, case.2)?;
-    let answer = replay(alloc, &mut source, &mut sink);
-    Ok(answer == Err(case.3) && sink.as_slice() == case.4.as_bytes())
+    Ok(has_fault(alloc, case, &mut sink)? && sink.as_slice() == case.4.as_bytes())
 }
 
 #[test]
@@ -124,14 +129,17 @@ fn are_answered_in_time(alloc: Global, written: &Cell<usize>, sink: &mut Heard) 
     answer == Ok(()) && !source.late && source.at == 8
 }
 
+/// Whether the lines are answered in time, and those of one piece one by one.
+fn are_answered_one_by_one(alloc: Global, written: &Cell<usize>) -> bool {
+    let mut sink = Heard {
+        written,
+        at_once: 0,
+    };
+    are_answered_in_time(alloc, written, &mut sink) && written.get() == 87 && sink.at_once == 12
+}
+
 #[test]
 fn a_line_is_answered_before_the_next_is_read(rt: HostRuntime) {
     let written = Cell::new(0);
-    let mut sink = Heard {
-        written: &written,
-        at_once: 0,
-    };
-    assert!(rt; are_answered_in_time(rt.alloc(), &written, &mut sink));
-    // The lines of one piece are answered one by one.
-    assert!(rt; written.get() == 87 && sink.at_once == 12);
+    assert!(rt; are_answered_one_by_one(rt.alloc(), &written));
 }

@@ -12,14 +12,24 @@ use std::test::Fail;
 use std::thread::Threads;
 use std::time::Clock as SystemClock;
 
-#[test]
-fn the_clock_goes_on(rt: HostRuntime) -> Result<(), Fail> {
-    let mut clock = RealClock::new(rt, ahead(&rt));
+/// Whether a clock goes on, within 2020 and 2100.
+fn goes_on<C: Clock>(clock: &mut C) -> Result<bool, Failed> {
     let before = clock.now()?;
     clock.rest(2);
     let after = clock.now()?;
-    // Within 2020 and 2100.
-    assert!(rt; 1_577_836_800_000 < before && before < after && after < 4_102_444_800_000);
+    Ok(1_577_836_800_000 < before && before < after && after < 4_102_444_800_000)
+}
+
+/// Whether the clock of the system goes on.
+fn real_clock_goes_on<R: SystemClock + Drop>(rt: R) -> Result<bool, Failed> {
+    let ahead = ahead(&rt);
+    let mut clock = RealClock::new(rt, ahead);
+    goes_on(&mut clock)
+}
+
+#[test]
+fn the_clock_goes_on(rt: HostRuntime) -> Result<(), Fail> {
+    assert!(rt; real_clock_goes_on(rt)?);
     Ok(())
 }
 
@@ -96,33 +106,101 @@ fn answer<C: Source + Sink>(conn: &mut C, reply: &[u8]) -> Result<(usize, usize)
     Ok((read, wrote))
 }
 
+/// How much is read of the next connection of a door, and how much of the answer is written.
+fn answer_next<D: Door>(door: &mut D, reply: &[u8]) -> Result<(usize, usize), Failed> {
+    let mut conn = door.accept()?;
+    answer(&mut conn, reply)
+}
+
+/// The door at a port that the system picks.
+fn opened<R: Net + Wait + SystemClock + Clone + Drop>(
+    rt: R,
+    alloc: Global,
+) -> Result<RealDoor<R>, Fail> {
+    match RealDoor::open(rt, alloc, 0) {
+        Ok(door) => Ok(door),
+        Err(_) => Err(Fail::new("no door")),
+    }
+}
+
+/// Clients of a port that send nothing, one more than 256.
+fn silent_clients<R: Net>(rt: &R, alloc: Global, port: u16) -> Result<Vec<R::Stream>, Fail> {
+    let mut clients = Vec::new(alloc);
+    for _ in 0..257 {
+        clients.push(client(rt, port, b"")?)?;
+    }
+    Ok(clients)
+}
+
+/// Whether a client that speaks behind one that went away is answered by a door.
+fn speaker_is_answered<R: Net, D: Door>(rt: &R, port: u16, door: &mut D) -> Result<bool, Fail> {
+    drop(client(rt, port, b"")?);
+    let mut speaks = client(rt, port, b"GET")?;
+    Ok(answer_next(door, b"ok")? == (3, 2) && count_to_end(&mut speaks)? == 2)
+}
+
+/// Whether the first of some clients was let go.
+fn first_is_let_go<S: Read>(clients: &mut [S]) -> Result<bool, Fail> {
+    match clients.first_mut() {
+        Some(first) => Ok(count_to_end(first)? == 0),
+        None => Ok(false),
+    }
+}
+
+/// Whether the last of some clients is answered by a door, where it speaks at last.
+fn last_is_answered<S: Write, D: Door>(clients: &mut [S], door: &mut D) -> Result<bool, Fail> {
+    match clients.last_mut() {
+        Some(last) => last.write_all(b"at last")?,
+        None => return Ok(false),
+    }
+    Ok(answer_next(door, b"")? == (7, 0))
+}
+
+/// Whether silent clients wait beside two handles of a door, and the oldest are let go, since too many wait.
+fn silent_ones_wait<R: Net + Wait + SystemClock + Clone + Drop>(
+    rt: &R,
+    alloc: Global,
+    door: &mut RealDoor<R>,
+    second: &mut RealDoor<R>,
+) -> Result<bool, Fail> {
+    let port = door.port()?;
+    let mut clients = silent_clients(rt, alloc, port)?;
+    Ok(
+        speaker_is_answered(rt, port, second)?
+            && first_is_let_go(clients.as_mut_slice())?
+            && last_is_answered(clients.as_mut_slice(), door)?,
+    )
+}
+
+/// Whether the same is so of a door and another handle of it, which give one connection each.
+fn both_give_one<R: Net + Wait + SystemClock + Clone + Drop>(
+    rt: &R,
+    alloc: Global,
+    door: &mut RealDoor<R>,
+) -> Result<bool, Fail> {
+    let mut second = door.again()?;
+    Ok(
+        silent_ones_wait(rt, alloc, door, &mut second)?
+            && door.connections() == 1
+            && second.connections() == 1
+            && door.faults() == 0
+            && second.faults() == 0,
+    )
+}
+
+/// Whether the same is so of a door of the system.
+fn has_a_lobby<R: Net + Wait + SystemClock + Clone + Drop>(
+    rt: &R,
+    alloc: Global,
+    mut door: RealDoor<R>,
+) -> Result<bool, Fail> {
+    both_give_one(rt, alloc, &mut door)
+}
+
 #[test]
 fn silent_connections_wait_beside_the_door(rt: HostRuntime) -> Result<(), Fail> {
-    let alloc = rt.alloc();
-    let mut door = RealDoor::open(rt, alloc, 0).map_err(|_| Fail::new("no door"))?;
-    let port = door.port()?;
-    let mut first = client(&rt, port, b"")?;
-    let mut silent = Vec::new(alloc);
-    for _ in 0..256 {
-        silent.push(client(&rt, port, b"")?)?;
-    }
-    drop(client(&rt, port, b"")?);
-    let mut speaks = client(&rt, port, b"GET")?;
-    let mut second = door.again()?;
-    let mut conn = second.accept()?;
-    assert_eq!(rt; answer(&mut conn, b"ok"), Ok((3, 2)));
-    drop(conn);
-    assert_eq!(rt; count_to_end(&mut speaks)?, 2);
-    // The oldest were let go, since too many waited.
-    assert_eq!(rt; count_to_end(&mut first)?, 0);
-    let Some(mut last) = silent.pop() else {
-        return Err(Fail::new("no client"));
-    };
-    last.write_all(b"at last")?;
-    let mut conn = door.accept()?;
-    assert_eq!(rt; answer(&mut conn, b""), Ok((7, 0)));
-    assert!(rt; door.connections() == 1 && second.connections() == 1);
-    assert!(rt; door.faults() == 0 && second.faults() == 0);
+    let door = opened(rt, rt.alloc())?;
+    assert!(rt; has_a_lobby(&rt, rt.alloc(), door)?);
     Ok(())
 }
 
@@ -143,9 +221,7 @@ impl<R: Wait + SystemClock + Clone + Drop + Send + 'static> Job for Answering<R>
     fn run(self) -> u64 {
         let Answering { mut door, shares } = self;
         for _ in 0..shares {
-            if let Ok(mut conn) = door.accept() {
-                let _ = answer(&mut conn, b"abcde");
-            }
+            let _ = answer_next(&mut door, b"abcde");
         }
         door.connections()
     }
@@ -159,24 +235,86 @@ fn length_of(reply: Result<Vec<u8>, LinkFault>) -> Result<usize, LinkFault> {
     }
 }
 
+/// Whether a link brings this to a request, of at most so many bytes.
+fn brings<L: Link>(
+    alloc: Global,
+    link: &mut L,
+    url: &str,
+    limit: usize,
+    want: Result<usize, LinkFault>,
+) -> bool {
+    length_of(link.exchange(alloc, url, b"hello", limit)) == want
+}
+
+/// Whether a link brings a reply that is as long as it may be, and refuses it where it is longer.
+fn brings_two<L: Link>(alloc: Global, link: &mut L, url: &str) -> bool {
+    brings(alloc, link, url, 5, Ok(5)) && brings(alloc, link, url, 4, Err(LinkFault::Over))
+}
+
+/// Whether a link brings nothing from a port that is closed, nor from an address that is not near.
+fn brings_nothing<L: Link>(alloc: Global, link: &mut L, url: &str) -> bool {
+    let failed = Err(LinkFault::Failed);
+    brings(alloc, link, url, 5, failed) && brings(alloc, link, "http://192.0.2.1/", 5, failed)
+}
+
+/// Whether a link brings what a door answers in a thread of its own.
+fn is_linked<R, L: Link>(
+    rt: &R,
+    alloc: Global,
+    url: &str,
+    link: &mut L,
+    door: RealDoor<R>,
+) -> Result<bool, Failed>
+where
+    R: Threads + Wait + SystemClock + Clone + Drop + Send + 'static,
+{
+    let mut spawner = RealSpawner::new();
+    let running = spawner.start(rt, Answering { door, shares: 2 })?;
+    let brings = brings_two(alloc, link, url);
+    let answered = running.join(rt);
+    Ok(brings && answered == 2 && spawner.started() == 1 && spawner.faults() == 0)
+}
+
+/// The address of a door.
+fn url_of<R: Wait + SystemClock + Clone + Drop>(
+    alloc: Global,
+    door: &RealDoor<R>,
+) -> Result<String, Fail> {
+    let port = door.port()?;
+    Ok(format!(in alloc; "http://127.0.0.1:{port}/")?)
+}
+
+/// Whether a link brings what a door answers, and nothing once that is closed.
+fn is_closed_after<R, L: Link>(
+    rt: &R,
+    alloc: Global,
+    link: &mut L,
+    door: RealDoor<R>,
+) -> Result<bool, Fail>
+where
+    R: Threads + Wait + SystemClock + Clone + Drop + Send + 'static,
+{
+    let url = url_of(alloc, &door)?;
+    let url = url.as_str();
+    Ok(is_linked(rt, alloc, url, link, door)? && brings_nothing(alloc, link, url))
+}
+
+/// Whether the same is so of a link of the system, which counts three faults.
+fn has_three_faults<R>(
+    rt: &R,
+    alloc: Global,
+    mut link: RealLink<R>,
+    door: RealDoor<R>,
+) -> Result<bool, Fail>
+where
+    R: Threads + Net + Wait + SystemClock + Clone + Drop + Send + 'static,
+{
+    Ok(is_closed_after(rt, alloc, &mut link, door)? && link.faults() == 3)
+}
+
 #[test]
 fn a_link_brings_what_a_door_answers(rt: HostRuntime) -> Result<(), Fail> {
-    let alloc = rt.alloc();
-    let door = RealDoor::open(rt, alloc, 0).map_err(|_| Fail::new("no door"))?;
-    let url = format!(in alloc; "http://127.0.0.1:{}/", door.port()?)?;
-    let mut spawner = RealSpawner::new();
-    let running = spawner.start(&rt, Answering { door, shares: 2 })?;
-    let mut link = RealLink::new(rt);
-    let whole = link.exchange(alloc, url.as_str(), b"hello", 5);
-    assert_eq!(rt; length_of(whole), Ok(5));
-    let over = link.exchange(alloc, url.as_str(), b"hello", 4);
-    assert_eq!(rt; length_of(over), Err(LinkFault::Over));
-    assert_eq!(rt; running.join(&rt), 2);
-    // The port is closed, and the other address is not near.
-    for url in [url.as_str(), "http://192.0.2.1/"] {
-        let none = link.exchange(alloc, url, b"hello", 5);
-        assert_eq!(rt; length_of(none), Err(LinkFault::Failed));
-    }
-    assert!(rt; link.faults() == 3 && spawner.started() == 1 && spawner.faults() == 0);
+    let door = opened(rt, rt.alloc())?;
+    assert!(rt; has_three_faults(&rt, rt.alloc(), RealLink::new(rt), door)?);
     Ok(())
 }

@@ -1,6 +1,8 @@
 ghost use Rattle.std.specs.Prelude.{◌≡◌, cond, nat_eq};
 
 use crate::made::{PAGE, sink, source};
+use cds_base::Mem;
+use cds_memory::MemSink;
 use cds_replay::{ReplayError, Wire, replay_by};
 use std::alloc::Global;
 use std::test::Fail;
@@ -37,6 +39,17 @@ const ONE_TRACK: &str =
 const SHOWN: &str =
     "scan 1\nread ok\nread ok\nread ok\nread ok\nread ok\nread ok\nstands 1\n<container id=\"0\" parentID=\"-1\" restricted=\"1\" searchable=\"1\" childCount=\"1\"><dc:title>root</dc:title><upnp:class>object.container</upnp:class><upnp:objectUpdateID>0</upnp:objectUpdateID><upnp:containerUpdateID>1</upnp:containerUpdateID><upnp:totalDeletedChildCount>0</upnp:totalDeletedChildCount></container>\n<item id=\"1\" parentID=\"0\" restricted=\"1\"><dc:title>Y</dc:title><upnp:class>object.item.audioItem.musicTrack</upnp:class><upnp:objectUpdateID>1</upnp:objectUpdateID><res protocolInfo=\"http-get:*:audio/flac:*\" size=\"10\" bitsPerSample=\"16\" nrAudioChannels=\"2\">/media/1</res></item>\n";
 
+/// What a script over a wire is answered.
+fn answer_of<W: Wire>(
+    alloc: Global,
+    script: &str,
+    wire: &W,
+    sink: &mut MemSink,
+) -> Result<Result<(), ReplayError>, Mem> {
+    let mut source = source(alloc, script.as_bytes(), &[])?;
+    Ok(replay_by(alloc, &mut source, sink, wire))
+}
+
 /// Whether a script over a wire is answered so, with this report.
 fn is_played<W: Wire>(
     alloc: Global,
@@ -44,21 +57,25 @@ fn is_played<W: Wire>(
     wire: &W,
     want: Result<(), ReplayError>,
     report: &str,
-) -> Result<bool, Fail> {
-    let mut source = source(alloc, script.as_bytes(), &[])?;
+) -> Result<bool, Mem> {
     let mut sink = sink(alloc, &[])?;
-    let answer = replay_by(alloc, &mut source, &mut sink, wire);
+    let answer = answer_of(alloc, script, wire, &mut sink)?;
     Ok(answer == want && sink.as_slice() == report.as_bytes())
 }
 
-/// The replica's rows are those that the wire left: the title of the track is another than the server's.
-#[test]
-fn rows_are_what_the_wire_left(rt: HostRuntime) -> Result<(), Fail> {
+/// Whether the rows that a script shows are those that a wire left, which writes another title than the server's.
+fn shows_what_is_left(alloc: Global) -> Result<bool, Mem> {
     let wire = Writes {
         old: b'Z',
         new: b'Y',
     };
-    assert!(rt; is_played(rt.alloc(), ONE_TRACK, &wire, Ok(()), SHOWN)?);
+    is_played(alloc, ONE_TRACK, &wire, Ok(()), SHOWN)
+}
+
+/// The replica's rows are those that the wire left.
+#[test]
+fn rows_are_what_the_wire_left(rt: HostRuntime) -> Result<(), Fail> {
+    assert!(rt; shows_what_is_left(rt.alloc())?);
     Ok(())
 }
 
@@ -84,14 +101,18 @@ impl Wire for Spoils<'_> {
 const TAGGED: &str =
     "track s.flac 10 0 2 16 0\ntag TITLE A%20&%20\"B\"%20<C>%01\nscan\nload\nread\nread\nread\nread\nread\nread\nask\n";
 
-/// The fifth reply is exactly that: it is the one that is spoiled. The wire leaves all others.
-#[test]
-fn the_page_of_a_tagged_track(rt: HostRuntime) -> Result<(), Fail> {
+/// Whether a script ends at the reply that is exactly the page, the fifth, which a wire spoils. The wire leaves all others.
+fn ends_at_the_page(alloc: Global) -> Result<bool, Mem> {
     let wire = Spoils {
         reply: PAGE.as_bytes(),
     };
     let answer = Err(ReplayError::Refused { line: 9 });
     let shown = "scan 1\nread ok\nread ok\nread ok\nread ok\n";
-    assert!(rt; is_played(rt.alloc(), TAGGED, &wire, answer, shown)?);
+    is_played(alloc, TAGGED, &wire, answer, shown)
+}
+
+#[test]
+fn the_page_of_a_tagged_track(rt: HostRuntime) -> Result<(), Fail> {
+    assert!(rt; ends_at_the_page(rt.alloc())?);
     Ok(())
 }

@@ -1,8 +1,10 @@
 //! A server that is shared, with one seat of it.
 
+ghost use Rattle.std.specs.Prelude.{◌≡◌, ◌≤◌, IfOk};
 ghost use Rattle.std.specs.Arc.{arc_value};
-ghost use Rattle.cds_turn.specs.Turn.{IsSeatOf};
+ghost use Rattle.cds_turn.specs.Turn.{IsSeatOf, passes_of};
 
+use crate::made::{clock, link};
 use cds_base::{Mem, NoGate};
 use cds_memory::{MemClock, MemConn, MemFolder, MemLink};
 use cds_serve::{ScanRefused, Served, notify_once, scan_once, serve_one};
@@ -21,25 +23,48 @@ pub struct Desk {
     ghost own: { IsSeatOf (arc_value turn) seat },
 }
 
+/// A server that has done nothing yet, and all of its seats in one.
+pub fn server(alloc: Global, seats: u32) -> Result<(Arc<Turn<Served>>, Seat<Served>), Mem>
+    requires { 1 ≤ seats }
+    ensures seat { IfOk result (λ r. IsSeatOf (arc_value r.0) r.1) }
+    ensures passes { IfOk result (λ r. passes_of r.1 ≡ seats) }
+{
+    let served = Served::new(alloc, [0, 0], 0)?;
+    let (turn, seat) = Turn::new(alloc, served, seats)?;
+    Ok((Arc::new(alloc, turn)?, seat))
+}
+
+/// A clock of these moments, of which one call fails, and a link.
+fn ends(alloc: Global, moments: &[u64], fails: u32) -> Result<(MemClock, MemLink), Mem> {
+    let clock = clock(alloc, moments, fails)?;
+    Ok((clock, link(alloc, 0)?))
+}
+
 impl Desk {
-    /// A server that has done nothing yet.
-    pub fn new(alloc: Global, clock: MemClock, link: MemLink) -> Result<Self, Mem> {
-        let served = Served::new(alloc, [0, 0], 0)?;
-        let (turn, seat) = Turn::new(alloc, served, 1)?;
-        Ok(Desk::of(Arc::new(alloc, turn)?, seat, clock, link))
+    /// A server that has done nothing yet, with a clock of these moments, of which one call fails.
+    pub fn new(alloc: Global, moments: &[u64], fails: u32) -> Result<Self, Mem> {
+        let (turn, seat) = server(alloc, 1)?;
+        Desk::of(alloc, turn, seat, moments, fails)
     }
 
-    /// A server that others may share.
-    pub fn of(turn: Arc<Turn<Served>>, seat: Seat<Served>, clock: MemClock, link: MemLink) -> Self
+    /// The same of a server that others may share.
+    pub fn of(
+        alloc: Global,
+        turn: Arc<Turn<Served>>,
+        seat: Seat<Served>,
+        moments: &[u64],
+        fails: u32,
+    ) -> Result<Self, Mem>
         requires { IsSeatOf (arc_value turn) seat }
     {
-        Desk {
+        let (clock, link) = ends(alloc, moments, fails)?;
+        Ok(Desk {
             turn,
             seat,
             clock,
             link,
             last: 0,
-        }
+        })
     }
 
     /// Serves a connection.

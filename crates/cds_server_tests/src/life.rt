@@ -1,8 +1,8 @@
 //! Whole lives of a server, in which one call fails.
 
-use crate::made::{asking, clock, folder, link, only, subscribing};
-use cds_base::{Bytes, Gate, Mem, NoGate, Numbers, Sequence};
-use cds_memory::{MemDoor, MemObjects, MemOutside, MemSink, MemSpawner};
+use crate::made::{asking, clock, folder, link, only, sink, subscribing};
+use cds_base::{Gate, Mem, NoGate, Numbers, Sequence};
+use cds_memory::{MemConn, MemDoor, MemObjects, MemOutside, MemSink, MemSpawner};
 use cds_serve::serve;
 use std::alloc::Global;
 use std::marker::{Send, Sync};
@@ -38,30 +38,55 @@ fn call_of(fault: Fault, part: Part) -> u32 {
     if fault.part == part { fault.call } else { 0 }
 }
 
-/// A door with a connection that subscribes and one that asks for a page.
+/// Puts a connection that subscribes and one that asks for a page.
+fn put_conns(alloc: Global, conns: &mut Sequence<MemConn>) -> Result<(), Fail> {
+    conns.push(subscribing(alloc)?)?;
+    Ok(conns.push(asking(alloc, 0, 0)?)?)
+}
+
+/// They alone.
+fn two_conns(alloc: Global) -> Result<Sequence<MemConn>, Fail> {
+    let mut conns = Sequence::new(alloc);
+    put_conns(alloc, &mut conns)?;
+    Ok(conns)
+}
+
+/// A door with them.
 pub fn door<R: Wait + Clone + Drop>(
     rt: R,
     alloc: Global,
     fault: Fault,
 ) -> Result<MemDoor<R>, Fail> {
     let fails = calls_of(alloc, fault, Part::Door)?;
-    let mut conns = Sequence::new(alloc);
-    conns.push(subscribing(alloc)?)?;
-    conns.push(asking(alloc, 0, 0)?)?;
+    let conns = two_conns(alloc)?;
     Ok(MemDoor::new(rt, alloc, conns, fails)?)
 }
 
-/// A clock for each of six jobs, and a link for each of five.
+/// A clock and a link for a job.
+fn put_end<R: Drop>(alloc: Global, fault: Fault, objects: &mut MemObjects<R>) -> Result<(), Mem> {
+    objects
+        .clocks
+        .push(clock(alloc, &[], call_of(fault, Part::Clock))?)?;
+    objects.links.push(link(alloc, call_of(fault, Part::Link))?)
+}
+
+/// They for each of six jobs.
 fn put_ends<R: Drop>(alloc: Global, fault: Fault, objects: &mut MemObjects<R>) -> Result<(), Mem> {
     for _ in 0..6 {
-        objects
-            .clocks
-            .push(clock(alloc, &[], call_of(fault, Part::Clock))?)?;
-        objects
-            .links
-            .push(link(alloc, call_of(fault, Part::Link))?)?;
+        put_end(alloc, fault, objects)?;
     }
     Ok(())
+}
+
+/// A folder and what starts jobs.
+fn put_others<R: Drop>(
+    alloc: Global,
+    fault: Fault,
+    objects: &mut MemObjects<R>,
+) -> Result<(), Fail> {
+    objects.folders.push(folder(alloc, "Rock")?)?;
+    let fails = calls_of(alloc, fault, Part::Spawner)?;
+    Ok(objects.spawners.push(MemSpawner::new(fails))?)
 }
 
 /// All that a server asks for, with this door.
@@ -73,14 +98,11 @@ fn put_all<R: Wait + Clone + Drop>(
 ) -> Result<(), Fail> {
     objects.doors.push(door)?;
     put_ends(alloc, fault, objects)?;
-    objects.folders.push(folder(alloc, "Rock")?)?;
-    let fails = calls_of(alloc, fault, Part::Spawner)?;
-    objects.spawners.push(MemSpawner::new(fails))?;
-    Ok(())
+    put_others(alloc, fault, objects)
 }
 
 /// The same of no objects before.
-pub fn objects_of<R: Wait + Clone + Drop>(
+fn objects_of<R: Wait + Clone + Drop>(
     alloc: Global,
     fault: Fault,
     door: MemDoor<R>,
@@ -88,6 +110,17 @@ pub fn objects_of<R: Wait + Clone + Drop>(
     let mut objects = MemObjects::new(alloc);
     put_all(alloc, fault, door, &mut objects)?;
     Ok(objects)
+}
+
+/// An outside that gives them, where these calls for an object fail.
+pub fn outside_of<R: Wait + Clone + Drop>(
+    alloc: Global,
+    fault: Fault,
+    door: MemDoor<R>,
+) -> Result<MemOutside<R>, Fail> {
+    let fails = calls_of(alloc, fault, Part::Outside)?;
+    let objects = objects_of(alloc, fault, door)?;
+    Ok(MemOutside::new(objects, fails))
 }
 
 /// What became of a server: its status, and how many connections were given, jobs started and calls of the outside failed.
@@ -99,30 +132,8 @@ pub struct End {
     pub faults: u64,
 }
 
-/// Has a server serve so many connections at the port 49152, over these objects, where these calls for an object fail.
-pub fn lived<
-    R: Threads + Wait + Clone + Drop + Send + Sync + 'static,
-    G: Gate + Send + Drop + 'static,
->(
-    rt: &R,
-    alloc: Global,
-    requests: u32,
-    objects: MemObjects<R>,
-    fails: Numbers,
-    sink: &mut MemSink,
-    gate: &mut G,
-) -> End {
-    let mut outside = MemOutside::new(objects, fails);
-    let status = serve(
-        rt,
-        alloc,
-        49_152,
-        "music",
-        requests,
-        sink,
-        &mut outside,
-        gate,
-    );
+/// What an outside counted, where a server ended with this status.
+fn end_with<R: Wait + Drop>(status: u8, outside: &MemOutside<R>) -> End {
     End {
         status,
         connections: outside.connections(),
@@ -131,19 +142,42 @@ pub fn lived<
     }
 }
 
+/// Has a server serve so many connections at the port 49152, with what this outside gives.
+pub fn lived<
+    R: Threads + Wait + Clone + Drop + Send + Sync + 'static,
+    G: Gate + Send + Drop + 'static,
+>(
+    rt: &R,
+    alloc: Global,
+    requests: u32,
+    outside: &mut MemOutside<R>,
+    sink: &mut MemSink,
+    gate: &mut G,
+) -> End {
+    let status = serve(rt, alloc, 49_152, "music", requests, sink, outside, gate);
+    end_with(status, outside)
+}
+
 /// No fault.
 pub const NONE: Fault = Fault {
     part: Part::Door,
     call: 0,
 };
 
-/// A sink of which a call fails.
-fn sink(alloc: Global, fault: Fault) -> Result<MemSink, Mem> {
-    let fails = calls_of(alloc, fault, Part::Sink)?;
-    Ok(MemSink::new(Bytes::new(alloc), fails))
+/// What becomes of a server that serves so many connections where a call fails.
+fn ended<R: Threads + Wait + Clone + Copy + Drop + Send + Sync + 'static>(
+    rt: R,
+    alloc: Global,
+    requests: u32,
+    fault: Fault,
+    sink: &mut MemSink,
+) -> Result<End, Fail> {
+    let door = door(rt, alloc, fault)?;
+    let mut outside = outside_of(alloc, fault, door)?;
+    Ok(lived(&rt, alloc, requests, &mut outside, sink, &mut NoGate))
 }
 
-/// What becomes of a server that serves so many connections where a call fails, and whether it writes exactly this.
+/// The same, and whether it writes exactly this.
 fn end_of<R: Threads + Wait + Clone + Copy + Drop + Send + Sync + 'static>(
     rt: R,
     alloc: Global,
@@ -151,11 +185,8 @@ fn end_of<R: Threads + Wait + Clone + Copy + Drop + Send + Sync + 'static>(
     fault: Fault,
     text: &str,
 ) -> Result<(End, bool), Fail> {
-    let fails = calls_of(alloc, fault, Part::Outside)?;
-    let mut sink = sink(alloc, fault)?;
-    let door = door(rt, alloc, fault)?;
-    let objects = objects_of(alloc, fault, door)?;
-    let end = lived(&rt, alloc, requests, objects, fails, &mut sink, &mut NoGate);
+    let mut sink = sink(alloc, call_of(fault, Part::Sink))?;
+    let end = ended(rt, alloc, requests, fault, &mut sink)?;
     Ok((end, sink.as_slice() == text.as_bytes()))
 }
 

@@ -1,33 +1,32 @@
 //! Connections one after another, some of which fail, and a subscriber that is told of scans.
 
 use crate::desk::Desk;
-use crate::made::{asking, clock, folder, is_good, link, rows_in, subscribing};
+use crate::made::{asking, folder, is_good, rows_in, subscribing};
 use cds_base::{LinkRequest, Mem};
-use cds_http::{MessageReader, Side};
+use cds_http::{HttpError, Message, MessageReader, Side};
 use cds_memory::{MemConn, MemLink};
 use cds_notify::{Note, read_notify};
 use std::alloc::Global;
 use std::sync::Wait;
 use std::test::Fail;
 
-/// A server that has done nothing yet, and a clock that fails at one call.
-fn desk(alloc: Global, moments: &[u64], fails: u32) -> Result<Desk, Mem> {
-    let link = link(alloc, 0)?;
-    let clock = clock(alloc, moments, fails)?;
-    Desk::new(alloc, clock, link)
+/// Has a new server serve a connection.
+fn serve_new<R: Wait>(rt: &R, alloc: Global, conn: &mut MemConn) -> Result<(), Mem> {
+    let mut desk = Desk::new(alloc, &[], 0)?;
+    desk.serve(rt, alloc, conn)
 }
 
 /// A connection that asks for the children of the root and was served, where one read and one write of it fail.
 fn asked<R: Wait>(rt: &R, alloc: Global, read: u32, write: u32) -> Result<MemConn, Fail> {
     let mut conn = asking(alloc, read, write)?;
-    desk(alloc, &[], 0)?.serve(rt, alloc, &mut conn)?;
+    serve_new(rt, alloc, &mut conn)?;
     Ok(conn)
 }
 
 /// How many rows are shown.
 fn rows_shown<R: Wait>(rt: &R, alloc: Global) -> Result<Option<usize>, Fail> {
     let conn = asked(rt, alloc, 0, 0)?;
-    Ok(rows_in(alloc, conn.written())?)
+    rows_in(alloc, conn.written())
 }
 
 /// Whether nothing is answered, where one read and one write of the connection fail.
@@ -44,11 +43,25 @@ fn a_connection_is_answered_or_given_up(rt: HostRuntime) -> Result<(), Fail> {
     Ok(())
 }
 
+/// The message that a reader reads.
+fn message_of(
+    alloc: Global,
+    bytes: &[u8],
+    mut reader: MessageReader,
+) -> Result<Message, HttpError> {
+    match reader.feed(alloc, bytes) {
+        Ok(_) => reader.finish(),
+        Err(refusal) => {
+            drop(reader);
+            Err(refusal)
+        }
+    }
+}
+
 /// The note that a request carries.
 fn note_in(alloc: Global, request: &LinkRequest) -> Result<Note, Fail> {
-    let mut reader = MessageReader::new(alloc, Side::Request)?;
-    reader.feed(alloc, request.bytes.as_slice())?;
-    let message = reader.finish()?;
+    let reader = MessageReader::new(alloc, Side::Request)?;
+    let message = message_of(alloc, request.bytes.as_slice(), reader)?;
     Ok(read_notify(alloc, &message)?)
 }
 
@@ -76,7 +89,13 @@ fn subscribes<R: Wait>(rt: &R, alloc: Global, desk: &mut Desk) -> Result<bool, M
     Ok(is_good(conn.written()))
 }
 
-/// Scans folders of these names and looks. Whether the server goes on, and its last moment is this one.
+/// Scans folders of these names.
+fn scans<R: Wait>(rt: &R, alloc: Global, desk: &mut Desk, names: &str) -> Result<(), Fail> {
+    let mut folder = folder(alloc, names)?;
+    Ok(desk.scan(rt, alloc, &mut folder)?)
+}
+
+/// Scans them and looks. Whether the server goes on, and its last moment is this one.
 fn scans_and_looks<R: Wait>(
     rt: &R,
     alloc: Global,
@@ -84,10 +103,8 @@ fn scans_and_looks<R: Wait>(
     names: &str,
     last: u64,
 ) -> Result<bool, Fail> {
-    let mut folder = folder(alloc, names)?;
-    desk.scan(rt, alloc, &mut folder)?;
-    let is_stopped = desk.look(rt, alloc)?;
-    Ok(!is_stopped && desk.last == last)
+    scans(rt, alloc, desk, names)?;
+    Ok(!desk.look(rt, alloc)? && desk.last == last)
 }
 
 /// Whether a subscriber is told of scans at moments, one of which the clock does not give.
@@ -102,7 +119,7 @@ fn is_told<R: Wait>(rt: &R, alloc: Global, desk: &mut Desk) -> Result<bool, Fail
 
 /// The same of a server that has done nothing yet.
 fn new_server_tells<R: Wait>(rt: &R, alloc: Global) -> Result<bool, Fail> {
-    let mut desk = desk(alloc, &[100, 200, 300, 400], 2)?;
+    let mut desk = Desk::new(alloc, &[100, 200, 300, 400], 2)?;
     is_told(rt, alloc, &mut desk)
 }
 

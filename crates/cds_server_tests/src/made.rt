@@ -11,17 +11,30 @@ use std::alloc::Global;
 use std::test::Fail;
 use url::Url;
 
-/// A folder, whose word ends in `/`, or a track of one channel of 8 bits, of the size behind `=`.
-fn record_of(alloc: Global, word: &str) -> Result<Record, Fail> {
+/// The name of a word without `/` at its end, whether it is a folder's, and the size behind `=`.
+fn parts_of(word: &str) -> Result<(&str, bool, u64), Fail> {
     let (name, size) = word.split_once("=").unwrap_or((word, "1"));
     let size: u64 = size.parse()?;
-    let text = name.strip_suffix("/").unwrap_or(name);
-    let path = Path::read(alloc, text)?;
-    let content = if text.len() < name.len() {
-        folder_content(alloc, text)?
+    match name.strip_suffix("/") {
+        Some(text) => Ok((text, true, size)),
+        None => Ok((name, false, size)),
+    }
+}
+
+/// What a folder or a track has.
+fn content_at(alloc: Global, name: &str, is_folder: bool, size: u64) -> Result<Content, Mem> {
+    if is_folder {
+        folder_content(alloc, name)
     } else {
-        track_content(alloc, text, size)?
-    };
+        track_content(alloc, name, size)
+    }
+}
+
+/// A folder, whose word ends in `/`, or a track of one channel of 8 bits, of the size behind `=`.
+fn record_of(alloc: Global, word: &str) -> Result<Record, Fail> {
+    let (name, is_folder, size) = parts_of(word)?;
+    let path = Path::read(alloc, name)?;
+    let content = content_at(alloc, name, is_folder, size)?;
     Ok(Record { path, content })
 }
 
@@ -62,13 +75,23 @@ pub fn only(alloc: Global, call: u32) -> Result<Numbers, Mem> {
     Ok(calls)
 }
 
+/// A sink that is empty, of which one write fails.
+pub fn sink(alloc: Global, fails: u32) -> Result<MemSink, Mem> {
+    let fails = only(alloc, fails)?;
+    Ok(MemSink::new(Bytes::new(alloc), fails))
+}
+
+/// A source of these bytes, of which one read fails.
+fn source(alloc: Global, text: &[u8], fails: u32) -> Result<MemSource, Mem> {
+    let fails = only(alloc, fails)?;
+    let bytes = Vec::from_slice(alloc, text)?;
+    Ok(MemSource::new(Bytes::from(bytes), fails))
+}
+
 /// A connection that gives these bytes, of which one read and one write fail.
 pub fn conn(alloc: Global, text: &[u8], read: u32, write: u32) -> Result<MemConn, Mem> {
-    let reads = only(alloc, read)?;
-    let writes = only(alloc, write)?;
-    let bytes = Vec::from_slice(alloc, text)?;
-    let source = MemSource::new(Bytes::from(bytes), reads);
-    Ok(MemConn::new(source, MemSink::new(Bytes::new(alloc), writes)))
+    let sink = sink(alloc, write)?;
+    Ok(MemConn::new(source(alloc, text, read)?, sink))
 }
 
 /// A clock of these moments, of which one call fails.
@@ -78,14 +101,19 @@ pub fn clock(alloc: Global, moments: &[u64], fails: u32) -> Result<MemClock, Mem
     Ok(MemClock::new(Moments::from(moments), fails))
 }
 
-/// A link of three empty replies, of which one call fails.
-pub fn link(alloc: Global, fails: u32) -> Result<MemLink, Mem> {
-    let fails = only(alloc, fails)?;
+/// Three empty replies.
+fn three_replies(alloc: Global) -> Result<Sequence<Bytes>, Mem> {
     let mut replies = Sequence::new(alloc);
     for _ in 0..3 {
         replies.push(Bytes::new(alloc))?;
     }
-    Ok(MemLink::new(alloc, replies, fails))
+    Ok(replies)
+}
+
+/// A link that gives them, of which one call fails.
+pub fn link(alloc: Global, fails: u32) -> Result<MemLink, Mem> {
+    let fails = only(alloc, fails)?;
+    Ok(MemLink::new(alloc, three_replies(alloc)?, fails))
 }
 
 /// Items of a folder, which are to be a tree, and its calls that fail.
@@ -98,14 +126,24 @@ pub fn tree(items: Sequence<MemItem>, fails: Numbers) -> Result<MemFolder, Fail>
     }
 }
 
-/// A folder with folders of these names, which are parted by spaces.
-pub fn folder(alloc: Global, names: &str) -> Result<MemFolder, Fail> {
+/// Puts a folder of this name.
+fn put_folder(alloc: Global, name: &str, items: &mut Sequence<MemItem>) -> Result<(), Mem> {
+    let path = Text::read(alloc, name)?;
+    items.push(MemItem::FolderItem { path })
+}
+
+/// Folders of these names, which are parted by spaces.
+fn folders(alloc: Global, names: &str) -> Result<Sequence<MemItem>, Mem> {
     let mut items = Sequence::new(alloc);
     for name in names.split(' ') {
-        let path = Text::read(alloc, name)?;
-        items.push(MemItem::FolderItem { path })?;
+        put_folder(alloc, name, &mut items)?;
     }
-    tree(items, Numbers::new(alloc))
+    Ok(items)
+}
+
+/// A folder with them.
+pub fn folder(alloc: Global, names: &str) -> Result<MemFolder, Fail> {
+    tree(folders(alloc, names)?, Numbers::new(alloc))
 }
 
 /// A subscription at a callback of the private range.
@@ -125,18 +163,24 @@ pub fn is_good(reply: &[u8]) -> bool {
 /// What asks for the children of the root.
 const PAGE: Ask = Ask::Children { id: 0, start: 0 };
 
+/// Writes what asks for them.
+fn write_ask(alloc: Global, text: &mut Vec<u8>) -> Result<(), Fail> {
+    let url = Url::parse(alloc, "http://127.0.0.1/control")?;
+    if url.scheme() == "http" {
+        ask_bytes(&PAGE, &url, text)?;
+    }
+    Ok(())
+}
+
 /// A connection that asks for the children of the root, of which one read and one write fail.
 pub fn asking(alloc: Global, read: u32, write: u32) -> Result<MemConn, Fail> {
-    let url = Url::parse(alloc, "http://127.0.0.1/control")?;
     let mut text = Vec::new(alloc);
-    if url.scheme() == "http" {
-        ask_bytes(&PAGE, &url, &mut text)?;
-    }
+    write_ask(alloc, &mut text)?;
     Ok(conn(alloc, text.as_slice(), read, write)?)
 }
 
 /// How many children of the root a reply shows. `None` where it is no page of them.
-pub fn rows_in(alloc: Global, reply: &[u8]) -> Result<Option<usize>, Mem> {
+pub fn rows_in(alloc: Global, reply: &[u8]) -> Result<Option<usize>, Fail> {
     match read_reply(alloc, &PAGE, reply)? {
         Some(Shown::Page { rows, .. }) => Ok(Some(rows.len())),
         _ => Ok(None),

@@ -86,12 +86,14 @@ fn bytes_of(alloc: Global, length: usize) -> Result<Option<Bytes>, Mem> {
     }
 }
 
-/// A file or a folder.
-fn item_of(alloc: Global, item: &Item) -> Result<MemItem, Mem> {
-    if let Some(folder) = item.0.strip_suffix('/') {
-        let path = Text::read(alloc, folder)?;
-        return Ok(MemItem::FolderItem { path });
-    }
+/// A folder.
+fn folder_item(alloc: Global, name: &str) -> Result<MemItem, Mem> {
+    let path = Text::read(alloc, name)?;
+    Ok(MemItem::FolderItem { path })
+}
+
+/// A file.
+fn file_item(alloc: Global, item: &Item) -> Result<MemItem, Mem> {
     let path = Text::read(alloc, item.0)?;
     let bytes = bytes_of(alloc, item.1)?;
     let fails = only(alloc, item.2)?;
@@ -103,13 +105,32 @@ fn item_of(alloc: Global, item: &Item) -> Result<MemItem, Mem> {
     })
 }
 
-/// A folder of items, of which one call fails.
-fn folder_of(alloc: Global, items: &[Item], fails: u32) -> Result<MemFolder, Fail> {
+/// A file or a folder.
+fn item_of(alloc: Global, item: &Item) -> Result<MemItem, Mem> {
+    match item.0.strip_suffix('/') {
+        Some(folder) => folder_item(alloc, folder),
+        None => file_item(alloc, item),
+    }
+}
+
+/// Puts an item.
+fn put_item(alloc: Global, item: &Item, list: &mut Sequence<MemItem>) -> Result<(), Mem> {
+    list.push(item_of(alloc, item)?)
+}
+
+/// Items of a folder.
+fn items_of(alloc: Global, items: &[Item]) -> Result<Sequence<MemItem>, Mem> {
     let mut list = Sequence::new(alloc);
     for item in items {
-        list.push(item_of(alloc, item)?)?;
+        put_item(alloc, item, &mut list)?;
     }
-    tree(list, only(alloc, fails)?)
+    Ok(list)
+}
+
+/// A folder of items, of which one call fails.
+fn folder_of(alloc: Global, items: &[Item], fails: u32) -> Result<MemFolder, Fail> {
+    let fails = only(alloc, fails)?;
+    tree(items_of(alloc, items)?, fails)
 }
 
 /// The title that a content has.
@@ -152,11 +173,16 @@ fn is_found(answer: &Result<Scan, ScanError>, want: &Result<Found, ScanError>) -
     }
 }
 
-/// Whether the scan of a folder answers so, and hands back each file that it opened.
+/// Whether the scan of a folder answers so.
+fn answers(alloc: Global, folder: &mut MemFolder, want: &Result<Found, ScanError>) -> bool {
+    let answer = scan(alloc, folder);
+    is_found(&answer, want)
+}
+
+/// The same, and whether the folder has each file back that it opened.
 fn is_scanned(alloc: Global, case: &Case) -> Result<bool, Fail> {
     let mut folder = folder_of(alloc, case.1, case.2)?;
-    let answer = scan(alloc, &mut folder);
-    Ok(is_found(&answer, &case.3) && folder.opened() == folder.returned())
+    Ok(answers(alloc, &mut folder, &case.3) && folder.opened() == folder.returned())
 }
 
 #[test]

@@ -1,10 +1,13 @@
 //! Both bodies of the store, by the calls that they have in common: what the plain one keeps, which no program runs, is what
 //! the other one keeps.
 
+ghost use Rattle.std.specs.Prelude.{◌<◌, ◌^◌, length, IfOk};
+ghost use Rattle.std.specs.List.{AllByRecursion};
+
 use crate::made::records_of;
-use cds_base::Text;
+use cds_base::{Mem, Text};
 use cds_browse::{browse, run_scans};
-use cds_object::{Class, Event, Events, Row, Trackers};
+use cds_object::{Class, Event, Events, Records, Row, Trackers};
 use cds_soap::BrowseRequest;
 use cds_store::{ApplyError, Keeping, PlainStore, Span, Store};
 use std::alloc::Global;
@@ -293,23 +296,46 @@ fn tells_containers<K: Keeping>(
     Ok(containers.as_slice() == want)
 }
 
-/// What asks for the root's children.
-fn root_asked(alloc: Global) -> Result<BrowseRequest, Fail> {
-    Ok(BrowseRequest {
-        object: Text::read(alloc, "0")?,
-        flag: Text::read(alloc, "BrowseDirectChildren")?,
-        filter: Text::read(alloc, "*")?,
+/// What asks for this object's children, sorted by nothing.
+fn asked_for(object: Text, flag: Text, filter: Text, sort: Text) -> BrowseRequest {
+    BrowseRequest {
+        object,
+        flag,
+        filter,
         start: 0,
         count: 0,
-        sort: Text::read(alloc, "")?,
-    })
+        sort,
+    }
+}
+
+/// Two texts.
+fn two_texts(alloc: Global, first: &str, second: &str) -> Result<(Text, Text), Mem> {
+    let first = Text::read(alloc, first)?;
+    Ok((first, Text::read(alloc, second)?))
+}
+
+/// What asks for the root's children.
+fn root_asked(alloc: Global) -> Result<BrowseRequest, Mem> {
+    let (object, flag) = two_texts(alloc, "0", "BrowseDirectChildren")?;
+    let (filter, sort) = two_texts(alloc, "*", "")?;
+    Ok(asked_for(object, flag, filter, sort))
+}
+
+/// Whether the answer to this has exactly these ids, and says its number.
+fn gives_children<K: Keeping>(
+    alloc: Global,
+    store: &K,
+    asked: &BrowseRequest,
+    want: &[u32],
+) -> Result<bool, Fail> {
+    let page = browse(alloc, store, asked)?;
+    Ok(page.ids.as_slice() == want && page.update == store.system_update_id())
 }
 
 /// Whether the root has exactly these children, and the page says so.
 fn has_children<K: Keeping>(alloc: Global, store: &K, want: &[u32]) -> Result<bool, Fail> {
     let asked = root_asked(alloc)?;
-    let page = browse(alloc, store, &asked)?;
-    Ok(page.ids.as_slice() == want && page.update == store.system_update_id())
+    gives_children(alloc, store, &asked, want)
 }
 
 /// Whether a new store keeps a case.
@@ -351,23 +377,54 @@ fn both_bodies_keep_the_same(rt: HostRuntime) -> Result<(), Fail> {
 const ROWS: &str =
     "<container id=\"0\" parentID=\"-1\" restricted=\"1\" searchable=\"1\" childCount=\"2\"><dc:title>root</dc:title><upnp:class>object.container</upnp:class><upnp:objectUpdateID>0</upnp:objectUpdateID><upnp:containerUpdateID>4</upnp:containerUpdateID><upnp:totalDeletedChildCount>1</upnp:totalDeletedChildCount></container>\n<item id=\"2\" parentID=\"0\" restricted=\"1\"><dc:title>y</dc:title><upnp:class>object.item.audioItem.musicTrack</upnp:class><upnp:objectUpdateID>2</upnp:objectUpdateID><res protocolInfo=\"http-get:*:audio/flac:*\" size=\"1\" bitsPerSample=\"8\" nrAudioChannels=\"1\">/media/2</res></item>\n<container id=\"3\" parentID=\"0\" restricted=\"1\" searchable=\"1\" childCount=\"0\"><dc:title>x.flac</dc:title><upnp:class>object.container</upnp:class><upnp:objectUpdateID>4</upnp:objectUpdateID><upnp:containerUpdateID>4</upnp:containerUpdateID><upnp:totalDeletedChildCount>0</upnp:totalDeletedChildCount></container>\n";
 
-/// Whether these rows are appended by two scans.
-fn leads_to_rows<K: Keeping>(alloc: Global, store: &mut K) -> Result<bool, Fail> {
+/// Both scans.
+fn both_scans(alloc: Global) -> Result<Vec<Records>, Fail>
+    ensures { IfOk result (λ scans. AllByRecursion (λ records. length records < 2 ^ 32) scans.items) }
+{
     let first = records_of(alloc, "x.flac y.flac")?;
     let second = records_of(alloc, "x.flac/ y.flac")?;
     let mut scans = Vec::new(alloc);
     scans.push(first)?;
     scans.push(second)?;
+    Ok(scans)
+}
+
+/// Whether these scans append those rows.
+fn append_rows<K: Keeping>(alloc: Global, store: &mut K, scans: &[Records]) -> Result<bool, Fail>
+    requires { AllByRecursion (λ records. length records < 2 ^ 32) scans.now }
+{
     let mut out = Vec::new(alloc);
-    run_scans(alloc, store, scans.as_slice(), &mut out)?;
+    run_scans(alloc, store, scans, &mut out)?;
     Ok(out.as_slice() == ROWS.as_bytes())
 }
 
-/// Whether both bodies append them.
-fn both_lead_to_rows(alloc: Global) -> Result<bool, Fail> {
-    let mut plain = PlainStore::new(alloc, 0)?;
+/// Whether the plain body appends them.
+fn plain_appends(alloc: Global, scans: &[Records]) -> Result<bool, Fail>
+    requires { AllByRecursion (λ records. length records < 2 ^ 32) scans.now }
+{
+    let mut store = PlainStore::new(alloc, 0)?;
+    append_rows(alloc, &mut store, scans)
+}
+
+/// Whether the other body does.
+fn is_appended(alloc: Global, scans: &[Records]) -> Result<bool, Fail>
+    requires { AllByRecursion (λ records. length records < 2 ^ 32) scans.now }
+{
     let mut store = Store::new(alloc, 0)?;
-    Ok(leads_to_rows(alloc, &mut plain)? && leads_to_rows(alloc, &mut store)?)
+    append_rows(alloc, &mut store, scans)
+}
+
+/// Whether both bodies append them.
+fn both_append(alloc: Global, scans: &[Records]) -> Result<bool, Fail>
+    requires { AllByRecursion (λ records. length records < 2 ^ 32) scans.now }
+{
+    Ok(plain_appends(alloc, scans)? && is_appended(alloc, scans)?)
+}
+
+/// The same of both scans.
+fn both_lead_to_rows(alloc: Global) -> Result<bool, Fail> {
+    let scans = both_scans(alloc)?;
+    both_append(alloc, scans.as_slice())
 }
 
 #[test]

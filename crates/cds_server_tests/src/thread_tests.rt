@@ -1,9 +1,9 @@
 //! Workers beside one another.
 
-use crate::life::{NONE, Part, calls_of, door, lived, objects_of};
+use crate::life::{NONE, door, lived, outside_of};
 use crate::made::is_good;
 use cds_base::{Bytes, Door, Gate, Mem, Numbers};
-use cds_memory::{MemDoor, MemSink};
+use cds_memory::{MemDoor, MemOutside, MemSink};
 use std::alloc::Global;
 use std::marker::{Send, Sync};
 use std::sync::atomic::{AtomicU64, Ordering};
@@ -62,19 +62,45 @@ fn is_answered<R: Wait + Clone + Drop>(
     }
 }
 
+/// Whether a server that serves two connections over this outside ends well.
+fn is_well<R: Threads + Wait + Clone + Copy + Drop + Send + Sync + 'static>(
+    rt: R,
+    alloc: Global,
+    outside: &mut MemOutside<R>,
+    gate: &mut Turnstile,
+) -> bool {
+    let mut sink = MemSink::new(Bytes::new(alloc), Numbers::new(alloc));
+    lived(&rt, alloc, 2, outside, &mut sink, gate).status == 0
+}
+
+/// Whether one that serves those of a door does.
+fn serves_well<R: Threads + Wait + Clone + Copy + Drop + Send + Sync + 'static>(
+    rt: R,
+    alloc: Global,
+    door: MemDoor<R>,
+    gate: &mut Turnstile,
+) -> Result<bool, Fail> {
+    let mut outside = outside_of(alloc, NONE, door)?;
+    Ok(is_well(rt, alloc, &mut outside, gate))
+}
+
+/// Whether both connections of a door were answered.
+fn are_both_answered<R: Wait + Clone + Drop>(
+    door: &MemDoor<R>,
+    alloc: Global,
+) -> Result<bool, Mem> {
+    Ok(is_answered(door, alloc, 0)? && is_answered(door, alloc, 1)?)
+}
+
 /// Whether a server that serves two connections answers both of a door.
 fn are_answered<R: Threads + Wait + Clone + Copy + Drop + Send + Sync + 'static>(
     rt: R,
     alloc: Global,
     gate: &mut Turnstile,
 ) -> Result<bool, Fail> {
-    let fails = calls_of(alloc, NONE, Part::Outside)?;
     let mut shown = door(rt, alloc, NONE)?;
-    let theirs = shown.again()?;
-    let objects = objects_of(alloc, NONE, theirs)?;
-    let mut sink = MemSink::new(Bytes::new(alloc), Numbers::new(alloc));
-    let end = lived(&rt, alloc, 2, objects, fails, &mut sink, gate);
-    Ok(end.status == 0 && is_answered(&shown, alloc, 0)? && is_answered(&shown, alloc, 1)?)
+    let is_well = serves_well(rt, alloc, shown.again()?, gate)?;
+    Ok(is_well && are_both_answered(&shown, alloc)?)
 }
 
 /// Whether they are answered while worker 0 is held.

@@ -9,7 +9,7 @@ use Rattle.cds_memory.specs.contracts.folder.MemFolder as MemFolder
 use Rattle.cds_serve.specs.contracts.scanner.Scanner as Scanner
 use Rattle.cds_serve.proofs.Crossing.{scanner-send}
 use Rattle.cds_server_tests.specs.contracts.sharing_tests.Once as Once
-use Rattle.cds_server_tests.proofs.sharing_tests.scan_apart.Goals as goal
+use Rattle.cds_server_tests.proofs.sharing_tests.start_once.Goals as goal
 
 folder-send : IsSend MemFolder.the_row
 folder-send = search (crosses, sendable) depth 60 fits 20000
@@ -29,5 +29,5 @@ once-send R r = declared_send (Once.the_type R) (inner-send R r, tt)
 pub start-requires-send-J : goal.start-requires-send-J
 start-requires-send-J g c κs within = search (once-send, sendable) depth 20
 
-pub join-seat-requires-send-J : goal.join-seat-requires-send-J
-join-seat-requires-send-J g c κs within = search (once-send, sendable) depth 20
+pub join-requires-send-J : goal.join-requires-send-J
+join-requires-send-J g c κs within = search (once-send, sendable) depth 20
