@@ -1,7 +1,7 @@
 #!/usr/bin/env bash
 # Runs the program where it is built, which it is once it is proved. Where it is not, runs the same sources unproved, and
-# says so. `./cds --prove` proves every crate and builds it, which takes its minutes. `./cds --test` runs all tests and
-# examples unproved.
+# says so. `./cds --prove` proves every crate and builds it, which takes most of an hour where nothing is kept.
+# `./cds --test` runs the tests and most examples unproved.
 set -u
 top=$(cd "$(dirname "$0")" && pwd)
 crate=$top/crates/cds_cli
@@ -16,7 +16,7 @@ fi
 if [ -x "$program" ]; then
   exec "$program" "$@"
 fi
-echo "cds: running the sources unproved, by rt try; './cds --prove' proves and builds the program, which takes some minutes" >&2
+echo "cds: running the sources unproved, by rt try; './cds --prove' proves and builds the program, which takes most of an hour on a fresh machine" >&2
 if [ $# -eq 2 ] && [ "$1" = scan ]; then
   case $2 in
     /*) ;;

@@ -1,4 +1,4 @@
--- The words of what gives the objects of the outside.
+-- The words of the outside: what it is asked for, and how its calls end.
 use Rattle.std.specs.Prelude.{◌≡◌, ℕ, Bool, true, false, Result, Ok, Err, List}
 use Rattle.cds_base.specs.declared.outside.exterior.OutsideFault.{OutsideFault}
 use Rattle.cds_base.specs.declared.outside.exterior.OutsideFault.TheVariants.{Failed, Mem}
@@ -12,7 +12,7 @@ pub data Asked : Type 0 where
   ForDoor : ℕ → Asked
   ForSpawner : Asked
 
--- A count of faults after a call: it rose where the call failed, and stays where it did not.
+-- A count of faults after a call. If the call failed, the count rose; otherwise it stays.
 abbrev pub OutsideRose : {A : Type 0} → Result A OutsideFault → ℕ → ℕ → Type 0
 OutsideRose (Ok value) old new = new ≡ old
 OutsideRose (Err Failed) old new = Rose old new

@@ -3,8 +3,8 @@ use Rattle.std.specs.Prelude.{◌==◌, ℕ, nat_le, nat_lt, Bool, ◌&&◌, ◌
 use Rattle.std.specs.Int.{is_in_range}
 use Rattle.std.specs.Char.{is_ascii_alphabetic, is_ascii_digit}
 
--- A character that may stand in a document: tab, line feed, carriage return, and all from the space on but for
--- surrogates, U+FFFE and U+FFFF.
+-- A character that may stand in a document: tab, line feed, carriage return, and all from the space on except surrogates, U+FFFE
+-- and U+FFFF.
 abbrev pub is_allowed : ℕ → Bool
 is_allowed c = ((c == 9 || c == 10) || c == 13) || ((is_in_range 0x20 0xD7FF c || is_in_range 0xE000 0xFFFD c) || is_in_range 0x1_0000 0x10_FFFF c)
 
@@ -16,7 +16,7 @@ is_blank c = ((c == 32 || c == 9) || c == 10) || c == 13
 abbrev pub begins_name : ℕ → Bool
 begins_name c = (is_ascii_alphabetic c || c == 95) || (nat_le 128 c && is_allowed c)
 
--- A character that may stand inside a name: `-` and `.` and the digits besides.
+-- A character that may stand inside a name: one that may begin it, a digit, `-` or `.`.
 abbrev pub is_in_name : ℕ → Bool
 is_in_name c = begins_name c || ((is_ascii_digit c || c == 45) || c == 46)
 

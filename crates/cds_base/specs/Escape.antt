@@ -3,8 +3,8 @@ use Rattle.std.specs.Prelude.{◌==◌, ℕ, Bool, not, if◌then◌else◌, Lis
 use Rattle.std.specs.Str.{bytes_eq}
 use Rattle.std.specs.List.{flat_map}
 
--- What stands for a byte: an entity for the five characters of markup, a reference for the three that a reader of
--- an attribute would turn into spaces, and every other byte itself.
+-- What stands for a byte. It is an entity for the five characters of markup, and a reference for the three that a reader of an
+-- attribute would turn into spaces. Every other byte stands for itself.
 abbrev pub escaped_byte : ℕ → List ℕ
 escaped_byte b =
     if b == 38 then codes "&amp;"

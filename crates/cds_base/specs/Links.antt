@@ -5,7 +5,7 @@ use Rattle.cds_base.specs.declared.outside.link.LinkFault.TheVariants.{Failed, M
 use Rattle.cds_base.specs.declared.outside.link.LinkRequest.{LinkRequest}
 use Rattle.cds_base.specs.Outside.{Rose}
 
--- What was sent after an exchange: the request besides, but where memory ran out.
+-- The requests that were sent, after an exchange. The request of the exchange is added, except when memory ran out.
 abbrev pub requests_after : {A : Type 0} → Result A LinkFault → LinkRequest → List LinkRequest → List LinkRequest
 requests_after (Ok reply) request sent = sent ++ request ∷ []
 requests_after (Err Failed) request sent = sent ++ request ∷ []
@@ -20,21 +20,21 @@ IsFirstReply reply replies left = (others : List (List ℕ)) × (replies ≡ rep
 abbrev pub PassesFirst : ℕ → List (List ℕ) → Option (List (List ℕ)) → Type 0
 PassesFirst limit replies left = (reply : List ℕ) × (limit < length reply) × IsFirstReply reply replies left
 
--- What holds where a reply was too long.
+-- This holds if a reply was too long.
 abbrev pub WhereOver : {A : Type 0} → Result A LinkFault → Type 0 → Type 0
 WhereOver (Ok reply) P = Unit {0}
 WhereOver (Err Failed) P = Unit {0}
 WhereOver (Err Mem) P = Unit {0}
 WhereOver (Err Over) P = P
 
--- A count of faults after an exchange: it rose where the link failed or the reply was too long, and stays elsewhere.
+-- A count of faults after an exchange. If the link failed or the reply was too long, the count rose; otherwise it stays.
 abbrev pub LinkRose : {A : Type 0} → Result A LinkFault → ℕ → ℕ → Type 0
 LinkRose (Ok reply) old new = new ≡ old
 LinkRose (Err Failed) old new = Rose old new
 LinkRose (Err Mem) old new = new ≡ old
 LinkRose (Err Over) old new = Rose old new
 
--- Whether a link failed.
+-- Whether a link failed. A reply that is too long is no failure here.
 abbrev pub has_no_reply : {A : Type 0} → Result A LinkFault → Bool
 has_no_reply (Ok reply) = false
 has_no_reply (Err Failed) = true
@@ -43,7 +43,7 @@ has_no_reply (Err Over) = false
 
 -- What a link tells of itself.
 pub record LinkTold : Type 0 where
-  -- the requests that it sent and the replies that are left, where it tells them
+  -- the requests that it sent and the replies that are left, if it tells them
   pub requests : Option (List LinkRequest)
   pub replies : Option (List (List ℕ))
   -- how many faults there were

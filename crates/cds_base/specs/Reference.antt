@@ -5,12 +5,12 @@ use Rattle.std.specs.Str.{bytes_eq}
 use Rattle.cds_base.specs.Characters.{is_allowed}
 use Rattle.cds_base.specs.Number.{number_in}
 
--- The number after `#`: hexadecimal digits after an `x`, else decimal ones. Leading zeros are accepted.
+-- The number after `#`: hexadecimal digits after an `x`, decimal digits otherwise. Leading zeros are accepted.
 abbrev pub number_after_sign : List ℕ → Option ℕ
 number_after_sign [] = None
 number_after_sign (first ∷ rest) = if first == 120 then number_in 16 rest else number_in 10 (first ∷ rest)
 
--- The number that stands behind a `#`.
+-- The number that stands after a `#`.
 abbrev pub numbered : List ℕ → Option ℕ
 numbered [] = None
 numbered (first ∷ rest) = if first == 35 then number_after_sign rest else None
@@ -25,7 +25,7 @@ code_of name =
     else if bytes_eq name (codes "apos") then Some 39
     else numbered name
 
--- A code point, where it is an allowed character.
+-- A code point, if it is an allowed character.
 abbrev pub where_allowed : ℕ → Option ℕ
 where_allowed c = if is_allowed c then Some c else None
 
@@ -39,6 +39,6 @@ pub record IsReference (bytes : List ℕ) (character : ℕ) : Type 0 where
   pub form : bytes ≡ 38 ∷ (name ++ 59 ∷ [])
   pub names : named name ≡ Some character
 
--- No bytes at the front of these are a reference.
+-- No prefix of these bytes is a reference.
 abbrev pub BeginsNoReference : List ℕ → Type 0
 BeginsNoReference bytes = (n character : ℕ) → ¬ (IsReference (take n bytes) character)

@@ -1,4 +1,4 @@
--- What a text with references says, and where it first breaks the form of character data (XML 1.0).
+-- What a text with references says, and the place at which it first breaks the form of character data (XML 1.0).
 use Rattle.std.specs.Prelude.{◌≡◌, ◌==◌, ℕ, ◌<◌, Bool, ◌&&◌, ◌||◌, not, IsTrue, ◌⊎◌, List, ◌++◌, length, take, drop, map, slice_index, encode_utf8, true, ⊤}
 use Rattle.std.specs.List.{AllByRecursion, flat_map, list_all}
 use Rattle.std.specs.Str.{encode_utf8_all}
@@ -16,11 +16,11 @@ pub record Piece : Type 0 where
 abbrev pub is_literal : ℕ → Bool
 is_literal c = is_allowed c && not (c == 38 || c == 60)
 
--- A piece is such a character in UTF-8, or a reference.
+-- A piece is a character that says itself, in UTF-8, or a reference.
 abbrev pub IsPiece : Piece → Type 0
 IsPiece piece = (IsTrue (is_literal piece.says) × (piece.written ≡ encode_utf8 piece.says)) ⊎ IsReference piece.written piece.says
 
--- The text is pieces, one after the other, and the value is the characters that they say.
+-- The text is pieces, one after the other. The value is the characters that they say.
 pub record Says (text value : List ℕ) : Type 0 where
   pub pieces : List Piece
   pub each : AllByRecursion IsPiece pieces
@@ -31,14 +31,14 @@ pub record Says (text value : List ℕ) : Type 0 where
 abbrev pub ReadsTo : ℕ → List ℕ → Type 0
 ReadsTo at text = (value : List ℕ) × Says (take at text) value
 
--- Behind pieces, an `&` stands at the place that begins no reference.
+-- After pieces, an `&` stands at the place, and it begins no reference.
 pub record IsBadReference (text : List ℕ) (at : ℕ) : Type 0 where
   pub before : ReadsTo at text
   pub inside : at < length text
   pub ampersand : slice_index text at ≡ 38
   pub none : BeginsNoReference (drop at text)
 
--- Behind pieces, a character stands at the place that is `<` or none that is allowed.
+-- After pieces, a character stands at the place, and it is `<` or not allowed.
 pub record IsBadCharacter (text : List ℕ) (at : ℕ) : Type 0 where
   pub before : ReadsTo at text
   pub inside : at < length text
@@ -47,7 +47,7 @@ pub record IsBadCharacter (text : List ℕ) (at : ℕ) : Type 0 where
   pub here : drop at text ≡ encode_utf8 character ++ rest
   pub bad : IsTrue (character == 60 || not (is_allowed character))
 
--- What a refusal says of the text. Want of memory says nothing of it.
+-- What a refusal says of the text. If memory ran out, it says nothing.
 abbrev pub IsFault : List ℕ → TextError → Type 0
 IsFault text (BadReference at) = IsBadReference text at
 IsFault text (BadCharacter at) = IsBadCharacter text at

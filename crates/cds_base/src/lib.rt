@@ -1,5 +1,5 @@
-//! What every crate of Faroash stands on: texts and lists of the project's own, the outside (streams, folders, clocks,
-//! doors, links, threads), and the small functions on text.
+//! What every crate of Faroash stands on: texts and lists of the project's own, small functions on text, and the outside
+//! (streams, folders, clocks, doors, links, threads).
 #![tactic(auto)]
 
 mod limits;
@@ -9,12 +9,12 @@ mod outside;
 mod sequence;
 mod text;
 
-pub use limits::INPUT_LIMIT;
+pub use limits::{INPUT_LIMIT, input_limit_is_64_mib};
 pub use mem::Mem;
 pub use outside::{
     Attempt, Clock, Conn, Door, Entry, Failed, Folder, FolderFault, Gate, Job, Link, LinkFault,
-    LinkRequest, NoGate, Outside, OutsideFault, Running, Sink, Source, Spawner, Trace, empty_piece,
-    read_piece, write_all,
+    LinkRequest, NoGate, Outside, OutsideFault, Running, Runtime, Sink, Source, Spawner, Trace,
+    empty_piece, read_piece, write_all,
 };
 pub use sequence::Sequence;
 pub use text::{

@@ -1,10 +1,12 @@
+//! The fault of a call that runs out of memory.
+
 ghost use Rattle.std.specs.Prelude.{⊤};
 
 use std::alloc::{AllocError, AllocFailed};
 use std::error::Error;
 use std::fmt;
 
-/// Memory ran out. It may stand in place of any other answer of a call that takes memory.
+/// Memory ran out. A call that takes memory may give this in place of any other answer.
 #[derive(Clone, Copy, Debug, PartialEq, Eq)]
 pub struct Mem;
 

@@ -1,4 +1,5 @@
-//! Texts and lists compared as std compares `str` and slices: the first pair that differs decides, else the lengths do.
+//! The order of texts and lists. They are compared as std compares `str` and slices: the first pair that differs decides,
+//! otherwise the lengths do.
 
 ghost use Rattle.std.specs.Prelude.{◌==◌};
 ghost use Rattle.std.specs.Ordering.{nat_cmp, as_partial_cmp};

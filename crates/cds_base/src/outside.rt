@@ -1,7 +1,7 @@
-//! Streams that may fail, and what else is outside: folders, clocks, connections, doors, links and threads.
+//! Streams that may fail, and the rest of the outside: folders, clocks, connections, doors, links and threads.
 
-ghost use Rattle.std.specs.Prelude.{◌≡◌, ℕ, ◌<◌, ◌≤◌, ◌⊎◌, Option, Some, List, [], ◌++◌, length, take, drop, IfOk, OnOk, OnErr};
-ghost use Rattle.cds_base.specs.Outside.{raised, Rose, Told, HoldsPart};
+ghost use Rattle.std.specs.Prelude.{◌≡◌, ◌<◌, ◌≤◌, ◌⊎◌, Some, [], ◌++◌, length, take, drop, IfOk, OnOk, OnErr};
+ghost use Rattle.cds_base.specs.Outside.{HoldsPart, Rose, SinkTold, SourceTold, Told, raised};
 
 mod clock;
 mod conn;
@@ -22,7 +22,7 @@ pub use folder::{Entry, Folder, FolderFault};
 pub use gate::{Gate, NoGate};
 pub use link::{Link, LinkFault, LinkRequest};
 pub use reading::{empty_piece, read_piece};
-pub use spawner::{Attempt, Job, Running, Spawner};
+pub use spawner::{Attempt, Job, Running, Runtime, Spawner};
 use std::error::Error;
 use std::fmt;
 pub use trace::Trace;
@@ -39,57 +39,47 @@ impl fmt::Display for Failed {
 
 impl Error for Failed {}
 
-/// A stream of bytes that is read from its front.
+/// A stream of bytes that is read from its beginning.
 pub trait Source {
-    // The bytes that are left, where the source tells them.
-    ghost left: { Self → Option (List ℕ) };
+    // What it tells of itself.
+    ghost told: { Self → SourceTold };
 
-    // How many bytes it gave so far.
-    ghost moved: { Self → ℕ };
-
-    // How many calls failed so far.
-    ghost faults: { Self → ℕ };
-
-    /// Moves a front part of what is left into the front of `into`, and answers how many bytes that are. 0 for an
-    /// `into` that is not empty says that none are left, where the source tells its bytes.
+    /// Moves a prefix of the bytes left to the beginning of `into`, and returns its length. If `into` has room and the source
+    /// tells its bytes, 0 says that none are left.
     fn read(&mut self, into: &mut [u8]) -> Result<usize, Failed>
         ensures room { IfOk result (λ n. n ≤ length into.old) }
-        ensures count { IfOk result (λ n. moved self.new ≡ raised (moved self.old) n) }
-        ensures enough { IfOk result (λ n. Told (left self.old) (λ bytes. n ≤ length bytes)) }
-        ensures content { IfOk result (λ n. Told (left self.old) (λ bytes. take n into.new ≡ take n bytes)) }
-        ensures rest { IfOk result (λ n. Told (left self.old) (λ bytes. left self.new ≡ Some (drop n bytes))) }
-        ensures end { IfOk result (λ n. n ≡ 0 → Told (left self.old) (λ bytes. (length into.old ≡ 0) ⊎ (bytes ≡ []))) }
-        ensures rose { OnErr result (Rose (faults self.old) (faults self.new)) }
-        ensures count_stays { OnErr result (moved self.new ≡ moved self.old) }
-        ensures rest_stays { OnErr result (Told (left self.old) (λ bytes. left self.new ≡ Some bytes)) }
-        ensures never_falls { faults self.old ≤ faults self.new };
+        ensures count { IfOk result (λ n. (told self.new).moved ≡ raised (told self.old).moved n) }
+        ensures enough { IfOk result (λ n. Told (told self.old).left (λ bytes. n ≤ length bytes)) }
+        ensures content { IfOk result (λ n. Told (told self.old).left (λ bytes. take n into.new ≡ take n bytes)) }
+        ensures rest { IfOk result (λ n. Told (told self.old).left (λ bytes. (told self.new).left ≡ Some (drop n bytes))) }
+        ensures end { IfOk result (λ n. n ≡ 0 → Told (told self.old).left (λ bytes. (length into.old ≡ 0) ⊎ (bytes ≡ []))) }
+        ensures rose { OnErr result (Rose (told self.old).faults (told self.new).faults) }
+        ensures count_stays { OnErr result ((told self.new).moved ≡ (told self.old).moved) }
+        ensures rest_stays { OnErr result (Told (told self.old).left (λ bytes. (told self.new).left ≡ Some bytes)) }
+        ensures never_falls { (told self.old).faults ≤ (told self.new).faults };
 }
 
 /// A stream of bytes that is written at its end.
 pub trait Sink {
-    // The bytes that it took so far, where the sink tells them.
-    ghost holds: { Self → Option (List ℕ) };
+    // What it tells of itself.
+    ghost told: { Self → SinkTold };
 
-    // How many calls failed so far.
-    ghost faults: { Self → ℕ };
-
-    /// Takes a front part of the piece, and answers how many bytes that are: at least one of a piece that is not
-    /// empty.
+    /// Takes a prefix of the piece, and returns its length: at least 1 if the piece is not empty.
     fn write(&mut self, piece: &[u8]) -> Result<usize, Failed>
         ensures room { IfOk result (λ n. n ≤ length piece.now) }
         ensures some { IfOk result (λ n. 0 < length piece.now → 0 < n) }
-        ensures content { IfOk result (λ n. Told (holds self.old) (λ bytes. holds self.new ≡ Some (bytes ++ take n piece.now))) }
-        ensures rose { OnErr result (Rose (faults self.old) (faults self.new)) }
-        ensures stays { OnErr result (Told (holds self.old) (λ bytes. holds self.new ≡ Some bytes)) }
-        ensures never_falls { faults self.old ≤ faults self.new };
+        ensures content { IfOk result (λ n. Told (told self.old).holds (λ bytes. (told self.new).holds ≡ Some (bytes ++ take n piece.now))) }
+        ensures rose { OnErr result (Rose (told self.old).faults (told self.new).faults) }
+        ensures stays { OnErr result (Told (told self.old).holds (λ bytes. (told self.new).holds ≡ Some bytes)) }
+        ensures never_falls { (told self.old).faults ≤ (told self.new).faults };
 }
 
-/// Writes the whole piece. After a failure some front part of it may have been taken.
+/// Writes the whole piece. After a failure, a prefix of it may have been taken.
 pub fn write_all<K: Sink>(sink: &mut K, piece: &[u8]) -> Result<(), Failed>
-    ensures content { OnOk result (Told (K.holds sink.old) (λ bytes. K.holds sink.new ≡ Some (bytes ++ piece.now))) }
-    ensures part { OnErr result (Told (K.holds sink.old) (λ bytes. HoldsPart bytes piece.now (K.holds sink.new))) }
-    ensures rose { OnErr result (Rose (K.faults sink.old) (K.faults sink.new)) }
-    ensures never_falls { K.faults sink.old ≤ K.faults sink.new }
+    ensures content { OnOk result (Told (K.told sink.old).holds (λ bytes. (K.told sink.new).holds ≡ Some (bytes ++ piece.now))) }
+    ensures part { OnErr result (Told (K.told sink.old).holds (λ bytes. HoldsPart bytes piece.now (K.told sink.new).holds)) }
+    ensures rose { OnErr result (Rose (K.told sink.old).faults (K.told sink.new).faults) }
+    ensures never_falls { (K.told sink.old).faults ≤ (K.told sink.new).faults }
 {
     let mut at = 0;
     while at < piece.len() {

@@ -35,7 +35,7 @@ impl Model for Text {
 }
 
 impl Text {
-    /// A text with these bytes.
+    /// Makes a text with these bytes.
     pub fn read(alloc: Global, text: &str) -> Result<Self, Mem>
         ensures { IfOk result (λ copy. copy ≡ text.now) }
     {
@@ -43,21 +43,21 @@ impl Text {
         Ok(Text { value })
     }
 
-    /// The text as std has it.
+    /// Returns the text, as std has it.
     pub fn as_str(&self) -> &str
         ensures { result.now ≡ self.now }
     {
         self.value.as_str()
     }
 
-    /// How many bytes there are.
+    /// Returns how many bytes there are.
     pub fn len(&self) -> usize
         ensures { result ≡ length self.now }
     {
         self.value.len()
     }
 
-    /// An equal text.
+    /// Returns an equal text.
     pub fn copy(&self, alloc: Global) -> Result<Self, Mem>
         ensures { IfOk result (λ copy. copy ≡ self.now) }
     {

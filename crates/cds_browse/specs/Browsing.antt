@@ -1,5 +1,5 @@
--- What Browse is answered with, counted over all rows (UPnP ContentDirectory:4 on Browse; the order of checks, the form of
--- ids and the longest page are this project's profile).
+-- What Browse is answered with, counted over all rows (UPnP ContentDirectory:4 on Browse). The order of checks, the form of ids
+-- and the longest page are this project's profile.
 use Rattle.std.specs.Prelude.{◌≡◌, ◌⊎◌, ℕ, Bool, true, cond, nat_eq, min, List, [], ◌∷◌, map, filter, take, drop, length, codes}
 use Rattle.std.specs.Prelude.{Option, Some, None, Result, Ok, Err}
 use Rattle.std.specs.List.{find}
@@ -16,7 +16,6 @@ use Rattle.cds_browse.specs.declared.error.BrowseError.{BrowseError}
 use Rattle.cds_browse.specs.declared.error.BrowseError.TheVariants.{InvalidArgs, NoObject, NoContainer, BadSort, Mem}
 use Rattle.cds_browse.specs.declared.page.Target.{Target}
 use Rattle.cds_browse.specs.declared.page.Target.TheVariants.{Itself, Children}
-use Rattle.cds_browse.specs.declared.page.TheConstants.{PAGE_LIMIT}
 
 -- ---- what is asked
 
@@ -25,7 +24,7 @@ abbrev pub target_named : List ℕ → Option Target
 target_named flag =
     cond (bytes_eq flag (codes "BrowseMetadata")) (Some Itself) (cond (bytes_eq flag (codes "BrowseDirectChildren")) (Some Children) None)
 
--- an object itself has no further rows to begin at
+-- An object itself can be asked only from the place 0.
 abbrev pub target_at : ℕ → Option Target → Option Target
 target_at start None = None
 target_at start (Some Itself) = cond (nat_eq start 0) (Some Itself) None
@@ -34,7 +33,7 @@ target_at start (Some Children) = Some Children
 abbrev pub target_asked : BrowseRequest → Option Target
 target_asked asked = target_at asked.start (target_named asked.flag)
 
--- the object whose id a text is in plain decimal
+-- the object whose id is this text, in plain decimal
 abbrev pub has_id_text : List ℕ → ObjectRow → Bool
 has_id_text text row = bytes_eq text (decimal row.id)
 
@@ -46,8 +45,8 @@ abbrev pub can_answer : Target → ObjectRow → Bool
 can_answer Itself row = true
 can_answer Children row = is_folder row.content
 
--- the order that sort criteria name; no criterion is built yet, so every text but the empty one is out of its form at its
--- start
+-- The order that sort criteria name. No criterion is built yet, so every text except the empty one is out of its form at the
+-- place 0.
 abbrev pub keys_read : List ℕ → Result SortKeys BrowseError
 keys_read [] = Ok ById
 keys_read (b ∷ text) = Err (BadSort 0)
@@ -59,19 +58,23 @@ abbrev pub matches : Target → ObjectRow → List ObjectRow → List ObjectRow
 matches Itself row rows = filter (λ other. nat_eq other.id row.id) rows
 matches Children row rows = children_of row.id rows
 
--- rows, which stand in ascending order of ids, in the order that is asked for; equal ones stay in that of ids
+-- Rows in the order that is asked for, from rows in ascending order of ids. Equal rows stay in the order of ids.
 abbrev pub ordered : SortKeys → List ObjectRow → List ObjectRow
 ordered ById rows = rows
 
--- how many rows a page has at most: none given stands for the longest
+-- the number of rows of the longest page
+abbrev pub longest_page : ℕ
+longest_page = 4096
+
+-- the largest number of rows of a page; a count of 0 stands for the longest page
 abbrev pub most_rows : ℕ → ℕ
-most_rows count = cond (nat_eq count 0) PAGE_LIMIT (min count PAGE_LIMIT)
+most_rows count = cond (nat_eq count 0) longest_page (min count longest_page)
 
 abbrev pub holder_of : Option ℕ → List ObjectRow → Option ObjectRow
 holder_of None rows = None
 holder_of (Some parent) rows = row_of parent rows
 
--- the container whose changes an object's update number tells of: a container itself, and the parent of a track
+-- The container whose changes an object's update number tells of: a container itself, and the parent of a track.
 abbrev pub told_of : ObjectRow → List ObjectRow → Option ObjectRow
 told_of row rows = cond (is_folder row.content) (Some row) (holder_of row.parent rows)
 
@@ -83,12 +86,12 @@ abbrev pub container_update_of : Option ObjectRow → ℕ
 container_update_of None = 0
 container_update_of (Some row) = container_update_in row.trackers
 
--- the update number of an object: for the root the server's number, for another container its containerUpdateID, for a
--- track that of its parent
+-- The update number of an object. For the root it is the server's number, for another container its containerUpdateID, and for a
+-- track that of its parent.
 abbrev pub update_of : ℕ → ObjectRow → List ObjectRow → ℕ
 update_of number row rows = cond (nat_eq row.id 0) number (container_update_of (told_of row rows))
 
--- the slice of the rows that match, in their order; all that match; and the update number
+-- the ids of the slice of the rows that match, in their order; how many match in all; and the update number
 abbrev pub page_of : ℕ → List ObjectRow → Target → ObjectRow → SortKeys → BrowseRequest → Page
 page_of number rows target row keys asked = record {
   ids = map (λ (r : ObjectRow). r.id) (take (most_rows asked.count) (drop asked.start (ordered keys (matches target row rows))));
@@ -111,15 +114,15 @@ abbrev pub target_answer : ℕ → List ObjectRow → BrowseRequest → Option T
 target_answer number rows asked None = Err InvalidArgs
 target_answer number rows asked (Some target) = row_answer number rows asked target (row_named asked.object rows)
 
--- what Browse is answered with, where the newest number and all rows, in ascending order of ids, are these
+-- what Browse is answered with, if this is the newest number and these are all rows in ascending order of ids
 abbrev pub browse_answer : ℕ → List ObjectRow → BrowseRequest → Result Page BrowseError
 browse_answer number rows asked = target_answer number rows asked (target_asked asked)
 
--- a refusal is the answer that is owed; want of memory may stand in place of any answer
+-- A refusal is the answer that is owed. `Mem` may stand in place of any answer.
 abbrev pub IsOwed : Result Page BrowseError → BrowseError → Type 0
 IsOwed answer error = (error ≡ Mem) ⊎ (answer ≡ Err error)
 
--- an answer is the one that is owed, or want of memory
+-- An answer is the one that is owed, or `Mem`.
 abbrev pub Answers : Result Page BrowseError → Result Page BrowseError → Type 0
 Answers owed (Ok page) = owed ≡ Ok page
 Answers owed (Err error) = IsOwed owed error

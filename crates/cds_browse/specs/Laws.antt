@@ -1,4 +1,4 @@
--- What is said of pages besides their definition.
+-- Laws of pages, beside their definition.
 use Rattle.std.specs.Prelude.{◌≡◌, ◌+◌, ◌≤◌, ◌<◌, ℕ, List, [], ◌∷◌, map, length, take, Some, Ok}
 use Rattle.std.specs.List.{flat_map, AllPairs}
 use Rattle.cds_object.specs.Object.{ObjectRow}
@@ -12,8 +12,7 @@ use Rattle.cds_browse.specs.Browsing.{target_named, row_named, browse_answer}
 abbrev pub child_ids : ℕ → List ObjectRow → List ℕ
 child_ids id rows = map (λ (r : ObjectRow). r.id) (children_of id rows)
 
--- pages that are asked one after the other, each from the place at which those before it ended, whatever rows each was to
--- have at most
+-- Pages are asked one after the other. Each begins at the place at which those before it ended, and has a count of its own.
 abbrev pub InTurn : ℕ → List ObjectRow → BrowseRequest → ℕ → List (ℕ × Page) → Type 0
 InTurn number rows asked start [] = Unit {0}
 InTurn number rows asked start (next ∷ others) =
@@ -24,8 +23,8 @@ InTurn number rows asked start (next ∷ others) =
 abbrev pub shown_by : List (ℕ × Page) → List ℕ
 shown_by pages = flat_map (λ next. next.1.ids) pages
 
--- pages of a container's children, one after the other from the first place on, show the first of its children, each once
--- and in order; once they are as many as the total, they show all children
+-- Pages of a container's children, one after the other from the first place on, show the first of its children, each once and in
+-- order. Once they are as many as the total, they show all children.
 pub record ShowsEach (rows : List ObjectRow) (container : ObjectRow) (pages : List (ℕ × Page)) : Type 0 where
   pub first : shown_by pages ≡ take (length (shown_by pages)) (child_ids container.id rows)
   pub rising : AllPairs (λ (one later : ℕ). one < later) (shown_by pages)
@@ -37,8 +36,8 @@ pages_show_each_child_once =
     target_named asked.flag ≡ Some Children → row_named asked.object rows ≡ Some container → InTurn number rows asked 0 pages →
     ShowsEach rows container pages
 
--- a page has at most the rows that were asked for, where any count was given, and at most 4,096; it has none only where it
--- begins at the total or behind it
+-- A page has at most 4,096 rows, and no more than the total. If a count above 0 was asked for, it has at most that many. It has
+-- no row only if it begins at the total or after it.
 pub record IsBounded (asked : BrowseRequest) (page : Page) : Type 0 where
   pub longest : length page.ids ≤ 4096
   pub counted : 0 < asked.count → length page.ids ≤ asked.count
@@ -50,7 +49,7 @@ pages_are_bounded =
     (number : ℕ) (rows : List ObjectRow) (asked : BrowseRequest) (page : Page) → browse_answer number rows asked ≡ Ok page →
     IsBounded asked page
 
--- the page of an object itself is its one row, whatever count is asked for
+-- The page of an object itself is its one row, whatever count is asked for.
 abbrev pub an_object_is_one_row : Type 0
 an_object_is_one_row =
     (number : ℕ) (rows : List ObjectRow) (asked : BrowseRequest) (row : ObjectRow) (page : Page) → IdsAscend rows →

@@ -15,12 +15,12 @@ abbrev pub after_scans : History → List (List Record) → History
 after_scans history [] = history
 after_scans history (records ∷ scans) = after_scans (after_scan history records) scans
 
--- each of them is accepted
+-- Each of the scans is accepted.
 abbrev pub AllAccepted : History → List (List Record) → Type 0
 AllAccepted history [] = Unit {0}
 AllAccepted history (records ∷ scans) = (scan_answer history records ≡ Accepted) × AllAccepted (after_scan history records) scans
 
--- some scans were taken, and the next one was not, for this reason; or memory ran out
+-- Some scans were taken. The next one was not, for this reason, or because memory ran out.
 pub record Stopped (history : History) (scans : List (List Record)) (refusal : ApplyError) (now : Stored) : Type 0 where
   pub taken : List (List Record)
   pub next : List Record
@@ -30,13 +30,13 @@ pub record Stopped (history : History) (scans : List (List Record)) (refusal : A
   pub refused : IsRefusal (after_scans history taken) next refusal
   pub stands : StandsFor now (after_scans history taken)
 
--- all scans were taken, and memory ran out for the text
+-- All scans were taken, and memory ran out for the text.
 pub record Unwritten (history : History) (scans : List (List Record)) (now : Stored) : Type 0 where
   pub accepted : AllAccepted history scans
   pub stands : StandsFor now (after_scans history scans)
 
--- what comes of scans: all are accepted, and the fragments of all rows after them are appended; or one is refused, those
--- before it are kept, and nothing is appended
+-- What comes of scans. Either all are accepted, and the fragments of all rows after them are appended. Or one is refused, those
+-- before it are kept, and nothing is appended. If memory runs out for the text, all are kept and nothing is appended.
 abbrev pub Ran : {A : Type 0} → History → List (List Record) → Result A ApplyError → Stored → List ℕ → List ℕ → Type 0
 Ran history scans (Ok done) now old new =
     AllAccepted history scans × StandsFor now (after_scans history scans) × (new ≡ old ++ full_text (catalog (after_scans history scans)))

@@ -1,4 +1,4 @@
-//! Browse over a catalog.
+//! Browse over a catalog: the checks, and the page.
 
 ghost use Rattle.std.specs.Prelude.{◌≡◌, ◌∷◌, [], true, Some, map, length, take, drop, IfOk, option_copied, codes};
 ghost use Rattle.std.specs.Str.{bytes_eq};
@@ -19,10 +19,13 @@ use cds_soap::BrowseRequest;
 use cds_store::Keeping;
 use std::alloc::Global;
 
-/// The page that Browse asks for, over the rows that are kept. Checks in this order: `InvalidArgs` exactly where the flag is
-/// neither `BrowseMetadata` nor `BrowseDirectChildren`, or the object itself is asked from a place above 0; `NoObject`
-/// exactly where no object has the id, in plain decimal; `NoContainer` exactly where children of a track are asked;
-/// `BadSort` exactly where `SortKeys::read` refuses the sort criteria.
+/// Returns the page that Browse asks for, over the rows that are kept. The checks come in this order:
+///
+/// - `InvalidArgs` exactly if the flag is neither `BrowseMetadata` nor `BrowseDirectChildren`, or if the object itself is asked
+///   from a place above 0.
+/// - `NoObject` exactly if no object has the id, in plain decimal.
+/// - `NoContainer` exactly if children of a track are asked.
+/// - `BadSort` exactly if `SortKeys::read` refuses the sort criteria.
 pub fn browse<K: Keeping>(
     alloc: Global,
     keeping: &K,
@@ -35,7 +38,7 @@ pub fn browse<K: Keeping>(
     answer(alloc, keeping, asked)
 }
 
-/// The page, or the refusal, by the checks in their order.
+/// Returns the page, or the refusal, by the checks in their order.
 fn answer<K: Keeping>(
     alloc: Global,
     keeping: &K,
@@ -60,7 +63,7 @@ fn answer<K: Keeping>(
     Ok(page)
 }
 
-/// What is asked of an object, by the flag.
+/// Returns what is asked of an object, by the flag.
 fn target_named(flag: &str) -> Option<Target>
     ensures { result ≡ target_named flag.now }
 {
@@ -73,7 +76,7 @@ fn target_named(flag: &str) -> Option<Target>
     }
 }
 
-/// What is asked of an object, where it can be asked from this place on.
+/// Returns what is asked of an object, if it can be asked from this place on.
 fn target_asked(asked: &BrowseRequest) -> Option<Target>
     ensures { result ≡ target_asked asked.now }
 {
@@ -88,7 +91,7 @@ fn target_asked(asked: &BrowseRequest) -> Option<Target>
     }
 }
 
-/// Whether a text is a number in plain decimal.
+/// Returns whether a text is a number in plain decimal.
 fn is_decimal_of(alloc: Global, text: &str, number: u32) -> Result<bool, Mem>
     ensures { IfOk result (λ is. is ≡ bytes_eq text.now (decimal number)) }
 {
@@ -97,7 +100,7 @@ fn is_decimal_of(alloc: Global, text: &str, number: u32) -> Result<bool, Mem>
     Ok(text == written.as_str())
 }
 
-/// The row of the object whose id a text is.
+/// Returns the row of the object whose id is this text.
 fn named<'a, K: Keeping>(alloc: Global, keeping: &'a K, text: &str) -> Result<Option<&'a Row>, Mem>
     ensures { IfOk result (λ row. option_copied row ≡ row_named text.now (kept_rows (K.stored keeping.now))) }
 {
@@ -113,7 +116,7 @@ fn named<'a, K: Keeping>(alloc: Global, keeping: &'a K, text: &str) -> Result<Op
     }
 }
 
-/// Whether an object has what is asked of it.
+/// Returns whether an object has what is asked of it.
 fn can_answer(target: Target, row: &Row) -> bool
     ensures { result ≡ can_answer target row.now }
 {
@@ -123,7 +126,7 @@ fn can_answer(target: Target, row: &Row) -> bool
     }
 }
 
-/// How many rows a page has at most.
+/// Returns the largest number of rows of a page, for a count. A count of 0 stands for the longest page.
 fn most_rows(count: u32) -> u32
     ensures { result ≡ most_rows count }
 {
@@ -134,7 +137,7 @@ fn most_rows(count: u32) -> u32
     }
 }
 
-/// The row of a row's parent.
+/// Returns the row of a row's parent.
 fn holder_of<'a, K: Keeping>(keeping: &'a K, row: &Row) -> Option<&'a Row>
     ensures { option_copied result ≡ holder_of row.now.parent (kept_rows (K.stored keeping.now)) }
 {
@@ -144,7 +147,7 @@ fn holder_of<'a, K: Keeping>(keeping: &'a K, row: &Row) -> Option<&'a Row>
     }
 }
 
-/// The containerUpdateID that a row has; 0 where there is none.
+/// Returns the containerUpdateID of a row, and 0 if it has none.
 fn container_update_in(row: &Row) -> u32
     ensures { result ≡ container_update_in row.now.trackers }
 {
@@ -154,7 +157,7 @@ fn container_update_in(row: &Row) -> u32
     }
 }
 
-/// The containerUpdateID of a container; 0 where there is none.
+/// Returns the containerUpdateID of a container, and 0 if there is none.
 fn container_update_of(row: Option<&Row>) -> u32
     ensures { result ≡ container_update_of (option_copied row.entry) }
 {
@@ -164,7 +167,7 @@ fn container_update_of(row: Option<&Row>) -> u32
     }
 }
 
-/// The update number of an object.
+/// Returns the update number of an object.
 fn update_of<K: Keeping>(keeping: &K, row: &Row) -> u32
     ensures { result ≡ update_of (K.stored keeping.now).standing.number row.now (kept_rows (K.stored keeping.now)) }
 {
@@ -177,7 +180,7 @@ fn update_of<K: Keeping>(keeping: &K, row: &Row) -> u32
     }
 }
 
-/// The page of an object's own row.
+/// Returns the page of an object's own row.
 fn itself(alloc: Global, id: u32, update: u32) -> Result<Page, Mem>
     ensures { IfOk result (λ page. page ≡ record { ids = id ∷ []; total = 1; update = update }) }
 {
@@ -190,7 +193,7 @@ fn itself(alloc: Global, id: u32, update: u32) -> Result<Page, Mem>
     })
 }
 
-/// The page of a container's children, in ascending order of ids.
+/// Returns the page of a container's children, in ascending order of ids.
 fn children<K: Keeping>(
     alloc: Global,
     keeping: &K,
@@ -215,7 +218,7 @@ fn children<K: Keeping>(
     })
 }
 
-/// The page that is asked of an object that has it.
+/// Returns the page that is asked of an object. The object must have what is asked.
 fn page_of<K: Keeping>(
     alloc: Global,
     keeping: &K,

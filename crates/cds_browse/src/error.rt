@@ -1,3 +1,5 @@
+//! Why Browse has no page.
+
 ghost use Rattle.cds_browse.specs.declared.error.BrowseError.TheVariants.{Mem};
 ghost use Rattle.std.specs.Prelude.{◌≡◌};
 
@@ -6,7 +8,7 @@ use thiserror::Error;
 /// Why Browse has no page.
 #[derive(Clone, Copy, Debug, PartialEq, Eq, Error)]
 pub enum BrowseError {
-    /// The flag is none of the two, or rows of the object itself are asked from a later place on.
+    /// The flag is neither of the two, or rows of the object itself are asked from a later place on.
     #[error("arguments of another form")]
     InvalidArgs,
     /// No object has the id.

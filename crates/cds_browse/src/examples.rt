@@ -2,7 +2,7 @@
 
 ghost use Rattle.cds_browse.specs.Evaluated.{PagesAreCounted};
 
-/// Pages and refusals over a folder with one track.
+/// Shows pages and refusals over a folder with one track.
 pub fn pages_are_counted()
     ensures { PagesAreCounted }
 {}

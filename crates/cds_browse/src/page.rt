@@ -1,8 +1,8 @@
-//! Pages of rows.
+//! Pages of rows, and what is asked of an object.
 
 use cds_base::Numbers;
 
-/// How many rows a page has at most.
+/// The largest number of rows of a page.
 pub const PAGE_LIMIT: u32 = 4096;
 
 /// What is asked of an object (UPnP ContentDirectory:4 on BrowseFlag).
@@ -14,8 +14,8 @@ pub(crate) enum Target {
     Children,
 }
 
-/// The ids of a page's rows in their order, how many rows match in all, and the update number of the object that was asked
-/// for (UPnP ContentDirectory:4 on TotalMatches and UpdateID).
+/// A page: the ids of its rows in their order, how many rows match in all, and an update number. The update number is that of the
+/// object that was asked for (UPnP ContentDirectory:4 on TotalMatches and UpdateID).
 #[derive(Drop, Debug)]
 pub struct Page {
     pub ids: Numbers,

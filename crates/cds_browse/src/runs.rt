@@ -14,8 +14,8 @@ use cds_object::{Records, Row};
 use cds_store::{ApplyError, Keeping};
 use std::alloc::Global;
 
-/// Takes scans in their order, and appends the fragments of all rows after them in ascending order of ids, each ended by LF.
-/// It stops at the first refusal and answers it, with nothing appended and the scans before it kept.
+/// Takes scans in their order, and appends the fragments of all rows after them in ascending order of ids, each ended by LF. It
+/// stops at the first refusal and returns it. Then nothing is appended, and the scans before it are kept.
 pub fn run_scans<K: Keeping>(
     alloc: Global,
     keeping: &mut K,
@@ -41,7 +41,7 @@ fn append(text: &str, out: &mut Vec<u8>) -> Result<(), Mem>
     Ok(())
 }
 
-/// Takes scans in their order up to the first that is refused.
+/// Takes scans in their order, up to the first that is refused.
 fn take_all<K: Keeping>(alloc: Global, keeping: &mut K, scans: &[Records]) -> Result<(), ApplyError>
     requires { AllByRecursion (λ records. length records < 2 ^ 32) scans.now }
     ensures taken { (history : History) → StandsFor (K.stored keeping.old) history →
@@ -55,7 +55,7 @@ fn take_all<K: Keeping>(alloc: Global, keeping: &mut K, scans: &[Records]) -> Re
     Ok(())
 }
 
-/// The fragments of all rows, each ended by LF.
+/// Returns the fragments of all rows, each ended by LF.
 fn rows_text<K: Keeping>(alloc: Global, keeping: &K) -> Result<String, Mem>
     ensures { IfOk result (λ text. string_bytes text ≡ full_text (kept_rows (K.stored keeping.now))) }
 {
@@ -68,7 +68,7 @@ fn rows_text<K: Keeping>(alloc: Global, keeping: &K) -> Result<String, Mem>
     Ok(text)
 }
 
-/// Puts the fragment of a row, ended by LF.
+/// Appends the fragment of a row, ended by LF.
 fn put_row(text: &mut String, row: &Row) -> Result<(), Mem>
     ensures { OnOk result (string_bytes text.new ≡ string_bytes text.old ++ full_text (row.now ∷ [])) }
 {

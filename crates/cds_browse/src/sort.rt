@@ -1,4 +1,4 @@
-//! Sort criteria.
+//! Sort criteria, and the order that they name.
 
 ghost use Rattle.std.specs.Prelude.{◌≡◌};
 ghost use Rattle.cds_browse.specs.Browsing.{keys_read};
@@ -13,8 +13,8 @@ pub enum SortKeys {
 }
 
 impl SortKeys {
-    /// Reads sort criteria. `BadSort` exactly where they are out of their form, with the place of what is: until criteria
-    /// are built, 0 at every text but the empty one.
+    /// Reads sort criteria. `BadSort` comes exactly if they are out of their form, with the place of the fault. Until criteria
+    /// are built, that is place 0 of every text except the empty one.
     pub fn read(text: &str) -> Result<SortKeys, BrowseError>
         ensures { result ≡ keys_read text.now }
     {

@@ -1,5 +1,5 @@
--- The catalog, counted afresh over the newest folder map and all changes (UPnP ContentDirectory:4 on object ids,
--- objectUpdateID, containerUpdateID and totalDeletedChildCount; this project's profile where it leaves a choice).
+-- The catalog, counted afresh over the newest folder map and all changes (UPnP ContentDirectory:4 on object ids, objectUpdateID,
+-- containerUpdateID and totalDeletedChildCount; this project's profile if that leaves a choice).
 use Rattle.std.specs.Prelude.{◌+◌, ℕ, cond, nat_le, nat_lt, max, List, [], ◌∷◌, map, length, Option, Some, None, codes}
 use Rattle.std.specs.List.{count_by}
 use Rattle.cds_object.specs.Path.{same_path, parent_of}
@@ -83,8 +83,8 @@ placed_rows history =
 abbrev pub catalog : History → List ObjectRow
 catalog history = map (λ placed. placed.1) (placed_rows history)
 
--- the catalog that stands at a number: that of the newest scan whose end is not above it, and before all scans the
--- root's alone
+-- the catalog that stands at a number: that of the newest scan whose end is not above it. Before all scans it is the root's row
+-- alone
 abbrev pub catalog_at : ℕ → List FolderMap → ℕ → List ObjectRow
 catalog_at first [] number = catalog (record { first = first; maps = [] })
 catalog_at first (library ∷ older) number =

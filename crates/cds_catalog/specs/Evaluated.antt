@@ -65,8 +65,8 @@ abbrev pub kind_change_draws_a_new_id : Type 0
 kind_change_draws_a_new_id = let h : History = record { first = 0; maps = folder_and_track ∷ two_tracks ∷ [] } in
     (end_of h ≡ 4) × (outlines h ≡ (0, None, 0, 4 ∷ 2 ∷ 1 ∷ []) ∷ (2, Some 0, 2, []) ∷ (3, Some 0, 4, 4 ∷ 0 ∷ 0 ∷ []) ∷ [])
 
--- a folder goes with its track, deepest first, comes again and starts its trackers anew; a track that changes keeps its
--- id; the catalog of an earlier number stays what it was
+-- a folder goes with its track, deepest first, comes again and starts its trackers anew. A track that changes keeps its id. The
+-- catalog of an earlier number stays what it was
 abbrev pub changed_track : FolderMap
 changed_track = (codes "R" ∷ [], a_folder) ∷ (codes "R" ∷ codes "a" ∷ [], a_track 2) ∷ []
 

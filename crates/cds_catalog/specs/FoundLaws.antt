@@ -11,8 +11,8 @@ use Rattle.cds_catalog.specs.Laws.{IsLibrary}
 use Rattle.cds_catalog.specs.declared.change.Change.{Change}
 use Rattle.cds_catalog.specs.declared.change.Change.TheVariants.{Deletion, Addition, Modification}
 
--- the changes that a place is owed by what stood there and what stands there now, the newest first: what is there no more is
--- deleted, what is new is added; what stays of its kind is modified exactly where it says something else, and a track that
+-- the changes that a place is owed by what stood there and what stands there now, the newest first. What is there no more is
+-- deleted, and what is new is added. What stays of its kind is modified if and only if it says something else. A track that
 -- becomes a folder, or the other way, is deleted and added
 abbrev pub owed_at : List (List ℕ) → Option Content → Option Content → List Change
 owed_at path None None = []
@@ -38,8 +38,8 @@ PlacesRise [] = Unit {0}
 PlacesRise (path ∷ []) = Unit {0}
 PlacesRise (path ∷ next ∷ others) = IsTrue (is_lt (path_cmp path next)) × PlacesRise (next ∷ others)
 
--- the changes of a scan in the order in which they are made: the deletions, whose places fall strictly, and then the others,
--- whose places rise strictly
+-- the changes of a scan in the order in which they are made: first the deletions, whose places fall strictly, and then the
+-- others, whose places rise strictly
 pub record AreInOrder (changes : List Change) : Type 0 where
   pub deletions : List Change
   pub others : List Change

@@ -1,4 +1,4 @@
--- The laws of the catalog, which everything above leans on.
+-- The laws of the catalog, on which everything above it depends.
 use Rattle.std.specs.Prelude.{◌≡◌, ◌↔◌, ◌+◌, ◌≤◌, ℕ, Bool, true, false, List, [], ◌∷◌, ◌++◌, length, Option, Some, None, MatchOption, IsTrue}
 use Rattle.std.specs.List.{AllByRecursion, list_any}
 use Rattle.std.specs.Ordering.{is_lt}
@@ -39,7 +39,7 @@ pub record IsLibrary (library : FolderMap) : Type 0 where
 abbrev pub AreLibraries : List FolderMap → Type 0
 AreLibraries = AllByRecursion IsLibrary
 
--- what no record spoils is a folder map, with as many places as records
+-- records that can all stand make a folder map, with as many places as records
 abbrev pub accepted_records_are_a_library : Type 0
 accepted_records_are_a_library = (records : List Record) → bad_record records ≡ None →
     IsLibrary (map_of records) × (length (map_of records) ≡ length records)
@@ -52,13 +52,13 @@ pub record IsBadLine (records : List Record) (line : ℕ) : Type 0 where
   pub first : IsFirstRefused (is_bad records) records before bad rest
   pub place : line ≡ length before + 1
 
--- a line is named exactly where its record is the first that cannot stand, and none where every record can
+-- a line is named if and only if its record is the first that cannot stand; none is if every record can
 abbrev pub bad_records_have_their_line : Type 0
 bad_records_have_their_line =
     ((records : List Record) (line : ℕ) → (bad_record records ≡ Some line) ↔ IsBadLine records line)
     × ((records : List Record) → (bad_record records ≡ None) ↔ NoneRefused (is_bad records) records)
 
--- where no record spoils them, at the place of each record stands what it says, and nothing stands elsewhere
+-- if all records can stand, at the place of each record stands what it says, and nothing stands elsewhere
 abbrev pub accepted_records_stand_at_their_places : Type 0
 accepted_records_stand_at_their_places = (records : List Record) → bad_record records ≡ None →
     AllByRecursion (λ r. content_at (map_of records) r.path ≡ Some r.content) records

@@ -27,7 +27,7 @@ map_from library (record_ ∷ records) = map_from (insert_entry path_cmp library
 abbrev pub map_of : List Record → FolderMap
 map_of records = map_from [] records
 
--- the deletion of what stood at a place, where nothing stands there now, or something of the other kind
+-- the deletion of what stood at a place, if nothing stands there now, or something of the other kind
 abbrev pub gone : List (List ℕ) → Content → Option Content → Option Change
 gone path before None = Some (Deletion path)
 gone path before (Some now) = cond (same_kind before now) None (Some (Deletion path))
@@ -35,8 +35,8 @@ gone path before (Some now) = cond (same_kind before now) None (Some (Deletion p
 abbrev pub departure : FolderMap → (List (List ℕ) × Content) → Option Change
 departure new entry = gone entry.0 entry.1 (content_at new entry.0)
 
--- the addition of what stands at a place, where nothing stood there, or something of the other kind; or its
--- modification, where something of its kind stood there and said something else
+-- the addition of what stands at a place, if nothing stood there, or something of the other kind; or its modification, if
+-- something of its kind stood there and said something else
 abbrev pub come : List (List ℕ) → Content → Option Content → Option Change
 come path content None = Some (Addition path content)
 come path content (Some before) =
@@ -47,7 +47,7 @@ come path content (Some before) =
 abbrev pub arrival : FolderMap → (List (List ℕ) × Content) → Option Change
 arrival old entry = come entry.0 entry.1 (content_at old entry.0)
 
--- the changes from one folder map to the next, the newest first: before all others came the deletions, in descending
--- order of places, and then the additions and modifications, in ascending order
+-- the changes from one folder map to the next, the newest first. The deletions came before all others, in descending order of
+-- places; then came the additions and modifications, in ascending order
 abbrev pub found : FolderMap → FolderMap → List Change
 found old new = reverse (filter_map (arrival old) new) ++ filter_map (departure new) old

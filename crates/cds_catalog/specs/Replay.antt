@@ -1,4 +1,4 @@
--- What stands after changes that are read one by one, and which changes may follow others: words of the laws.
+-- What stands after changes that are read one by one, and which changes may follow others: definitions that the laws use.
 use Rattle.std.specs.Prelude.{◌≡◌, ℕ, Bool, true, false, cond, List, [], ◌∷◌, Option, Some, None}
 use Rattle.cds_object.specs.Path.{same_path, parent_of}
 use Rattle.cds_object.specs.Content.{same_kind}
@@ -23,8 +23,8 @@ holds_after changes (name ∷ names) = folder_there (stands changes (name ∷ na
     folder_there None = false
     folder_there (Some content) = is_folder content
 
--- whether a change may follow others: what is added stood not, below what holds it; what is deleted stood, with nothing
--- below it; what is modified stood and is of the same kind
+-- whether a change may follow others. What is added did not stand, and is below what holds it. What is deleted stood, with
+-- nothing below it. What is modified stood and is of the same kind
 abbrev pub MayFollow : List Change → Change → Type 0
 MayFollow older (Deletion at) =
     (content : Content) × (stands older at ≡ Some content)

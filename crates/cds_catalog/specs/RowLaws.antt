@@ -1,6 +1,6 @@
--- What holds of the rows of a catalog besides the tree that they are: each place has its own row, an id names one place for
--- the whole history, and every number lies between the first and the newest (UPnP ContentDirectory:4 on object ids and on
--- the tracking of changes).
+-- What holds of the rows of a catalog besides that they are a tree. Each place has its own row, and an id names one place for the
+-- whole history. Every number lies between the first and the newest (UPnP ContentDirectory:4 on object ids and on the tracking of
+-- changes).
 use Rattle.std.specs.Prelude.{◌≡◌, ◌+◌, ◌≤◌, ℕ, List, [], ◌∷◌, ◌++◌, filter, map, Option, Some, MatchOption}
 use Rattle.std.specs.List.{AllByRecursion}
 use Rattle.std.specs.Option.{option_to_list}
@@ -22,12 +22,13 @@ standing_at library (name ∷ names) = content_at library (name ∷ names)
 abbrev pub said_at : List (List ℕ) → List PlacedRow → List Content
 said_at path rows = map (λ (placed : PlacedRow). placed.1.content) (filter (λ placed. same_path path placed.0) rows)
 
--- each place of the newest folder map, and the root's, has exactly one row, which says what stands there; no other place has a row
+-- each place of the newest folder map, and the root's, has exactly one row, which says what stands there; no other place has a
+-- row
 abbrev pub places_have_their_rows : Type 0
 places_have_their_rows = (history : History) → AreLibraries history.maps → (path : List (List ℕ)) →
     said_at path (placed_rows history) ≡ option_to_list (standing_at (latest history.maps) path)
 
--- two rows with one id stand at one place, also where other scans lie between them
+-- two rows with one id stand at one place, also if other scans lie between them
 abbrev pub HaveOnePlace : PlacedRow → PlacedRow → Type 0
 HaveOnePlace now before = now.1.id ≡ before.1.id → now.0 ≡ before.0
 

@@ -12,8 +12,8 @@ abbrev pub is_container : List Record → List (List ℕ) → Bool
 is_container records [] = true
 is_container records (name ∷ names) = list_any (λ r. same_path (name ∷ names) r.path && is_folder r.content) records
 
--- whether a record cannot stand: nothing holds its place, or its place came before; nor can one at the root's own place,
--- which no path that was read names
+-- whether a record cannot stand: nothing holds its place, or its place came before. Nor can one at the root's own place, which no
+-- path that was read names
 abbrev pub is_bad : List Record → List Record → Record → Bool
 is_bad records before r =
     same_path r.path [] || not (is_container records (parent_of r.path)) || list_any (λ other. same_path r.path other.path) before
@@ -31,8 +31,8 @@ bad_record records = bad_from records [] records
 abbrev pub needed_by : History → List Record → ℕ
 needed_by history records = length (found (latest history.maps) (map_of records))
 
--- what is answered to a scan: it is accepted; or its first record that cannot stand; or how many objects there are
--- beside the root, where they are more than 65,535; or how many changes there are, where they lead above 4,294,967,295
+-- what is answered to a scan: it is accepted; or its first record that cannot stand; or how many objects there are besides the
+-- root, if they are more than 65,535; or how many changes there are, if they lead above 4,294,967,295
 pub data ScanAnswer : Type 0 where
   Accepted : ScanAnswer
   BadRecord : ℕ → ScanAnswer

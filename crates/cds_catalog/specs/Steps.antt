@@ -1,5 +1,5 @@
--- The catalog read step by step: what one change does to the rows that stand. That these steps lead to the catalog
--- counted afresh is a law (Laws); nothing is defined by them.
+-- The catalog read step by step: what one change does to the rows that stand. A law says that these steps lead to the catalog
+-- counted afresh (Laws); nothing is defined by them.
 use Rattle.std.specs.Prelude.{◌+◌, ◌-◌, ℕ, cond, not, List, [], ◌∷◌, ◌++◌, map, filter, Option, Some, None}
 use Rattle.std.specs.List.{count_by}
 use Rattle.std.specs.Option.{option_map}
@@ -35,7 +35,7 @@ touched path change placed = cond (same_path path placed.0) (placed.0, change pl
 abbrev pub touch : List (List ℕ) → (ObjectRow → ObjectRow) → List PlacedRow → List PlacedRow
 touch path change rows = map (touched path change) rows
 
--- the id of the row at a place; 0 where none stands there
+-- the id of the row at a place; 0 if no row is there
 abbrev pub id_at : List (List ℕ) → List PlacedRow → ℕ
 id_at path [] = 0
 id_at path (placed ∷ others) = cond (same_path path placed.0) placed.1.id (id_at path others)

@@ -1,3 +1,5 @@
+//! The changes of objects that scans find.
+
 use cds_object::{Content, Path};
 
 /// One change of one object, as a scan found it (UPnP ContentDirectory:4 on tracking changes).

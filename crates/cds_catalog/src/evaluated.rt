@@ -2,22 +2,22 @@
 
 ghost use Rattle.cds_catalog.specs.Evaluated as evaluated;
 
-/// Two scans of an empty library leave the root alone, and no number.
+/// States that two scans of an empty library leave the root alone, and no number.
 pub fn two_empty_scans()
     ensures { evaluated.two_empty_scans }
 {}
 
-/// A folder with one track.
+/// States the catalog of a folder with one track.
 pub fn one_scan_of_a_folder()
     ensures { evaluated.one_scan_of_a_folder }
 {}
 
-/// A track that becomes a folder is one deletion and one addition with a new id.
+/// States that a track that becomes a folder is one deletion and one addition with a new id.
 pub fn kind_change_draws_a_new_id()
     ensures { evaluated.kind_change_draws_a_new_id }
 {}
 
-/// A folder that goes with its track and comes again starts anew, and a changed track keeps its id.
+/// States that a folder that goes with its track and comes again starts anew, and that a changed track keeps its id.
 pub fn folder_comes_again()
     ensures { evaluated.folder_comes_again }
 {}

@@ -4,90 +4,90 @@ ghost use Rattle.cds_catalog.specs.FoundLaws as found;
 ghost use Rattle.cds_catalog.specs.Laws as laws;
 ghost use Rattle.cds_catalog.specs.RowLaws as rows;
 
-/// Records of which none is refused make a folder map, with one place for each record.
+/// States that records of which none is refused make a folder map, with one place for each record.
 pub fn accepted_records_are_a_library()
     ensures { laws.accepted_records_are_a_library }
 {}
 
-/// A scan is refused at its first record that cannot stand, and only where there is one.
+/// States that a scan is refused at its first record that cannot stand, and only if there is one.
 pub fn bad_records_have_their_line()
     ensures { laws.bad_records_have_their_line }
 {}
 
-/// At the place of each accepted record stands what it says, and nothing stands elsewhere.
+/// States that at the place of each accepted record stands what it says, and that nothing stands elsewhere.
 pub fn accepted_records_stand_at_their_places()
     ensures { laws.accepted_records_stand_at_their_places }
 {}
 
-/// Each change of a history may follow those before it.
+/// States that each change of a history may follow those before it.
 pub fn changes_are_legal()
     ensures { laws.changes_are_legal }
 {}
 
-/// What stands after all changes of a history is what its newest folder map has.
+/// States that what stands after all changes of a history is what its newest folder map has.
 pub fn changes_replay_the_library()
     ensures { laws.changes_replay_the_library }
 {}
 
-/// The catalog at a scan end is that of each history that ended there.
+/// States that the catalog at a scan end is that of each history that ended there.
 pub fn catalog_at_a_scan_end()
     ensures { laws.catalog_at_a_scan_end }
 {}
 
-/// A scan that finds what the last one found makes no change.
+/// States that a scan that finds what the last one found makes no change.
 pub fn equal_libraries_make_no_change()
     ensures { laws.equal_libraries_make_no_change }
 {}
 
-/// Scans between two equal numbers changed neither the folder map nor the catalog.
+/// States that scans between two equal numbers changed neither the folder map nor the catalog.
 pub fn equal_numbers_have_equal_catalogs()
     ensures { laws.equal_numbers_have_equal_catalogs }
 {}
 
-/// Within a history an id and an objectUpdateID determine what the object says.
+/// States that an id and an objectUpdateID determine within a history what the object says.
 pub fn versions_determine_contents()
     ensures { laws.versions_determine_contents }
 {}
 
-/// The changes of a scan, made one by one on what stood before it, lead to the catalog counted afresh after it.
+/// States that the changes of a scan, made one by one on what stood before it, lead to the catalog counted afresh after it.
 pub fn steps_lead_to_the_catalog()
     ensures { laws.steps_lead_to_the_catalog }
 {}
 
-/// No number of a row is above the number that stands, no id above the ids that were drawn, and there is one row for
+/// States that no number of a row is above the number that stands, and no id above the ids that were drawn. There is one row for
 /// the root and one for each place of the newest folder map.
 pub fn rows_are_within()
     ensures { laws.rows_are_within }
 {}
 
-/// The rows of a catalog are a tree under the root, in ascending order of ids (UPnP ContentDirectory:4 on the
+/// States that the rows of a catalog are a tree under the root, in ascending order of ids (UPnP ContentDirectory:4 on the
 /// hierarchy of objects).
 pub fn catalogs_are_trees()
     ensures { laws.catalogs_are_trees }
 {}
 
-/// Each place of the newest folder map, and the root's, has exactly its own row, and no other place has one.
+/// States that each place of the newest folder map, and the root's, has exactly its own row, and that no other place has one.
 pub fn places_have_their_rows()
     ensures { rows.places_have_their_rows }
 {}
 
-/// An id names one place for the whole history.
+/// States that an id names one place for the whole history.
 pub fn ids_name_one_place()
     ensures { rows.ids_name_one_place }
 {}
 
-/// Every number of a row lies from the first number to the newest one, and the ids drawn, with the deletions that a
+/// States that every number of a row lies from the first number to the newest one. The ids drawn, with the deletions that a
 /// container counts, are at most as many as the numbers given.
 pub fn numbers_lie_between()
     ensures { rows.numbers_lie_between }
 {}
 
-/// A scan deletes, adds or modifies what stands at a place exactly where that is owed.
+/// States that a scan deletes, adds or modifies what stands at a place if and only if that is owed.
 pub fn scans_find_what_changed()
     ensures { found.scans_find_what_changed }
 {}
 
-/// The deletions of a scan come first, in descending order of places, and then all else in ascending order.
+/// States that the deletions of a scan come first, in descending order of places, and then all else in ascending order.
 pub fn scans_find_in_order()
     ensures { found.scans_find_in_order }
 {}

@@ -15,8 +15,8 @@ abbrev pub changed_container : ℕ → ObjectRow → Option (ℕ × ℕ)
 changed_container from row =
     option_and_then (λ (t : Trackers). cond (nat_lt from t.container_update) (Some (row.id, t.container_update)) None) row.trackers
 
--- the containers of a span are those that stand at its end and whose containerUpdateID is above its beginning, each with it,
--- whatever was scanned later
+-- the containers of a span are those that stand at its end and whose containerUpdateID is above its beginning. Each comes with
+-- that number, whatever was scanned later
 abbrev pub containers_have_their_numbers : Type 0
 containers_have_their_numbers = (first : ℕ) (newer older : List FolderMap) (from : ℕ) → AreLibraries (newer ++ older) → first ≤ from →
     containers_between (record { first = first; maps = newer ++ older }) from (end_of (record { first = first; maps = older }))

@@ -44,8 +44,8 @@ changes_to first to [] = []
 changes_to first to (change ∷ older) =
     cond (nat_le (first + length (change ∷ older)) to) (change ∷ older) (changes_to first to older)
 
--- the containers that a change of the span above one scan end up to another adds or names as parent, and that none of
--- them deletes, each with the last such number, in ascending order of ids
+-- the containers that a change of the span above one scan end up to another adds or names as parent, except those that one of
+-- these changes deletes. Each comes with the last such number, in ascending order of ids
 abbrev pub touched_containers : ℕ → ℕ → List Change → List (ℕ × ℕ)
 touched_containers first from changes =
     filter_map (λ id. cond (was_deleted first from id changes) None (option_map (λ number. (id, number)) (last_touch first from id changes)))

@@ -56,8 +56,8 @@ span_of_two_scans = let h : History = record { first = 0; maps = three_tracks �
     (events_between h 1 3 ≡ ObjAdd 2 2 false 0 Track ∷ ObjAdd 3 3 false 0 Track ∷ [])
     × (containers_between h 1 3 ≡ (0, 3) ∷ [])
 
--- a folder that comes and goes with its track within one span is told by its events, but it is none of the containers of the
--- span: the root alone is
+-- a folder that comes and goes with its track within one span is told by its events. It is none of the containers of the span:
+-- the root alone is
 abbrev pub what_comes_and_goes : Type 0
 what_comes_and_goes = let h : History = record { first = 10; maps = [] ∷ one_folder ∷ [] } in
     (events_between h 10 14

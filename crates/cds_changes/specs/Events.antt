@@ -1,5 +1,5 @@
--- What a server tells of the changes of a span: one event for each change, and one where a subtree update is done (this
--- project's profile of UPnP ContentDirectory:4 on LastChange).
+-- What a server tells of the changes of a span: one event for each change, and one when a subtree update is done (this project's
+-- profile of UPnP ContentDirectory:4 on LastChange).
 use Rattle.std.specs.Prelude.{◌+◌, ◌&&◌, ◌||◌, ℕ, Bool, true, false, not, nat_eq, nat_lt, nat_le, List, [], ◌∷◌, ◌++◌, filter, map, length}
 use Rattle.std.specs.List.{list_any}
 use Rattle.std.specs.Cmp.Lexicographic.{pointwise}

@@ -21,7 +21,7 @@ abbrev pub spans_tell_their_changes : Type 0
 spans_tell_their_changes = (history : History) (from more : ℕ) → history.first ≤ from → from + more ≤ end_of history →
     map update_of (filter is_change (events_between history from (from + more))) ≡ range_with_len (from + 1) more
 
--- two spans one behind the other are one
+-- two spans, one after the other, are one
 abbrev pub spans_join : Type 0
 spans_join = (history : History) (from middle to : ℕ) → from ≤ middle → middle ≤ to →
     events_between history from to ≡ events_between history from middle ++ events_between history middle to
@@ -35,8 +35,8 @@ spans_stay = (first : ℕ) (newer older : List FolderMap) (from to : ℕ) → to
 abbrev pub with_parents_are_events : Type 0
 with_parents_are_events = (first : ℕ) (maps : List FolderMap) → map (λ (n : EventWithParent). n.event) (all_with_parents first maps) ≡ all_events first maps
 
--- the events of a history with their parents tell, of each id, the last number in a span that touched its container, and whether the
--- span deleted its object
+-- the events of a history with their parents tell this of each id: the last number in a span that touched its container, and
+-- whether the span deleted its object
 abbrev pub with_parents_tell_containers : Type 0
 with_parents_tell_containers = (history : History) (from to id : ℕ) →
     (last_touch_in from to id (all_with_parents history.first history.maps) ≡ last_touch history.first from id (changes_to history.first to (changes_of history.maps)))

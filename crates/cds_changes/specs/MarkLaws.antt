@@ -1,5 +1,5 @@
--- Which events are marked as parts of a subtree update, and where its end is told (this project's profile of UPnP
--- ContentDirectory:4 on LastChange), in terms of the folders that a scan adds or deletes with something below them.
+-- Which events are marked as parts of a subtree update, and after which of them its end is told (this project's profile of UPnP
+-- ContentDirectory:4 on LastChange). It is said of the folders that a scan adds or deletes with something below them.
 use Rattle.std.specs.Prelude.{◌≡◌, ◌&&◌, ℕ, Bool, true, false, cond, List, [], ◌∷◌, ◌++◌}
 use Rattle.std.specs.List.{AllByRecursion, list_any}
 use Rattle.cds_object.specs.declared.event.Event.TheVariants.{StDone}
@@ -14,20 +14,21 @@ use Rattle.cds_changes.specs.Events.{gathers, heads, is_within, is_in_subtree, h
 abbrev pub lies_under_folder : List Change → Change → Bool
 lies_under_folder scan change = list_any (λ folder. gathers scan folder && is_within folder change) scan
 
--- exactly those changes are marked
+-- a change is marked if and only if it is such a change
 abbrev pub marks_lie_under_folders : Type 0
 marks_lie_under_folders = (old new : FolderMap) → IsLibrary old → IsLibrary new →
     AllByRecursion (λ change. is_in_subtree (found old new) change ≡ lies_under_folder (found old new) change) (found old new)
 
--- what is told directly behind a change of a scan, where the changes behind it are the later ones: nothing where it is not
--- marked; and where it belongs to the subtree update of a head, that this is done, exactly if no later change belongs to it
+-- what is told directly after a change of a scan, if the changes after it are the later ones. If the change is not marked,
+-- nothing is told. If it belongs to the subtree update of a head and no later change does, the end of the update is told, and
+-- otherwise not
 pub record TellsEnd (scan later : List Change) (change : Change) : Type 0 where
   pub none : is_in_subtree scan change ≡ false → (number : ℕ) (changes : List Change) → done_events number changes (heads_done scan change) ≡ []
   pub one : AllByRecursion (λ head. heads scan head ≡ true → is_within head change ≡ true → (number : ℕ) (changes : List Change) →
       done_events number changes (heads_done scan change)
       ≡ cond (list_any (is_within head) later) [] (StDone (id_of changes (place_of head)) number ∷ [])) scan
 
--- so each head has one such event, directly behind its last marked event, and nothing else has one
+-- so each head has one such event, directly after its last marked event, and nothing else has one
 abbrev pub ends_are_told_once : Type 0
 ends_are_told_once = (old new : FolderMap) → IsLibrary old → IsLibrary new → (later earlier : List Change) (change : Change) →
     found old new ≡ later ++ change ∷ earlier → TellsEnd (found old new) later change

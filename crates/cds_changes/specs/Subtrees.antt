@@ -1,5 +1,5 @@
--- Subtree updates told apart by the changes of one kind, the additions or the deletions of a scan: words of the proofs of
--- stores that mark them.
+-- Subtree updates, told apart by the changes of one kind: the additions or the deletions of a scan. The proofs of stores that
+-- mark them use these definitions.
 use Rattle.std.specs.Prelude.{◌≡◌, ◌&&◌, ◌||◌, ℕ, Bool, true, false, List, [], ◌∷◌, map, Option, MatchOption}
 use Rattle.std.specs.List.{AllByRecursion, list_any}
 use Rattle.std.specs.Option.{option_to_list}
@@ -23,8 +23,8 @@ pub record IsTop (kind : Change → Bool) (scan : List Change) (top : List (List
   pub member : some_of kind (same_path top) scan ≡ true
   pub outermost : some_of kind (same_path (parent_of top)) scan ≡ false
 
--- what the changes of a kind are to be for this: none is the root's, and between two of them, one above the other, no
--- place is missing
+-- what the changes of a kind are to be for this: none is the root's. Between two of them, one above the other, no place is
+-- missing
 pub record IsClosed (kind : Change → Bool) (scan : List Change) : Type 0 where
   pub rootless : some_of kind (same_path []) scan ≡ false
   pub closed : (above path : List (List ℕ)) → some_of kind (same_path above) scan ≡ true → some_of kind (same_path path) scan ≡ true →
@@ -47,15 +47,15 @@ pub record IsOrderly (scan : List Change) : Type 0 where
   pub come : IsClosed is_addition scan
   pub gone : IsClosed is_deletion scan
 
--- where the head of the subtree update that is done with a change stands: a deletion's is its own place, an addition's
--- another one that was added earlier in the scan
+-- the place of the head of the subtree update that is done with a change: a deletion's is its own, an addition's is another one
+-- that was added earlier in the scan
 abbrev pub StoodAt : Change → List Change → List (List ℕ) → Type 0
 StoodAt (Deletion path) earlier head = head ≡ path
 StoodAt (Addition path content) earlier head = (same_path head path ≡ false) × (some_of is_addition (same_path head) earlier ≡ true)
 StoodAt (Modification path content) earlier head = ⊥
 
--- what is said of a change of a scan, after the earlier ones: whether it belongs to a subtree update, and the place of
--- the head of that which is done with it
+-- what is said of a change of a scan, after the earlier ones: whether it belongs to a subtree update, and the place of the head
+-- of the one that is done with it
 pub record IsMarked (scan : List Change) (change : Change) (earlier : List Change) (st : Bool) (done : Option (List (List ℕ))) : Type 0 where
   pub belongs : st ≡ is_in_subtree scan change
   pub head : option_to_list done ≡ map place_of (heads_done scan change)

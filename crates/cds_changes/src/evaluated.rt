@@ -2,32 +2,32 @@
 
 ghost use Rattle.cds_changes.specs.Evaluated as evaluated;
 
-/// A folder that is added with its track is a subtree update.
+/// States that a folder that is added with its track is a subtree update.
 pub fn added_subtree()
     ensures { evaluated.added_subtree }
 {}
 
-/// A folder that goes with its track is one too, and what comes again has new ids.
+/// States that a folder that goes with its track is one too, and that what comes again has new ids.
 pub fn deleted_subtree()
     ensures { evaluated.deleted_subtree }
 {}
 
-/// A folder with objects below it that becomes a track goes as a subtree.
+/// States that a folder with objects below it that becomes a track goes as a subtree.
 pub fn kinds_change()
     ensures { evaluated.kinds_change }
 {}
 
-/// A folder within a folder belongs to the outer one's subtree update.
+/// States that a folder within a folder belongs to the outer one's subtree update.
 pub fn nested_subtrees()
     ensures { evaluated.nested_subtrees }
 {}
 
-/// A span of two scans touches each container once, with the last number.
+/// States that a span of two scans touches each container once, with the last number.
 pub fn span_of_two_scans()
     ensures { evaluated.span_of_two_scans }
 {}
 
-/// A folder that comes and goes within a span is none of its containers.
+/// States that a folder that comes and goes within a span is none of its containers.
 pub fn what_comes_and_goes()
     ensures { evaluated.what_comes_and_goes }
 {}

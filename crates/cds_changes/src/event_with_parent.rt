@@ -1,6 +1,8 @@
+//! An event with the parent that its change names.
+
 use cds_object::Event;
 
-/// An event with the id of the parent that its change names; that a subtree update is done names none.
+/// An event with the id of the parent that its change names. The event that a subtree update is done names none.
 #[derive(Clone, Copy, Debug, PartialEq, Eq)]
 pub struct EventWithParent {
     pub event: Event,

@@ -1,5 +1,5 @@
-//! `cds`: a ContentDirectory:4 server and its replica, played from scripts, the reader of StateEvents, and the scan of a
-//! folder of FLAC files.
+//! `cds`: the program. It plays a ContentDirectory:4 server and its replica from scripts, reads StateEvents, scans a
+//! folder of FLAC files, and with `serve` serves such a folder over HTTP.
 #![tactic(auto)]
 
 use cds_base::Mem;
@@ -8,7 +8,7 @@ use cds_system::{Input, Output, RealOutside, read_words};
 use std::io::writer;
 use std::process::ExitCode;
 
-/// The status where memory runs out.
+/// The status if memory runs out.
 const OUT_OF_MEMORY: u8 = 4;
 
 fn main(rt: HostRuntime) -> ExitCode {

@@ -13,8 +13,8 @@ pub record Start : Type 0 where
   pub first : ℕ
 
 -- what a server accepted: a scan with its folder map; a subscription at a moment, with its callback and the seconds that are
--- granted; its renewal, its end; a tick at a moment; and that the server stops. A subscription is named by its number among
--- the grants, counted from 1. Moments are in milliseconds, are any numbers and may fall from command to command
+-- granted; its renewal, its end; a tick at a moment; and that the server stops. A subscription is named by its number among the
+-- grants, counted from 1. Moments are in milliseconds. They are any numbers, and may fall from command to command
 pub data Command : Type 0 where
   Scans : FolderMap → Command
   Grants : ℕ → List ℕ → ℕ → Command
@@ -23,7 +23,7 @@ pub data Command : Type 0 where
   Ticks : ℕ → Command
   Stops : Command
 
--- the history of the scans, from a first number; of commands the newest stands first
+-- the history of the scans, from a first number; of commands the newest is the first
 abbrev pub scans_of : ℕ → List Command → History
 scans_of first [] = record { first = first; maps = [] }
 scans_of first (Scans library ∷ older) = with_scan (scans_of first older) library
@@ -35,7 +35,7 @@ is_stopped [] = false
 is_stopped (Stops ∷ older) = true
 is_stopped (command ∷ older) = is_stopped older
 
--- the oldest commands, so many of them; all where there are no more
+-- this many of the oldest commands; all if there are no more
 abbrev pub oldest : ℕ → List Command → List Command
 oldest k commands = drop (length commands - k) commands
 

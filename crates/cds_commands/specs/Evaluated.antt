@@ -50,8 +50,8 @@ abbrev pub releases_tell_containers : Type 0
 releases_tell_containers =
     map (released_containers (scans_of 0 (Ticks 1200 ∷ until_1199))) (releases_of 0 (Ticks 1200 ∷ until_1199)) ≡ ((0, 3) ∷ []) ∷ ((0, 1) ∷ []) ∷ []
 
--- a subscription lives for the seconds that it is granted: a tick before their end still sends it a note, and one at their end does
--- not
+-- a subscription lives for the seconds that it is granted: a tick before their end still sends it a note, and one at their end
+-- does not
 abbrev pub subscriptions_run_out : Type 0
 subscriptions_run_out =
     (alive_names 1799999 (Grants 0 [] 1800 ∷ []) (first ∷ []) ≡ 1 ∷ []) × (alive_names 1800000 (Grants 0 [] 1800 ∷ []) (first ∷ []) ≡ [])
@@ -59,8 +59,8 @@ subscriptions_run_out =
     × (notes_of 0 (Ticks 1800000 ∷ Scans one ∷ Grants 0 [] 1800 ∷ []) ≡ first ∷ [])
     × (notes_of 0 (Ticks 200 ∷ Ends 0 1 ∷ Scans one ∷ Grants 0 [] 1800 ∷ []) ≡ first ∷ [])
 
--- a renewal begins its time anew, where it has not run out by then; no tick knows of one that has, whatever comes behind. Seconds
--- and moments have no greatest value
+-- a renewal begins its time anew, if it has not run out by then. One that has run out is unknown to every tick, whatever comes
+-- after. Seconds and moments have no greatest value
 abbrev pub subscriptions_are_renewed : Type 0
 subscriptions_are_renewed =
     (runs_until 1 (Renews 1799999 1 1800 ∷ Grants 0 [] 1800 ∷ []) ≡ Some 3599999)
@@ -77,7 +77,7 @@ moments_may_fall =
     × (releases_of 0 (Ticks 100 ∷ Scans two ∷ Ticks 1000 ∷ Scans one ∷ []) ≡ record { moment = 1000; from = 0; to = 1 } ∷ [])
     × (is_stopped (Ticks 100 ∷ Stops ∷ Scans one ∷ []) ≡ true) × (is_stopped (Ticks 100 ∷ Scans one ∷ []) ≡ false)
 
--- one more subscription has room where fewer than 64 live: one that has ended or run out leaves its room
+-- one more subscription has room if fewer than 64 live: one that has ended or run out leaves its room
 abbrev pub grants : ℕ → List Command
 grants zero = []
 grants (suc n) = Grants 0 [] 1800 ∷ grants n

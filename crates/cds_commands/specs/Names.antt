@@ -23,7 +23,7 @@ name_of start number = names_of start + number
 abbrev pub names_differ : Type 0
 names_differ = (start : Start) (m n : ℕ) → m < 2 ^ 32 → n < 2 ^ 32 → name_of start m ≡ name_of start n → m ≡ n
 
--- a name has 128 bits, where the boot words have 64 each and the number 32
+-- a name has 128 bits, if the boot words have 64 each and the number 32
 abbrev pub names_are_short : Type 0
 names_are_short = (start : Start) (n : ℕ) → start.high < 2 ^ 64 → start.low < 2 ^ 64 → n < 2 ^ 32 → name_of start n < 2 ^ 128
 

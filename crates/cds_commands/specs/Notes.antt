@@ -68,13 +68,13 @@ abbrev pub notes_of : ℕ → List Command → List Note
 notes_of first [] = []
 notes_of first (command ∷ older) = notes_of first older ++ sent_by first older (notes_of first older) command
 
--- the events of notes, those of one behind those of another
+-- the events of notes, one note after the other
 abbrev pub events_of : List Note → List Event
 events_of [] = []
 events_of (note ∷ notes) = note.events ++ events_of notes
 
--- the note of a SEQ among notes: of several with it the last in the list, which is the one that came first where the newest
--- stands first
+-- the note of a SEQ among notes. If several have it, it is the last in the list, which is the one that came first if the newest
+-- is the first
 abbrev pub note_of : ℕ → List Note → Option Note
 note_of seq [] = None
 note_of seq (note ∷ older) = or_this (note_of seq older)

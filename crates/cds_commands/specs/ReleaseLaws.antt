@@ -6,8 +6,8 @@ use Rattle.cds_commands.specs.Commands.{Command, Ticks, scans_of, oldest, AreAcc
 use Rattle.cds_commands.specs.Releases.{Release, release_size, released_to, may_release, releases_of}
 use Rattle.cds_commands.specs.Notes.{Note, next_seq_of, notes_of, sent_to}
 
--- each release is that of a tick. It begins where the one before it ended, comes after its pause, and ends at the greatest end
--- of the scans before the tick that its size allows; and it has at least one change, so each takes at least one scan with
+-- each release is that of a tick. It begins at the end of the one before it, and comes after its pause. It ends at the greatest
+-- end of the scans before the tick that its size allows. It has at least one change, so each takes at least one scan with
 -- changes, however many changes that had
 abbrev pub releases_go_on : Type 0
 releases_go_on = (first : ℕ) (commands : List Command) (release : Release) (newer older : List Release) → AreAccepted first commands →

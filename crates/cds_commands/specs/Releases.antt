@@ -36,8 +36,8 @@ scan_end_within first most (library ∷ older) =
     cond (nat_le (end_of (record { first = first; maps = library ∷ older })) most)
     (end_of (record { first = first; maps = library ∷ older })) (scan_end_within first most older)
 
--- the release of a tick, where there is one: some change is not released yet, and the pause is over. It goes from the end
--- of the last one to the greatest scan end that its size allows
+-- the release of a tick, if there is one: some change is not released yet, and the pause is over. It goes from the end of the
+-- last one to the greatest scan end that its size allows
 abbrev pub release_at : ℕ → History → List Release → Option Release
 release_at now history releases =
     cond (nat_lt (released_to history.first releases) (end_of history) && may_release now releases)
@@ -48,7 +48,7 @@ release_at now history releases =
     }))
     None
 
--- a release put before the others, where there is one
+-- a release put before the others, if there is one
 abbrev pub and_release : Option Release → List Release → List Release
 and_release None releases = releases
 and_release (Some release) releases = release ∷ releases

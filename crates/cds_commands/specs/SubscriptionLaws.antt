@@ -1,5 +1,5 @@
--- What a subscription is: when it lives, said of the commands since its grant, and which notes it gets; and when a tick releases.
--- Over the commands alone.
+-- What a subscription is: when it lives, said of the commands since its grant, and which notes it gets. Another law says when a
+-- tick releases. All is said of the commands alone.
 use Rattle.std.specs.Prelude.{◌≡◌, ◌↔◌, ◌⊎◌, ◌<◌, ◌≤◌, ◌+◌, ℕ, Bool, true, cond, nat_eq, nat_lt, ◌&&◌, List, [], ◌∷◌, ◌++◌, Option, Some, IsSome, Contains}
 use Rattle.cds_catalog.specs.History.{History, end_of}
 use Rattle.cds_changes.specs.Events.{events_between}
@@ -8,7 +8,7 @@ use Rattle.cds_commands.specs.Releases.{Release, release_pause, released_to, rel
 use Rattle.cds_commands.specs.Subscriptions.{granted, end_after, is_alive}
 use Rattle.cds_commands.specs.Notes.{Note, next_seq_of, seq_limit, alive_names, first_note, notes_of, sent_to}
 
--- the end of what was granted up to a moment, after the commands since then, of which the newest stands first: the last renewal
+-- the end of what was granted up to a moment, after the commands since then, of which the newest is the first: the last renewal
 -- of the name counts
 abbrev pub lease_end : ℕ → ℕ → List Command → ℕ
 lease_end name end [] = end
@@ -28,7 +28,7 @@ pub record HasRun (name : ℕ) (commands : List Command) (end : ℕ) : Type 0 wh
   pub not_past : (later before : List Command) (at : ℕ) → newer ≡ later ++ Ticks at ∷ before → at < lease_end name (end_after moment seconds) before
   pub ends : end ≡ lease_end name (end_after moment seconds) newer
 
--- it lives at a moment where this is before its end, and it has a SEQ left
+-- it lives at a moment if this is before its end, and it has a SEQ left
 abbrev pub Lives : ℕ → ℕ → ℕ → List Command → Type 0
 Lives first name now commands =
     (end : ℕ) × HasRun name commands end × (now < end) × (next_seq_of name (notes_of first commands) < seq_limit)
@@ -38,7 +38,7 @@ abbrev pub subscriptions_live_until_their_end : Type 0
 subscriptions_live_until_their_end = (first name now : ℕ) (commands : List Command) →
     (Contains (alive_names now commands (notes_of first commands)) name) ↔ Lives first name now commands
 
--- a tick releases exactly where some change waits, and no release came before it or the last one is long enough past
+-- a tick releases if and only if some change waits, and no release came before it or the last one is long enough past
 abbrev pub ticks_release_what_is_due : Type 0
 ticks_release_what_is_due = (first now : ℕ) (commands : List Command) →
     IsSome (release_at now (scans_of first commands) (releases_of first commands))
@@ -58,7 +58,7 @@ lived_at first name (Ticks moment ∷ older) =
     (release_at moment (scans_of first older) (releases_of first older)) (lived_at first name older)
 lived_at first name (command ∷ older) = lived_at first name older
 
--- the release of a tick is one of them exactly where the subscription lives at that moment
+-- the release of a tick is one of them if and only if the subscription lives at that moment
 abbrev pub releases_reach_what_lives : Type 0
 releases_reach_what_lives = (first name moment : ℕ) (older : List Command) (release : Release) →
     release_at moment (scans_of first older) (releases_of first older) ≡ Some release →
@@ -74,8 +74,8 @@ abbrev pub notes_of_releases : History → ℕ → ℕ → List Release → List
 notes_of_releases history name seq [] = []
 notes_of_releases history name seq (release ∷ releases) = note_of_release history name seq release ∷ notes_of_releases history name (seq + 1) releases
 
--- since its grant the notes of a subscription are its first note, with the number that stood then, and one of each release at
--- which it lived, in order: its k-th note is that of the k-th such release
+-- since its grant the notes of a subscription are its first note, with the number of that time, and then one of each release at
+-- which it lived. They are in order: its k-th note is that of the k-th such release
 abbrev pub notes_are_of_releases : Type 0
 notes_are_of_releases = (first : ℕ) (newer older : List Command) (moment : ℕ) (callback : List ℕ) (seconds : ℕ) →
     sent_to (granted older + 1) (notes_of first (newer ++ Grants moment callback seconds ∷ older))

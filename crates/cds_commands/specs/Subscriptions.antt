@@ -8,11 +8,11 @@ granted [] = 0
 granted (Grants moment callback seconds ∷ older) = granted older + 1
 granted (command ∷ older) = granted older
 
--- the moment at which what is granted at a moment for so many seconds runs out
+-- the moment at which what is granted at a moment for this many seconds runs out
 abbrev pub end_after : ℕ → ℕ → ℕ
 end_after moment seconds = moment + seconds * 1000
 
--- the end of a subscription that is renewed up to another: one that has ended stays so
+-- the end of a subscription that is renewed up to another end: one that has ended stays so
 abbrev pub renewed_until : ℕ → Option ℕ → Option ℕ
 renewed_until end None = None
 renewed_until end (Some before) = Some end
@@ -22,9 +22,9 @@ abbrev pub unless_past : ℕ → Option ℕ → Option ℕ
 unless_past moment None = None
 unless_past moment (Some end) = cond (nat_lt moment end) (Some end) None
 
--- the moment at which a subscription runs out: that of its grant or its last renewal, and the seconds of it; none where it was
--- not granted, was given up, or a tick came at or past that moment. The note with the last SEQ ends it too, which is not looked
--- at here
+-- the moment at which a subscription runs out: that of its grant or its last renewal, and the seconds of it. There is none if it
+-- was not granted, was given up, or a tick came at or past that moment. The note with the last SEQ ends it too, which is not
+-- looked at here
 abbrev pub runs_until : ℕ → List Command → Option ℕ
 runs_until name [] = None
 runs_until name (Scans library ∷ older) = runs_until name older
@@ -34,11 +34,11 @@ runs_until name (Ends moment other ∷ older) = cond (nat_eq name other) None (r
 runs_until name (Ticks moment ∷ older) = unless_past moment (runs_until name older)
 runs_until name (Stops ∷ older) = runs_until name older
 
--- whether a subscription still has time at a moment: it lives where it has SEQs left besides, as `alive_names` says
+-- whether a subscription still has time at a moment. It lives if it also has SEQs left, as `alive_names` says
 abbrev pub is_alive : ℕ → ℕ → List Command → Bool
 is_alive name now commands = is_some (unless_past now (runs_until name commands))
 
--- how many subscriptions live at most where moments never fall, and so whether one more is granted
+-- how many subscriptions live at most if moments never fall, and so whether one more is granted
 abbrev pub subscription_limit : ℕ
 subscription_limit = 64
 

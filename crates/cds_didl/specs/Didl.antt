@@ -13,7 +13,7 @@ use Rattle.cds_didl.specs.declared.error.DidlError.TheVariants.{Markup, NotDidl,
 use Rattle.cds_didl.specs.Spelled.{didl_space}
 use Rattle.cds_didl.specs.Reading.{container_of, item_of}
 
--- The row of the child that has so many before it.
+-- The row of the child that has `number` children before it.
 abbrev pub row_or : ℕ → Option ObjectRow → Result ObjectRow Fault
 row_or number None = Err (BadRow number)
 row_or number (Some row) = Ok row
@@ -24,7 +24,7 @@ row_said number element =
     else if is_named didl_space (codes "item") element then row_or number (item_of element)
     else Err (NotRow number)
 
--- The rows of children of which the first has so many before it, or the first fault.
+-- The rows of children, of which the first has `number` children before it, or the first fault.
 abbrev pub and_rows : Result ObjectRow Fault → Result (List ObjectRow) Fault → Result (List ObjectRow) Fault
 and_rows (Err fault) more = Err fault
 and_rows (Ok row) (Err fault) = Err fault
@@ -50,7 +50,7 @@ IsRefusal bytes (NotRow number) (NotDidl at) = IsChildPlace bytes number at
 IsRefusal bytes (BadRow number) (BadValue at) = IsChildPlace bytes number at
 IsRefusal bytes fault refusal = ⊥
 
--- The same where memory may have run out, and a fault that was found so.
+-- The same if memory may have run out, and a fault that was found then.
 abbrev pub IsRefusalOrMem : List ℕ → Fault → DidlError → Type 0
 IsRefusalOrMem bytes fault Mem = ⊤
 IsRefusalOrMem bytes fault refusal = IsRefusal bytes fault refusal
@@ -59,7 +59,7 @@ abbrev pub IsFaultOf : Result (List ObjectRow) Fault → Fault → Type 0
 IsFaultOf said OutOfMemory = ⊤
 IsFaultOf said fault = said ≡ Err fault
 
--- The bytes are a document of an element that has this fault, which is refused so.
+-- The bytes are a document of an element that has a fault, and this is its refusal.
 pub record IsFaulty (bytes : List ℕ) (refusal : DidlError) : Type 0 where
   pub element : Meaning
   pub document : Doc bytes element
@@ -67,15 +67,15 @@ pub record IsFaulty (bytes : List ℕ) (refusal : DidlError) : Type 0 where
   pub faulty : rows_said element ≡ Err fault
   pub refused : IsRefusal bytes fault refusal
 
--- What is answered to bytes: the rows that they say, or why they say none. Faults of markup come first. Want of memory
--- says nothing of them.
+-- What is answered to bytes: the rows that they say, or why they say none. Faults of markup come first. `Mem` says nothing of
+-- them.
 abbrev pub Answers : List ℕ → Result (List ObjectRow) DidlError → Type 0
 Answers bytes (Ok rows) = (element : Meaning) × Doc bytes element × Didl element rows
 Answers bytes (Err Mem) = ⊤
 Answers bytes (Err (Markup refusal)) = IsRefused bytes refusal × (refusal ≢ NoMemory)
 Answers bytes (Err refusal) = IsFaulty bytes refusal
 
--- What was found so far in an element, where memory may have run out.
+-- What was found so far in an element, if memory may have run out.
 abbrev pub FindsRow : Result ObjectRow Fault → Result ObjectRow Fault → Type 0
 FindsRow said (Err OutOfMemory) = ⊤
 FindsRow said found = found ≡ said

@@ -1,5 +1,5 @@
--- How long a resource plays: hours, minutes, seconds and parts of a second, read as milliseconds (UPnP
--- ContentDirectory:4 on res@duration; that it is cut to milliseconds is this project's profile).
+-- How long a resource plays: hours, minutes, seconds and parts of a second, read as milliseconds (UPnP ContentDirectory:4 on
+-- res@duration). It is cut to milliseconds, which is this project's profile.
 use Rattle.std.specs.Prelude.{◌==◌, ◌+◌, ◌-◌, ◌*◌, ◌^◌, ℕ, nat_lt, if◌then◌else◌, Option, Some, None, List, length, take, drop, position}
 use Rattle.std.specs.Option.{option_and_then, option_map}
 use Rattle.std.specs.List.{list_all}
@@ -10,7 +10,7 @@ infixl 10 ◌>>=◌
 abbrev pub ◌>>=◌ : {A B : Type 0} → Option A → (A → Option B) → Option B
 o >>= f = option_and_then f o
 
--- What stands before the first such byte and behind it, where there is one.
+-- What stands before the first such byte and after it, if there is one.
 abbrev pub parts_at : List ℕ → Option ℕ → Option (List ℕ × List ℕ)
 parts_at text None = None
 parts_at text (Some at) = Some (take at text, drop (at + 1) text)
@@ -18,7 +18,7 @@ parts_at text (Some at) = Some (take at text, drop (at + 1) text)
 abbrev pub cut_at : ℕ → List ℕ → Option (List ℕ × List ℕ)
 cut_at byte text = parts_at text (position (λ b. b == byte) text)
 
--- A value that is below a limit.
+-- A value, if it is below a limit.
 abbrev pub where_below : ℕ → ℕ → Option ℕ
 where_below limit value = if nat_lt value limit then Some value else None
 
@@ -26,7 +26,7 @@ where_below limit value = if nat_lt value limit then Some value else None
 abbrev pub sixtieth : List ℕ → Option ℕ
 sixtieth text = if length text == 2 then number_below 60 text else None
 
--- Digits behind a point as thousandths: the first three count.
+-- Digits after a point as thousandths. The first three count.
 abbrev pub scaled : ℕ → ℕ → ℕ
 scaled digits value = value * 10 ^ (3 - digits)
 
@@ -34,7 +34,7 @@ abbrev pub thousandths : List ℕ → Option ℕ
 thousandths text =
     if list_all is_ascii_digit text then option_map (scaled (length (take 3 text))) (number_below (2 ^ 32) (take 3 text)) else None
 
--- Seconds, with a point and digits behind it or without, in milliseconds.
+-- Seconds in milliseconds, with or without a point and digits after it.
 unfoldable pub with_point : List ℕ × List ℕ → Option ℕ
 with_point parts = do
   seconds ← sixtieth parts.0

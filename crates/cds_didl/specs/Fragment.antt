@@ -13,16 +13,16 @@ use Rattle.cds_object.specs.Object.{ObjectRow}
 use Rattle.cds_object.specs.Fragment.{if_there, object_attributes, duration_attribute, rate_attribute, item_front, fragment}
 use Rattle.cds_didl.specs.Filter.{wants, wants_either, wants_of_resource, wants_resource}
 
--- what a filter lets through: all, or what these names say
+-- what a filter lets through: everything, or what these names say
 abbrev pub Wanted : Type 0
 Wanted = Option (List (List ℕ))
 
--- a piece where it is wanted
+-- a piece, if it is wanted
 abbrev pub where_wanted : Bool → List ℕ → List ℕ
 where_wanted true piece = piece
 where_wanted false piece = []
 
--- an element of a number, and of a text or a number that may be missing, where its name is wanted
+-- an element of a number, and of a text or a number that may be missing, if its name is wanted
 abbrev pub number_wanted : Wanted → List ℕ → ℕ → List ℕ
 number_wanted f name number = where_wanted (wants f name) (number_element name number)
 
@@ -58,7 +58,7 @@ unfoldable pub container_wanted : Wanted → ObjectRow → List ℕ → Trackers
 container_wanted f row title trackers =
     container_start f row title trackers.child_count ++ trackers_wanted f row.object_update trackers ++ codes "</container>"
 
--- an item's resource: the base is escaped, since it may be any text
+-- an item's resource. The base is escaped, since it may be any text
 abbrev pub duration_wanted : Wanted → Option ℕ → List ℕ
 duration_wanted f duration = where_wanted (wants_of_resource f (codes "res@duration")) (if_there duration_attribute duration)
 
@@ -100,7 +100,7 @@ item_wanted f base row track =
     item_front row track ++ work_wanted f track ++ number_wanted f (codes "upnp:objectUpdateID") row.object_update
     ++ resource_where f base row.id track ++ codes "</item>"
 
--- the text of a row; that of a folder without trackers, which no row is, is empty
+-- the text of a row. That of a folder without trackers is empty, and no row is such a folder
 abbrev pub text_of : Wanted → List ℕ → ObjectRow → Content → Option Trackers → List ℕ
 text_of f base row (Folder title) None = []
 text_of f base row (Folder title) (Some trackers) = container_wanted f row title trackers
@@ -120,6 +120,6 @@ fragments f base rows = flat_map (fragment_of f base) rows
 unfoldable pub didl_text : Wanted → List ℕ → List ObjectRow → List ℕ
 didl_text f base rows = didl_start ++ fragments f base rows ++ codes "</DIDL-Lite>"
 
--- the text of the report is the case of everything and no base
+-- the text of the report is that with everything and no base
 abbrev pub ReportIsTheWhole : Type 0
 ReportIsTheWhole = (row : ObjectRow) → fragment_of None [] row ≡ fragment row

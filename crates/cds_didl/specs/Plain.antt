@@ -1,4 +1,4 @@
--- Contents that are plain: what a server reads of files and folders is, what it shows of plain records is, and what it
+-- Contents that are plain. What a server reads of files and folders is plain, and so is what it shows of plain records. What it
 -- writes of that is read back.
 use Rattle.std.specs.Prelude.{◌≡◌, ◌<◌, ◌≤◌, ◌^◌, ℕ, IfSome, None, Ok, List, length, map}
 use Rattle.std.specs.List.{AllByRecursion}
@@ -18,7 +18,7 @@ use Rattle.cds_didl.specs.Fragment.{didl_text}
 use Rattle.cds_didl.specs.Didl.{Answers}
 use Rattle.cds_didl.specs.ReadBack.{HasNumbers}
 
--- a text of allowed characters of at most 255 bytes
+-- a text of allowed characters, of at most 255 bytes
 pub record IsPlainText (text : List ℕ) : Type 0 where
   pub allowed : AreAllowed text
   pub short : length text ≤ 255
@@ -38,7 +38,7 @@ pub record IsPlain (content : Content) : Type 0 where
   pub texts : HasPlainTexts content
   pub numbers : HasNumbers content
 
--- the numbers of a file's sound as a reader of files gives them: samples below 2^36, and the others in their types
+-- the numbers of a file's sound as a reader of files gives them: samples below 2^36, and the others in the ranges of their types
 pub record HasSoundNumbers (info : FlacInfo) : Type 0 where
   pub rate : info.rate < 2 ^ 32
   pub channels : info.channels < 2 ^ 8
@@ -57,12 +57,13 @@ history_of first scans = record { first = first; maps = map map_of scans }
 abbrev pub ArePlainRecords : List Record → Type 0
 ArePlainRecords = AllByRecursion (λ r. IsPlain r.content)
 
--- where all records are plain, so is what each row of the catalog says
+-- if all records are plain, so is what each row of the catalog says
 abbrev pub RowsArePlain : Type 0
 RowsArePlain =
     (first : ℕ) (scans : List (List Record)) → AllByRecursion ArePlainRecords scans → AllByRecursion (λ row. IsPlain row.content) (catalog (history_of first scans))
 
--- scans that a server may show in one document: their records are plain, none is refused, and the numbers fit
+-- scans that a server may show in one document. Their records are plain, none is refused, the numbers fit, and so does the
+-- document
 pub record CanBeShown (base : List ℕ) (first : ℕ) (scans : List (List Record)) : Type 0 where
   pub base_allowed : AreAllowed base
   pub plain : AllByRecursion ArePlainRecords scans

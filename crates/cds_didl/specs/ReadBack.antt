@@ -53,14 +53,15 @@ pub record IsWritable (row : ObjectRow) : Type 0 where
   pub ranges : HasRanges row
   pub texts : HasAllowedTexts row.content
 
--- Rows that are written with the whole filter, in a document within the limit of bytes, are what is read of it, whatever
--- the base of allowed characters.
+-- Rows that are written with the whole filter, in a document within the limit of bytes, are what is read of it. The base may be
+-- any text of allowed characters.
 abbrev pub RowsAreReadBack : Type 0
 RowsAreReadBack =
     (base : List ℕ) (rows : List ObjectRow) → AreAllowed base → AllByRecursion IsWritable rows → length (didl_text None base rows) ≤ INPUT_LIMIT
     → Answers (didl_text None base rows) (Ok rows)
 
--- the same of what a call is given, whose numbers are in their ranges: the whole filter and texts of allowed characters
+-- the same for what a call is given, whose numbers are in their ranges: the whole filter, and texts and base of allowed
+-- characters
 pub record CanBeReadBack (filter : Option (List (List ℕ))) (base : List ℕ) (rows : List ObjectRow) : Type 0 where
   pub whole : filter ≡ None
   pub base_allowed : AreAllowed base

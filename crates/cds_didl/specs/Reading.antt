@@ -1,5 +1,5 @@
--- What an element of DIDL-Lite says of an object (UPnP ContentDirectory:4 on DIDL-Lite and on the properties of objects;
--- which of them are needed is this project's profile). Elements and attributes that are not named here are passed over.
+-- What an element of DIDL-Lite says of an object (UPnP ContentDirectory:4 on DIDL-Lite and on the properties of objects). Which
+-- of them are needed is this project's profile. Elements and attributes that are not named here are passed over.
 use Rattle.std.specs.Prelude.{◌==◌, ◌^◌, ◌++◌, ℕ, if◌then◌else◌, Option, Some, None, List, codes}
 use Rattle.std.specs.Option.{option_and_then, option_map}
 use Rattle.std.specs.List.{ends_with}
@@ -17,7 +17,7 @@ use Rattle.cds_didl.specs.declared.resource.Sound.{Sound}
 use Rattle.cds_didl.specs.declared.work.Work.{Work}
 use Rattle.cds_didl.specs.Duration.{duration_read, ◌>>=◌}
 
--- The text of the child element that must come once, and of one that may be missing.
+-- The text of the child element that must come once, and of one that may be missing. A missing one has `None` as its text.
 abbrev pub own_text : Meaning → List ℕ
 own_text element = texts_in (nodes_in element)
 
@@ -28,7 +28,8 @@ abbrev pub maybe : List ℕ → List ℕ → Meaning → Option (Option (List �
 maybe space local element =
     if is_any (named space local (nodes_in element)) then option_map Some (needed space local element) else Some None
 
--- A number of 32 bits: an attribute's, the text's of a child that must come once, and of one that may be missing.
+-- The number of an attribute, below a limit. Then numbers of 32 bits: that of a child that must come once, and of one that may be
+-- missing.
 abbrev pub number_said : ℕ → List ℕ → Meaning → Option ℕ
 number_said limit local element = option_and_then (number_below limit) (plain_value local (attrs_of element))
 
@@ -42,7 +43,7 @@ number_there (Some text) = option_map Some (number_below (2 ^ 32) text)
 abbrev pub number_maybe : List ℕ → Meaning → Option (Option ℕ)
 number_maybe local element = option_and_then number_there (maybe upnp_space local element)
 
--- The parent of an object: that of the root is `-1`.
+-- The parent of an object. The root, whose id is 0, has `-1` and no parent.
 abbrev pub parent_in : ℕ → List ℕ → Option (Option ℕ)
 parent_in id text =
     if id == 0 then (if bytes_eq text (codes "-1") then Some None else None) else option_map Some (number_below (2 ^ 32) text)
@@ -75,7 +76,7 @@ container_of element = do
   trackers ← trackers_of element
   Some (record { id = id; parent = parent; content = Folder title; object_update = update; trackers = Some trackers })
 
--- A duration and a rate that may be missing.
+-- A duration in milliseconds, and a rate. Both may be missing.
 abbrev pub duration_there : Option (List ℕ) → Option (Option ℕ)
 duration_there None = Some None
 duration_there (Some text) = option_map Some (duration_read text)
@@ -90,7 +91,7 @@ rate_there (Some text) = number_below (2 ^ 32) text
 abbrev pub rate_said : Meaning → Option ℕ
 rate_said resource = rate_there (plain_value (codes "sampleFrequency") (attrs_of resource))
 
--- Where a track's bytes are had: a path below some base.
+-- The place of a track's bytes: a path below any base.
 abbrev pub media_path : ℕ → List ℕ
 media_path id = codes "/media/" ++ decimal id
 

@@ -1,4 +1,4 @@
-//! How long a resource plays, as it is written.
+//! How the text that says how long a resource plays is read.
 
 ghost use Rattle.std.specs.Prelude.{◌≡◌, ◌==◌, ◌*◌, ◌+◌, ◌^◌, ◌<◌, ◌≤◌, IfSome, length, option_map, take, position};
 ghost use Rattle.std.specs.List.{list_all};
@@ -8,14 +8,14 @@ ghost use Rattle.cds_didl.specs.Duration.{cut_at, where_below, sixtieth, scaled,
 
 use cds_base::{read_u32, read_u64};
 
-/// A text in two.
+/// A text in two: what stands before a byte, and what stands after it.
 #[derive(Clone, Copy)]
 struct Cut<'a> {
     front: &'a [u8],
     back: &'a [u8],
 }
 
-/// The place of the first such byte.
+/// Returns the place of the first such byte.
 fn place_of(byte: u8, text: &[u8]) -> Option<usize>
     ensures exact { result ≡ position (λ b. b == byte) text.now }
     ensures inside { IfSome result (λ at. at < length text.now) }
@@ -23,7 +23,7 @@ fn place_of(byte: u8, text: &[u8]) -> Option<usize>
     text.iter().position(|b| *b == byte)
 }
 
-/// What stands before the first such byte and behind it.
+/// Cuts a text at the first such byte. Returns what stands before it and after it.
 fn cut_at(byte: u8, text: &[u8]) -> Option<Cut<'_>>
     ensures { option_map (λ cut. (cut.front.now, cut.back.now)) result ≡ cut_at byte text.now }
 {
@@ -36,7 +36,7 @@ fn cut_at(byte: u8, text: &[u8]) -> Option<Cut<'_>>
     }
 }
 
-/// The number that `00` to `59` are.
+/// Returns the number that a text from `00` to `59` is.
 fn sixtieth(text: &[u8]) -> Option<u64>
     ensures exact { result ≡ sixtieth text.now }
     ensures small { IfSome result (λ number. number < 60) }
@@ -47,7 +47,7 @@ fn sixtieth(text: &[u8]) -> Option<u64>
     below_sixty(text)
 }
 
-/// The number that the digits are, where it is below 60.
+/// Returns the number that the digits are, if it is below 60.
 fn below_sixty(text: &[u8]) -> Option<u64>
     ensures exact { result ≡ number_below 60 text.now }
     ensures small { IfSome result (λ number. number < 60) }
@@ -58,21 +58,21 @@ fn below_sixty(text: &[u8]) -> Option<u64>
     }
 }
 
-/// Whether all bytes are digits.
+/// Returns whether all bytes are digits.
 fn are_digits(text: &[u8]) -> bool
     ensures { result ≡ list_all is_ascii_digit text.now }
 {
     text.iter().all(|byte| byte.is_ascii_digit())
 }
 
-/// The first three bytes.
+/// Returns the first three bytes, or all if there are fewer.
 fn first_three(text: &[u8]) -> &[u8]
     ensures { result.now ≡ take 3 text.now }
 {
     text.split_at(text.len().min(3)).0
 }
 
-/// So many digits behind a point, of this value, as thousandths.
+/// Returns the thousandths that this many digits after a point are. `value` is their number.
 fn scaled(digits: usize, value: u32) -> u64
     requires { digits ≤ 3 }
     ensures exact { result ≡ scaled digits value }
@@ -86,7 +86,7 @@ fn scaled(digits: usize, value: u32) -> u64
     }
 }
 
-/// The thousandths that digits behind a point are.
+/// Returns the thousandths that digits after a point are.
 fn thousandths(text: &[u8]) -> Option<u64>
     ensures exact { result ≡ thousandths text.now }
     ensures small { IfSome result (λ number. number < 2 ^ 42) }
@@ -101,7 +101,7 @@ fn thousandths(text: &[u8]) -> Option<u64>
     }
 }
 
-/// Seconds with a point, in milliseconds.
+/// Returns the milliseconds of seconds with a point.
 #[tactic(auto, unfolding(crate::specs::Duration::with_point))]
 fn with_point(front: &[u8], back: &[u8]) -> Option<u64>
     ensures exact { result ≡ with_point (front.now, back.now) }
@@ -112,7 +112,7 @@ fn with_point(front: &[u8], back: &[u8]) -> Option<u64>
     Some(seconds * 1000 + thousand)
 }
 
-/// Seconds without a point, in milliseconds.
+/// Returns the milliseconds of seconds without a point.
 #[tactic(auto, unfolding(crate::specs::Duration::without_point))]
 fn without_point(text: &[u8]) -> Option<u64>
     ensures exact { result ≡ without_point text.now }
@@ -122,7 +122,7 @@ fn without_point(text: &[u8]) -> Option<u64>
     Some(seconds * 1000)
 }
 
-/// Seconds in milliseconds.
+/// Returns the milliseconds of seconds.
 fn seconds_read(text: &[u8]) -> Option<u64>
     ensures exact { result ≡ seconds_read text.now }
     ensures small { IfSome result (λ number. number < 2 ^ 43) }
@@ -133,15 +133,15 @@ fn seconds_read(text: &[u8]) -> Option<u64>
     }
 }
 
-/// Hours and milliseconds together, below 2^64.
+/// Returns hours and milliseconds together, if they are below 2^64 milliseconds.
 fn total(hours: u64, milliseconds: u64) -> Option<u64>
     ensures { result ≡ where_below (2 ^ 64) (hours * 3600000 + milliseconds) }
 {
     hours.checked_mul(3_600_000)?.checked_add(milliseconds)
 }
 
-/// The milliseconds that a duration is: digits, `:`, `00` to `59`, `:`, `00` to `59`, and behind a `.` digits, of which
-/// three count. `None` for any other text, and past 64 bits.
+/// Returns the milliseconds that a duration is, such as `0:03:25.500`. It has digits, `:`, `00` to `59`, `:` and `00` to `59`.
+/// Then a `.` and digits may come, of which three count. Returns `None` for any other text, and for 2^64 milliseconds or more.
 #[tactic(auto, unfolding(crate::specs::Duration::duration_read))]
 pub fn duration_read(text: &[u8]) -> Option<u64>
     ensures { result ≡ duration_read text.now }

@@ -1,4 +1,4 @@
-//! Which properties are written of objects.
+//! The filter that says which properties of objects are written.
 
 ghost use Rattle.std.specs.Prelude.{◌≡◌, ◌==◌, ◌≤◌, IfOk, None, length};
 ghost use Rattle.std.specs.List.{list_any, prefix_len};
@@ -9,8 +9,8 @@ use cds_base::{Bytes, Mem, Sequence};
 use std::alloc::Global;
 use std::marker::Model;
 
-/// Which properties are written of objects (UPnP ContentDirectory:4 on the filter of Browse and Search). Contracts see the
-/// names that it has, or `None` where it lets everything through.
+/// Says which properties are written of objects (UPnP ContentDirectory:4 on the filter of Browse and Search). Contracts see the
+/// names that it has, or `None` if it lets everything through.
 #[derive(Drop, Debug)]
 pub struct Filter {
     names: Option<Sequence<Bytes>>,
@@ -25,15 +25,15 @@ impl Model for Filter {
 }
 
 impl Filter {
-    /// The filter that lets everything through.
+    /// Returns the filter that lets everything through.
     pub fn all() -> Self
         ensures { result ≡ None }
     {
         Filter { names: None }
     }
 
-    /// The filter that a text is: `*` lets everything through; any other text has names parted by commas, with spaces
-    /// round them passed over. Names of no property say nothing.
+    /// Reads the filter that a text is. `*` lets everything through. Any other text has names with commas between them, and
+    /// spaces around a name are passed over. A name of no property says nothing.
     #[tactic(auto, unfolding(crate::specs::Filter::filter_of))]
     pub fn read(alloc: Global, text: &str) -> Result<Self, Mem>
         ensures { IfOk result (λ filter. filter ≡ filter_of text.now) }
@@ -45,7 +45,7 @@ impl Filter {
         Ok(Filter { names: Some(names) })
     }
 
-    /// Whether a property of this name is written.
+    /// Returns whether a property of this name is written.
     pub fn wants(&self, name: &str) -> bool
         ensures { result ≡ wants self.now name.now }
     {
@@ -55,14 +55,14 @@ impl Filter {
         }
     }
 
-    /// Whether one of two names is wanted.
+    /// Returns whether one of two names is wanted.
     pub fn wants_either(&self, name: &str, other: &str) -> bool
         ensures { result ≡ wants_either self.now name.now other.now }
     {
         self.wants(name) || self.wants(other)
     }
 
-    /// Whether anything of a resource is wanted.
+    /// Returns whether anything of a resource is wanted.
     #[tactic(auto, unfolding(crate::specs::Filter::wants_resource))]
     pub fn wants_resource(&self) -> bool
         ensures { result ≡ wants_resource self.now }
@@ -77,21 +77,21 @@ impl Filter {
     }
 }
 
-/// Whether the name is among these.
+/// Returns whether the name is among these.
 fn has_name(names: &[Bytes], name: &[u8]) -> bool
     ensures { result ≡ list_any (λ n. bytes_eq n name.now) names.now }
 {
     names.iter().any(|n| n.as_slice() == name)
 }
 
-/// Whether a byte ends a name.
+/// Returns whether a byte ends a name.
 fn is_comma(byte: u8) -> bool
     ensures { result ≡ (byte == 44) }
 {
     byte == b','
 }
 
-/// The names that a text has between its commas.
+/// Returns the names that a text has between its commas.
 fn names_of(alloc: Global, text: &[u8]) -> Result<Sequence<Bytes>, Mem>
     ensures { IfOk result (λ names. names ≡ names_of text.now) }
 {
@@ -104,14 +104,14 @@ fn names_of(alloc: Global, text: &[u8]) -> Result<Sequence<Bytes>, Mem>
     Ok(names)
 }
 
-/// The text without the spaces before and behind it.
+/// Returns the text without the spaces before and after it.
 fn trimmed(text: &[u8]) -> &[u8]
     ensures { result.now ≡ trimmed text.now }
 {
     without_back(without_front(text))
 }
 
-/// How many spaces a text begins with.
+/// Counts the spaces that a text begins with.
 fn spaces_before(text: &[u8]) -> usize
     ensures exact { result ≡ prefix_len (λ b. b == 32) text.now }
     ensures within { result ≤ length text.now }
@@ -119,14 +119,14 @@ fn spaces_before(text: &[u8]) -> usize
     text.iter().take_while(|byte| **byte == b' ').count()
 }
 
-/// The text without the spaces at its start.
+/// Returns the text without the spaces at its start.
 fn without_front(text: &[u8]) -> &[u8]
     ensures { result.now ≡ without_front text.now }
 {
     text.split_at(spaces_before(text)).1
 }
 
-/// The text without the spaces at its end.
+/// Returns the text without the spaces at its end.
 fn without_back(text: &[u8]) -> &[u8]
     ensures { result.now ≡ without_back text.now }
 {

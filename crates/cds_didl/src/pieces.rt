@@ -87,7 +87,7 @@ pub fn put_known_duration(out: &mut String, milliseconds: u64) -> Result<(), Mem
     Ok(())
 }
 
-/// Puts the attribute of the samples in a second, where they are known.
+/// Puts the attribute of the samples in a second, if they are known.
 #[tactic(auto, unfolding(cds_object::specs::Fragment::rate_attribute))]
 pub fn put_rate_attribute(out: &mut String, rate: u32) -> Result<(), Mem>
     ensures { OnOk result (string_bytes out.new ≡ string_bytes out.old ++ rate_attribute rate) }
@@ -99,7 +99,7 @@ pub fn put_rate_attribute(out: &mut String, rate: u32) -> Result<(), Mem>
     }
 }
 
-/// Puts the front of an item's element, up to and with its class.
+/// Puts the start of an item's element, up to and with its class.
 #[tactic(auto, unfolding(cds_object::specs::Fragment::item_front))]
 pub fn put_item_front(out: &mut String, row: &Row, track: &TrackContent) -> Result<(), Mem>
     ensures { OnOk result (string_bytes out.new ≡ string_bytes out.old ++ item_front row.now track.now) }

@@ -1,4 +1,4 @@
-//! Properties of objects as elements and attributes say them.
+//! How the properties of objects are read from elements and attributes.
 
 ghost use Rattle.std.specs.Prelude.{◌≡◌, ◌==◌, ◌^◌, IfOk, IfSome, codes, is_none, option_map};
 ghost use Rattle.cds_base.specs.Number.{number_below};
@@ -11,7 +11,7 @@ use cds_markup::Element;
 use cds_object::ObjectId;
 use std::alloc::Global;
 
-/// The text of the child that must come once.
+/// Returns the text of the child that must come once.
 pub fn needed(
     alloc: Global,
     element: &Element,
@@ -26,7 +26,7 @@ pub fn needed(
     }
 }
 
-/// The text of the title, which must come once.
+/// Returns the text of the title, which must come once.
 #[tactic(auto, unfolding(crate::specs::Spelled::dc_space))]
 pub fn title(alloc: Global, element: &Element) -> Result<Option<Text>, Mem>
     ensures { IfOk result (λ text. text ≡ needed dc_space (codes "title") element.now) }
@@ -34,7 +34,7 @@ pub fn title(alloc: Global, element: &Element) -> Result<Option<Text>, Mem>
     needed(alloc, element, "http://purl.org/dc/elements/1.1/", "title")
 }
 
-/// The text of a property of UPnP that must come once.
+/// Returns the text of a property of UPnP that must come once.
 #[tactic(auto, unfolding(crate::specs::Spelled::upnp_space))]
 fn upnp(alloc: Global, element: &Element, local: &str) -> Result<Option<Text>, Mem>
     ensures { IfOk result (λ text. text ≡ needed upnp_space local.now element.now) }
@@ -47,7 +47,7 @@ fn upnp(alloc: Global, element: &Element, local: &str) -> Result<Option<Text>, M
     )
 }
 
-/// Whether a property of UPnP is there.
+/// Returns whether a property of UPnP is there.
 #[tactic(auto, unfolding(crate::specs::Spelled::upnp_space))]
 fn has_upnp(element: &Element, local: &str) -> bool
     ensures { result ≡ is_any (named upnp_space local.now (nodes_in element.now)) }
@@ -55,7 +55,7 @@ fn has_upnp(element: &Element, local: &str) -> bool
     element.has_child("urn:schemas-upnp-org:metadata-1-0/upnp/", local)
 }
 
-/// The text of a property of UPnP that may be missing; the outer `None` where it comes twice.
+/// Returns the text of a property of UPnP that may be missing. The outer `None` means that it comes more than once.
 pub fn maybe_upnp(
     alloc: Global,
     element: &Element,
@@ -72,7 +72,7 @@ pub fn maybe_upnp(
     }
 }
 
-/// The number of 32 bits that an attribute is.
+/// Returns the number of 32 bits that an attribute is.
 pub fn number_said(element: &Element, local: &str) -> Option<u32>
     ensures { result ≡ number_said (2 ^ 32) local.now element.now }
 {
@@ -82,7 +82,7 @@ pub fn number_said(element: &Element, local: &str) -> Option<u32>
     }
 }
 
-/// The number of 64 bits that an attribute is.
+/// Returns the number of 64 bits that an attribute is.
 pub fn long_number_said(element: &Element, local: &str) -> Option<u64>
     ensures { result ≡ number_said (2 ^ 64) local.now element.now }
 {
@@ -92,7 +92,7 @@ pub fn long_number_said(element: &Element, local: &str) -> Option<u64>
     }
 }
 
-/// The number up to 255 that digits are.
+/// Returns the number up to 255 that digits are.
 fn read_byte(digits: &[u8]) -> Option<u8>
     ensures { result ≡ number_below (2 ^ 8) digits.now }
 {
@@ -102,7 +102,7 @@ fn read_byte(digits: &[u8]) -> Option<u8>
     }
 }
 
-/// The number up to 255 that an attribute is.
+/// Returns the number up to 255 that an attribute is.
 pub fn byte_said(element: &Element, local: &str) -> Option<u8>
     ensures { result ≡ number_said (2 ^ 8) local.now element.now }
 {
@@ -112,7 +112,7 @@ pub fn byte_said(element: &Element, local: &str) -> Option<u8>
     }
 }
 
-/// The number of 32 bits of a property of UPnP that must come once.
+/// Returns the number of 32 bits of a property of UPnP that must come once.
 pub fn number_needed(alloc: Global, element: &Element, local: &str) -> Result<Option<u32>, Mem>
     ensures { IfOk result (λ number. number ≡ number_needed local.now element.now) }
 {
@@ -122,7 +122,7 @@ pub fn number_needed(alloc: Global, element: &Element, local: &str) -> Result<Op
     }
 }
 
-/// The number that a text is, where there is one.
+/// Returns the number of 32 bits that a text is, if there is a text. The outer `None` means that the text is no such number.
 fn number_there(text: &Option<Text>) -> Option<Option<u32>>
     ensures { result ≡ number_there text.now }
 {
@@ -135,7 +135,7 @@ fn number_there(text: &Option<Text>) -> Option<Option<u32>>
     }
 }
 
-/// The number of 32 bits of a property of UPnP that may be missing; the outer `None` where it is not in its form.
+/// Returns the number of 32 bits of a property of UPnP that may be missing. The outer `None` means that it is not in its form.
 pub fn number_maybe(
     alloc: Global,
     element: &Element,
@@ -149,7 +149,8 @@ pub fn number_maybe(
     }
 }
 
-/// The parent that a text is, that of the root `-1`.
+/// Returns the parent that a text is. The root has id 0 and no parent, and its text is `-1`. The outer `None` means that the text
+/// is not in its form.
 fn parent_in(id: u32, text: &str) -> Option<Option<ObjectId>>
     ensures exact { option_map (λ parent. option_map (λ p. p.0) parent) result ≡ parent_in id text.now }
     ensures rooted { IfSome result (λ parent. is_none (option_map (λ p. p.0) parent) ≡ (id == 0)) }
@@ -163,7 +164,7 @@ fn parent_in(id: u32, text: &str) -> Option<Option<ObjectId>>
     }
 }
 
-/// The parent of an object, none for the root; the outer `None` where it is not in its form.
+/// Returns the parent of an object, which is none for the root. The outer `None` means that it is not in its form.
 pub fn parent_said(id: u32, element: &Element) -> Option<Option<ObjectId>>
     ensures exact { option_map (λ parent. option_map (λ p. p.0) parent) result ≡ parent_said id element.now }
     ensures rooted { IfSome result (λ parent. is_none (option_map (λ p. p.0) parent) ≡ (id == 0)) }
@@ -174,7 +175,7 @@ pub fn parent_said(id: u32, element: &Element) -> Option<Option<ObjectId>>
     }
 }
 
-/// Whether the class is this one.
+/// Returns `Some` if the class is this one.
 fn is_class(alloc: Global, element: &Element, class: &str) -> Result<Option<()>, Mem>
     ensures { IfOk result (λ said. said ≡ class_said class.now element.now) }
 {
@@ -184,7 +185,7 @@ fn is_class(alloc: Global, element: &Element, class: &str) -> Result<Option<()>,
     }
 }
 
-/// Whether the class is that of containers.
+/// Returns `Some` if the class is that of containers.
 #[tactic(auto, unfolding(crate::specs::Spelled::container_class))]
 pub fn is_container(alloc: Global, element: &Element) -> Result<Option<()>, Mem>
     ensures { IfOk result (λ said. said ≡ class_said container_class element.now) }
@@ -192,7 +193,7 @@ pub fn is_container(alloc: Global, element: &Element) -> Result<Option<()>, Mem>
     is_class(alloc, element, "object.container")
 }
 
-/// Whether the class is that of tracks.
+/// Returns `Some` if the class is that of tracks.
 #[tactic(auto, unfolding(crate::specs::Spelled::track_class))]
 pub fn is_track(alloc: Global, element: &Element) -> Result<Option<()>, Mem>
     ensures { IfOk result (λ said. said ≡ class_said track_class element.now) }

@@ -1,4 +1,4 @@
-//! What the types of rows say of their numbers, which these functions make known where a proof needs it.
+//! What the types of rows say of their numbers. These functions do nothing: they make the ranges known to proofs.
 
 ghost use Rattle.std.specs.Prelude.{◌<◌, ◌^◌, IfSome};
 ghost use Rattle.std.specs.Option.{option_map};
@@ -6,22 +6,22 @@ ghost use Rattle.cds_didl.specs.ReadBack.{AreTrackNumbers, HasNumbers, AreCounts
 
 use cds_object::{Content, ObjectId, Row, TrackContent, Trackers};
 
-/// A number of 32 bits.
+/// Says that this number has 32 bits.
 fn word(_number: u32)
     ensures { _number < 2 ^ 32 }
 {}
 
-/// A number of 64 bits.
+/// Says that this number has 64 bits.
 fn long(_number: u64)
     ensures { _number < 2 ^ 64 }
 {}
 
-/// A number of 8 bits.
+/// Says that this number has 8 bits.
 fn byte(_number: u8)
     ensures { _number < 2 ^ 8 }
 {}
 
-/// A number of 32 bits that may be missing.
+/// Says that this number has 32 bits, if there is one.
 fn word_there(number: Option<u32>)
     ensures { IfSome number (λ n. n < 2 ^ 32) }
 {
@@ -31,7 +31,7 @@ fn word_there(number: Option<u32>)
     }
 }
 
-/// A number of 64 bits that may be missing.
+/// Says that this number has 64 bits, if there is one.
 fn long_there(number: Option<u64>)
     ensures { IfSome number (λ n. n < 2 ^ 64) }
 {
@@ -41,7 +41,7 @@ fn long_there(number: Option<u64>)
     }
 }
 
-/// The id of a parent.
+/// Says that the id of this parent has 32 bits, if there is one.
 fn parent(parent: Option<ObjectId>)
     ensures { IfSome (option_map (λ i. i.0) parent) (λ n. n < 2 ^ 32) }
 {
@@ -51,7 +51,7 @@ fn parent(parent: Option<ObjectId>)
     }
 }
 
-/// The counts of a container.
+/// Says that the counts of a container are in the ranges of their types.
 fn counts(trackers: Option<Trackers>)
     ensures { IfSome trackers AreCounts }
 {
@@ -65,7 +65,7 @@ fn counts(trackers: Option<Trackers>)
     }
 }
 
-/// The numbers of a track.
+/// Says that the numbers of a track are in the ranges of their types.
 fn track_numbers(track: &TrackContent)
     ensures { AreTrackNumbers track.now }
 {
@@ -77,7 +77,7 @@ fn track_numbers(track: &TrackContent)
     byte(track.bits);
 }
 
-/// The numbers of a content.
+/// Says that the numbers of a content are in the ranges of their types.
 fn numbers(content: &Content)
     ensures { HasNumbers content.now }
 {
@@ -87,7 +87,7 @@ fn numbers(content: &Content)
     }
 }
 
-/// The two facts of a row, and that its numbers are in the ranges of their types.
+/// Says the two facts of a row, and that its numbers are in the ranges of their types.
 pub fn ranges(row: &Row)
     ensures { HasRanges row.now }
 {

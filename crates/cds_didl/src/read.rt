@@ -11,10 +11,13 @@ use cds_markup::{MarkupError, Placed, read_placed};
 use cds_object::Rows;
 use std::alloc::Global;
 
-/// Reads a DIDL-Lite document: the rows of its containers and items in their order. `Markup` comes where the bytes are no
-/// document; then the first element that is not as it has to be is refused, in the order of the document: `NotDidl` with
-/// the place of the root where it is another, or of the child that is no container and no item, and `BadValue` with the
-/// place of the container or item that lacks a part that it needs, has it twice or has it in another form.
+/// Reads a DIDL-Lite document. Returns the rows of its containers and items in their order.
+///
+/// `Markup` comes if the bytes are no document. Otherwise the first element that is not as it has to be is refused, in the order
+/// of the document:
+///
+/// - `NotDidl` has the place of the root, if that is another element, or of a child that is neither a container nor an item.
+/// - `BadValue` has the place of a container or item that lacks a part that it needs, has it twice or has it in another form.
 pub fn read_didl(alloc: Global, bytes: &[u8]) -> Result<Rows, DidlError>
     ensures { Answers bytes.now result }
 {
@@ -29,7 +32,7 @@ pub fn read_didl(alloc: Global, bytes: &[u8]) -> Result<Rows, DidlError>
     }
 }
 
-/// The refusal of a fault of the document's element. The bytes are named for the contract alone.
+/// Returns the refusal of a fault of the document's element. The contract alone needs the bytes.
 fn refusal_of(_bytes: &[u8], placed: &Placed, fault: Fault) -> DidlError
     requires places { ArePlaces _bytes.now placed.now }
     requires faulty { IsFaultOf (rows_said placed.now.element) fault }
@@ -47,7 +50,7 @@ fn refusal_of(_bytes: &[u8], placed: &Placed, fault: Fault) -> DidlError
     }
 }
 
-/// The place of the child element that has so many before it.
+/// Returns the place of the child element that has `number` children before it.
 fn child_place(placed: &Placed, number: usize) -> usize
     requires { number < length placed.now.children }
     ensures { slice_get placed.now.children number ≡ Some result }

@@ -1,4 +1,4 @@
-//! The resource of a track: where its bytes are had, and what they are.
+//! The resource of a track: where its bytes are, and what they are.
 
 ghost use Rattle.std.specs.Prelude.{◌≡◌, ◌==◌, IfOk, codes, option_copied, string_bytes};
 ghost use Rattle.std.specs.List.{ends_with};
@@ -22,7 +22,7 @@ pub struct Sound {
     pub channels: u8,
 }
 
-/// The duration, where there is one; the outer `None` where it is not in its form.
+/// Returns the duration in milliseconds, if there is one. The outer `None` means that it is not in its form.
 fn duration_said(resource: &Element) -> Option<Option<u64>>
     ensures { result ≡ duration_said resource.now }
 {
@@ -35,7 +35,7 @@ fn duration_said(resource: &Element) -> Option<Option<u64>>
     }
 }
 
-/// The samples in a second, 0 where they are not said.
+/// Returns the samples in a second, or 0 if nothing is said of them.
 fn rate_said(resource: &Element) -> Option<u32>
     ensures { result ≡ rate_said resource.now }
 {
@@ -45,7 +45,7 @@ fn rate_said(resource: &Element) -> Option<u32>
     }
 }
 
-/// What a resource says of the sound.
+/// Returns what a resource says of the sound.
 #[tactic(auto, unfolding(crate::specs::Reading::sound_of))]
 pub fn sound_of(resource: &Element) -> Option<Sound>
     ensures { result ≡ sound_of resource.now }
@@ -64,7 +64,7 @@ pub fn sound_of(resource: &Element) -> Option<Sound>
     })
 }
 
-/// The path that the place of an object's bytes ends in.
+/// Returns the path that the place of an object's bytes ends with.
 fn media_path(alloc: Global, id: u32) -> Result<String, Mem>
     ensures { IfOk result (λ path. string_bytes path ≡ media_path id) }
 {
@@ -74,14 +74,14 @@ fn media_path(alloc: Global, id: u32) -> Result<String, Mem>
     Ok(path)
 }
 
-/// Whether a text ends so.
+/// Returns whether a text ends with this one.
 fn ends_so(text: &[u8], end: &[u8]) -> bool
     ensures { result ≡ ends_with (λ a b. a == b) text.now end.now }
 {
     text.ends_with(end)
 }
 
-/// Whether a resource is had at the path of this object.
+/// Returns whether the place of a resource ends with the path of this object.
 fn is_media(alloc: Global, id: u32, resource: &Element) -> Result<bool, Mem>
     ensures { IfOk result (λ is. is ≡ ends_with (λ a b. a == b) (own_text resource.now) (media_path id)) }
 {
@@ -90,7 +90,7 @@ fn is_media(alloc: Global, id: u32, resource: &Element) -> Result<bool, Mem>
     Ok(ends_so(text.as_str().as_bytes(), path.as_str().as_bytes()))
 }
 
-/// The child that is a resource, which must come once.
+/// Returns the child that is a resource, which must come once.
 #[tactic(auto, unfolding(crate::specs::Spelled::didl_space))]
 fn only_resource(element: &Element) -> Option<&Element>
     ensures { option_copied result ≡ only_of (named didl_space (codes "res") (nodes_in element.now)) }
@@ -98,7 +98,7 @@ fn only_resource(element: &Element) -> Option<&Element>
     element.only_child("urn:schemas-upnp-org:metadata-1-0/DIDL-Lite/", "res")
 }
 
-/// The resource of an item with this id.
+/// Returns the resource of an item with this id.
 pub fn resource_of(alloc: Global, id: u32, element: &Element) -> Result<Option<&Element>, Mem>
     ensures { IfOk result (λ resource. option_copied resource ≡ resource_of id element.now) }
 {

@@ -14,7 +14,7 @@ use cds_object::{
     put_text_element,
 };
 
-/// Puts an element round a number, where its name is wanted.
+/// Puts an element around a number, if its name is wanted.
 fn put_number_wanted(out: &mut String, filter: &Filter, name: &str, number: u32) -> Result<(), Mem>
     ensures { OnOk result (string_bytes out.new ≡ string_bytes out.old ++ number_wanted filter.now name.now number) }
 {
@@ -25,7 +25,7 @@ fn put_number_wanted(out: &mut String, filter: &Filter, name: &str, number: u32)
     }
 }
 
-/// Puts an element round a text, where there is one.
+/// Puts an element around a text, if there is one.
 fn put_text_there(out: &mut String, name: &str, text: &Option<Text>) -> Result<(), Mem>
     ensures { OnOk result (string_bytes out.new ≡ string_bytes out.old ++ if_there (text_element name.now) text.now) }
 {
@@ -35,7 +35,7 @@ fn put_text_there(out: &mut String, name: &str, text: &Option<Text>) -> Result<(
     }
 }
 
-/// The same, where its name is wanted.
+/// Puts an element around a text, if there is one and its name is wanted.
 fn put_text_wanted(
     out: &mut String,
     filter: &Filter,
@@ -51,7 +51,7 @@ fn put_text_wanted(
     }
 }
 
-/// Puts an element round a number, where there is one and its name is wanted.
+/// Puts an element around a number, if there is one and its name is wanted.
 fn put_number_there(
     out: &mut String,
     filter: &Filter,
@@ -66,14 +66,14 @@ fn put_number_there(
     }
 }
 
-/// Puts a piece where it is wanted.
+/// Puts a piece, if it is wanted.
 fn put_wanted(out: &mut String, wanted: bool, piece: &str) -> Result<(), Mem>
     ensures { OnOk result (string_bytes out.new ≡ string_bytes out.old ++ where_wanted wanted piece.now) }
 {
     if wanted { put(out, piece) } else { Ok(()) }
 }
 
-/// Puts that a container can be searched, where it is wanted.
+/// Puts that a container can be searched, if that is wanted.
 fn put_searchable(out: &mut String, filter: &Filter) -> Result<(), Mem>
     ensures { OnOk result (string_bytes out.new ≡ string_bytes out.old ++ searchable_wanted filter.now) }
 {
@@ -84,14 +84,14 @@ fn put_searchable(out: &mut String, filter: &Filter) -> Result<(), Mem>
     )
 }
 
-/// Puts the attribute of a number of 32 bits.
+/// Puts the attribute of how many children a container has.
 fn put_count(out: &mut String, children: u32) -> Result<(), Mem>
     ensures { OnOk result (string_bytes out.new ≡ string_bytes out.old ++ number_attribute (codes "childCount") children) }
 {
     put_number_attribute(out, "childCount", u64::from(children))
 }
 
-/// Puts how many children a container has, where it is wanted.
+/// Puts how many children a container has, if that is wanted.
 fn put_child_count(out: &mut String, filter: &Filter, children: u32) -> Result<(), Mem>
     ensures { OnOk result (string_bytes out.new ≡ string_bytes out.old ++ child_count_wanted filter.now children) }
 {
@@ -102,7 +102,7 @@ fn put_child_count(out: &mut String, filter: &Filter, children: u32) -> Result<(
     }
 }
 
-/// Puts an attribute of a resource, where it is wanted.
+/// Puts an attribute of a resource, if it is wanted.
 fn put_attribute_wanted(
     out: &mut String,
     filter: &Filter,
@@ -119,7 +119,7 @@ fn put_attribute_wanted(
     }
 }
 
-/// The same of a number of 8 bits.
+/// Puts an attribute of a resource that is a number of 8 bits, if it is wanted.
 fn put_byte_wanted(
     out: &mut String,
     filter: &Filter,
@@ -148,7 +148,7 @@ fn put_container_attributes(
     Ok(())
 }
 
-/// Puts the front of a container's element, up to and with its class.
+/// Puts the start of a container's element, up to and with its class.
 #[tactic(auto, unfolding(crate::specs::Fragment::container_start))]
 fn put_container_start(
     out: &mut String,
@@ -205,7 +205,7 @@ fn put_container(
     Ok(())
 }
 
-/// Puts the attribute of a duration, where it is known.
+/// Puts the attribute of a duration, if it is known.
 fn put_duration_there(out: &mut String, duration: Option<u64>) -> Result<(), Mem>
     ensures { OnOk result (string_bytes out.new ≡ string_bytes out.old ++ if_there duration_attribute duration) }
 {
@@ -215,7 +215,7 @@ fn put_duration_there(out: &mut String, duration: Option<u64>) -> Result<(), Mem
     }
 }
 
-/// The same, where it is wanted.
+/// Puts the attribute of a duration, if it is known and wanted.
 fn put_duration(out: &mut String, filter: &Filter, duration: Option<u64>) -> Result<(), Mem>
     ensures { OnOk result (string_bytes out.new ≡ string_bytes out.old ++ duration_wanted filter.now duration) }
 {
@@ -226,7 +226,7 @@ fn put_duration(out: &mut String, filter: &Filter, duration: Option<u64>) -> Res
     }
 }
 
-/// Puts the attribute of the samples in a second, where they are known and it is wanted.
+/// Puts the attribute of the samples in a second, if they are known and it is wanted.
 fn put_rate(out: &mut String, filter: &Filter, rate: u32) -> Result<(), Mem>
     ensures { OnOk result (string_bytes out.new ≡ string_bytes out.old ++ rate_wanted filter.now rate) }
 {
@@ -237,7 +237,7 @@ fn put_rate(out: &mut String, filter: &Filter, rate: u32) -> Result<(), Mem>
     }
 }
 
-/// Puts the attributes of the bits and channels.
+/// Puts the attributes of the bits and channels, if they are wanted.
 #[tactic(auto, unfolding(crate::specs::Fragment::sound_wanted))]
 fn put_sound(out: &mut String, filter: &Filter, track: &TrackContent) -> Result<(), Mem>
     ensures { OnOk result (string_bytes out.new ≡ string_bytes out.old ++ sound_wanted filter.now track.now) }
@@ -276,7 +276,7 @@ fn put_resource_attributes(
     Ok(())
 }
 
-/// Puts where a track's bytes are had.
+/// Puts the place of a track's bytes.
 #[tactic(auto, unfolding(crate::specs::Fragment::place_text))]
 fn put_place(out: &mut String, base: &str, id: u32) -> Result<(), Mem>
     ensures { OnOk result (string_bytes out.new ≡ string_bytes out.old ++ place_text base.now id) }
@@ -306,7 +306,7 @@ fn put_resource(
     Ok(())
 }
 
-/// The same, where anything of it is wanted.
+/// Puts a track's resource, if anything of it is wanted.
 fn put_resource_wanted(
     out: &mut String,
     filter: &Filter,
@@ -323,7 +323,7 @@ fn put_resource_wanted(
     }
 }
 
-/// Puts what a track's comments say beside its title.
+/// Puts what a track's comments say beside its title, as far as it is wanted.
 #[tactic(auto, unfolding(crate::specs::Fragment::work_wanted))]
 fn put_work(out: &mut String, filter: &Filter, track: &TrackContent) -> Result<(), Mem>
     ensures { OnOk result (string_bytes out.new ≡ string_bytes out.old ++ work_wanted filter.now track.now) }
@@ -335,7 +335,7 @@ fn put_work(out: &mut String, filter: &Filter, track: &TrackContent) -> Result<(
     Ok(())
 }
 
-/// Puts the number of an object's own last change, where it is wanted.
+/// Puts the number of an object's own last change, if it is wanted.
 fn put_object_update(out: &mut String, filter: &Filter, row: &Row) -> Result<(), Mem>
     ensures { OnOk result (string_bytes out.new ≡ string_bytes out.old ++ number_wanted filter.now (codes "upnp:objectUpdateID") row.now.object_update) }
 {
@@ -361,8 +361,8 @@ fn put_item(
     Ok(())
 }
 
-/// Puts the element of a row, with the properties that the filter lets through, as `write_fragment` appends it. After a
-/// refusal the text has a part of it.
+/// Puts the element of a row as `write_fragment` appends it, with the properties that the filter lets through. After a refusal
+/// the text may have a part of it.
 pub fn put_row(out: &mut String, row: &Row, filter: &Filter, base: &str) -> Result<(), Mem>
     ensures { OnOk result (string_bytes out.new ≡ string_bytes out.old ++ fragment_of filter.now base.now row.now) }
 {

@@ -1,4 +1,4 @@
-//! Elements of DIDL-Lite as rows.
+//! How elements of DIDL-Lite are read as rows.
 
 ghost use Rattle.std.specs.Prelude.{◌≡◌, IfOk, codes, option_copied};
 ghost use Rattle.cds_markup.specs.Children.{nodes_in, elements_in, element_in, is_named};
@@ -15,7 +15,7 @@ use cds_markup::{Element, Node};
 use cds_object::{Content, ObjectId, Row, Rows, TrackContent, Trackers};
 use std::alloc::Global;
 
-/// How a container tracks the changes of its children.
+/// Returns how a container tracks the changes of its children.
 #[tactic(auto, unfolding(crate::specs::Reading::trackers_of))]
 fn trackers_of(alloc: Global, element: &Element) -> Result<Option<Trackers>, Mem>
     ensures { IfOk result (λ trackers. trackers ≡ trackers_of element.now) }
@@ -39,7 +39,7 @@ fn trackers_of(alloc: Global, element: &Element) -> Result<Option<Trackers>, Mem
     }))
 }
 
-/// The row of a container.
+/// Returns the row of a container.
 #[tactic(auto, unfolding(crate::specs::Reading::container_of))]
 fn container_of(alloc: Global, element: &Element) -> Result<Option<Row>, Mem>
     ensures { IfOk result (λ row. row ≡ container_of element.now) }
@@ -77,7 +77,7 @@ fn container_of(alloc: Global, element: &Element) -> Result<Option<Row>, Mem>
     }))
 }
 
-/// What a track says, by its work and its sound.
+/// Returns what a track says, by its work and its sound.
 fn content_with(work: Work, sound: &Sound) -> Content
     ensures { result ≡ content_with work sound.now }
 {
@@ -95,7 +95,7 @@ fn content_with(work: Work, sound: &Sound) -> Content
     })
 }
 
-/// The row of an item.
+/// Returns the row of an item.
 #[tactic(auto, unfolding(crate::specs::Reading::item_of))]
 fn item_of(alloc: Global, element: &Element) -> Result<Option<Row>, Mem>
     ensures { IfOk result (λ row. row ≡ item_of element.now) }
@@ -137,7 +137,7 @@ fn item_of(alloc: Global, element: &Element) -> Result<Option<Row>, Mem>
     }))
 }
 
-/// Whether an element has this name in the namespace of DIDL-Lite.
+/// Returns whether an element has this name in the namespace of DIDL-Lite.
 #[tactic(auto, unfolding(crate::specs::Spelled::didl_space))]
 fn is_didl(element: &Element, local: &str) -> bool
     ensures { result ≡ is_named didl_space local.now element.now }
@@ -145,7 +145,7 @@ fn is_didl(element: &Element, local: &str) -> bool
     element.is_named("urn:schemas-upnp-org:metadata-1-0/DIDL-Lite/", local)
 }
 
-/// The row, or that the child with this number has none.
+/// Returns the row. If there is none, refuses the child with this number.
 fn row_or(number: usize, row: Option<Row>) -> Result<Row, Fault>
     ensures { result ≡ row_or number row }
 {
@@ -155,7 +155,7 @@ fn row_or(number: usize, row: Option<Row>) -> Result<Row, Fault>
     }
 }
 
-/// The row that the child with this number says.
+/// Returns the row that the child with this number says.
 #[tactic(auto, unfolding(crate::specs::Didl::row_said))]
 fn row_said(alloc: Global, number: usize, element: &Element) -> Result<Row, Fault>
     ensures { FindsRow (row_said number element.now) result }
@@ -171,7 +171,7 @@ fn row_said(alloc: Global, number: usize, element: &Element) -> Result<Row, Faul
     Err(Fault::NotRow { number })
 }
 
-/// The element that a node is.
+/// Returns the element that a node is, if it is one.
 fn element_in(node: &Node) -> Option<&Element>
     ensures { option_copied result ≡ element_in node.now }
 {
@@ -181,7 +181,7 @@ fn element_in(node: &Node) -> Option<&Element>
     }
 }
 
-/// The rows of the elements among nodes.
+/// Returns the rows of the elements among nodes.
 fn rows_in(alloc: Global, nodes: &[Node]) -> Result<Rows, Fault>
     ensures { FindsRows (rows_from 0 (elements_in nodes.now)) result }
 {
@@ -200,7 +200,7 @@ fn rows_in(alloc: Global, nodes: &[Node]) -> Result<Rows, Fault>
     Ok(rows)
 }
 
-/// The rows that a document's element says.
+/// Returns the rows that a document's element says.
 #[tactic(auto, unfolding(crate::specs::Didl::rows_said))]
 pub fn rows_said(alloc: Global, element: &Element) -> Result<Rows, Fault>
     ensures { FindsRows (rows_said element.now) result }

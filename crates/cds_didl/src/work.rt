@@ -1,4 +1,4 @@
-//! What an item says of its work.
+//! What an item says of its work: its title, artist, album, genre and track number.
 
 ghost use Rattle.std.specs.Prelude.{◌≡◌, IfOk};
 ghost use Rattle.cds_didl.specs.Reading.{work_of};
@@ -18,7 +18,7 @@ pub struct Work {
     pub number: Option<u32>,
 }
 
-/// What stands in an item beside its resource.
+/// Returns what stands in an item beside its resource.
 #[tactic(auto, unfolding(crate::specs::Reading::work_of))]
 pub fn work_of(alloc: Global, element: &Element) -> Result<Option<Work>, Mem>
     ensures { IfOk result (λ work. work ≡ work_of element.now) }

@@ -13,11 +13,11 @@ use cds_base::{Mem, put};
 use cds_object::Row;
 use std::alloc::Global;
 
-/// For how many bytes a row room is taken first, so that a page is seldom moved as it grows.
+/// How many bytes of room are first taken for each row, so that a page is seldom moved as it grows.
 const ROW_LENGTH: usize = 640;
 
-/// Appends the element of a row, with the properties that the filter lets through. The place of a track's bytes is the
-/// base, which is escaped, `/media/` and the id. A refusal leaves `out` as it was.
+/// Appends the element of a row, with the properties that the filter lets through. The place of a track's bytes is the base,
+/// which is escaped, then `/media/` and the id. A refusal leaves `out` as it was.
 pub fn write_fragment(row: &Row, filter: &Filter, base: &str, out: &mut Vec<u8>) -> Result<(), Mem>
     ensures ok { OnOk result (out.new.items ≡ out.old.items ++ fragment_of filter.now base.now row.now) }
     ensures err { OnErr result (out.new.items ≡ out.old.items) }
@@ -27,7 +27,7 @@ pub fn write_fragment(row: &Row, filter: &Filter, base: &str, out: &mut Vec<u8>)
     append(text, out)
 }
 
-/// Puts the element of a row as a report has it, with every property and an empty base. After a refusal the text has a part
+/// Puts the element of a row as a report has it, with every property and an empty base. After a refusal the text may have a part
 /// of it.
 #[tactic(auto, using(crate::proofs::Whole::whole_text))]
 pub fn put_fragment(out: &mut String, row: &Row) -> Result<(), Mem>
@@ -37,8 +37,8 @@ pub fn put_fragment(out: &mut String, row: &Row) -> Result<(), Mem>
     Ok(())
 }
 
-/// Appends a document of these rows. With the whole filter, where texts and base have allowed characters only and the
-/// document has at most `INPUT_LIMIT` bytes, `read_didl` gives these rows of it. A refusal leaves `out` as it was.
+/// Appends a document of these rows. A refusal leaves `out` as it was. `read_didl` gives these rows of the document if the filter
+/// is the whole one, texts and base have allowed characters only, and the document has at most `INPUT_LIMIT` bytes.
 pub fn write_didl(rows: &[Row], filter: &Filter, base: &str, out: &mut Vec<u8>) -> Result<(), Mem>
     ensures ok { OnOk result (out.new.items ≡ out.old.items ++ didl_text filter.now base.now rows.now) }
     ensures read_back { OnOk result (IsReadBack filter.now base.now rows.now) }
@@ -48,7 +48,7 @@ pub fn write_didl(rows: &[Row], filter: &Filter, base: &str, out: &mut Vec<u8>) 
     append(text, out)
 }
 
-/// Appends a text; where nothing is there it takes its place, with no copy. A refusal leaves `out` as it was.
+/// Appends a text. If `out` is empty, the text takes its place with no copy. A refusal leaves `out` as it was.
 fn append(text: String, out: &mut Vec<u8>) -> Result<(), Mem>
     ensures ok { OnOk result (out.new.items ≡ out.old.items ++ string_bytes text) }
     ensures err { OnErr result (out.new.items ≡ out.old.items) }
@@ -61,7 +61,7 @@ fn append(text: String, out: &mut Vec<u8>) -> Result<(), Mem>
     Ok(())
 }
 
-/// The text of a document of these rows.
+/// Returns the text of a document of these rows.
 #[tactic(auto, unfolding(crate::specs::Fragment::didl_text))]
 fn didl_text(alloc: Global, rows: &[Row], filter: &Filter, base: &str) -> Result<String, Mem>
     ensures text { IfOk result (λ text. string_bytes text ≡ didl_text filter.now base.now rows.now) }
@@ -75,7 +75,7 @@ fn didl_text(alloc: Global, rows: &[Row], filter: &Filter, base: &str) -> Result
     Ok(text)
 }
 
-/// Puts the start tag of a document. After a refusal the text has a part of it.
+/// Puts the start tag of a document. After a refusal the text may have a part of it.
 #[tactic(auto, unfolding(crate::specs::Fragment::didl_start))]
 pub fn put_didl_start(out: &mut String) -> Result<(), Mem>
     ensures { OnOk result (string_bytes out.new ≡ string_bytes out.old ++ didl_start) }

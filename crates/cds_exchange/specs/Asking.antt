@@ -1,4 +1,4 @@
--- Which action asks what a replica asks (UPnP ContentDirectory:4 on GetServiceResetToken, GetSystemUpdateID and Browse).
+-- The action for each ask of a replica (UPnP ContentDirectory:4 on GetServiceResetToken, GetSystemUpdateID and Browse).
 use Rattle.std.specs.Prelude.{ℕ, List, [], codes}
 use Rattle.std.specs.Fmt.{decimal}
 use Rattle.cds_load.specs.declared.exchange.Ask.{Ask}
@@ -8,7 +8,8 @@ use Rattle.cds_soap.specs.declared.action.Action.{Action}
 use Rattle.cds_soap.specs.declared.action.Action.TheVariants as action
 use Rattle.cds_soap.specs.declared.action.BrowseRequest.{BrowseRequest}
 
--- Browse of an object by its id in plain decimal: every property, at most 256 rows from a place on, in no order of its own.
+-- Browse of an object by its id in plain decimal: every property, at most 256 rows from a place on, and no sort
+-- criteria.
 abbrev pub browse_of : ℕ → List ℕ → ℕ → BrowseRequest
 browse_of id flag start = record {
   object = decimal id;

@@ -1,4 +1,5 @@
--- What an honest server answers an ask with, and how it says that (UPnP ContentDirectory:4 on the actions and on DIDL-Lite).
+-- The answers of an honest server to an ask, and how it writes them (UPnP ContentDirectory:4 on the actions and on
+-- DIDL-Lite).
 use Rattle.std.specs.Prelude.{◌<◌, ◌≤◌, ◌^◌, ℕ, IsTrue, None, List, length}
 use Rattle.std.specs.List.{AllByRecursion}
 use Rattle.cds_base.specs.Unescape.{AreAllowed}
@@ -16,7 +17,8 @@ use Rattle.cds_load.specs.declared.exchange.Shown.{Shown}
 use Rattle.cds_load.specs.declared.exchange.Shown.TheVariants.{Text, Number, Page, Fault}
 use Rattle.cds_load.specs.Server.{Moment}
 
--- The answer that says this, where the bytes of tracks are below a base: a page is the document of its rows with every property.
+-- The answer that says this, if the bytes of tracks are below a base. A page is the document of its rows with every
+-- property.
 abbrev pub answer_saying : List ℕ → Shown → Answer
 answer_saying base (Text token) = answer.Text token
 answer_saying base (Number n) = answer.Number n
@@ -28,19 +30,20 @@ pub record IsBase (base : List ℕ) : Type 0 where
   pub allowed : AreAllowed base
   pub short : length base ≤ 262
 
--- A row of a plain object: its texts are of allowed characters and at most 255 bytes, its numbers in the ranges of their types.
+-- A row of a plain object. Its texts have allowed characters and at most 255 bytes. Its numbers are in the ranges of
+-- their types.
 pub record IsPlainRow (row : ObjectRow) : Type 0 where
   pub ranges : HasRanges row
   pub texts : HasPlainTexts row.content
 
--- A page has at most 4,096 rows, the most that a server gives at once, all plain.
+-- A page has at most 4,096 rows, the most that a server gives at once, and all of them are plain.
 pub record IsPlainPage (rows : List ObjectRow) (total update : ℕ) : Type 0 where
   pub each : AllByRecursion IsPlainRow rows
   pub few : length rows ≤ 4096
   pub total_fits : total < 2 ^ 32
   pub update_fits : update < 2 ^ 32
 
--- An honest server may show this to the ask: a reply of the ask's kind, or a fault of the table.
+-- An honest server may show this to the ask: a reply of the kind of the ask, or a fault of the table.
 abbrev pub CanBeShownTo : Ask → Shown → Type 0
 CanBeShownTo ask (Fault code) = IsTrue (is_known_code code)
 CanBeShownTo Token (Text token) = IsPlainText token
@@ -49,14 +52,14 @@ CanBeShownTo (Metadata id) (Page rows total update) = IsPlainPage rows total upd
 CanBeShownTo (Children id start) (Page rows total update) = IsPlainPage rows total update
 CanBeShownTo ask shown = ⊥
 
--- What a server has at a moment, where its rows are a tree and all of it is plain.
+-- What a server has at a moment, if its rows are a tree and all of it is plain.
 pub record IsPlainMoment (moment : Moment) : Type 0 where
   pub token : IsPlainText moment.token
   pub number : moment.number < 2 ^ 32
   pub tree : IsTree moment.rows
   pub each : AllByRecursion IsPlainRow moment.rows
 
--- The ids and places of an ask are of 32 bits.
+-- The ids and places of an ask have 32 bits.
 abbrev pub IsInRange : Ask → Type 0
 IsInRange Token = Unit {0}
 IsInRange AskNumber = Unit {0}

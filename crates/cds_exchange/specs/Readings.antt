@@ -1,5 +1,5 @@
--- What the bytes of a reply show to whom asked (UPnP Device Architecture 2.0 on control; UPnP ContentDirectory:4 on the results of
--- actions). Whether a load can go on with what is shown is no part of this.
+-- What the bytes of a reply show to an ask (UPnP Device Architecture 2.0 on control; UPnP ContentDirectory:4 on the
+-- results of actions). Whether a load can go on with what is shown is no part of this.
 use Rattle.std.specs.Prelude.{◌≡◌, ℕ, Option, Some, None, Ok, List}
 use Rattle.cds_object.specs.Object.{ObjectRow}
 use Rattle.cds_soap.specs.declared.action.Action.{Action}
@@ -12,8 +12,9 @@ use Rattle.cds_load.specs.declared.exchange.Shown.{Shown}
 use Rattle.cds_load.specs.declared.exchange.Shown.TheVariants.{Text, Number, Page, Fault}
 use Rattle.cds_exchange.specs.Asking.{action_of}
 
--- An answer shows its text, its number or its code. A page shows the rows that its result says, which has to be a DIDL-Lite
--- document, and the two numbers beside it; how many rows the answer says that there are is passed over.
+-- An answer shows its text, its number or its code. A page shows the rows that its result says, and the two numbers
+-- beside it. The result must be a DIDL-Lite document. The number of rows that the answer claims to return is passed
+-- over.
 abbrev pub ShowsAs : Answer → Shown → Type 0
 ShowsAs (answer.Page result returned matches number) (Page rows total update) = Answers result (Ok rows) × (total ≡ matches) × (update ≡ number)
 ShowsAs (answer.Number number) (Number n) = n ≡ number
@@ -21,7 +22,7 @@ ShowsAs (answer.Text text) (Text token) = token ≡ text
 ShowsAs (answer.Fault code) (Fault c) = c ≡ code
 ShowsAs given shown = ⊥
 
--- The bytes are a reply, and behind it anything, that answers the ask and shows this.
+-- The bytes are a reply that answers the ask and shows this, and after it anything.
 abbrev pub ReadsAs : Ask → List ℕ → Shown → Type 0
 ReadsAs ask bytes shown = (given : Answer) × AnsweredIn bytes (action_of ask) given × ShowsAs given shown
 

@@ -1,4 +1,4 @@
-//! What is asked, as an action and as the bytes of its request.
+//! Makes an ask into an action and into the bytes of its request.
 
 ghost use Rattle.std.specs.Prelude.{◌≡◌, ◌++◌, IfOk, OnOk, OnErr, codes};
 ghost use Rattle.cds_soap.specs.declared.action.Action.{Action};
@@ -11,11 +11,12 @@ use cds_soap::{Action, BrowseRequest, write_action};
 use std::alloc::Global;
 use url::Url;
 
-/// How many rows are asked for at once.
+/// The most rows of one ask.
 const PAGE_SIZE: u32 = 256;
 
-/// The action that an ask asks for: Browse asks for every property of an object, or of at most 256 children from a place
-/// on, in the server's own order (UPnP ContentDirectory:4 on GetServiceResetToken, GetSystemUpdateID and Browse).
+/// Returns the action of an ask (UPnP ContentDirectory:4 on GetServiceResetToken, GetSystemUpdateID and Browse). Browse
+/// asks for every property of an object, or of at most 256 of its children from a place on. The rows come in the order
+/// of the server.
 pub fn action_of(alloc: Global, ask: &Ask) -> Result<Action, Mem>
     ensures { IfOk result (λ action. action ≡ action_of ask.now) }
 {
@@ -27,7 +28,7 @@ pub fn action_of(alloc: Global, ask: &Ask) -> Result<Action, Mem>
     }
 }
 
-/// Browse of an object.
+/// Returns a Browse of an object.
 fn browse(alloc: Global, id: u32, flag: &str, start: u32) -> Result<Action, Mem>
     ensures { IfOk result (λ action. action ≡ Action.Browse (browse_of id flag.now start)) }
 {

@@ -1,4 +1,4 @@
-//! What a replica asks of a server, as the bytes of a request, and what the bytes of a reply show of it (UPnP Device
+//! What a replica asks of a server, as the bytes of a request, and what the bytes of a reply show (UPnP Device
 //! Architecture 2.0 on control; UPnP ContentDirectory:4 on Browse and on DIDL-Lite).
 #![tactic(auto)]
 

@@ -1,4 +1,4 @@
-//! What the bytes of a reply show.
+//! Reads what the bytes of a reply show.
 
 ghost use Rattle.std.specs.Prelude.{ℕ, IfOk};
 ghost use Rattle.cds_soap.specs.declared.answer.Answer.{Answer};
@@ -12,9 +12,13 @@ use cds_object::Rows;
 use cds_soap::{Action, Answer, SoapError, read_answer};
 use std::alloc::Global;
 
-/// What the bytes of a reply show to whom asked: a token, a number, the rows of a DIDL-Lite document with how many there are
-/// in all and an update number, or the code of a fault. What is behind the reply is passed over. `None` comes exactly where
-/// the bytes are no reply that answers the ask, or its page is no such document.
+/// Returns what the bytes of a reply show to an ask. Bytes after the reply are passed over. `None` comes exactly if the
+/// bytes are no reply that answers the ask, or if its page is no DIDL-Lite document. Otherwise a reply shows one of:
+///
+/// - A token.
+/// - A number.
+/// - The rows of a DIDL-Lite document, with how many there are in all and an update number.
+/// - The code of a fault.
 pub fn read_reply(alloc: Global, ask: &Ask, bytes: &[u8]) -> Result<Option<Shown>, Mem>
     ensures { IfOk result (λ shown. IsReading ask.now bytes.now shown) }
 {
@@ -25,7 +29,7 @@ pub fn read_reply(alloc: Global, ask: &Ask, bytes: &[u8]) -> Result<Option<Shown
     }
 }
 
-/// What the bytes of a reply answer to an action.
+/// Returns what the bytes of a reply answer to an action.
 fn answer_in(alloc: Global, action: &Action, bytes: &[u8]) -> Result<Option<Answer>, Mem>
     ensures { IfOk result (λ found. IsFound bytes.now action.now found) }
 {
@@ -39,7 +43,7 @@ fn answer_in(alloc: Global, action: &Action, bytes: &[u8]) -> Result<Option<Answ
     }
 }
 
-/// What an answer shows.
+/// Returns what an answer shows.
 fn shown_by(alloc: Global, answer: Answer) -> Result<Option<Shown>, Mem>
     ensures { IfOk result (λ shown. IsShown answer shown) }
 {
@@ -56,7 +60,7 @@ fn shown_by(alloc: Global, answer: Answer) -> Result<Option<Shown>, Mem>
     }
 }
 
-/// What a page shows, whatever number of rows it says that it has.
+/// Returns what a page shows, whatever number of rows it claims to have.
 fn page_shown(alloc: Global, page: &[u8], total: u32, update: u32) -> Result<Option<Shown>, Mem>
     ensures { (returned : ℕ) → IfOk result (λ shown. IsShown (Answer.Page page.now returned total update) shown) }
 {
@@ -70,7 +74,7 @@ fn page_shown(alloc: Global, page: &[u8], total: u32, update: u32) -> Result<Opt
     }
 }
 
-/// The rows of a DIDL-Lite document.
+/// Returns the rows of a DIDL-Lite document.
 fn rows_in(alloc: Global, page: &[u8]) -> Result<Option<Rows>, Mem>
     ensures { IfOk result (λ said. IsSaid page.now said) }
 {

@@ -1,11 +1,11 @@
--- What a reading call answers, beside the definition over the bytes that its source had left.
+-- What a reading call answers, compared with the definition over the bytes that its source had left.
 use Rattle.std.specs.Prelude.{◌≡◌, ℕ, ◌+◌, ◌-◌, ◌≤◌, ⊤, Option, Some, Result, Ok, Err, List}
 use Rattle.cds_base.specs.Outside.{Rose}
 use Rattle.cds_flac.specs.declared.error.FlacError.{FlacError}
 use Rattle.cds_flac.specs.declared.error.FlacError.TheVariants.{NotFlac, NoStreamInfo, BadStreamInfo, Forbidden, Truncated, BadComment, TooLong, ReadFault, Mem}
 use Rattle.cds_flac.specs.Step.{Step}
 
--- The refusal is the definition's, but for a failed read and want of memory, which no bytes decide.
+-- The refusal is the definition's, except a failed read or that memory ran out, which no bytes decide.
 abbrev pub Judged : {A : Type 0} → Step A → FlacError → Type 0
 Judged step ReadFault = ⊤
 Judged step Mem = ⊤
@@ -20,19 +20,19 @@ abbrev pub Agrees : {A : Type 0} → Step A → Result A FlacError → Option (L
 Agrees step (Ok value) left = Gives step value left
 Agrees step (Err refusal) left = Judged step refusal
 
--- The same, where the value stands elsewhere than in the result.
+-- The same, if the value is not in the result but elsewhere.
 abbrev pub Fills : {A B : Type 0} → Step A → A → Result B FlacError → Option (List ℕ) → Type 0
 Fills step value (Ok done) left = Gives step value left
 Fills step value (Err refusal) left = Judged step refusal
 
--- The same, where nobody keeps the value.
+-- The same, if nobody keeps the value.
 abbrev pub Passes : {A B : Type 0} → Step A → Result B FlacError → Option (List ℕ) → Type 0
 Passes {A} step (Ok done) left = (value : A) × Gives step value left
 Passes step (Err refusal) left = Judged step refusal
 
--- How many bytes from the start of the file a refusal is known by: the marker, the byte of a type, a length, the end of
--- the file, the text behind a length, which a block of less than 2^24 bytes holds, and the last header within the
--- limit. A failed read and want of memory may come at every byte of these.
+-- How many bytes from the start of the file a refusal is known by: the marker, the byte of a type, a length or the end of the
+-- file; the text after a length, which a block of less than 2^24 bytes holds; or the last header within the limit. A read may
+-- fail, or memory run out, at every byte of these.
 abbrev pub needed : FlacError → ℕ
 needed NotFlac = 4
 needed NoStreamInfo = 5
@@ -44,13 +44,13 @@ needed TooLong = 67108872
 needed ReadFault = 67108872
 needed Mem = 67108872
 
--- A call that begins at a place took no more than so many bytes where it gave a value, and else no more than its refusal
+-- A call that begins at a place took at most this many bytes if it gave a value. Otherwise it took at most what its refusal
 -- needs. The counts are those of the source.
 abbrev pub Took : {A : Type 0} → Result A FlacError → (A → ℕ) → ℕ → ℕ → ℕ → Type 0
 Took (Ok value) size at old new = new ≤ old + size value
 Took (Err refusal) size at old new = (at ≤ needed refusal) × (new ≤ old + (needed refusal - at))
 
--- A failed read is answered only where the source's count of faults rose.
+-- A failed read is answered only if the source's count of faults rose.
 abbrev pub FaultRose : {A : Type 0} → Result A FlacError → ℕ → ℕ → Type 0
 FaultRose (Err ReadFault) old new = Rose old new
 FaultRose other old new = ⊤

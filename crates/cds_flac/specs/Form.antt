@@ -1,5 +1,5 @@
--- The form of a FLAC file's metadata as RFC 9639 states it: a marker and a list of blocks. The first is STREAMINFO, the
--- first of type VORBIS_COMMENT has the comments.
+-- The form of a FLAC file's metadata as RFC 9639 states it: a marker and a list of blocks. The first is STREAMINFO, and the first
+-- of type VORBIS_COMMENT has the comments.
 use Rattle.std.specs.Prelude.{◌≡◌, ◌≢◌, ◌==◌, ℕ, ◌≤◌, Bool, true, false, Option, Some, None, MatchOption, List, [], ◌∷◌, ◌++◌, length, map, find, Result, Ok, Err, ⊤}
 use Rattle.std.specs.List.{flat_map}
 use Rattle.std.specs.Str.{is_utf8}
@@ -30,12 +30,12 @@ abbrev pub EachIsBlock : List Block → Type 0
 EachIsBlock [] = Unit {0}
 EachIsBlock (b ∷ more) = IsBlock b × EachIsBlock more
 
--- Exactly the last block says that it is the last.
+-- The last block says that it is the last, and no other does.
 abbrev pub LastIsLast : Block → List Block → Type 0
 LastIsLast b [] = is_last b.head ≡ true
 LastIsLast b (next ∷ more) = (is_last b.head ≡ false) × LastIsLast next more
 
--- A text behind the bytes of its length.
+-- A text after the bytes of its length.
 pub record Field : Type 0 where
   pub size : List ℕ
   pub text : List ℕ
@@ -52,8 +52,8 @@ abbrev pub EachIsField : List Field → Type 0
 EachIsField [] = Unit {0}
 EachIsField (f ∷ more) = IsField f × EachIsField more
 
--- The body of a VORBIS_COMMENT block says these comments: a vendor in UTF-8, the count of the comments in four bytes,
--- each as a text in its form, and some bytes left over.
+-- The body of a VORBIS_COMMENT block says these comments: a vendor in UTF-8, the count of the comments in four bytes, each as a
+-- text in its form, and some bytes left over.
 pub record SaysComments (body : List ℕ) (comments : List Comment) : Type 0 where
   pub vendor : Field
   pub count : List ℕ
@@ -70,13 +70,13 @@ pub record SaysComments (body : List ℕ) (comments : List Comment) : Type 0 whe
 abbrev pub is_comment_block : Block → Bool
 is_comment_block b = kind_of b.head == 4
 
--- The comments of these blocks are those of the first VORBIS_COMMENT block, where there is one.
+-- The comments of these blocks are those of the first VORBIS_COMMENT block, if there is one.
 abbrev pub FirstComments : List Block → Option (List Comment) → Type 0
 FirstComments blocks found =
     MatchOption (find is_comment_block blocks) (found ≡ None)
     (λ b. (comments : List Comment) × (found ≡ Some comments) × SaysComments b.body comments)
 
--- The bytes are the metadata of a file, with this rest behind it, and say this.
+-- The bytes are the metadata of a file, with this rest after it, and say this.
 pub record IsMetadata (bytes rest : List ℕ) (info : FlacInfo) : Type 0 where
   pub first : Block
   pub more : List Block
@@ -90,11 +90,11 @@ pub record IsMetadata (bytes rest : List ℕ) (info : FlacInfo) : Type 0 where
   pub comments : FirstComments more found
   pub says : info ≡ info_of (sound_bits first.body) found
 
--- The bytes begin with a file's metadata that says this, and the source has left what is behind it.
+-- The bytes begin with a file's metadata that says this, and the source has left what comes after it.
 abbrev pub BeginsWith : List ℕ → FlacInfo → Option (List ℕ) → Type 0
 BeginsWith bytes info left = (rest : List ℕ) × IsMetadata bytes rest info × (left ≡ Some rest)
 
--- The result is this, but for a failed read and want of memory.
+-- The result is this, except a failed read or that memory ran out.
 abbrev pub ReadAs : FlacInfo → Result FlacInfo FlacError → Type 0
 ReadAs info (Ok found) = found ≡ info
 ReadAs info (Err ReadFault) = ⊤

@@ -11,8 +11,8 @@ abbrev pub little_endian : List ℕ → ℕ
 little_endian [] = 0
 little_endian (byte ∷ rest) = byte + 256 * little_endian rest
 
--- The 64 bits of STREAMINFO that hold the rate in 20, the channels less one in 3, the bits per sample less one in 5
--- and the samples in 36: its bytes 10 to 17, after two block sizes of 16 bits and two frame sizes of 24.
+-- The 64 bits of STREAMINFO that describe the sound: the rate in 20, the channels less one in 3, the bits per sample less one in
+-- 5 and the samples in 36. They are its bytes 10 to 17, after two block sizes of 16 bits and two frame sizes of 24.
 abbrev pub sound_bits : List ℕ → ℕ
 sound_bits body = big_endian (take 8 (drop 10 body))
 

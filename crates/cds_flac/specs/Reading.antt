@@ -1,7 +1,6 @@
--- What the metadata of a FLAC file is, read in order (RFC 9639 on the marker and the metadata blocks): the fields, or
--- the first refusal. A block's type decides as soon as its byte has come, a length or a count as soon as its bytes
--- have come, a text when it is whole, and a field that reaches past its block where it begins, once all before it was
--- judged.
+-- What the metadata of a FLAC file is, read in order (RFC 9639 on the marker and the metadata blocks): the fields, or the first
+-- refusal. A block's type decides as soon as its byte has come, and a length or a count as soon as its bytes have come. A text
+-- decides when it is whole. A field that reaches past its block decides at its beginning, after all before it was judged.
 use Rattle.std.specs.Prelude.{◌==◌, ℕ, suc, zero, ◌+◌, ◌-◌, ◌%◌, nat_lt, nat_le, Bool, true, false, not, ◌&&◌, if◌then◌else◌, Option, Some, None, is_none, unwrap_or, Ok, Err, List, [], ◌∷◌, length, codes}
 use Rattle.std.specs.Str.{is_utf8, bytes_eq}
 use Rattle.cds_base.specs.declared.limits.TheConstants.{INPUT_LIMIT}
@@ -22,12 +21,12 @@ unfoldable pub text_at : ℕ → ℕ → List ℕ → Step (List ℕ)
 text_at at end left =
     if nat_lt end (at + 4) then Err (BadComment at) else after (little_number at left) (λ n rest. text_of_length at end n rest)
 
--- What follows a text that is in its form; one that is not is refused where its length field stands.
+-- What follows a text that is in its form. Another text is refused at the place of its length field.
 abbrev pub in_form : {A B : Type 0} → ℕ → Option A → (A → Step B) → Step B
 in_form at None next = Err (BadComment at)
 in_form at (Some value) next = next value
 
--- So many comments from a place on, and then what is left over in the block.
+-- This many comments from a place on, and then what is left over in the block.
 abbrev pub comments_from : ℕ → ℕ → ℕ → List ℕ → Step (List Comment)
 comments_from zero at end left = after (taken at (end - at) left) (λ over rest. Ok ([], rest))
 comments_from (suc more) at end left =
@@ -41,7 +40,7 @@ counted_comments at end left =
     if nat_lt end (at + 4) then Err (BadComment at)
     else after (little_number at left) (λ count rest. comments_from count (at + 4) end rest)
 
--- The comments behind a vendor text that is in UTF-8.
+-- The comments after a vendor text that is in UTF-8.
 abbrev pub behind_vendor : ℕ → ℕ → List ℕ → List ℕ → Step (List Comment)
 behind_vendor at end vendor left =
     if is_utf8 vendor then counted_comments (at + 4 + length vendor) end left else Err (BadComment at)
@@ -57,8 +56,8 @@ kind_of head = head % 128
 abbrev pub is_last : ℕ → Bool
 is_last head = nat_le 128 head
 
--- The body of a block of a type: the first VORBIS_COMMENT counts, everything else is passed over. `found` are the
--- comments so far, where such a block came.
+-- The body of a block of a type: the first VORBIS_COMMENT counts, everything else is passed over. `found` are the comments so
+-- far, if such a block came.
 abbrev pub is_first_comment : ℕ → Option (List Comment) → Bool
 is_first_comment kind found = kind == 4 && is_none found
 
@@ -85,7 +84,7 @@ header_of_head at head left =
 unfoldable pub header_at : ℕ → List ℕ → Step Header
 header_at at left = after (big_number at 1 left) (λ head rest. header_of_head at head rest)
 
--- So many blocks at most from a place on, to the end of the last one.
+-- At most this many blocks from a place on, to the end of the last one.
 abbrev pub blocks_from : ℕ → Option (List Comment) → ℕ → List ℕ → Step (Option (List Comment))
 blocks_from zero found at left = Err TooLong
 blocks_from (suc fewer) found at left =
@@ -93,7 +92,7 @@ blocks_from (suc fewer) found at left =
     after (block_body header.kind found (at + 4) header.length rest) (λ found rest.
     if header.last then Ok (found, rest) else blocks_from fewer found (at + 4 + header.length) rest))
 
--- Each block takes at least four bytes, so that fewer blocks than the limit has bytes are within it.
+-- Each block takes at least four bytes. So fewer blocks are within the limit than it has bytes.
 unfoldable pub most_blocks : ℕ
 most_blocks = INPUT_LIMIT
 
@@ -112,7 +111,7 @@ info_of bits found = record {
   comments = unwrap_or found [];
 }
 
--- The marker, which stands first.
+-- The marker, which comes first.
 abbrev pub marker : List ℕ
 marker = codes "fLaC"
 

@@ -1,5 +1,5 @@
--- Why the metadata of a FLAC file is refused, said of its form and of no reader (RFC 9639): what stands before the fault is in
--- its form, and the fault stands behind it. Places are counted in bytes from the start of the file.
+-- Why the metadata of a FLAC file is refused, said of its form and of no reader (RFC 9639): what comes before the fault is in its
+-- form, and the fault comes after it. Places are counted in bytes from the start of the file.
 use Rattle.std.specs.Prelude.{◌≡◌, ◌≢◌, ◌⊎◌, ℕ, zero, suc, ◌+◌, ◌≤◌, ◌<◌, true, false, Option, None, List, [], ◌∷◌, ◌++◌, length, find, Result, Ok, Err, ⊤}
 use Rattle.std.specs.List.{flat_map}
 use Rattle.std.specs.Str.{is_utf8}
@@ -17,7 +17,7 @@ abbrev pub NoneIsLast : List Block → Type 0
 NoneIsLast [] = ⊤
 NoneIsLast (b ∷ more) = (is_last b.head ≡ false) × NoneIsLast more
 
--- The first block, where there is one, is STREAMINFO.
+-- The first block, if there is one, is STREAMINFO.
 abbrev pub StartsWithStream : List Block → Type 0
 StartsWithStream [] = ⊤
 StartsWithStream (b ∷ more) = (kind_of b.head ≡ 0) × (length b.body ≡ 34)
@@ -50,11 +50,11 @@ pub record IsHeader (blocks : List Block) (head : ℕ) (size : List ℕ) : Type 
   pub stream : blocks ≡ [] → big_endian size ≡ 34
   pub within : size_of blocks + 4 + big_endian size ≤ metadata_limit
 
--- A block with this first byte, behind these blocks, is the one that has the comments.
+-- A block with this first byte, after these blocks, is the one that has the comments.
 abbrev pub HasComments : List Block → ℕ → Type 0
 HasComments blocks head = (kind_of head ≡ 4) × (find is_comment_block blocks ≡ None)
 
--- What comes next in a block of comments: the vendor, the count, or so many comments and what is left over.
+-- What comes next in a block of comments: the vendor; the count; or this many comments and then what is left over.
 pub data Next : Type 0 where
   Vendor : Next
   Count : Next
@@ -105,15 +105,15 @@ IsLengthNext Count = ⊥
 IsLengthNext (Comments zero) = ⊥
 IsLengthNext (Comments (suc more)) = ⊤
 
--- What stands next, where so many bytes of the block are left, is a fault: the length or count field reaches past the block, or
--- the text behind the length does, or the text is whole and not in its form.
+-- What comes next, if this many bytes of the block are left, is a fault. The length or count field reaches past the block, or the
+-- text after the length does, or the text is whole and not in its form.
 abbrev pub IsBad : Next → ℕ → List ℕ → Type 0
 IsBad next room bytes =
     (IsNumberNext next × (room < 4))
     ⊎ (IsLengthNext next × ((size : List ℕ) × (rest : List ℕ) × (bytes ≡ size ++ rest) × (length size ≡ 4) × (4 ≤ room) × (room < 4 + little_endian size)))
     ⊎ ((f : Field) × (rest : List ℕ) × (bytes ≡ field_bytes f ++ rest) × IsField f × (length (field_bytes f) ≤ room) × IsNotInForm next f.text)
 
--- The file ends within what stands next, of which nothing is a fault: within the length or the count, within the text, or within
+-- The file ends within what comes next, of which nothing is a fault: within the length or the count, within the text, or within
 -- what is left over.
 abbrev pub IsCutWithin : Next → ℕ → List ℕ → Type 0
 IsCutWithin next room bytes =
@@ -121,18 +121,18 @@ IsCutWithin next room bytes =
     ⊎ (IsLengthNext next × ((size : List ℕ) × (text : List ℕ) × (bytes ≡ size ++ text) × (length size ≡ 4) × (4 + little_endian size ≤ room) × (length text < little_endian size)))
     ⊎ ((next ≡ Comments 0) × (length bytes < room))
 
--- A block of comments with so many bytes has a fault where these bytes of it end: they are in their form, and what stands behind
--- them is not.
+-- A block of comments with this many bytes has a fault at the end of these bytes of it. They are in their form, and what comes
+-- after them is not.
 abbrev pub AreBadComments : ℕ → List ℕ → List ℕ → Type 0
 AreBadComments n before bytes = (next : Next) × (room : ℕ) × ComesNext before next × (n ≡ length before + room) × IsBad next room bytes
 
--- A block of comments with so many bytes has only these in the file, and none of them is a fault.
+-- A block of comments with this many bytes has only these in the file, and none of them is a fault.
 abbrev pub AreCutComments : ℕ → List ℕ → Type 0
 AreCutComments n bytes =
     (before : List ℕ) × (here : List ℕ) × (next : Next) × (room : ℕ)
     × (bytes ≡ before ++ here) × ComesNext before next × (n ≡ length before + room) × IsCutWithin next room here
 
--- The source ends within the header of a block behind these blocks.
+-- The source ends within the header of a block after these blocks.
 abbrev pub IsPartOfHeader : List Block → List ℕ → Type 0
 IsPartOfHeader blocks [] = ⊤
 IsPartOfHeader blocks (head ∷ size) = IsHead blocks head × (length size < 3)
@@ -156,7 +156,7 @@ pub record EndsInBody (bytes : List ℕ) : Type 0 where
   pub short : length here < big_endian size
   pub cut : HasComments blocks head → AreCutComments (big_endian size) here
 
--- A block behind these blocks has the forbidden type.
+-- A block after these blocks has the forbidden type.
 pub record HasForbidden (bytes : List ℕ) (at : ℕ) : Type 0 where
   pub blocks : List Block
   pub head : ℕ
@@ -180,7 +180,7 @@ pub record HasBadComment (bytes : List ℕ) (at : ℕ) : Type 0 where
   pub bad : AreBadComments (big_endian size) before rest
   pub place : at ≡ length (front_bytes blocks) + 4 + length before
 
--- A block behind STREAMINFO would pass the limit.
+-- A block after STREAMINFO would pass the limit.
 pub record PassesLimit (bytes : List ℕ) : Type 0 where
   pub first : Block
   pub more : List Block
@@ -207,14 +207,14 @@ IsRefused bytes TooLong = PassesLimit bytes
 IsRefused bytes ReadFault = ⊥
 IsRefused bytes Mem = ⊥
 
--- A refusal is one of the bytes, but for a failed read and want of memory, which no bytes decide.
+-- A refusal is one of the bytes, except a failed read or that memory ran out, which no bytes decide.
 abbrev pub RefusedAs : List ℕ → Result FlacInfo FlacError → Type 0
 RefusedAs bytes (Ok info) = ⊤
 RefusedAs bytes (Err ReadFault) = ⊤
 RefusedAs bytes (Err Mem) = ⊤
 RefusedAs bytes (Err refusal) = IsRefused bytes refusal
 
--- Bytes that are refused for something are refused for that, but for a failed read and want of memory.
+-- Bytes that are refused for something are refused for that, except if a read failed or memory ran out.
 abbrev pub AnswersRefusal : FlacError → Result FlacInfo FlacError → Type 0
 AnswersRefusal refusal (Ok info) = ⊥
 AnswersRefusal refusal (Err ReadFault) = ⊤

@@ -1,5 +1,5 @@
--- Steps of a reader over the bytes of a file: each takes the place where it begins and the bytes that are left, and
--- gives a value and what is left after it, or the refusal.
+-- Steps of a reader over the bytes of a file. Each takes the place at which it begins and the bytes that are left, and gives a
+-- value and what is left after it, or the refusal.
 use Rattle.std.specs.Prelude.{ℕ, ◌+◌, nat_le, if◌then◌else◌, Result, Ok, Err, List, length, take, drop}
 use Rattle.cds_flac.specs.declared.error.FlacError.{FlacError}
 use Rattle.cds_flac.specs.declared.error.FlacError.TheVariants.{Truncated}
@@ -13,11 +13,11 @@ abbrev pub after : {A B : Type 0} → Step A → (A → List ℕ → Step B) →
 after (Err refusal) next = Err refusal
 after (Ok found) next = next found.0 found.1
 
--- So many bytes. Where the source ends before, it ended at its last byte.
+-- This many bytes. If the source ends before, the place of the refusal is after its last byte.
 abbrev pub taken : ℕ → ℕ → List ℕ → Step (List ℕ)
 taken at n left = if nat_le n (length left) then Ok (take n left, drop n left) else Err (Truncated (at + length left))
 
--- A number of so many bytes, the highest first.
+-- A number of this many bytes, the highest first.
 abbrev pub big_number : ℕ → ℕ → List ℕ → Step ℕ
 big_number at n left = after (taken at n left) (λ bytes rest. Ok (big_endian bytes, rest))
 

@@ -41,7 +41,7 @@ comments_block body = 132 ∷ 0 ∷ 0 ∷ length body ∷ body
 abbrev pub low : ℕ → List ℕ
 low n = n ∷ 0 ∷ 0 ∷ 0 ∷ []
 
--- Faults of the marker and of block headers, each with what stands at the fault and nothing behind it.
+-- Faults of the marker and of block headers, each with what comes at the fault and nothing after it.
 abbrev pub HeaderFaultsAreRefused : Type 0
 HeaderFaultsAreRefused =
     (metadata (codes "ID3" ++ 4 ∷ []) ≡ Err NotFlac)
@@ -51,9 +51,9 @@ HeaderFaultsAreRefused =
     × (metadata (codes "fLaC" ++ 0 ∷ 0 ∷ 0 ∷ 33 ∷ []) ≡ Err BadStreamInfo)
     × (metadata (sound ++ 127 ∷ []) ≡ Err (Forbidden 42))
 
--- Faults of a comment block whose body stands at 46: no room for the vendor's length; a vendor past the block, and
--- one that leaves no room for the count; no room for the first comment's length; a comment past the block, and one
--- that leaves no room for the next one's length.
+-- Faults of a comment block whose body begins at 46: no room for the vendor's length; a vendor past the block, and one that
+-- leaves no room for the count; no room for the first comment's length; a comment past the block, and one that leaves no room for
+-- the next one's length.
 abbrev pub CommentFieldFaultsAreRefused : Type 0
 CommentFieldFaultsAreRefused =
     (metadata (sound ++ comments_block (0 ∷ 0 ∷ 0 ∷ [])) ≡ Err (BadComment 46))
@@ -63,8 +63,8 @@ CommentFieldFaultsAreRefused =
     × (metadata (sound ++ comments_block (low 0 ++ low 1 ++ low 4 ++ codes "A=B")) ≡ Err (BadComment 54))
     × (metadata (sound ++ comments_block (low 0 ++ low 2 ++ low 3 ++ codes "A=B")) ≡ Err (BadComment 61))
 
--- A text that stands before a field that has no room is judged first: a vendor that is not UTF-8, one that is cut off, a
--- comment out of form, and one that is cut off.
+-- A text before a field that has no room is judged first: a vendor that is not UTF-8, one that is cut off, a comment out of form,
+-- and one that is cut off.
 abbrev pub TextsBeforeFieldsDecide : Type 0
 TextsBeforeFieldsDecide =
     (metadata (sound ++ 132 ∷ 0 ∷ 0 ∷ 5 ∷ low 1 ++ 255 ∷ []) ≡ Err (BadComment 46))

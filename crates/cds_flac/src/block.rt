@@ -1,3 +1,5 @@
+//! The metadata blocks of a FLAC file: their headers and their bodies (RFC 9639).
+
 ghost use Rattle.std.specs.Prelude.{◌≡◌, ◌==◌, ◌+◌, ◌%◌, ◌<◌, ◌≤◌, ◌^◌, nat_le, false, IfOk};
 ghost use Rattle.cds_base.specs.declared.limits.TheConstants.{INPUT_LIMIT};
 ghost use Rattle.cds_base.specs.Outside.{Told};
@@ -13,7 +15,7 @@ use std::alloc::Global;
 /// The type that a file may not have (RFC 9639 on metadata block types).
 const FORBIDDEN: u8 = 127;
 
-/// Where the second block begins: behind the marker and STREAMINFO with its header.
+/// The place at which the second block begins: after the marker and STREAMINFO with its header.
 const SECOND_BLOCK: usize = 42;
 
 /// A metadata block's header.
@@ -27,14 +29,14 @@ pub struct Header {
     pub length: usize,
 }
 
-/// Whether a block whose header begins with this byte is the last.
+/// Returns whether a block whose header begins with this byte is the last.
 pub fn is_last_head(head: u8) -> bool
     ensures { result ≡ is_last head }
 {
     head >= 0x80
 }
 
-/// The type of a block whose header begins with this byte.
+/// Returns the type of a block whose header begins with this byte.
 pub fn kind_of_head(head: u8) -> u8
     ensures value { result ≡ kind_of head }
     ensures small { result < 128 }
@@ -42,16 +44,16 @@ pub fn kind_of_head(head: u8) -> u8
     head % 0x80
 }
 
-/// The comments of the blocks behind STREAMINFO, of which there are none where that was the last.
+/// Reads the comments of the blocks after STREAMINFO. If that was the last, there are none.
 pub fn read_further_blocks<S: Source>(
     alloc: Global,
     source: &mut S,
     last: bool,
 ) -> Result<Option<Comments>, FlacError>
-    ensures told { Told (S.left source.old) (λ bytes. Agrees (further_blocks last 42 bytes) result (S.left source.new)) }
-    ensures took { Took result (λ _. 67108826) 42 (S.moved source.old) (S.moved source.new) }
-    ensures fault { FaultRose result (S.faults source.old) (S.faults source.new) }
-    ensures never_falls { S.faults source.old ≤ S.faults source.new }
+    ensures told { Told (S.told source.old).left (λ bytes. Agrees (further_blocks last 42 bytes) result (S.told source.new).left) }
+    ensures took { Took result (λ _. 67108826) 42 (S.told source.old).moved (S.told source.new).moved }
+    ensures fault { FaultRose result (S.told source.old).faults (S.told source.new).faults }
+    ensures never_falls { (S.told source.old).faults ≤ (S.told source.new).faults }
 {
     if last {
         return Ok(None);
@@ -60,12 +62,12 @@ pub fn read_further_blocks<S: Source>(
     Ok(found)
 }
 
-/// The comments of the blocks behind STREAMINFO, to the end of the last one.
+/// Reads the comments of the blocks after STREAMINFO, to the end of the last one.
 fn read_blocks<S: Source>(alloc: Global, source: &mut S) -> Result<Option<Comments>, FlacError>
-    ensures told { Told (S.left source.old) (λ bytes. Agrees (further_blocks false 42 bytes) result (S.left source.new)) }
-    ensures took { Took result (λ _. 67108826) 42 (S.moved source.old) (S.moved source.new) }
-    ensures fault { FaultRose result (S.faults source.old) (S.faults source.new) }
-    ensures never_falls { S.faults source.old ≤ S.faults source.new }
+    ensures told { Told (S.told source.old).left (λ bytes. Agrees (further_blocks false 42 bytes) result (S.told source.new).left) }
+    ensures took { Took result (λ _. 67108826) 42 (S.told source.old).moved (S.told source.new).moved }
+    ensures fault { FaultRose result (S.told source.old).faults (S.told source.new).faults }
+    ensures never_falls { (S.told source.old).faults ≤ (S.told source.new).faults }
 {
     let mut found = None;
     let mut place = SECOND_BLOCK;
@@ -79,15 +81,15 @@ fn read_blocks<S: Source>(alloc: Global, source: &mut S) -> Result<Option<Commen
     }
 }
 
-/// The header of the block at `at`.
+/// Reads the header of the block at `at`.
 fn read_header<S: Source>(source: &mut S, at: usize) -> Result<Header, FlacError>
     requires { at ≤ 67108868 }
-    ensures told { Told (S.left source.old) (λ bytes. Agrees (header_at at bytes) result (S.left source.new)) }
+    ensures told { Told (S.told source.old).left (λ bytes. Agrees (header_at at bytes) result (S.told source.new).left) }
     ensures within { IfOk result (λ header. at + header.length ≤ INPUT_LIMIT) }
     ensures short { IfOk result (λ header. header.length < 2 ^ 24) }
-    ensures took { Took result (λ _. 4) at (S.moved source.old) (S.moved source.new) }
-    ensures fault { FaultRose result (S.faults source.old) (S.faults source.new) }
-    ensures never_falls { S.faults source.old ≤ S.faults source.new }
+    ensures took { Took result (λ _. 4) at (S.told source.old).moved (S.told source.new).moved }
+    ensures fault { FaultRose result (S.told source.old).faults (S.told source.new).faults }
+    ensures never_falls { (S.told source.old).faults ≤ (S.told source.new).faults }
 {
     let head = read_byte(source, at)?;
     let kind = kind_of_head(head);
@@ -105,7 +107,7 @@ fn read_header<S: Source>(source: &mut S, at: usize) -> Result<Header, FlacError
     })
 }
 
-/// The body of a block: the first VORBIS_COMMENT block is read, everything else is passed over.
+/// Reads the body of the first VORBIS_COMMENT block, and passes over that of every other block.
 fn read_body<S: Source>(
     alloc: Global,
     source: &mut S,
@@ -116,10 +118,10 @@ fn read_body<S: Source>(
 ) -> Result<Option<Comments>, FlacError>
     requires near { at + length ≤ 67108868 }
     requires short { length < 2 ^ 24 }
-    ensures told { Told (S.left source.old) (λ bytes. Agrees (block_body kind found at length bytes) result (S.left source.new)) }
-    ensures took { Took result (λ _. length) at (S.moved source.old) (S.moved source.new) }
-    ensures fault { FaultRose result (S.faults source.old) (S.faults source.new) }
-    ensures never_falls { S.faults source.old ≤ S.faults source.new }
+    ensures told { Told (S.told source.old).left (λ bytes. Agrees (block_body kind found at length bytes) result (S.told source.new).left) }
+    ensures took { Took result (λ _. length) at (S.told source.old).moved (S.told source.new).moved }
+    ensures fault { FaultRose result (S.told source.old).faults (S.told source.new).faults }
+    ensures never_falls { (S.told source.old).faults ≤ (S.told source.new).faults }
 {
     if counts(kind, &found) {
         let comments = read_comment_block(alloc, source, at, at + length)?;
@@ -130,7 +132,7 @@ fn read_body<S: Source>(
     }
 }
 
-/// Whether a block of this type is the first VORBIS_COMMENT block.
+/// Returns whether a block of this type is the first VORBIS_COMMENT block.
 fn counts(kind: u8, found: &Option<Comments>) -> bool
     ensures { result ≡ is_first_comment kind found.now }
 {

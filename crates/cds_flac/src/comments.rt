@@ -1,3 +1,5 @@
+//! The comments of a VORBIS_COMMENT block (RFC 9639).
+
 ghost use Rattle.std.specs.Prelude.{◌≡◌, ◌==◌, position, ◌+◌, ◌-◌, ◌≤◌, length, IfOk};
 ghost use Rattle.std.specs.Str.{is_utf8};
 ghost use Rattle.std.specs.List.{list_all};
@@ -11,7 +13,7 @@ use crate::{Comment, Comments, FlacError};
 use cds_base::{Bytes, Mem, Source, Text};
 use std::alloc::Global;
 
-/// The comments of a VORBIS_COMMENT block's body, from its place to its end.
+/// Reads the comments of a VORBIS_COMMENT block's body, from its place to its end.
 pub fn read_comment_block<S: Source>(
     alloc: Global,
     source: &mut S,
@@ -21,10 +23,10 @@ pub fn read_comment_block<S: Source>(
     requires in_block { at ≤ end }
     requires near { end ≤ 67108868 }
     requires short { end ≤ at + 16777216 }
-    ensures told { Told (S.left source.old) (λ bytes. Agrees (comment_block at end bytes) result (S.left source.new)) }
-    ensures took { Took result (λ _. end - at) at (S.moved source.old) (S.moved source.new) }
-    ensures fault { FaultRose result (S.faults source.old) (S.faults source.new) }
-    ensures never_falls { S.faults source.old ≤ S.faults source.new }
+    ensures told { Told (S.told source.old).left (λ bytes. Agrees (comment_block at end bytes) result (S.told source.new).left) }
+    ensures took { Took result (λ _. end - at) at (S.told source.old).moved (S.told source.new).moved }
+    ensures fault { FaultRose result (S.told source.old).faults (S.told source.new).faults }
+    ensures never_falls { (S.told source.old).faults ≤ (S.told source.new).faults }
 {
     let vendor = read_text_at(alloc, source, at, end)?;
     if !is_text(vendor.as_slice()) {
@@ -34,7 +36,7 @@ pub fn read_comment_block<S: Source>(
     Ok(comments)
 }
 
-/// The comments whose count stands at `at`, and what is left over in the block.
+/// Reads the comments whose count is at `at`, and what is left over in the block.
 fn read_counted<S: Source>(
     alloc: Global,
     source: &mut S,
@@ -44,10 +46,10 @@ fn read_counted<S: Source>(
     requires in_block { at ≤ end }
     requires near { end ≤ 67108868 }
     requires short { end ≤ at + 16777216 }
-    ensures told { Told (S.left source.old) (λ bytes. Agrees (counted_comments at end bytes) result (S.left source.new)) }
-    ensures took { Took result (λ _. end - at) at (S.moved source.old) (S.moved source.new) }
-    ensures fault { FaultRose result (S.faults source.old) (S.faults source.new) }
-    ensures never_falls { S.faults source.old ≤ S.faults source.new }
+    ensures told { Told (S.told source.old).left (λ bytes. Agrees (counted_comments at end bytes) result (S.told source.new).left) }
+    ensures took { Took result (λ _. end - at) at (S.told source.old).moved (S.told source.new).moved }
+    ensures fault { FaultRose result (S.told source.old).faults (S.told source.new).faults }
+    ensures never_falls { (S.told source.old).faults ≤ (S.told source.new).faults }
 {
     if end < at + 4 {
         return Err(FlacError::BadComment { at });
@@ -57,7 +59,7 @@ fn read_counted<S: Source>(
     Ok(comments)
 }
 
-/// So many comments from `at` on, and what is left over in the block.
+/// Reads this many comments from `at` on, and what is left over in the block.
 fn read_comments<S: Source>(
     alloc: Global,
     source: &mut S,
@@ -68,10 +70,10 @@ fn read_comments<S: Source>(
     requires in_block { at ≤ end }
     requires near { end ≤ 67108868 }
     requires short { end ≤ at + 16777216 }
-    ensures told { Told (S.left source.old) (λ bytes. Agrees (comments_from count at end bytes) result (S.left source.new)) }
-    ensures took { Took result (λ _. end - at) at (S.moved source.old) (S.moved source.new) }
-    ensures fault { FaultRose result (S.faults source.old) (S.faults source.new) }
-    ensures never_falls { S.faults source.old ≤ S.faults source.new }
+    ensures told { Told (S.told source.old).left (λ bytes. Agrees (comments_from count at end bytes) result (S.told source.new).left) }
+    ensures took { Took result (λ _. end - at) at (S.told source.old).moved (S.told source.new).moved }
+    ensures fault { FaultRose result (S.told source.old).faults (S.told source.new).faults }
+    ensures never_falls { (S.told source.old).faults ≤ (S.told source.new).faults }
 {
     let mut comments = Comments::new(alloc);
     let mut place = at;
@@ -89,7 +91,7 @@ fn read_comments<S: Source>(
     Ok(comments)
 }
 
-/// The text whose length stands at `at`, in a block that ends at `end`.
+/// Reads the text whose length is at `at`, in a block that ends at `end`.
 fn read_text_at<S: Source>(
     alloc: Global,
     source: &mut S,
@@ -99,11 +101,11 @@ fn read_text_at<S: Source>(
     requires in_block { at ≤ end }
     requires near { end ≤ 67108868 }
     requires short { end ≤ at + 16777216 }
-    ensures told { Told (S.left source.old) (λ bytes. Agrees (text_at at end bytes) result (S.left source.new)) }
+    ensures told { Told (S.told source.old).left (λ bytes. Agrees (text_at at end bytes) result (S.told source.new).left) }
     ensures in_block { IfOk result (λ text. at + 4 + length text ≤ end) }
-    ensures took { Took result (λ text. 4 + length text) at (S.moved source.old) (S.moved source.new) }
-    ensures fault { FaultRose result (S.faults source.old) (S.faults source.new) }
-    ensures never_falls { S.faults source.old ≤ S.faults source.new }
+    ensures took { Took result (λ text. 4 + length text) at (S.told source.old).moved (S.told source.new).moved }
+    ensures fault { FaultRose result (S.told source.old).faults (S.told source.new).faults }
+    ensures never_falls { (S.told source.old).faults ≤ (S.told source.new).faults }
 {
     if end < at + 4 {
         return Err(FlacError::BadComment { at });
@@ -116,14 +118,14 @@ fn read_text_at<S: Source>(
     Ok(text)
 }
 
-/// Whether the bytes are UTF-8.
+/// Returns whether the bytes are UTF-8.
 fn is_text(bytes: &[u8]) -> bool
     ensures { result ≡ is_utf8 bytes.now }
 {
     std::str::from_utf8(bytes).is_ok()
 }
 
-/// The comment that the text is, `None` where it is out of form.
+/// Returns the comment that the text is, or `None` if it is out of form.
 #[tactic(auto, unfolding(crate::specs::Comment::comment_of))]
 fn split_comment(alloc: Global, text: &[u8]) -> Result<Option<Comment>, Mem>
     ensures { IfOk result (λ comment. comment ≡ comment_of text.now) }
@@ -139,7 +141,7 @@ fn split_comment(alloc: Global, text: &[u8]) -> Result<Option<Comment>, Mem>
     }
 }
 
-/// The place of the first equals sign.
+/// Returns the place of the first equals sign.
 fn equals_sign(text: &[u8]) -> Option<usize>
     ensures { result ≡ position (λ b. b == 61) text.now }
 {
@@ -163,14 +165,14 @@ fn make_comment(alloc: Global, name: &[u8], value: &[u8]) -> Result<Option<Comme
     Ok(Some(Comment { name, value }))
 }
 
-/// Whether there is at least one byte and all are printable ASCII.
+/// Returns whether there is at least one byte and all are printable ASCII.
 fn is_comment_name(name: &[u8]) -> bool
     ensures { result ≡ is_name name.now }
 {
     !name.is_empty() && is_printable(name)
 }
 
-/// Whether all bytes are printable ASCII.
+/// Returns whether all bytes are printable ASCII.
 fn is_printable(name: &[u8]) -> bool
     ensures { result ≡ list_all is_name_byte name.now }
 {

@@ -1,3 +1,5 @@
+//! Why a file's metadata was not read.
+
 ghost use Rattle.cds_flac.specs.declared.error.FlacError.TheVariants.{ReadFault, Mem};
 ghost use Rattle.std.specs.Prelude.{◌≡◌};
 

@@ -2,32 +2,32 @@
 
 ghost use Rattle.cds_flac.specs.Vector.{TitleIsRead, CutsAreTruncated, HeaderFaultsAreRefused, CommentFieldFaultsAreRefused, TextFaultsAreRefused, TextsBeforeFieldsDecide};
 
-/// A file of one comment, read by the definition.
+/// States how a file of one comment is read.
 pub fn title_is_read()
     ensures { TitleIsRead }
 {}
 
-/// The same file cut off, read by the definition.
+/// States how the same file is refused if it is cut off.
 pub fn cuts_are_truncated()
     ensures { CutsAreTruncated }
 {}
 
-/// Faults of the marker and of block headers.
+/// States how faults of the marker and of block headers are refused.
 pub fn header_faults_are_refused()
     ensures { HeaderFaultsAreRefused }
 {}
 
-/// Lengths and counts that reach past a comment block.
+/// States how lengths and counts that reach past a comment block are refused.
 pub fn comment_field_faults_are_refused()
     ensures { CommentFieldFaultsAreRefused }
 {}
 
-/// Texts before a field that has no room.
+/// States that a text before a field that has no room is judged first.
 pub fn texts_before_fields_decide()
     ensures { TextsBeforeFieldsDecide }
 {}
 
-/// Texts of a comment block that are out of form.
+/// States how texts of a comment block that are out of form are refused.
 pub fn text_faults_are_refused()
     ensures { TextFaultsAreRefused }
 {}

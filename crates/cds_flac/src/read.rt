@@ -1,3 +1,5 @@
+//! The reader of the metadata: the marker, STREAMINFO and the blocks after it (RFC 9639).
+
 ghost use Rattle.std.specs.Prelude.{◌≡◌, ◌<◌, ◌≤◌, ◌^◌, IfOk};
 ghost use Rattle.cds_base.specs.Outside.{Told};
 ghost use Rattle.cds_flac.specs.Agree.{Agrees, FaultRose, Took};
@@ -13,38 +15,38 @@ use crate::{Comments, FlacError, FlacInfo};
 use cds_base::Source;
 use std::alloc::Global;
 
-/// Reads the metadata at the front of a FLAC file (RFC 9639): the marker and the metadata blocks, and nothing behind
-/// the last of them. Comments are those of the first VORBIS_COMMENT block. The first fault in reading order is
-/// answered, with no byte taken behind what it is known by: of `BadComment` at most the greatest length of a block behind
-/// its place. `ReadFault` comes only where the count of faults rose.
+/// Reads the metadata at the beginning of a FLAC file (RFC 9639): the marker and the metadata blocks, and nothing after the last
+/// of them. Comments are those of the first VORBIS_COMMENT block. The first fault in reading order is answered, with no byte
+/// taken after what it is known by. For `BadComment` this is at most the greatest length of a block after its place. `ReadFault`
+/// comes only if the count of faults rose.
 pub fn read_flac<S: Source>(alloc: Global, source: &mut S) -> Result<FlacInfo, FlacError>
-    ensures told { Told (S.left source.old) (λ bytes. Agrees (metadata bytes) result (S.left source.new)) }
-    ensures form { IfOk result (λ info. Told (S.left source.old) (λ bytes. BeginsWith bytes info (S.left source.new))) }
-    ensures all { Told (S.left source.old) (λ bytes. ReadsWhatBegins bytes result) }
-    ensures refused { Told (S.left source.old) (λ bytes. RefusedAs bytes result) }
-    ensures all_refused { Told (S.left source.old) (λ bytes. RefusesWhatIs bytes result) }
+    ensures told { Told (S.told source.old).left (λ bytes. Agrees (metadata bytes) result (S.told source.new).left) }
+    ensures form { IfOk result (λ info. Told (S.told source.old).left (λ bytes. BeginsWith bytes info (S.told source.new).left)) }
+    ensures all { Told (S.told source.old).left (λ bytes. ReadsWhatBegins bytes result) }
+    ensures refused { Told (S.told source.old).left (λ bytes. RefusedAs bytes result) }
+    ensures all_refused { Told (S.told source.old).left (λ bytes. RefusesWhatIs bytes result) }
     ensures rate { IfOk result (λ info. info.rate < 2 ^ 20) }
     ensures channels { IfOk result (λ info. (1 ≤ info.channels) × (info.channels ≤ 8)) }
     ensures bits { IfOk result (λ info. (1 ≤ info.bits) × (info.bits ≤ 32)) }
     ensures samples { IfOk result (λ info. info.samples < 2 ^ 36) }
-    ensures took { Took result (λ _. 67108868) 0 (S.moved source.old) (S.moved source.new) }
-    ensures fault { FaultRose result (S.faults source.old) (S.faults source.new) }
-    ensures never_falls { S.faults source.old ≤ S.faults source.new }
+    ensures took { Took result (λ _. 67108868) 0 (S.told source.old).moved (S.told source.new).moved }
+    ensures fault { FaultRose result (S.told source.old).faults (S.told source.new).faults }
+    ensures never_falls { (S.told source.old).faults ≤ (S.told source.new).faults }
 {
     let info = read_metadata(alloc, source)?;
     Ok(info)
 }
 
-/// The marker and the blocks, one after another.
+/// Reads the marker and the blocks, one after another.
 fn read_metadata<S: Source>(alloc: Global, source: &mut S) -> Result<FlacInfo, FlacError>
-    ensures told { Told (S.left source.old) (λ bytes. Agrees (metadata bytes) result (S.left source.new)) }
+    ensures told { Told (S.told source.old).left (λ bytes. Agrees (metadata bytes) result (S.told source.new).left) }
     ensures rate { IfOk result (λ info. info.rate < 2 ^ 20) }
     ensures channels { IfOk result (λ info. (1 ≤ info.channels) × (info.channels ≤ 8)) }
     ensures bits { IfOk result (λ info. (1 ≤ info.bits) × (info.bits ≤ 32)) }
     ensures samples { IfOk result (λ info. info.samples < 2 ^ 36) }
-    ensures took { Took result (λ _. 67108868) 0 (S.moved source.old) (S.moved source.new) }
-    ensures fault { FaultRose result (S.faults source.old) (S.faults source.new) }
-    ensures never_falls { S.faults source.old ≤ S.faults source.new }
+    ensures took { Took result (λ _. 67108868) 0 (S.told source.old).moved (S.told source.new).moved }
+    ensures fault { FaultRose result (S.told source.old).faults (S.told source.new).faults }
+    ensures never_falls { (S.told source.old).faults ≤ (S.told source.new).faults }
 {
     read_marker(source)?;
     let head = read_stream_head(source)?;
@@ -53,12 +55,12 @@ fn read_metadata<S: Source>(alloc: Global, source: &mut S) -> Result<FlacInfo, F
     Ok(make_info(alloc, bits, found))
 }
 
-/// The marker `fLaC`.
+/// Reads the marker `fLaC`.
 fn read_marker<S: Source>(source: &mut S) -> Result<(), FlacError>
-    ensures told { Told (S.left source.old) (λ bytes. Agrees (marker_at bytes) result (S.left source.new)) }
-    ensures took { Took result (λ _. 4) 0 (S.moved source.old) (S.moved source.new) }
-    ensures fault { FaultRose result (S.faults source.old) (S.faults source.new) }
-    ensures never_falls { S.faults source.old ≤ S.faults source.new }
+    ensures told { Told (S.told source.old).left (λ bytes. Agrees (marker_at bytes) result (S.told source.new).left) }
+    ensures took { Took result (λ _. 4) 0 (S.told source.old).moved (S.told source.new).moved }
+    ensures fault { FaultRose result (S.told source.old).faults (S.told source.new).faults }
+    ensures never_falls { (S.told source.old).faults ≤ (S.told source.new).faults }
 {
     let mut four = [0u8; 4];
     fill(source, 0, &mut four)?;
@@ -68,12 +70,12 @@ fn read_marker<S: Source>(source: &mut S) -> Result<(), FlacError>
     Ok(())
 }
 
-/// The first byte of STREAMINFO's header, which is the first block.
+/// Reads the header of STREAMINFO, which is the first block, and returns its first byte.
 fn read_stream_head<S: Source>(source: &mut S) -> Result<u8, FlacError>
-    ensures told { Told (S.left source.old) (λ bytes. Agrees (stream_head bytes) result (S.left source.new)) }
-    ensures took { Took result (λ _. 4) 4 (S.moved source.old) (S.moved source.new) }
-    ensures fault { FaultRose result (S.faults source.old) (S.faults source.new) }
-    ensures never_falls { S.faults source.old ≤ S.faults source.new }
+    ensures told { Told (S.told source.old).left (λ bytes. Agrees (stream_head bytes) result (S.told source.new).left) }
+    ensures took { Took result (λ _. 4) 4 (S.told source.old).moved (S.told source.new).moved }
+    ensures fault { FaultRose result (S.told source.old).faults (S.told source.new).faults }
+    ensures never_falls { (S.told source.old).faults ≤ (S.told source.new).faults }
 {
     let head = read_byte(source, 4)?;
     let kind = kind_of_head(head);
@@ -90,12 +92,12 @@ fn read_stream_head<S: Source>(source: &mut S) -> Result<u8, FlacError>
     Ok(head)
 }
 
-/// The 64 bits of STREAMINFO's body that describe the sound.
+/// Reads the 64 bits of STREAMINFO's body that describe the sound.
 fn read_sound<S: Source>(source: &mut S) -> Result<u64, FlacError>
-    ensures told { Told (S.left source.old) (λ bytes. Agrees (sound_at bytes) result (S.left source.new)) }
-    ensures took { Took result (λ _. 34) 8 (S.moved source.old) (S.moved source.new) }
-    ensures fault { FaultRose result (S.faults source.old) (S.faults source.new) }
-    ensures never_falls { S.faults source.old ≤ S.faults source.new }
+    ensures told { Told (S.told source.old).left (λ bytes. Agrees (sound_at bytes) result (S.told source.new).left) }
+    ensures took { Took result (λ _. 34) 8 (S.told source.old).moved (S.told source.new).moved }
+    ensures fault { FaultRose result (S.told source.old).faults (S.told source.new).faults }
+    ensures never_falls { (S.told source.old).faults ≤ (S.told source.new).faults }
 {
     let mut body = [0u8; 34];
     fill(source, 8, &mut body)?;
@@ -104,7 +106,7 @@ fn read_sound<S: Source>(source: &mut S) -> Result<u64, FlacError>
     ]))
 }
 
-/// What the bits and the comments say.
+/// Returns what the bits and the comments say.
 fn make_info(alloc: Global, bits: u64, found: Option<Comments>) -> FlacInfo
     ensures value { result ≡ info_of bits found }
     ensures rate { result.rate < 2 ^ 20 }

@@ -16,7 +16,7 @@ pub record Version : Type 0 where
   pub content : Content
   pub object_update : ℕ
 
--- a row of a copy: of an object that a note added it is not known yet what it says
+-- a row of a copy: of an object that a note added, it is not known yet what it says
 pub record KnownRow : Type 0 where
   pub id : ℕ
   pub parent : Option ℕ
@@ -34,7 +34,7 @@ known_row row = record {
   trackers = row.trackers;
 }
 
--- the row of the object, where it is known what it says
+-- the row of the object, if it is known what it says
 abbrev pub shown_row : KnownRow → Option ObjectRow
 shown_row row = option_map (λ (v : Version). record {
   id = row.id;
@@ -102,8 +102,8 @@ abbrev pub put_known : KnownRow → List KnownRow → List KnownRow
 put_known row [] = row ∷ []
 put_known row (next ∷ rows) = cond (nat_lt row.id next.id) (row ∷ next ∷ rows) (next ∷ put_known row rows)
 
--- whether a change cannot be: it adds an id that stands, or under what is no container; it modifies or deletes the root,
--- or what does not stand; it deletes a container that is the parent of a row
+-- whether a change cannot be: it adds an id that stands, or adds under what is no container; it modifies or deletes the root, or
+-- what does not stand; or it deletes a container that is the parent of a row
 abbrev pub cannot_be : List KnownRow → Event → Bool
 cannot_be rows (ObjAdd id number st parent class) = knows id rows || not (knows_container parent rows)
 cannot_be rows (ObjMod id number st) = nat_eq id 0 || not (knows id rows)
@@ -132,13 +132,13 @@ pub data Happening : Type 0 where
   Changes : Event → Happening
   Reads : ℕ → Version → Happening
 
--- the rows of a copy after all that befell it, the newest standing first
+-- the rows of a copy after all that befell it; the newest is the first
 abbrev pub rows_after : List ObjectRow → List Happening → List KnownRow
 rows_after rows [] = map known_row rows
 rows_after rows (Changes event ∷ older) = changed (rows_after rows older) event
 rows_after rows (Reads id v ∷ older) = read_anew (rows_after rows older) id v
 
--- whether a happening is the deletion of an id; the number at which it adds or modifies it; and whether it shows a version of
+-- whether a happening is the deletion of an id; the number at which it adds or modifies the id; and whether it shows a version of
 -- it that is not below a number
 abbrev pub deletes : ℕ → Happening → Bool
 deletes id (Changes (ObjDel other number st)) = nat_eq other id
@@ -163,8 +163,8 @@ abbrev pub since_deletion : ℕ → List Happening → List Happening
 since_deletion id [] = []
 since_deletion id (happening ∷ older) = cond (deletes id happening) [] (happening ∷ since_deletion id older)
 
--- whether an id is unread: since its last deletion a change added or modified it at a number, and no read since that
--- deletion showed this number or a later one
+-- whether an id is unread. It is if, since its last deletion, a change added or modified it at a number, and no read showed this
+-- number or a later one
 abbrev pub is_unread : ℕ → List Happening → Bool
 is_unread id happenings =
     list_any (λ (number : ℕ). not (list_any (shows_from id number) (since_deletion id happenings))) (filter_map (marks id) (since_deletion id happenings))
@@ -185,7 +185,7 @@ least (n ∷ ns) = lesser (least ns)
 abbrev pub least_unread : List Happening → Option ℕ
 least_unread happenings = least (filter (λ id. is_unread id happenings) (filter_map named happenings))
 
--- the greatest objectUpdateID that was read; 0 where nothing was
+-- the greatest objectUpdateID that was read; 0 if nothing was
 abbrev pub read_up_to : List Happening → ℕ
 read_up_to [] = 0
 read_up_to (Changes event ∷ older) = read_up_to older

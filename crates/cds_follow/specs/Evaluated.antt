@@ -1,5 +1,5 @@
--- Replicas and servers evaluated from the definitions: replicas of an honest server, but for notes that no honest server
--- sends where a row says so.
+-- Replicas and servers evaluated from the definitions. The replicas are of an honest server, except for notes that no honest
+-- server sends if a row says so.
 use Rattle.std.specs.Prelude.{◌≡◌, ℕ, List, [], ◌∷◌, map, None, Some, codes, true, false}
 use Rattle.cds_catalog.specs.Evaluated.{Outline, outline}
 use Rattle.cds_object.specs.declared.event.Class.TheVariants.{Track}
@@ -24,7 +24,7 @@ deleted = record { name = 1; seq = 2; number = 2; events = ObjDel 1 2 false ∷ 
 abbrev pub modified : Note
 modified = record { name = 1; seq = 2; number = 2; events = ObjMod 1 2 false ∷ [] }
 
--- a whole load of the empty library, then a subscription and its first note; the newest entry stands first
+-- a whole load of the empty library, then a subscription and its first note; the newest entry is the first
 abbrev pub prepared : List Entry
 prepared =
     Gets 1 first ∷ Granted 1 1 ∷ Calls 0 ∷ Asks 0 ∷ Asks 0 ∷ Asks 0 ∷ Asks 0 ∷ Asks 0 ∷ Asks 0 ∷ Starts 0 ∷ []
@@ -72,8 +72,8 @@ read_ahead_of_notes =
     × Known (given_by a_token 0 track_changes (Gets 5 modified ∷ Asks 4 ∷ Gets 4 added ∷ prepared)) (Stands 2)
     ((0, None, 0, 2 ∷ 1 ∷ 0 ∷ []) ∷ (1, Some 0, 2, []) ∷ [])
 
--- notes that no honest server sends, taken at once, are judged as one: only the first change above the position has to be the
--- next one, and that goes before what cannot be
+-- notes that no honest server sends, taken at once, are judged as one. Only the first change above the position has to be the
+-- next one, and this is judged before what cannot be
 abbrev pub leaps : Note
 leaps = record { name = 1; seq = 2; number = 5; events = ObjAdd 2 5 false 0 Track ∷ [] }
 
@@ -115,8 +115,8 @@ names_begin_anew =
     (received (Delivers first ∷ Accepts 1 ∷ Requests ∷ []) ≡ first ∷ [])
     × (received (Accepts 1 ∷ Requests ∷ Delivers first ∷ Accepts 1 ∷ Requests ∷ []) ≡ [])
 
--- a first note above the position drops the copy and begins a load; while a load runs it begins this anew, and one that is
--- not above the position leaves it
+-- a first note above the position drops the copy and begins a load. While a load runs it begins this anew. A first note that is
+-- not above the position leaves the load
 abbrev pub subscribed_anew : List Command
 subscribed_anew = Grants 200 [] 1800 ∷ Ends 0 1 ∷ Ticks 200 ∷ Scans one ∷ Grants 0 [] 1800 ∷ []
 
@@ -147,7 +147,7 @@ first_notes_drop =
     × (next_ask (known_by (given_by a_token 0 granted_late (Gets 2 first_late ∷ loading))) ≡ Some Token)
     × (next_ask (known_by (and_turn (Delivers first) (given_by a_token 0 granted_late loading))) ≡ Some (Metadata 0))
 
--- a note that comes before its subscription is accepted is taken with it; changes that the load has counted already are not
+-- a note that comes before its subscription is accepted is taken with it. Changes that the load has counted already are not
 -- counted again
 abbrev pub came_and_went : List Command
 came_and_went = Ticks 200 ∷ Grants 0 [] 1800 ∷ Scans [] ∷ Scans one ∷ []

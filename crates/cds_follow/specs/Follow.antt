@@ -1,5 +1,5 @@
--- What a replica knows after its turns: the load or the copy, the changes of the notes that it took, and what it asks and
--- says (this project's profile).
+-- What a replica knows after its turns: the load or the copy, the changes of the notes that it took, and what it asks and says
+-- (this project's profile).
 use Rattle.std.specs.Prelude.{◌+◌, ◌&&◌, ◌||◌, ℕ, Bool, true, false, cond, not, nat_eq, nat_lt, max, List, [], ◌∷◌, ◌++◌, map, reverse, Option, Some, None}
 use Rattle.std.specs.List.{filter_map}
 use Rattle.std.specs.Option.{option_map}
@@ -17,9 +17,9 @@ use Rattle.cds_load.specs.declared.exchange.Shown.{Shown}
 use Rattle.cds_load.specs.declared.exchange.Shown.TheVariants.{Text, Number, Page, Fault}
 use Rattle.cds_object.specs.Events.{update_of, object_of}
 
--- what a replica knows beside its notes: the load, or the copy that it ended with; the number of the last load that ended;
--- the greatest number of a note that was taken; the changes of notes that were taken since the load began; and, since it
--- ended, what befell the copy, the newest first
+-- what a replica knows besides its notes: the load, or the copy that it ended with; the number of the last load that ended; the
+-- greatest number of a note that was taken; the changes of notes that were taken since the load began; and, since it ended, what
+-- befell the copy, the newest first
 pub record Known : Type 0 where
   pub held : Held
   pub base : ℕ
@@ -31,8 +31,8 @@ pub record Known : Type 0 where
 abbrev pub position : Known → ℕ
 position known = max known.base known.last_note
 
--- what becomes of a note or a reply: it is taken, and this is known then; or a reply cannot be read as one to the ask; or
--- the first change above the position is not the one after it; or what is told of this object cannot be
+-- what becomes of a note or a reply: it is taken, and this is known then; or a reply cannot be read as one to the ask; or the
+-- first change above the position is not the one after it; or what is told of this object cannot be
 pub data Outcome : Type 0 where
   Knows : Known → Outcome
   CannotBeRead : Outcome
@@ -101,8 +101,8 @@ abbrev pub with_notes : List Note → Known → Outcome
 with_notes notes known =
     heard_of notes (with_changes (dropped notes known).held (dropped notes known) (position known) (new_changes (position known) notes))
 
--- what is known when a load ends with the number that it read and its rows: the changes above that number which notes
--- told meanwhile are counted on them
+-- what is known when a load ends with the number that it read and its rows. The changes above that number which notes told
+-- meanwhile are counted on them
 abbrev pub load_ended : Known → ℕ → List ObjectRow → Outcome
 load_ended known number rows =
     counted_from rows (record { held = HasCopy number rows; base = number; last_note = known.last_note; kept = []; happenings = [] }) number
@@ -167,7 +167,7 @@ known_after known CannotBeRead = known
 known_after known (Jumps expected first) = known
 known_after known (Tears id) = known
 
--- what a replica knows before any turn, and after its turns, the newest standing first
+-- what a replica knows before any turn; and after its turns, the newest of which is the first
 abbrev pub nothing_known : Known
 nothing_known = record { held = Idle; base = 0; last_note = 0; kept = []; happenings = [] }
 
@@ -180,8 +180,8 @@ known_by (Accepts name ∷ older) = known_after (known_by older) (with_notes (ta
 known_by (Refuses ∷ older) = known_by older
 known_by (Delivers note ∷ older) = known_after (known_by older) (with_notes (taken_by (Delivers note) older) (known_by older))
 
--- whether a note or a reply is refused by what is known, and whether a note is by the notes alone: its name is not known, or
--- there is no room to hold it
+-- whether a note or a reply is refused by what is known; and whether a note is refused by the notes alone: its name is not known,
+-- or there is no room to hold it
 abbrev pub is_no : Outcome → Bool
 is_no (Knows now) = false
 is_no CannotBeRead = true
@@ -224,7 +224,7 @@ ask_of known (HasPage number listing page) = load_ask (HasPage number listing pa
 abbrev pub next_ask : Known → Option Ask
 next_ask known = ask_of known known.held
 
--- what a copy says, by the least object that is unread: it waits for it; or for a version that was read and is above the
+-- what a copy says, by the least object that is unread: it waits for that; or for a version that was read and is above the
 -- position; or it stands
 abbrev pub copy_says : Known → Option ℕ → Says
 copy_says known (Some id) = BehindRead id
@@ -248,7 +248,7 @@ says_of None known = says_without_gap known known.held
 abbrev pub says : List ReplicaTurn → Says
 says turns = says_of (missing turns) (known_by turns)
 
--- the rows of the copy whose objects are known, in ascending order of ids; none where no copy stands
+-- the rows of the copy whose objects are known, in ascending order of ids; none if no copy stands
 abbrev pub rows_held : Held → List Happening → List ObjectRow
 rows_held (HasCopy number rows) happenings = filter_map shown_row (rows_after rows happenings)
 rows_held Idle happenings = []

@@ -1,4 +1,4 @@
--- What an honest server gives a replica: the replies and notes that a server gives which accepted these commands.
+-- What an honest server that accepted these commands gives a replica: its replies and notes.
 use Rattle.std.specs.Prelude.{◌≡◌, ◌<◌, ◌≤◌, ℕ, true, List, [], ◌∷◌, Option, Some, None, Contains}
 use Rattle.cds_catalog.specs.History.{end_of}
 use Rattle.cds_catalog.specs.Catalog.{catalog}
@@ -10,7 +10,7 @@ use Rattle.cds_commands.specs.Subscriptions.{granted}
 use Rattle.cds_follow.specs.Inbox.{ReplicaTurn, Begins, Shows, Requests, Accepts, Refuses, Delivers, is_out}
 use Rattle.cds_follow.specs.Follow.{known_by, next_ask, and_turn}
 
--- what a server of a reset token has that accepted commands, after a first number
+-- what a server of a reset token that accepted commands has, after a first number
 abbrev pub moment_after : List ℕ → ℕ → List Command → Moment
 moment_after token first commands = record {
   token = token;
@@ -18,8 +18,8 @@ moment_after token first commands = record {
   rows = catalog (scans_of first commands);
 }
 
--- what a replica did, each at a length of the list of the server's commands: it began a load; its next ask was answered;
--- its subscribe request went out; the reply to it came, with a name or with a refusal; a note was delivered
+-- what a replica did, each at a length of the list of the server's commands: it began a load; its next ask was answered; its
+-- subscribe request went out; the reply to it came, with a name or with a refusal; a note was delivered
 pub data Entry : Type 0 where
   Starts : ℕ → Entry
   Asks : ℕ → Entry
@@ -36,7 +36,7 @@ length_at (Granted k name) = k
 length_at (Denied k) = k
 length_at (Gets k note) = k
 
--- the turns with the reply to the next ask; where nothing is asked nothing is shown
+-- the turns with the reply to the next ask; if nothing is asked nothing is shown
 abbrev pub asked_at : Moment → List ReplicaTurn → Option Ask → List ReplicaTurn
 asked_at moment turns None = turns
 asked_at moment turns (Some ask) = and_turn (Shows (reply_to moment ask)) turns
@@ -67,9 +67,9 @@ length_before_call (Granted k name ∷ older) = length_before_call older
 length_before_call (Denied k ∷ older) = length_before_call older
 length_before_call (Gets k note ∷ older) = length_before_call older
 
--- what holds of an entry after the older ones: a name is accepted where a request is out, and it was granted within the
--- commands of its length, and not within those of the entry before this request; a note was sent within them. A refusal may
--- come at any time
+-- what holds of an entry after the older ones. A name is accepted while a request is out. It was granted within the commands of
+-- its length, and not within those of the entry before this request. A note was sent within the commands of its length. A refusal
+-- may come at any time
 abbrev pub IsHonest : List ℕ → ℕ → List Command → List Entry → Entry → Type 0
 IsHonest token first commands older (Starts k) = Unit {0}
 IsHonest token first commands older (Asks k) = Unit {0}

@@ -6,8 +6,8 @@ use Rattle.std.specs.Option.{option_eq}
 use Rattle.cds_commands.specs.Notes.{Note, notes_from_to}
 use Rattle.cds_load.specs.declared.exchange.Shown.{Shown}
 
--- one turn of a replica: a load is begun; a reply shows something; a subscribe request goes out; its reply comes, with a
--- name or with a refusal; a note is delivered. A turn that was refused is none, and the newest stands first
+-- one turn of a replica: a load is begun; a reply shows something; a subscribe request goes out; its reply comes, with a name or
+-- with a refusal; a note is delivered. A turn that was refused is none, and the newest is the first
 pub data ReplicaTurn : Type 0 where
   Begins : ReplicaTurn
   Shows : Shown → ReplicaTurn
@@ -53,8 +53,8 @@ early_notes (Accepts name ∷ older) = []
 early_notes (Refuses ∷ older) = []
 early_notes (Delivers note ∷ older) = cond (is_early note older) (note ∷ early_notes older) (early_notes older)
 
--- the notes of the accepted name that were received: those that came since it was accepted, and those that came early
--- for the request that it answered
+-- the notes of the accepted name that were received: those that came since it was accepted, and those that came early for the
+-- request that it answered
 abbrev pub received : List ReplicaTurn → List Note
 received [] = []
 received (Begins ∷ older) = received older
@@ -84,7 +84,7 @@ missing_of notes next = cond (list_any (λ (note : Note). nat_lt next note.seq) 
 abbrev pub missing : List ReplicaTurn → Option ℕ
 missing turns = missing_of (received turns) (next_seq turns)
 
--- notes without those whose name and SEQ an earlier one has; the newest stands first
+-- notes without those whose name and SEQ an earlier one has; the newest is the first
 abbrev pub is_same_note : Note → Note → Bool
 is_same_note note other = nat_eq note.name other.name && nat_eq note.seq other.seq
 
@@ -103,8 +103,8 @@ held_notes turns = waiting_notes turns ++ different (early_notes turns)
 abbrev pub held_limit : ℕ
 held_limit = 64
 
--- the notes that a turn lets the replica take, in ascending order of SEQs: those that are taken after it and were not
--- before; what was taken under another name is not counted
+-- the notes that a turn lets the replica take, in ascending order of SEQs: those that are taken after it and were not before.
+-- What was taken under another name is not counted
 abbrev pub taken_by : ReplicaTurn → List ReplicaTurn → List Note
 taken_by Begins older = []
 taken_by (Shows shown) older = []
@@ -115,8 +115,8 @@ taken_by (Delivers note) older =
     cond (is_accepted note.name older)
     (notes_from_to (next_seq older) (next_seq (Delivers note ∷ older)) (received (Delivers note ∷ older))) []
 
--- what becomes of a delivered note by the notes alone: its name is not known; it came before; no room is left to hold it;
--- it is held for the request that is out; it is held for a SEQ before it that is missing; or it is next, and to be taken
+-- what becomes of a delivered note by the notes alone: its name is not known; it came before; no room is left to hold it; it is
+-- held for the request that is out; it is held for a SEQ before it that is missing; or it is next, and to be taken
 pub data Arrival : Type 0 where
   IsUnknown : Arrival
   IsRepeat : Arrival

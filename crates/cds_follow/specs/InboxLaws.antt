@@ -36,8 +36,8 @@ received_notes_came = (turns : List ReplicaTurn) (note : Note) →
     (Contains (received turns) note)
     ↔ ((newer : List ReplicaTurn) × (older : List ReplicaTurn) × (turns ≡ newer ++ Delivers note ∷ older) × CameFor note newer older)
 
--- the notes that were taken are the longest run of SEQs from 0 on that were received: each before the next one was, and
--- the next one was not
+-- the notes that were taken are the longest run of SEQs from 0 on that were received: all before the next one were, and the next
+-- one was not
 abbrev pub the_longest_run_is_taken : Type 0
 the_longest_run_is_taken = (turns : List ReplicaTurn) →
     ((seq : ℕ) → seq < next_seq turns → has_seq (received turns) seq ≡ true) × (has_seq (received turns) (next_seq turns) ≡ false)
@@ -59,7 +59,7 @@ each_note_is_taken_once = (turns : List ReplicaTurn) →
     (map (λ (note : Note). note.seq) (taken_since turns) ≡ range_with_len 0 (next_seq turns))
     × (taken_since turns ≡ notes_from_to 0 (next_seq turns) (received turns))
 
--- a SEQ is missing exactly where it is the least that was not received, and a greater one was
+-- a SEQ is missing if and only if it is the least that was not received, and a greater one was
 abbrev pub the_least_is_missing : Type 0
 the_least_is_missing = (turns : List ReplicaTurn) (seq : ℕ) →
     (missing turns ≡ Some seq → (has_seq (received turns) seq ≡ false) × ((less : ℕ) → less < seq → has_seq (received turns) less ≡ true)

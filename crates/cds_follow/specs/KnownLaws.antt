@@ -31,7 +31,7 @@ has_copy (Lists number listing) = false
 has_copy (HasPage number listing page) = false
 has_copy (HasCopy number rows) = true
 
--- the number that a reply showed, and that of a turn; 0 where it showed none
+-- the number that a reply showed, and that of a turn; 0 if it showed none
 abbrev pub shown_number : Shown → ℕ
 shown_number (Text token) = 0
 shown_number (Number number) = number
@@ -46,7 +46,7 @@ number_shown (Accepts name) = 0
 number_shown Refuses = 0
 number_shown (Delivers note) = 0
 
--- the number that was shown when a load ended last: no copy stood before it, and one stood after it; 0 where none ended
+-- the number that was shown when a load ended last: no copy stood before it, and one stood after it; 0 if none ended
 abbrev pub ended_at : List ReplicaTurn → ℕ
 ended_at [] = 0
 ended_at (turn ∷ older) = cond (not (has_copy (known_by older).held) && has_copy (known_by (turn ∷ older)).held) (number_shown turn) (ended_at older)
@@ -55,8 +55,8 @@ ended_at (turn ∷ older) = cond (not (has_copy (known_by older).held) && has_co
 abbrev pub base_is_the_last_end : Type 0
 base_is_the_last_end = (turns : List ReplicaTurn) → (known_by turns).base ≡ ended_at turns
 
--- the new changes of notes behind those before them: notes that are refused tell none, and where a first note drops the copy
--- those before it do not count any more
+-- the new changes of notes, after those before them. Notes that are refused tell none. If a first note drops the copy, those
+-- before it do not count any more
 abbrev pub and_told : List Note → Known → List Event → List Event
 and_told notes known told =
     cond (is_no (with_notes notes known)) told (cond (is_drop (position known) notes) [] told ++ new_changes (position known) notes)
@@ -77,13 +77,13 @@ counted_changes [] = []
 counted_changes (Changes event ∷ older) = counted_changes older ++ event ∷ []
 counted_changes (Reads id v ∷ older) = counted_changes older
 
--- where a copy stands, exactly the changes above the number that its load read were counted on it, each once and in order, of
--- those that were new since this load began
+-- if a copy stands, the changes that were counted on it are these: those above the number that its load read, of those that were
+-- new since this load began. Each was counted once and in order
 abbrev pub counted_changes_are_fresh : Type 0
 counted_changes_are_fresh = (turns : List ReplicaTurn) (number : ℕ) (rows : List ObjectRow) → (known_by turns).held ≡ HasCopy number rows →
     counted_changes (known_by turns).happenings ≡ changes_above (known_by turns).base (told_since turns)
 
--- notes that are taken leave a load, and the rows that a copy's load read, as they are, but for a first note that drops them
+-- notes that are taken leave a load, and the rows that a copy's load read, as they are, except a first note that drops them
 abbrev pub notes_leave_the_load : Type 0
 notes_leave_the_load = (notes : List Note) (known now : Known) → with_notes notes known ≡ Knows now → is_drop (position known) notes ≡ false →
     (now.held ≡ known.held) × (now.base ≡ known.base)

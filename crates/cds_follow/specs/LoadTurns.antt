@@ -23,7 +23,7 @@ load_turns (Refuses ∷ older) = load_turns older
 load_turns (Delivers note ∷ older) =
     cond (is_drop (position (known_by older)) (taken_by (Delivers note) older)) (LoadBegins ∷ load_turns older) (load_turns older)
 
--- what a replica holds of its load is what the turns of its loads hold, with notes between them or not: so what holds of every
+-- what a replica holds of its load is what the turns of its loads hold, with notes between them or not. So what holds of every
 -- list of such turns holds of its load
 abbrev pub loads_are_of_turns : Type 0
 loads_are_of_turns = (turns : List ReplicaTurn) → (known_by turns).held ≡ held_by (load_turns turns)
@@ -38,6 +38,6 @@ ShowsRows (Accepts name ∷ older) = ShowsRows older
 ShowsRows (Refuses ∷ older) = ShowsRows older
 ShowsRows (Delivers note ∷ older) = ShowsRows older
 
--- the turns of loads show rows where all turns do: so the laws of attempts hold of them
+-- the turns of loads show rows if all turns do: so the laws of attempts hold of them
 abbrev pub loads_show_rows : Type 0
 loads_show_rows = (turns : List ReplicaTurn) → ShowsRows turns → LoadShowsRows (load_turns turns)

@@ -1,5 +1,5 @@
--- What a replica knows does not depend on the names themselves, only on which notes have one name: so what holds where each
--- subscription is named by the number of its grant holds for every way to name them apart.
+-- What a replica knows does not depend on the names themselves, only on which notes have one name. So a law for subscriptions
+-- that are named by the numbers of their grants holds for every way to name them apart.
 use Rattle.std.specs.Prelude.{◌≡◌, ℕ, List, [], ◌∷◌}
 use Rattle.cds_commands.specs.Notes.{Note}
 use Rattle.cds_follow.specs.Inbox.{ReplicaTurn, Begins, Shows, Requests, Accepts, Refuses, Delivers, taken_by, arrival}

@@ -12,7 +12,7 @@ use Rattle.cds_follow.specs.Copy.{Happening, Changes, deletes, marks, since_dele
 use Rattle.cds_follow.specs.Given.{moment_after}
 use Rattle.cds_commands.specs.Notes.{told_between}
 
--- what a server has after so many of its commands, the oldest ones
+-- what a server has after this many of its commands, the oldest ones
 abbrev pub served : List ℕ → ℕ → List Command → ℕ → Moment
 served token first commands k = moment_after token first (oldest k commands)
 
@@ -35,12 +35,12 @@ versions_are_settled = (token : List ℕ) (first : ℕ) (commands : List Command
     (before : ObjectRow) × (row_of id (served token first commands j).rows ≡ Some before) × (before.content ≡ row.content)
     × (before.object_update ≡ row.object_update)
 
--- changes as they befall a copy: the newest stands first
+-- changes as they befall a copy: the newest is the first
 abbrev pub befalling : List Event → List Happening
 befalling events = reverse (map Changes events)
 
--- of what stands now the changes since an earlier number tell: nothing deleted it, where its objectUpdateID is not above that
--- number; and else it was added or modified at its objectUpdateID, and not deleted since
+-- the changes since an earlier number tell of what stands now. If its objectUpdateID is not above that number, nothing deleted
+-- it. Otherwise it was added or modified at its objectUpdateID, and not deleted since
 abbrev pub versions_are_told : Type 0
 versions_are_told = (token : List ℕ) (first : ℕ) (commands : List Command) (j k id : ℕ) (row : ObjectRow) → AreLibraries (scans_of first commands).maps → j ≤ k →
     row_of id (served token first commands k).rows ≡ Some row →

@@ -1,4 +1,4 @@
--- The events of a span lead from the rows at its beginning to those at its end: words and laws.
+-- The events of a span lead from the rows at its beginning to those at its end: definitions and laws.
 use Rattle.std.specs.Prelude.{◌≡◌, ◌≤◌, ℕ, List, [], ◌∷◌, ◌++◌, filter, None}
 use Rattle.cds_object.specs.Object.{ObjectRow, is_folder}
 use Rattle.cds_object.specs.declared.event.Event.{Event}

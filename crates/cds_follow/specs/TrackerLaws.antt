@@ -14,7 +14,7 @@ use Rattle.cds_follow.specs.Follow.{known_by}
 use Rattle.cds_follow.specs.LoadTurns.{ShowsRows}
 use Rattle.cds_object.specs.Events.{update_of}
 
--- whether a change is of an object under a container: the parent is the one that an addition names, and else that of the
+-- whether a change is of an object under a container: the parent is the one that an addition names, and otherwise that of the
 -- object's row before the change
 abbrev pub is_under : ℕ → List KnownRow → Event → Bool
 is_under id rows (ObjAdd object number st parent class) = nat_eq parent id
@@ -41,7 +41,7 @@ is_deleted (ObjMod object number st) = false
 is_deleted (ObjDel object number st) = true
 is_deleted (StDone object number) = false
 
--- the changes under a container since a note added it, or since the load where none did, the newest first
+-- the changes under a container since a note added it, or since the load if none did, the newest first
 abbrev pub changes_under : ℕ → List ObjectRow → List Happening → List Event
 changes_under id rows [] = []
 changes_under id rows (Changes event ∷ older) =
@@ -49,7 +49,7 @@ changes_under id rows (Changes event ∷ older) =
     (cond (is_under id (rows_after rows older) event) (event ∷ changes_under id rows older) (changes_under id rows older))
 changes_under id rows (Reads other v ∷ older) = changes_under id rows older
 
--- the trackers that a container began with: none but its number where a note added it, and else those that the load read
+-- the trackers that a container began with: none but its number if a note added it, and else those that the load read
 abbrev pub began_with : ℕ → List ObjectRow → List Happening → Option Trackers
 began_with id rows [] = option_and_then (λ (row : ObjectRow). row.trackers) (row_of id rows)
 began_with id rows (Changes event ∷ older) =

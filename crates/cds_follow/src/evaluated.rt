@@ -2,52 +2,53 @@
 
 ghost use Rattle.cds_follow.specs.Evaluated as evaluated;
 
-/// A note that comes before the one that it follows: the gap is named, then the object that is still to be read.
+/// States that a note that comes before the one that it follows leaves a gap, and then its object is still to be read.
 pub fn notes_out_of_order()
     ensures { evaluated.notes_out_of_order }
 {}
 
-/// A repeated note is counted once.
+/// States that a repeated note is counted once.
 pub fn repeated_notes()
     ensures { evaluated.repeated_notes }
 {}
 
-/// An object that is gone when it is read stays unread until its deletion is told.
+/// States that an object that is gone when it is read stays unread until its deletion is told.
 pub fn read_of_what_is_gone()
     ensures { evaluated.read_of_what_is_gone }
 {}
 
-/// An object that is read in a later version than the notes tell holds the copy back until they tell it.
+/// States that an object that is read in a later version than the notes tell holds the copy back until they tell it.
 pub fn read_ahead_of_notes()
     ensures { evaluated.read_ahead_of_notes }
 {}
 
-/// Notes that are taken at once are judged as one.
+/// States that notes that are taken at once are judged as one.
 pub fn notes_taken_at_once()
     ensures { evaluated.notes_taken_at_once }
 {}
 
-/// A second subscribe request drops the early notes of the first.
+/// States that a second subscribe request drops the early notes of the first.
 pub fn early_notes_are_dropped()
     ensures { evaluated.early_notes_are_dropped }
 {}
 
-/// A name that is accepted again begins anew.
+/// States that a name that is accepted again begins anew.
 pub fn names_begin_anew()
     ensures { evaluated.names_begin_anew }
 {}
 
-/// A first note above the position drops the copy, or begins a running load anew.
+/// States that a first note above the position drops the copy, or begins a running load anew.
 pub fn first_notes_drop()
     ensures { evaluated.first_notes_drop }
 {}
 
-/// A note that comes before its subscription is accepted is taken with it, and what the load has counted is not counted again.
+/// States that a note that comes before its subscription is accepted is taken with it, and that what the load has counted is not
+/// counted again.
 pub fn changes_are_not_counted_again()
     ensures { evaluated.changes_are_not_counted_again }
 {}
 
-/// The premises of the laws on honest servers hold of a replica that is given notes out of order.
+/// States that the premises of the laws on honest servers hold of a replica that is given notes out of order.
 pub fn premises_hold()
     ensures { evaluated.premises_hold }
 {}

@@ -1,3 +1,5 @@
+//! The answers of a replica.
+
 /// What a replica knows.
 #[derive(Clone, Copy, Debug, PartialEq, Eq)]
 pub enum Says {
@@ -9,7 +11,6 @@ pub enum Says {
     BehindRead { id: u32 },
     /// An object was read as it was after this change, which no note has told yet.
     BehindVersion { version: u32 },
-    /// A copy of this number stands: exactly the catalog of this number where the replies and notes were an honest
-    /// server's.
+    /// A copy of this number stands. It is exactly the catalog of this number if the replies and notes were an honest server's.
     Stands { at: u32 },
 }

@@ -1,65 +1,54 @@
-//! Doors in memory, which share their connections under a lock, and jobs in threads of their own.
+//! Tests of doors in memory, which share their connections under a lock, and of jobs in threads of their own.
 
-use cds_base::{Bytes, Door, Failed, Gate, Job, NoGate, Numbers, Sequence, Sink, Source, Spawner};
-use cds_memory::{MemConn, MemDoor, MemSink, MemSource, MemSpawner};
+use crate::made::{MEMORY, answer, answer_next, numbers, source};
+use cds_base::{Bytes, Door, Failed, Gate, Job, NoGate, Sequence, Sink, Source, Spawner};
+use cds_memory::{MemConn, MemDoor, MemSink, MemSpawner};
 use std::alloc::Global;
-use std::convert::From;
 use std::marker::Send;
+use std::process::Abort;
 use std::sync::Wait;
-use std::test::Fail;
 
-fn numbers(alloc: Global, listed: &[u32]) -> Result<Numbers, Fail> {
-    Ok(Numbers::from(Vec::from_slice(alloc, listed)?))
+/// What a test says if a door gives no second handle.
+const HANDLE: &str = "no handle";
+
+/// Makes a connection that gives these bytes. Its second read and its second write fail.
+fn conn<R: Abort>(rt: &R, alloc: Global, text: &str) -> MemConn {
+    let source = source(rt, alloc, text.as_bytes(), &[2]);
+    let fails = numbers(rt, alloc, &[2]);
+    let sink = MemSink::new(Bytes::new(alloc), 64, fails).expect(rt, MEMORY);
+    MemConn::new(source, sink)
 }
 
-fn bytes(alloc: Global, text: &str) -> Result<Bytes, Fail> {
-    Ok(Bytes::from(Vec::from_slice(alloc, text.as_bytes())?))
-}
-
-/// A connection that gives these bytes.
-fn conn(alloc: Global, text: &str) -> Result<MemConn, Fail> {
-    let source = MemSource::new(bytes(alloc, text)?, numbers(alloc, &[2])?);
-    let sink = MemSink::new(Bytes::new(alloc), numbers(alloc, &[2])?);
-    Ok(MemConn::new(source, sink))
-}
-
-/// A door with a connection for each word.
-fn door<R: Wait + Clone + Drop>(
+/// Makes a door with a connection for each word, of which these calls fail.
+fn door<R: Wait + Clone + Copy + Drop + Abort>(
     rt: R,
     alloc: Global,
     words: &str,
     fails: &[u32],
-) -> Result<MemDoor<R>, Fail> {
+) -> MemDoor<R> {
     let mut conns = Sequence::new(alloc);
     for word in words.split(' ') {
-        conns.push(conn(alloc, word)?)?;
+        conns.push(conn(&rt, alloc, word)).expect(&rt, MEMORY);
     }
-    Ok(MemDoor::new(rt, alloc, conns, numbers(alloc, fails)?)?)
+    let fails = numbers(&rt, alloc, fails);
+    MemDoor::new(rt, alloc, conns, fails).expect(&rt, MEMORY)
 }
 
-/// Reads and writes once, and answers how many bytes that were.
-fn use_once<C: Source + Sink>(conn: &mut C) -> Result<(usize, usize), Failed> {
-    let mut into = [0u8; 8];
-    let read = conn.read(&mut into)?;
-    let wrote = conn.write(b"ok")?;
-    Ok((read, wrote))
-}
-
-/// Accepts once, and answers whether a connection came.
+/// Accepts once. Returns whether a connection came.
 fn accepts<D: Door>(door: &mut D) -> bool {
     door.accept().is_ok()
 }
 
-/// Whether a handle of a door has accepted so many connections and has so many faults.
+/// Returns whether a handle of a door has accepted `connections` connections and has `faults` faults.
 fn has_accepted<R: Wait + Clone + Drop>(door: &MemDoor<R>, connections: u64, faults: u64) -> bool {
     door.connections() == connections && door.faults() == faults
 }
 
 #[test]
-fn handles_of_a_door_share_its_connections(rt: HostRuntime) -> Result<(), Fail> {
-    let mut first = door(rt, rt.alloc(), "a bc", &[1, 4])?;
+fn handles_of_a_door_share_its_connections(rt: HostRuntime) {
+    let mut first = door(rt, rt.alloc(), "a bc", &[1, 4]);
     assert!(rt; first.again().is_err());
-    let mut second = first.again()?;
+    let mut second = first.again().expect(&rt, HANDLE);
     let came = [
         accepts(&mut second),
         accepts(&mut first),
@@ -68,40 +57,40 @@ fn handles_of_a_door_share_its_connections(rt: HostRuntime) -> Result<(), Fail> 
     let more = [accepts(&mut first), accepts(&mut second)];
     assert!(rt; came == [true, false, true] && more == [false, false]);
     assert!(rt; has_accepted(&first, 1, 3) && has_accepted(&second, 1, 1));
-    Ok(())
 }
 
-/// Whether so many bytes were written at a connection of a door, or there is none.
-fn has_written<R: Wait + Clone + Drop>(
+/// Returns whether `want` bytes were written at a connection of a door; `None` says that there is no such connection.
+fn has_written<R: Wait + Clone + Drop + Abort>(
+    rt: &R,
     alloc: Global,
     door: &MemDoor<R>,
     at: usize,
     want: Option<usize>,
-) -> Result<bool, Fail> {
-    let written = door.written(alloc, at)?;
-    Ok(written.map(|bytes| bytes.len()) == want)
+) -> bool {
+    let written = door.written(alloc, at).expect(rt, MEMORY);
+    written.map(|bytes| bytes.len()) == want
 }
 
-/// Whether two connections of a door are read and written, the second one first, and the first one then fails.
+/// Returns whether two connections are read and written, the second one first, and the first one then fails.
 fn both_are_used<C: Source + Sink>(first: &mut C, second: &mut C) -> bool {
-    let both = [use_once(second), use_once(first)];
-    let again = use_once(first);
+    let both = [answer(second, b"ok"), answer(first, b"ok")];
+    let again = answer(first, b"ok");
     both == [Ok((2, 2)), Ok((1, 2))] && again == Err(Failed)
 }
 
 #[test]
-fn a_door_shows_what_was_written(rt: HostRuntime) -> Result<(), Fail> {
+fn a_door_shows_what_was_written(rt: HostRuntime) {
     let alloc = rt.alloc();
-    let mut door = door(rt, alloc, "a bc", &[])?;
-    let mut first = door.accept()?;
-    let mut second = door.accept()?;
+    let mut door = door(rt, alloc, "a bc", &[]);
+    let mut first = door.accept().expect(&rt, "no first connection");
+    let mut second = door.accept().expect(&rt, "no second connection");
     assert!(rt; both_are_used(&mut first, &mut second));
-    assert!(rt; has_written(alloc, &door, 0, Some(2))? && has_written(alloc, &door, 1, Some(2))?);
-    assert!(rt; has_written(alloc, &door, 2, None)?);
-    Ok(())
+    assert!(rt; has_written(&rt, alloc, &door, 0, Some(2)));
+    assert!(rt; has_written(&rt, alloc, &door, 1, Some(2)));
+    assert!(rt; has_written(&rt, alloc, &door, 2, None));
 }
 
-/// Takes a connection of its door, and answers how many bytes it read.
+/// A job that takes a connection of its door and answers how many bytes it read.
 #[derive(Drop)]
 struct Reading<R> {
     door: MemDoor<R>,
@@ -118,40 +107,35 @@ impl<R: Wait + Clone + Send + Drop + 'static> Job for Reading<R> {
     fn run(self) -> (MemDoor<R>, usize) {
         let Reading { mut door, mut gate } = self;
         gate.pass(1);
-        let read = read_one(&mut door).unwrap_or(0);
+        let (read, _) = answer_next(&mut door, b"ok").unwrap_or((0, 0));
         (door, read)
     }
 }
 
-/// How many bytes the next connection gave.
-fn read_one<D: Door>(door: &mut D) -> Result<usize, Failed> {
-    let mut conn = door.accept()?;
-    let (read, _) = use_once(&mut conn)?;
-    Ok(read)
-}
-
-/// A job with a handle of the door.
-fn job_at<R: Wait + Clone + Drop>(
+/// Makes a job with a handle of the door.
+fn job_at<R: Wait + Clone + Drop + Abort>(
+    rt: &R,
     alloc: Global,
     door: &mut MemDoor<R>,
-) -> Result<Reading<R>, Fail> {
-    let gate = NoGate.again(alloc, 1)?;
-    let door = door.again()?;
-    Ok(Reading { door, gate })
+) -> Reading<R> {
+    let gate = NoGate.again(alloc, 1).expect(rt, MEMORY);
+    let door = door.again().expect(rt, HANDLE);
+    Reading { door, gate }
 }
 
 #[test]
-fn jobs_run_in_threads_of_their_own(rt: HostRuntime) -> Result<(), Fail> {
+fn jobs_run_in_threads_of_their_own(rt: HostRuntime) {
     let alloc = rt.alloc();
-    let mut door = door(rt, alloc, "ab cd", &[])?;
-    let mut spawner = MemSpawner::new(numbers(alloc, &[2])?);
-    let one = spawner.start(&rt, job_at(alloc, &mut door)?)?;
-    assert!(rt; spawner.start(&rt, job_at(alloc, &mut door)?).is_err());
-    let other = spawner.start(&rt, job_at(alloc, &mut door)?)?;
+    let mut door = door(rt, alloc, "ab cd", &[]);
+    let mut spawner = MemSpawner::new(numbers(&rt, alloc, &[2]));
+    let one = spawner.start(&rt, job_at(&rt, alloc, &mut door));
+    let one = one.expect(&rt, "the first job");
+    assert!(rt; spawner.start(&rt, job_at(&rt, alloc, &mut door)).is_err());
+    let other = spawner.start(&rt, job_at(&rt, alloc, &mut door));
+    let other = other.expect(&rt, "the third job");
     assert!(rt; spawner.started() == 2 && spawner.faults() == 1);
     for job in [one, other] {
         let (theirs, read) = job.join(&rt);
         assert!(rt; theirs.connections() == 1 && theirs.faults() == 0 && read == 2);
     }
-    Ok(())
 }

@@ -1,13 +1,12 @@
-//! FLAC files whose source fails, or is slow and long.
+//! Tests of FLAC files whose source fails, or is slow and long.
 
 ghost use Rattle.std.specs.Prelude.{◌≡◌, ◌≤◌, length, None};
 
-use cds_base::{Bytes, Failed, Numbers, Source};
-use cds_flac::{FlacError, FlacInfo, read_flac};
-use cds_memory::MemSource;
+use crate::made::source;
+use cds_base::{Failed, Source};
+use cds_flac::{FlacError, read_flac};
 use std::alloc::Global;
-use std::convert::From;
-use std::test::Fail;
+use std::process::Abort;
 
 /// A whole file: STREAMINFO and one comment.
 const FILE: [u8; 65] = [
@@ -18,22 +17,16 @@ const FILE: [u8; 65] = [
     0x5A,
 ];
 
-/// What is read of the file where the read of this number fails.
-fn read(alloc: Global, call: u32) -> Result<FlacInfo, FlacError> {
-    let contents = Bytes::from(Vec::from_slice(alloc, &FILE)?);
-    let mut source = MemSource::new(contents, Numbers::from(Vec::from_slice(alloc, &[call])?));
-    read_flac(alloc, &mut source)
-}
-
-/// Whether the file is refused for that.
-fn is_read_fault(alloc: Global, call: u32) -> bool {
-    read(alloc, call).err() == Some(FlacError::ReadFault)
+/// Returns whether the file is refused for a failed read if the read of this number fails.
+fn is_read_fault<R: Abort>(rt: &R, alloc: Global, call: u32) -> bool {
+    let mut source = source(rt, alloc, &FILE, &[call]);
+    read_flac(alloc, &mut source).err() == Some(FlacError::ReadFault)
 }
 
 #[test]
 fn a_failed_read_is_a_read_fault(rt: HostRuntime) {
     for call in 1..8 {
-        assert!(rt; is_read_fault(rt.alloc(), call), "{call}");
+        assert!(rt; is_read_fault(&rt, rt.alloc(), call), "{call}");
     }
 }
 
@@ -44,8 +37,8 @@ const BEFORE_PICTURE: [u8; 46] = [
     0x00, 0x00, 0x00, 0x00, 0x00, 0x00, 0x00, 0x00, 0x00, 0x00, 0x06, 0xF4, 0x24, 0x00,
 ];
 
-/// A source that gives one byte at a time of its front, zeros that it does not hold, and one byte at a time of its
-/// back. It keeps the most that it was asked for.
+/// A source that gives one byte at a time of its first part, then zeros that it does not hold, then one byte at a time
+/// of its last part. It keeps the most that it was asked for.
 #[derive(Drop)]
 struct Slow {
     front: &'static [u8],
@@ -57,11 +50,7 @@ struct Slow {
 }
 
 impl Source for Slow {
-    ghost left = { λ _. None };
-
-    ghost moved = { λ s. s.moved };
-
-    ghost faults = { λ _. 0 };
+    ghost told = { λ s. record { left = None; moved = s.moved; faults = 0 } };
 
     fn read(&mut self, into: &mut [u8]) -> Result<usize, Failed> {
         self.most = self.most.max(into.len());
@@ -98,7 +87,7 @@ fn give(slow: &mut Slow, into: &mut [u8]) -> usize
     0
 }
 
-/// A slow source of the file with a picture of 16,000,000 bytes before its comments.
+/// Makes a slow source of the file with a picture of 16,000,000 bytes before its comments.
 fn with_picture() -> Slow {
     Slow {
         front: &BEFORE_PICTURE,
@@ -110,16 +99,15 @@ fn with_picture() -> Slow {
     }
 }
 
-/// Whether that file is read.
-fn is_read(alloc: Global, slow: &mut Slow) -> Result<bool, FlacError> {
-    let info = read_flac(alloc, slow)?;
-    Ok(info.samples == 441000 && info.comments.len() == 1)
+/// Returns whether that file is read.
+fn is_read<R: Abort>(rt: &R, alloc: Global, slow: &mut Slow) -> bool {
+    let info = read_flac(alloc, slow).expect(rt, "the file is not read");
+    info.samples == 441000 && info.comments.len() == 1
 }
 
 #[test]
-fn a_picture_is_read_over_and_nobody_holds_it(rt: HostRuntime) -> Result<(), Fail> {
+fn a_picture_is_read_over_and_nobody_holds_it(rt: HostRuntime) {
     let mut slow = with_picture();
-    assert!(rt; is_read(rt.alloc(), &mut slow)?);
+    assert!(rt; is_read(&rt, rt.alloc(), &mut slow));
     assert!(rt; slow.moved == 16_000_069 && slow.most <= 65536);
-    Ok(())
 }

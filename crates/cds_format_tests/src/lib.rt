@@ -1,5 +1,5 @@
-//! Tests alone of what rows of data cannot say of texts, files, documents and the lock: memory that runs out, reads that
-//! fail, a slow source, doors and threads; and of messages about events.
+//! Tests alone, of what rows of data cannot say of texts, files, documents and the lock: memory that runs out, reads
+//! that fail, a slow source, doors and threads. Also tests of messages about events, and of the objects of the system.
 #![tactic(auto)]
 
 #[cfg(test)]
@@ -7,8 +7,12 @@ mod door_tests;
 #[cfg(test)]
 mod flac_tests;
 #[cfg(test)]
+mod made;
+#[cfg(test)]
 mod memory_tests;
 #[cfg(test)]
 mod message_tests;
+#[cfg(test)]
+mod system_tests;
 #[cfg(test)]
 mod turn_tests;

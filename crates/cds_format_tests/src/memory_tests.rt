@@ -1,11 +1,11 @@
-//! Memory that runs out once: what is read and written then is read and written at the next try.
+//! Tests of memory that runs out once. What is read or written then is read or written at the next try.
 
 use cds_lastchange::{Class, Event, Events, StateError, StateReader, write_state_event};
 use cds_markup::{Element, MarkupError, Reader, write_document};
 use std::alloc::Global;
-use std::test::Fail;
+use std::process::Abort;
 
-/// A document, and its written form.
+/// A document. `WRITTEN` is its written form.
 const DOCUMENT: &[u8] = b"<a xmlns='u' b='1&#10;2'>x<![CDATA[<]]>y<!-- z --><c d=\"e\"/>f</a>";
 
 const WRITTEN: &[u8] = b"<a xmlns=\"u\" b=\"1&#10;2\">x&lt;y<c d=\"e\"></c>f</a>";
@@ -18,7 +18,7 @@ fn feed(alloc: Global, reader: &mut Reader) -> Result<(), MarkupError> {
     Ok(())
 }
 
-/// The document's element.
+/// Reads the document's element.
 fn read(alloc: Global) -> Result<Element, MarkupError> {
     let mut reader = Reader::new(alloc)?;
     match feed(alloc, &mut reader) {
@@ -27,7 +27,7 @@ fn read(alloc: Global) -> Result<Element, MarkupError> {
     }
 }
 
-/// The same, once more where memory ran out.
+/// Reads it, and once more if memory ran out.
 fn read_again(alloc: Global) -> Result<Element, MarkupError> {
     match read(alloc) {
         Err(MarkupError::Mem) => read(alloc),
@@ -35,32 +35,33 @@ fn read_again(alloc: Global) -> Result<Element, MarkupError> {
     }
 }
 
-/// Whether the element is written as it has to be. Where one allocation fails, whichever it is, nothing was added, and the
-/// next try adds it.
-fn is_written(alloc: Global, element: &Element) -> Result<bool, Fail> {
-    let mut out = Vec::new(alloc);
-    if write_document(element, &mut out).is_err() {
-        if !out.is_empty() {
-            return Ok(false);
-        }
-        write_document(element, &mut out)?;
+/// Adds the element to an empty text. If one allocation fails, whichever it is, nothing may be added, and the next try
+/// must add it. Returns whether that is so.
+fn is_added(element: &Element, out: &mut Vec<u8>) -> bool {
+    if write_document(element, out).is_ok() {
+        return true;
     }
-    Ok(out.as_slice() == WRITTEN)
+    out.is_empty() && write_document(element, out).is_ok()
 }
 
-/// Whether what is read is written.
-fn is_written_again(alloc: Global) -> Result<bool, Fail> {
-    let element = read_again(alloc)?;
+/// Returns whether the element is written as it has to be.
+fn is_written(alloc: Global, element: &Element) -> bool {
+    let mut out = Vec::new(alloc);
+    is_added(element, &mut out) && out.as_slice() == WRITTEN
+}
+
+/// Returns whether what is read is written.
+fn is_written_again<R: Abort>(rt: &R, alloc: Global) -> bool {
+    let element = read_again(alloc).expect(rt, "no element");
     is_written(alloc, &element)
 }
 
 #[test]
-fn a_document_is_written_where_memory_ran_out(rt: HostRuntime) -> Result<(), Fail> {
-    assert!(rt; is_written_again(rt.alloc())?);
-    Ok(())
+fn a_document_is_written_where_memory_ran_out(rt: HostRuntime) {
+    assert!(rt; is_written_again(&rt, rt.alloc()));
 }
 
-/// Events, and their StateEvent.
+/// Events. `STATE_EVENT` is their StateEvent.
 const EVENTS: [Event; 2] = [
     Event::ObjAdd {
         id: 1,
@@ -75,7 +76,7 @@ const EVENTS: [Event; 2] = [
 const STATE_EVENT: &[u8] =
     b"<StateEvent xmlns=\"urn:schemas-upnp-org:av:cds-event\"><objAdd objID=\"1\" updateID=\"1\" stUpdate=\"1\" objParentID=\"0\" objClass=\"object.container\"/><stDone objID=\"1\" updateID=\"1\"/></StateEvent>";
 
-/// The events of the StateEvent.
+/// Reads the events of the StateEvent.
 fn events(alloc: Global) -> Result<Events, StateError> {
     let mut reader = StateReader::new(alloc)?;
     match reader.feed(alloc, STATE_EVENT) {
@@ -84,7 +85,7 @@ fn events(alloc: Global) -> Result<Events, StateError> {
     }
 }
 
-/// The same, once more where memory ran out.
+/// Reads them, and once more if memory ran out.
 fn events_again(alloc: Global) -> Result<Events, StateError> {
     match events(alloc) {
         Err(StateError::Mem) => events(alloc),
@@ -92,26 +93,27 @@ fn events_again(alloc: Global) -> Result<Events, StateError> {
     }
 }
 
-/// Whether the events are written as they have to be, as an element is.
-fn are_written(alloc: Global, events: &[Event]) -> Result<bool, Fail> {
-    let mut out = Vec::new(alloc);
-    if write_state_event(alloc, events, &mut out).is_err() {
-        if !out.is_empty() {
-            return Ok(false);
-        }
-        write_state_event(alloc, events, &mut out)?;
+/// Adds events to an empty text. The rule for a failed allocation is that of an element.
+fn are_added(alloc: Global, events: &[Event], out: &mut Vec<u8>) -> bool {
+    if write_state_event(alloc, events, out).is_ok() {
+        return true;
     }
-    Ok(out.as_slice() == STATE_EVENT)
+    out.is_empty() && write_state_event(alloc, events, out).is_ok()
 }
 
-/// Whether the events are read.
-fn are_read(alloc: Global) -> Result<bool, Fail> {
-    let events = events_again(alloc)?;
-    Ok(events.as_slice() == EVENTS.as_slice())
+/// Returns whether the events are written as they have to be.
+fn are_written(alloc: Global, events: &[Event]) -> bool {
+    let mut out = Vec::new(alloc);
+    are_added(alloc, events, &mut out) && out.as_slice() == STATE_EVENT
+}
+
+/// Returns whether the events are read.
+fn are_read<R: Abort>(rt: &R, alloc: Global) -> bool {
+    let events = events_again(alloc).expect(rt, "no events");
+    events.as_slice() == EVENTS.as_slice()
 }
 
 #[test]
-fn events_are_read_and_written_where_memory_ran_out(rt: HostRuntime) -> Result<(), Fail> {
-    assert!(rt; are_written(rt.alloc(), &EVENTS)? && are_read(rt.alloc())?);
-    Ok(())
+fn events_are_read_and_written_where_memory_ran_out(rt: HostRuntime) {
+    assert!(rt; are_written(rt.alloc(), &EVENTS) && are_read(&rt, rt.alloc()));
 }

@@ -1,34 +1,32 @@
-//! Requests, replies and notes of subscriptions: what is written to the byte, and what is read of texts that others write
-//! (UPnP Device Architecture 2.0 on eventing).
+//! Tests of requests, replies and notes of subscriptions: what is written, to the byte, and what is read of texts that
+//! others write (UPnP Device Architecture 2.0 on eventing).
 
-use cds_base::{Mem, Text};
+use crate::made::MEMORY;
+use cds_base::Text;
 use cds_gena::{
     Address, Lease, Sid, is_deliverable, read_lease, write_renewal, write_subscribe,
     write_unsubscribe,
 };
-use cds_http::{HttpError, Message, MessageReader, Side};
+use cds_http::{Message, MessageReader, Side};
 use cds_notify::{Note, NoteError, read_notify, write_notify, write_propertyset};
 use cds_object::Event;
-use std::alloc::{AllocError, Global};
-use std::test::Fail;
+use std::alloc::Global;
+use std::process::Abort;
 use url::Url;
 
-/// The message that a text is.
-fn message(alloc: Global, side: Side, text: &[u8]) -> Result<Message, HttpError> {
-    let mut reader = MessageReader::new(alloc, side)?;
-    reader.feed(alloc, text)?;
-    reader.finish()
+/// Reads the message that a text is.
+fn message<R: Abort>(rt: &R, alloc: Global, side: Side, text: &[u8]) -> Message {
+    let mut reader = MessageReader::new(alloc, side).expect(rt, MEMORY);
+    reader.feed(alloc, text).expect(rt, "no message");
+    reader.finish().expect(rt, "no whole message")
 }
 
-/// An address.
-fn address(alloc: Global, text: &str) -> Result<Url, Fail> {
-    match Url::parse(alloc, text) {
-        Ok(url) => Ok(url),
-        Err(_) => Err(Fail::new("no URL")),
-    }
+/// Reads an address.
+fn address<R: Abort>(rt: &R, alloc: Global, text: &str) -> Url {
+    Url::parse(alloc, text).expect(rt, "no URL")
 }
 
-/// The name of number 1 of a server whose boot words are 0.
+/// The SID of subscription 1 of a server whose boot words are 0.
 const NAME: Sid = Sid(0x8000_8000_0000_0000_0001);
 
 /// Addresses, callbacks, and the request for a subscription.
@@ -50,14 +48,14 @@ const REQUESTS: [(&str, &str, &str); 3] = [
     ),
 ];
 
-/// A renewal at the first address, and an end.
+/// A renewal at the first address. `END` is the end of that subscription.
 const RENEWAL: &str =
     "SUBSCRIBE /event HTTP/1.1\r\nHOST: 10.0.0.2:49152\r\nSID: uuid:00000000-0000-8000-8000-000000000001\r\nTIMEOUT: Second-1800\r\nCONTENT-LENGTH: 0\r\nCONNECTION: close\r\n\r\n";
 
 const END: &str =
     "UNSUBSCRIBE /event HTTP/1.1\r\nHOST: 10.0.0.2:49152\r\nSID: uuid:00000000-0000-8000-8000-000000000001\r\nCONTENT-LENGTH: 0\r\nCONNECTION: close\r\n\r\n";
 
-/// Replies, and for how many seconds they grant the name of number 1.
+/// Replies, and for how many seconds they grant `NAME`; `None` if they grant nothing.
 const REPLIES: [(&str, Option<u32>); 10] = [
     (
         "HTTP/1.1 200 OK\r\nSID: uuid:00000000-0000-8000-8000-000000000001\r\nTIMEOUT: Second-3600\r\nCONTENT-LENGTH: 0\r\n\r\n",
@@ -98,54 +96,66 @@ const REPLIES: [(&str, Option<u32>); 10] = [
     ),
 ];
 
-/// Whether this is the request for a subscription at an address, with a callback.
-fn is_request(alloc: Global, text: &str, callback: &str, want: &str) -> Result<bool, Fail> {
-    let url = address(alloc, text)?;
-    let callback = address(alloc, callback)?;
-    if !is_deliverable(&url) || !is_deliverable(&callback) {
-        return Ok(false);
+/// Returns whether this is the request for a subscription at an address, with a callback.
+fn subscribes<R: Abort>(rt: &R, alloc: Global, url: &Url, callback: &Url, want: &str) -> bool {
+    if !is_deliverable(url) || !is_deliverable(callback) {
+        return false;
     }
     let mut out = Vec::new(alloc);
-    write_subscribe(alloc, &url, &callback, &mut out)?;
-    Ok(out.as_slice() == want.as_bytes())
+    write_subscribe(alloc, url, callback, &mut out).expect(rt, MEMORY);
+    out.as_slice() == want.as_bytes()
 }
 
-/// Whether the renewal of the subscription and its end are written as they have to be.
-fn renews_and_ends(alloc: Global, url: &Url) -> Result<bool, Mem> {
+/// Returns the same of texts of the address and the callback.
+fn is_request<R: Abort>(rt: &R, alloc: Global, text: &str, callback: &str, want: &str) -> bool {
+    let url = address(rt, alloc, text);
+    let callback = address(rt, alloc, callback);
+    subscribes(rt, alloc, &url, &callback, want)
+}
+
+/// Returns whether the renewal of the subscription and its end are written as they have to be.
+fn renews_and_ends<R: Abort>(rt: &R, alloc: Global, url: &Url) -> bool {
     let mut out = Vec::new(alloc);
-    write_renewal(alloc, url, NAME, &mut out)?;
+    write_renewal(alloc, url, NAME, &mut out).expect(rt, MEMORY);
     let renews = out.as_slice() == RENEWAL.as_bytes();
     out.clear();
-    write_unsubscribe(alloc, url, NAME, &mut out)?;
-    Ok(renews && out.as_slice() == END.as_bytes())
+    write_unsubscribe(alloc, url, NAME, &mut out).expect(rt, MEMORY);
+    renews && out.as_slice() == END.as_bytes()
 }
 
-/// The same at the first address.
-fn are_at_first(alloc: Global) -> Result<bool, Fail> {
-    let url = address(alloc, REQUESTS[0].0)?;
-    Ok(renews_and_ends(alloc, &url)?)
+/// Returns the same at the first address.
+fn are_at_first<R: Abort>(rt: &R, alloc: Global) -> bool {
+    let url = address(rt, alloc, REQUESTS[0].0);
+    renews_and_ends(rt, alloc, &url)
 }
 
-/// Whether a reply grants the name for so many seconds.
-fn is_granted(alloc: Global, text: &str, seconds: Option<u32>) -> Result<bool, HttpError> {
-    let message = message(alloc, Side::Reply, text.as_bytes())?;
-    Ok(match (read_lease(&message), seconds) {
+/// Returns whether a message grants `NAME` for this many seconds.
+fn grants(message: &Message, seconds: Option<u32>) -> bool {
+    match (read_lease(message), seconds) {
         (None, None) => true,
         (Some(lease), Some(seconds)) => lease == Lease { sid: NAME, seconds },
         _ => false,
-    })
+    }
+}
+
+/// Returns whether a reply does.
+fn is_granted<R: Abort>(rt: &R, alloc: Global, text: &str, seconds: Option<u32>) -> bool {
+    let message = message(rt, alloc, Side::Reply, text.as_bytes());
+    grants(&message, seconds)
 }
 
 #[test]
-fn requests_are_written_and_replies_read(rt: HostRuntime) -> Result<(), Fail> {
+fn requests_are_written_and_replies_read(rt: HostRuntime) {
     for (text, callback, request) in &REQUESTS {
-        assert!(rt; is_request(rt.alloc(), text, callback, request)?, "{text}");
+        assert!(rt;
+            is_request(&rt, rt.alloc(), text, callback, request),
+            "{text}"
+        );
     }
-    assert!(rt; are_at_first(rt.alloc())?, "a renewal and an end");
+    assert!(rt; are_at_first(&rt, rt.alloc()), "a renewal and an end");
     for (text, seconds) in &REPLIES {
-        assert!(rt; is_granted(rt.alloc(), text, *seconds)?, "{text}");
+        assert!(rt; is_granted(&rt, rt.alloc(), text, *seconds), "{text}");
     }
-    Ok(())
 }
 
 /// A deletion.
@@ -155,44 +165,44 @@ const DELETED: Event = Event::ObjDel {
     st: false,
 };
 
-/// The front of a set of properties, and its end.
+/// The start of a set of properties. `BACK` is its end.
 const FRONT: &str =
     "<?xml version=\"1.0\"?><e:propertyset xmlns:e=\"urn:schemas-upnp-org:event-1-0\">";
 
 const BACK: &str = "</e:propertyset>";
 
-/// What stands in a body with one change, and in one before any change.
+/// What stands in a body with one change. `UNCHANGED` is what stands in one before any change.
 const CHANGED: &str =
     "<e:property><SystemUpdateID>9</SystemUpdateID></e:property><e:property><ContainerUpdateIDs>0,9,3,8</ContainerUpdateIDs></e:property><e:property><LastChange>&lt;StateEvent xmlns=&quot;urn:schemas-upnp-org:av:cds-event&quot;&gt;&lt;objDel objID=&quot;7&quot; updateID=&quot;9&quot; stUpdate=&quot;0&quot;/&gt;&lt;/StateEvent&gt;</LastChange></e:property>";
 
 const UNCHANGED: &str =
     "<e:property><SystemUpdateID>0</SystemUpdateID></e:property><e:property><ContainerUpdateIDs></ContainerUpdateIDs></e:property><e:property><LastChange>&lt;StateEvent xmlns=&quot;urn:schemas-upnp-org:av:cds-event&quot;&gt;&lt;/StateEvent&gt;</LastChange></e:property>";
 
-/// A set of properties with this inside.
-fn set_of(alloc: Global, inside: &str) -> Result<String, AllocError> {
-    format!(in alloc; "{FRONT}{inside}{BACK}")
+/// Makes a set of properties with this inside.
+fn set_of<R: Abort>(rt: &R, alloc: Global, inside: &str) -> String {
+    format!(in alloc; "{FRONT}{inside}{BACK}").expect(rt, MEMORY)
 }
 
-/// Whether the set of these properties is written with this inside.
-fn is_written(
+/// Returns whether the set of these properties is written with this inside.
+fn is_written<R: Abort>(
+    rt: &R,
     alloc: Global,
     number: u32,
     containers: &[(u32, u32)],
     events: &[Event],
     inside: &str,
-) -> Result<bool, Fail> {
-    let want = set_of(alloc, inside)?;
+) -> bool {
+    let want = set_of(rt, alloc, inside);
     let mut body = Vec::new(alloc);
-    write_propertyset(alloc, number, containers, events, &mut body)?;
-    Ok(body.as_slice() == want.as_bytes())
+    write_propertyset(alloc, number, containers, events, &mut body).expect(rt, MEMORY);
+    body.as_slice() == want.as_bytes()
 }
 
 #[test]
-fn bodies_are_written(rt: HostRuntime) -> Result<(), Fail> {
+fn bodies_are_written(rt: HostRuntime) {
     let alloc = rt.alloc();
-    assert!(rt; is_written(alloc, 9, &[(0, 9), (3, 8)], &[DELETED], CHANGED)?);
-    assert!(rt; is_written(alloc, 0, &[], &[], UNCHANGED)?);
-    Ok(())
+    assert!(rt; is_written(&rt, alloc, 9, &[(0, 9), (3, 8)], &[DELETED], CHANGED));
+    assert!(rt; is_written(&rt, alloc, 0, &[], &[], UNCHANGED));
 }
 
 /// Callbacks, and the first two lines of a note to each.
@@ -219,40 +229,43 @@ const NOTES: [(&str, &str); 5] = [
     ),
 ];
 
-/// The other lines, and the body.
+/// The other lines of a note, and its body.
 const LINES: &str =
     "CONTENT-TYPE: text/xml; charset=\"utf-8\"\r\nNT: upnp:event\r\nNTS: upnp:propchange\r\nSID: uuid:00000000-0000-8000-8000-000000000001\r\nSEQ: 4294967295\r\nCONTENT-LENGTH: 4\r\nCONNECTION: close\r\n\r\n<a/>";
 
-/// Whether the last note to a callback has these first lines and the others.
-fn is_note_to(alloc: Global, callback: &str, front: &str) -> Result<bool, Fail> {
-    let callback = Text::read(alloc, callback)?;
-    let want = format!(in alloc; "{front}{LINES}")?;
-    let to = Address {
-        sid: NAME,
-        callback,
-        seq: u32::MAX,
-    };
-    if !to.is_delivered(alloc)? {
-        return Ok(false);
+/// Returns whether this is a note to an address.
+fn is_noted<R: Abort>(rt: &R, alloc: Global, to: &Address, want: &str) -> bool {
+    if !to.is_delivered(alloc).expect(rt, MEMORY) {
+        return false;
     }
     let mut text = Vec::new(alloc);
-    write_notify(alloc, &to, b"<a/>", &mut text)?;
-    Ok(text.as_slice() == want.as_bytes())
+    write_notify(alloc, to, b"<a/>", &mut text).expect(rt, MEMORY);
+    text.as_slice() == want.as_bytes()
+}
+
+/// Returns whether the last note to a callback has these first lines and the others.
+fn is_note_to<R: Abort>(rt: &R, alloc: Global, callback: &str, front: &str) -> bool {
+    let want = format!(in alloc; "{front}{LINES}").expect(rt, MEMORY);
+    let to = Address {
+        sid: NAME,
+        callback: Text::read(alloc, callback).expect(rt, MEMORY),
+        seq: u32::MAX,
+    };
+    is_noted(rt, alloc, &to, want.as_str())
 }
 
 #[test]
-fn notes_are_written(rt: HostRuntime) -> Result<(), Fail> {
+fn notes_are_written(rt: HostRuntime) {
     for (callback, front) in &NOTES {
-        assert!(rt; is_note_to(rt.alloc(), callback, front)?, "{callback}");
+        assert!(rt; is_note_to(&rt, rt.alloc(), callback, front), "{callback}");
     }
-    Ok(())
 }
 
-/// A head.
+/// The head of a note, without its last field.
 const HEAD: &str =
     "NOTIFY /notes HTTP/1.1\r\nNT: upnp:event\r\nNTS: upnp:propchange\r\nSID: uuid:00000000-0000-8000-8000-000000000001\r\nSEQ: 7\r\n";
 
-/// Heads that are refused, and the cause.
+/// Heads that are refused, and why.
 const HEADS: [(&str, NoteError); 17] = [
     (
         "POST /notes HTTP/1.1\r\nNT: upnp:event\r\nNTS: upnp:propchange\r\nSID: uuid:00000000-0000-8000-8000-000000000001\r\nSEQ: 7\r\n",
@@ -338,7 +351,7 @@ const BODIES: [&str; 10] = [
     "<!DOCTYPE a><e:propertyset xmlns:e=\"urn:schemas-upnp-org:event-1-0\"><e:property><SystemUpdateID>9</SystemUpdateID><LastChange/></e:property></e:propertyset>",
 ];
 
-/// What stands in sets that are refused.
+/// What stands in sets of properties that are refused.
 const SETS: [&str; 13] = [
     "",
     "<e:property><LastChange/></e:property>",
@@ -355,46 +368,44 @@ const SETS: [&str; 13] = [
     "<e:property><SystemUpdateID>9</SystemUpdateID><LastChange>&lt;StateEvent/&gt;</LastChange></e:property>",
 ];
 
-/// The message of a head without its last field, and a body.
-fn note_message(alloc: Global, head: &str, body: &str) -> Result<Message, HttpError> {
+/// Reads the message of a head without its last field, and a body. The last field is the length of the body.
+fn note_message<R: Abort>(rt: &R, alloc: Global, head: &str, body: &str) -> Message {
     let length = body.len();
-    let text = format!(in alloc; "{head}CONTENT-LENGTH: {length}\r\n\r\n{body}")?;
-    message(alloc, Side::Request, text.as_bytes())
+    let text = format!(in alloc; "{head}CONTENT-LENGTH: {length}\r\n\r\n{body}");
+    let text = text.expect(rt, MEMORY);
+    message(rt, alloc, Side::Request, text.as_bytes())
 }
 
-/// Whether a note with this head and this body is refused for this.
-fn is_refused(
-    alloc: Global,
-    head: &str,
-    body: &str,
-    refusal: NoteError,
-) -> Result<bool, HttpError> {
-    let message = note_message(alloc, head, body)?;
-    Ok(read_notify(alloc, &message).err() == Some(refusal))
+/// Returns whether a note with this head and this body is refused for this.
+fn is_refused<R: Abort>(rt: &R, alloc: Global, head: &str, body: &str, refusal: NoteError) -> bool {
+    let message = note_message(rt, alloc, head, body);
+    read_notify(alloc, &message).err() == Some(refusal)
 }
 
-/// Whether a note with this set of properties is refused.
-fn is_refused_set(alloc: Global, inside: &str) -> Result<bool, HttpError> {
-    let body = set_of(alloc, inside)?;
-    is_refused(alloc, HEAD, body.as_str(), NoteError::Body)
+/// Returns whether a note with this set of properties is refused for its body.
+fn is_refused_set<R: Abort>(rt: &R, alloc: Global, inside: &str) -> bool {
+    let body = set_of(rt, alloc, inside);
+    is_refused(rt, alloc, HEAD, body.as_str(), NoteError::Body)
 }
 
 #[test]
-fn notes_are_refused(rt: HostRuntime) -> Result<(), Fail> {
+fn notes_are_refused(rt: HostRuntime) {
     let alloc = rt.alloc();
     for (head, refusal) in &HEADS {
-        assert!(rt; is_refused(alloc, head, "x", *refusal)?, "{head}");
+        assert!(rt; is_refused(&rt, alloc, head, "x", *refusal), "{head}");
     }
     for body in &BODIES {
-        assert!(rt; is_refused(alloc, HEAD, body, NoteError::Body)?, "{body}");
+        assert!(rt;
+            is_refused(&rt, alloc, HEAD, body, NoteError::Body),
+            "{body}"
+        );
     }
     for inside in &SETS {
-        assert!(rt; is_refused_set(alloc, inside)?, "{inside}");
+        assert!(rt; is_refused_set(&rt, alloc, inside), "{inside}");
     }
-    Ok(())
 }
 
-/// Bodies that are read, their numbers and the events that they have.
+/// Bodies that are read, their numbers and their events.
 const READ: [(&str, u32, &[Event]); 4] = [
     (
         "<propertyset xmlns=\"urn:schemas-upnp-org:event-1-0\"><property><LastChange/><SystemUpdateID>0009</SystemUpdateID></property></propertyset>",
@@ -418,22 +429,21 @@ const READ: [(&str, u32, &[Event]); 4] = [
     ),
 ];
 
-/// Whether a note is this one.
+/// Returns whether a note has `NAME`, SEQ 7, this number and these events.
 fn is_note(note: &Note, number: u32, events: &[Event]) -> bool {
     note.sid == NAME && note.seq == 7 && note.number == number && note.events.as_slice() == events
 }
 
-/// Whether a note with this body is read with this number and these events.
-fn is_read(alloc: Global, body: &str, number: u32, events: &[Event]) -> Result<bool, Fail> {
-    let message = note_message(alloc, HEAD, body)?;
-    let note = read_notify(alloc, &message)?;
-    Ok(is_note(&note, number, events))
+/// Returns whether a note with this body is read with this number and these events.
+fn is_read<R: Abort>(rt: &R, alloc: Global, body: &str, number: u32, events: &[Event]) -> bool {
+    let message = note_message(rt, alloc, HEAD, body);
+    let note = read_notify(alloc, &message).expect(rt, "no note");
+    is_note(&note, number, events)
 }
 
 #[test]
-fn notes_are_read(rt: HostRuntime) -> Result<(), Fail> {
+fn notes_are_read(rt: HostRuntime) {
     for (body, number, events) in &READ {
-        assert!(rt; is_read(rt.alloc(), body, *number, events)?, "{body}");
+        assert!(rt; is_read(&rt, rt.alloc(), body, *number, events), "{body}");
     }
-    Ok(())
 }

@@ -1,12 +1,14 @@
-//! The lock under four threads.
+//! A test of the lock under four threads.
 
 ghost use Rattle.std.specs.Prelude.{◌≡◌, ◌≤◌, []};
 ghost use Rattle.cds_turn.specs.Turn.{IsSeatOf, passes_of};
 
+use crate::made::MEMORY;
 use cds_base::Mem;
 use cds_turn::{Act, Open, Seat, StandsFor, Turn};
 use std::alloc::Global;
 use std::collections::LinkedList;
+use std::process::Abort;
 use std::sync::Wait;
 use std::test::Fail;
 use std::thread::{Threads, join};
@@ -65,7 +67,7 @@ fn empty_log(alloc: Global, opened: u64) -> Log
     }
 }
 
-/// Appends `count` numbers from `first` on, in turns of their own, and says whether there was memory for all.
+/// Appends `count` numbers from `first` on, each in a turn of its own. Returns whether there was memory for all.
 fn append_all<R: Wait>(
     rt: &R,
     turn: &Turn<Log>,
@@ -84,17 +86,17 @@ fn append_all<R: Wait>(
     (seat, all)
 }
 
-/// The numbers of a list from the oldest on.
-fn oldest_first(alloc: Global, log: &Log) -> Result<Vec<u64>, Mem> {
+/// Returns the numbers of a list from the oldest on.
+fn oldest_first<R: Abort>(rt: &R, alloc: Global, log: &Log) -> Vec<u64> {
     let mut numbers = Vec::new(alloc);
     for number in log.numbers.iter() {
-        numbers.push(*number)?;
+        numbers.push(*number).expect(rt, MEMORY);
     }
     numbers.reverse();
-    Ok(numbers)
+    numbers
 }
 
-/// Two threads append to the list, each in turns of its own.
+/// Lets two threads append to the list, each in turns of its own.
 fn by_two<R: Threads + Wait + Sync>(
     rt: &R,
     turn: &Turn<Log>,
@@ -118,7 +120,7 @@ fn by_two<R: Threads + Wait + Sync>(
     )
 }
 
-/// Four threads do.
+/// Lets four threads append to the list. Returns whether there was memory for all.
 fn by_four<R: Threads + Wait + Sync>(
     rt: &R,
     turn: &Turn<Log>,
@@ -147,7 +149,7 @@ fn by_four<R: Threads + Wait + Sync>(
     (seat, a && b && c && d)
 }
 
-/// The numbers of one thread begin at its first and go up by one.
+/// Returns whether the numbers of one thread begin at its first, go up by one and are `EACH` in all.
 fn is_in_order(numbers: &[u64], first: u64) -> bool {
     let mut next = first;
     for number in numbers {
@@ -161,17 +163,19 @@ fn is_in_order(numbers: &[u64], first: u64) -> bool {
     next == first.wrapping_add(EACH)
 }
 
-/// Whether a list has the numbers of all four threads.
-fn has_all(alloc: Global, log: &Log) -> Result<bool, Mem> {
-    let list = oldest_first(alloc, log)?;
-    let numbers = list.as_slice();
-    Ok(
-        numbers.len() as u64 == 4 * EACH
-            && is_in_order(numbers, 0)
-            && is_in_order(numbers, EACH)
-            && is_in_order(numbers, 2 * EACH)
-            && is_in_order(numbers, 3 * EACH),
-    )
+/// Returns whether these are the numbers of all four threads, and no others.
+fn are_all(numbers: &[u64]) -> bool {
+    numbers.len() as u64 == 4 * EACH
+        && is_in_order(numbers, 0)
+        && is_in_order(numbers, EACH)
+        && is_in_order(numbers, 2 * EACH)
+        && is_in_order(numbers, 3 * EACH)
+}
+
+/// Returns whether a list has them.
+fn has_all<R: Abort>(rt: &R, alloc: Global, log: &Log) -> bool {
+    let numbers = oldest_first(rt, alloc, log);
+    are_all(numbers.as_slice())
 }
 
 #[test]
@@ -179,6 +183,6 @@ fn four_threads_lose_nothing(rt: HostRuntime) -> Result<(), Fail> {
     let (turn, seat) = Turn::new(rt.alloc(), empty_log(rt.alloc(), 7), 4)?;
     let (seat, all) = by_four(&rt, &turn, seat);
     let log = turn.close(seat).expect(&rt, "no ticket is out");
-    assert!(rt; all && has_all(rt.alloc(), &log)?);
+    assert!(rt; all && has_all(&rt, rt.alloc(), &log));
     Ok(())
 }

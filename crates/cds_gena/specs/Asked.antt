@@ -1,5 +1,5 @@
--- What a request about a subscription asks for: its method and the first value of each of four fields say it (UPnP Device Architecture 2.0
--- on SUBSCRIBE and UNSUBSCRIBE; the bounds of TIMEOUT are this project's profile).
+-- What a request about a subscription asks for. Its method and the first value of each of four fields say it (UPnP
+-- Device Architecture 2.0 on SUBSCRIBE and UNSUBSCRIBE; the bounds of TIMEOUT are this project's profile).
 use Rattle.std.specs.Prelude.{◌≡◌, ◌⊎◌, ◌==◌, ℕ, Bool, false, ◌&&◌, ◌||◌, min, max, List, [], ◌∷◌, codes, bytes_eq, map, take, drop, position, Option, Some, None, is_some, option_map, option_and_then, Result, Ok, Err, MatchResult, IsTrue, ⊤, if◌then◌else◌}
 use Rattle.std.specs.Result.{result_ok}
 use Rattle.std.specs.Str.{is_utf8}
@@ -34,12 +34,12 @@ field_of name fields = option_map (λ value. value.bytes) (get fields name)
 
 -- ---- CALLBACK
 
--- without the spaces in front
+-- without the spaces at the start
 abbrev pub behind_spaces : List ℕ → List ℕ
 behind_spaces [] = []
 behind_spaces (b ∷ rest) = if b == 32 then behind_spaces rest else (b ∷ rest)
 
--- what stands between `<` at the front and the first `>`
+-- what stands between `<` at the start and the first `>`
 abbrev pub enclosed : List ℕ → Option (List ℕ)
 enclosed [] = None
 enclosed (b ∷ rest) = if b == 60 then option_map (λ at. take at rest) (position (λ c. c == 62) rest) else None
@@ -70,7 +70,7 @@ most_seconds = 86400
 abbrev pub seconds_by : List ℕ → ℕ
 seconds_by digits = if is_number_in 10 digits then max least_seconds (min (value_in 10 digits) most_seconds) else least_seconds
 
--- behind `Second-`, in letters of either case; any other text says nothing
+-- after `Second-`, in letters of either case; any other text says nothing
 abbrev pub seconds_in : List ℕ → ℕ
 seconds_in text = if bytes_eq (map to_ascii_lowercase (take 7 text)) (codes "second-") then seconds_by (drop 7 text) else least_seconds
 
@@ -85,17 +85,17 @@ abbrev pub is_event : Option (List ℕ) → Bool
 is_event None = false
 is_event (Some text) = bytes_eq text (codes "upnp:event")
 
--- a new subscription, where there is a callback
+-- a new subscription, if there is a callback
 abbrev pub subscribing : Option Parts → ℕ → Result Gena GenaError
 subscribing None seconds = Err Precondition
 subscribing (Some url) seconds = Ok (Subscribe url seconds)
 
--- a renewal, where there is a name
+-- a renewal, if there is a name
 abbrev pub renewing : Option ℕ → ℕ → Result Gena GenaError
 renewing None seconds = Err Precondition
 renewing (Some name) seconds = Ok (Renew record { 0 = name } seconds)
 
--- an end, where there is a name
+-- an end, if there is a name
 abbrev pub ending : Option ℕ → Result Gena GenaError
 ending None = Err Precondition
 ending (Some name) = Ok (Unsubscribe record { 0 = name })
@@ -124,6 +124,6 @@ IsDeliverable (Subscribe url seconds) = IsTrue (is_deliverable url)
 IsDeliverable (Renew sid seconds) = ⊤
 IsDeliverable (Unsubscribe sid) = ⊤
 
--- the answer is this, unless there was no memory
+-- the answer is this, unless memory ran out
 abbrev pub Answers : Result Gena GenaError → Result Gena GenaError → Type 0
 Answers result expected = MatchResult result (λ gena. expected ≡ Ok gena) (λ e. (e ≡ Mem) ⊎ (expected ≡ Err e))

@@ -1,5 +1,5 @@
--- What a reply to SUBSCRIBE grants (UPnP Device Architecture 2.0 on SUBSCRIBE; that SID stands there once, and the bounds of TIMEOUT, are this
--- project's profile).
+-- What a reply to SUBSCRIBE grants (UPnP Device Architecture 2.0 on SUBSCRIBE). This project's profile: SID comes there
+-- once, and the bounds of TIMEOUT.
 use Rattle.std.specs.Prelude.{◌==◌, ℕ, Bool, false, List, [], ◌∷◌, codes, Option, Some, None, option_map, option_and_then, if◌then◌else◌}
 use Rattle.http_header.specs.HeaderMap.{Entries, get_all}
 use Rattle.http_header.specs.FieldValue.{FieldValue}
@@ -24,7 +24,7 @@ only_value (value ∷ second ∷ more) = None
 abbrev pub only_field : List ℕ → Entries FieldValue → Option (List ℕ)
 only_field name fields = only_value (get_all fields name)
 
--- the name of a subscription, for so many seconds
+-- the name of a subscription, for this many seconds
 abbrev pub leased : ℕ → ℕ → Lease
 leased seconds name = record { sid = record { 0 = name }; seconds = seconds }
 

@@ -1,4 +1,4 @@
--- What a server accepted where moments never fall, how many subscriptions live then, and which names are those of numbers.
+-- What a server accepted if moments never fall, how many subscriptions live then, and which names lead to numbers.
 use Rattle.std.specs.Prelude.{◌≡◌, ◌↔◌, ◌≤◌, ◌<◌, ◌^◌, ◌&&◌, ℕ, Bool, true, nat_lt, List, [], ◌∷◌, length, Some, ⊤}
 use Rattle.cds_commands.specs.Commands.{Command, Start, Scans, Grants, Renews, Ends, Ticks, Stops}
 use Rattle.cds_commands.specs.Names.{name_of}
@@ -11,8 +11,8 @@ use Rattle.cds_gena.specs.Subscribed.{Booked, StandsFor, alive, last_number, liv
 abbrev pub lives_at : ℕ → ℕ → List Command → ℕ → Bool
 lives_at first now commands number = is_alive number now commands && nat_lt (next_seq_of number (notes_of first commands)) seq_limit
 
--- no moment is past the one that is given, nor past that of a later command; each subscription was granted where there was room, and
--- renewed where it lived
+-- no moment is past the given one or past the moment of a later command; each subscription was granted when there was
+-- room, and renewed when it lived
 abbrev pub Served : ℕ → ℕ → List Command → Type 0
 Served first now [] = ⊤
 Served first now (Scans library ∷ older) = Served first now older
@@ -29,12 +29,12 @@ few_live =
     (first now : ℕ) (commands : List Command) → Served first now commands
     → length (alive_names now commands (notes_of first commands)) ≤ subscription_limit
 
--- a name is that of a number whose subscription lives, exactly where it is that number's name and its subscription lives
+-- a name leads to a number exactly if it is the name of this number and the subscription of this number lives
 abbrev pub names_are_of_numbers : Type 0
 names_are_of_numbers =
     (book : Booked) (start : Start) (commands : List Command) (now name number : ℕ) → StandsFor book start commands → granted commands ≤ last_number
     → (living_named now name book ≡ Some number) ↔ ((name ≡ name_of start number) × (lives_at start.first now commands number ≡ true))
 
--- the text of a name is read as it
+-- the text of a name is read as that name
 abbrev pub names_are_read_back : Type 0
 names_are_read_back = (name : ℕ) → name < 2 ^ 128 → sid_in (sid_text name) ≡ Some name

@@ -1,5 +1,5 @@
--- The subscriptions that a server keeps: a function of its first number and of the commands that it accepted, the newest of which stands
--- first. What a subscription is, the commands alone say (UPnP Device Architecture 2.0 on eventing).
+-- The subscriptions that a server keeps. They are a function of its first number and of the commands that it accepted,
+-- the newest first. The commands alone say what a subscription is (UPnP Device Architecture 2.0 on eventing).
 use Rattle.std.specs.Prelude.{◌≡◌, ◌+◌, ◌-◌, ◌≤◌, ◌^◌, ◌&&◌, ℕ, Bool, false, cond, not, nat_eq, nat_lt, nat_le, List, [], ◌∷◌, ◌++◌, map, filter, length, Option, Some, None, IsSome, unwrap_or}
 use Rattle.std.specs.List.{AllByRecursion, filter_map, range_with_len}
 use Rattle.std.specs.Map.{lookup}
@@ -15,8 +15,8 @@ use Rattle.cds_gena.specs.declared.error.GenaError.TheVariants.{Full, Spent}
 
 -- ---- by the commands
 
--- a subscription by its callback, the SEQ of its next note, where one is left, and the moment at which it runs out, where it has not ended; each
--- with its number among the grants
+-- a subscription with its number among the grants: its callback, the moment at which it runs out, and the SEQ of its
+-- next note; none if it has ended or no SEQ is left
 abbrev pub running : ℕ → List ℕ → ℕ → Option ℕ → Option (ℕ × Subscription)
 running number callback seq None = None
 running number callback seq (Some end) =
@@ -26,7 +26,7 @@ abbrev pub subscription_of : ℕ → List Command → ℕ → Option (ℕ × Sub
 subscription_of first commands number =
     running number (unwrap_or (callback_of number commands) []) (next_seq_of number (notes_of first commands)) (runs_until number commands)
 
--- how many subscriptions were granted, and those that have not ended, in the order of their making
+-- how many subscriptions were granted, and those that have not ended, in the order in which they were granted
 pub record Subscribed : Type 0 where
   pub granted : ℕ
   pub living : List (ℕ × Subscription)
@@ -37,7 +37,7 @@ subscribed_by first commands = record {
   living = filter_map (subscription_of first commands) (range_with_len 1 (granted commands));
 }
 
--- a book has them, and the name of number 0
+-- a book: its subscriptions, and the name of number 0
 pub record Booked : Type 0 where
   pub names : ℕ
   pub subscribed : Subscribed
@@ -72,7 +72,7 @@ until number end p =
 abbrev pub renewed : ℕ → ℕ → Subscribed → Subscribed
 renewed number end s = record { granted = s.granted; living = map (until number end) s.living }
 
--- without that of a number
+-- without the subscription of a number
 abbrev pub without : ℕ → Subscribed → Subscribed
 without number s = record { granted = s.granted; living = filter (λ (p : ℕ × Subscription). not (nat_eq p.0 number)) s.living }
 
@@ -80,7 +80,7 @@ without number s = record { granted = s.granted; living = filter (λ (p : ℕ ×
 abbrev pub expired : ℕ → Subscribed → Subscribed
 expired now s = record { granted = s.granted; living = alive now s.living }
 
--- after each was sent a note: its SEQ is raised, and it ends where that was the last one
+-- after each was sent a note: its SEQ is raised, or it ends if that SEQ was the last one
 abbrev pub has_next : (ℕ × Subscription) → Bool
 has_next p = nat_lt p.1.next_seq (seq_limit - 1)
 
@@ -92,11 +92,11 @@ notified s = record { granted = s.granted; living = map raised (filter has_next 
 
 -- ---- names
 
--- how many subscriptions are granted at most
+-- the most subscriptions that are ever granted
 abbrev pub last_number : ℕ
 last_number = 4294967295
 
--- the number of a name, where it is one that a book with this name of number 0 can give
+-- the number of a name, if it is one that a book with this name of number 0 can give
 abbrev pub number_of : ℕ → ℕ → Option ℕ
 number_of names name = cond (nat_le names name && nat_le (name - names) last_number) (Some (name - names)) None
 
@@ -116,11 +116,11 @@ if_alive now living (Some number) = cond (holds_alive now number living) (Some n
 abbrev pub living_named : ℕ → ℕ → Booked → Option ℕ
 living_named now name book = if_alive now book.subscribed.living (number_of book.names name)
 
--- where the note to a subscription goes
+-- the address of the note to a subscription
 abbrev pub address_of : ℕ → (ℕ × Subscription) → Address
 address_of names p = record { sid = record { 0 = names + p.0 }; callback = p.1.callback; seq = p.1.next_seq }
 
--- why no subscription is granted at a moment: no name is left; or as many live as may
+-- why no subscription is granted at a moment: no name is left, or the limit of living subscriptions is reached
 abbrev pub if_full : ℕ → Option GenaError
 if_full live = cond (nat_lt live subscription_limit) None (Some (Full live))
 

@@ -1,4 +1,5 @@
--- What one command does to the subscriptions that a book keeps, which of them live, and which are granted: over the commands alone.
+-- What one command does to the subscriptions that a book keeps, which of them live, and which are granted. The commands
+-- alone say it.
 use Rattle.std.specs.Prelude.{◌≡◌, ◌&&◌, ℕ, nat_eq, nat_lt, cond, List, [], ◌∷◌, map, length, Some, None}
 use Rattle.cds_catalog.specs.Library.{FolderMap}
 use Rattle.cds_commands.specs.Commands.{Command, Scans, Grants, Renews, Ends, Ticks, Stops, scans_of}
@@ -27,7 +28,7 @@ abbrev pub ends_drop : Type 0
 ends_drop = (first now number : ℕ) (older : List Command) →
     subscribed_by first (Ends now number ∷ older) ≡ without number (subscribed_by first older)
 
--- the name and the SEQ of a note, and those of the next note to a subscription
+-- the name and the SEQ of a note, and the name and the SEQ of the next note to a subscription
 abbrev pub sent_under : Note → ℕ × ℕ
 sent_under note = (note.name, note.seq)
 
@@ -51,14 +52,15 @@ other_commands_change_nothing = (first : ℕ) (older : List Command) →
     ((library : FolderMap) → subscribed_by first (Scans library ∷ older) ≡ subscribed_by first older)
     × (subscribed_by first (Stops ∷ older) ≡ subscribed_by first older)
 
--- those that live are the ones that have not run out, in order; and that of a number lives where it has not
+-- those that live are the ones that have not run out, in order; the subscription of a number lives if it has not run
+-- out
 abbrev pub living_are_alive : Type 0
 living_are_alive = (first now : ℕ) (commands : List Command) →
     (alive_names now commands (notes_of first commands) ≡ map (λ p. p.0) (alive now (subscribed_by first commands).living))
     × ((number : ℕ) → holds_alive now number (subscribed_by first commands).living
     ≡ is_alive number now commands && nat_lt (next_seq_of number (notes_of first commands)) seq_limit)
 
--- a subscription is refused exactly where the last name was given, or as many live as may
+-- a subscription is refused exactly if the last name was given, or if the limit of living subscriptions is reached
 abbrev pub grants_are_refused : Type 0
 grants_are_refused = (first now : ℕ) (commands : List Command) →
     grant_refusal now (subscribed_by first commands)

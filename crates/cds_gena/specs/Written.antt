@@ -1,5 +1,5 @@
--- Requests about subscriptions as a control point writes them, and the fields of the reply to one that is granted (UPnP Device Architecture
--- 2.0 on SUBSCRIBE and UNSUBSCRIBE; the seconds that are asked for are this project's profile).
+-- Requests about subscriptions as a control point writes them, and the fields of the reply to one that is granted (UPnP
+-- Device Architecture 2.0 on SUBSCRIBE and UNSUBSCRIBE). The requested number of seconds is this project's profile.
 use Rattle.std.specs.Prelude.{ℕ, List, [], ◌∷◌, ◌++◌, codes}
 use Rattle.std.specs.Fmt.{decimal}
 use Rattle.url.specs.Parts.{Parts, serialize, text_between}
@@ -8,8 +8,8 @@ use Rattle.cds_http.specs.declared.fields.Field.{Field}
 use Rattle.cds_http.specs.Written.{written_request}
 use Rattle.cds_gena.specs.SidText.{sid_text}
 
--- HOST is the host of an address and, behind a colon, its port, which a URL has only where it is not that of its scheme. The target is the
--- path and the query.
+-- HOST is the host of an address and, after a colon, its port. A URL has a port only if it is not the port of its
+-- scheme. The target is the path and the query.
 abbrev pub host_of : Parts → List ℕ
 host_of url = text_between url BeforeHost AfterPort
 
@@ -20,7 +20,7 @@ target_of url = text_between url BeforePath AfterQuery
 abbrev pub callback_text : Parts → List ℕ
 callback_text callback = codes "<" ++ serialize callback ++ codes ">"
 
--- TIMEOUT names so many seconds
+-- TIMEOUT names this many seconds
 abbrev pub timeout_text : ℕ → List ℕ
 timeout_text seconds = codes "Second-" ++ decimal seconds
 
@@ -54,6 +54,6 @@ renewal_text url name = written_request (codes "SUBSCRIBE") (target_of url) (ren
 abbrev pub unsubscribe_text : Parts → ℕ → List ℕ
 unsubscribe_text url name = written_request (codes "UNSUBSCRIBE") (target_of url) (unsubscribe_fields url name) []
 
--- the given fields of the reply to a subscription or a renewal: its name, and for how many seconds it is granted
+-- the given fields of the reply to a subscription or a renewal: its name, and the number of seconds
 abbrev pub lease_fields : ℕ → ℕ → List Field
 lease_fields name seconds = field (codes "SID") (sid_text name) ∷ field (codes "TIMEOUT") (timeout_text seconds) ∷ []

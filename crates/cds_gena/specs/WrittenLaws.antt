@@ -16,7 +16,8 @@ use Rattle.cds_gena.specs.Asked.{asks_of_subscription, field_of, gena_of, is_del
 use Rattle.cds_gena.specs.Leased.{lease_in}
 use Rattle.cds_gena.specs.Written.{host_of, target_of, subscribe_fields, renewal_fields, unsubscribe_fields, lease_fields, subscribe_text, renewal_text, unsubscribe_text}
 
--- bytes, at the end of the connection or before it, are a request with this method to an address and then more, and it asks for this
+-- bytes, at the end of the connection or before it, are a request with this method to an address and then more; the
+-- request asks for this
 pub record AreAsked (ended : Bool) (bytes method : List ℕ) (url : Parts) (gena : Gena) (more : List ℕ) : Type 0 where
   pub message : Message
   pub whole : Decides ended Request bytes (Whole message more)
@@ -25,8 +26,8 @@ pub record AreAsked (ended : Bool) (bytes method : List ℕ) (url : Parts) (gena
   pub of_subscription : IsTrue (asks_of_subscription message.start)
   pub asks : gena_of message ≡ Ok gena
 
--- a written request is read so, whatever comes behind it, where its addresses are `http` URLs with a host and its head is within the limit
--- of a head: a new subscription
+-- a written request is read so, whatever comes after it, if its addresses are `http` URLs with a host and its head is
+-- within the limit of a head: a new subscription
 abbrev pub subscribes_are_read : Type 0
 subscribes_are_read =
     (url callback : Parts) (more : List ℕ) (ended : Bool)
@@ -48,13 +49,13 @@ unsubscribes_are_read =
     → length (request_text (codes "UNSUBSCRIBE") (target_of url) (unsubscribe_fields url sid.0) 0) ≤ head_limit
     → AreAsked ended (unsubscribe_text url sid.0 ++ more) (codes "UNSUBSCRIBE") url (Unsubscribe sid) more
 
--- bytes, at the end of the connection or before it, are a reply and then more, and it grants this
+-- bytes, at the end of the connection or before it, are a reply and then more; the reply grants this
 pub record AreGranting (ended : Bool) (bytes : List ℕ) (lease : Lease) (more : List ℕ) : Type 0 where
   pub message : Message
   pub whole : Decides ended Reply bytes (Whole message more)
   pub grants : lease_in message ≡ Some lease
 
--- a written reply to a subscription that is granted is read so, whatever comes behind it
+-- a written reply to a subscription that is granted is read so, whatever comes after it
 abbrev pub leases_are_read : Type 0
 leases_are_read =
     (sid : Sid) (seconds : ℕ) (more : List ℕ) (ended : Bool) → sid.0 < 2 ^ 128 → least_seconds ≤ seconds → seconds ≤ most_seconds

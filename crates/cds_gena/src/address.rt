@@ -1,4 +1,4 @@
-//! Where notes go.
+//! The addresses of notes.
 
 ghost use Rattle.std.specs.Prelude.{◌≡◌, ◌==◌, [], ◌++◌, length, IfOk, OnOk, OnErr, Some, is_some, option_copied, slice_get};
 ghost use Rattle.cds_gena.specs.Asked.{url_in};
@@ -11,7 +11,7 @@ use std::alloc::Global;
 use std::marker::Model;
 use url::Url;
 
-/// Where one note goes: the name of its subscription, the URL at which it is delivered, and its SEQ.
+/// The address of one note: the name of its subscription, the URL at which it is delivered, and its SEQ.
 #[derive(Drop, Debug)]
 pub struct Address {
     pub sid: Sid,
@@ -20,14 +20,14 @@ pub struct Address {
 }
 
 impl Address {
-    /// Whether notes can be delivered at its callback: the text of an `http` URL with a host.
+    /// Returns whether notes can be delivered at its callback: the text of an `http` URL with a host.
     pub fn is_delivered(&self, alloc: Global) -> Result<bool, Mem>
         ensures { IfOk result (λ can. can ≡ is_some (url_in self.now.callback)) }
     {
         Ok(url_in(alloc, self.callback.as_str().as_bytes())?.is_some())
     }
 
-    /// The URL at which it is delivered. The callback is to be the text of an `http` URL with a host.
+    /// Returns the URL at which the note is delivered. The callback must be the text of an `http` URL with a host.
     pub fn url(&self, alloc: Global) -> Result<Url, Mem>
         requires delivered { IsDelivered self.now }
         ensures { IfOk result (λ url. url_in self.now.callback ≡ Some url) }
@@ -55,7 +55,7 @@ impl Model for Addresses {
 }
 
 impl Addresses {
-    /// The empty list, which takes no memory.
+    /// Returns the empty list. This takes no memory.
     pub fn new(alloc: Global) -> Addresses
         ensures { result ≡ [] }
     {
@@ -64,7 +64,7 @@ impl Addresses {
         }
     }
 
-    /// Puts others behind these. Where there is no memory, the list is as before.
+    /// Appends others. If memory runs out, the list is as before.
     pub fn append(&mut self, mut more: Vec<Address>) -> Result<(), Mem>
         ensures ok { OnOk result (self.new ≡ self.old ++ more.items) }
         ensures err { OnErr result (self.new ≡ self.old) }
@@ -73,28 +73,28 @@ impl Addresses {
         Ok(())
     }
 
-    /// How many there are.
+    /// Returns the number of addresses.
     pub fn len(&self) -> usize
         ensures { result ≡ length self.now }
     {
         self.items.len()
     }
 
-    /// Whether there is none.
+    /// Returns whether the list is empty.
     pub fn is_empty(&self) -> bool
         ensures { result ≡ (length self.now == 0) }
     {
         self.items.is_empty()
     }
 
-    /// That at a place counted from 0, `None` past the end.
+    /// Returns the address at a place counted from 0, or `None` past the end.
     pub fn get(&self, at: usize) -> Option<&Address>
         ensures { option_copied result ≡ slice_get self.now at }
     {
         self.items.get(at)
     }
 
-    /// All of them.
+    /// Returns all addresses.
     pub fn as_slice(&self) -> &[Address]
         ensures { result.now ≡ self.now }
     {

@@ -1,4 +1,4 @@
-//! The subscriptions of one server.
+//! Keeps the subscriptions of one server.
 
 ghost use Rattle.std.specs.Prelude.{◌≡◌, ◌↔◌, ◌⊎◌, ◌+◌, ◌≤◌, ◌^◌, ℕ, List, [], ◌∷◌, ◌++◌, map, filter, length, slice_index, nat_eq, not, Some, None, Err, IsOk, IsSome, IsTrue, IfOk, IfErr, IfSome, OnOk, OnErr};
 ghost use Rattle.std.specs.List.{AllByRecursion};
@@ -22,7 +22,7 @@ use std::alloc::Global;
 use std::marker::Model;
 use url::Url;
 
-/// How many subscriptions live at most.
+/// The most subscriptions that live at the same time.
 const SUBSCRIPTION_LIMIT: usize = 64;
 
 /// A subscription that has not ended.
@@ -36,11 +36,11 @@ pub struct Subscription {
     pub next_seq: u32,
 }
 
-/// Those that have not ended, by their numbers, in the order of their making.
+/// The subscriptions that have not ended, by their numbers, in the order in which they were granted.
 type Living = IndexMap<u32, Subscription>;
 
-/// How many subscriptions were granted, counted from 1, and those that have not ended. It gives names of 128 bits, which
-/// its boot words and these numbers make.
+/// The subscriptions of a server: how many were granted, and those that have not ended. Each has a number, counted from
+/// 1. Its name has 128 bits, made from the boot words of the server and this number.
 #[derive(Drop)]
 pub struct Book {
     /// The name of number 0.
@@ -59,14 +59,14 @@ impl Model for Book {
     ghost invariant = { λ b. IsBook b.names b.granted b.living.entries };
 }
 
-/// The moment at which what is granted at a moment for so many seconds runs out.
+/// Returns the moment at which a subscription runs out that is granted at `now` for this many seconds.
 fn end_after(now: u64, seconds: u32) -> u128
     ensures { result ≡ end_after now seconds }
 {
     u128::from(now) + u128::from(seconds) * 1000
 }
 
-/// How many have not run out at a moment.
+/// Returns how many subscriptions have not run out at a moment.
 fn count_alive(living: &Living, now: u64) -> usize
     ensures { result ≡ length (alive now living.now.entries) }
 {
@@ -74,7 +74,7 @@ fn count_alive(living: &Living, now: u64) -> usize
     living.iter().filter(|entry| now < entry.1.end).count()
 }
 
-/// Whether that of a number has not run out at a moment.
+/// Returns whether the subscription with a number has not run out at a moment.
 fn is_alive(living: &Living, number: u32, now: u64) -> bool
     ensures { result ≡ holds_alive now number living.now.entries }
 {
@@ -84,7 +84,7 @@ fn is_alive(living: &Living, number: u32, now: u64) -> bool
     }
 }
 
-/// Adds one behind the others.
+/// Adds a subscription after the others.
 fn add(living: &mut Living, number: u32, s: Subscription) -> Result<(), Mem>
     requires new { get nat_eq living.old number ≡ None }
     ensures ok { OnOk result (living.new.entries ≡ living.old.entries ++ (number, s) ∷ []) }
@@ -94,7 +94,7 @@ fn add(living: &mut Living, number: u32, s: Subscription) -> Result<(), Mem>
     Ok(())
 }
 
-/// Puts off the end of that of a number.
+/// Puts off the end of the subscription with a number.
 fn put_off(living: &mut Living, number: u32, end: u128)
     ensures { living.new.entries ≡ map (until number end) living.old.entries }
 {
@@ -106,14 +106,14 @@ fn put_off(living: &mut Living, number: u32, end: u128)
     });
 }
 
-/// Drops that of a number.
+/// Drops the subscription with a number.
 fn drop_numbered(living: &mut Living, number: u32)
     ensures { living.new.entries ≡ filter (λ p. not (nat_eq p.0 number)) living.old.entries }
 {
     living.retain(|n, _| *n != number);
 }
 
-/// Drops those that have run out at a moment.
+/// Drops the subscriptions that have run out at a moment.
 fn drop_past(living: &mut Living, now: u64)
     ensures { living.new.entries ≡ alive now living.old.entries }
 {
@@ -121,7 +121,7 @@ fn drop_past(living: &mut Living, now: u64)
     living.retain(|_, s| now < s.end);
 }
 
-/// Raises the SEQ of each, and drops those for which none is left.
+/// Raises the SEQ of each subscription. Drops those for which no SEQ is left.
 fn raise(living: &mut Living)
     ensures { living.new.entries ≡ map raised (filter has_next living.old.entries) }
 {
@@ -134,7 +134,8 @@ fn raise(living: &mut Living)
     });
 }
 
-/// Where the notes to those go that have not run out at a moment, in the order of their making.
+/// Returns the addresses of the notes to the subscriptions that have not run out at a moment, in the order in which
+/// they were granted.
 fn addresses(alloc: Global, living: &Living, names: u128, now: u64) -> Result<Vec<Address>, Mem>
     requires names { names + 2 ^ 32 ≤ 2 ^ 128 }
     ensures { IfOk result (λ all. all.items ≡ map (address_of names) (alive now living.now.entries)) }
@@ -155,7 +156,7 @@ fn addresses(alloc: Global, living: &Living, names: u128, now: u64) -> Result<Ve
     Ok(all)
 }
 
-/// The number of a name, where it is one that a book with this name of number 0 can give.
+/// Returns the number of a name, if it is one that a book with this name of number 0 can give.
 fn number_of(names: u128, sid: Sid) -> Option<u32>
     ensures { result ≡ number_of names sid.0 }
 {
@@ -171,15 +172,15 @@ fn number_of(names: u128, sid: Sid) -> Option<u32>
     }
 }
 
-/// The upper 64 bits of each name: those of the first boot word, with the four bits of the version.
+/// Returns the upper 64 bits of each name: those of the first boot word, with the four bits of the version.
 fn high_word(high: u64) -> u64
     ensures { result ≡ high_word high }
 {
     high / 65_536 * 65_536 + 32_768 + high % 4_096
 }
 
-/// The lower 64 bits of the name of number 0: those of the second boot word, with the two bits of the variant, and the
-/// lowest 32 bits left for the number.
+/// Returns the lower 64 bits of the name of number 0: those of the second boot word, with the two bits of the variant.
+/// The lowest 32 bits are left for the number.
 fn low_word(low: u64) -> u64
     ensures result { result ≡ low_word low }
     ensures room { result + 2 ^ 32 ≤ 2 ^ 64 }
@@ -188,7 +189,7 @@ fn low_word(low: u64) -> u64
 }
 
 impl Book {
-    /// A book before any subscription, which takes no memory, by a server's two boot words.
+    /// Returns a book without any subscription, by the two boot words of a server. This takes no memory.
     pub fn new(alloc: Global, boot: [u64; 2]) -> Book
         ensures nothing { result.subscribed ≡ nothing_granted }
         ensures stands { (start : Start) → start.high ≡ slice_index boot 0 → start.low ≡ slice_index boot 1 → StandsFor result start [] }
@@ -203,22 +204,22 @@ impl Book {
         }
     }
 
-    /// The name of number 0, which is not given to any subscription.
+    /// Returns the name of number 0. No subscription gets it.
     pub fn names(&self) -> u128
         ensures { result ≡ self.now.names }
     {
         self.names
     }
 
-    /// How many subscriptions were granted.
+    /// Returns how many subscriptions were granted.
     pub fn granted(&self) -> u32
         ensures { result ≡ self.now.subscribed.granted }
     {
         self.granted
     }
 
-    /// How many have not run out at a moment in milliseconds: at most 64 where the calls so far were accepted, and no moment
-    /// was before that of an earlier one.
+    /// Returns how many subscriptions have not run out at a moment in milliseconds. There are at most 64 if the calls
+    /// so far were accepted and no moment was before that of an earlier call.
     pub fn live(&self, now: u64) -> usize
         ensures exact { result ≡ length (alive now self.now.subscribed.living) }
         ensures few { (start : Start) (commands : List Command) → StandsFor self.now start commands → Served start.first now commands → result ≤ 64 }
@@ -226,7 +227,7 @@ impl Book {
         count_alive(&self.living, now)
     }
 
-    /// The number of a name whose subscription has not run out at a moment.
+    /// Returns the number of a name whose subscription has not run out at a moment.
     fn living_named(&self, now: u64, sid: Sid) -> Option<u32>
         ensures { result ≡ living_named now sid.0 self.now }
     {
@@ -242,7 +243,7 @@ impl Book {
         }
     }
 
-    /// Why no subscription is granted at a moment in milliseconds.
+    /// Returns why no subscription is granted at a moment in milliseconds.
     fn grant_refusal(&self, now: u64) -> Option<GenaError>
         ensures { result ≡ grant_refusal now self.now.subscribed }
     {
@@ -257,9 +258,9 @@ impl Book {
         }
     }
 
-    /// Grants a subscription at a moment in milliseconds for so many seconds, and answers its name. The callback is to be an
-    /// `http` URL with a host. `Spent` where the last number was given, then `Full` where as many live as may, with their
-    /// number. A refusal changes nothing.
+    /// Grants a subscription at a moment in milliseconds for this many seconds, and returns its name. The callback must
+    /// be an `http` URL with a host. `Spent` comes if the last number was given. After that check, `Full` comes if the
+    /// limit of living subscriptions is reached, with their number. A refusal changes nothing.
     pub fn subscribe(
         &mut self,
         alloc: Global,
@@ -294,8 +295,8 @@ impl Book {
         Ok(Sid(self.names + u128::from(number)))
     }
 
-    /// Grants the subscription of a name so many seconds from a moment in milliseconds on. `Precondition` where none of that
-    /// name lives then, and nothing changes. It takes no memory.
+    /// Renews the subscription with a name for this many seconds from a moment in milliseconds on. `Precondition` comes
+    /// if no subscription with that name lives then, and nothing changes. It takes no memory.
     pub fn renew(&mut self, now: u64, sid: Sid, seconds: u32) -> Result<(), GenaError>
         ensures lives { IsOk result ↔ IsSome (living_named now sid.0 self.old) }
         ensures renewed { OnOk result (IfSome (living_named now sid.0 self.old)
@@ -315,8 +316,8 @@ impl Book {
         }
     }
 
-    /// Ends the subscription of a name. `Precondition` where none of that name lives at the moment, and nothing changes. It
-    /// takes no memory.
+    /// Ends the subscription with a name. `Precondition` comes if no subscription with that name lives at the moment,
+    /// and nothing changes. It takes no memory.
     pub fn unsubscribe(&mut self, now: u64, sid: Sid) -> Result<(), GenaError>
         ensures lives { IsOk result ↔ IsSome (living_named now sid.0 self.old) }
         ensures ended { OnOk result (IfSome (living_named now sid.0 self.old) (λ number. self.new.subscribed ≡ without number self.old.subscribed)) }
@@ -346,9 +347,10 @@ impl Book {
         drop_past(&mut self.living, now);
     }
 
-    /// Drops the subscriptions that have run out at a moment, gives where a note to each of the others goes, in the order of
-    /// their making, and raises their SEQs; one whose note has the last SEQ ends. Each address has a callback at which notes
-    /// can be delivered. All memory is taken first: where there is none, nothing changes.
+    /// Drops the subscriptions that have run out at a moment. Appends the address of a note to each of the others, in
+    /// the order in which they were granted, and raises their SEQs. A subscription ends if its note has the last SEQ.
+    /// Each address has a callback at which notes can be delivered. All memory is taken first: if it runs out, nothing
+    /// changes.
     pub fn next_notes(&mut self, alloc: Global, now: u64, out: &mut Addresses) -> Result<(), Mem>
         ensures notes { OnOk result (out.new ≡ out.old ++ map (address_of self.old.names) (alive now self.old.subscribed.living)) }
         ensures delivered { OnOk result (AllByRecursion IsDelivered (map (address_of self.old.names) (alive now self.old.subscribed.living))) }

@@ -1,3 +1,5 @@
+//! Why requests about subscriptions are refused.
+
 ghost use Rattle.std.specs.Prelude.{◌≡◌};
 
 use cds_base::Mem;
@@ -17,7 +19,7 @@ pub enum GenaError {
     /// No name is left (status 503).
     #[error("no name is left")]
     Spent,
-    /// As many subscriptions live as may (status 503).
+    /// The limit of living subscriptions is reached (status 503).
     #[error("{live} subscriptions live")]
     Full { live: u32 },
 }

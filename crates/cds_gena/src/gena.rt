@@ -1,4 +1,4 @@
-//! What a request about a subscription asks for.
+//! Reads what a request about a subscription asks for.
 
 ghost use Rattle.std.specs.Prelude.{◌≡◌, ◌==◌, ◌<◌, codes, length, take, drop, position, IfOk, IfSome, IsTrue, Ok, Some, None, option_map, option_and_then};
 ghost use Rattle.std.specs.List.{list_all};
@@ -21,21 +21,21 @@ use url::{ParseError, Url};
 /// The fewest seconds for which a subscription is granted.
 const LEAST_SECONDS: u32 = 1_800;
 
-/// The most.
+/// The most seconds for which a subscription is granted.
 const MOST_SECONDS: u32 = 86_400;
 
 /// What a request about a subscription asks for.
 #[derive(Drop)]
 pub enum Gena {
-    /// A new subscription, whose notes are delivered at this URL, for so many seconds.
+    /// A new subscription for this many seconds. Its notes are delivered at this URL.
     Subscribe { callback: Url, seconds: u32 },
-    /// That a subscription lives on for so many seconds.
+    /// A subscription goes on for this many seconds.
     Renew { sid: Sid, seconds: u32 },
-    /// The end of a subscription.
+    /// A subscription ends.
     Unsubscribe { sid: Sid },
 }
 
-/// Whether a message is a request with this method.
+/// Returns whether a message is a request with this method.
 pub fn has_method(message: &Message, name: &str) -> bool
     ensures { result ≡ has_method name.now message.now.start }
 {
@@ -45,14 +45,15 @@ pub fn has_method(message: &Message, name: &str) -> bool
     }
 }
 
-/// Whether a message is a request with method SUBSCRIBE or UNSUBSCRIBE (UPnP Device Architecture 2.0 on eventing).
+/// Returns whether a message is a request with method SUBSCRIBE or UNSUBSCRIBE (UPnP Device Architecture 2.0 on
+/// eventing).
 pub fn asks_of_subscription(message: &Message) -> bool
     ensures { result ≡ asks_of_subscription message.now.start }
 {
     has_method(message, "SUBSCRIBE") || has_method(message, "UNSUBSCRIBE")
 }
 
-/// The first value of a field of this name, in letters of either case.
+/// Returns the first value of a field with this name, in letters of either case.
 pub fn field_of<'a>(fields: &'a HeaderMap, name: &str) -> Option<&'a [u8]>
     ensures { option_map (λ value. value.now) result ≡ field_of (lowercase name.now) fields.now }
 {
@@ -62,7 +63,7 @@ pub fn field_of<'a>(fields: &'a HeaderMap, name: &str) -> Option<&'a [u8]>
     }
 }
 
-/// The text without the spaces in front.
+/// Returns the text without the spaces at its start.
 fn behind_spaces(text: &[u8]) -> &[u8]
     ensures { result.now ≡ behind_spaces text.now }
 {
@@ -76,7 +77,7 @@ fn behind_spaces(text: &[u8]) -> &[u8]
     rest
 }
 
-/// The place of the first `>`.
+/// Returns the place of the first `>`.
 fn closing(text: &[u8]) -> Option<usize>
     ensures exact { result ≡ position (λ c. c == 62) text.now }
     ensures inside { IfSome result (λ at. at < length text.now) }
@@ -84,7 +85,7 @@ fn closing(text: &[u8]) -> Option<usize>
     text.iter().position(|c| *c == b'>')
 }
 
-/// What stands between `<` at the front and the first `>`.
+/// Returns what stands between `<` at the start and the first `>`.
 fn enclosed(text: &[u8]) -> Option<&[u8]>
     ensures { option_map (λ inner. inner.now) result ≡ enclosed text.now }
 {
@@ -97,14 +98,14 @@ fn enclosed(text: &[u8]) -> Option<&[u8]>
     }
 }
 
-/// Whether notes can be delivered at a URL: its scheme is `http`, and it has a host.
+/// Returns whether notes can be delivered at a URL: its scheme is `http`, and it has a host.
 pub fn is_deliverable(url: &Url) -> bool
     ensures { result ≡ is_deliverable url.now }
 {
     url.scheme() == "http" && url.has_host()
 }
 
-/// The URL, where notes can be delivered at it.
+/// Returns the URL, if notes can be delivered at it.
 fn deliverable(url: Url) -> Option<Url>
     ensures { result ≡ deliverable url }
 {
@@ -115,7 +116,7 @@ fn deliverable(url: Url) -> Option<Url>
     }
 }
 
-/// The URL that a text is, if it is one.
+/// Returns the URL that a text is, if it is one.
 fn parsed(alloc: Global, text: &str) -> Result<Option<Url>, Mem>
     ensures { IfOk result (λ url. url ≡ result_ok (parse_url None text.now)) }
 {
@@ -126,7 +127,7 @@ fn parsed(alloc: Global, text: &str) -> Result<Option<Url>, Mem>
     }
 }
 
-/// The URL that a text is, where notes can be delivered at it.
+/// Returns the URL that a text is, if notes can be delivered at it.
 pub(crate) fn url_in(alloc: Global, text: &[u8]) -> Result<Option<Url>, Mem>
     ensures { IfOk result (λ url. url ≡ url_in text.now) }
 {
@@ -139,7 +140,7 @@ pub(crate) fn url_in(alloc: Global, text: &[u8]) -> Result<Option<Url>, Mem>
     }
 }
 
-/// The first address of a CALLBACK.
+/// Returns the first address of a CALLBACK.
 fn callback_in(alloc: Global, text: &[u8]) -> Result<Option<Url>, Mem>
     ensures { IfOk result (λ url. url ≡ callback_in text.now) }
 {
@@ -149,7 +150,7 @@ fn callback_in(alloc: Global, text: &[u8]) -> Result<Option<Url>, Mem>
     }
 }
 
-/// The first address of a CALLBACK that may be missing.
+/// Returns the first address of a CALLBACK that may be missing.
 fn callback_of(alloc: Global, text: Option<&[u8]>) -> Result<Option<Url>, Mem>
     ensures { IfOk result (λ url. url ≡ option_and_then callback_in (option_map (λ x. x.now) text.entry)) }
 {
@@ -159,21 +160,21 @@ fn callback_of(alloc: Global, text: Option<&[u8]>) -> Result<Option<Url>, Mem>
     }
 }
 
-/// Whether all bytes are digits.
+/// Returns whether all bytes are digits.
 fn all_digits(bytes: &[u8]) -> bool
     ensures { result ≡ list_all (λ byte. is_digit byte 10) bytes.now }
 {
     bytes.iter().all(|byte| char::from(*byte).is_digit(10))
 }
 
-/// Whether there is at least one byte and all are digits.
+/// Returns whether there is at least one byte and all are digits.
 fn is_number(bytes: &[u8]) -> bool
     ensures { result ≡ is_number_in 10 bytes.now }
 {
     bytes.len() > 0 && all_digits(bytes)
 }
 
-/// The seconds that digits grant.
+/// Returns the seconds that digits grant.
 fn seconds_by(digits: &[u8]) -> u32
     ensures { result ≡ seconds_by digits.now }
 {
@@ -186,21 +187,21 @@ fn seconds_by(digits: &[u8]) -> u32
     }
 }
 
-/// The bytes where the word of a TIMEOUT stands.
+/// Returns the first bytes of a TIMEOUT, in which its word stands.
 fn word_of(text: &[u8]) -> &[u8]
     ensures { result.now ≡ take 7 text.now }
 {
     text.split_at(7usize.min(text.len())).0
 }
 
-/// What stands behind them.
+/// Returns the bytes after that word.
 fn behind_word(text: &[u8]) -> &[u8]
     ensures { result.now ≡ drop 7 text.now }
 {
     text.split_at(7usize.min(text.len())).1
 }
 
-/// The seconds that a TIMEOUT grants.
+/// Returns the seconds that a TIMEOUT grants.
 fn seconds_in(text: &[u8]) -> u32
     ensures { result ≡ seconds_in text.now }
 {
@@ -211,7 +212,7 @@ fn seconds_in(text: &[u8]) -> u32
     }
 }
 
-/// The seconds that a TIMEOUT grants that may be missing.
+/// Returns the seconds that a TIMEOUT grants if the field may be missing.
 pub(crate) fn seconds_of(text: Option<&[u8]>) -> u32
     ensures { result ≡ seconds_of (option_map (λ x. x.now) text.entry) }
 {
@@ -221,7 +222,7 @@ pub(crate) fn seconds_of(text: Option<&[u8]>) -> u32
     }
 }
 
-/// Whether an NT names events.
+/// Returns whether an NT names events.
 fn is_event(text: Option<&[u8]>) -> bool
     ensures { result ≡ is_event (option_map (λ x. x.now) text.entry) }
 {
@@ -231,7 +232,7 @@ fn is_event(text: Option<&[u8]>) -> bool
     }
 }
 
-/// What a SUBSCRIBE with an NT of events asks for.
+/// Returns what a SUBSCRIBE with an NT of events asks for.
 fn subscribing(alloc: Global, callback: Option<&[u8]>, seconds: u32) -> Result<Gena, GenaError>
     ensures { Answers result (subscribing (option_and_then callback_in (option_map (λ x. x.now) callback.entry)) seconds) }
 {
@@ -241,7 +242,7 @@ fn subscribing(alloc: Global, callback: Option<&[u8]>, seconds: u32) -> Result<G
     }
 }
 
-/// What a SUBSCRIBE with a SID asks for.
+/// Returns what a SUBSCRIBE with a SID asks for.
 fn renewing(sid: &[u8], seconds: u32) -> Result<Gena, GenaError>
     ensures { Answers result (renewing (sid_in sid.now) seconds) }
 {
@@ -251,7 +252,7 @@ fn renewing(sid: &[u8], seconds: u32) -> Result<Gena, GenaError>
     }
 }
 
-/// What an UNSUBSCRIBE asks for.
+/// Returns what an UNSUBSCRIBE asks for.
 fn ending(sid: Option<&[u8]>) -> Result<Gena, GenaError>
     ensures { Answers result (ending (option_and_then sid_in (option_map (λ x. x.now) sid.entry))) }
 {
@@ -264,7 +265,7 @@ fn ending(sid: Option<&[u8]>) -> Result<Gena, GenaError>
     }
 }
 
-/// What a SUBSCRIBE asks for.
+/// Returns what a SUBSCRIBE asks for.
 fn subscribe_of(
     alloc: Global,
     sid: Option<&[u8]>,
@@ -286,10 +287,14 @@ fn subscribe_of(
     }
 }
 
-/// What a request about a subscription asks for. `Incompatible` (status 400) exactly where SID stands beside CALLBACK or
-/// NT. Then `Precondition` (status 412) exactly where a SID is needed or there and has no name in it; where SUBSCRIBE has no
-/// SID, and NT is not `upnp:event` or CALLBACK does not begin with an `http` address with a host in `<` and `>`. TIMEOUT is
-/// put within 1,800 and 86,400 seconds.
+/// Returns what a request about a subscription asks for. The seconds of TIMEOUT are put within 1,800 and 86,400. The
+/// refusals, in this order:
+///
+/// - `Incompatible` (status 400): SID stands beside CALLBACK or NT.
+/// - `Precondition` (status 412): UNSUBSCRIBE has no SID, or a SID has no name in it.
+/// - `Precondition` (status 412): SUBSCRIBE has no SID, and NT is not `upnp:event`.
+/// - `Precondition` (status 412): SUBSCRIBE has no SID, and CALLBACK does not begin with an `http` address with a host,
+///   in `<` and `>`.
 pub fn read_gena(alloc: Global, message: &Message) -> Result<Gena, GenaError>
     requires method { IsTrue (asks_of_subscription message.now.start) }
     ensures answers { Answers result (gena_of message.now) }

@@ -1,4 +1,5 @@
-//! Laws of the subscriptions that a book keeps: each function's contract is one of them, and calling it gives the law.
+//! Laws of the subscriptions that a book keeps. The contract of each function is one of them, and calling it gives the
+//! law.
 
 ghost use Rattle.cds_gena.specs.Served as served;
 ghost use Rattle.cds_gena.specs.SubscribedLaws as laws;
@@ -9,27 +10,28 @@ pub fn nothing_is_granted_at_first()
     ensures { laws.nothing_is_granted_at_first }
 {}
 
-/// A grant makes one more, which gets its first note.
+/// A grant makes one more subscription, which gets its first note.
 pub fn grants_make_one_more()
     ensures { laws.grants_make_one_more }
 {}
 
-/// A renewal puts off the end of one.
+/// A renewal puts off the end of one subscription.
 pub fn renewals_put_off()
     ensures { laws.renewals_put_off }
 {}
 
-/// One that is given up goes.
+/// A subscription that is given up goes.
 pub fn ends_drop()
     ensures { laws.ends_drop }
 {}
 
-/// A tick without a release drops those that have run out.
+/// A tick without a release drops the subscriptions that have run out.
 pub fn ticks_expire()
     ensures { laws.ticks_expire }
 {}
 
-/// A tick with a release sends each of the others a note, under its next SEQ and in the order of their making.
+/// A tick with a release sends a note to each of the others, with its next SEQ, in the order in which they were
+/// granted.
 pub fn ticks_notify()
     ensures { laws.ticks_notify }
 {}
@@ -39,22 +41,22 @@ pub fn other_commands_change_nothing()
     ensures { laws.other_commands_change_nothing }
 {}
 
-/// Which subscriptions live at a moment.
+/// The subscriptions that live at a moment are those that have not run out.
 pub fn living_are_alive()
     ensures { laws.living_are_alive }
 {}
 
-/// A subscription is refused exactly where no name is left, or as many live as may.
+/// A subscription is refused exactly if no name is left, or if the limit of living subscriptions is reached.
 pub fn grants_are_refused()
     ensures { laws.grants_are_refused }
 {}
 
-/// At most 64 live where every command was accepted and no moment is before an earlier one.
+/// At most 64 live if every command was accepted and no moment is before an earlier one.
 pub fn few_live()
     ensures { served.few_live }
 {}
 
-/// A name is that of a number whose subscription lives, exactly where it is the name of this number and its subscription lives.
+/// A name leads to a number exactly if it is the name of this number and the subscription of this number lives.
 pub fn names_are_of_numbers()
     ensures { served.names_are_of_numbers }
 {}
@@ -64,18 +66,18 @@ pub fn names_are_read_back()
     ensures { served.names_are_read_back }
 {}
 
-/// What `write_subscribe` writes is read, whatever comes behind it, as a SUBSCRIBE request to its address for a subscription with
-/// this callback for 1,800 seconds, where its head is within the limit of a head.
+/// What `write_subscribe` writes is read, whatever comes after it, as a SUBSCRIBE request to its address. It asks for a
+/// subscription with this callback for 1,800 seconds. Its head must be within the limit of a head.
 pub fn subscribes_are_read()
     ensures { written.subscribes_are_read }
 {}
 
-/// So is what `write_renewal` writes, as the renewal of this subscription for 1,800 seconds.
+/// What `write_renewal` writes is read so, too, as the renewal of this subscription for 1,800 seconds.
 pub fn renewals_are_read()
     ensures { written.renewals_are_read }
 {}
 
-/// And what `write_unsubscribe` writes, as the end of this subscription.
+/// What `write_unsubscribe` writes is read so, too, as the end of this subscription.
 pub fn unsubscribes_are_read()
     ensures { written.unsubscribes_are_read }
 {}

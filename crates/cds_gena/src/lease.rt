@@ -1,4 +1,4 @@
-//! What a reply to SUBSCRIBE grants.
+//! Reads what a reply to SUBSCRIBE grants.
 
 ghost use Rattle.std.specs.Prelude.{◌≡◌, codes, option_and_then, option_map};
 ghost use Rattle.cds_gena.specs.SidText.{sid_in};
@@ -9,14 +9,14 @@ use crate::sid::Sid;
 use cds_http::{Message, Start};
 use http_header::HeaderMap;
 
-/// A subscription that was granted or renewed: its name, and for how many seconds.
+/// A subscription that was granted or renewed: its name, and the number of seconds.
 #[derive(Clone, Copy, Debug, PartialEq, Eq)]
 pub struct Lease {
     pub sid: Sid,
     pub seconds: u32,
 }
 
-/// Whether a message is a reply with this status.
+/// Returns whether a message is a reply with this status.
 fn has_status(message: &Message, code: u16) -> bool
     ensures { result ≡ has_status code message.now.start }
 {
@@ -26,7 +26,7 @@ fn has_status(message: &Message, code: u16) -> bool
     }
 }
 
-/// The SID that comes exactly once.
+/// Returns the SID that comes exactly once.
 fn only_sid(fields: &HeaderMap) -> Option<&[u8]>
     ensures { option_map (λ value. value.now) result ≡ only_field (codes "sid") fields.now }
 {
@@ -42,7 +42,7 @@ fn only_sid(fields: &HeaderMap) -> Option<&[u8]>
     }
 }
 
-/// The name in a SID that may be missing.
+/// Returns the name in a SID that may be missing.
 fn named(sid: Option<&[u8]>) -> Option<Sid>
     ensures { option_map (λ sid. sid.0) result ≡ option_and_then sid_in (option_map (λ x. x.now) sid.entry) }
 {
@@ -52,9 +52,10 @@ fn named(sid: Option<&[u8]>) -> Option<Sid>
     }
 }
 
-/// What a reply to SUBSCRIBE grants (UPnP Device Architecture 2.0 on eventing): the name in its SID, for the seconds of its
-/// TIMEOUT, put within 1,800 and 86,400; 1,800 where TIMEOUT is missing or names no seconds. `None` exactly where the message
-/// is no reply with status 200, or SID does not come exactly once with a name in it.
+/// Returns what a reply to SUBSCRIBE grants (UPnP Device Architecture 2.0 on eventing): the name in its SID, for the
+/// seconds of its TIMEOUT. The seconds are put within 1,800 and 86,400. They are 1,800 if TIMEOUT is missing or names
+/// no seconds. `None` comes exactly if the message is no reply with status 200, or if SID does not come exactly once
+/// with a name in it.
 pub fn read_lease(message: &Message) -> Option<Lease>
     ensures { result ≡ lease_in message.now }
 {

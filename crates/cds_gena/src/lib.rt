@@ -1,5 +1,5 @@
-//! Subscriptions to a server's events: which live, what a request asks for, and the notes on the wire (UPnP Device
-//! Architecture 2.0 on eventing; the limits are this project's profile).
+//! Subscriptions to the events of a server: which of them live, what a request asks for, and the addresses of notes
+//! (UPnP Device Architecture 2.0 on eventing; the limits are this project's profile).
 #![tactic(auto)]
 
 mod address;

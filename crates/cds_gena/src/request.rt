@@ -1,4 +1,4 @@
-//! Requests about subscriptions, as a control point writes them.
+//! Writes requests about subscriptions, as a control point sends them.
 
 ghost use Rattle.std.specs.Prelude.{◌≡◌, ◌++◌, [], codes, string_bytes, IfOk, IsTrue, OnErr, OnOk};
 ghost use Rattle.url.specs.Parts.{IsValid};
@@ -12,7 +12,7 @@ use cds_http::{Fields, write_request};
 use std::alloc::Global;
 use url::{Position, Url};
 
-/// The text of a CALLBACK.
+/// Returns the text of a CALLBACK.
 fn callback_text(alloc: Global, callback: &Url) -> Result<String, Mem>
     ensures text { IfOk result (λ text. string_bytes text ≡ callback_text callback.now) }
     ensures valid { OnOk result (IsValid callback.now) }
@@ -24,7 +24,7 @@ fn callback_text(alloc: Global, callback: &Url) -> Result<String, Mem>
     Ok(text)
 }
 
-/// The given fields of a new subscription.
+/// Returns the given fields of a new subscription.
 fn subscribe_fields(alloc: Global, url: &Url, callback: &Url) -> Result<Fields, Mem>
     requires delivered { IsTrue (is_deliverable callback.now) }
     ensures fields { IfOk result (λ fields. fields ≡ subscribe_fields url.now callback.now) }
@@ -40,7 +40,7 @@ fn subscribe_fields(alloc: Global, url: &Url, callback: &Url) -> Result<Fields, 
     Ok(fields)
 }
 
-/// The given fields of a renewal.
+/// Returns the given fields of a renewal.
 fn renewal_fields(alloc: Global, url: &Url, sid: Sid) -> Result<Fields, Mem>
     ensures fields { IfOk result (λ fields. fields ≡ renewal_fields url.now sid.0) }
     ensures can { IfOk result CanBeWritten }
@@ -54,7 +54,7 @@ fn renewal_fields(alloc: Global, url: &Url, sid: Sid) -> Result<Fields, Mem>
     Ok(fields)
 }
 
-/// The given fields of an end.
+/// Returns the given fields of an end.
 fn unsubscribe_fields(alloc: Global, url: &Url, sid: Sid) -> Result<Fields, Mem>
     ensures fields { IfOk result (λ fields. fields ≡ unsubscribe_fields url.now sid.0) }
     ensures can { IfOk result CanBeWritten }
@@ -77,10 +77,11 @@ fn put_request(method: &str, url: &Url, fields: &Fields, out: &mut Vec<u8>) -> R
     write_request(method, target, fields, &[], out)
 }
 
-/// Appends the request for a subscription of 1,800 seconds at an address, whose notes are to be delivered at a callback:
-/// SUBSCRIBE with the path and the query of the address, HOST, CALLBACK, `NT: upnp:event`, TIMEOUT, CONTENT-LENGTH,
-/// `CONNECTION: close` and an empty line (UPnP Device Architecture 2.0 on eventing). HOST is the host of the address and,
-/// where that is not 80, its port. Both are to be `http` URLs with a host. Where there is no memory, nothing is appended.
+/// Appends the request for a subscription of 1,800 seconds at an address. Its notes are to be delivered at a callback.
+/// The request is SUBSCRIBE with the path and the query of the address, HOST, CALLBACK, `NT: upnp:event`, TIMEOUT,
+/// CONTENT-LENGTH, `CONNECTION: close` and an empty line (UPnP Device Architecture 2.0 on eventing). HOST is the host
+/// of the address and, unless that is 80, its port. Both addresses must be `http` URLs with a host. If memory runs out,
+/// nothing is appended.
 pub fn write_subscribe(
     alloc: Global,
     url: &Url,
@@ -96,8 +97,8 @@ pub fn write_subscribe(
     put_request("SUBSCRIBE", url, &fields, out)
 }
 
-/// Appends the request that renews a subscription for 1,800 seconds at the `http` URL at which it was granted: as
-/// `write_subscribe`, with SID in place of CALLBACK and NT. Where there is no memory, nothing is appended.
+/// Appends the request that renews a subscription for 1,800 seconds at the `http` URL at which it was granted. It is
+/// like that of `write_subscribe`, with SID in place of CALLBACK and NT. If memory runs out, nothing is appended.
 pub fn write_renewal(alloc: Global, url: &Url, sid: Sid, out: &mut Vec<u8>) -> Result<(), Mem>
     ensures ok { OnOk result (out.new.items ≡ out.old.items ++ renewal_text url.now sid.0) }
     ensures err { OnErr result (out.new.items ≡ out.old.items) }
@@ -106,8 +107,8 @@ pub fn write_renewal(alloc: Global, url: &Url, sid: Sid, out: &mut Vec<u8>) -> R
     put_request("SUBSCRIBE", url, &fields, out)
 }
 
-/// Appends the request that ends a subscription at the `http` URL at which it was granted: UNSUBSCRIBE, else as
-/// `write_subscribe`, with HOST and SID alone. Where there is no memory, nothing is appended.
+/// Appends the request that ends a subscription at the `http` URL at which it was granted. It is UNSUBSCRIBE, otherwise
+/// like that of `write_subscribe`, with only HOST and SID given. If memory runs out, nothing is appended.
 pub fn write_unsubscribe(alloc: Global, url: &Url, sid: Sid, out: &mut Vec<u8>) -> Result<(), Mem>
     ensures ok { OnOk result (out.new.items ≡ out.old.items ++ unsubscribe_text url.now sid.0) }
     ensures err { OnErr result (out.new.items ≡ out.old.items) }

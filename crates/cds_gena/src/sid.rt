@@ -1,3 +1,5 @@
+//! The names of subscriptions.
+
 ghost use Rattle.std.specs.Prelude.{◌≡◌, ◌++◌, option_map, IfOk, OnOk, OnErr};
 ghost use Rattle.cds_gena.specs.SidText.{sid_in, sid_text};
 
@@ -10,8 +12,8 @@ use uuid::Uuid;
 pub struct Sid(pub u128);
 
 impl Sid {
-    /// The name in the text of a SID field: `uuid:`, in these letters, and a UUID in one of its text forms. `None` where it
-    /// is anything else.
+    /// Returns the name in the text of a SID field: `uuid:`, in exactly these letters, and a UUID in one of its text
+    /// forms. `None` comes for any other text.
     pub fn read(text: &[u8]) -> Option<Sid>
         ensures { option_map (λ sid. sid.0) result ≡ sid_in text.now }
     {
@@ -25,7 +27,7 @@ impl Sid {
         }
     }
 
-    /// Appends the text of its SID field: `uuid:` and the UUID hyphenated in lower case. Where there is no memory, nothing is
+    /// Appends the text of its SID field: `uuid:` and the UUID hyphenated in lower case. If memory runs out, nothing is
     /// appended.
     pub fn write(&self, out: &mut Vec<u8>) -> Result<(), Mem>
         ensures ok { OnOk result (out.new.items ≡ out.old.items ++ sid_text self.now.0) }
@@ -37,7 +39,7 @@ impl Sid {
         out.extend_from_slice(&text.as_bytes()[4..])?;
         Ok(())
     }
-    /// The text of its SID field.
+    /// Returns the text of its SID field.
     pub fn text(&self, alloc: Global) -> Result<Text, Mem>
         ensures { IfOk result (λ text. text ≡ sid_text self.now.0) }
     {

@@ -1,4 +1,4 @@
--- What bytes say of a message at their front, before the connection has ended or at its end.
+-- What bytes that begin with a message say of it, before the connection has ended or at its end.
 use Rattle.std.specs.Prelude.{◌≡◌, ℕ, Bool, List, Result, Ok, Err}
 use Rattle.cds_http.specs.declared.error.HttpError.{HttpError}
 use Rattle.cds_http.specs.declared.message.Side.{Side}
@@ -17,7 +17,7 @@ with_body head body = record { start = head.start; fields = head.fields; body = 
 abbrev pub with_head : Head → Known (List ℕ) → Known Message
 with_head head known = map_known (with_body head) known
 
--- What follows a head, by the rule for the body that its fields give.
+-- What follows a head. The fields of the head give the rule for the body.
 abbrev pub FramedKnown : Bool → Result Framing HttpError → Head → List ℕ → Known Message → Type 0
 FramedKnown ended (Err e) head rest known = known ≡ Refused e
 FramedKnown ended (Ok framing) head rest known = (body : Known (List ℕ)) × BodyKnown ended framing rest body × (known ≡ with_head head body)

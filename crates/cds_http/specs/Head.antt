@@ -45,7 +45,7 @@ request_head h = record { start = request_start h.method h.target; fields = kept
 abbrev pub reply_head : ResponseHead → Head
 reply_head h = record { start = reply_start (status_code h); fields = kept_fields (map field_pair h.fields) }
 
--- The text is a head of the grammar of HTTP/1.1 (RFC 9112) with no more fields than may be, and means this.
+-- The text is a head of the grammar of HTTP/1.1 (RFC 9112) with at most `field_limit` fields, and means this.
 abbrev pub IsHead : Side → List ℕ → Head → Type 0
 IsHead Request text head = (h : RequestHead) × ReadsRequest text h [] × (length h.fields ≤ field_limit) × (head ≡ request_head h)
 IsHead Reply text head = (h : ResponseHead) × ReadsResponse text h [] × (length h.fields ≤ field_limit) × (head ≡ reply_head h)
@@ -54,17 +54,17 @@ IsHead Reply text head = (h : ResponseHead) × ReadsResponse text h [] × (lengt
 abbrev pub IsNoHead : Side → List ℕ → Type 0
 IsNoHead side text = (head : Head) → ¬ (IsHead side text head)
 
--- What the bytes up to the end of a head say: they are judged when that has come.
+-- What the bytes up to the end of a head say. They are judged when that end has come.
 abbrev pub HeadOf : Side → List ℕ → List ℕ → Known Head → Type 0
 HeadOf side text rest (Whole head left) = IsHead side text head × (left ≡ rest)
 HeadOf side text rest Needs = ⊥
 HeadOf side text rest (Refused e) = (e ≡ BadHead) × IsNoHead side text
 
--- The front of the bytes up to the first empty line behind a line that is not empty.
+-- The prefix of the bytes up to the first empty line after a line that is not empty.
 abbrev pub head_cut : List ℕ → Known (List ℕ)
 head_cut bytes = cut_at Before HeadTooLong head_limit bytes
 
--- What the bytes say of a head at their front.
+-- What the bytes say of the head that they begin with.
 abbrev pub HeadKnown : Side → List ℕ → Known Head → Type 0
 HeadKnown side bytes known = Then (head_cut bytes) (HeadOf side) known
 
@@ -79,7 +79,7 @@ HoldsRequest text headers spans head = (h : RequestHead) × IsRequestAt text hea
 abbrev pub HoldsReply : List ℕ → List HeaderSpan → ResponseSpans → Head → Type 0
 HoldsReply text headers spans head = (h : ResponseHead) × IsResponseAt text headers spans h × (head ≡ reply_head h)
 
--- A text that ends where a head does is read.
+-- A text that ends at the end of a head is read.
 abbrev pub HeadRead : Side → List ℕ → Result Head HttpError → Type 0
 HeadRead side text (Ok head) = IsHead side text head
 HeadRead side text (Err e) = (e ≡ Mem) ⊎ ((e ≡ BadHead) × IsNoHead side text)

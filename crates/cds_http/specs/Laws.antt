@@ -12,7 +12,7 @@ use Rattle.cds_http.specs.Decided.{Decides}
 use Rattle.cds_http.specs.Spelled.{Spelled, IsMessage}
 use Rattle.cds_http.specs.Reading.{Takes, Finishes, at_end}
 
--- Bytes say one thing at most of a message at their front.
+-- Bytes that begin with a message have at most one outcome.
 abbrev pub OneOutcome : Type 0
 OneOutcome =
     (ended : Bool) (side : Side) (bytes : List ℕ) (first second : Known Message) → Decides ended side bytes first → Decides ended side bytes second
@@ -30,14 +30,14 @@ SpelledIsWhole =
     (ended : Bool) (side : Side) (bytes : List ℕ) (m : Message) (rest : List ℕ) → Spelled ended side bytes m rest
     → Decides ended side bytes (Whole m rest)
 
--- The end of the connection behind bytes whose first n are a message gives that message.
+-- The end of the connection after bytes whose first n are a message gives that message.
 abbrev pub MessagesEnd : Type 0
 MessagesEnd =
     (side : Side) (bytes : List ℕ) (m : Message) (n : ℕ) (result : Result Message HttpError) → IsMessage side bytes m n
     → Finishes side (Some bytes) result → result ≡ Ok m
 
--- Pieces come and then the end. What is behind the message is the end of the piece that it ends in, by the number that is
--- answered, and the pieces behind that. Where a piece is refused, that is the answer.
+-- Pieces come and then the end. The bytes after the message are the end of the piece in which it ends, by the number
+-- that is answered, and the later pieces. If a piece is refused, that is the answer.
 abbrev pub GoesOn : List ℕ → Result Fed HttpError → List ℕ → Result Message HttpError → (List ℕ → Type 0) → Type 0
 GoesOn piece (Ok More) behind result onwards = onwards behind
 GoesOn piece (Ok (WholeFed n)) behind result onwards = (later : List ℕ) × (behind ≡ drop (length piece - n) piece ++ later) × onwards later
@@ -53,13 +53,13 @@ abbrev pub together : List (List ℕ) → List ℕ
 together [] = []
 together (piece ∷ more) = piece ++ together more
 
--- What bytes say is left behind a message.
+-- The bytes that are left after a message.
 abbrev pub left_of : Known Message → List ℕ
 left_of (Whole m rest) = rest
 left_of Needs = []
 left_of (Refused e) = []
 
--- The answer, and what is behind the message, by what the bytes say, if memory does not run out.
+-- The answer, and the bytes after the message, are what the bytes say, if memory does not run out.
 abbrev pub IsAnswer : Side → List ℕ → List ℕ → Result Message HttpError → Type 0
 IsAnswer side bytes behind result =
     (result ≡ Err Mem) ⊎ ((known : Known Message) × Decides true side bytes known × (result ≡ at_end known) × (behind ≡ left_of known))
@@ -70,14 +70,15 @@ EveryCutting =
     (side : Side) (pieces : List (List ℕ)) (behind : List ℕ) (result : Result Message HttpError) → Gives side (Some []) pieces behind result
     → IsAnswer side (together pieces) behind result
 
--- Two cuttings of the same bytes have the same answer and the same bytes behind the message, if memory runs out in neither.
+-- Two cuttings of the same bytes have the same answer and the same bytes after the message, if memory runs out in
+-- neither.
 abbrev pub CuttingsAgree : Type 0
 CuttingsAgree =
     (side : Side) (pieces others : List (List ℕ)) (behind other_behind : List ℕ) (result other_result : Result Message HttpError)
     → together pieces ≡ together others → Gives side (Some []) pieces behind result → Gives side (Some []) others other_behind other_result
     → (result ≡ Err Mem) ⊎ (other_result ≡ Err Mem) ⊎ ((result ≡ other_result) × (behind ≡ other_behind))
 
--- There are no bytes of which nothing is said: they are a whole message and a rest, or need more, or are refused.
+-- Every input has an outcome: the bytes are a whole message and a rest, or need more, or are refused.
 abbrev pub BytesSay : Type 0
 BytesSay = (ended : Bool) (side : Side) (bytes : List ℕ) → ¬ ((known : Known Message) → ¬ (Decides ended side bytes known))
 
@@ -100,18 +101,18 @@ IsBreak byte = (byte ≡ 13) ⊎ (byte ≡ 10)
 abbrev pub IsEmptyLine : List ℕ → Type 0
 IsEmptyLine text = (text ≡ 13 ∷ 10 ∷ []) ⊎ (text ≡ 10 ∷ [])
 
--- The text ends with an empty line behind a line that is not empty: CR and LF may stand before its first other byte, and
--- some LF behind that stands before the empty line.
+-- The text ends with an empty line after a line that is not empty. CR and LF may come before its first other byte.
+-- After that byte, an LF comes before the empty line.
 abbrev pub EndsWithEmptyLine : List ℕ → Type 0
 EndsWithEmptyLine text =
     (blank : List ℕ) × (first : ℕ) × (others : List ℕ) × (last : List ℕ) × (text ≡ blank ++ (first ∷ others ++ 10 ∷ last))
     × All IsBreak blank × ¬ (IsBreak first) × IsEmptyLine last
 
--- No front of the bytes with at most so many does.
+-- No prefix of the bytes with at most this many bytes ends so.
 abbrev pub NoneWithin : ℕ → List ℕ → Type 0
 NoneWithin most bytes = (front rest : List ℕ) → bytes ≡ front ++ rest → length front ≤ most → ¬ (EndsWithEmptyLine front)
 
--- The text is the front of the bytes up to the first empty line behind a line that is not empty, and short enough.
+-- The text is the prefix of the bytes up to the first empty line after a line that is not empty, and short enough.
 pub record IsFirstEnd (bytes text rest : List ℕ) : Type 0 where
   pub all : bytes ≡ text ++ rest
   pub ends : EndsWithEmptyLine text
@@ -122,8 +123,8 @@ pub record IsFirstEnd (bytes text rest : List ℕ) : Type 0 where
 abbrev pub HeadEnds : Type 0
 HeadEnds = (bytes text rest : List ℕ) → (head_cut bytes ≡ Whole text rest) ↔ IsFirstEnd bytes text rest
 
--- It is refused as too long exactly where as many bytes as may be have no such line within them, and as none exactly where
--- the text up to that line is none.
+-- A head is refused as too long exactly if at least `head_limit` bytes came and no such line ends within that many. It
+-- is refused as no head exactly if the text up to that line is no head.
 abbrev pub HeadsRefused : Type 0
 HeadsRefused =
     (ended : Bool) (side : Side) (bytes : List ℕ)

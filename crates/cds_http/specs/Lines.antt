@@ -1,4 +1,4 @@
--- Where a head, a trailer and a chunk line end.
+-- The end of a head, of a trailer and of a chunk line.
 use Rattle.std.specs.Prelude.{◌≡◌, ℕ, ◌+◌, ◌<◌, ◌≤◌, ◌==◌, ◌⊎◌, List, [], ◌∷◌, ◌++◌, length, take, Bool, true, false, Option, Some, None, Result, Ok, Err, if◌then◌else◌}
 use Rattle.cds_http.specs.declared.error.HttpError.{HttpError}
 use Rattle.cds_http.specs.declared.error.HttpError.TheVariants.{Mem}
@@ -11,9 +11,9 @@ use Rattle.cds_http.specs.declared.lines.Collected.{Collected}
 use Rattle.cds_http.specs.declared.lines.Collected.TheVariants.{Whole as WholeText, Going}
 use Rattle.cds_http.specs.Known.{Known, Refused, cut}
 
--- Where the next byte leaves a head: behind it only empty lines so far, inside a line, at the start of a line behind one
--- that is not empty, or behind a CR there. None where it ends the first empty line behind a line that is not. A trailer
--- begins at the start of a line. A chunk line ends with its LF.
+-- The place after the next byte of a head: after empty lines only, inside a line, at the start of a line after one that
+-- is not empty, or after a CR there. None if the byte ends the first empty line after a line that is not empty. A
+-- trailer begins at the start of a line. A chunk line ends with its LF.
 abbrev pub next_place : Place → ℕ → Option Place
 next_place Before b = if b == 10 then Some Before else if b == 13 then Some Before else Some Inside
 next_place Inside b = if b == 10 then Some Fresh else Some Inside
@@ -21,7 +21,7 @@ next_place Fresh b = if b == 10 then None else if b == 13 then Some Return else 
 next_place Return b = if b == 10 then None else Some Inside
 next_place InLine b = if b == 10 then None else Some InLine
 
--- An end so many bytes further on.
+-- An end n bytes further on.
 abbrev pub further : ℕ → Scan → Scan
 further n (Ended at) = Ended (n + at)
 further n (Open place) = Open place
@@ -30,17 +30,17 @@ abbrev pub scan_step : Option Place → (Place → Scan) → Scan
 scan_step None rest = Ended 1
 scan_step (Some next) rest = further 1 (rest next)
 
--- Where bytes behind a place end what they belong to, or where they leave it.
+-- The end of a head, a trailer or a chunk line in the bytes after a place in it, or the place that they lead to.
 abbrev pub scanned : Place → List ℕ → Scan
 scanned place [] = Open place
 scanned place (b ∷ bytes) = scan_step (next_place place b) (λ next. scanned next bytes)
 
--- How many bytes there are up to the end, where it has come.
+-- The number of bytes up to the end, if it has come.
 abbrev pub end_of_scan : Scan → Option ℕ
 end_of_scan (Ended at) = Some at
 end_of_scan (Open place) = None
 
--- The front of the bytes up to the end of what begins at this place.
+-- The prefix of the bytes up to the end of what begins at this place.
 abbrev pub cut_at : Place → HttpError → ℕ → List ℕ → Known (List ℕ)
 cut_at start e limit bytes = cut e limit (end_of_scan (scanned start bytes)) bytes
 
@@ -48,11 +48,11 @@ cut_at start e limit bytes = cut e limit (end_of_scan (scanned start bytes)) byt
 abbrev pub EndsThere : Place → List ℕ → Type 0
 EndsThere start text = scanned start text ≡ Ended (length text)
 
--- What came of something that begins at this place, without its end.
+-- The bytes that came of something that begins at this place, without its end.
 abbrev pub IsFront : Place → ℕ → Front → Type 0
 IsFront start limit f = (scanned start f.text ≡ Open f.place) × (length f.text < limit)
 
--- A piece behind what came.
+-- A piece comes after these bytes.
 abbrev pub Collects : Place → ℕ → HttpError → List ℕ → List ℕ → Result Collected HttpError → Type 0
 Collects start limit refusal came piece (Ok (WholeText text used)) =
     (text ≡ came ++ take used piece) × EndsThere start text × (length text ≤ limit)
@@ -60,13 +60,13 @@ Collects start limit refusal came piece (Ok (Going f)) = (f.text ≡ came ++ pie
 Collects start limit refusal came piece (Err e) =
     (e ≡ Mem) ⊎ ((e ≡ refusal) × ((more : List ℕ) → cut_at start refusal limit ((came ++ piece) ++ more) ≡ Refused refusal))
 
--- Some of the piece was used, and the text is not too long.
+-- If the text is whole, it is not too long, and at least one byte of the piece was used.
 abbrev pub UsesFront : ℕ → List ℕ → Result Collected HttpError → Type 0
 UsesFront limit piece (Ok (WholeText text used)) = (0 < used) × (used ≤ length piece) × (length text ≤ limit)
 UsesFront limit piece (Ok (Going f)) = Unit {0}
 UsesFront limit piece (Err e) = Unit {0}
 
--- An end stands behind at least one of the bytes.
+-- An end comes after at least one of the bytes.
 abbrev pub IsWithin : List ℕ → Scan → Type 0
 IsWithin bytes (Ended at) = (0 < at) × (at ≤ length bytes)
 IsWithin bytes (Open place) = Unit {0}

@@ -19,13 +19,13 @@ use Rattle.cds_http.specs.Head.{head_limit}
 use Rattle.cds_http.specs.Decided.{Decides, with_head}
 use Rattle.cds_http.specs.Steps.{StillKnown, Fits, Waits, Explains}
 
--- What the bytes behind the state of a body say of it, they say of the message behind all that came.
+-- What the bytes after the state of a body say of it, they say of the message after all that came.
 abbrev pub Continues : Side → List ℕ → Head → Body → Type 0
 Continues side bytes head body =
     (ended : Bool) (more : List ℕ) (known : Known (List ℕ)) → StillKnown ended body more known
     → Decides ended side (bytes ++ more) (with_head head known)
 
--- The bytes are a whole message and nothing behind it.
+-- The bytes are a whole message and nothing after it.
 abbrev pub IsWhole : Side → List ℕ → Message → Type 0
 IsWhole side bytes m = (ended : Bool) (more : List ℕ) → Decides ended side (bytes ++ more) (Whole m more)
 
@@ -36,13 +36,13 @@ StageOf side (InBody head body) bytes = Fits body × Waits body × Continues sid
 StageOf side (AtEnd m) bytes = IsWhole side bytes m
 StageOf side IsRefused bytes = ⊥
 
--- A reader of this side of an exchange stands for the bytes that came, or for none from a refusal on.
+-- A reader of this side stands for the bytes that came. After a refusal it stands for none.
 abbrev pub Stands : Side → MessageReader → Option (List ℕ) → Type 0
 Stands side r None = r.stage ≡ IsRefused
 Stands side r (Some bytes) = (r.side ≡ side) × StageOf side r.stage bytes
 
--- The answer to all bytes so far, of which the last are the piece, and what came then: the message with its last byte, and
--- nothing of what is behind it.
+-- The answer to all bytes so far, which end with the piece, and what came then. A message that is whole came up to its
+-- last byte, and nothing after it came.
 abbrev pub Answers : Side → List ℕ → List ℕ → Result Fed HttpError → Option (List ℕ) → Type 0
 Answers side bytes piece (Ok More) now = Decides false side (bytes ++ piece) Needs × (now ≡ Some (bytes ++ piece))
 Answers side bytes piece (Ok (WholeFed rest)) now =
@@ -51,11 +51,11 @@ Answers side bytes piece (Ok (WholeFed rest)) now =
 Answers side bytes piece (Err e) now =
     (now ≡ None) × Explains e ((ended : Bool) (more : List ℕ) → Decides ended side ((bytes ++ piece) ++ more) (Refused e))
 
--- Behind a whole message a piece is not taken, and the answer is its length: no want of memory there.
+-- After a whole message a piece is not taken, and the answer is its length. Memory cannot run out there.
 abbrev pub StaysWhole : Side → List ℕ → List ℕ → Result Fed HttpError → Option (List ℕ) → Type 0
 StaysWhole side bytes piece result now = (m : Message) → IsWhole side bytes m → (result ≡ Ok (WholeFed (length piece))) × (now ≡ Some bytes)
 
--- A piece comes: what came before, the piece, the answer and what has come then.
+-- A piece comes: what came before, the piece, the answer, and what has come then.
 abbrev pub Takes : Side → Option (List ℕ) → List ℕ → Result Fed HttpError → Option (List ℕ) → Type 0
 Takes side None piece result now = (result ≡ Err Failed) × (now ≡ None)
 Takes side (Some bytes) piece result now = Answers side bytes piece result now × StaysWhole side bytes piece result now

@@ -12,8 +12,8 @@ use Rattle.cds_http.specs.Framing.{body_limit}
 use Rattle.cds_http.specs.Decided.{Decides}
 use Rattle.cds_http.specs.Written.{written_request, written_reply, request_text, reply_text}
 
--- A field that is read as it was written: the name is a token and neither CONTENT-LENGTH nor TRANSFER-ENCODING, and the
--- value has no control byte but the tab and no blank at an end.
+-- A field that is read as it was written: the name is a token and neither CONTENT-LENGTH nor TRANSFER-ENCODING. The
+-- value has no control byte except the tab, and no blank at an end.
 pub record IsReadBack (f : Field) : Type 0 where
   pub name : IsToken f.name
   pub no_length : lowercase f.name ≢ codes "content-length"
@@ -34,7 +34,7 @@ last_pairs count = (codes "CONTENT-LENGTH", decimal count) ∷ (codes "CONNECTIO
 abbrev pub own_pairs : List (List ℕ × List ℕ)
 own_pairs = (codes "EXT", []) ∷ (codes "SERVER", codes "unix/1.0 UPnP/2.0 cds/1.0") ∷ []
 
--- A written request is read as it was written, whatever comes behind it.
+-- A written request is read as it was written, whatever comes after it.
 abbrev pub RequestsAreReadBack : Type 0
 RequestsAreReadBack =
     (method target : List ℕ) (fields : List Field) (body more : List ℕ) (ended : Bool)
@@ -44,7 +44,7 @@ RequestsAreReadBack =
     → Decides ended Request (written_request method target fields body ++ more)
     (Whole (record { start = request_start method target; fields = kept_fields (map given_pair fields ++ last_pairs (length body)); body = body }) more)
 
--- So is a written reply of a status of three digits.
+-- A written reply with a status of three digits is read as it was written, too.
 abbrev pub RepliesAreReadBack : Type 0
 RepliesAreReadBack =
     (status : ℕ) (fields : List Field) (body more : List ℕ) (ended : Bool)

@@ -17,7 +17,7 @@ use Rattle.cds_http.specs.Written.{line_break}
 abbrev pub small_head : List ℕ
 small_head = codes "GET / HTTP/1.1" ++ line_break ++ codes "HOST: a" ++ line_break
 
--- The head ends with its empty line, behind empty lines at its front and with LF alone too; bytes behind it are left.
+-- The head ends with its empty line, also after empty lines at its start and with LF alone. Bytes after it are left.
 abbrev pub HeadsAreCut : Type 0
 HeadsAreCut =
     (head_cut small_head ≡ Needs)
@@ -30,7 +30,8 @@ HeadsAreCut =
     × (trailer_cut (line_break ++ codes "x") ≡ Whole line_break (codes "x"))
     × (trailer_cut (codes "A: b" ++ line_break) ≡ Needs)
 
--- Lengths with leading zeros, a sign, 30 digits, twice and beside chunks; chunks in letters of either case and with another coding.
+-- Lengths with leading zeros, a sign, 30 digits, twice and beside chunks. Chunks in letters of either case and with
+-- another coding.
 abbrev pub BodiesAreFramed : Type 0
 BodiesAreFramed =
     (framing_by Request [] [] ≡ Ok (Counted 0))

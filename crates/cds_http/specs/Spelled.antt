@@ -1,4 +1,4 @@
--- Messages by the grammar, with no word of how they are read.
+-- Messages by the grammar, without a word on how they are read.
 use Rattle.std.specs.Prelude.{◌≡◌, ℕ, ◌<◌, ◌≤◌, Bool, true, ◌++◌, List, [], length, drop, All, IsTrue, flat_map, Ok}
 use Rattle.httparse.specs.Grammar.{ChunkLine, IsChunkLine, print_chunk_line, chunk_size, print_end, crlf}
 use Rattle.cds_http.specs.declared.message.Side.{Side}
@@ -17,14 +17,14 @@ pub record Chunk : Type 0 where
 abbrev pub print_chunk : Chunk → List ℕ
 print_chunk c = print_chunk_line c.line ++ c.bytes ++ print_end crlf
 
--- The line is short enough, and gives the number of the bytes, of which there are some.
+-- The line is short enough. It gives the number of the bytes, and there is at least one.
 pub record IsChunk (c : Chunk) : Type 0 where
   pub line : IsChunkLine c.line
   pub short : length (print_chunk_line c.line) ≤ line_limit
   pub some : 0 < length c.bytes
   pub counted : chunk_size c.line ≡ length c.bytes
 
--- Chunks, the line of the last, which has no bytes, and a trailer, which is passed over.
+-- Chunks, the line of the last chunk, which has no bytes, and a trailer, which is passed over.
 pub record SpelledChunks (text body : List ℕ) : Type 0 where
   pub chunks : List Chunk
   pub last : ChunkLine
@@ -38,13 +38,13 @@ pub record SpelledChunks (text body : List ℕ) : Type 0 where
   pub trailer_is : IsTrailer trailer
   pub trailer_short : length trailer ≤ head_limit
 
--- The text is this body by its length, by its chunks, or by the end of the connection, if that has come behind it.
+-- The text is this body by its length, by its chunks, or by the end of the connection, if that has come after it.
 abbrev pub Spells : Bool → Framing → List ℕ → List ℕ → List ℕ → Type 0
 Spells ended (Counted n) text rest body = (text ≡ body) × (length body ≡ n)
 Spells ended Chunked text rest body = SpelledChunks text body × (length body ≤ body_limit)
 Spells ended ToEnd text rest body = (text ≡ body) × (length body ≤ body_limit) × IsTrue ended × (rest ≡ [])
 
--- The bytes are the message and then the rest: a head, and a body by the rule that the head's fields give.
+-- The bytes are the message and then the rest: a head, and a body by the rule that the fields of the head give.
 pub record Spelled (ended : Bool) (side : Side) (bytes : List ℕ) (m : Message) (rest : List ℕ) : Type 0 where
   pub front : List ℕ
   pub text : List ℕ
@@ -55,6 +55,6 @@ pub record Spelled (ended : Bool) (side : Side) (bytes : List ℕ) (m : Message)
   pub framing_is : framing_of side m.fields ≡ Ok framing
   pub body : Spells ended framing text rest m.body
 
--- The first n bytes are the message, where the connection has ended behind all of them.
+-- The first n bytes are the message, if the connection has ended after all of them.
 abbrev pub IsMessage : Side → List ℕ → Message → ℕ → Type 0
 IsMessage side bytes m n = (n ≤ length bytes) × Spelled true side bytes m (drop n bytes)

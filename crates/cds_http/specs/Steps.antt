@@ -14,7 +14,7 @@ use Rattle.cds_http.specs.Head.{head_limit}
 use Rattle.cds_http.specs.Framing.{body_limit}
 use Rattle.cds_http.specs.Chunks.{counted, open_body, line_limit, closed, closing, behind, IsSizeLine, IsTrailer, TrailerKnown, ChunksFrom, Chunks}
 
--- What bytes say of a body of which these came and of which this comes next.
+-- What the next bytes say of a body. These bytes of it came, and this part comes next.
 abbrev pub PartKnown : Bool → List ℕ → Part → List ℕ → Known (List ℕ) → Type 0
 PartKnown ended body (Counted left) more known = known ≡ behind body (counted left more)
 PartKnown ended body ToEnd more known = known ≡ open_body ended (body ++ more)
@@ -43,13 +43,13 @@ Fits b = FitsPart b.bytes b.part
 abbrev pub Waits : Body → Type 0
 Waits b = StillKnown false b [] Needs
 
--- What is said of the bytes behind the later state is said of them behind the front and the earlier one.
+-- What is said of the bytes after the later state is said of them after the prefix and the earlier state.
 abbrev pub Follows : Body → List ℕ → Body → Type 0
 Follows before front after =
     (ended : Bool) (more : List ℕ) (known : Known (List ℕ)) → StillKnown ended after more known
     → StillKnown ended before (front ++ more) known
 
--- A refusal holds by its cause, and want of memory by none. The others come of no bytes that came.
+-- A refusal holds by its cause, and a refusal for memory needs none. The two others never come from bytes.
 abbrev pub Explains : HttpError → Type 0 → Type 0
 Explains Mem cause = ⊤
 Explains Failed cause = ⊥
@@ -60,7 +60,8 @@ Explains BadLength cause = cause
 Explains BadChunk cause = cause
 Explains TooLong cause = cause
 
--- The outcome of bytes behind a state: a later state behind some of them, the body, or why it is refused whatever comes.
+-- The outcome of bytes after a state: a later state after some of them, the body, or a refusal that holds whatever
+-- follows.
 abbrev pub Goes : Body → List ℕ → Result Progress HttpError → Type 0
 Goes before bytes (Ok (More after used)) =
     (used ≤ length bytes) × Fits after × Waits after × Follows before (take used bytes) after
@@ -70,7 +71,7 @@ Goes before bytes (Ok (WholeBody body used)) =
 Goes before bytes (Err e) =
     Explains e ((ended : Bool) (more : List ℕ) → StillKnown ended before (bytes ++ more) (Refused e))
 
--- All bytes were used, or some of them, where there are any.
+-- If there are bytes and the body goes on, at least one was used.
 abbrev pub UsesSome : List ℕ → Result Progress HttpError → Type 0
 UsesSome bytes (Ok (More after used)) = (used ≤ length bytes) × (0 < length bytes → 0 < used)
 UsesSome bytes (Ok (WholeBody body used)) = used ≤ length bytes
@@ -81,7 +82,7 @@ UsesAll bytes (Ok (More after used)) = used ≡ length bytes
 UsesAll bytes (Ok (WholeBody body used)) = used ≤ length bytes
 UsesAll bytes (Err e) = ⊤
 
--- A chunk line behind these bytes of a body.
+-- A chunk line comes after these bytes of a body.
 abbrev pub Turns : List ℕ → List ℕ → Result Body HttpError → Type 0
 Turns body line (Ok after) =
     Fits after × Waits after
@@ -98,7 +99,7 @@ abbrev pub TrailerRead : List ℕ → Bool → Type 0
 TrailerRead text true = IsTrailer text
 TrailerRead text false = ¬ (IsTrailer text)
 
--- A piece is added to bytes of which so many more are left, where it does not end them.
+-- A piece is added to bytes, of which this many more are left, if it does not end them.
 abbrev pub Adds : List ℕ → ℕ → List ℕ → Result Bool HttpError → List ℕ → ℕ → Type 0
 Adds bytes left piece (Ok true) after rest = (length piece < left) × (length piece + rest ≡ left) × (after ≡ bytes ++ piece)
 Adds bytes left piece (Ok false) after rest = (after ≡ bytes) × (rest ≡ left)

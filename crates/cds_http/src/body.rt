@@ -1,4 +1,4 @@
-//! The body of a message, as it comes.
+//! Reads the body of a message as its bytes come.
 
 ghost use Rattle.std.specs.Prelude.{ℕ, ◌<◌, ◌≤◌, Bool, List, length};
 ghost use Rattle.cds_http.specs.Known.{Known};
@@ -18,8 +18,14 @@ use std::alloc::Global;
 /// The most bytes of a chunk line, with its CR LF.
 const LINE_LIMIT: usize = 4_096;
 
-/// What comes next of a body: so many of its bytes, all bytes to the end of the connection, a chunk line of which this
-/// came, so many bytes of a chunk and CR LF, the LF of that, or a trailer of which this came.
+/// What comes next of a body.
+///
+/// - `Counted`: `left` more bytes of the body.
+/// - `ToEnd`: all bytes to the end of the connection.
+/// - `Line`: a chunk line, of which `front` came.
+/// - `Data`: `left` more bytes of a chunk, then CR LF.
+/// - `Close`: the LF of that CR LF.
+/// - `Trailer`: a trailer, of which `front` came.
 #[derive(Drop)]
 pub(crate) enum Part {
     Counted { left: usize },
@@ -37,14 +43,14 @@ pub(crate) struct Body {
     pub part: Part,
 }
 
-/// What bytes brought, of which so many were used.
+/// What a piece brought. `used` of its bytes were used.
 #[derive(Drop)]
 pub(crate) enum Progress {
     More { body: Body, used: usize },
     Whole { body: Bytes, used: usize },
 }
 
-/// A body of which nothing came yet.
+/// Returns a body before any byte of it came.
 pub(crate) fn new_body(alloc: Global, framing: Framing) -> Body
     ensures fits { Fits result }
     ensures known { (ended : Bool) (bytes : List ℕ) (known : Known (List ℕ)) → StillKnown ended result bytes known → BodyKnown ended framing bytes known }
@@ -62,7 +68,7 @@ pub(crate) fn new_body(alloc: Global, framing: Framing) -> Body
     }
 }
 
-/// Bytes of a body whose length is known.
+/// Takes bytes of a body whose length is known.
 fn take_counted(bytes: Bytes, left: usize, piece: &[u8]) -> Result<Progress, HttpError>
     ensures goes { Goes record { bytes = bytes; part = Part.Counted left } piece.now result }
     ensures uses { UsesSome piece.now result }
@@ -87,7 +93,7 @@ fn take_counted(bytes: Bytes, left: usize, piece: &[u8]) -> Result<Progress, Htt
     })
 }
 
-/// Bytes of a body that ends with the connection.
+/// Takes bytes of a body that ends with the connection.
 fn take_open(bytes: Bytes, piece: &[u8]) -> Result<Progress, HttpError>
     ensures goes { Goes record { bytes = bytes; part = Part.ToEnd } piece.now result }
     ensures uses { UsesSome piece.now result }
@@ -108,7 +114,7 @@ fn take_open(bytes: Bytes, piece: &[u8]) -> Result<Progress, HttpError>
     })
 }
 
-/// The size that a chunk line gives, which is whole.
+/// Returns the size in a whole chunk line.
 fn read_size(line: &[u8]) -> Result<u64, HttpError>
     ensures { EndsThere Place.InLine line.now → SizeRead line.now result }
 {
@@ -118,7 +124,7 @@ fn read_size(line: &[u8]) -> Result<u64, HttpError>
     }
 }
 
-/// What comes behind a chunk line that gives this size.
+/// Returns the body after a chunk line that gives this size.
 fn after_size(alloc: Global, bytes: Bytes, size: u64) -> Result<Body, HttpError>
     ensures { (line : List ℕ) → IsSizeLine line size → EndsThere Place.InLine line → length line ≤ line_limit → Turns bytes line result }
 {
@@ -137,7 +143,7 @@ fn after_size(alloc: Global, bytes: Bytes, size: u64) -> Result<Body, HttpError>
     Ok(Body { bytes, part })
 }
 
-/// A chunk line, whole, behind these bytes of a body.
+/// Takes a whole chunk line after these bytes of a body.
 fn end_line(alloc: Global, bytes: Bytes, line: &[u8]) -> Result<Body, HttpError>
     ensures { EndsThere Place.InLine line.now → length line.now ≤ line_limit → Turns bytes line.now result }
 {
@@ -147,7 +153,7 @@ fn end_line(alloc: Global, bytes: Bytes, line: &[u8]) -> Result<Body, HttpError>
     }
 }
 
-/// Bytes of a chunk line.
+/// Takes bytes of a chunk line.
 fn take_line(alloc: Global, bytes: Bytes, front: Front, piece: &[u8]) -> Result<Progress, HttpError>
     ensures goes { Fits record { bytes = bytes; part = Part.Line front } → Goes record { bytes = bytes; part = Part.Line front } piece.now result }
     ensures uses { UsesSome piece.now result }
@@ -170,7 +176,7 @@ fn take_line(alloc: Global, bytes: Bytes, front: Front, piece: &[u8]) -> Result<
     }
 }
 
-/// Bytes of a chunk.
+/// Takes bytes of a chunk.
 fn take_data(bytes: Bytes, left: usize, piece: &[u8]) -> Result<Progress, HttpError>
     requires { 0 < left }
     ensures goes { Goes record { bytes = bytes; part = Part.Data left } piece.now result }
@@ -189,7 +195,7 @@ fn take_data(bytes: Bytes, left: usize, piece: &[u8]) -> Result<Progress, HttpEr
     })
 }
 
-/// The CR behind the bytes of a chunk.
+/// Takes the CR after the bytes of a chunk.
 fn take_return(bytes: Bytes, piece: &[u8]) -> Result<Progress, HttpError>
     ensures goes { Goes record { bytes = bytes; part = Part.Data 0 } piece.now result }
     ensures uses { UsesSome piece.now result }
@@ -213,7 +219,7 @@ fn take_return(bytes: Bytes, piece: &[u8]) -> Result<Progress, HttpError>
     })
 }
 
-/// The LF behind that.
+/// Takes the LF after that CR.
 fn take_close(alloc: Global, bytes: Bytes, piece: &[u8]) -> Result<Progress, HttpError>
     ensures goes { Goes record { bytes = bytes; part = Part.Close } piece.now result }
     ensures uses { UsesSome piece.now result }
@@ -239,7 +245,7 @@ fn take_close(alloc: Global, bytes: Bytes, piece: &[u8]) -> Result<Progress, Htt
     })
 }
 
-/// Whether a text is a trailer, whose end is that of the text.
+/// Returns whether a text is a trailer. The end of the trailer is the end of the text.
 fn is_trailer(text: &[u8]) -> bool
     ensures { EndsThere Place.Fresh text.now → TrailerRead text.now result }
 {
@@ -250,7 +256,7 @@ fn is_trailer(text: &[u8]) -> bool
     }
 }
 
-/// Bytes of a trailer.
+/// Takes bytes of a trailer.
 fn take_trailer(bytes: Bytes, front: Front, piece: &[u8]) -> Result<Progress, HttpError>
     ensures goes { Fits record { bytes = bytes; part = Part.Trailer front } → Goes record { bytes = bytes; part = Part.Trailer front } piece.now result }
     ensures uses { UsesSome piece.now result }
@@ -274,7 +280,7 @@ fn take_trailer(bytes: Bytes, front: Front, piece: &[u8]) -> Result<Progress, Ht
     }
 }
 
-/// Adds a piece in place where more than its bytes are left, and says whether it did.
+/// Adds a piece in place if more bytes are left than it has. Returns whether it did.
 fn add(bytes: &mut Bytes, left: &mut usize, piece: &[u8]) -> Result<bool, HttpError>
     ensures { Adds bytes.old left.old piece.now result bytes.new left.new }
 {
@@ -288,7 +294,7 @@ fn add(bytes: &mut Bytes, left: &mut usize, piece: &[u8]) -> Result<bool, HttpEr
     Ok(true)
 }
 
-/// Adds a piece in place that ends within the bytes of a body or of a chunk, and says whether it did.
+/// Adds a piece in place if it ends inside the bytes of a body or of a chunk. Returns whether it did.
 pub(crate) fn lengthen(body: &mut Body, piece: &[u8]) -> Result<bool, HttpError>
     ensures { Lengthens body.old piece.now result body.new }
 {
@@ -299,7 +305,7 @@ pub(crate) fn lengthen(body: &mut Body, piece: &[u8]) -> Result<bool, HttpError>
     }
 }
 
-/// What comes next of a body, from the front of these bytes.
+/// Takes the next part of a body from the start of these bytes.
 fn go_on(alloc: Global, body: Body, piece: &[u8]) -> Result<Progress, HttpError>
     ensures goes { Fits body → Goes body piece.now result }
     ensures uses { UsesSome piece.now result }

@@ -1,3 +1,5 @@
+//! The fields of a message to be written.
+
 ghost use Rattle.std.specs.Prelude.{◌≡◌, [], ◌∷◌, ◌++◌, length, OnOk, OnErr, option_copied, slice_get};
 ghost use Rattle.std.specs.List.{list_all};
 ghost use Rattle.cds_http.specs.Written.{can_stand, is_written_field};
@@ -14,7 +16,7 @@ pub struct Field {
     pub value: Text,
 }
 
-/// Whether no byte is CR, LF or NUL.
+/// Returns whether no byte is CR, LF or NUL.
 fn all_stand(bytes: &[u8]) -> bool
     ensures { result ≡ list_all can_stand bytes.now }
 {
@@ -23,7 +25,7 @@ fn all_stand(bytes: &[u8]) -> bool
         .all(|byte| !(*byte == b'\r' || *byte == b'\n' || *byte == 0))
 }
 
-/// Whether the name is a token, and the value has no CR, LF or NUL.
+/// Returns whether the name is a token and the value has no CR, LF or NUL.
 fn is_written(field: &Field) -> bool
     ensures { result ≡ is_written_field field.now }
 {
@@ -46,7 +48,7 @@ impl Model for Fields {
 }
 
 impl Fields {
-    /// No fields, which takes no memory.
+    /// Returns a list without fields. This takes no memory.
     pub fn new(alloc: Global) -> Self
         ensures { result ≡ [] }
     {
@@ -66,28 +68,28 @@ impl Fields {
         Ok(())
     }
 
-    /// How many fields there are.
+    /// Returns the number of fields.
     pub fn len(&self) -> usize
         ensures { result ≡ length self.now }
     {
         self.items.len()
     }
 
-    /// The field at a place counted from 0, `None` past the end.
+    /// Returns the field at a place counted from 0, or `None` past the end.
     pub fn get(&self, at: usize) -> Option<&Field>
         ensures { option_copied result ≡ slice_get self.now at }
     {
         self.items.get(at)
     }
 
-    /// Whether the fields may be written: names are tokens, and values have no CR, LF or NUL.
+    /// Returns whether the fields may be written: names are tokens, and values have no CR, LF or NUL.
     pub fn can_be_written(&self) -> bool
         ensures { result ≡ list_all is_written_field self.now }
     {
         self.as_slice().iter().all(|field| is_written(field))
     }
 
-    /// The fields.
+    /// Returns the fields.
     pub fn as_slice(&self) -> &[Field]
         ensures { result.now ≡ self.now }
     {

@@ -1,4 +1,4 @@
-//! How the body of a message is cut out of the bytes behind its head.
+//! Finds how the body of a message is cut out of the bytes after its head.
 
 ghost use Rattle.std.specs.Prelude.{◌≡◌, ◌≤◌, ◌⊎◌, IfErr};
 ghost use Rattle.std.specs.List.{list_all};
@@ -14,7 +14,7 @@ use http_header::{GetAll, HeaderMap, HeaderValue};
 /// The most bytes of a body.
 pub(crate) const BODY_LIMIT: usize = 67_108_864;
 
-/// How a body ends: with so many bytes, with its last chunk, or with the connection.
+/// How a body ends: after `length` bytes, with its last chunk, or with the connection.
 #[derive(Clone, Copy)]
 pub(crate) enum Framing {
     Counted { length: usize },
@@ -22,21 +22,21 @@ pub(crate) enum Framing {
     ToEnd,
 }
 
-/// Whether all bytes are digits.
+/// Returns whether all bytes are digits.
 fn all_digits(bytes: &[u8]) -> bool
     ensures { result ≡ list_all (λ byte. is_digit byte 10) bytes.now }
 {
     bytes.iter().all(|byte| char::from(*byte).is_digit(10))
 }
 
-/// Whether there is at least one byte and all are digits.
+/// Returns whether there is at least one byte and all are digits.
 fn is_number(bytes: &[u8]) -> bool
     ensures { result ≡ is_number_in 10 bytes.now }
 {
     bytes.len() > 0 && all_digits(bytes)
 }
 
-/// The rule of a CONTENT-LENGTH.
+/// Returns the rule that a CONTENT-LENGTH gives.
 fn counted(digits: &[u8]) -> Result<Framing, HttpError>
     ensures { result ≡ counted_framing digits.now }
 {
@@ -51,7 +51,7 @@ fn counted(digits: &[u8]) -> Result<Framing, HttpError>
     }
 }
 
-/// The rule of a TRANSFER-ENCODING.
+/// Returns the rule that a TRANSFER-ENCODING gives.
 fn coded(coding: &[u8]) -> Result<Framing, HttpError>
     ensures { result ≡ coded_framing coding.now }
 {
@@ -62,7 +62,7 @@ fn coded(coding: &[u8]) -> Result<Framing, HttpError>
     }
 }
 
-/// The rule where neither field is there.
+/// Returns the rule for a message without either field.
 fn without(side: Side) -> Framing
     ensures { result ≡ unframed side }
 {
@@ -72,7 +72,7 @@ fn without(side: Side) -> Framing
     }
 }
 
-/// The rule for the body that these fields give.
+/// Returns the rule for the body that these fields give.
 pub(crate) fn frame(side: Side, fields: &HeaderMap) -> Result<Framing, HttpError>
     ensures value { result ≡ framing_of side fields.now }
     ensures causes { IfErr result (λ e. (e ≡ HttpError.BadLength) ⊎ (e ≡ HttpError.TooLong)) }

@@ -1,4 +1,4 @@
-//! The head of a message, read once it is there whole.
+//! Reads the head of a message after all of it has come.
 
 ghost use Rattle.std.specs.Prelude.{◌≡◌, ◌<◌, ◌≤◌, [], length, map, All, OnOk, IfErr, MatchResult, IsUtf8};
 ghost use Rattle.httparse.specs.Spans.{span_bytes, IsHeaderWithin, header_bytes, IsRequestWithin, IsRequestOf, IsResponseWithin, IsResponseOf};
@@ -33,7 +33,7 @@ pub(crate) struct Head {
     pub fields: HeaderMap,
 }
 
-/// The name of a field in lower case.
+/// Returns the name of a field in lower case.
 fn read_name(alloc: Global, bytes: &[u8]) -> Result<HeaderName, HttpError>
     requires { IsFieldName bytes.now }
     ensures { MatchResult result (λ name. name ≡ lowercase bytes.now) (λ e. e ≡ HttpError.Mem) }
@@ -45,7 +45,7 @@ fn read_name(alloc: Global, bytes: &[u8]) -> Result<HeaderName, HttpError>
     }
 }
 
-/// The value of a field, which shares the text that it stands in.
+/// Returns the value of a field. It shares the text in which it stands.
 fn read_value(text: &Shared, span: Span) -> Result<HeaderValue, HttpError>
     requires ordered { span.start ≤ span.end }
     requires within { span.end ≤ length text.now }
@@ -58,7 +58,7 @@ fn read_value(text: &Shared, span: Span) -> Result<HeaderValue, HttpError>
     }
 }
 
-/// Makes room for so many names.
+/// Makes room for `count` names.
 fn make_room(fields: &mut HeaderMap, count: usize) -> Result<(), HttpError>
     requires { (fields.old ≡ []) × (count ≤ 64) }
     ensures same { fields.new ≡ fields.old }
@@ -85,7 +85,7 @@ fn add_field(fields: &mut HeaderMap, name: HeaderName, value: HeaderValue) -> Re
     }
 }
 
-/// The fields by their names.
+/// Returns the fields by their names.
 fn read_fields(alloc: Global, text: &[u8], headers: &[HeaderSpan]) -> Result<HeaderMap, HttpError>
     requires within { All (IsHeaderWithin (length text.now)) headers.now }
     requires sound { All (λ h. CanBeKept (header_bytes text.now h)) headers.now }
@@ -103,7 +103,7 @@ fn read_fields(alloc: Global, text: &[u8], headers: &[HeaderSpan]) -> Result<Hea
     Ok(fields)
 }
 
-/// A text of the first line.
+/// Returns a text of the first line.
 fn read_text(alloc: Global, bytes: &[u8]) -> Result<Text, HttpError>
     requires { IsUtf8 bytes.now }
     ensures { MatchResult result (λ text. text ≡ bytes.now) (λ e. e ≡ HttpError.Mem) }
@@ -114,7 +114,7 @@ fn read_text(alloc: Global, bytes: &[u8]) -> Result<Text, HttpError>
     }
 }
 
-/// The head that these spans cover.
+/// Returns the head that these spans of a request cover.
 fn request_head(
     alloc: Global,
     text: &[u8],
@@ -137,7 +137,7 @@ fn request_head(
     })
 }
 
-/// The head that these spans cover.
+/// Returns the head that these spans of a reply cover.
 fn reply_head(
     alloc: Global,
     text: &[u8],
@@ -184,7 +184,7 @@ fn read_reply_head(alloc: Global, text: &[u8]) -> Result<Head, HttpError>
     }
 }
 
-/// Reads a head, whose end is the end of the text.
+/// Reads a head. The end of the head is the end of the text.
 pub(crate) fn read_head(alloc: Global, side: Side, text: &[u8]) -> Result<Head, HttpError>
     requires { length text.now ≤ head_limit }
     ensures { EndsThere Place.Before text.now → HeadRead side text.now result }

@@ -1,12 +1,14 @@
+//! Laws of messages that are read and written.
+
 ghost use Rattle.cds_http.specs.Laws.{OneOutcome, BytesSay, RefusedByCause, EndKeeps, HeadEnds, HeadsRefused, EveryCutting, CuttingsAgree, WholeIsSpelled, SpelledIsWhole, MessagesEnd};
 ghost use Rattle.cds_http.specs.Returned.{RequestsAreReadBack, RepliesAreReadBack};
 
-/// Bytes say one thing at most of a message at their front.
+/// Bytes that begin with a message have at most one outcome.
 pub fn one_outcome()
     ensures { OneOutcome }
 {}
 
-/// There are no bytes of which nothing is said.
+/// Every input has an outcome.
 pub fn bytes_say()
     ensures { BytesSay }
 {}
@@ -21,23 +23,23 @@ pub fn end_keeps()
     ensures { EndKeeps }
 {}
 
-/// A head is cut off at the first empty line behind a line that is not empty.
+/// A head is cut off at the first empty line after a line that is not empty.
 pub fn head_ends()
     ensures { HeadEnds }
 {}
 
-/// When a head is refused: no such line comes within its limit, or the text up to it is no head.
+/// A head is refused if no such line comes within its limit, or if the text up to it is no head.
 pub fn heads_refused()
     ensures { HeadsRefused }
 {}
 
-/// However bytes are cut, what a new reader answers to the pieces and the end, and what it hands back of them, is what all
-/// bytes say.
+/// The outcome does not depend on how bytes are cut. A new reader gets the pieces and the end. Its answer, and the
+/// bytes that it hands back, are what all bytes together say.
 pub fn every_cutting()
     ensures { EveryCutting }
 {}
 
-/// Two cuttings of the same bytes have the same answer and the same bytes behind the message.
+/// Two cuttings of the same bytes have the same answer and the same bytes after the message.
 pub fn cuttings_agree()
     ensures { CuttingsAgree }
 {}
@@ -52,7 +54,7 @@ pub fn spelled_is_whole()
     ensures { SpelledIsWhole }
 {}
 
-/// The end of the connection behind a message of the grammar gives that message.
+/// The end of the connection after a message of the grammar gives that message.
 pub fn messages_end()
     ensures { MessagesEnd }
 {}
@@ -62,7 +64,7 @@ pub fn requests_are_read_back()
     ensures { RequestsAreReadBack }
 {}
 
-/// So is a written reply.
+/// A written reply is read as it was written.
 pub fn replies_are_read_back()
     ensures { RepliesAreReadBack }
 {}

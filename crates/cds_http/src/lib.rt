@@ -1,4 +1,4 @@
-//! Messages of HTTP/1.1 (RFC 9112), read from pieces of any size and written.
+//! Reads messages of HTTP/1.1 (RFC 9112) from pieces of any size, and writes messages.
 #![tactic(auto)]
 
 mod body;

@@ -1,4 +1,4 @@
-//! Where a head, a trailer and a chunk line end.
+//! Finds the end of a head, of a trailer and of a chunk line.
 
 ghost use Rattle.std.specs.Prelude.{◌≡◌, ◌≤◌, ◌<◌, ◌==◌, ℕ, true, [], length, drop, slice_index};
 ghost use Rattle.cds_http.specs.declared.lines.Place.{Place};
@@ -12,8 +12,13 @@ use std::alloc::Global;
 /// The most bytes of a piece that may be looked at twice.
 const SHORT: usize = 64;
 
-/// Where bytes of a head or a trailer leave it: behind empty lines only, inside a line, at the start of a line behind
-/// one that is not empty, or behind a CR there. A trailer begins at the start of a line. A chunk line ends with its LF.
+/// The place that bytes of a head or a trailer lead to.
+///
+/// - `Before`: only empty lines came so far.
+/// - `Inside`: inside a line.
+/// - `Fresh`: at the start of a line, after a line that is not empty. A trailer begins here.
+/// - `Return`: after a CR at the start of such a line.
+/// - `InLine`: inside a chunk line, which ends with its LF.
 #[derive(Clone, Copy)]
 pub(crate) enum Place {
     Before,
@@ -23,14 +28,14 @@ pub(crate) enum Place {
     InLine,
 }
 
-/// Where a head or a trailer ends, or where its bytes leave it.
+/// The end of a head or a trailer, or the place that its bytes lead to.
 #[derive(Clone, Copy)]
 pub(crate) enum Scan {
     Ended { at: usize },
     Open { place: Place },
 }
 
-/// The place behind one more byte, `None` where it ends the empty line.
+/// Returns the place after one more byte, or `None` if the byte ends the empty line or the chunk line.
 fn next_place(place: Place, byte: u8) -> Option<Place>
     ensures { result ≡ next_place place byte }
 {
@@ -75,7 +80,7 @@ fn next_place(place: Place, byte: u8) -> Option<Place>
     }
 }
 
-/// How many bytes stand before the first LF.
+/// Returns the number of bytes before the first LF.
 fn before_lf(bytes: &[u8]) -> usize
     ensures within { result ≤ length bytes.now }
     ensures clean { (k : ℕ) → k < result → ¬ ((slice_index bytes.now k == 10) ≡ true) }
@@ -86,7 +91,7 @@ fn before_lf(bytes: &[u8]) -> usize
     }
 }
 
-/// How many bytes of a line leave its place as it is.
+/// Returns how many bytes of a line leave its place as it is.
 fn stay(place: Place, bytes: &[u8]) -> usize
     ensures within { result ≤ length bytes.now }
     ensures stays { scanned place bytes.now ≡ further result (scanned place (drop result bytes.now)) }
@@ -98,7 +103,7 @@ fn stay(place: Place, bytes: &[u8]) -> usize
     }
 }
 
-/// Looks for the end of a head or a trailer in the bytes behind a place of it.
+/// Looks for the end of a head or a trailer in the bytes that come after a place in it.
 pub(crate) fn scan_lines(place: Place, bytes: &[u8]) -> Scan
     ensures scanned { result ≡ scanned place bytes.now }
     ensures within { IsWithin bytes.now result }
@@ -122,21 +127,21 @@ pub(crate) fn scan_lines(place: Place, bytes: &[u8]) -> Scan
     Scan::Open { place: here }
 }
 
-/// What came of a head, a trailer or a chunk line without its end, and where that leaves it.
+/// The bytes that came of a head, a trailer or a chunk line without its end, and the place that they lead to.
 #[derive(Drop)]
 pub(crate) struct Front {
     pub text: Bytes,
     pub place: Place,
 }
 
-/// What a piece makes of it: the whole text, for which so many bytes of the piece were used, or more without its end.
+/// What a piece adds: the whole text, with `used` bytes of the piece, or more of the text without its end.
 #[derive(Drop)]
 pub(crate) enum Collected {
     Whole { text: Bytes, used: usize },
     Going { front: Front },
 }
 
-/// Nothing of what begins at this place.
+/// Returns an empty prefix of what begins at this place.
 pub(crate) fn new_front(alloc: Global, start: Place) -> Front
     ensures text { result.text ≡ [] }
     ensures place { result.place ≡ start }
@@ -147,7 +152,7 @@ pub(crate) fn new_front(alloc: Global, start: Place) -> Front
     }
 }
 
-/// A text with its last bytes, where it is not longer than it may be.
+/// Ends a text with its last bytes, if it is not longer than the limit.
 fn end_front(
     text: Bytes,
     limit: usize,
@@ -169,7 +174,7 @@ fn end_front(
     Ok(Collected::Whole { text: whole, used })
 }
 
-/// A text that goes on behind this piece, where it may be longer still.
+/// Continues a text with this piece, if it may still be longer.
 fn keep_front(
     text: Bytes,
     place: Place,
@@ -193,7 +198,8 @@ fn keep_front(
     Ok(Collected::Going { front })
 }
 
-/// Adds a piece up to the end of what came. More bytes than the limit, or so many without an end, are refused so.
+/// Adds a piece, up to the end of the text. More bytes than the limit are refused, and so are `limit` bytes without an
+/// end.
 pub(crate) fn collect(
     front: Front,
     limit: usize,
@@ -210,7 +216,7 @@ pub(crate) fn collect(
     }
 }
 
-/// Adds a short piece in place that has no end in it and keeps below the limit, and says whether it did.
+/// Adds a short piece in place if it has no end in it and the text stays below the limit. Returns whether it did.
 pub(crate) fn add_front(front: &mut Front, limit: usize, piece: &[u8]) -> Result<bool, HttpError>
     ensures { AddsFront front.old limit piece.now result front.new }
 {

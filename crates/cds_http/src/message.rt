@@ -1,7 +1,9 @@
+//! Messages, and the answers to their pieces.
+
 use cds_base::{Bytes, Text};
 use http_header::HeaderMap;
 
-/// Which way messages go that are read.
+/// The direction of the messages that are read.
 #[derive(Clone, Copy, Debug, PartialEq, Eq)]
 pub enum Side {
     Request,
@@ -15,8 +17,8 @@ pub enum Start {
     Reply { status: u16 },
 }
 
-/// A message: its first line, its fields and its body. Names of fields are in lower case, values have no white space
-/// around them, and a field that came more than once has its values in the order in which they came.
+/// A message: its first line, its fields and its body. Names of fields are in lower case. Values have no white space
+/// around them. A field that came more than once has its values in the order in which they came.
 #[derive(Drop)]
 pub struct Message {
     pub start: Start,
@@ -24,7 +26,7 @@ pub struct Message {
     pub body: Bytes,
 }
 
-/// What a piece brought: more is needed, or the message is whole and ends so many bytes before the end of the piece.
+/// What a piece brought: more is needed, or the message is whole and ends `rest` bytes before the end of the piece.
 #[derive(Clone, Copy, Debug, PartialEq, Eq)]
 pub enum Fed {
     More,

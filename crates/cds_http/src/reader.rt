@@ -1,4 +1,4 @@
-//! Messages that come in pieces.
+//! Reads messages that come in pieces.
 
 ghost use Rattle.std.specs.Prelude.{◌≡◌, ◌≤◌, ◌-◌, ℕ, List, [], length, Option, Some, Ok, Err, false, IsOkAnd};
 ghost use Rattle.cds_http.specs.declared.message.Side.{Side};
@@ -19,7 +19,7 @@ use cds_base::{Bytes, Mem};
 use std::alloc::Global;
 use std::mem;
 
-/// How far reading has come: a head of which this came, a head with a body, a whole message, or a refusal.
+/// How far reading has come: in a head, of which `front` came, in a body, at the end of a whole message, or refused.
 #[derive(Drop)]
 pub(crate) enum Stage {
     InHead { front: Front },
@@ -28,7 +28,7 @@ pub(crate) enum Stage {
     Refused,
 }
 
-/// The stage behind a piece, and the answer to it.
+/// The stage after a piece, and the answer to it.
 #[derive(Drop)]
 pub(crate) struct Taken {
     pub stage: Stage,
@@ -43,7 +43,7 @@ pub struct MessageReader {
 }
 
 impl MessageReader {
-    /// A reader of a message of this side, to which nothing came yet. It takes no memory so far.
+    /// Returns a reader of a message of this side. Nothing came to it yet, and it takes no memory so far.
     pub fn new(alloc: Global, side: Side) -> Result<Self, Mem>
         ensures { IsOkAnd result (λ r. Stands side r (Some [])) }
     {
@@ -55,11 +55,15 @@ impl MessageReader {
         })
     }
 
-    /// The next piece. `Whole` with the number of bytes of the piece that are behind the message; from then on a piece
-    /// is not looked at and the answer is `Whole` with its length. `More` where the message is not whole and no bytes
-    /// are refused. A head is judged when its first empty line has come behind a line that is not empty, a chunk line
-    /// when its LF has, and a trailer when its empty line has; so each refusal is a matter of the bytes and not of how
-    /// they were cut. From a refusal on, `Mem` among them, each call answers `Failed`.
+    /// Takes the next piece.
+    ///
+    /// - `Whole`: the message is whole, and `rest` bytes of the piece come after it. From then on pieces are not looked
+    ///   at, and the answer is `Whole` with the length of the piece.
+    /// - `More`: the message is not whole yet, and no bytes are refused.
+    ///
+    /// A head is judged after its first empty line that follows a line that is not empty. A chunk line is judged after
+    /// its LF, and a trailer after its empty line. So each refusal depends on the bytes and not on how they were cut.
+    /// After a refusal, also after `Mem`, each call answers `Failed`.
     pub fn feed(&mut self, alloc: Global, piece: &[u8]) -> Result<Fed, HttpError>
         ensures { (side : Side) (came : Option (List ℕ)) → Stands side self.old came
             → (now : Option (List ℕ)) × Stands side self.new now × Takes side came piece.now result now }
@@ -74,7 +78,7 @@ impl MessageReader {
         }
     }
 
-    /// The next piece, where it is not just added to what is kept.
+    /// Takes the next piece if it is not just added to what is kept.
     fn turn(&mut self, alloc: Global, piece: &[u8]) -> Result<Fed, HttpError>
         ensures { (side : Side) (came : Option (List ℕ)) → Stands side self.old came
             → (now : Option (List ℕ)) × Stands side self.new now × Takes side came piece.now result now }
@@ -90,8 +94,8 @@ impl MessageReader {
         }
     }
 
-    /// The end of the connection: the message, with `Truncated` where it is not whole and is no reply whose body ends
-    /// with the connection. `Failed` only where a piece was refused or memory ran out.
+    /// Returns the message at the end of the connection. `Truncated` comes if the message is not whole. A reply whose
+    /// body ends with the connection is whole here. `Failed` comes only if a piece was refused or memory ran out.
     pub fn finish(self) -> Result<Message, HttpError>
         ensures { (side : Side) (came : Option (List ℕ)) → Stands side self came → Finishes side came result }
     {
@@ -99,14 +103,14 @@ impl MessageReader {
     }
 }
 
-/// Goes over to a stage.
+/// Moves on to a stage.
 fn put_stage(stage: &mut Stage, next: Stage)
     ensures { stage.new ≡ next }
 {
     drop(mem::replace(stage, next));
 }
 
-/// Adds a piece in place that only makes longer what is kept, and says whether it did.
+/// Adds a piece in place if it only makes longer what is kept. Returns whether it did.
 fn grow(stage: &mut Stage, piece: &[u8]) -> Result<bool, HttpError>
     ensures grows { (side : Side) (bytes : List ℕ) → StageOf side stage.old bytes → StageGrows side bytes stage.old piece.now result stage.new }
     ensures ends { (m : Message) → stage.old ≡ Stage.AtEnd m → result ≡ Ok false }
@@ -120,7 +124,7 @@ fn grow(stage: &mut Stage, piece: &[u8]) -> Result<bool, HttpError>
     }
 }
 
-/// The end of the connection at a stage.
+/// Returns the message if the connection ends at this stage.
 fn end_stage(stage: Stage) -> Result<Message, HttpError>
     ensures ends { (side : Side) (bytes : List ℕ) → StageOf side stage bytes → Finishes side (Some bytes) result }
     ensures failed { stage ≡ Stage.Refused → result ≡ Err HttpError.Failed }
@@ -133,7 +137,7 @@ fn end_stage(stage: Stage) -> Result<Message, HttpError>
     }
 }
 
-/// The message at the end of the connection.
+/// Returns the message if the connection ends inside this body.
 fn end_body(head: Head, body: Body) -> Result<Message, HttpError>
     ensures { (side : Side) (bytes : List ℕ) → StageOf side (Stage.InBody head body) bytes → Finishes side (Some bytes) result }
 {
@@ -143,7 +147,7 @@ fn end_body(head: Head, body: Body) -> Result<Message, HttpError>
     }
 }
 
-/// The message of a head and a body.
+/// Returns the message of a head and a body.
 fn with_body(head: Head, body: Bytes) -> Message
     ensures { result ≡ with_body head body }
 {
@@ -155,7 +159,7 @@ fn with_body(head: Head, body: Bytes) -> Message
     }
 }
 
-/// A piece at a stage.
+/// Takes a piece at a stage.
 fn take(alloc: Global, side: Side, stage: Stage, piece: &[u8]) -> Result<Taken, HttpError>
     ensures takes { (bytes : List ℕ) → StageOf side stage bytes → StageTakes side bytes piece.now result }
     ensures ends { (m : Message) → stage ≡ Stage.AtEnd m → IsOkAnd result (λ t. t.fed ≡ Fed.Whole (length piece.now)) }
@@ -172,7 +176,7 @@ fn take(alloc: Global, side: Side, stage: Stage, piece: &[u8]) -> Result<Taken, 
     }
 }
 
-/// A piece of a head, and of what is behind it.
+/// Takes a piece of a head, and what comes after the head.
 fn take_head(alloc: Global, side: Side, front: Front, piece: &[u8]) -> Result<Taken, HttpError>
     ensures { IsFront Place.Before head_limit front → StageTakes side front.text piece.now result }
 {
@@ -189,7 +193,7 @@ fn take_head(alloc: Global, side: Side, front: Front, piece: &[u8]) -> Result<Ta
     }
 }
 
-/// A whole head, and the bytes behind it.
+/// Reads a whole head, and takes the bytes after it.
 fn end_head(alloc: Global, side: Side, text: &[u8], rest: &[u8]) -> Result<Taken, HttpError>
     requires { length text.now ≤ head_limit }
     ensures { EndsThere Place.Before text.now → StageTakes side text.now rest.now result }
@@ -203,7 +207,7 @@ fn end_head(alloc: Global, side: Side, text: &[u8], rest: &[u8]) -> Result<Taken
     }
 }
 
-/// How many bytes of a piece are behind those that were used.
+/// Returns the number of bytes of a piece after those that were used.
 fn behind(piece: &[u8], used: usize) -> usize
     requires { used ≤ length piece.now }
     ensures { result ≡ length piece.now - used }
@@ -211,7 +215,7 @@ fn behind(piece: &[u8], used: usize) -> usize
     piece.len() - used
 }
 
-/// A piece of a body.
+/// Takes a piece of a body.
 fn take_rest(alloc: Global, head: Head, body: Body, piece: &[u8]) -> Result<Taken, HttpError>
     ensures { (side : Side) (bytes : List ℕ) → Fits body → Continues side bytes head body → StageTakes side bytes piece.now result }
 {

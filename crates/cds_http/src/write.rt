@@ -1,4 +1,4 @@
-//! Messages written.
+//! Writes messages.
 
 ghost use Rattle.std.specs.Prelude.{◌≡◌, ◌++◌, codes, length, OnOk, OnErr, IfOk};
 ghost use Rattle.std.specs.Fmt.{decimal};
@@ -9,7 +9,7 @@ use cds_base::Mem;
 use std::alloc::Global;
 
 /// Appends a request: the first line, the given fields, CONTENT-LENGTH, `CONNECTION: close`, an empty line, the body.
-/// Names are to be tokens, and values to have no CR, LF or NUL. A refusal leaves `out` as it was.
+/// Names must be tokens, and values must have no CR, LF or NUL. A refusal leaves `out` as it was.
 pub fn write_request(
     method: &str,
     target: &str,
@@ -26,7 +26,7 @@ pub fn write_request(
 }
 
 /// Appends a reply: the first line with the reason of its status, `EXT:`, SERVER, the given fields, CONTENT-LENGTH,
-/// `CONNECTION: close`, an empty line, the body. Names are to be tokens, and values to have no CR, LF or NUL. A status
+/// `CONNECTION: close`, an empty line, the body. Names must be tokens, and values must have no CR, LF or NUL. A status
 /// other than 200, 400, 404, 405, 412, 413, 500 and 503 is written with an empty reason. A refusal leaves `out` as it
 /// was.
 pub fn write_reply(status: u16, fields: &Fields, body: &[u8], out: &mut Vec<u8>) -> Result<(), Mem>
@@ -38,8 +38,8 @@ pub fn write_reply(status: u16, fields: &Fields, body: &[u8], out: &mut Vec<u8>)
     append_both(out, head.as_slice(), body)
 }
 
-/// Appends the head of a reply, for a body of so many bytes that is written behind it: all of a reply up to its empty line.
-/// Names are to be tokens, and values to have no CR, LF or NUL. A refusal leaves `out` as it was.
+/// Appends the head of a reply: all of it up to its empty line. A body of `count` bytes is written after it. Names must
+/// be tokens, and values must have no CR, LF or NUL. A refusal leaves `out` as it was.
 pub fn write_reply_head(
     status: u16,
     fields: &Fields,
@@ -69,7 +69,7 @@ fn append_both(out: &mut Vec<u8>, head: &[u8], body: &[u8]) -> Result<(), Mem>
     Ok(())
 }
 
-/// The reason of a status that is written here, and no text for any other.
+/// Returns the reason of a status that is written here, or an empty text for any other.
 fn reason(status: u16) -> &'static [u8]
     ensures { result.now ≡ reason_of status }
 {
@@ -86,7 +86,7 @@ fn reason(status: u16) -> &'static [u8]
     }
 }
 
-/// Puts bytes at the end.
+/// Appends bytes.
 fn put(out: &mut Vec<u8>, piece: &[u8]) -> Result<(), Mem>
     ensures { OnOk result (out.new.items ≡ out.old.items ++ piece.now) }
 {
@@ -94,7 +94,7 @@ fn put(out: &mut Vec<u8>, piece: &[u8]) -> Result<(), Mem>
     Ok(())
 }
 
-/// Puts a number at the end in decimal.
+/// Appends a number in decimal.
 fn put_number(out: &mut Vec<u8>, number: u64) -> Result<(), Mem>
     ensures { OnOk result (out.new.items ≡ out.old.items ++ decimal number) }
 {
@@ -103,7 +103,7 @@ fn put_number(out: &mut Vec<u8>, number: u64) -> Result<(), Mem>
     Ok(())
 }
 
-/// Puts a field line at the end.
+/// Appends a field line.
 fn put_field(out: &mut Vec<u8>, name: &[u8], value: &[u8]) -> Result<(), Mem>
     ensures { OnOk result (out.new.items ≡ out.old.items ++ field_line name.now value.now) }
 {
@@ -113,7 +113,7 @@ fn put_field(out: &mut Vec<u8>, name: &[u8], value: &[u8]) -> Result<(), Mem>
     put(out, b"\r\n")
 }
 
-/// Puts the given fields at the end.
+/// Appends the given fields.
 fn put_fields(out: &mut Vec<u8>, fields: &Fields) -> Result<(), Mem>
     ensures { OnOk result (out.new.items ≡ out.old.items ++ field_lines fields.now) }
 {
@@ -127,7 +127,7 @@ fn put_fields(out: &mut Vec<u8>, fields: &Fields) -> Result<(), Mem>
     Ok(())
 }
 
-/// Puts CONTENT-LENGTH, `CONNECTION: close` and the empty line at the end.
+/// Appends CONTENT-LENGTH, `CONNECTION: close` and the empty line.
 fn put_last(out: &mut Vec<u8>, count: u64) -> Result<(), Mem>
     ensures { OnOk result (out.new.items ≡ out.old.items ++ last_lines count) }
 {
@@ -138,7 +138,7 @@ fn put_last(out: &mut Vec<u8>, count: u64) -> Result<(), Mem>
     put(out, b"\r\n")
 }
 
-/// Puts the first line of a request at the end.
+/// Appends the first line of a request.
 fn put_request_line(out: &mut Vec<u8>, method: &str, target: &str) -> Result<(), Mem>
     ensures { OnOk result (out.new.items ≡ out.old.items ++ request_line method.now target.now) }
 {
@@ -148,7 +148,7 @@ fn put_request_line(out: &mut Vec<u8>, method: &str, target: &str) -> Result<(),
     put(out, b" HTTP/1.1\r\n")
 }
 
-/// Puts the first line of a reply at the end.
+/// Appends the first line of a reply.
 fn put_status_line(out: &mut Vec<u8>, status: u16) -> Result<(), Mem>
     ensures { OnOk result (out.new.items ≡ out.old.items ++ status_line status) }
 {
@@ -159,7 +159,7 @@ fn put_status_line(out: &mut Vec<u8>, status: u16) -> Result<(), Mem>
     put(out, b"\r\n")
 }
 
-/// Puts the fields of every reply at the end.
+/// Appends the fields of every reply.
 fn put_own(out: &mut Vec<u8>) -> Result<(), Mem>
     ensures { OnOk result (out.new.items ≡ out.old.items ++ own_lines) }
 {
@@ -167,7 +167,7 @@ fn put_own(out: &mut Vec<u8>) -> Result<(), Mem>
     put_field(out, b"SERVER", b"unix/1.0 UPnP/2.0 cds/1.0")
 }
 
-/// The head of a request with a body of so many bytes.
+/// Returns the head of a request with a body of `count` bytes.
 fn request_head(
     alloc: Global,
     method: &str,
@@ -184,7 +184,7 @@ fn request_head(
     Ok(head)
 }
 
-/// The head of a reply with a body of so many bytes.
+/// Returns the head of a reply with a body of `count` bytes.
 fn reply_head(alloc: Global, status: u16, fields: &Fields, count: u64) -> Result<Vec<u8>, Mem>
     ensures { IfOk result (λ head. head.items ≡ reply_text status fields.now count) }
 {

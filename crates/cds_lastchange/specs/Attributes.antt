@@ -1,5 +1,5 @@
--- What an element of a StateEvent says by its name and its attributes (this project's profile of UPnP
--- ContentDirectory:4 on LastChange). Attributes stand in any order; others than these are passed over.
+-- What an element of a StateEvent says by its name and its attributes (this project's profile of UPnP ContentDirectory:4 on
+-- LastChange). Attributes stand in any order. Others than these are passed over.
 use Rattle.std.specs.Prelude.{◌==◌, ℕ, ◌^◌, Bool, true, false, ◌&&◌, ◌||◌, if◌then◌else◌, Option, Some, None, List, codes, find, length}
 use Rattle.std.specs.Option.{option_and_then}
 use Rattle.std.specs.Str.{bytes_eq}
@@ -16,7 +16,7 @@ infixl 10 ◌>>=◌
 abbrev pub ◌>>=◌ : {A B : Type 0} → Option A → (A → Option B) → Option B
 o >>= f = option_and_then f o
 
--- The attribute of this name that is in no namespace. There is one at most.
+-- The value of the attribute of this name that is in no namespace. There is at most one in an element.
 abbrev pub is_plain : List ℕ → Attr → Bool
 is_plain local a = (length a.name.space == 0) && bytes_eq a.name.local local
 
@@ -27,7 +27,7 @@ value_in (Some a) = Some a.value
 abbrev pub value_of : List ℕ → List Attr → Option (List ℕ)
 value_of local attrs = value_in (find (is_plain local) attrs)
 
--- Its value as a number of 32 bits in decimal digits, with leading zeros or without.
+-- Its value as a number of 32 bits in decimal digits, with or without leading zeros.
 abbrev pub number_of : List ℕ → List Attr → Option ℕ
 number_of local attrs = value_of local attrs >>= number_below (2 ^ 32)
 
@@ -81,7 +81,7 @@ done attrs = do
   update ← number_of (codes "updateID") attrs
   Some (StDone id update)
 
--- By its name.
+-- The event of this name.
 abbrev pub event_named : List ℕ → List Attr → Option Event
 event_named local attrs =
     if bytes_eq local (codes "objAdd") then added attrs
@@ -90,7 +90,7 @@ event_named local attrs =
     else if bytes_eq local (codes "stDone") then done attrs
     else None
 
--- The event that an element is; none where it is no event.
+-- The event that an element is. There is none if it is no event.
 unfoldable pub event_of : Name → List Attr → Option Event
 event_of name attrs = if bytes_eq name.space event_space then event_named name.local attrs else None
 

@@ -14,7 +14,7 @@ start = codes "<StateEvent xmlns=\"urn:schemas-upnp-org:av:cds-event\">"
 abbrev pub end : List ℕ
 end = codes "</StateEvent>"
 
--- What is written of a deletion, and of a folder that is added with a track in it.
+-- What is written of a deletion, of a folder that is added with a track in it, and of the end of that update.
 abbrev pub deletion : List ℕ
 deletion = start ++ codes "<objDel objID=\"7\" updateID=\"9\" stUpdate=\"0\"/>" ++ end
 
@@ -25,7 +25,7 @@ events_are_written =
     × (event_text (ObjAdd 2 2 true 1 Track) ≡ codes "<objAdd objID=\"2\" updateID=\"2\" stUpdate=\"1\" objParentID=\"1\" objClass=\"object.item.audioItem.musicTrack\"/>")
     × (event_text (StDone 1 2) ≡ codes "<stDone objID=\"1\" updateID=\"2\"/>")
 
--- What is read: the deletion; single quotes, a prefix, attributes that are passed over, and nothing at all.
+-- What is read: the deletion, single quotes, a prefix, attributes that are passed over, nothing at all, and white space alone.
 abbrev pub forms_are_read : Type 0
 forms_are_read =
     IsStateEvent deletion (ObjDel 7 9 false ∷ [])
@@ -39,9 +39,12 @@ forms_are_read =
 abbrev pub cut : List ℕ
 cut = start ++ codes "<objDel objID=\"7\" updateID=\"9\" stUpdate=\"0\"/></StateEvent"
 
--- What is refused, and where: a deletion that is cut off, an element that is no event, also where only the `/` of its tag
--- has come, a deletion without its number, with a sign before it and with one of 33 bits, an element within an event, and
--- what stands behind the root.
+-- What is refused, with its place:
+-- - a deletion that is cut off;
+-- - an element that is no event, also if only the `/` of its tag came;
+-- - a deletion without its number, with a sign before it, and with one of 33 bits;
+-- - an element within an event;
+-- - what stands after the root.
 abbrev pub others_are_refused : Type 0
 others_are_refused =
     IsRefused cut (Bad 111)
@@ -53,9 +56,12 @@ others_are_refused =
     × IsRefused (start ++ codes "<stDone objID='1' updateID='2'><a>") (NotStateEvent 85)
     × IsRefused (codes "<StateEvent xmlns=\"urn:schemas-upnp-org:av:cds-event\"/>x") (Bad 55)
 
--- What stands between tags: a letter before a fault, the first byte of a character that is cut off or broken, a byte that
--- begins none, a reference to a space, one that is cut off, and a section without anything in it. A byte order mark
--- alone is no white space.
+-- What is refused between tags:
+-- - a letter before a fault;
+-- - the first byte of a character that is cut off or broken, and a byte that begins none;
+-- - a reference to a space, and one that is cut off;
+-- - a section without anything in it.
+-- A byte order mark alone is no white space.
 abbrev pub text_between_is_refused : Type 0
 text_between_is_refused =
     IsRefused (start ++ codes "x&bad") (NotStateEvent 54)

@@ -1,4 +1,4 @@
--- A reader of a StateEvent that comes in pieces: what it answers is told over the bytes that came, however they were cut.
+-- A reader of a StateEvent that comes in pieces. What it answers is told of the bytes that came, however they were cut.
 use Rattle.std.specs.Prelude.{◌≡◌, ℕ, ◌<◌, ◌≤◌, Bool, Option, None, Result, Ok, Err, List, [], ◌++◌, length}
 use Rattle.std.specs.List.{list_all}
 use Rattle.cds_base.specs.declared.limits.TheConstants.{INPUT_LIMIT}
@@ -15,8 +15,8 @@ use Rattle.cds_markup.specs.Feeding.{AreGiven, IsClean, StandsFor}
 use Rattle.cds_markup.specs.Pieces.{Gives, together}
 use Rattle.cds_markup.specs.Tellings.{Telling}
 
--- A StateEvent as far as it came: what is read, or nothing from a refusal on, what its parts say, and whether nothing but
--- white space came.
+-- A StateEvent as far as it came: what is read, what its parts say, and whether nothing but white space came. After a refusal
+-- nothing is read.
 pub record Came : Type 0 where
   pub parts : Option Telling
   pub said : Result Judge ℕ
@@ -25,7 +25,7 @@ pub record Came : Type 0 where
 abbrev pub came : Option Telling → Result Judge ℕ → Bool → Came
 came parts said blank = record { parts = parts; said = said; blank = blank }
 
--- These bytes came, in whatever pieces.
+-- These bytes came, in any pieces.
 pub record IsRead (bytes : List ℕ) (now : Came) : Type 0 where
   pub given : List Part
   pub stands : StandsFor now.parts bytes given
@@ -36,20 +36,21 @@ pub record IsRead (bytes : List ℕ) (now : Came) : Type 0 where
   pub said : now.said ≡ Ok judge
   pub is_blank : now.blank ≡ list_all is_blank bytes
 
--- A byte of the piece behind these bytes decides the refusal: the byte at its place, or that at which its cause shows.
+-- A byte of the piece, which comes after these bytes, decides the refusal. It is the byte at the place of the refusal, or the one
+-- at which its cause shows.
 abbrev pub IsIn : List ℕ → List ℕ → StateError → Type 0
 IsIn came piece (Bad at) = (length came ≤ at) × (at < length (came ++ piece))
 IsIn came piece (NotStateEvent at) = (shown : ℕ) × Shows (came ++ piece) shown at × (length came ≤ shown) × (shown < length (came ++ piece))
 IsIn came piece TooLong = (length came ≤ INPUT_LIMIT) × (INPUT_LIMIT < length (came ++ piece))
 IsIn came piece other = ⊥
 
--- So it is decided, and the refusal stands whatever comes behind.
+-- A byte of the piece decides the refusal, and the refusal stands whatever comes after.
 pub record IsDecided (came piece : List ℕ) (e : StateError) : Type 0 where
   pub inside : IsIn came piece e
   pub stands : (more : List ℕ) → IsRefused ((came ++ piece) ++ more) e
 
--- A piece comes behind these bytes. It is taken where no byte so far refuses them as a document and none shows another
--- cause; it is refused where a byte of it does, whatever comes behind. Want of memory says nothing of them.
+-- A piece comes after these bytes. It is taken if no byte so far refuses them as a document and none shows another cause. It is
+-- refused if a byte of it does, whatever comes after. `Mem` says nothing of them.
 abbrev pub TakesBytes : List ℕ → List ℕ → Result (Unit {0}) StateError → Came → Type 0
 TakesBytes bytes piece (Ok done) now = IsClean (bytes ++ piece) × NoneShows (bytes ++ piece) (length (bytes ++ piece)) × IsRead (bytes ++ piece) now
 TakesBytes bytes piece (Err Mem) now = now.parts ≡ None
@@ -58,7 +59,7 @@ TakesBytes bytes piece (Err e) now = IsDecided bytes piece e × (now.parts ≡ N
 abbrev pub Fed : Came → List ℕ → Result (Unit {0}) StateError → Came → Type 0
 Fed before piece result now = (bytes : List ℕ) → IsRead bytes before → TakesBytes bytes piece result now
 
--- The end comes: they are events, or they end too early.
+-- The end comes. They are events, or they end too early.
 abbrev pub EndsSo : List ℕ → Result (List Event) StateError → Type 0
 EndsSo bytes (Ok events) = Decides bytes (Ok events)
 EndsSo bytes (Err (Bad at)) = Decides bytes (Err (Bad at)) × EndsShort bytes at

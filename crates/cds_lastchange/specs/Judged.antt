@@ -16,7 +16,7 @@ use Rattle.cds_lastchange.specs.declared.judge.Unfit.{Unfit}
 use Rattle.cds_lastchange.specs.declared.judge.Unfit.TheVariants.{Misplaced, Mem as NoMemory}
 use Rattle.cds_lastchange.specs.Attributes.{event_of, is_state_event}
 
--- A start tag: the place of its `<` where its element may not stand there.
+-- What a start tag makes of a judge. If its element may not stand there, the place of its `<` is answered.
 abbrev pub event_judged : List Event → ℕ → Option Event → Result Judge ℕ
 event_judged events at None = Err at
 event_judged events at (Some event) = Ok record { level = InEvent; events = events ++ event ∷ [] }
@@ -26,13 +26,13 @@ start_judged Outside events at name attrs = if is_state_event name then Ok recor
 start_judged InRoot events at name attrs = event_judged events at (event_of name attrs)
 start_judged InEvent events at name attrs = Err at
 
--- Behind an end tag.
+-- The level after an end tag.
 abbrev pub outer : Level → Level
 outer Outside = Outside
 outer InRoot = Outside
 outer InEvent = InRoot
 
--- What is said up to a part, or the place that is answered where it does not stand.
+-- What is said up to and with a part. If the part does not stand, the place that is answered.
 abbrev pub part_judged : Judge → Part → Result Judge ℕ
 part_judged j (Start at end name attrs) = start_judged j.level j.events at name attrs
 part_judged j (End at) = Ok record { level = outer j.level; events = j.events }
@@ -50,7 +50,7 @@ parts_judged j (part ∷ rest) = and_judged (part_judged j part) (λ k. parts_ju
 abbrev pub nothing_said : Judge
 nothing_said = record { level = Outside; events = [] }
 
--- Parts are taken one by one up to the first that does not stand.
+-- Parts are taken one by one, up to the first that does not stand.
 abbrev pub judged_on : Result Judge ℕ → Part → Result Judge ℕ → Type 0
 judged_on before part now = now ≡ and_judged before (λ j. part_judged j part)
 
@@ -62,8 +62,8 @@ abbrev pub misplaced : Result Judge ℕ → Option ℕ
 misplaced (Err at) = Some at
 misplaced (Ok j) = None
 
--- What is answered of the parts so far and of what reading them answered. A place in the parts comes before the fault at
--- which they end. No document of two open elements at most is too deep.
+-- What is answered of the parts so far, and of what reading them answered. A place in the parts comes before the fault at which
+-- they end. A document of at most two open elements is never too deep.
 abbrev pub as_refusal : MarkupError → StateError
 as_refusal (BadAt at) = Bad at
 as_refusal (TooDeep at) = Bad at
@@ -79,13 +79,14 @@ abbrev pub or_misplaced : Option ℕ → Result (Unit {0}) StateError → Result
 or_misplaced (Some at) read = Err (NotStateEvent at)
 or_misplaced None read = read
 
--- Want of memory says nothing of the parts.
+-- If memory ran out, nothing is said of the parts.
 abbrev pub refused_so : Result (Unit {0}) MarkupError → Option ℕ → Result (Unit {0}) StateError
 refused_so (Err OutOfMemory) place = Err Mem
 refused_so (Err FailedBefore) place = Err Failed
 refused_so read place = or_misplaced place (as_read read)
 
--- At the end: no event where nothing but white space came, and the events where nothing is refused.
+-- What is answered at the end. There are no events if nothing but white space came. Otherwise the events are answered if nothing
+-- is refused.
 abbrev pub ended_so : Result (Unit {0}) MarkupError → Bool → Result Judge ℕ → Result (List Event) StateError
 ended_so (Err FailedBefore) blank said = Err Failed
 ended_so read true said = Ok []
@@ -93,7 +94,7 @@ ended_so (Err r) false said = Err (as_refusal r)
 ended_so (Ok done) false (Ok j) = Ok j.events
 ended_so (Ok done) false (Err at) = Err (NotStateEvent at)
 
--- What a call answers, if it is not for want of memory.
+-- What a call answers, unless memory ran out.
 abbrev pub Judges : Result Judge ℕ → Result (Unit {0}) Unfit → Judge → Type 0
 Judges judged (Err NoMemory) now = ⊤
 Judges (Ok j) (Ok done) now = now ≡ j

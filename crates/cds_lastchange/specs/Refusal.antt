@@ -17,14 +17,14 @@ use Rattle.cds_lastchange.specs.declared.error.StateError.TheVariants.{Bad, NotS
 use Rattle.cds_lastchange.specs.Attributes.{event_of, is_state_event}
 use Rattle.cds_lastchange.specs.StateEvent.{IsStateEvent}
 
--- Whether an element may stand where elements with these start tags are open, from the innermost to the root: without
--- any a StateEvent, in the root an event, and in an event none.
+-- Whether an element may stand inside open elements with these start tags, from the innermost to the root. Without any, a
+-- StateEvent may; in the root, an event; in an event, none.
 abbrev pub may_stand : List Tag → Name → List Attr → Bool
 may_stand [] name attrs = is_state_event name
 may_stand (root ∷ []) name attrs = is_some (event_of name attrs)
 may_stand (event ∷ root ∷ outer) name attrs = false
 
--- A start tag of an element that may not stand where it does. It shows at the `>` or `/` that ends the tag.
+-- The start tag of an element that may not stand there. It shows at the `>` or `/` that ends the tag.
 pub record IsMisplaced (bytes : List ℕ) (shown at : ℕ) : Type 0 where
   pub tags : List Tag
   pub tag : Tag
@@ -46,36 +46,37 @@ pub record IsIndirect (bytes : List ℕ) (shown at : ℕ) : Type 0 where
   pub ends : LeafEnds bytes tags at shown leaf
   pub indirect : is_indirect leaf ≡ true
 
--- A character that is no white space. It shows at its first byte, whatever follows.
+-- A character that is not white space. It shows at its first byte, whatever follows.
 pub record IsStray (bytes : List ℕ) (shown at : ℕ) : Type 0 where
   pub tags : List Tag
   pub byte : ℕ
   pub begins : TextByte bytes tags at byte
   pub here : shown ≡ at
 
--- A cause that makes a document no StateEvent, the place of the byte at which it shows, and the place that is answered.
+-- A cause that makes a document no StateEvent. `shown` is the place of the byte at which it shows, and `at` the place that is
+-- answered.
 abbrev pub Shows : List ℕ → ℕ → ℕ → Type 0
 Shows bytes shown at = IsMisplaced bytes shown at ⊎ (IsIndirect bytes shown at ⊎ IsStray bytes shown at)
 
--- None of these shows before a place.
+-- None of these shows before this place.
 abbrev pub NoneShows : List ℕ → ℕ → Type 0
 NoneShows bytes place = (earlier at : ℕ) → earlier < place → Shows bytes earlier at → ⊥
 
--- The bytes are refused as a document, and that shows first. Where the same byte shows another cause, this one counts.
--- White space alone is no document, and yet it is not refused, unless there is too much of it.
+-- The bytes are refused as a document, and that shows first. If the same byte shows another cause, the document's counts. White
+-- space alone is no document, but it is refused only if there is too much of it.
 pub record IsBadEvent (bytes : List ℕ) (at : ℕ) : Type 0 where
   pub blank : list_all is_blank bytes ≡ true → INPUT_LIMIT < length bytes
   pub refused : IsRefusedDocument bytes (BadAt at)
   pub first : NoneShows bytes at
 
--- Another cause shows first, at a byte up to which and with which no document is refused.
+-- Another cause shows first. No document is refused up to and with the byte at which it shows.
 pub record IsNoStateEvent (bytes : List ℕ) (at : ℕ) : Type 0 where
   pub shown : ℕ
   pub shows : Shows bytes shown at
   pub clear : Clear bytes shown
   pub first : NoneShows bytes shown
 
--- What a refusal says of the bytes. Want of memory says nothing of them, and that a reader refused before is no cause.
+-- What a refusal says of the bytes. `Mem` says nothing of them. `Failed` says that a reader refused before, which is no cause.
 abbrev pub IsRefused : List ℕ → StateError → Type 0
 IsRefused bytes (Bad at) = IsBadEvent bytes at
 IsRefused bytes (NotStateEvent at) = IsNoStateEvent bytes at
@@ -83,8 +84,8 @@ IsRefused bytes TooLong = IsRefusedDocument bytes TooManyBytes × NoneShows byte
 IsRefused bytes Failed = ⊥
 IsRefused bytes Mem = ⊤
 
--- An answer to bytes: the one list of events that they are, or the one refusal that stands against them. Want of memory
--- says nothing of them.
+-- An answer to bytes: the one list of events that they are, or the one refusal that stands against them. `Mem` says nothing of
+-- them.
 abbrev pub Decides : List ℕ → Result (List Event) StateError → Type 0
 Decides bytes (Ok events) = IsStateEvent bytes events × ((other : List Event) → IsStateEvent bytes other → other ≡ events)
 Decides bytes (Err Mem) = ⊤

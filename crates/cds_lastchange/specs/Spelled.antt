@@ -44,7 +44,7 @@ event_text (ObjMod id update st) = codes "<objMod" ++ flagged_text id update st 
 event_text (ObjDel id update st) = codes "<objDel" ++ flagged_text id update st ++ codes "/>"
 event_text (StDone id update) = codes "<stDone" ++ change_text id update ++ codes "/>"
 
--- All of it.
+-- All of a StateEvent.
 abbrev pub opening : List ℕ
 opening = codes "<StateEvent xmlns=\"urn:schemas-upnp-org:av:cds-event\">"
 

@@ -11,8 +11,7 @@ use Rattle.cds_markup.specs.Grammar.{Leaf, Text, Comment, Tree, EmptyElement, Fu
 use Rattle.cds_markup.specs.Namespaces.{declarations, tag_says}
 use Rattle.cds_lastchange.specs.Attributes.{event_of, is_state_event}
 
--- White space, as it is written, and comments. A reference to a space is none, nor is a CDATA section without anything
--- in it.
+-- White space, as it is written, and comments. A reference to a space is none, and neither is an empty CDATA section.
 abbrev pub is_space : Leaf → Bool
 is_space (Text text) = list_all is_blank text
 is_space Comment = true
@@ -23,8 +22,8 @@ has_only_space Nothing = true
 has_only_space (LeafThen leaf more) = is_space leaf && has_only_space more
 has_only_space (TreeThen tree more) = false
 
--- The event that a start tag says within the scopes of the elements around it; none where it breaks a rule of start
--- tags or is no event.
+-- The event that a start tag says within the scopes of the elements around it. There is none if the tag breaks a rule of start
+-- tags or is no event. Nothing but white space and comments may stand in the element.
 abbrev pub event_said : Option (Name × List Attr) → Option Event
 event_said None = None
 event_said (Some said) = event_of said.0 said.1
@@ -33,7 +32,7 @@ abbrev pub event_in : List (List Declaration) → Tree → Option Event
 event_in scopes (EmptyElement t) = event_said (tag_says scopes t)
 event_in scopes (Full t content) = if has_only_space content then event_said (tag_says scopes t) else None
 
--- The events among the children of the root, in order, where nothing but white space and comments stands between.
+-- The events among the children of the root, in order. There are none if anything but white space and comments stands between.
 abbrev pub and_more : Option Event → Option (List Event) → Option (List Event)
 and_more None events = None
 and_more (Some event) None = None
@@ -44,7 +43,7 @@ events_in scopes Nothing = Some []
 events_in scopes (LeafThen leaf more) = if is_space leaf then events_in scopes more else None
 events_in scopes (TreeThen tree more) = and_more (event_in scopes tree) (events_in scopes more)
 
--- Whether a start tag that has no element around it is that of a StateEvent.
+-- Whether a start tag without an element around it is that of a StateEvent.
 abbrev pub is_root : Option (Name × List Attr) → Bool
 is_root None = false
 is_root (Some said) = is_state_event said.0
@@ -53,11 +52,11 @@ abbrev pub root_events : Tree → Option (List Event)
 root_events (EmptyElement t) = if is_root (tag_says [] t) then Some [] else None
 root_events (Full t content) = if is_root (tag_says [] t) then events_in (declarations t.attrs ∷ []) content else None
 
--- A document of these events. No more than two elements are open anywhere in it, so the limit of open elements is kept.
+-- A document of these events. At most two elements are open anywhere in it, so the limit of open elements is kept.
 abbrev pub IsDocumentOf : List ℕ → List Event → Type 0
 IsDocumentOf bytes events = (root : Tree) × IsDocument bytes root × (root_events root ≡ Some events)
 
--- Without anything but white space there are no events.
+-- White space alone, or nothing, has no events.
 abbrev pub IsEmpty : List ℕ → List Event → Type 0
 IsEmpty bytes events = (list_all is_blank bytes ≡ true) × (events ≡ [])
 

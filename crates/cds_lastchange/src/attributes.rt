@@ -1,4 +1,4 @@
-//! What elements say by their names and their attributes.
+//! What elements of a StateEvent say by their names and their attributes.
 
 ghost use Rattle.std.specs.Prelude.{◌≡◌, find, option_copied};
 ghost use Rattle.cds_lastchange.specs.Attributes.{is_plain, value_of, number_of, flag_said, flag_of, class_said, class_of, added, modified, deleted, done, event_named, event_of, is_state_event};
@@ -10,14 +10,14 @@ use cds_markup::{Attr, Name};
 /// The namespace of StateEvents.
 const EVENT_SPACE: &str = "urn:schemas-upnp-org:av:cds-event";
 
-/// Whether the attribute has this name and no namespace.
+/// Returns whether the attribute has this name and no namespace.
 fn is_plain(attr: &Attr, local: &str) -> bool
     ensures { result ≡ is_plain local.now attr.now }
 {
     attr.name.space.len() == 0 && attr.name.local.as_str() == local
 }
 
-/// The attribute that has this name and no namespace.
+/// Returns the first attribute that has this name and no namespace.
 fn plain<'a>(attrs: &'a [Attr], local: &str) -> Option<&'a Attr>
     ensures { option_copied result ≡ find (is_plain local.now) attrs.now }
 {
@@ -29,7 +29,7 @@ fn plain<'a>(attrs: &'a [Attr], local: &str) -> Option<&'a Attr>
     None
 }
 
-/// The number of 32 bits that an attribute says.
+/// Returns the number of 32 bits that the attribute of this name says.
 fn number_of(attrs: &[Attr], local: &str) -> Option<u32>
     ensures { result ≡ number_of local.now attrs.now }
 {
@@ -39,7 +39,8 @@ fn number_of(attrs: &[Attr], local: &str) -> Option<u32>
     }
 }
 
-/// Whether a text says that a change belongs to a subtree update.
+/// Returns whether a text says that a change belongs to a subtree update. `0` and `false` say no, `1` and `true` say yes. Any
+/// other text gives `None`.
 fn flag_said(text: &str) -> Option<bool>
     ensures { result ≡ flag_said text.now }
 {
@@ -52,7 +53,7 @@ fn flag_said(text: &str) -> Option<bool>
     }
 }
 
-/// Whether the change belongs to a subtree update.
+/// Returns whether the change belongs to a subtree update, as `stUpdate` says.
 #[tactic(auto, unfolding(crate::specs::Attributes::flag_of))]
 fn flag_of(attrs: &[Attr]) -> Option<bool>
     ensures { result ≡ flag_of attrs.now }
@@ -63,7 +64,7 @@ fn flag_of(attrs: &[Attr]) -> Option<bool>
     }
 }
 
-/// The class that a text names.
+/// Returns the class that a text names.
 fn class_said(text: &str) -> Option<Class>
     ensures { result ≡ class_said text.now }
 {
@@ -76,7 +77,7 @@ fn class_said(text: &str) -> Option<Class>
     }
 }
 
-/// The class of an added object.
+/// Returns the class of an added object.
 #[tactic(auto, unfolding(crate::specs::Attributes::class_of))]
 fn class_of(attrs: &[Attr]) -> Option<Class>
     ensures { result ≡ class_of attrs.now }
@@ -87,7 +88,7 @@ fn class_of(attrs: &[Attr]) -> Option<Class>
     }
 }
 
-/// The addition that these attributes say.
+/// Returns the addition that these attributes say.
 #[tactic(auto, unfolding(crate::specs::Attributes::added))]
 fn added(attrs: &[Attr]) -> Option<Event>
     ensures { result ≡ added attrs.now }
@@ -106,7 +107,7 @@ fn added(attrs: &[Attr]) -> Option<Event>
     })
 }
 
-/// The modification that these attributes say.
+/// Returns the modification that these attributes say.
 #[tactic(auto, unfolding(crate::specs::Attributes::modified))]
 fn modified(attrs: &[Attr]) -> Option<Event>
     ensures { result ≡ modified attrs.now }
@@ -117,7 +118,7 @@ fn modified(attrs: &[Attr]) -> Option<Event>
     Some(Event::ObjMod { id, update, st })
 }
 
-/// The deletion that these attributes say.
+/// Returns the deletion that these attributes say.
 #[tactic(auto, unfolding(crate::specs::Attributes::deleted))]
 fn deleted(attrs: &[Attr]) -> Option<Event>
     ensures { result ≡ deleted attrs.now }
@@ -128,7 +129,7 @@ fn deleted(attrs: &[Attr]) -> Option<Event>
     Some(Event::ObjDel { id, update, st })
 }
 
-/// The end of a subtree update that these attributes say.
+/// Returns the end of a subtree update that these attributes say.
 #[tactic(auto, unfolding(crate::specs::Attributes::done))]
 fn done(attrs: &[Attr]) -> Option<Event>
     ensures { result ≡ done attrs.now }
@@ -138,7 +139,7 @@ fn done(attrs: &[Attr]) -> Option<Event>
     Some(Event::StDone { id, update })
 }
 
-/// The event of this name in the namespace of StateEvents.
+/// Returns the event of this name in the namespace of StateEvents.
 fn event_named(local: &str, attrs: &[Attr]) -> Option<Event>
     ensures { result ≡ event_named local.now attrs.now }
 {
@@ -155,7 +156,7 @@ fn event_named(local: &str, attrs: &[Attr]) -> Option<Event>
     }
 }
 
-/// The event that an element is; `None` where it is no event.
+/// Returns the event that an element is, or `None` if it is no event.
 #[tactic(auto, unfolding(crate::specs::Attributes::event_of))]
 pub(crate) fn event_of(name: &Name, attrs: &[Attr]) -> Option<Event>
     ensures { result ≡ event_of name.now attrs.now }
@@ -167,7 +168,7 @@ pub(crate) fn event_of(name: &Name, attrs: &[Attr]) -> Option<Event>
     }
 }
 
-/// Whether an element is a list of events.
+/// Returns whether an element is a list of events.
 #[tactic(auto, unfolding(crate::specs::Attributes::is_state_event))]
 pub(crate) fn is_state_event(name: &Name) -> bool
     ensures { result ≡ is_state_event name.now }

@@ -1,23 +1,23 @@
-//! Small StateEvents that are evaluated from the definitions: each clause is some of them.
+//! Small StateEvents that are evaluated from the definitions. Each clause is about some of them.
 
 ghost use Rattle.cds_lastchange.specs.Evaluated as evaluated;
 
-/// What is written of a deletion, and of a folder that is added with a track in it.
+/// States what is written of a deletion, of a folder that is added with a track in it, and of the end of that update.
 pub fn events_are_written()
     ensures { evaluated.events_are_written }
 {}
 
-/// What is read of other forms: single quotes, a prefix, attributes that are passed over, and nothing at all.
+/// States what is read of other forms: single quotes, a prefix, attributes that are passed over, and nothing at all.
 pub fn forms_are_read()
     ensures { evaluated.forms_are_read }
 {}
 
-/// What is no event is refused where its tag begins, and what is cut off where it ends.
+/// States that what is no event is refused at the start of its tag, and what is cut off at its end.
 pub fn others_are_refused()
     ensures { evaluated.others_are_refused }
 {}
 
-/// Between tags a letter is refused before a later fault, and a reference or a section before what follows it.
+/// States that a letter between tags is refused before a later fault, and a reference or a section before what follows it.
 pub fn text_between_is_refused()
     ensures { evaluated.text_between_is_refused }
 {}

@@ -10,7 +10,7 @@ use cds_base::Mem;
 use cds_markup::{Attr, Name, Part};
 use std::alloc::Global;
 
-/// What is open where a part stands.
+/// What is open around a part.
 #[derive(Clone, Copy)]
 pub enum Level {
     /// Nothing.
@@ -21,10 +21,10 @@ pub enum Level {
     InEvent,
 }
 
-/// Why a part is not taken.
+/// A reason why a part is not taken.
 #[derive(Clone, Copy)]
 pub enum Unfit {
-    /// It makes the document no StateEvent, which is answered at this place.
+    /// The part makes the document no StateEvent. This place is answered.
     Misplaced { at: usize },
     /// Out of memory.
     Mem,
@@ -48,7 +48,7 @@ pub struct Judge {
 }
 
 impl Judge {
-    /// Nothing yet.
+    /// Returns a judge of no parts.
     pub fn new(alloc: Global) -> Self
         ensures { result ≡ nothing_said }
     {
@@ -58,7 +58,7 @@ impl Judge {
         }
     }
 
-    /// The root's start tag at this place.
+    /// Takes the root's start tag at this place.
     fn root(&mut self, at: usize, name: &Name, attrs: &[Attr]) -> Result<(), Unfit>
         requires { self.old.level ≡ Level.Outside }
         ensures { Judges (start_judged self.old.level self.old.events at name.now attrs.now) result self.new }
@@ -70,7 +70,7 @@ impl Judge {
         Ok(())
     }
 
-    /// The start tag of an event at this place.
+    /// Takes the start tag of an event at this place.
     fn event(&mut self, at: usize, event: Option<Event>) -> Result<(), Unfit>
         ensures { Judges (event_judged self.old.events at event) result self.new }
     {
@@ -84,7 +84,7 @@ impl Judge {
         }
     }
 
-    /// A start tag at this place.
+    /// Takes a start tag at this place.
     fn start(&mut self, at: usize, name: &Name, attrs: &[Attr]) -> Result<(), Unfit>
         ensures { Judges (start_judged self.old.level self.old.events at name.now attrs.now) result self.new }
     {
@@ -95,7 +95,7 @@ impl Judge {
         }
     }
 
-    /// An end tag.
+    /// Takes an end tag.
     fn end(&mut self)
         ensures { Ok self.new ≡ part_judged self.old (Part.End 0) }
     {
@@ -105,7 +105,7 @@ impl Judge {
         };
     }
 
-    /// The next part.
+    /// Takes the next part.
     pub fn part(&mut self, part: &Part) -> Result<(), Unfit>
         ensures { Judges (part_judged self.old part.now) result self.new }
     {

@@ -1,19 +1,19 @@
-//! What is proved of the definitions themselves: calling a function gives its law.
+//! What is proved of the definitions themselves. Calling a function gives its law.
 
 ghost use Rattle.cds_lastchange.specs.Feeding.{EveryCutting};
 ghost use Rattle.cds_lastchange.specs.Laws.{WrittenIsRead, OneList, OneAnswer, AllAreAnswered, StateEventsAreDocuments};
 
-/// What is written of events is read as these events, where it has at most 67,108,864 bytes.
+/// What is written of events is read as these events, if it has at most 67,108,864 bytes.
 pub fn written_is_read()
     ensures { WrittenIsRead }
 {}
 
-/// Bytes are one list of events at most.
+/// Bytes are at most one list of events.
 pub fn one_list()
     ensures { OneList }
 {}
 
-/// Bytes are events or they are refused in one way, and not both.
+/// Bytes are events, or they are refused in one way, and not both.
 pub fn one_answer()
     ensures { OneAnswer }
 {}

@@ -17,14 +17,15 @@ use std::fmt;
 use std::fmt::{Debug, Formatter};
 use std::marker::Model;
 
-/// Whether there is nothing but white space.
+/// Returns whether there is nothing but white space.
 fn is_blank(bytes: &[u8]) -> bool
     ensures { result ≡ list_all is_blank bytes.now }
 {
     bytes.iter().all(|b| *b == b' ' || *b == b'\t' || *b == b'\n' || *b == b'\r')
 }
 
-/// What to answer where reading the parts so far answered so and the first that does not stand is at this place.
+/// Returns the answer to a piece. `read` is what reading the parts so far answered. `misplaced` is the place of the first part
+/// that does not stand.
 fn refused(read: Result<(), MarkupError>, misplaced: Option<usize>) -> Result<(), StateError>
     ensures { result ≡ refused_so read misplaced }
 {
@@ -43,7 +44,8 @@ fn refused(read: Result<(), MarkupError>, misplaced: Option<usize>) -> Result<()
     }
 }
 
-/// What to answer at the end, where reading the parts answered so, they say this, and nothing but white space came or not.
+/// Returns the answer at the end. `read` is what reading the parts answered, and `said` what they say. `blank` says whether
+/// nothing but white space came.
 fn ended(
     alloc: Global,
     read: Result<(), MarkupError>,
@@ -67,8 +69,8 @@ fn ended(
     }
 }
 
-/// Reads a StateEvent that comes in pieces, without keeping them. Contracts see what is read so far, or nothing from a
-/// refusal on, want of memory included, what the parts so far say, and whether nothing but white space came.
+/// Reads a StateEvent that comes in pieces, without keeping them. Contracts see what is read so far, what the parts so far say,
+/// and whether nothing but white space came. After a refusal, also one for memory, they see nothing read.
 #[derive(Drop)]
 pub struct StateReader {
     parts: PartReader,
@@ -84,7 +86,7 @@ impl Model for StateReader {
     ghost view = { λ r. came r.parts r.judging r.blank };
 }
 
-/// Its name alone: deriving it for all that it holds would be dear to prove, and nothing prints it.
+/// Prints its name alone. A derived form of all that it holds would be hard to prove, and nothing prints it.
 impl Debug for StateReader {
     fn fmt<W: fmt::Write>(&self, f: &mut Formatter<W>) -> fmt::Result {
         f.debug_struct("StateReader").finish_non_exhaustive()
@@ -92,7 +94,7 @@ impl Debug for StateReader {
 }
 
 impl StateReader {
-    /// A reader to which nothing came yet. It takes no memory so far.
+    /// Returns a reader to which nothing came yet. It takes no memory so far.
     pub fn new(alloc: Global) -> Result<Self, Mem>
         ensures { IsOkAnd result (λ r. IsRead [] r) }
     {
@@ -103,9 +105,14 @@ impl StateReader {
         })
     }
 
-    /// The next piece. It is refused where a byte of it decides so, whatever comes behind: for `Bad` the byte at its place,
-    /// for `NotStateEvent` the byte that ends the tag, the reference or the section or begins the character at its place, and
-    /// for `TooLong` the byte behind 67,108,864 others. From a refusal on, and from `Mem` on, each call answers `Failed`.
+    /// Reads the next piece. It is refused if a byte of it decides so, whatever comes after. That byte depends on the refusal:
+    ///
+    /// - For `Bad` it is the byte at its place.
+    /// - For `NotStateEvent` it is the byte that ends the tag, the reference or the section at its place, or begins the character
+    ///   there.
+    /// - For `TooLong` it is the byte after 67,108,864 others.
+    ///
+    /// After a refusal, also after `Mem`, each call answers `Failed`.
     pub fn feed(&mut self, alloc: Global, piece: &[u8]) -> Result<(), StateError>
         ensures fed { Fed self.old piece.now result self.new }
         ensures failed { self.old.parts ≡ None → (result ≡ Err IsFailed) × (self.new.parts ≡ None) }
@@ -115,11 +122,16 @@ impl StateReader {
         refused(read, self.judging.misplaced())
     }
 
-    /// The end: the events, or why the bytes that came are none. `Bad` has the place where they break as a document;
-    /// `NotStateEvent` that of the `<` of an element that may not stand there or lacks what it needs, of a reference or
-    /// a CDATA section, or of a character that is no white space. The fault that shows first in reading order is the
-    /// answer, and a document's where one byte shows both; all but the end's own were the answer of a piece. `Failed` only
-    /// where a piece was refused or memory ran out.
+    /// Ends the input. Returns the events, or why the bytes that came are none. `Bad` has the place where they break as a
+    /// document. `NotStateEvent` has one of these places:
+    ///
+    /// - the `<` of an element that may not stand there or lacks what it needs;
+    /// - the start of a reference or a CDATA section;
+    /// - a character that is not white space.
+    ///
+    /// The answer is the fault that shows first in reading order. If one byte shows two, it is that of the document. All faults
+    /// except those of the end itself were already the answer of a piece. `Failed` comes only if a piece was refused or memory
+    /// ran out.
     pub fn finish(self, alloc: Global) -> Result<Events, StateError>
         ensures finished { Finished self result }
         ensures failed { self.parts ≡ None → result ≡ Err IsFailed }

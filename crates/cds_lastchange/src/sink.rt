@@ -1,4 +1,4 @@
-//! Parts that are judged one by one as they come.
+//! A taker of parts that judges them one by one as they come.
 
 ghost use Rattle.std.specs.Prelude.{◌≡◌, ◌∷◌, [], Ok, IfOk};
 ghost use Rattle.cds_lastchange.specs.Judged.{part_judged, nothing_said, misplaced};
@@ -9,8 +9,8 @@ use cds_markup::{Part, PartSink};
 use std::alloc::Global;
 use std::marker::Model;
 
-/// What takes the parts of a document up to the first that does not stand, and keeps none. Contracts see what they say, or the place of the first that does
-/// not stand.
+/// Takes the parts of a document up to the first that does not stand, and keeps none. Contracts see what the parts say, or the
+/// place of the first that does not stand.
 #[derive(Drop)]
 pub struct Judging {
     said: Result<Judge, usize>,
@@ -26,7 +26,7 @@ impl Model for Judging {
 }
 
 impl Judging {
-    /// No part yet.
+    /// Returns a taker of no parts.
     pub fn new(alloc: Global) -> Self
         ensures { result ≡ Ok nothing_said }
     {
@@ -35,7 +35,7 @@ impl Judging {
         }
     }
 
-    /// The place of the first part that does not stand.
+    /// Returns the place of the first part that does not stand.
     pub fn misplaced(&self) -> Option<usize>
         ensures { result ≡ misplaced self.now }
     {
@@ -45,7 +45,7 @@ impl Judging {
         }
     }
 
-    /// What the parts say, or the place of the first that does not stand.
+    /// Returns what the parts say, or the place of the first that does not stand.
     pub fn into_said(self) -> Result<Judge, usize>
         ensures { result ≡ self }
     {
@@ -75,7 +75,7 @@ impl PartSink for Judging {
     }
 }
 
-/// What is said up to a part, or the place that is answered where it does not stand.
+/// Returns what is said up to and with a part. If the part does not stand, returns the place that is answered.
 fn judged(judge: Judge, part: &Part) -> Result<Result<Judge, usize>, Mem>
     ensures { IfOk result (λ said. said ≡ part_judged judge part.now) }
 {

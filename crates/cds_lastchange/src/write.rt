@@ -21,7 +21,7 @@ fn put_change(out: &mut String, id: u32, update: u32) -> Result<(), Mem>
     Ok(())
 }
 
-/// How it is written whether a change belongs to a subtree update.
+/// Returns the text that says whether a change belongs to a subtree update.
 fn flag_text(st: bool) -> &'static str
     ensures { result.now ≡ flag_text st }
 {
@@ -38,7 +38,7 @@ fn put_flagged(out: &mut String, id: u32, update: u32, st: bool) -> Result<(), M
     Ok(())
 }
 
-/// The name of a class.
+/// Returns the name of a class.
 #[tactic(auto, unfolding(crate::specs::Spelled::class_text))]
 fn class_text(class: Class) -> &'static str
     ensures { result.now ≡ class_text class }
@@ -77,7 +77,7 @@ fn put_addition(
     Ok(())
 }
 
-/// Puts a modification or a deletion, of which this is the name behind its `<`.
+/// Puts a modification or a deletion. `name` is its `<` with the name after it.
 fn put_flagged_event(
     out: &mut String,
     name: &str,
@@ -122,7 +122,7 @@ fn put_event(out: &mut String, event: Event) -> Result<(), Mem>
     }
 }
 
-/// Puts all of it. The numbers of the events have 32 bits.
+/// Puts all of a StateEvent. The numbers of the events have 32 bits.
 fn put_events(out: &mut String, events: &[Event]) -> Result<(), Mem>
     ensures puts { OnOk result (string_bytes out.new ≡ string_bytes out.old ++ spelled events.now) }
     ensures numbered { OnOk result (AllByRecursion IsNumbered events.now) }
@@ -138,7 +138,7 @@ fn put_events(out: &mut String, events: &[Event]) -> Result<(), Mem>
     Ok(())
 }
 
-/// Adds the written form of these events, of which there is one. `Mem` leaves the bytes as they were.
+/// Appends the one written form of these events. `Mem` leaves the bytes as they were.
 pub fn write_state_event(alloc: Global, events: &[Event], out: &mut Vec<u8>) -> Result<(), Mem>
     ensures ok { OnOk result (out.new.items ≡ out.old.items ++ spelled events.now) }
     ensures err { OnErr result (out.new.items ≡ out.old.items) }

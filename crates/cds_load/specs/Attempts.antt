@@ -1,9 +1,9 @@
--- A load as its replies show it, with no word of what a replica holds: the replies of the attempt that runs, the next ask,
--- which replies are refused, what is said and what is copied; and the laws that these are what the replica's are, for every
--- list of its turns, honest or not.
+-- A load as its replies show it, with no word of what a replica holds: the replies of the attempt that runs, the next ask, which
+-- replies are refused, what is said and what is copied. Laws say that these are what the replica's are, for every list of its
+-- turns, honest or not.
 --
--- An attempt is the replies that were taken since the load began, or since a number other than the attempt's N was shown.
--- Its first reply is a token, its second N, its third the root's row, each later odd one a page and each even one N.
+-- An attempt is the replies that were taken since the load began, or since a number other than the attempt's N was shown. Its
+-- first reply is a token, its second N, its third the root's row. Each later odd one is a page, and each even one N.
 use Rattle.std.specs.Prelude.{◌≡◌, ◌-◌, ℕ, min, Bool, true, false, cond, not, nat_eq, nat_lt, ◌&&◌, List, [], ◌∷◌, ◌++◌, map, length, Option, Some, None, unwrap_or}
 use Rattle.std.specs.List.{AllByRecursion, filter_map, cons_option, count_by, list_any, list_all}
 use Rattle.std.specs.Option.{option_map, option_and_then}
@@ -18,7 +18,7 @@ use Rattle.cds_load.specs.Stages.{Waiting, waiting_of, put_rows, all_new, Taken,
 use Rattle.cds_load.specs.Loads.{load_reads}
 use Rattle.cds_load.specs.Seen.{rows_shown}
 
--- the rows that replies show, in the order in which they were shown; of all lists of replies here the newest stands first
+-- the rows that replies show, in the order in which they were shown; in all lists of replies here the newest is the first
 abbrev pub rows_in : List Shown → List ObjectRow
 rows_in [] = []
 rows_in (Text token ∷ older) = rows_in older
@@ -55,14 +55,14 @@ first_of (w ∷ ws) = Some w
 abbrev pub least_unasked : List ObjectRow → List Waiting → Option Waiting
 least_unasked rows asked = first_of (filter_map (unasked asked) (put_rows rows []))
 
--- the container of the next page, by the rows that were shown and by the containers of the pages so far, the newest first:
--- the last one until all its children were shown, then the least of which no page was asked
+-- the container of the next page, by the rows that were shown and by the containers of the pages so far, the newest first. It is
+-- the last one until all its children were shown, and then the least of which no page was asked
 abbrev pub container_after : List ObjectRow → List Waiting → Option Waiting
 container_after rows [] = least_unasked rows []
 container_after rows (w ∷ asked) =
     cond (nat_lt (children_among rows w) w.children) (Some w) (least_unasked rows (w ∷ asked))
 
--- the containers of the pages of an attempt; the root's row comes where no container is known, and is of none
+-- the containers of the pages of an attempt; the root's row comes while no container is known, and is of none
 abbrev pub asked_in : List Shown → List Waiting
 asked_in [] = []
 asked_in (Text token ∷ older) = asked_in older
@@ -74,8 +74,8 @@ asked_in (Fault code ∷ older) = asked_in older
 abbrev pub next_container : List Shown → Option Waiting
 next_container attempt = container_after (rows_in attempt) (asked_in attempt)
 
--- the next ask of an attempt: the token, the number, the root's row, the number, and then a page and the number by turns. A
--- page begins at the number of the container's children that were shown so far
+-- the next ask of an attempt: the token, the number, the root's row, the number, and then a page and the number by turns. A page
+-- begins at the number of the container's children that were shown so far
 abbrev pub ask_in : List Shown → Option Ask
 ask_in attempt =
     cond (is_odd attempt) (Some AskNumber)
@@ -104,14 +104,14 @@ root_verdict [] = CannotBeRead
 root_verdict (row ∷ []) = cond (nat_eq row.id 0 && is_folder row.content) Fine (CannotBe 0)
 root_verdict (row ∷ next ∷ rows) = CannotBeRead
 
--- whether the rows of a page can be, after these rows: all are children of the container, none has an id that was shown
--- before, and there are as many as a page has, or as many as the container still lacks where these are fewer
+-- whether the rows of a page can be, after these rows. All are children of the container, and none has an id that was shown
+-- before. There are as many as a page has, or as many as the container still lacks if these are fewer
 abbrev pub can_be : List ObjectRow → Waiting → List ObjectRow → Bool
 can_be rows w page =
     list_all (is_child_of w.id) page && all_new (map (λ (row : ObjectRow). row.id) rows) page
     && nat_eq (length page) (min page_size (w.children - children_among rows w))
 
--- a page is judged as soon as the number after it shows that nothing changed; a refusal in its place cannot be
+-- a page is judged as soon as the number after it shows that nothing changed; a refusal that came instead of a page cannot be
 abbrev pub page_verdict : Option Waiting → List ObjectRow → Shown → Verdict
 page_verdict None rows shown = Fine
 page_verdict (Some w) rows (Text token) = Fine
@@ -168,13 +168,13 @@ after_verdict Fine attempt shown = joined attempt shown
 after_verdict CannotBeRead attempt shown = attempt
 after_verdict (CannotBe id) attempt shown = attempt
 
--- the attempt that runs or has ended after turns; none where no load was ever begun
+-- the attempt that runs or has ended after turns; none if no load was ever begun
 abbrev pub attempt_of : List ReplicaTurn → Option (List Shown)
 attempt_of [] = None
 attempt_of (Begins ∷ older) = Some []
 attempt_of (Shows shown ∷ older) = option_map (λ attempt. after_verdict (verdict_in attempt shown) attempt shown) (attempt_of older)
 
--- the verdict on a reply where no load was begun
+-- the verdict on a reply, also if no load was begun
 abbrev pub verdict_by : Option (List Shown) → Shown → Verdict
 verdict_by None shown = CannotBeRead
 verdict_by (Some attempt) shown = verdict_in attempt shown
@@ -184,7 +184,7 @@ abbrev pub says_by : Option (List Shown) → Said
 says_by None = BehindLoad
 says_by (Some attempt) = cond (is_complete attempt) (Stands (unwrap_or (number_in attempt) 0)) BehindLoad
 
--- what is copied by an attempt: where it is complete, the rows that it showed, in ascending order of ids
+-- what is copied by an attempt: if it is complete, the rows that it showed, in ascending order of ids
 abbrev pub copied_by : Option (List Shown) → List ObjectRow
 copied_by None = []
 copied_by (Some attempt) = cond (is_complete attempt) (put_rows (rows_in attempt) []) []

@@ -1,4 +1,4 @@
--- How many reads a load takes, and what a replica knows whose replies are those of an honest server: words and laws.
+-- How many reads a load takes, and what a replica knows whose replies are those of an honest server: definitions and laws.
 use Rattle.std.specs.Prelude.{◌≡◌, ◌+◌, ◌*◌, ◌/◌, ◌<◌, ◌≤◌, ℕ, zero, suc, max, List, [], ◌∷◌, Option, Some, None, IsSome}
 use Rattle.std.specs.List.{sum_by}
 use Rattle.cds_object.specs.Object.{ObjectRow}
@@ -35,8 +35,8 @@ loads_end = (moment : Moment) → IsTree moment.rows →
     (reads (load_reads moment.rows) moment Begun ≡ HasCopy moment.number moment.rows)
     × ((n : ℕ) → n < load_reads moment.rows → IsSome (next_ask (reads n moment Begun)) × (says (reads n moment Begun) ≡ BehindLoad))
 
--- an honest server: at each length of the list of its commands its rows are a tree, its numbers never fall, and equal
--- numbers have equal rows
+-- an honest server: its rows are a tree at each length of the list of its commands, its numbers never fall, and equal numbers
+-- have equal rows
 pub record IsServer (server : ℕ → Moment) : Type 0 where
   pub trees : (k : ℕ) → IsTree (server k).rows
   pub rising : (j k : ℕ) → j ≤ k → (server j).number ≤ (server k).number
@@ -51,25 +51,25 @@ abbrev pub length_at : Entry → ℕ
 length_at (Starts k) = k
 length_at (Asks k) = k
 
--- the lengths never fall, the newest entry standing first
+-- the lengths never fall; the newest entry is the first
 abbrev pub NeverFall : List Entry → Type 0
 NeverFall [] = Unit {0}
 NeverFall (entry ∷ []) = Unit {0}
 NeverFall (entry ∷ next ∷ older) = (length_at next ≤ length_at entry) × NeverFall (next ∷ older)
 
--- the replica's turns after a read, by its next ask: what the server replies is shown, and where nothing is asked nothing is
+-- the replica's turns after a read, by its next ask: what the server replies is shown; if nothing is asked nothing is shown
 abbrev pub after_read : Moment → List ReplicaTurn → Option Asked → List ReplicaTurn
 after_read moment turns None = turns
 after_read moment turns (Some ask) = Shows (reply_to moment ask) ∷ turns
 
--- the replica's turns, each reply being the server's at its length; where nothing is asked nothing is shown
+-- the replica's turns, each reply being the server's at its length; if nothing is asked nothing is shown
 abbrev pub given_by : (ℕ → Moment) → List Entry → List ReplicaTurn
 given_by server [] = []
 given_by server (Starts k ∷ older) = Begins ∷ given_by server older
 given_by server (Asks k ∷ older) = after_read (server k) (given_by server older) (next_ask (held_by (given_by server older)))
 
--- a replica of an honest server: no reply to its next ask is refused, and a copy has the rows of a length at which the
--- server had its number, not above the newest entry's
+-- a replica of an honest server: no reply to its next ask is refused. A copy has the rows of a length at which the server had its
+-- number, not above the newest entry's
 abbrev pub honest_replies_are_taken : Type 0
 honest_replies_are_taken = (server : ℕ → Moment) (entries : List Entry) (k : ℕ) (ask : Asked) → IsServer server → NeverFall (Asks k ∷ entries) →
     next_ask (held_by (given_by server entries)) ≡ Some ask →

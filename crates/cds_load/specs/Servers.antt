@@ -15,7 +15,7 @@ moment_at token first maps = record {
   rows = catalog (record { first = first; maps = maps });
 }
 
--- the oldest scans, so many of them; all where there are no more
+-- this many of the oldest scans; all if there are no more
 abbrev pub oldest : ℕ → List FolderMap → List FolderMap
 oldest k maps = drop (length maps - k) maps
 

@@ -1,9 +1,9 @@
--- What a replica holds after its turns, what it asks next and what it says (this project's profile, over UPnP
--- ContentDirectory:4 on Browse and SystemUpdateID).
+-- What a replica holds after its turns, what it asks next and what it says (this project's profile, over UPnP ContentDirectory:4
+-- on Browse and SystemUpdateID).
 --
--- A load reads the reset token, the number N, the root's metadata and the number again; then page by page, each
--- followed by the number, the children of each container, the container of the least id that is not listed yet first.
--- A number other than N ends the attempt, and the next read begins a new one.
+-- A load reads the reset token, the number N, the root's metadata and the number again. Then it reads the children of each
+-- container, page by page, each page followed by the number. The container of the least id that is not listed yet comes first. A
+-- number other than N ends the attempt, and the next read begins a new one.
 use Rattle.std.specs.Prelude.{◌-◌, ℕ, Bool, true, cond, not, nat_eq, nat_lt, min, ◌&&◌, List, [], ◌∷◌, ◌++◌, map, length, Option, Some, None}
 use Rattle.std.specs.List.{list_all, list_any, filter_map}
 use Rattle.std.specs.Option.{option_map}
@@ -21,15 +21,15 @@ pub record Waiting : Type 0 where
   pub id : ℕ
   pub children : ℕ
 
--- the rows of whole listings in ascending order of ids; the containers among them that are not listed yet, in
--- ascending order, the first of which is being listed; and the children of that one that were shown so far
+-- the rows of whole listings in ascending order of ids; the containers among them that are not listed yet, in ascending order,
+-- the first of which is being listed; and the children of that one that were shown so far
 pub record Listing : Type 0 where
   pub rows : List ObjectRow
   pub waiting : List Waiting
   pub part : List ObjectRow
 
--- what a replica holds: nothing; or a load that was begun, or has the token, or the number N, or the root's row; or
--- lists; or has a page, or a refusal in place of one; or has a copy of a number
+-- what a replica holds: nothing; or a load that was begun, or has the token, or the number N, or the root's row; or lists; or has
+-- a page, or a refusal instead of one; or has a copy of a number
 pub data Held : Type 0 where
   Idle : Held
   Begun : Held
@@ -89,8 +89,8 @@ all_new known (row ∷ rows) = not (list_any (λ id. nat_eq row.id id) known) &&
 abbrev pub known_ids : Listing → List ℕ
 known_ids listing = map (λ (row : ObjectRow). row.id) (listing.rows ++ listing.part)
 
--- whether a page fits: each row is a child of the container that is being listed and none has a known id, and there are
--- as many as a page has, or as the child count leaves where these are fewer
+-- whether a page fits. Each row is a child of the container that is being listed, and none has a known id. There are as many as a
+-- page has, or as the child count leaves if these are fewer
 abbrev pub fits : Listing → List ObjectRow → Bool
 fits listing page =
     list_all (is_child_of (listed_id listing)) page && all_new (known_ids listing) page
@@ -104,7 +104,7 @@ others_waiting listing = rest listing.waiting
     rest [] = []
     rest (w ∷ ws) = ws
 
--- what is held after a whole listing: where no container waits any more, the copy
+-- what is held after a whole listing: the copy, if no container waits any more
 abbrev pub listed : ℕ → List ObjectRow → List Waiting → Held
 listed number rows [] = HasCopy number rows
 listed number rows (w ∷ ws) = Lists number (record { rows = rows; waiting = w ∷ ws; part = [] })
@@ -163,7 +163,7 @@ taken (HasPage number listing page) (Page rows total update) = Unreadable
 taken (HasPage number listing page) (Fault code) = Unreadable
 taken (HasCopy number rows) shown = Unreadable
 
--- the next read, where a load runs
+-- the next read, if a load runs
 abbrev pub next_ask : Held → Option Ask
 next_ask Idle = None
 next_ask Begun = Some Token
@@ -189,7 +189,7 @@ says (Lists number listing) = BehindLoad
 says (HasPage number listing page) = BehindLoad
 says (HasCopy number rows) = Stands number
 
--- the rows of the copy; where none stands there are none
+-- the rows of the copy; if none stands there are none
 abbrev pub copied : Held → List ObjectRow
 copied Idle = []
 copied Begun = []

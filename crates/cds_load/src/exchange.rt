@@ -1,3 +1,5 @@
+//! The asks of a replica, and what the replies to them show.
+
 use cds_base::Text;
 use cds_object::Rows;
 
@@ -23,7 +25,7 @@ pub enum Shown {
     Number(u32),
     /// Rows, how many there are in all, and the UpdateID that belongs to them.
     Page { rows: Rows, total: u32, update: u32 },
-    /// A refusal with its code, as 701 where no such object stands.
+    /// A refusal with its code, for example 701 if no such object stands.
     Fault { code: u16 },
 }
 

@@ -5,58 +5,58 @@ ghost use Rattle.cds_load.specs.Loads as laws;
 ghost use Rattle.cds_load.specs.Seen as seen;
 ghost use Rattle.cds_load.specs.Servers as servers;
 
-/// A load from a server whose number stays ends after exactly the reads that it takes, with the server's rows, and runs
-/// until then.
+/// States that a load from a server whose number stays ends after exactly the reads that it takes, with the server's rows, and
+/// runs until then.
 pub fn loads_end()
     ensures { laws.loads_end }
 {}
 
-/// A history of scans is an honest server: at each length it has the catalog and the number of so many of its oldest
-/// scans.
+/// States that a history of scans is an honest server. At each length it has the catalog and the number of this many of its
+/// oldest scans.
 pub fn histories_are_servers()
     ensures { servers.histories_are_servers }
 {}
 
-/// No reply of an honest server is refused.
+/// States that no reply of an honest server is refused.
 pub fn honest_replies_are_taken()
     ensures { laws.honest_replies_are_taken }
 {}
 
-/// A copy that was made of an honest server's replies has the rows that stood at its number.
+/// States that a copy that was made of an honest server's replies has the rows that stood at its number.
 pub fn honest_copies_stood()
     ensures { laws.honest_copies_stood }
 {}
 
-/// Each row of a copy has the id, the content and the objectUpdateID of a row that a reply showed, whatever server
+/// States that each row of a copy has the id, the content and the objectUpdateID of a row that a reply showed, whatever server
 /// replied.
 pub fn copied_rows_were_shown()
     ensures { seen.copied_rows_were_shown }
 {}
 
-/// The next ask is that of the attempt that runs, by the replies that were taken since the load began or the number last
-/// changed, whatever server replied.
+/// States that the next ask is that of the attempt that runs. The attempt is the replies that were taken since the load began or
+/// the number last changed, whatever server replied.
 pub fn asks_are_of_attempts()
     ensures { attempts.asks_are_of_attempts }
 {}
 
-/// Exactly the replies are refused that the attempt refuses: a reply of another kind than the ask's; a row in place of the
-/// root's; and a page that cannot be, at the number after it.
+/// States that exactly the replies are refused that the attempt refuses: a reply of another kind than the ask's; a row instead of
+/// the root's; and a page that cannot be, at the number after it.
 pub fn refusals_are_of_attempts()
     ensures { attempts.refusals_are_of_attempts }
 {}
 
-/// A copy stands exactly where the attempt is complete: where it has as many replies as a load of the rows that it showed
-/// takes. It stands at the attempt's number.
+/// States that a copy stands if and only if the attempt is complete: it has as many replies as a load of the rows that it showed
+/// takes. The copy stands at the attempt's number.
 pub fn answers_are_of_attempts()
     ensures { attempts.answers_are_of_attempts }
 {}
 
-/// The rows of a copy are those that the attempt showed, in ascending order of ids.
+/// States that the rows of a copy are those that the attempt showed, in ascending order of ids.
 pub fn copies_are_of_attempts()
     ensures { attempts.copies_are_of_attempts }
 {}
 
-/// In an attempt each even reply is the number that was shown first.
+/// States that each even reply in an attempt is the number that was shown first.
 pub fn even_replies_are_the_number()
     ensures { attempts.even_replies_are_the_number }
 {}

@@ -1,5 +1,5 @@
--- What any bytes are answered, and the parts that are given of them, as functions of the bytes. Crates above know of these
--- what the laws say, and compute them on bytes that are written out.
+-- What any bytes are answered, and the parts that are given of them, as functions of the bytes. Crates above know what the laws
+-- say of these, and compute them on bytes that are written out.
 use Rattle.std.specs.Prelude.{ℕ, Bool, true, false, Result, Ok, Err, List}
 use Rattle.cds_markup.specs.declared.part.Part.{Part}
 use Rattle.cds_markup.specs.declared.error.MarkupError.{MarkupError}

@@ -14,7 +14,7 @@ use Rattle.cds_markup.specs.Values.{valuing, step_value}
 abbrev pub attr_of : QName → List ℕ → TagAttr
 attr_of q value = record { name = q; value = value }
 
--- Behind the name, and behind the equals sign.
+-- A character after the name, and one after the equals sign.
 abbrev pub named_step : QName → ℕ → Next Attributing TagAttr
 named_step q c = if is_blank c then On (AttrNamed q) else if c == 61 then On (Equals q) else Stuck
 
@@ -22,7 +22,7 @@ abbrev pub equals_step : QName → ℕ → Next Attributing TagAttr
 equals_step q c =
     if is_blank c then On (Equals q) else if is_quote c then On (Value q (valuing (c == 34) [] false None)) else Stuck
 
--- A name that goes on, or what stands behind it.
+-- A name that goes on, or what stands after it.
 abbrev pub named_or : {M A : Type 0} → Option Naming → (Naming → M) → Bool → Next M A → Next M A
 named_or (Some n) on whole behind = On (on n)
 named_or None on true behind = behind

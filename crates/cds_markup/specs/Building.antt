@@ -1,5 +1,5 @@
--- How parts are put together from the first to the last: the elements that are open, from the innermost, each with what
--- stood before it in the element around it, then what stands in the innermost so far, and a text that may go on.
+-- How parts are put together, from the first to the last. A state has the elements that are open, from the innermost, each with
+-- what stood before it in the element around it. Then it has what stands in the innermost so far, and a text that may go on.
 use Rattle.std.specs.Prelude.{◌≡◌, ℕ, if◌then◌else◌, Option, Some, None, List, [], ◌∷◌, ◌++◌, string_bytes}
 use Rattle.cds_markup.specs.declared.build.Builder.{Builder}
 use Rattle.cds_markup.specs.declared.build.Frame.{Frame}
@@ -17,7 +17,7 @@ pub record State : Type 0 where
   pub nodes : Meanings
   pub text : List ℕ
 
--- The text is kept in one place where it is one run, and in another where it is more.
+-- A text is kept in one place if it is one run, and in another if it is more.
 abbrev pub text_kept : List ℕ → List ℕ → List ℕ
 text_kept one [] = one
 text_kept one (b ∷ more) = b ∷ more
@@ -28,14 +28,14 @@ state_of b = record { frames = b.frames.items; nodes = b.nodes; text = text_kept
 abbrev pub state : List Frame → Meanings → List ℕ → State
 state frames nodes text = record { frames = frames; nodes = nodes; text = text }
 
--- The text goes to the nodes, where there is one.
+-- The text goes to the nodes, if there is one.
 abbrev pub and_text : Meanings → List ℕ → Meanings
 and_text nodes text = if is_empty text then nodes else and_node nodes (Text text)
 
 abbrev pub flushed : State → State
 flushed s = state s.frames (and_text s.nodes s.text) []
 
--- A start tag, the end of an element, and a run of text.
+-- What a start tag, the end of an element, and a run of text make of a state.
 abbrev pub opened : Name → List Attr → State → State
 opened name attrs s = state (record { name = name; attrs = attrs; before = s.nodes } ∷ s.frames) Childless []
 
@@ -58,7 +58,7 @@ abbrev pub built : State → List Part → State
 built s [] = s
 built s (part ∷ more) = built (with_part s part) more
 
--- The next part, where a builder takes it.
+-- A builder takes the next part.
 abbrev pub builds : Builder → Part → Builder → Type 0
 builds before part now = state_of now ≡ with_part (state_of before) part
 
@@ -69,7 +69,7 @@ nothing_yet = state [] Childless []
 abbrev pub built_as : Meaning → State
 built_as element = state [] (ChildThen element Childless) []
 
--- The first child, where it is an element.
+-- The first child, if it is an element.
 abbrev pub first_element : Meanings → Option Meaning
 first_element Childless = None
 first_element (TextThen text more) = None

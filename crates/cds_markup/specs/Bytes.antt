@@ -1,5 +1,5 @@
--- Documents byte by byte: characters come in bytes, and a byte that begins no character that may stand there is refused.
--- The rules of start tags and the depth are looked at beside the grammar.
+-- Documents byte by byte. Characters come in bytes, and a byte is refused if it begins no character that may stand there. The
+-- rules of start tags and the depth are looked at beside the grammar.
 use Rattle.std.specs.Prelude.{◌==◌, ℕ, ◌+◌, nat_lt, Bool, true, false, ◌&&◌, if◌then◌else◌, Option, Some, None, Result, Ok, Err, List, [], ◌∷◌, ◌++◌, drop, length, map, take}
 use Rattle.cds_base.specs.declared.limits.TheConstants.{INPUT_LIMIT}
 use Rattle.cds_base.specs.Characters.{begins_name}
@@ -29,7 +29,8 @@ use Rattle.cds_markup.specs.Decoding.{Step, any_at, is_within}
 use Rattle.cds_markup.specs.Turns.{Token, Started, Slash, begins_with}
 use Rattle.cds_markup.specs.Wholes.{Move, Stop as Stops, To, step}
 
--- What is read so far: the first bytes of a character that is not whole yet, and where the whole ones led.
+-- What is read so far: the first bytes of a character that is not whole yet, the state after the whole ones, and the open
+-- elements.
 pub record Reading : Type 0 where
   pub begun : List ℕ
   pub mode : Mode
@@ -38,7 +39,7 @@ pub record Reading : Type 0 where
 abbrev pub reading : List ℕ → Mode → List Open → Reading
 reading begun mode opens = record { begun = begun; mode = mode; opens = opens }
 
--- Whether characters of more than one byte may stand there: all of them, or none.
+-- Whether characters of more than one byte may stand in a state. Either all of them may, or none.
 abbrev pub is_none : Option Referring → Bool
 is_none None = true
 is_none (Some r) = false
@@ -76,7 +77,7 @@ takes_wide (Inside turn) = wide_turn turn
 takes_wide (Epilog m) = wide_misc false m
 takes_wide other = false
 
--- Whether these bytes may begin a character there. A byte order mark and an end tag's name are told byte by byte.
+-- Whether these bytes may begin a character in a state. A byte order mark and an end tag's name are compared byte by byte.
 abbrev pub end_begins : ℕ → List Open → List ℕ → Bool
 end_begins n [] bytes = false
 end_begins n (innermost ∷ outer) bytes = begins_with (drop n (name_bytes innermost.name)) bytes
@@ -90,7 +91,7 @@ may_begin Begin opens bytes = begins_with byte_order_mark bytes
 may_begin (Inside turn) opens bytes = turn_begins turn opens bytes
 may_begin mode opens bytes = takes_wide mode
 
--- Where a byte leads by the grammar alone.
+-- What a byte leads to by the grammar alone.
 abbrev pub Goes : Type 0
 Goes = Option (Reading × List Token)
 
@@ -106,7 +107,7 @@ go_on mode opens bytes (Err (b ∷ rest)) = None
 abbrev pub byte_step : Reading → ℕ → Goes
 byte_step r b = go_on r.mode r.opens (r.begun ++ b ∷ []) (any_at (r.begun ++ b ∷ []))
 
--- Where as many elements are open as may be, the first byte of a name stops it, also where its character is broken.
+-- If as many elements are open as may be, the first byte of a name stops the run, also if its character is broken.
 abbrev pub may_begin_name : ℕ → Bool
 may_begin_name b = if nat_lt b 128 then begins_name b else is_within 194 244 b
 
@@ -137,7 +138,7 @@ judged opens (Some found) = if breaks_rule opens found.1 then Err NamespaceRule 
 abbrev pub judge : Reading → ℕ → Result (Reading × List Token) Stop
 judge r b = if is_deep r b then Err Deep else judged r.opens (byte_step r b)
 
--- All bytes up to the first that stops it.
+-- All bytes up to the first that stops the run.
 abbrev pub Ran : Type 0
 Ran = Result Reading (Stop × ℕ)
 

@@ -1,5 +1,4 @@
--- Where the elements of a document stand, in the words of the grammar: a place among the parts is that of the element's own
--- bytes.
+-- The places of a document's elements, in the words of the grammar. A place among the parts is that of the element's own bytes.
 use Rattle.std.specs.Prelude.{◌≡◌, ℕ, ◌+◌, Some, List, [], ◌∷◌, ◌++◌, codes, length, slice_get}
 use Rattle.cds_markup.specs.declared.tag.Tag.{Tag}
 use Rattle.cds_markup.specs.Grammar.{Tree, Content, Nothing, LeafThen, TreeThen, IsTree, IsProlog, IsMisc}
@@ -13,7 +12,7 @@ trees_in Nothing = 0
 trees_in (LeafThen leaf more) = trees_in more
 trees_in (TreeThen tree more) = trees_in more + 1
 
--- Bytes of the grammar's element, the first of which is its `<`, stand behind these bytes, which lead there.
+-- The bytes of a tree as it is written, of which the first is its `<`, stand right after the bytes `before`.
 pub record StandsBehind (bytes before : List ℕ) (tree : Tree) (at : ℕ) : Type 0 where
   pub after_sign : List ℕ
   pub rest : List ℕ
@@ -21,8 +20,7 @@ pub record StandsBehind (bytes before : List ℕ) (tree : Tree) (at : ℕ) : Typ
   pub is_tree : IsTree tree (codes "<" ++ after_sign)
   pub place : at ≡ length before
 
--- The root stands at a place: behind what may stand before it, and with nothing behind it but what may stand there. It
--- says the document's element.
+-- The root stands at a place. Before it and after it is only what may stand there. It says the document's element.
 pub record RootStands (bytes : List ℕ) (element : Meaning) (at : ℕ) : Type 0 where
   pub root : Tree
   pub prolog : List ℕ
@@ -31,8 +29,8 @@ pub record RootStands (bytes : List ℕ) (element : Meaning) (at : ℕ) : Type 0
   pub is_epilog : IsMisc stands.rest tt
   pub means : meaning root [] ≡ Some element
 
--- The child element of the root that has so many before it stands at a place: behind the root's start tag and content in
--- which so many elements stand. It says that child of the document's element.
+-- The child of the root that has `number` elements before it stands at a place. Before it stand the root's start tag and content
+-- with this many elements. It says that child of the document's element.
 pub record ChildStands (bytes : List ℕ) (element : Meaning) (number at : ℕ) : Type 0 where
   pub root : Tag
   pub child : Tree
@@ -44,7 +42,7 @@ pub record ChildStands (bytes : List ℕ) (element : Meaning) (number at : ℕ) 
   pub means : meaning child (scopes_of (root ∷ [])) ≡ Some says
   pub among : slice_get (elements_in (nodes_in element)) number ≡ Some says
 
--- In a document of an element, what has the root's place is the root, and what has a child's place is that child.
+-- In a document of an element, what has the root's place is the root. What has a child's place is that child.
 pub record PlacesAreIn (bytes : List ℕ) (element : Meaning) : Type 0 where
   pub of_root : (at : ℕ) → IsRootPlace bytes at → RootStands bytes element at
   pub of_child : (number at : ℕ) → IsChildPlace bytes number at → ChildStands bytes element number at

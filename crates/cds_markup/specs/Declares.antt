@@ -1,4 +1,4 @@
--- The declaration, character by character, from behind its `<?`.
+-- The declaration, character by character, from after its `<?`.
 use Rattle.std.specs.Prelude.{◌==◌, ℕ, Bool, if◌then◌else◌, List, [], ◌∷◌, codes}
 use Rattle.cds_base.specs.Characters.{is_blank}
 use Rattle.cds_markup.specs.declared.mode.Stage.{Stage}
@@ -8,13 +8,13 @@ use Rattle.cds_markup.specs.declared.mode.Declaring.TheVariants.{Xml, Gap, PartN
 use Rattle.cds_markup.specs.Grammar.{is_quote, lower_case}
 use Rattle.cds_markup.specs.Next.{Next, Stuck, On, Done}
 
--- What may come behind a part.
+-- The part that may come after a part.
 abbrev pub behind : Stage → Stage
 behind Version = Encoding
 behind Encoding = Standalone
 behind other = Closing
 
--- What begins behind white space.
+-- What begins after white space.
 abbrev pub closing_step : ℕ → Next Declaring (Unit {0})
 closing_step c = if c == 63 then On Question else Stuck
 
@@ -27,7 +27,7 @@ begin_step Encoding c = if c == 101 then On (PartName Encoding (codes "ncoding")
 begin_step Standalone c = standalone_step c
 begin_step Closing c = closing_step c
 
--- What stands right behind a part: the end of the declaration may, but before the version.
+-- What stands right after a part. The declaration may end there, except before the version.
 abbrev pub right_step : Stage → ℕ → Next Declaring (Unit {0})
 right_step Version c = Stuck
 right_step other c = closing_step c
@@ -50,7 +50,7 @@ value_begins Encoding quote = On (PartValue Encoding quote (codes "utf-8"))
 value_begins Standalone quote = On (YesOrNo quote)
 value_begins Closing quote = Stuck
 
--- A letter of a part's value: that of the encoding in either case.
+-- A letter of a part's value. For the encoding either case is right.
 abbrev pub is_letter : Stage → ℕ → ℕ → Bool
 is_letter Encoding b c = lower_case c == b
 is_letter other b c = c == b

@@ -1,8 +1,8 @@
--- How characters come in bytes.
+-- How characters come in bytes (UTF-8).
 use Rattle.std.specs.Prelude.{◌==◌, ℕ, ◌+◌, ◌-◌, ◌*◌, nat_lt, nat_le, Bool, ◌&&◌, ◌||◌, if◌then◌else◌, Result, Ok, Err, List, [], ◌∷◌}
 use Rattle.cds_base.specs.Characters.{is_allowed}
 
--- A value and what is left, or what is left from the first byte on that cannot stand where it stands.
+-- A value and what is left. Otherwise what is left, from the first byte on that cannot stand there.
 abbrev pub Step : Type 0 → Type 0
 Step A = Result (A × List ℕ) (List ℕ)
 
@@ -14,8 +14,8 @@ abbrev pub byte_at : (ℕ → Bool) → List ℕ → Step ℕ
 byte_at test [] = Err []
 byte_at test (b ∷ rest) = if test b then Ok (b, rest) else Err (b ∷ rest)
 
--- The bytes behind the first of a character of more than one byte (Unicode's table of well-formed sequences). U+FFFE
--- and U+FFFF, which are not allowed, are left out.
+-- The bytes after the first of a character of more than one byte (Unicode's table of well-formed sequences). U+FFFE and U+FFFF
+-- are left out, since they are not allowed.
 abbrev pub second_low : ℕ → ℕ
 second_low a = if a == 224 then 160 else if a == 240 then 144 else 128
 

@@ -17,13 +17,13 @@ mutual
     TextThen : List ℕ → Meanings → Meanings
     ChildThen : Meaning → Meanings → Meanings
 
--- The bytes without a line feed that begins them.
+-- The bytes without the line feed that they begin with, if they do.
 abbrev pub without_feed : List ℕ → List ℕ
 without_feed [] = []
 without_feed (b ∷ rest) = if b == 10 then rest else b ∷ rest
 
--- A carriage return and a line feed, and a lone carriage return, are one line feed each (XML 1.0 on line ends): the
--- line feed right behind a carriage return is left out, and each carriage return is a line feed.
+-- Each line end is one line feed, be it a carriage return and a line feed or a lone carriage return (XML 1.0 on line ends). The
+-- line feed right after a carriage return is left out, and each carriage return becomes a line feed.
 abbrev pub return_before : ℕ → List ℕ → List ℕ
 return_before b rest = if b == 13 then b ∷ without_feed rest else b ∷ rest
 
@@ -41,12 +41,12 @@ leaf_says (Reference c) = encode_utf8 c
 leaf_says (Section text) = line_ends text
 leaf_says Comment = []
 
--- A text before other children: an empty one is no child, and neighbouring ones are one.
+-- A text before other children. An empty one is no child. A text right after it is joined to it.
 abbrev pub joined : List ℕ → Meanings → Meanings
 joined text (TextThen more children) = TextThen (text ++ more) children
 joined text children = if is_empty text then children else TextThen text children
 
--- The meaning of an element within scopes, where all its start tags keep the rules.
+-- The meaning of an element within scopes, if all its start tags keep the rules.
 abbrev pub and_joined : List ℕ → Option Meanings → Option Meanings
 and_joined text None = None
 and_joined text (Some children) = Some (joined text children)
@@ -71,7 +71,7 @@ abbrev mutual
   meanings (LeafThen leaf more) scopes = and_joined (leaf_says leaf) (meanings more scopes)
   meanings (TreeThen tree more) scopes = and_children (meaning tree scopes) (meanings more scopes)
 
--- How many elements are open at most at one place of it.
+-- The greatest number of elements that are open at one place of it.
 abbrev mutual
   pub depth : Tree → ℕ
   depth (EmptyElement t) = 1
@@ -82,15 +82,15 @@ abbrev mutual
   depths (LeafThen leaf more) = depths more
   depths (TreeThen tree more) = max (depth tree) (depths more)
 
--- The most elements that may be open: this project's profile. The most bytes that a document may have are `INPUT_LIMIT`,
--- for which proofs say `most_bytes`.
+-- The most elements that may be open, in this project's profile. The most bytes that a document may have are `INPUT_LIMIT`, which
+-- proofs call `most_bytes`.
 abbrev pub most_open : ℕ
 most_open = 16
 
 abbrev pub most_bytes : ℕ
 most_bytes = INPUT_LIMIT
 
--- The bytes are a document with this root as it is written, and this element is what it means.
+-- The bytes are a document with this root as it is written. This element is what it means, and both limits are kept.
 pub record DocOf (bytes : List ℕ) (root : Tree) (element : Meaning) : Type 0 where
   pub document : IsDocument bytes root
   pub means : meaning root [] ≡ Some element

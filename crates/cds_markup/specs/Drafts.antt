@@ -1,4 +1,4 @@
--- Texts of documents that are written with prefixes: trees of tags as they stand and of texts, which are escaped.
+-- Texts of documents that are written with prefixes: trees of tags as they stand, and of texts, which are escaped.
 use Rattle.std.specs.Prelude.{◌≡◌, ◌++◌, ◌≤◌, ℕ, suc, max, Bool, true, false, Option, Some, List, [], ◌∷◌, codes, length}
 use Rattle.std.specs.List.{AllByRecursion}
 use Rattle.cds_base.specs.declared.limits.TheConstants.{INPUT_LIMIT}
@@ -31,7 +31,7 @@ abbrev mutual
   drafted_in (TextThen text more) = escaped text ++ drafted_in more
   drafted_in (DraftThen draft more) = drafted draft ++ drafted_in more
 
--- The element that it says in the scopes of the elements around it, where its tags keep the rules.
+-- The element that it says in the scopes of the elements around it, if its tags keep the rules.
 abbrev mutual
   pub draft_says : List (List Declaration) → Draft → Option Meaning
   draft_says scopes (Tagged tag inside) = of_tag (tag_says scopes tag) (drafts_say (declarations tag.attrs ∷ scopes) inside)
@@ -41,7 +41,7 @@ abbrev mutual
   drafts_say scopes (TextThen text more) = and_joined text (drafts_say scopes more)
   drafts_say scopes (DraftThen draft more) = and_children (draft_says scopes draft) (drafts_say scopes more)
 
--- How many elements are open at most at one place of it.
+-- The greatest number of elements that are open at one place of it.
 abbrev mutual
   pub draft_depth : Draft → ℕ
   draft_depth (Tagged tag inside) = suc (drafts_depth inside)
@@ -74,7 +74,7 @@ abbrev mutual
   CanBeDrafts (TextThen text more) = AreAllowed text × (begins_with_text more ≡ false) × CanBeDrafts more
   CanBeDrafts (DraftThen draft more) = CanBeDraft draft × CanBeDrafts more
 
--- A draft that can be written behind some bytes within the limits.
+-- A draft that can be written after some bytes within the limits.
 pub record CanBeDrafted (front : List ℕ) (draft : Draft) : Type 0 where
   pub can_be : CanBeDraft draft
   pub within : draft_depth draft ≤ most_open
@@ -84,7 +84,8 @@ pub record CanBeDrafted (front : List ℕ) (draft : Draft) : Type 0 where
 abbrev pub version_declared : List ℕ
 version_declared = codes "<?xml version=\"1.0\"?>"
 
--- What is written of a draft that says an element is a document of it, also behind the declaration of the version.
+-- Let a draft say an element. Then the written draft is a document of the element, with or without the declaration of the version
+-- before it.
 abbrev pub DraftsAreRead : Type 0
 DraftsAreRead =
     ((draft : Draft) (element : Meaning) → CanBeDrafted [] draft → draft_says [] draft ≡ Some element → Doc (drafted draft) element)

@@ -1,4 +1,4 @@
--- What elements as the calls have them mean.
+-- What elements mean, in the form that the calls have them.
 use Rattle.std.specs.Prelude.{List, [], ◌∷◌}
 use Rattle.cds_markup.specs.declared.element.Node.{Node}
 use Rattle.cds_markup.specs.declared.element.Node.TheVariants.{Text, Child}
@@ -18,7 +18,7 @@ children_then End more = more
 children_then (TextThen text children) more = TextThen text (children_then children more)
 children_then (ChildThen child children) more = ChildThen child (children_then children more)
 
--- Children with one more behind them.
+-- Children with one more after them.
 abbrev pub and_node : Meanings → Node → Meanings
 and_node children node = children_then children (meanings_of (node ∷ []))
 

@@ -16,7 +16,7 @@ pub record Character (test : ℕ → Bool) (bytes : List ℕ) (c : ℕ) : Type 0
   pub allowed : is_allowed c ≡ true
   pub passes : test c ≡ true
 
--- One form and behind it another, which may depend on what the first says. They say what the second says.
+-- One form and after it another, which may depend on what the first says. They say what the second says.
 pub record Then {A B : Type 0} (G : List ℕ → A → Type 0) (H : A → List ℕ → B → Type 0) (bytes : List ℕ) (said : B) : Type 0 where
   pub front : List ℕ
   pub back : List ℕ
@@ -29,7 +29,7 @@ pub record Then {A B : Type 0} (G : List ℕ → A → Type 0) (H : A → List �
 abbrev pub Says : {A : Type 0} → A → List ℕ → A → Type 0
 Says value bytes said = (bytes ≡ []) × (said ≡ value)
 
--- Any number of one form, one behind another.
+-- Any number of one form, one after another.
 abbrev pub Many : {A : Type 0} → (List ℕ → A → Type 0) → List ℕ → List A → Type 0
 Many G bytes [] = bytes ≡ []
 Many G bytes (said ∷ more) = (front : List ℕ) × (back : List ℕ) × (bytes ≡ front ++ back) × G front said × Many G back more

@@ -1,4 +1,4 @@
--- The parts of bytes as far as nothing refuses them: those up to a place of the grammar, behind which no others come.
+-- The parts of bytes as far as nothing refuses them. They are those up to a place of the grammar, after which no others come.
 use Rattle.std.specs.Prelude.{◌≡◌, ◌≢◌, ⊤, ℕ, ◌+◌, ◌<◌, ◌≤◌, Bool, false, ◌⊎◌, Some, Result, Ok, Err, List, [], ◌∷◌, ◌++◌, codes, length}
 use Rattle.cds_base.specs.declared.limits.TheConstants.{INPUT_LIMIT}
 use Rattle.cds_markup.specs.declared.name.Name.{Name}
@@ -16,7 +16,7 @@ use Rattle.cds_markup.specs.Refusal.{scopes_of, IsRefused}
 use Rattle.cds_markup.specs.Taking.{Takes, Answered}
 use Rattle.cds_markup.specs.Parts.{first_non_blank, TreeParts, OpensParts, DocumentParts, Says}
 
--- The root that is over there.
+-- The bytes end right after the root. The parts are those of the root.
 pub record RootEnds (front : List ℕ) (parts : List Part) : Type 0 where
   pub root : Tree
   pub prolog : List ℕ
@@ -34,7 +34,7 @@ ends_with_text (LeafThen leaf (LeafThen next more)) = ends_with_text (LeafThen n
 ends_with_text (LeafThen leaf (TreeThen tree more)) = ends_with_text (TreeThen tree more)
 ends_with_text (TreeThen tree more) = ends_with_text more
 
--- The `/` that ends the start tag of an empty element, whose `>` is still to come.
+-- The bytes end with the `/` of an empty element's tag, whose `>` is still to come.
 pub record SlashEnds (front : List ℕ) (parts : List Part) : Type 0 where
   pub tags : List Tag
   pub before : List ℕ
@@ -52,7 +52,7 @@ pub record SlashEnds (front : List ℕ) (parts : List Part) : Type 0 where
   pub room : length tags < most_open
   pub is : parts ≡ earlier ++ Start (length before) end name attrs ∷ []
 
--- Whole characters of a literal text, of which there may be none, and the first bytes of one more, but not all.
+-- The bytes end with whole characters of a literal text, perhaps none, and the first bytes of one more, but not all of them.
 abbrev pub IsPlain : List ℕ → Type 0
 IsPlain bytes = Without (codes "]]>") is_in_text bytes bytes
 
@@ -73,13 +73,14 @@ pub record TextCut (front : List ℕ) (parts : List Part) : Type 0 where
   pub cut : IsBegun begun
   pub is : parts ≡ earlier ++ Run (length before) (first_non_blank (length before) (text ++ begun)) (line_ends text) ∷ []
 
--- The parts up to a place that the grammar tells: before or inside the root, right behind it, or at one of these two.
+-- The parts up to a place that the grammar tells. It is before or inside the root, right after it, after such a `/`, or inside
+-- such a cut character.
 abbrev pub PartsTo : List ℕ → List Part → Type 0
 PartsTo front parts =
     ((tags : List Tag) × OpensParts tags front parts)
     ⊎ (RootEnds front parts ⊎ (SlashEnds front parts ⊎ TextCut front parts))
 
--- The parts of bytes: those up to a place within the limit, and further on there are no others.
+-- The parts of bytes: those up to a place within the limit. Any such place further on has the same parts.
 pub record Given (bytes : List ℕ) (parts : List Part) : Type 0 where
   pub front : List ℕ
   pub rest : List ℕ
@@ -89,8 +90,8 @@ pub record Given (bytes : List ℕ) (parts : List Part) : Type 0 where
   pub last : (other back : List ℕ) (others : List Part) → bytes ≡ other ++ back → length front ≤ length other → length other ≤ INPUT_LIMIT
       → PartsTo other others → others ≡ parts
 
--- What reading the parts of bytes answers, and the parts that it adds to those before: of a document those of its root,
--- which nested are its element. Want of memory says nothing of the bytes and adds none.
+-- What reading the parts of bytes answers, and the parts that it adds to those before. Of a document these are the parts of its
+-- root, which nested are its element. `Mem` says nothing of the bytes and adds none.
 abbrev pub Tells : List ℕ → Result (Unit {0}) MarkupError → List Part → List Part → Type 0
 Tells bytes (Err Mem) before parts = parts ≡ before
 Tells bytes (Err refusal) before parts = (found : List Part) × (parts ≡ before ++ found) × Given bytes found × IsRefused bytes refusal
@@ -98,8 +99,7 @@ Tells bytes (Ok done) before parts =
     (found : List Part) × (parts ≡ before ++ found) × Given bytes found × (element : Meaning) × Doc bytes element
     × DocumentParts bytes found × Says found element
 
--- The same where something takes the parts one by one, until it has enough: it is told in this relation what a part makes of
--- it. Want of memory says nothing.
+-- The same if something takes the parts one by one, until it has enough. `took` says what a part makes of it. `Mem` says nothing.
 abbrev pub TellsTo : {S : Type 0} → (S → Part → S → Type 0) → (S → Bool) → List ℕ → Result (Unit {0}) MarkupError → S → S → Type 0
 TellsTo took enough bytes (Err Mem) before now = ⊤
 TellsTo took enough bytes result before now =

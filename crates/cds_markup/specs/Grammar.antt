@@ -1,6 +1,6 @@
--- The grammar of documents, which is this project's profile of XML 1.0: in UTF-8, without document types, processing
--- instructions and entities of one's own, with every allowed character from U+0080 on in names, and with comments
--- that may end in a dash. Each definition is one row of it.
+-- The grammar of documents, which is this project's profile of XML 1.0. It is in UTF-8, and leaves out document types, processing
+-- instructions and a document's own entities. Names may have every allowed character from U+0080 on, and comments may end in a
+-- dash. Each definition is one row of it.
 use Rattle.std.specs.Prelude.{◌≡◌, ◌≢◌, ◌==◌, ℕ, ◌+◌, nat_le, Bool, true, false, not, ◌&&◌, ◌||◌, if◌then◌else◌, ◌⊎◌, Option, Some, None, List, [], ◌∷◌, ◌++◌, codes, map, encode_utf8}
 use Rattle.std.specs.List.{starts_with, flat_map}
 use Rattle.cds_markup.specs.declared.tag.QName.{QName}
@@ -12,7 +12,7 @@ use Rattle.cds_base.specs.Characters.{is_blank, begins_name, is_in_name}
 use Rattle.cds_base.specs.Reference.{IsReference}
 use Rattle.cds_markup.specs.Form.{Word, Byte, Character, Then, Says, Many, Maybe, Raw}
 
--- White space that may be missing, and white space that may not. They say nothing.
+-- White space that may be missing, and white space that has at least one character. They say nothing.
 abbrev pub IsBlanks : List ℕ → Unit {0} → Type 0
 IsBlanks = Then (Many (Byte is_blank)) (λ blanks. Says tt)
 
@@ -27,7 +27,7 @@ IsEquals = Then IsBlanks (λ before. Then (Word (codes "=")) (λ sign. IsBlanks)
 abbrev pub IsName : List ℕ → List ℕ → Type 0
 IsName = Raw (Then (Character begins_name) (λ first. Many (Character is_in_name)))
 
--- A name, or two with a colon between: the prefix and the local name.
+-- A name, or two with a colon between them: the prefix and the local name.
 abbrev pub qualified : List ℕ → Option (List ℕ) → QName
 qualified first None = record { prefix = []; local = first }
 qualified first (Some second) = record { prefix = first; local = second }
@@ -45,8 +45,8 @@ written_name (first ∷ rest) local = (first ∷ rest) ++ codes ":" ++ local
 abbrev pub name_bytes : QName → List ℕ
 name_bytes q = written_name q.prefix q.local
 
--- A piece of an attribute's value: a character that stands there itself, or one that is referred to.
--- Neither the quote that ends the value, nor what begins tags and references.
+-- A piece of an attribute's value: a character that stands there itself, or one that is referred to. The first kind leaves out
+-- the quote that ends the value, `<` and `&`.
 abbrev pub is_in_value : ℕ → ℕ → Bool
 is_in_value quote c = not (c == quote) && (not (c == 60) && not (c == 38))
 
@@ -57,17 +57,17 @@ IsValuePiece quote bytes (Referred c) = IsReference bytes c
 abbrev pub is_quote : ℕ → Bool
 is_quote b = b == 34 || b == 39
 
--- What a piece of a value says: white space that stands there itself is a space.
+-- What a piece of a value says. White space that stands there itself says a space.
 abbrev pub piece_says : ValuePiece → List ℕ
 piece_says (Literal c) = if is_blank c then (32 ∷ []) else encode_utf8 c
 piece_says (Referred c) = encode_utf8 c
 
--- A literal carriage return with a literal line feed right behind it.
+-- A literal carriage return with a literal line feed right after it.
 abbrev pub is_line_end : ValuePiece → ValuePiece → Bool
 is_line_end (Literal c) (Literal d) = c == 13 && d == 10
 is_line_end first second = false
 
--- The pieces with one piece for each such line end.
+-- The pieces with only the first piece of each such line end.
 abbrev pub and_behind : ValuePiece → List ValuePiece → List ValuePiece
 and_behind first [] = first ∷ []
 and_behind first (second ∷ rest) = if is_line_end first second then first ∷ rest else first ∷ second ∷ rest
@@ -102,7 +102,7 @@ IsTag =
     Then (Many (Then IsSpace (λ space. IsTagAttr))) (λ attrs.
     Then IsBlanks (λ blanks. Says (record { name = name; attrs = attrs }))))
 
--- Whether the word, which is not empty, stands somewhere in the bytes.
+-- Whether this word, which is not empty, stands anywhere in the bytes.
 abbrev pub contains : List ℕ → List ℕ → Bool
 contains word [] = false
 contains word (b ∷ rest) = starts_with (λ x y. x == y) (b ∷ rest) word || contains word rest
@@ -110,7 +110,7 @@ contains word (b ∷ rest) = starts_with (λ x y. x == y) (b ∷ rest) word || c
 abbrev pub is_any : ℕ → Bool
 is_any c = true
 
--- Allowed characters that pass a test, among which a word does not stand. They say their bytes.
+-- Allowed characters that pass a test, among which the word does not stand. They say their bytes.
 pub record Without (word : List ℕ) (test : ℕ → Bool) (bytes text : List ℕ) : Type 0 where
   pub says : text ≡ bytes
   pub characters : List ℕ
@@ -159,7 +159,7 @@ mutual
     LeafThen : Leaf → Content → Content
     TreeThen : Tree → Content → Content
 
--- Two literal texts do not stand side by side: they would be one.
+-- Two literal texts never stand side by side, since they would be one.
 abbrev pub is_text : Leaf → Bool
 is_text (Text text) = true
 is_text other = false
@@ -168,7 +168,7 @@ abbrev pub begins_with_text : Content → Bool
 begins_with_text (LeafThen leaf more) = is_text leaf
 begins_with_text other = false
 
--- The tags of an element. White space may end an end tag.
+-- The tags of an element. White space may stand before the `>` of an end tag.
 abbrev pub IsEmptyTag : List ℕ → Tag → Type 0
 IsEmptyTag = Then (Word (codes "<")) (λ opening. Then IsTag (λ t. Then (Word (codes "/>")) (λ closing. Says t)))
 
@@ -207,11 +207,11 @@ IsMiscPiece bytes MiscComment = IsComment bytes tt
 abbrev pub IsMisc : List ℕ → Unit {0} → Type 0
 IsMisc = Then (Many IsMiscPiece) (λ pieces. Says tt)
 
--- An ASCII letter in lower case.
+-- An ASCII letter comes in lower case.
 abbrev pub lower_case : ℕ → ℕ
 lower_case b = if nat_le 65 b && nat_le b 90 then b + 32 else b
 
--- A word, whatever the case of its ASCII letters. The word itself is in lower case.
+-- A word in any case of its ASCII letters. The word itself is in lower case.
 abbrev pub AnyCase : List ℕ → List ℕ → Unit {0} → Type 0
 AnyCase word bytes said = map lower_case bytes ≡ word
 
@@ -219,14 +219,14 @@ AnyCase word bytes said = map lower_case bytes ≡ word
 abbrev pub IsQuoted : (List ℕ → Unit {0} → Type 0) → List ℕ → Unit {0} → Type 0
 IsQuoted G = Then (Byte is_quote) (λ quote. Then G (λ inside. Then (Byte (λ b. b == quote)) (λ same. Says tt)))
 
--- A part of the declaration: a word, an equals sign and what is quoted behind it.
+-- A part of the declaration: a word, an equals sign and what is quoted after it.
 abbrev pub IsPseudoAttr : List ℕ → (List ℕ → Unit {0} → Type 0) → List ℕ → Unit {0} → Type 0
 IsPseudoAttr word G = Then IsSpace (λ space. Then (Word word) (λ name. Then IsEquals (λ sign. IsQuoted G)))
 
 abbrev pub IsYesOrNo : List ℕ → Unit {0} → Type 0
 IsYesOrNo bytes said = (bytes ≡ codes "yes") ⊎ (bytes ≡ codes "no")
 
--- The declaration: the version, and where they stand the encoding and whether the document stands alone.
+-- The declaration: the version, then perhaps the encoding, then perhaps whether the document stands alone.
 abbrev pub IsDeclaration : List ℕ → Unit {0} → Type 0
 IsDeclaration =
     Then (Word (codes "<?xml")) (λ opening.
@@ -235,7 +235,7 @@ IsDeclaration =
     Then (Maybe (IsPseudoAttr (codes "standalone") IsYesOrNo)) (λ standalone.
     Then IsBlanks (λ blanks. Word (codes "?>"))))))
 
--- What stands before the root: a byte order mark, a declaration, white space and comments, all of which may be missing.
+-- What stands before the root: a byte order mark, a declaration, white space and comments. Each of them may be missing.
 abbrev pub byte_order_mark : List ℕ
 byte_order_mark = 239 ∷ 187 ∷ 191 ∷ []
 

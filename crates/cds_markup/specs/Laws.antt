@@ -14,9 +14,8 @@ use Rattle.cds_markup.specs.GivenParts.{ends_with_text, RootEnds, SlashEnds, Par
 use Rattle.cds_markup.specs.PartsFound.{Clear, Stands, TagGiven, PartsGiven, TextGiven}
 use Rattle.cds_markup.specs.Building.{built, nothing_yet, built_as}
 
--- What reading any bytes answers is what the grammar says of them: an element exactly where they are a document, and a
--- refusal exactly where they are refused so; and bytes are a document of one element at most, which is what their parts
--- say.
+-- What reading any bytes answers is what the grammar says of them. It is an element exactly if they are a document. It is a
+-- refusal exactly if they are refused so. Bytes are a document of at most one element, which their parts say.
 pub record ReadAs (bytes : List ℕ) : Type 0 where
   pub whole : (element : Meaning) → Doc bytes element → (answer_to bytes ≡ Ok tt) × Says (parts_in bytes) element
   pub document : answer_to bytes ≡ Ok tt → (element : Meaning) × Doc bytes element
@@ -26,7 +25,7 @@ pub record ReadAs (bytes : List ℕ) : Type 0 where
 abbrev pub DocumentsAreRead : Type 0
 DocumentsAreRead = (bytes : List ℕ) → ReadAs bytes
 
--- A document is one of one element.
+-- A document is of one element.
 abbrev pub OneElement : Type 0
 OneElement = (bytes : List ℕ) (one other : Meaning) → Doc bytes one → Doc bytes other → one ≡ other
 
@@ -40,7 +39,7 @@ OneAnswer =
     (bytes : List ℕ) (r : MarkupError) → IsRefused bytes r → r ≢ Mem
     → ((element : Meaning) → Doc bytes element → ⊥) × ((other : MarkupError) → IsRefused bytes other → other ≢ Mem → other ≡ r)
 
--- The parts that reading gives are these, of any bytes.
+-- The parts that reading any bytes gives are their parts.
 abbrev pub PartsAreGiven : Type 0
 PartsAreGiven = (bytes : List ℕ) → Given bytes (parts_in bytes)
 
@@ -48,8 +47,8 @@ PartsAreGiven = (bytes : List ℕ) → Given bytes (parts_in bytes)
 abbrev pub PartsStandBefore : Type 0
 PartsStandBefore = (front : List ℕ) (parts : List Part) → length front ≤ INPUT_LIMIT → PartsTo front parts → Given front parts
 
--- Each part stands in the bytes, and each start tag, each reference, each section and each text that is found where nothing
--- refuses them is among the parts.
+-- Each part stands in the bytes. Among the parts is each start tag, reference, section and text that is found while nothing
+-- refuses the bytes.
 pub record AreFound (bytes : List ℕ) (parts : List Part) : Type 0 where
   pub each : (earlier later : List Part) (part : Part) → parts ≡ earlier ++ part ∷ later → Stands bytes earlier part
   pub starts : (tags : List Tag) (begin at : ℕ) (tag : Tag) → (found : TagEnds bytes tags begin at tag) → Clear bytes at
@@ -61,7 +60,7 @@ pub record AreFound (bytes : List ℕ) (parts : List Part) : Type 0 where
 abbrev pub PartsAreFound : Type 0
 PartsAreFound = (bytes : List ℕ) (parts : List Part) → Given bytes parts → AreFound bytes parts
 
--- The parts up to a place at which no literal text ends begin the parts of all bytes that begin so.
+-- Take the parts up to a place at which no literal text ends. They begin the parts of all bytes that begin so.
 abbrev pub EndsNoText : (tags : List Tag) (front : List ℕ) (parts : List Part) → OpensParts tags front parts → Type 0
 EndsNoText [] front parts opens = ⊤
 EndsNoText (t ∷ outer) front parts opens = ends_with_text opens.6 ≡ false
@@ -78,12 +77,12 @@ LeavesHaveOneEnd =
     (bytes : List ℕ) (tags others : List Tag) (begin at end : ℕ) (leaf other : Leaf) → LeafEnds bytes tags begin at leaf → is_text leaf ≡ false
     → LeafEnds bytes others begin end other → is_text other ≡ false → end ≡ at
 
--- The parts of a document are those of whichever root its bytes are.
+-- Whichever root the bytes of a document are, its parts are those of that root.
 abbrev pub PartsAreOfRoots : Type 0
 PartsAreOfRoots =
     (bytes : List ℕ) (root : Tree) (element : Meaning) → DocOf bytes root element → (d : DocumentParts bytes (parts_in bytes)) × (d.root ≡ root)
 
--- The parts of bytes are one list: what stands at its place by the grammar is told by the bytes alone.
+-- The parts of bytes are one list. The bytes alone tell what stands at its place by the grammar.
 abbrev pub PartsAreOne : Type 0
 PartsAreOne = (bytes : List ℕ) (one other : List Part) → Given bytes one → Given bytes other → one ≡ other
 
@@ -101,16 +100,16 @@ OneTelling =
     (bytes : List ℕ) (result : Result (Unit {0}) MarkupError) (parts : List Part) → Tells bytes result [] parts → result ≢ Err Mem
     → (result ≡ answer_to bytes) × (parts ≡ parts_in bytes)
 
--- What all bytes are answered and the parts that reading gives of them are what is told.
+-- What is told of all bytes is what they are answered and the parts that reading gives of them.
 abbrev pub AllIsTold : Type 0
 AllIsTold = (bytes : List ℕ) → Tells bytes (answer_to bytes) [] (parts_in bytes)
 
--- By the grammar alone, whatever the depth and the rules of start tags: a document goes on from the bytes, or there is a
--- first byte with which none does.
+-- By the grammar alone, whatever the depth and the rules of start tags, one of two holds. A document goes on from the bytes, or
+-- there is a first byte with which none does.
 abbrev pub GoOnOrBreak : Type 0
 GoOnOrBreak = (bytes : List ℕ) → CanGoOn bytes ⊎ ((at : ℕ) × BreaksAt bytes at)
 
--- What comes behind more bytes than may be changes nothing.
+-- If there are more bytes than may be, what comes after them changes nothing.
 abbrev pub NothingCountsPastTheLimit : Type 0
 NothingCountsPastTheLimit =
     (bytes more : List ℕ) → INPUT_LIMIT < length bytes → (answer_to (bytes ++ more) ≡ answer_to bytes) × (parts_in (bytes ++ more) ≡ parts_in bytes)

@@ -1,4 +1,4 @@
--- The parts of bytes along the run of the machine: where each begins, and what it says.
+-- The parts of bytes along the run of the machine: the place of each, and what it says.
 use Rattle.std.specs.Prelude.{◌≡◌, ◌==◌, ℕ, ◌+◌, ◌-◌, Bool, true, false, not, ◌&&◌, if◌then◌else◌, Option, Some, None, Result, Ok, Err, List, [], ◌∷◌, ◌++◌, length, take, encode_utf8, ⊤}
 use Rattle.cds_base.specs.declared.limits.TheConstants.{INPUT_LIMIT}
 use Rattle.cds_base.specs.declared.mem.Mem.{Mem}
@@ -20,7 +20,7 @@ use Rattle.cds_markup.specs.Wholes.{is_content}
 use Rattle.cds_markup.specs.Bytes.{Reading, judge, nothing_read}
 use Rattle.cds_markup.specs.Reads.{said_as}
 
--- Between what parts are made of, before the root or inside it.
+-- Whether the state is between the things that parts are made of, before the root or inside it.
 abbrev pub is_between : Mode → Bool
 is_between Begin = true
 is_between Marked = true
@@ -28,7 +28,7 @@ is_between (Prolog Blanks) = true
 is_between (Inside turn) = is_content turn
 is_between other = false
 
--- A literal text so far: where it begins, the place of its first character that is no blank, what it says, and whether a
+-- A literal text so far: its place, the place of its first character that is not white space, what it says, and whether a
 -- carriage return stands right before.
 abbrev pub open_text : ℕ → OpenText
 open_text at = record { at = at; non_blank = None; said = []; behind_return = false }
@@ -58,7 +58,7 @@ text_or at None = open_text at
 abbrev pub letter_in : Marks → ℕ → ℕ → Marks
 letter_in m at c = marks m.begin (Some (text_with (text_or at m.text) at c))
 
--- The part that a text is where it ends; one of which the first bytes of a character came behind the whole ones has it.
+-- The part that a text is at its end. If the first bytes of one more character came, that character counts as not white space.
 abbrev pub run_of : OpenText → Part
 run_of t = Run t.at t.non_blank t.said
 
@@ -72,7 +72,7 @@ ended_text m = ended_part m.text
 abbrev pub begun_text : ℕ → OpenText → OpenText
 begun_text at t = record { at = t.at; non_blank = or_here t.non_blank false at; said = t.said; behind_return = t.behind_return }
 
--- The same text where what it says so far was given, behind which nothing is said yet.
+-- The same text once what it says so far was given. After that nothing is said yet.
 abbrev pub rest_of : OpenText → OpenText
 rest_of t = record { at = t.at; non_blank = None; said = []; behind_return = t.behind_return }
 
@@ -80,7 +80,7 @@ abbrev pub goes_on_as : Bool → ℕ → Option OpenText → Option OpenText
 goes_on_as cut first (Some t) = Some (rest_of t)
 goes_on_as cut first None = if cut then Some (open_text first) else None
 
--- What the end of what is read makes of the text that is open: the first bytes of a character may stand behind it.
+-- What the end of what is read makes of the open text. The first bytes of a character may stand after it.
 abbrev pub is_in_content : Mode → Bool
 is_in_content (Inside turn) = is_content turn
 is_in_content other = false
@@ -94,7 +94,7 @@ last_part cut first m = if cut then run_of (begun_text first (text_or first m.te
 abbrev pub last_text : Reading → Marks → ℕ → List Part
 last_text r m at = last_part (cuts_text r) (at - length r.begun) m
 
--- What a byte completes: of its character, the first byte is at `first`.
+-- What the byte at `at` completes. The first byte of its character is at `first`.
 abbrev pub completed : Marks → ℕ → ℕ → Event → List Part × Marks
 completed m at first (Letter c) = ([], letter_in m first c)
 completed m at first (Referred c) = (Run m.begin (Some m.begin) (encode_utf8 c) ∷ [], m)
@@ -133,7 +133,7 @@ parts_from r m at (b ∷ w) =
 unfoldable pub parts_of : List ℕ → List Part
 parts_of bytes = parts_from nothing_read (marks 0 None) 0 (take INPUT_LIMIT bytes)
 
--- What a method that ends a text, or completes a part, answers.
+-- What a method answers that ends a text or completes a part.
 abbrev pub EndsSo : List Part → Option Part → Type 0
 EndsSo parts None = parts ≡ []
 EndsSo parts (Some part) = parts ≡ part ∷ []

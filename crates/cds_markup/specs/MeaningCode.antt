@@ -1,4 +1,4 @@
--- Elements as lists of marks: an opening with its name and attributes, a text, or a closing. A proof tells elements
+-- Elements as lists of marks. A mark is an opening with its name and attributes, a text, or a closing. A proof tells elements
 -- apart by these.
 use Rattle.std.specs.Prelude.{◌≡◌, ◌⊎◌, ℕ, List, [], ◌∷◌, refl}
 use Rattle.std.specs.Coded.{Coded, code_by, coded×, coded⊎, coded_list, coded_ℕ}

@@ -14,7 +14,7 @@ naming first second = record { first = first; second = second }
 abbrev pub name_begun : ℕ → Naming
 name_begun c = naming (encode_utf8 c) None
 
--- A character goes on a name, or does not belong to it.
+-- A character that goes on with a name, or does not belong to it.
 abbrev pub goes_with : List ℕ → Option (List ℕ) → ℕ → Option Naming
 goes_with first None c =
     if is_in_name c then Some (naming (first ++ encode_utf8 c) None)
@@ -26,7 +26,7 @@ goes_with first (Some (b ∷ more)) c = if is_in_name c then Some (naming first 
 abbrev pub goes_on : Naming → ℕ → Option Naming
 goes_on n c = goes_with n.first n.second c
 
--- Right behind a colon a name is to come.
+-- A name may end unless it is right after a colon.
 abbrev pub is_whole : Option (List ℕ) → Bool
 is_whole (Some []) = false
 is_whole second = true

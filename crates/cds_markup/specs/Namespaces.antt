@@ -1,5 +1,5 @@
--- Names with their namespaces (Namespaces in XML), and the rules that a start tag keeps. In this project's profile `xml` is
--- not declared, not even with its own name, and other prefixes may be declared with any name that is not empty.
+-- Names with their namespaces (Namespaces in XML), and the rules that a start tag keeps. In this project's profile `xml` is never
+-- declared, not even with its own name. Other prefixes may be declared with any name that is not empty.
 use Rattle.std.specs.Prelude.{◌==◌, ℕ, Bool, true, not, ◌&&◌, ◌||◌, if◌then◌else◌, Option, Some, None, List, [], ◌∷◌, codes, map, filter, find, length}
 use Rattle.std.specs.List.{list_all, list_any}
 use Rattle.std.specs.Str.{bytes_eq}
@@ -17,7 +17,7 @@ is_empty text = length text == 0
 abbrev pub xml_space : List ℕ
 xml_space = codes "http://www.w3.org/XML/1998/namespace"
 
--- An attribute `xmlns` declares the namespace of names without a prefix, `xmlns:p` that of the prefix p.
+-- An attribute `xmlns` declares the namespace of names without a prefix. An attribute `xmlns:p` declares that of the prefix p.
 abbrev pub declares_default : QName → Bool
 declares_default q = is_empty q.prefix && bytes_eq q.local (codes "xmlns")
 
@@ -27,7 +27,7 @@ declares_prefix q = bytes_eq q.prefix (codes "xmlns")
 abbrev pub is_declaration : TagAttr → Bool
 is_declaration a = declares_default a.name || declares_prefix a.name
 
--- What it declares: the empty prefix stands for none.
+-- What it declares. The empty prefix stands for none.
 abbrev pub declaration : TagAttr → Declaration
 declaration a = record { prefix = if declares_default a.name then [] else a.name.local; space = a.value }
 
@@ -48,7 +48,7 @@ declared_as (Some d) = Some d.space
 abbrev pub declared : List Declaration → List ℕ → Option (List ℕ)
 declared ds prefix = declared_as (find (λ d. bytes_eq d.prefix prefix) ds)
 
--- The declarations of the open elements, from the innermost to the root: the innermost that speaks of a prefix counts.
+-- The declarations of the open elements, from the innermost to the root. The innermost that speaks of a prefix counts.
 abbrev pub or_outer : Option (List ℕ) → Option (List ℕ) → Option (List ℕ)
 or_outer (Some space) outer = Some space
 or_outer None outer = outer
@@ -57,7 +57,7 @@ abbrev pub declared_in : List (List Declaration) → List ℕ → Option (List �
 declared_in [] prefix = None
 declared_in (ds ∷ outer) prefix = or_outer (declared ds prefix) (declared_in outer prefix)
 
--- The namespace of a prefix. Without a declaration a name that has no prefix is in none.
+-- The namespace of a prefix. If nothing is declared, a name without a prefix is in no namespace.
 abbrev pub otherwise_none : List ℕ → Option (List ℕ) → Option (List ℕ)
 otherwise_none prefix (Some space) = Some space
 otherwise_none prefix None = if is_empty prefix then Some [] else None
@@ -66,7 +66,7 @@ abbrev pub space_of : List (List Declaration) → List ℕ → Option (List ℕ)
 space_of scopes prefix =
     if bytes_eq prefix (codes "xml") then Some xml_space else otherwise_none prefix (declared_in scopes prefix)
 
--- The name of an element, and that of an attribute, which without a prefix is in no namespace.
+-- The name of an element, and that of an attribute. An attribute without a prefix is in no namespace.
 abbrev pub in_space : List ℕ → Option (List ℕ) → Option Name
 in_space local None = None
 in_space local (Some space) = Some record { space = space; local = local }
@@ -77,7 +77,7 @@ element_name scopes q = in_space q.local (space_of scopes q.prefix)
 abbrev pub attr_name : List (List Declaration) → QName → Option Name
 attr_name scopes q = if is_empty q.prefix then in_space q.local (Some []) else element_name scopes q
 
--- The attributes of an element, without the declarations; none where a prefix is not declared.
+-- The attributes of an element, without the declarations. There are none if a prefix is not declared.
 abbrev pub with_value : List ℕ → Option Name → Option Attr
 with_value value None = None
 with_value value (Some name) = Some record { name = name; value = value }
@@ -108,9 +108,13 @@ abbrev pub no_name_twice : List Attr → Bool
 no_name_twice [] = true
 no_name_twice (a ∷ more) = not (list_any (λ b. same_name a.name b.name) more) && no_name_twice more
 
--- What a start tag says in the scopes of the elements around it: the element's name and its attributes. None where it
--- breaks a rule: a prefix that it uses is not declared, a qualified name comes twice among its attributes, two have
--- the same namespace and local name, a prefix is declared as empty, or `xml` or `xmlns` is declared.
+-- What a start tag says in the scopes of the elements around it: the element's name and its attributes. It says nothing if it
+-- breaks one of these rules:
+-- - Each prefix that it uses is declared.
+-- - No qualified name comes twice among its attributes.
+-- - No two of them have the same namespace and local name.
+-- - No prefix is declared as empty.
+-- - Neither `xml` nor `xmlns` is declared.
 abbrev pub where_once : Option Name → Option (List Attr) → Option (Name × List Attr)
 where_once None attrs = None
 where_once (Some name) None = None

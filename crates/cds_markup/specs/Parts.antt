@@ -1,5 +1,5 @@
--- The parts of a document in the order of its bytes, along the grammar: what is read of it up to any place. Places are
--- numbers of bytes from its start.
+-- The parts of a document in the order of its bytes, along the grammar: what is read of it up to any place. Places are numbers of
+-- bytes from its start.
 use Rattle.std.specs.Prelude.{◌≡◌, ℕ, ◌+◌, ◌≤◌, false, ◌&&◌, if◌then◌else◌, Option, Some, None, List, [], ◌∷◌, ◌++◌, length, encode_utf8}
 use Rattle.cds_base.specs.Characters.{is_blank}
 use Rattle.cds_markup.specs.declared.name.Name.{Name}
@@ -13,19 +13,19 @@ use Rattle.cds_markup.specs.Namespaces.{declarations, tag_says}
 use Rattle.cds_markup.specs.Document.{Meaning, Element, Meanings, ChildThen, End as Childless, joined, line_ends, most_open, depths}
 use Rattle.cds_markup.specs.Refusal.{scopes_of}
 
--- The place of the first character of a text that is no blank.
+-- The place of the first character of a text that is not white space.
 abbrev pub first_non_blank : ℕ → List ℕ → Option ℕ
 first_non_blank at [] = None
 first_non_blank at (b ∷ rest) = if is_blank b then first_non_blank (at + 1) rest else Some at
 
--- The part that a leaf at a place is. A comment is none.
+-- The part of a leaf at a place. A comment has none.
 abbrev pub leaf_parts : ℕ → Leaf → List Part
 leaf_parts at (Text text) = Run at (first_non_blank at text) (line_ends text) ∷ []
 leaf_parts at (Reference c) = Run at (Some at) (encode_utf8 c) ∷ []
 leaf_parts at (Section text) = Run at (Some at) (line_ends text) ∷ []
 leaf_parts at Comment = []
 
--- The parts of an element and of content at a place, within scopes, where all start tags keep the rules.
+-- The parts of an element and of content at a place, within scopes, if all start tags keep the rules.
 abbrev mutual
   pub TreeParts : Tree → ℕ → List (List Declaration) → List ℕ → List Part → Type 0
   TreeParts (EmptyElement t) at scopes bytes parts =
@@ -49,8 +49,8 @@ abbrev mutual
       × TreeParts tree at scopes front first × ContentParts more (at + length front) scopes back behind
       × (parts ≡ first ++ behind)
 
--- The parts up to a place before or inside the root, where elements with these start tags are open, from the innermost
--- to the root, and never more than may be.
+-- The parts up to a place before or inside the root. Elements with these start tags are open there, from the innermost to the
+-- root, and never more than may be.
 abbrev pub OpensParts : List Tag → List ℕ → List Part → Type 0
 OpensParts [] bytes parts = IsProlog bytes tt × (parts ≡ [])
 OpensParts (t ∷ outer) bytes parts =
@@ -61,8 +61,8 @@ OpensParts (t ∷ outer) bytes parts =
     × (length (t ∷ outer) + depths content ≤ most_open)
     × (parts ≡ earlier ++ (Start (length before) end name attrs ∷ inner))
 
--- Parts nested and runs joined: the children that stand open, from the innermost, read from the last part to the first.
--- Parts that do not nest say nothing.
+-- Parts nested and runs joined. The result is the children that stand open, from the innermost, read from the last part to the
+-- first. Parts that do not nest say nothing.
 abbrev pub add_part : Part → List Meanings → List Meanings
 add_part (End at) open_ = Childless ∷ open_
 add_part (Run at non_blank text) [] = []

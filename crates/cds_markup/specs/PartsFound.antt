@@ -1,4 +1,4 @@
--- What stands in bytes as far as nothing refuses them: each part at its place, by the grammar alone, with the start tags
+-- What stands in bytes as far as nothing refuses them. Each part stands at its place by the grammar alone, with the start tags
 -- that are open around it and the parts before it.
 use Rattle.std.specs.Prelude.{◌≡◌, ◌≢◌, ℕ, ◌+◌, ◌<◌, ◌≤◌, false, ◌⊎◌, Option, Some, List, [], ◌∷◌, ◌++◌, length}
 use Rattle.cds_base.specs.declared.limits.TheConstants.{INPUT_LIMIT}
@@ -14,12 +14,12 @@ use Rattle.cds_markup.specs.Refusal.{Opens, scopes_of, TagEnds, LeafEnds, TextBy
 use Rattle.cds_markup.specs.Parts.{first_non_blank, leaf_parts, OpensParts}
 use Rattle.cds_markup.specs.GivenParts.{IsPlain, IsBegun}
 
--- Nothing refuses the bytes up to this place, nor with the byte there, which is within the limit.
+-- Nothing refuses the bytes up to and with the byte at this place, which is within the limit.
 pub record Clear (bytes : List ℕ) (at : ℕ) : Type 0 where
   pub none : (earlier : ℕ) → earlier ≤ at → Refuses bytes earlier → ⊥
   pub short : (at < INPUT_LIMIT) ⊎ (length bytes ≤ INPUT_LIMIT)
 
--- A start tag that keeps the rules: one more element may be open, and it is found at the `>` or `/` that ends it.
+-- A start tag that keeps the rules, found at the `>` or `/` that ends it. One more element may be open.
 pub record StartStands (bytes : List ℕ) (earlier : List Part) (begin end : ℕ) (name : Name) (attrs : List Attr) : Type 0 where
   pub tags : List Tag
   pub tag : Tag
@@ -48,7 +48,7 @@ pub record EndStands (bytes : List ℕ) (earlier : List Part) (begin : ℕ) : Ty
   pub parts : OpensParts (tag ∷ outer) found.before earlier
   pub clear : Clear bytes at
 
--- The `/` of an empty element's tag, right behind which its `>` stands. Its start tag is the part before.
+-- The `/` of an empty element's tag, with its `>` right after it. Its start tag is the part before.
 pub record EmptyStands (bytes : List ℕ) (earlier : List Part) (at : ℕ) : Type 0 where
   pub front : List Part
   pub begin : ℕ
@@ -73,8 +73,8 @@ pub record LeafStands (bytes : List ℕ) (earlier : List Part) (part : Part) : T
   pub is : leaf_parts begin leaf ≡ part ∷ []
   pub clear : Clear bytes at
 
--- A literal text from its beginning, as far as its whole characters go. The first character that is no blank, which may
--- be one that a fault cuts behind the text, is found at its first byte.
+-- A literal text from its beginning, as far as its whole characters go. Its first character that is not white space is found at
+-- its first byte. This may be a character that a fault cuts after the text.
 pub record TextStands (bytes : List ℕ) (earlier : List Part) (begin : ℕ) (non_blank : Option ℕ) (text : List ℕ) : Type 0 where
   pub tags : List Tag
   pub before : List ℕ
@@ -92,13 +92,13 @@ pub record TextStands (bytes : List ℕ) (earlier : List Part) (begin : ℕ) (no
   pub is_non_blank : non_blank ≡ first_non_blank begin (front ++ begun)
   pub found : (at : ℕ) → non_blank ≡ Some at → (byte : ℕ) × TextByte bytes tags at byte × Clear bytes at
 
--- A part stands in the bytes behind these.
+-- The part stands in the bytes after these parts.
 abbrev pub Stands : List ℕ → List Part → Part → Type 0
 Stands bytes earlier (Start begin end name attrs) = StartStands bytes earlier begin end name attrs
 Stands bytes earlier (End at) = EndStands bytes earlier at ⊎ EmptyStands bytes earlier at
 Stands bytes earlier (Run begin non_blank text) = LeafStands bytes earlier (Run begin non_blank text) ⊎ TextStands bytes earlier begin non_blank text
 
--- What is found is among the parts, behind exactly the parts before it: a start tag,
+-- A start tag that is found is among the parts, after exactly the parts before it.
 pub record TagGiven (bytes : List ℕ) (parts : List Part) (tags : List Tag) (begin at : ℕ) (tag : Tag) (before : List ℕ) : Type 0 where
   pub name : Name
   pub attrs : List Attr
@@ -108,14 +108,15 @@ pub record TagGiven (bytes : List ℕ) (parts : List Part) (tags : List Tag) (be
   pub opens : OpensParts tags before earlier
   pub is : parts ≡ earlier ++ Start begin at name attrs ∷ later
 
--- a reference or a section,
+-- A reference or a section that is found is among the parts, after exactly the parts before it.
 pub record PartsGiven (parts found : List Part) (tags : List Tag) (before : List ℕ) : Type 0 where
   pub earlier : List Part
   pub later : List Part
   pub opens : OpensParts tags before earlier
   pub is : parts ≡ earlier ++ (found ++ later)
 
--- and a character that is no blank, in whose text it is found or one before it.
+-- If a character of a text is found that is not white space, the run of the text is among the parts, after exactly the parts
+-- before it. The run has the place of this character or of one before it.
 pub record TextGiven (bytes : List ℕ) (parts : List Part) (tags : List Tag) (at : ℕ) : Type 0 where
   pub earlier : List Part
   pub later : List Part

@@ -1,4 +1,4 @@
--- Bytes that come in pieces, and then their end. A reader answers each piece, and the end where it refused none.
+-- Bytes that come in pieces, and then their end. A reader answers each piece. If it refused none, it answers the end.
 use Rattle.std.specs.Prelude.{◌≡◌, ℕ, Result, Ok, Err, List, [], ◌∷◌, ◌++◌}
 
 -- The pieces of some bytes.
@@ -6,7 +6,7 @@ abbrev pub together : List (List ℕ) → List ℕ
 together [] = []
 together (piece ∷ more) = piece ++ together more
 
--- The first refusal is the answer, or what the end gives.
+-- The first refusal is the answer. If there is none, it is what the end gives.
 abbrev pub goes_on : {A E : Type 0} → Result (Unit {0}) E → Result A E → Type 0 → Type 0
 goes_on (Ok done) result onwards = onwards
 goes_on (Err e) result onwards = result ≡ Err e

@@ -23,7 +23,8 @@ placing_of b = record { state = state_of b.builder; at = b.at; children = b.chil
 abbrev pub no_place : Placing
 no_place = record { state = nothing_yet; at = None; children = [] }
 
--- A start tag at a place, where these elements are open around it. The root's is the first.
+-- The place of a start tag, if these elements are open around it. The first start tag is that of the root. Those deeper than the
+-- root's children are left out.
 abbrev pub first_or : Option ℕ → ℕ → ℕ
 first_or None at = at
 first_or (Some first) at = first
@@ -40,7 +41,7 @@ abbrev pub note_part : Part → Placing → Placing
 note_part (Start at end name attrs) p = noted at p
 note_part other p = p
 
--- The next part, and all of some.
+-- The next part, and some parts one after another.
 abbrev pub with_state : State → Placing → Placing
 with_state state p = record { state = state; at = p.at; children = p.children }
 
@@ -63,13 +64,13 @@ with_places (Some element) (Some at) children = Some (record { element = element
 abbrev pub placed_as : Placing → Option Placed
 placed_as p = with_places (first_element p.state.nodes) p.at p.children
 
--- Where the root of a document begins and each of its child elements.
+-- The place where the root of a document begins, and those of its child elements.
 pub record ArePlaces (bytes : List ℕ) (placed : Placed) : Type 0 where
   pub root : IsRootPlace bytes placed.at
   pub many : length placed.children ≡ length (elements_in (nodes_in placed.element))
   pub each : (number at : ℕ) → slice_get placed.children number ≡ Some at → IsChildPlace bytes number at
 
--- An answer to bytes: the element that they are a document of with its places, or the refusal that stands against them.
+-- An answer to bytes: the element that they are a document of, with its places, or the refusal that stands against them.
 abbrev pub DecidesPlaced : List ℕ → Result Placed MarkupError → Type 0
 DecidesPlaced bytes (Ok placed) = Decides bytes (Ok placed.element) × ArePlaces bytes placed
 DecidesPlaced bytes (Err e) = Decides bytes (Err e)

@@ -1,4 +1,4 @@
--- A reader of a document that comes in pieces: what it answers is told over the bytes that came, however they were cut.
+-- A reader of a document that comes in pieces. What it answers is told of the bytes that came, however they were cut.
 use Rattle.std.specs.Prelude.{◌≡◌, ℕ, Option, None, Result, Ok, Err, List, [], ◌++◌}
 use Rattle.cds_markup.specs.declared.error.MarkupError.{MarkupError}
 use Rattle.cds_markup.specs.declared.error.MarkupError.TheVariants.{Bad, Mem}
@@ -12,7 +12,7 @@ use Rattle.cds_markup.specs.Pieces.{Gives, together}
 use Rattle.cds_markup.specs.Placed.{Placing, no_place, placed_by, DecidesPlaced}
 use Rattle.cds_markup.specs.Tellings.{Telling}
 
--- A document as far as it came: what is read, or nothing from a refusal on, and what its parts say.
+-- A document as far as it came: what is read, and what its parts say. After a refusal nothing is read.
 pub record Came : Type 0 where
   pub parts : Option Telling
   pub says : Placing
@@ -20,15 +20,15 @@ pub record Came : Type 0 where
 abbrev pub came : Option Telling → Placing → Came
 came parts says = record { parts = parts; says = says }
 
--- These bytes came, in whatever pieces.
+-- These bytes came, in any pieces.
 pub record IsRead (bytes : List ℕ) (now : Came) : Type 0 where
   pub given : List Part
   pub stands : StandsFor now.parts bytes given
   pub clean : IsClean bytes
   pub says : now.says ≡ placed_by no_place given
 
--- A piece comes behind these bytes. It is taken where no byte so far refuses them, and refused where a byte of it does,
--- whatever comes behind. Want of memory says nothing of them.
+-- A piece comes after these bytes. It is taken if no byte so far refuses them. It is refused if a byte of it does, whatever comes
+-- after. `Mem` says nothing of them.
 abbrev pub TakesBytes : List ℕ → List ℕ → Result (Unit {0}) MarkupError → Came → Type 0
 TakesBytes bytes piece (Ok done) now = IsClean (bytes ++ piece) × IsRead (bytes ++ piece) now
 TakesBytes bytes piece (Err Mem) now = now.parts ≡ None
@@ -37,7 +37,7 @@ TakesBytes bytes piece (Err e) now = IsDecided bytes piece e × (now.parts ≡ N
 abbrev pub Fed : Came → List ℕ → Result (Unit {0}) MarkupError → Came → Type 0
 Fed before piece result now = (bytes : List ℕ) → IsRead bytes before → TakesBytes bytes piece result now
 
--- The end comes: they are a document, or they end too early.
+-- The end comes. They are a document, or they end too early.
 abbrev pub EndsSo : {A : Type 0} → (List ℕ → Result A MarkupError → Type 0) → List ℕ → Result A MarkupError → Type 0
 EndsSo decides bytes (Ok found) = decides bytes (Ok found)
 EndsSo decides bytes (Err (Bad at)) = decides bytes (Err (Bad at)) × EndsShort bytes at

@@ -1,4 +1,5 @@
--- What a reader of bytes answers beside the definitions, with the state that it leaves. Want of memory says nothing.
+-- What a reader of bytes answers beside the definitions, with the state that it leaves. An answer that memory ran out says
+-- nothing.
 use Rattle.std.specs.Prelude.{◌≡◌, ℕ, ◌+◌, nat_le, true, false, if◌then◌else◌, Option, Some, None, Result, Ok, Err, List, [], ◌∷◌, ⊤}
 use Rattle.cds_base.specs.declared.limits.TheConstants.{INPUT_LIMIT}
 use Rattle.cds_markup.specs.declared.error.Stop.{Stop}
@@ -29,7 +30,7 @@ AsciiSo b (Ok (Some c)) = any_at (b ∷ []) ≡ Ok (c, [])
 AsciiSo b (Err Broken) = any_at (b ∷ []) ≡ Err (b ∷ [])
 AsciiSo b result = ⊥
 
--- A byte, which ends a character or not.
+-- A byte, which ends a character or does not.
 abbrev pub ByteSo : Reading → ℕ → Result (Option ℕ) Stop → Reading → Type 0
 ByteSo r b (Ok (Some c)) now = (byte_step r b ≡ moved (step r.mode r.opens c)) × (now ≡ reading [] r.mode r.opens)
 ByteSo r b (Ok None) now = byte_step r b ≡ Some (now, [])
@@ -44,7 +45,7 @@ TaggedSo opens tag (Err NamespaceRule) = tag_says (scopes_in opens) tag ≡ None
 TaggedSo opens tag (Err OutOfMemory) = ⊤
 TaggedSo opens tag result = ⊥
 
--- What a token says where these elements are open.
+-- What a token says, if these elements are open.
 abbrev pub if_said : (Name → List Attr → Event) → Option (Name × List Attr) → Option Event
 if_said made None = None
 if_said made (Some said) = Some (made said.0 said.1)
@@ -94,7 +95,7 @@ progress p = progressed (reading_of p.machine) p.at
 abbrev pub begin_reading : Progress
 begin_reading = progressed nothing_read 0
 
--- One byte more, and a piece more, up to the first that is refused.
+-- One byte more, and a piece more, up to the first byte that is refused.
 abbrev pub Passed : Type 0
 Passed = Result Progress MarkupError
 

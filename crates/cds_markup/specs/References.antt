@@ -1,4 +1,4 @@
--- References, character by character, from behind their `&`.
+-- References, character by character, from after their `&`.
 use Rattle.std.specs.Prelude.{◌==◌, ℕ, ◌+◌, ◌*◌, nat_le, Bool, true, false, ◌&&◌, if◌then◌else◌, List, [], ◌∷◌, codes}
 use Rattle.std.specs.Char.{is_digit, digit_value}
 use Rattle.cds_base.specs.Characters.{is_allowed}
@@ -12,7 +12,7 @@ base_of hexadecimal = if hexadecimal then 16 else 10
 abbrev pub with_digit : Bool → ℕ → ℕ → ℕ
 with_digit hexadecimal value digit = value * base_of hexadecimal + digit_value digit
 
--- A digit is refused where the number passes every code point, the `;` where the number is no allowed character.
+-- A digit is refused if the number goes above every code point. The `;` is refused if the number is no allowed character.
 abbrev pub number_step : Bool → ℕ → ℕ → Next Referring ℕ
 number_step hexadecimal value c =
     if is_digit c (base_of hexadecimal)

@@ -1,5 +1,5 @@
--- Why bytes are no document: each refusal at its place, and the first in reading order. Places and limits are this
--- project's profile.
+-- Why bytes are no document: each refusal at its place, and the first in reading order. The places and limits are this project's
+-- profile.
 use Rattle.std.specs.Prelude.{◌≡◌, ◌≢◌, ℕ, ◌+◌, ◌<◌, ◌≤◌, false, ◌⊎◌, None, List, [], ◌∷◌, ◌++◌, length, take, codes, map, ⊤}
 use Rattle.cds_base.specs.declared.limits.TheConstants.{INPUT_LIMIT}
 use Rattle.cds_markup.specs.declared.error.MarkupError.{MarkupError}
@@ -12,17 +12,17 @@ use Rattle.cds_markup.specs.Grammar.{Leaf, Tree, Content, IsLeaf, IsDocument, Is
 use Rattle.cds_markup.specs.Namespaces.{declarations, tag_says}
 use Rattle.cds_markup.specs.Document.{most_open}
 
--- The bytes are the beginning of a document by the grammar alone, whatever its depth and its namespaces.
+-- The bytes begin a document by the grammar alone, whatever its depth and its namespaces.
 abbrev pub CanGoOn : List ℕ → Type 0
 CanGoOn bytes = (more : List ℕ) × (root : Tree) × IsDocument (bytes ++ more) root
 
--- The first bytes can go on, and with the next byte they cannot.
+-- The bytes before the place can go on, and with the byte at the place they cannot.
 pub record BreaksAt (bytes : List ℕ) (at : ℕ) : Type 0 where
   pub inside : at < length bytes
   pub before : CanGoOn (take at bytes)
   pub here : CanGoOn (take (at + 1) bytes) → ⊥
 
--- The input ends there and can go on, and is no document.
+-- The input ends at the place. It can go on, but is no document.
 pub record EndsShort (bytes : List ℕ) (at : ℕ) : Type 0 where
   pub end : at ≡ length bytes
   pub before : CanGoOn bytes
@@ -31,8 +31,8 @@ pub record EndsShort (bytes : List ℕ) (at : ℕ) : Type 0 where
 abbrev pub Breaks : List ℕ → ℕ → Type 0
 Breaks bytes at = BreaksAt bytes at ⊎ EndsShort bytes at
 
--- The bytes lead to a place before or inside the root, where elements with these start tags are open, from the
--- innermost to the root.
+-- The bytes lead to a place before or inside the root. Elements with these start tags are open there, from the innermost to the
+-- root.
 abbrev pub Opens : List Tag → List ℕ → Type 0
 Opens [] bytes = IsProlog bytes tt
 Opens (t ∷ outer) bytes =
@@ -43,7 +43,7 @@ Opens (t ∷ outer) bytes =
 abbrev pub scopes_of : List Tag → List (List Declaration)
 scopes_of tags = map (λ t. declarations t.attrs) tags
 
--- A start tag begins at a place where elements with these tags are open, and ends before the `>` or `/` at a place.
+-- A start tag begins at `begin` while elements with these tags are open. The `>` or `/` that ends it is at `at`.
 pub record TagEnds (bytes : List ℕ) (tags : List Tag) (begin at : ℕ) (tag : Tag) : Type 0 where
   pub before : List ℕ
   pub inside : List ℕ
@@ -56,7 +56,7 @@ pub record TagEnds (bytes : List ℕ) (tags : List Tag) (begin at : ℕ) (tag : 
   pub is_tag : IsTag inside tag
   pub ends : (end ≡ 47) ⊎ (end ≡ 62)
 
--- A reference, a section or a comment begins at a place inside the root, and its last byte is at a place.
+-- A reference, a section, a comment or a literal text begins at `begin` inside the root. Its last byte is at `at`.
 pub record LeafEnds (bytes : List ℕ) (tags : List Tag) (begin at : ℕ) (leaf : Leaf) : Type 0 where
   pub before : List ℕ
   pub front : List ℕ
@@ -68,7 +68,7 @@ pub record LeafEnds (bytes : List ℕ) (tags : List Tag) (begin at : ℕ) (leaf 
   pub inside : tags ≢ []
   pub is_leaf : IsLeaf front leaf
 
--- The byte at the place begins a character of a literal text inside the root, white space not counted.
+-- The byte at the place begins a character of a literal text inside the root that is not white space.
 pub record TextByte (bytes : List ℕ) (tags : List Tag) (at byte : ℕ) : Type 0 where
   pub before : List ℕ
   pub rest : List ℕ
@@ -97,19 +97,19 @@ pub record IsTooDeep (bytes : List ℕ) (at : ℕ) : Type 0 where
   pub many : length tags ≡ most_open
   pub begins : (c : ℕ) × (tail : List ℕ) × Character begins_name (first ∷ tail) c
 
--- The causes at one place, but for the length.
+-- The causes of a refusal at one place, except the length.
 abbrev pub IsBad : List ℕ → ℕ → Type 0
 IsBad bytes at = Breaks bytes at ⊎ BreaksRule bytes at
 
 abbrev pub Refuses : List ℕ → ℕ → Type 0
 Refuses bytes at = IsBad bytes at ⊎ IsTooDeep bytes at
 
--- No cause comes before the place, and no byte past the limit up to it.
+-- No cause comes before the place, and no byte up to it is past the limit.
 pub record IsFirst (bytes : List ℕ) (at : ℕ) : Type 0 where
   pub none_before : (earlier : ℕ) → earlier < at → Refuses bytes earlier → ⊥
   pub short : (at < INPUT_LIMIT) ⊎ (length bytes ≤ INPUT_LIMIT)
 
--- What a refusal says of the bytes: the first cause in reading order. Want of memory says nothing of them.
+-- What a refusal says of the bytes: the first cause in reading order. `Mem` says nothing of them.
 abbrev pub IsRefused : List ℕ → MarkupError → Type 0
 IsRefused bytes (Bad at) = IsBad bytes at × IsFirst bytes at
 IsRefused bytes (TooDeep at) = IsTooDeep bytes at × IsFirst bytes at

@@ -1,5 +1,5 @@
--- Runs: bytes at the front that go on with what is open, one as the other, and complete nothing. So many of them are passed
--- over at once. Want of memory says nothing.
+-- Runs: the first bytes that go on with what is open, one like the other, and complete nothing. A run is passed over at once. An
+-- answer that memory ran out says nothing.
 use Rattle.std.specs.Prelude.{◌≡◌, ◌≤◌, ◌==◌, ◌⊎◌, ℕ, ◌+◌, ◌-◌, nat_lt, Bool, true, false, not, ◌&&◌, ◌||◌, if◌then◌else◌, Option, Some, None, IfOk, Result, Ok, Err, List, [], ◌∷◌, ◌++◌, length, take, drop, take_while, ⊤}
 use Rattle.std.specs.List.{list_all}
 use Rattle.cds_base.specs.declared.limits.TheConstants.{INPUT_LIMIT}
@@ -35,8 +35,11 @@ use Rattle.cds_markup.specs.Values.{valuing}
 use Rattle.cds_markup.specs.Bytes.{Reading, is_none, begins_tag}
 use Rattle.cds_markup.specs.Tellings.{Telling, telling, told}
 
--- What a run is of: letters that stand for themselves wherever letters stand, bytes that go on with any name, these and colons,
--- or white space without carriage returns.
+-- What a run is of:
+-- - letters that stand for themselves wherever letters stand;
+-- - bytes that go on with any name;
+-- - such bytes and colons;
+-- - white space without carriage returns.
 abbrev pub is_plain_in_name : ℕ → Bool
 is_plain_in_name b = nat_lt b 128 && is_in_name b
 
@@ -52,13 +55,12 @@ is_plain InName = is_plain_in_name
 is_plain Written = is_written
 is_plain Blanks = is_line_blank
 
--- Of a literal text that is white space so far only white space is passed over: its first other character has its place.
+-- While a literal text is white space, only white space is passed over. Its first other character has its place.
 abbrev pub in_text : Option ℕ → Plain
 in_text None = Blanks
 in_text (Some place) = Letters
 
--- The bytes at the front that pass the test are passed over, or none where none may be, and they go onto a text or are
--- dropped.
+-- The first bytes that pass the test are passed over, or none if none may be. They are added to a text or dropped.
 abbrev pub Passes : Bool → (ℕ → Bool) → List ℕ → ℕ → Type 0
 Passes true test bytes n = n ≡ length (take_while test bytes)
 Passes false test bytes n = n ≡ 0
@@ -68,8 +70,8 @@ Collects going test text bytes (Err e) now = ⊤
 Collects true test text bytes (Ok n) now = (n ≡ length (take_while test bytes)) × (now ≡ text ++ take_while test bytes)
 Collects false test text bytes (Ok n) now = (n ≡ 0) × (now ≡ text)
 
--- What passing over a run makes of each state. A value goes on where no reference is open and no carriage return stands right
--- before, a comment and a section where no dash and no bracket does.
+-- What passing over a run makes of each state. A value goes on if no reference is open and no carriage return stands right
+-- before. A comment goes on if no dash does, and a section if no bracket does.
 abbrev pub takes_letters : Valuing → Bool
 takes_letters v = not v.behind_return && is_none v.reference
 
@@ -81,8 +83,9 @@ abbrev pub AttrRuns : Attributing → List ℕ → Result ℕ Mem → Attributin
 AttrRuns (Value q v) bytes result (Value p u) = (p ≡ q) × ValueRuns v bytes result u
 AttrRuns a bytes result now = (result ≡ Ok 0) × (now ≡ a)
 
--- A whole start tag is passed over in steps: its name in ASCII, with white space that stands behind it, and each attribute whose name is
--- such a name and whose value stands in double quotes and has only letters that stand for themselves, or the name of any other attribute.
+-- A whole start tag is passed over in steps. The first is its name in ASCII, with white space right after it. Then comes each
+-- attribute with such a name and a value in double quotes, all of whose letters stand for themselves. Of any other attribute it
+-- is the name.
 abbrev pub begins_plain_name : ℕ → Bool
 begins_plain_name b = nat_lt b 128 && begins_name b
 
@@ -154,7 +157,7 @@ SpacedRuns tag bytes (Ok n) (Spaced now) =
     ((n ≡ 0) × (now ≡ tag)) ⊎ ((k : ℕ) × (n ≡ k + 1) × HasAttr tag bytes k now × (begins_blank (drop k bytes) ≡ true))
 SpacedRuns tag bytes (Ok n) now = ⊥
 
--- Of an end tag bytes are passed over that go on with the innermost element's name as it is written.
+-- In an end tag, bytes are passed over that go on with the innermost element's name as it is written.
 pub record HasEnd (opens : List Open) (k : ℕ) (bytes : List ℕ) (n : ℕ) (now : Turn) : Type 0 where
   pub innermost : Open
   pub outer : List Open
@@ -205,7 +208,8 @@ ModeRuns opens (Prolog m) bytes result (Prolog k) = (k ≡ m) × IfOk result (Mi
 ModeRuns opens (Epilog m) bytes result (Epilog k) = (k ≡ m) × IfOk result (MiscRuns m bytes)
 ModeRuns opens m bytes result now = (result ≡ Ok 0) × (now ≡ m)
 
--- A literal text that goes on: an element is open, and no closing bracket and no carriage return stands right before.
+-- A literal text that goes on: no closing bracket stands right before. That an element is open is said in `takes_run`, and that
+-- no carriage return stands right before in `TextRuns`.
 abbrev pub is_plain_content : Mode → Bool
 is_plain_content (Inside (Content brackets)) = brackets == 0
 is_plain_content other = false
@@ -217,7 +221,8 @@ is_full r = length r.opens == most_open && begins_tag r.mode
 abbrev pub takes_run : Reading → Bool
 takes_run r = is_empty r.begun && (not (length r.opens == 0) && is_plain_content r.mode)
 
--- A text that begins with this byte, before it: where the byte is no white space its place is that of the first other character.
+-- A text that begins with this byte, which is not added yet. The place of its first other character is that of the byte, unless
+-- the byte is a space, a tab or a line feed.
 abbrev pub text_before : ℕ → ℕ → OpenText
 text_before at b = record { at = at; non_blank = if is_line_blank b then None else Some at; said = []; behind_return = false }
 
@@ -226,14 +231,14 @@ TextRuns t bytes result now =
     (now ≡ record { at = t.at; non_blank = t.non_blank; said = now.said; behind_return = t.behind_return })
     × Collects (not t.behind_return) (is_plain (in_text t.non_blank)) t.said bytes result now.said
 
--- Bytes that complete nothing lead from one state to another, whatever is open and wherever they stand.
+-- Bytes that complete nothing lead from one state to another, whatever is open and at any place.
 abbrev pub QuietSo : Reading → List ℕ → Result ℕ Mem → Reading → Type 0
 QuietSo r bytes (Err e) now = ⊤
 QuietSo r bytes (Ok n) now =
     (n ≤ length bytes)
     × ((m : Marks) (at : ℕ) → at + length bytes ≤ INPUT_LIMIT → told (telling r m at) (take n bytes) ≡ Ok ([], telling now m (at + n)))
 
--- What passing over so many bytes makes of what is told.
+-- What passing over `n` bytes makes of what is told.
 abbrev pub RunSo : Telling → List ℕ → Result ℕ Mem → Telling → Type 0
 RunSo p bytes (Err e) now = ⊤
 RunSo p bytes (Ok n) now = (n ≤ length bytes) × (told p (take n bytes) ≡ Ok ([], now))

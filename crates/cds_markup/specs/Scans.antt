@@ -1,8 +1,8 @@
--- Comments and CDATA sections, character by character, from behind their openings.
+-- Comments and CDATA sections, character by character, from after their openings.
 use Rattle.std.specs.Prelude.{◌==◌, ℕ, ◌+◌, ◌-◌, nat_lt, Bool, ◌&&◌, if◌then◌else◌, List, ◌++◌, length, take, slice_index, encode_utf8}
 use Rattle.cds_markup.specs.Next.{Next, Stuck, On, Done}
 
--- Behind so many dashes as count: behind two only the comment's end may follow, of which a third dash may be part.
+-- A comment after this many dashes of those that count. After two only its end may follow, which may have a third dash.
 abbrev pub step_comment : ℕ → ℕ → Next ℕ (Unit {0})
 step_comment dashes c =
     if nat_lt dashes 2 then On (if c == 45 then dashes + 1 else 0)
@@ -10,7 +10,7 @@ step_comment dashes c =
     else if c == 45 && nat_lt dashes 3 then On (dashes + 1)
     else Stuck
 
--- How many closing brackets stand right before, as far as it counts.
+-- How many closing brackets stand right before, as far as they matter.
 abbrev pub brackets_with : ℕ → ℕ → ℕ
 brackets_with brackets c = if c == 93 then (if brackets == 0 then 1 else 2) else 0
 

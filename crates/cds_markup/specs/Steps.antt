@@ -1,5 +1,4 @@
--- What a method of a machine answers beside the step of the definitions, with the state that it leaves. Want of memory says
--- nothing.
+-- What a method of a machine answers beside the step of the definitions, with the state that it leaves. `Mem` says nothing.
 use Rattle.std.specs.Prelude.{◌≡◌, ◌==◌, ℕ, ◌+◌, Bool, true, false, Option, Some, None, Result, Ok, Err, List, [], ◌∷◌, drop, length, ⊤}
 use Rattle.cds_base.specs.declared.mem.Mem.{Mem as CommonMem}
 use Rattle.cds_markup.specs.declared.mode.Attributing.{Attributing}
@@ -55,7 +54,7 @@ abbrev pub entity_code : Referring → ℕ
 entity_code (Entity left code) = code
 entity_code other = 0
 
--- What a name answers to a character: that it goes on with it, or that it does not belong to it.
+-- What a name answers to a character: that the character goes on with it, or that it does not belong to it.
 abbrev pub GoesSo : Option Naming → Result Bool CommonMem → Naming → Naming → Type 0
 GoesSo next (Err e) before now = ⊤
 GoesSo (Some n) (Ok true) before now = now ≡ n
@@ -67,7 +66,7 @@ abbrev pub attr_name : Attributing → QName
 attr_name (Value q v) = q
 attr_name other = record { prefix = []; local = [] }
 
--- The same of a name that may end there.
+-- The same for a name that may end there.
 abbrev pub NamedSo : Option Naming → Bool → QName → Result NameStep CommonMem → Naming → Type 0
 NamedSo next whole q (Err e) now = ⊤
 NamedSo (Some n) whole q (Ok Goes) now = now ≡ n
@@ -85,7 +84,7 @@ abbrev pub IsBegun : ℕ → Result Naming CommonMem → Type 0
 IsBegun c (Ok n) = n ≡ name_begun c
 IsBegun c (Err e) = ⊤
 
--- Whether bytes stand at a place of a name, and the place behind them.
+-- Whether bytes stand at a place of a name, and the place after them.
 abbrev pub StandsSo : List ℕ → ℕ → List ℕ → Option ℕ → Type 0
 StandsSo name at bytes None = begins_with (drop at name) bytes ≡ false
 StandsSo name at bytes (Some behind) = (begins_with (drop at name) bytes ≡ true) × (behind ≡ at + length bytes)
@@ -97,7 +96,7 @@ BeginsTag c (Err Broken) = step_tag Opened c ≡ Stuck
 BeginsTag c (Err Mem) = ⊤
 BeginsTag c result = ⊥
 
--- The elements that are open behind a token.
+-- The elements that are open after a token.
 abbrev pub opens_after : Token → List Open → List Open
 opens_after (Started tag) opens = opened tag ∷ opens
 opens_after Ended opens = drop 1 opens
@@ -153,7 +152,7 @@ MovesSo opens move (Ok None) now = move ≡ To now opens []
 MovesSo opens move (Ok (Some t)) now = move ≡ To now (opens_after t opens) (t ∷ [])
 MovesSo opens move result now = ⊥
 
--- Whether a document is not inside its root, and whether no element is open behind what a character completes.
+-- Whether a document is outside its root, and whether no element is open after what a character completes.
 abbrev pub is_outside : Mode → Bool
 is_outside (Inside turn) = false
 is_outside other = true

@@ -1,4 +1,4 @@
--- Start tags, character by character, from behind their `<` to the `>` or `/` that ends them.
+-- Start tags, character by character, from after their `<` to the `>` or `/` that ends them.
 use Rattle.std.specs.Prelude.{◌==◌, ℕ, Bool, ◌||◌, if◌then◌else◌, [], ◌∷◌, ◌++◌}
 use Rattle.cds_base.specs.Characters.{is_blank, begins_name}
 use Rattle.cds_markup.specs.declared.mode.Attributing.TheVariants.{AttrName}
@@ -20,7 +20,7 @@ tag_named q = record { name = q; attrs = [] }
 abbrev pub with_attr : Tag → TagAttr → Tag
 with_attr tag a = record { name = tag.name; attrs = tag.attrs ++ a ∷ [] }
 
--- Behind a name or a value, and behind white space.
+-- A character after a name or a value, and one after white space.
 abbrev pub tagged_step : Tag → ℕ → Next Tagging (Tag × ℕ)
 tagged_step tag c = if is_blank c then On (Spaced tag) else if ends_tag c then Done (tag, c) else Stuck
 

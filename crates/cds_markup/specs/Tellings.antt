@@ -1,6 +1,6 @@
--- What a reader of parts answers beside the definitions, with the state that it leaves. Each speaks of a relation on what takes
--- the parts, that these parts, in this order, make the second of the first, and of whether it has enough. Want of memory says
--- nothing.
+-- What a reader of parts answers beside the definitions, with the state that it leaves. `took`, if a definition has it, is a
+-- relation on what takes the parts. It says that these parts, in this order, turn the first into the second. `enough` says
+-- whether it has enough. `Mem` says nothing.
 use Rattle.std.specs.Prelude.{◌≡◌, ℕ, ◌+◌, ◌-◌, nat_le, Bool, true, false, if◌then◌else◌, Option, Some, None, Result, Ok, Err, List, [], ◌∷◌, ◌++◌, length, ⊤}
 use Rattle.cds_base.specs.declared.limits.TheConstants.{INPUT_LIMIT}
 use Rattle.cds_markup.specs.declared.error.Stop.{Stop}
@@ -43,15 +43,15 @@ telling_in (Some s) = Some (telling_of s)
 abbrev pub begin_telling : Telling
 begin_telling = telling nothing_read (marks 0 None) 0
 
--- The parts that are over where what is read ends there.
+-- The parts that end with what is read, if it ends there.
 abbrev pub last_parts : Telling → List Part
 last_parts p = last_text p.read p.marks p.at
 
--- The same place where those were given.
+-- The same place once those parts were given.
 abbrev pub shown : Telling → Telling
 shown p = telling p.read (marks p.marks.begin (goes_on_as (cuts_text p.read) (p.at - length p.read.begun) p.marks.text)) p.at
 
--- The parts that bytes complete and what is open behind them, or those up to a refusal and the refusal.
+-- The parts that bytes complete and what is open after them. If there is a refusal, the parts up to it and the refusal.
 abbrev pub Told : Type 0
 Told = Result (List Part × Telling) (List Part × MarkupError)
 
@@ -83,11 +83,11 @@ told_byte p b = told_byte_within INPUT_LIMIT p b
 abbrev pub told : Telling → List ℕ → Told
 told p w = told_within INPUT_LIMIT p w
 
--- A piece, behind which what is open is given as far as it goes, and may go on.
+-- A piece. What is open after it is given as far as it goes, and may go on.
 abbrev pub told_piece : Telling → List ℕ → Told
 told_piece p w = told_on (told p w) (λ q. Ok (last_parts q, shown q))
 
--- What is given where bytes are told so. A refusal is the answer where what stands before it is not enough.
+-- What is given if bytes are told so. A refusal is the answer only if what takes the parts does not have enough before it.
 abbrev pub ToldSo : {S : Type 0} → (S → List Part → S → Type 0) → (S → Bool) → S → Told → Result (Unit {0}) MarkupError → S → Telling → Type 0
 ToldSo took enough before outcome (Err Mem) to now = ⊤
 ToldSo took enough before (Ok found) (Ok done) to now = took before found.0 to × (enough to ≡ false → now ≡ found.1)
@@ -95,7 +95,7 @@ ToldSo took enough before (Err found) (Ok done) to now = took before found.0 to 
 ToldSo took enough before (Err found) (Err e) to now = took before found.0 to × (enough to ≡ false) × (e ≡ found.1)
 ToldSo took enough before outcome result to now = ⊥
 
--- A part that may be missing is given.
+-- A part that may be missing, as a list, and the parts that are given.
 abbrev pub listed : Option Part → List Part
 listed None = []
 listed (Some part) = part ∷ []

@@ -1,5 +1,5 @@
--- The inside of elements, one token after another: a character of a literal text, a reference, a section, a comment, a start
--- tag, the `>` of an empty element's tag, an end tag.
+-- The inside of elements, one token after another. A token is a character of a literal text, a reference, a section, a comment, a
+-- start tag, the `>` of an empty element's tag, or an end tag.
 use Rattle.std.specs.Prelude.{◌==◌, ℕ, ◌+◌, Bool, not, ◌&&◌, if◌then◌else◌, List, [], ◌∷◌, codes, drop, length, encode_utf8}
 use Rattle.std.specs.List.{starts_with}
 use Rattle.cds_base.specs.Characters.{is_blank}
@@ -19,7 +19,7 @@ use Rattle.cds_markup.specs.References.{step_reference}
 use Rattle.cds_markup.specs.Tags.{step_tag}
 use Rattle.cds_markup.specs.Scans.{step_comment, brackets_with, closes_section, step_section}
 
--- A token, the elements that are open behind it, and the state there.
+-- A token, the elements that are open after it, and the state there.
 pub record Given : Type 0 where
   pub token : Token
   pub opens : List Open
@@ -50,7 +50,7 @@ tag_given opens found =
 abbrev pub start_step : List Open → Tagging → ℕ → Next Turn Given
 start_step opens t c = leads (step_tag t c) StartTag (λ found. Done (tag_given opens found))
 
--- Behind a `<` and behind a `<!`. An end tag stands only where an element is open.
+-- A character after a `<`, and one after a `<!`. An end tag stands only if an element is open.
 abbrev pub slash_step : List Open → Next Turn Given
 slash_step [] = Stuck
 slash_step (innermost ∷ outer) = On (EndTag 0)
@@ -70,7 +70,7 @@ abbrev pub cdata_step : List ℕ → List Open → ℕ → Next Turn Given
 cdata_step [] opens c = section_step 0 [] opens c
 cdata_step (b ∷ left) opens c = if c == b then On (Cdata left) else Stuck
 
--- An end tag of which these bytes of the name are to come.
+-- An end tag, after `n` bytes of its name.
 abbrev pub begins_with : List ℕ → List ℕ → Bool
 begins_with left bytes = starts_with (λ x y. x == y) left bytes
 

@@ -1,4 +1,4 @@
--- Values of attributes, character by character, from behind their first quote.
+-- Values of attributes, character by character, from after their first quote.
 use Rattle.std.specs.Prelude.{◌==◌, ℕ, Bool, false, ◌&&◌, if◌then◌else◌, Option, Some, None, List, [], ◌∷◌, ◌++◌, encode_utf8}
 use Rattle.cds_base.specs.Characters.{is_blank}
 use Rattle.cds_markup.specs.declared.mode.Referring.{Referring}
@@ -9,7 +9,7 @@ use Rattle.cds_markup.specs.declared.values.ValuePiece.TheVariants.{Literal, Ref
 use Rattle.cds_markup.specs.Next.{Next, Stuck, On, Done, leads}
 use Rattle.cds_markup.specs.References.{step_reference}
 
--- What a piece says behind a literal carriage return or not: a line feed right behind one says nothing.
+-- What a piece says. If it is right after a literal carriage return, a literal line feed says nothing.
 abbrev pub says_behind : Bool → ValuePiece → List ℕ
 says_behind behind (Literal c) = if c == 10 && behind then [] else if is_blank c then (32 ∷ []) else encode_utf8 c
 says_behind behind (Referred c) = encode_utf8 c

@@ -14,7 +14,7 @@ Verdict bytes (Err e) = IsRefused bytes e
 abbrev pub AnswersAreSo : Type 0
 AnswersAreSo = (bytes : List ℕ) → Verdict bytes (answer_of bytes)
 
--- Exactly so: every document is taken, and every refusal that stands is answered.
+-- Exactly that: every document is taken, and every refusal that stands is answered, except `Mem`, which never is.
 pub record Exactly (bytes : List ℕ) : Type 0 where
   pub whole : (element : Meaning) → Doc bytes element → answer_of bytes ≡ Ok tt
   pub refused : (e : MarkupError) → IsRefused bytes e → e ≢ Mem → answer_of bytes ≡ Err e

@@ -16,12 +16,12 @@ use Rattle.cds_markup.specs.Scans.{step_comment}
 use Rattle.cds_markup.specs.Declares.{step_declaration}
 use Rattle.cds_markup.specs.Turns.{Token, Given, step_turn, start_step}
 
--- Where a character leads, with the elements that are open and the tokens that it gives.
+-- What a character leads to, with the elements that are open and the tokens that it gives.
 pub data Move : Type 0 where
   Stop : Move
   To : Mode → List Open → List Token → Move
 
--- White space and comments. What is no comment behind a `<` belongs to what follows.
+-- White space and comments. After a `<`, what is no comment belongs to what follows.
 abbrev pub misc_step : Misc → ℕ → Next Misc (Unit {0})
 misc_step Blanks c = if is_blank c then On Blanks else if c == 60 then On MiscLess else Stuck
 misc_step MiscLess c = if c == 33 then On MiscBang else Done tt
@@ -29,7 +29,7 @@ misc_step MiscBang c = if c == 45 then On MiscDash else Stuck
 misc_step MiscDash c = if c == 45 then On (MiscComment 0) else Stuck
 misc_step (MiscComment dashes) c = leads (step_comment dashes c) MiscComment (λ over. On Blanks)
 
--- Behind a token: an element that ended may be the root.
+-- What follows a token. An element that ended may be the root.
 abbrev pub is_content : Turn → Bool
 is_content (Content brackets) = true
 is_content other = false

@@ -1,5 +1,5 @@
--- The one written form of an element, which is this project's profile of XML 1.0 and of Namespaces in XML, and the
--- elements that can be written so.
+-- The one written form of an element, which is this project's profile of XML 1.0 and of Namespaces in XML. Also the elements that
+-- can be written so.
 use Rattle.std.specs.Prelude.{◌≡◌, ℕ, suc, ◌+◌, ◌≤◌, Bool, true, false, ◌&&◌, if◌then◌else◌, List, [], ◌∷◌, ◌++◌, codes, length, max}
 use Rattle.std.specs.List.{flat_map, AllByRecursion}
 use Rattle.std.specs.Str.{bytes_eq}
@@ -26,14 +26,15 @@ under prefix a = record { name = record { prefix = prefix; local = a.name.local 
 abbrev pub declares : List ℕ → List ℕ → TagAttr
 declares prefix space = record { name = record { prefix = codes "xmlns"; local = prefix }; value = space }
 
--- An attribute that has a namespace, with its number: its prefix is declared just before it. The namespace of the prefix
--- `xml` is never declared.
+-- An attribute that has a namespace, with its number. Its prefix is declared just before it. The namespace of the prefix `xml` is
+-- never declared.
 abbrev pub with_prefix : ℕ → Attr → List TagAttr
 with_prefix number a =
     if bytes_eq a.name.space xml_space then under (codes "xml") a ∷ []
     else declares (numbered number) a.name.space ∷ under (numbered number) a ∷ []
 
--- An attribute where so many before it have a namespace: one that has none has no prefix. How many have one with it.
+-- An attribute, before which `before` attributes have a namespace. One without a namespace has no prefix. Then how many have one
+-- with it.
 abbrev pub with_name : ℕ → Attr → List TagAttr
 with_name before a = if is_empty a.name.space then under [] a ∷ [] else with_prefix (before + 1) a
 
@@ -45,7 +46,7 @@ abbrev pub tag_attrs : ℕ → List Attr → List TagAttr
 tag_attrs before [] = []
 tag_attrs before (a ∷ more) = with_name before a ++ tag_attrs (counted before a) more
 
--- The declaration of the element's namespace, where it differs from that of the element around it.
+-- The declaration of the element's namespace, if it differs from that of the element around it.
 abbrev pub default_declared : List ℕ → List ℕ → List TagAttr
 default_declared around space =
     if bytes_eq around space then []
@@ -63,7 +64,7 @@ written_attr a = codes " " ++ (name_bytes a.name ++ (codes "=\"" ++ (escaped a.v
 abbrev pub attr_text : List ℕ → List ℕ → List ℕ → List ℕ
 attr_text prefix local value = written_attr record { name = record { prefix = prefix; local = local }; value = value }
 
--- An attribute behind the declaration of a prefix of its own.
+-- An attribute after the declaration of a prefix of its own.
 abbrev pub own_text : ℕ → Attr → List ℕ
 own_text number a = written_attr (declares (numbered number) a.name.space) ++ written_attr (under (numbered number) a)
 
@@ -76,8 +77,8 @@ written_start t = codes "<" ++ (name_bytes t.name ++ (written_attrs t.attrs ++ c
 abbrev pub written_end : Tag → List ℕ
 written_end t = codes "</" ++ (name_bytes t.name ++ codes ">")
 
--- An element inside one of this namespace, and what stands in an element of it. An element without children is written
--- with both its tags too.
+-- An element inside one of this namespace, and what stands in an element of it. An element without children is also written with
+-- both its tags.
 abbrev mutual
   pub written_in : List ℕ → Meaning → List ℕ
   written_in around (Element name attrs children) =
@@ -89,19 +90,19 @@ abbrev mutual
   written_inside space (TextThen text more) = escaped text ++ written_inside space more
   written_inside space (ChildThen child more) = written_in space child ++ written_inside space more
 
--- The root, around which there is no namespace. No declaration stands before it.
+-- The root, around which there is no namespace. No XML declaration stands before it.
 abbrev pub written : Meaning → List ℕ
 written element = written_in [] element
 
--- An attribute that can be written. One without a namespace is not called `xmlns`, which would declare one.
+-- An attribute that can be written. If it has no namespace, it is not called `xmlns`, which would declare one.
 pub record CanBeAttr (a : Attr) : Type 0 where
   pub local : IsName a.name.local a.name.local
   pub space : AreAllowed a.name.space
   pub value : AreAllowed a.value
   pub declares_none : is_empty a.name.space && bytes_eq a.name.local (codes "xmlns") ≡ false
 
--- An element and children that can be written: names are names, all characters are allowed, no attribute comes twice, no
--- text is empty and no two stand side by side.
+-- An element and children that can be written. Names are names, all characters are allowed, no attribute comes twice, no text is
+-- empty, and no two texts stand side by side.
 abbrev pub begins_with_text : Meanings → Bool
 begins_with_text (TextThen text more) = true
 begins_with_text other = false
@@ -121,7 +122,7 @@ abbrev mutual
   CanBeInside (TextThen text more) = (is_empty text ≡ false) × AreAllowed text × (begins_with_text more ≡ false) × CanBeInside more
   CanBeInside (ChildThen child more) = CanBe child × CanBeInside more
 
--- How many elements are open at most at one place of it.
+-- The greatest number of elements that are open at one place of it.
 abbrev mutual
   pub element_depth : Meaning → ℕ
   element_depth (Element name attrs children) = suc (inside_depth children)

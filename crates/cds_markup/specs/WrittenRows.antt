@@ -12,11 +12,11 @@ name space local = record { space = space; local = local }
 abbrev attr : List ℕ → List ℕ → List ℕ → Attr
 attr space local value = record { name = name space local; value = value }
 
--- An element without a namespace, attributes and children has both its tags.
+-- An element without a namespace, attributes and children has both its tags and declares nothing.
 abbrev pub AloneHasBothTags : Type 0
 AloneHasBothTags = written (Element (name [] (codes "a")) [] End) ≡ codes "<a></a>"
 
--- The namespace is declared where it differs from that around it, also where it ends.
+-- The namespace is declared if it differs from that around it, also if there is none any more.
 abbrev pub NamespacesAreDeclared : Type 0
 NamespacesAreDeclared =
     written (Element (name (codes "urn:u") (codes "a")) []
@@ -25,8 +25,8 @@ NamespacesAreDeclared =
     (ChildThen (Element (name (codes "urn:v") (codes "e")) [] End) End))))
     ≡ codes "<a xmlns=\"urn:u\"><b></b><c xmlns=\"\"><d></d></c><e xmlns=\"urn:v\"></e></a>"
 
--- The number in a prefix counts every attribute that has a namespace, those of `xml` too. The root declares nothing where
--- it has no namespace, and an attribute of its element's namespace has a prefix all the same.
+-- The number in a prefix counts every attribute that has a namespace, also those of `xml`. An attribute of its element's
+-- namespace has a prefix all the same.
 abbrev pub PrefixesAreNumbered : Type 0
 PrefixesAreNumbered =
     written (Element (name (codes "urn:u") (codes "a"))

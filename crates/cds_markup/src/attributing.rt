@@ -1,3 +1,5 @@
+//! How the characters of one attribute of a start tag are read.
+
 ghost use Rattle.std.specs.Prelude.{◌≡◌, ◌==◌, false, Option, Some, None, []};
 ghost use Rattle.cds_base.specs.Characters.{is_blank};
 ghost use Rattle.cds_markup.specs.Values.{valuing};
@@ -11,14 +13,14 @@ use crate::naming::name_step;
 use crate::tag::{QName, TagAttr};
 use std::alloc::Global;
 
-/// Whether the character is white space.
+/// Returns whether the character is white space.
 pub fn is_blank(c: char) -> bool
     ensures { result ≡ is_blank c }
 {
     c == ' ' || c == '\t' || c == '\n' || c == '\r'
 }
 
-/// A name of which nothing is known.
+/// Returns an empty name, which stands for a name that is not known yet.
 pub fn no_name(alloc: Global) -> QName
     ensures { result ≡ record { prefix = []; local = [] } }
 {
@@ -28,7 +30,7 @@ pub fn no_name(alloc: Global) -> QName
     }
 }
 
-/// A value of which nothing came, in the quote.
+/// Returns an empty value after its first quote, a double one if `double`.
 fn new_value(alloc: Global, double: bool) -> Valuing
     ensures { result ≡ valuing double [] false None }
 {
@@ -48,7 +50,7 @@ impl Attributing {
         drop(std::mem::replace(self, attributing));
     }
 
-    /// Behind the name.
+    /// Takes a character after the name.
     fn named(&mut self, name: QName, c: char) -> Result<Option<TagAttr>, Stop>
         ensures { Agrees (named_step name c) result self.new }
     {
@@ -63,7 +65,7 @@ impl Attributing {
         Err(Stop::Broken)
     }
 
-    /// Behind the equals sign.
+    /// Takes a character after the equals sign.
     fn equals(&mut self, alloc: Global, name: QName, c: char) -> Result<Option<TagAttr>, Stop>
         ensures { Agrees (equals_step name c) result self.new }
     {
@@ -78,7 +80,7 @@ impl Attributing {
         Err(Stop::Broken)
     }
 
-    /// The attribute with this value, whose name is taken.
+    /// Takes the name away, and returns the attribute with that name and this value.
     fn finish(&mut self, alloc: Global, value: Letters) -> TagAttr
         ensures { result ≡ record { name = attr_name self.old; value = value } }
     {
@@ -95,7 +97,7 @@ impl Attributing {
         }
     }
 
-    /// One character. At the quote behind the value it gives the attribute.
+    /// Takes one character. Returns the attribute at the quote that ends its value.
     #[inline(never)]
     pub fn step(&mut self, alloc: Global, c: char) -> Result<Option<TagAttr>, Stop>
         ensures { Agrees (step_attr self.old c) result self.new }

@@ -1,4 +1,4 @@
-//! Where characters of more than one byte may begin.
+//! The states in which a character of more than one byte may begin.
 
 ghost use Rattle.std.specs.Prelude.{◌≡◌, ◌==◌, ◌&&◌};
 ghost use Rattle.cds_markup.specs.Bytes.{is_none, wide_attr, wide_tag, wide_turn, wide_misc, takes_wide, turn_begins, may_begin, begins_tag, may_begin_name};
@@ -47,7 +47,7 @@ impl Turn {
         }
     }
 
-    /// Whether these bytes may begin a character here.
+    /// Returns whether these bytes may begin a character here.
     fn may_begin(&self, opens: &[Open], bytes: &[u8]) -> bool
         ensures { result ≡ turn_begins self.now opens.now bytes.now }
     {
@@ -86,7 +86,7 @@ impl Mode {
         }
     }
 
-    /// Whether these bytes may begin a character here, where these elements are open.
+    /// Returns whether these bytes may begin a character here, if these elements are open.
     pub fn may_begin(&self, opens: &[Open], bytes: &[u8]) -> bool
         ensures { result ≡ may_begin self.now opens.now bytes.now }
     {
@@ -97,7 +97,7 @@ impl Mode {
         }
     }
 
-    /// Whether it is right behind a `<` inside an element.
+    /// Returns whether a `<` inside an element stands right before.
     pub fn begins_tag(&self) -> bool
         ensures { result ≡ begins_tag self.now }
     {
@@ -105,7 +105,7 @@ impl Mode {
     }
 }
 
-/// Whether the byte is the first of a name, or of a character beyond ASCII.
+/// Returns whether the byte may begin a name: an ASCII letter, `_`, or the first byte of a character beyond ASCII.
 pub fn may_begin_name(b: u8) -> bool
     ensures { result ≡ may_begin_name b }
 {

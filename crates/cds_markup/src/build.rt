@@ -1,3 +1,5 @@
+//! How the element of a document is built from its parts.
+
 ghost use Rattle.std.specs.Prelude.{◌≡◌, [], IfOk, string_bytes};
 ghost use Rattle.cds_markup.specs.Building.{state_of, flushed, opened, closed, with_text, nothing_yet, first_element};
 
@@ -12,25 +14,25 @@ pub struct Frame {
     pub name: Name,
     /// Its attributes.
     pub attrs: Attrs,
-    /// What stands before it in the element around it.
+    /// The nodes that stand before it in the element around it.
     pub before: Nodes,
 }
 
 /// What the parts so far say.
 #[derive(Drop)]
 pub struct Builder {
-    /// The elements that are open, the innermost first; at most sixteen.
+    /// The elements that are open, the innermost first; at most 16.
     pub frames: Vec<Frame>,
-    /// What stands in the innermost so far.
+    /// The nodes of the innermost element so far.
     pub nodes: Nodes,
-    /// A text behind it that may go on, as long as it is one run.
+    /// A text after those nodes that may go on, as long as it is one run.
     pub text: Text,
-    /// The same text where it is more than one.
+    /// The same text, if it is more than one run.
     pub more: String,
 }
 
 impl Builder {
-    /// Nothing yet.
+    /// Returns a builder that has no parts yet.
     pub fn new(alloc: Global) -> Self
         ensures { state_of result ≡ nothing_yet }
     {
@@ -42,7 +44,7 @@ impl Builder {
         }
     }
 
-    /// Adds the text to the nodes, where there is one and it is one run.
+    /// Adds the text to the nodes, if there is one and it is one run.
     fn flush_one(&mut self, alloc: Global) -> Result<(), Mem>
         requires { string_bytes self.old.more ≡ [] }
         ensures { IfOk result (λ done. state_of self.new ≡ flushed (state_of self.old)) }
@@ -54,7 +56,7 @@ impl Builder {
         self.nodes.push(Node::Text(text))
     }
 
-    /// Adds the text to the nodes, where there is one.
+    /// Adds the text to the nodes, if there is one.
     fn flush(&mut self, alloc: Global) -> Result<(), Mem>
         ensures { IfOk result (λ done. state_of self.new ≡ flushed (state_of self.old)) }
     {
@@ -66,7 +68,7 @@ impl Builder {
         self.nodes.push(Node::Text(Text::from(text)))
     }
 
-    /// A start tag, where no text is left.
+    /// Adds the text to the nodes, then opens an element at its start tag.
     fn open(&mut self, alloc: Global, name: Name, attrs: Attrs) -> Result<(), Mem>
         ensures { IfOk result (λ done. state_of self.new ≡ opened name attrs (flushed (state_of self.old))) }
     {
@@ -83,7 +85,7 @@ impl Builder {
         Ok(())
     }
 
-    /// The end of the innermost element.
+    /// Adds the text to the nodes, then ends the innermost element.
     fn close(&mut self, alloc: Global) -> Result<(), Mem>
         ensures { IfOk result (λ done. state_of self.new ≡ closed (flushed (state_of self.old))) }
     {
@@ -101,7 +103,7 @@ impl Builder {
         self.nodes.push(Node::Child(element))
     }
 
-    /// A run of text.
+    /// Adds a run of text.
     fn run(&mut self, text: Text) -> Result<(), Mem>
         ensures { IfOk result (λ done. state_of self.new ≡ with_text text (state_of self.old)) }
     {
@@ -116,7 +118,7 @@ impl Builder {
         Ok(())
     }
 
-    /// The first node, where it is an element.
+    /// Returns the first node, if it is an element.
     pub fn into_element(self) -> Option<Element>
         ensures { result ≡ first_element self.nodes }
     {

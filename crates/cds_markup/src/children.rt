@@ -1,4 +1,4 @@
-//! What formats over documents look for in an element.
+//! What formats that are made of documents look for in an element.
 
 ghost use Rattle.std.specs.Prelude.{◌≡◌, IfOk, find, option_copied};
 ghost use Rattle.cds_markup.specs.Children.{nodes_in, attrs_of, text_in, texts_in, is_named, is_called, named, called, is_any, only_of, is_plain, plain_value, element_in, named_in, called_in};
@@ -8,56 +8,56 @@ use cds_base::{Mem, Text};
 use std::alloc::Global;
 
 impl Element {
-    /// Whether it has this name in this namespace.
+    /// Returns whether it has this name in this namespace.
     pub fn is_named(&self, space: &str, local: &str) -> bool
         ensures { result ≡ is_named space.now local.now self.now }
     {
         self.name.local.as_str() == local && self.name.space.as_str() == space
     }
 
-    /// Whether it has this local name, whatever its namespace.
+    /// Returns whether it has this local name, in any namespace or none.
     pub fn is_called(&self, local: &str) -> bool
         ensures { result ≡ is_called local.now self.now }
     {
         self.name.local.as_str() == local
     }
 
-    /// Whether it has a child element of this name in this namespace.
+    /// Returns whether it has a child element of this name in this namespace.
     pub fn has_child(&self, space: &str, local: &str) -> bool
         ensures { result ≡ is_any (named space.now local.now (nodes_in self.now)) }
     {
         has_named(self.children.as_slice(), space, local)
     }
 
-    /// The child element of this name in this namespace, `None` also where there are more.
+    /// Returns the child element of this name in this namespace. Returns `None` if there is none or more than one.
     pub fn only_child(&self, space: &str, local: &str) -> Option<&Element>
         ensures { option_copied result ≡ only_of (named space.now local.now (nodes_in self.now)) }
     {
         only_named(self.children.as_slice(), space, local)
     }
 
-    /// Whether it has a child element of this local name in any namespace.
+    /// Returns whether it has a child element of this local name, in any namespace or none.
     pub fn has_child_called(&self, local: &str) -> bool
         ensures { result ≡ is_any (called local.now (nodes_in self.now)) }
     {
         has_called(self.children.as_slice(), local)
     }
 
-    /// The child element of this local name in any namespace, `None` also where there are more.
+    /// Returns the child element of this local name, in any namespace or none. Returns `None` if there is none or more than one.
     pub fn only_child_called(&self, local: &str) -> Option<&Element>
         ensures { option_copied result ≡ only_of (called local.now (nodes_in self.now)) }
     {
         only_called(self.children.as_slice(), local)
     }
 
-    /// The text that stands in it, without that of its child elements.
+    /// Returns the text that stands in it, without the text of its child elements.
     pub fn own_text(&self, alloc: Global) -> Result<Text, Mem>
         ensures { IfOk result (λ text. text ≡ texts_in (nodes_in self.now)) }
     {
         texts_in(alloc, self.children.as_slice())
     }
 
-    /// The value of its attribute of this name that is in no namespace.
+    /// Returns the value of its attribute of this name that is in no namespace.
     pub fn plain_attr(&self, local: &str) -> Option<&Text>
         ensures { option_copied result ≡ plain_value local.now (attrs_of self.now) }
     {
@@ -68,7 +68,7 @@ impl Element {
     }
 }
 
-/// The element that a node is.
+/// Returns the node as an element, if it is one.
 fn element_in(node: &Node) -> Option<&Element>
     ensures { option_copied result ≡ element_in node.now }
 {
@@ -78,7 +78,7 @@ fn element_in(node: &Node) -> Option<&Element>
     }
 }
 
-/// The element of this name in this namespace that a node is.
+/// Returns the node as an element, if it is one of this name in this namespace.
 fn named_in<'a>(node: &'a Node, space: &str, local: &str) -> Option<&'a Element>
     ensures { option_copied result ≡ named_in space.now local.now node.now }
 {
@@ -88,7 +88,7 @@ fn named_in<'a>(node: &'a Node, space: &str, local: &str) -> Option<&'a Element>
     }
 }
 
-/// The element of this local name that a node is.
+/// Returns the node as an element, if it is one of this local name.
 fn called_in<'a>(node: &'a Node, local: &str) -> Option<&'a Element>
     ensures { option_copied result ≡ called_in local.now node.now }
 {
@@ -98,7 +98,7 @@ fn called_in<'a>(node: &'a Node, local: &str) -> Option<&'a Element>
     }
 }
 
-/// Whether there is an element of this name in this namespace.
+/// Returns whether there is an element of this name in this namespace.
 fn has_named(nodes: &[Node], space: &str, local: &str) -> bool
     ensures { result ≡ is_any (named space.now local.now nodes.now) }
 {
@@ -110,7 +110,7 @@ fn has_named(nodes: &[Node], space: &str, local: &str) -> bool
     false
 }
 
-/// Whether there is an element of this local name.
+/// Returns whether there is an element of this local name.
 fn has_called(nodes: &[Node], local: &str) -> bool
     ensures { result ≡ is_any (called local.now nodes.now) }
 {
@@ -122,7 +122,7 @@ fn has_called(nodes: &[Node], local: &str) -> bool
     false
 }
 
-/// The one element of this name in this namespace.
+/// Returns the element of this name in this namespace, if there is exactly one.
 fn only_named<'a>(nodes: &'a [Node], space: &str, local: &str) -> Option<&'a Element>
     ensures { option_copied result ≡ only_of (named space.now local.now nodes.now) }
 {
@@ -137,7 +137,7 @@ fn only_named<'a>(nodes: &'a [Node], space: &str, local: &str) -> Option<&'a Ele
     found
 }
 
-/// The one element of this local name.
+/// Returns the element of this local name, if there is exactly one.
 fn only_called<'a>(nodes: &'a [Node], local: &str) -> Option<&'a Element>
     ensures { option_copied result ≡ only_of (called local.now nodes.now) }
 {
@@ -152,7 +152,7 @@ fn only_called<'a>(nodes: &'a [Node], local: &str) -> Option<&'a Element>
     found
 }
 
-/// The text that a node is, empty for an element.
+/// Returns the text of a node, which is empty for an element.
 fn text_in(node: &Node) -> &str
     ensures { result.now ≡ text_in node.now }
 {
@@ -162,7 +162,7 @@ fn text_in(node: &Node) -> &str
     }
 }
 
-/// The texts among nodes as one.
+/// Joins the texts among the nodes into one.
 fn texts_in(alloc: Global, nodes: &[Node]) -> Result<Text, Mem>
     ensures { IfOk result (λ text. text ≡ texts_in nodes.now) }
 {
@@ -173,14 +173,14 @@ fn texts_in(alloc: Global, nodes: &[Node]) -> Result<Text, Mem>
     Ok(Text::from(text))
 }
 
-/// Whether an attribute has this name and no namespace.
+/// Returns whether an attribute has this name and no namespace.
 fn is_plain(attr: &Attr, local: &str) -> bool
     ensures { result ≡ is_plain local.now attr.now }
 {
     attr.name.space.len() == 0 && attr.name.local.as_str() == local
 }
 
-/// The attribute that has this name and no namespace.
+/// Returns the first attribute that has this name and no namespace.
 fn plain<'a>(attrs: &'a [Attr], local: &str) -> Option<&'a Attr>
     ensures { option_copied result ≡ find (is_plain local.now) attrs.now }
 {

@@ -1,3 +1,5 @@
+//! How the characters of the declaration (`<?xml ..?>`) are read.
+
 ghost use Rattle.std.specs.Prelude.{◌≡◌, ◌==◌, []};
 ghost use Rattle.cds_markup.specs.declared.mode.Declaring.{Declaring};
 ghost use Rattle.cds_markup.specs.Grammar.{lower_case, is_quote};
@@ -9,7 +11,7 @@ use crate::error::Stop;
 use crate::mode::{Declaring, Left, Stage};
 
 impl Stage {
-    /// The part that may come next behind this one.
+    /// Returns the part that may come next after this one.
     fn behind(self) -> Stage
         ensures { result ≡ behind self }
     {
@@ -20,7 +22,7 @@ impl Stage {
         }
     }
 
-    /// Whether the character is the next letter of this part's value: that of the encoding in either case.
+    /// Returns whether the character is the next letter of this part's value. For the encoding either case is right.
     fn is_next_letter(self, left: &Left, c: char) -> bool
         ensures { result ≡ is_next_letter self left.now c }
     {
@@ -31,21 +33,21 @@ impl Stage {
     }
 }
 
-/// An ASCII letter in lower case.
+/// Returns the character. An ASCII letter comes in lower case.
 fn lower_case(c: char) -> char
     ensures { result ≡ lower_case c }
 {
     c.to_ascii_lowercase()
 }
 
-/// Whether the character is a quote.
+/// Returns whether the character is a quote.
 pub fn is_quote(c: char) -> bool
     ensures { result ≡ is_quote c }
 {
     c == '"' || c == '\''
 }
 
-/// Behind the `?` that ends the declaration.
+/// Takes the character after the `?` that ends the declaration.
 fn question(c: char) -> Result<Option<()>, Stop>
     ensures { (now : Declaring) → Agrees (step_declaration Declaring.Question c) result now }
 {
@@ -63,7 +65,7 @@ impl Declaring {
         drop(std::mem::replace(self, declaring));
     }
 
-    /// The end of the declaration.
+    /// Takes the `?` that ends the declaration.
     fn closing(&mut self, c: char) -> Result<Option<()>, Stop>
         ensures { Agrees (closing_step c) result self.new }
     {
@@ -74,7 +76,7 @@ impl Declaring {
         Ok(None)
     }
 
-    /// Whether the document stands alone, or the end of the declaration.
+    /// Takes the first letter of `standalone`, or the `?` that ends the declaration.
     fn standalone(&mut self, c: char) -> Result<Option<()>, Stop>
         ensures { Agrees (standalone_step c) result self.new }
     {
@@ -85,7 +87,7 @@ impl Declaring {
         Ok(None)
     }
 
-    /// What begins behind white space.
+    /// Takes the first character after white space.
     fn begin(&mut self, stage: Stage, c: char) -> Result<Option<()>, Stop>
         ensures { Agrees (begin_step stage c) result self.new }
     {
@@ -109,7 +111,7 @@ impl Declaring {
         }
     }
 
-    /// Right behind a part, or behind the `<?xml`.
+    /// Takes a character right after a part, or after `<?xml`.
     fn part(&mut self, stage: Stage, c: char) -> Result<Option<()>, Stop>
         ensures { Agrees (part_step stage c) result self.new }
     {
@@ -123,7 +125,7 @@ impl Declaring {
         }
     }
 
-    /// Behind a part's name.
+    /// Takes a character after a part's name.
     fn named(&mut self, stage: Stage, c: char) -> Result<Option<()>, Stop>
         ensures { Agrees (name_step stage [] c) result self.new }
     {
@@ -138,7 +140,7 @@ impl Declaring {
         Ok(None)
     }
 
-    /// A part's value, behind this quote.
+    /// Begins a part's value after this quote.
     fn begin_value(&mut self, stage: Stage, quote: char) -> Result<Option<()>, Stop>
         ensures { Agrees (value_begins stage quote) result self.new }
     {
@@ -153,7 +155,7 @@ impl Declaring {
         Ok(None)
     }
 
-    /// The part that it is in, or that may come next.
+    /// Returns the part that is being read, or that may come next.
     fn stage(&self) -> Stage
         ensures { result ≡ stage_of self.now }
     {
@@ -169,7 +171,7 @@ impl Declaring {
         }
     }
 
-    /// The quote of the part's value.
+    /// Returns the quote around the part's value, 0 if none is kept.
     fn quote(&self) -> u32
         ensures { result ≡ quote_in self.now }
     {
@@ -179,7 +181,7 @@ impl Declaring {
         }
     }
 
-    /// The quote behind a part's value.
+    /// Takes the quote that ends a part's value.
     fn end_value(&mut self, stage: Stage, quote: u32, c: char) -> Result<Option<()>, Stop>
         ensures { Agrees (value_letter stage quote [] c) result self.new }
     {
@@ -190,7 +192,7 @@ impl Declaring {
         Ok(None)
     }
 
-    /// The value that says whether the document stands alone.
+    /// Takes the first letter of `yes` or `no`, which says whether the document stands alone.
     fn yes_or_no(&mut self, quote: u32, c: char) -> Result<Option<()>, Stop>
         ensures { Agrees (step_declaration (Declaring.YesOrNo quote) c) result self.new }
     {
@@ -203,7 +205,7 @@ impl Declaring {
         Ok(None)
     }
 
-    /// White space, or what begins behind it.
+    /// Takes white space, or the first character after it.
     fn gap(&mut self, stage: Stage, c: char) -> Result<Option<()>, Stop>
         ensures { Agrees (step_declaration (Declaring.Gap stage) c) result self.new }
     {
@@ -214,7 +216,7 @@ impl Declaring {
         Ok(None)
     }
 
-    /// White space behind a part's equals sign, or the quote before its value.
+    /// Takes white space after a part's equals sign, or the quote before its value.
     fn equals(&mut self, stage: Stage, c: char) -> Result<Option<()>, Stop>
         ensures { Agrees (step_declaration (Declaring.PartEquals stage) c) result self.new }
     {
@@ -228,7 +230,7 @@ impl Declaring {
         self.begin_value(stage, c)
     }
 
-    /// One character.
+    /// Takes one character. Returns `()` at the `>` that ends the declaration.
     pub fn step(&mut self, c: char) -> Result<Option<()>, Stop>
         ensures { Agrees (step_declaration self.old c) result self.new }
     {

@@ -1,4 +1,4 @@
-//! How characters come in bytes.
+//! How the character that bytes begin with is read (UTF-8, XML 1.0 on characters).
 
 ghost use Rattle.std.specs.Prelude.{◌≡◌, true, ◌==◌, ◌≤◌, ◌<◌, ◌&&◌, List, ℕ, length, IfSome};
 ghost use Rattle.cds_base.specs.Characters.{is_allowed};
@@ -12,9 +12,9 @@ use std::marker::Model;
 pub enum Decoded {
     /// An allowed character.
     Whole(char),
-    /// The first bytes of one, and they end there.
+    /// The first bytes of an allowed character, whose other bytes are to come.
     More,
-    /// None.
+    /// No allowed character.
     Broken,
 }
 
@@ -32,7 +32,7 @@ impl<'a> Model for Coming<'a> {
     ghost view = { λ p. p.left.now };
 }
 
-/// Whether the byte begins an allowed character.
+/// Returns whether the byte begins an allowed character.
 fn begins_character(b: u8) -> bool
     ensures value { result ≡ begins_character b }
     ensures lead { result ≡ true → 128 ≤ b → 192 ≤ b }
@@ -45,21 +45,21 @@ fn begins_character(b: u8) -> bool
 }
 
 impl<'a> Coming<'a> {
-    /// These bytes.
+    /// Returns these bytes, all of them left.
     fn new(bytes: &'a [u8]) -> Self
         ensures { result ≡ bytes.now }
     {
         Coming { left: bytes }
     }
 
-    /// Whether no byte is left.
+    /// Returns whether no byte is left.
     fn is_empty(&self) -> bool
         ensures { result ≡ (length self.now == 0) }
     {
         self.left.is_empty()
     }
 
-    /// A byte that begins a character.
+    /// Reads one byte, if it begins an allowed character.
     fn first(&mut self) -> Option<u8>
         ensures step { ReadSo (byte_at begins_character self.old) result self.new }
         ensures lead { IfSome result (λ b. 128 ≤ b → 192 ≤ b) }
@@ -76,7 +76,7 @@ impl<'a> Coming<'a> {
         }
     }
 
-    /// A byte in a range.
+    /// Reads one byte, if it is in this range.
     fn tail(&mut self, low: u8, high: u8) -> Option<u8>
         ensures { ReadSo (tail_at low high self.old) result self.new }
     {
@@ -92,7 +92,7 @@ impl<'a> Coming<'a> {
         }
     }
 
-    /// What follows the first byte of a character of two bytes, which is its code point.
+    /// Reads the rest of a character of two bytes, after the first. Returns its code point.
     fn two_bytes(&mut self, first: u8) -> Option<u32>
         requires { 192 ≤ first }
         ensures { ReadSo (two_bytes_at first self.old) result self.new }
@@ -101,7 +101,8 @@ impl<'a> Coming<'a> {
         Some((u32::from(first) - 0xC0) * 0x40 + (u32::from(second) - 0x80))
     }
 
-    /// What follows the first byte of a character of three bytes, none of which is a surrogate, U+FFFE or U+FFFF.
+    /// Reads the rest of a character of three bytes, after the first. Returns its code point. Surrogates, U+FFFE and U+FFFF are
+    /// refused.
     fn three_bytes(&mut self, first: u8) -> Option<u32>
         requires { 224 ≤ first }
         ensures { ReadSo (three_bytes_at first self.old) result self.new }
@@ -115,7 +116,7 @@ impl<'a> Coming<'a> {
         )
     }
 
-    /// What follows the first byte of a character of four bytes.
+    /// Reads the rest of a character of four bytes, after the first. Returns its code point.
     fn four_bytes(&mut self, first: u8) -> Option<u32>
         requires { 240 ≤ first }
         ensures { ReadSo (four_bytes_at first self.old) result self.new }
@@ -131,7 +132,7 @@ impl<'a> Coming<'a> {
         )
     }
 
-    /// What follows the first byte of a character.
+    /// Reads the rest of a character, after its first byte. Returns its code point.
     fn behind_first(&mut self, first: u8) -> Option<u32>
         requires { 128 ≤ first → 192 ≤ first }
         ensures { ReadSo (behind_first first self.old) result self.new }
@@ -147,7 +148,7 @@ impl<'a> Coming<'a> {
         }
     }
 
-    /// An allowed character (XML 1.0 on characters), as its code point.
+    /// Reads an allowed character (XML 1.0 on characters). Returns its code point.
     #[tactic(auto, unfolding(crate::specs::Decoding::any_at))]
     fn any(&mut self) -> Option<u32>
         ensures { ReadSo (any_at self.old) result self.new }
@@ -157,7 +158,7 @@ impl<'a> Coming<'a> {
     }
 }
 
-/// The least byte that may follow this first byte of a character.
+/// Returns the least byte that may follow this first byte of a character.
 fn low_of_second(first: u8) -> u8
     ensures { result ≡ second_low first }
 {
@@ -168,7 +169,7 @@ fn low_of_second(first: u8) -> u8
     }
 }
 
-/// The greatest byte that may follow this first byte of a character.
+/// Returns the greatest byte that may follow this first byte of a character.
 fn high_of_second(first: u8) -> u8
     ensures { result ≡ second_high first }
 {
@@ -179,7 +180,7 @@ fn high_of_second(first: u8) -> u8
     }
 }
 
-/// The greatest byte that may follow these first two of three.
+/// Returns the greatest byte that may follow these first two bytes of a character of three.
 fn high_of_third(first: u8, second: u8) -> u8
     ensures { result ≡ third_high first second }
 {
@@ -190,7 +191,7 @@ fn high_of_third(first: u8, second: u8) -> u8
     }
 }
 
-/// The character with an allowed code point.
+/// Returns the character with this allowed code point.
 #[tactic(auto, using(crate::proofs::Decoded::allowed_inside))]
 fn char_of(code: u32) -> char
     requires { is_allowed code ≡ true }
@@ -202,7 +203,7 @@ fn char_of(code: u32) -> char
     }
 }
 
-/// What the bytes begin with.
+/// Returns what the bytes begin with.
 #[tactic(auto, using(crate::proofs::Decoded::read_allowed, crate::proofs::Decoded::read_whole, crate::proofs::Decoded::read_more, crate::proofs::Decoded::read_broken))]
 pub fn decode(bytes: &[u8]) -> Decoded
     ensures { DecodesSo (any_at bytes.now) result }

@@ -1,3 +1,5 @@
+//! Elements and what stands in them.
+
 ghost use Rattle.std.specs.Prelude.{◌≡◌, OnErr, OnOk, length, option_copied, slice_get};
 ghost use Rattle.cds_markup.specs.Document.{End};
 ghost use Rattle.cds_markup.specs.Elements.{and_node, nodes_of};
@@ -39,11 +41,11 @@ impl Model for Element {
     ghost size_decreases = { λ a h. omega arith };
 }
 
-/// What stands in an element.
+/// One node of what stands in an element.
 #[derive(Drop, Debug)]
 #[cycle(element)]
 pub enum Node {
-    /// A text. In an element that was read none is empty or stands beside another.
+    /// A text. In an element that was read, each text has at least one byte, and no two texts stand beside each other.
     Text(Text),
     /// An element.
     Child(Element),
@@ -79,7 +81,7 @@ impl Model for Nodes {
 
 #[tactic(auto, using(crate::proofs::NodesForm::nodes_again, crate::proofs::NodesForm::nodes_push))]
 impl Nodes {
-    /// Nothing, which takes no memory.
+    /// Returns an empty list, which takes no memory.
     pub fn new(alloc: Global) -> Self
         ensures { result ≡ End }
     {
@@ -97,7 +99,7 @@ impl Nodes {
         Ok(())
     }
 
-    /// The first node, where it is an element.
+    /// Returns the first node, if it is an element.
     pub fn into_first(self) -> Option<Element>
         ensures { result ≡ first_element self }
     {
@@ -111,21 +113,21 @@ impl Nodes {
         }
     }
 
-    /// How many there are.
+    /// Returns how many nodes there are.
     pub fn len(&self) -> usize
         ensures { result ≡ length (nodes_of self.now) }
     {
         self.items.len()
     }
 
-    /// The node at a place counted from 0, `None` past the end.
+    /// Returns the node at a place, counted from 0. Returns `None` past the end.
     pub fn get(&self, at: usize) -> Option<&Node>
         ensures { option_copied result ≡ slice_get (nodes_of self.now) at }
     {
         self.as_slice().get(at)
     }
 
-    /// The nodes in order.
+    /// Returns the nodes in order.
     pub fn as_slice(&self) -> &[Node]
         ensures { result.now ≡ nodes_of self.now }
     {

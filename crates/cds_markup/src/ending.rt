@@ -1,4 +1,4 @@
-//! The name in an end tag.
+//! How the name in an end tag is compared with the name of the open element.
 
 ghost use Rattle.std.specs.Prelude.{◌≡◌, ◌<◌, ◌+◌, ◌^◌, IfSome, drop, slice_get, encode_utf8};
 ghost use Rattle.cds_markup.specs.Grammar.{name_bytes};
@@ -6,7 +6,7 @@ ghost use Rattle.cds_markup.specs.Steps.{StandsSo, is_over};
 
 use crate::tag::QName;
 
-/// The byte at a place of the name as it is written.
+/// Returns the byte at a place of the name as it is written.
 #[tactic(auto, using(crate::proofs::Decoded::name_plain, crate::proofs::Decoded::name_front, crate::proofs::Decoded::name_colon, crate::proofs::Decoded::name_back, crate::proofs::Decoded::get_room))]
 pub fn byte_of_name(name: &QName, at: usize) -> Option<u8>
     ensures value { result ≡ slice_get (name_bytes name.now) at }
@@ -26,7 +26,7 @@ pub fn byte_of_name(name: &QName, at: usize) -> Option<u8>
     local.get(at - prefix.len() - 1).copied()
 }
 
-/// Whether the name as it is written has no byte at the place.
+/// Returns whether the name as it is written ends at or before this place.
 #[tactic(auto, using(crate::proofs::Decoded::none_over, crate::proofs::Decoded::some_over))]
 pub fn is_over(name: &QName, at: usize) -> bool
     ensures { result ≡ is_over (drop at (name_bytes name.now)) }
@@ -37,7 +37,7 @@ pub fn is_over(name: &QName, at: usize) -> bool
     }
 }
 
-/// The place behind these bytes, where they stand at a place of the name as it is written.
+/// Returns the place after these bytes, if they stand at this place of the name as it is written.
 #[tactic(auto, using(crate::proofs::Decoded::stands_on, crate::proofs::Decoded::stands_other, crate::proofs::Decoded::stands_none))]
 pub fn name_goes_on(name: &QName, at: usize, bytes: &[u8]) -> Option<usize>
     ensures { StandsSo (name_bytes name.now) at bytes.now result }
@@ -59,7 +59,7 @@ pub fn name_goes_on(name: &QName, at: usize, bytes: &[u8]) -> Option<usize>
     Some(at)
 }
 
-/// The place behind the character, where it stands at a place of the name as it is written.
+/// Returns the place after the character, if it stands at this place of the name as it is written.
 pub fn name_has(name: &QName, at: usize, c: char) -> Option<usize>
     ensures { StandsSo (name_bytes name.now) at (encode_utf8 c) result }
 {

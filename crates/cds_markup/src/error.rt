@@ -1,3 +1,5 @@
+//! Why reading refuses bytes: the public errors, and the reasons why a machine stops.
+
 ghost use Rattle.cds_markup.specs.declared.error.MarkupError.TheVariants.{Mem};
 ghost use Rattle.cds_markup.specs.declared.error.Stop.TheVariants.{Mem as OutOfMemory};
 ghost use Rattle.std.specs.Prelude.{◌≡◌};
@@ -5,17 +7,19 @@ ghost use Rattle.std.specs.Prelude.{◌≡◌};
 use std::alloc::AllocError;
 use thiserror::Error;
 
-/// Why bytes were not read as a document. Places are bytes from the start of the input, from 0.
+/// A reason why bytes were not read as a document. Places are bytes from the start of the input, from 0.
 #[derive(Clone, Copy, Debug, PartialEq, Eq, Error)]
 pub enum MarkupError {
-    /// The byte at this place cannot stand there, or the input ends there and is no document, or the `>` or `/` there
-    /// ends a start tag that breaks a rule.
+    /// The input breaks at this place, for one of these reasons:
+    /// - The byte there cannot stand there.
+    /// - The input ends there and is no document.
+    /// - The `>` or `/` there ends a start tag that breaks a rule.
     #[error("no document: it breaks at {at}")]
     Bad { at: usize },
-    /// The first byte of a start tag's name where 16 elements are open.
+    /// The first byte of a start tag's name came while 16 elements were open.
     #[error("too many open elements at {at}")]
     TooDeep { at: usize },
-    /// More than 67,108,864 bytes.
+    /// More than 67,108,864 bytes came.
     #[error("the document is too long")]
     TooLong,
     /// This reader refused before.
@@ -48,7 +52,7 @@ pub enum Stop {
     Broken,
     /// The next byte ends a start tag that breaks a rule.
     NamespaceRule,
-    /// The next byte is the first of a start tag's name where 16 elements are open.
+    /// The next byte is the first of a start tag's name, and 16 elements are open.
     Deep,
     /// Out of memory.
     Mem,

@@ -1,8 +1,8 @@
-//! Small documents that are evaluated from the definitions: each clause is some of them.
+//! Small documents that are evaluated from the definitions. Each clause is about some of them.
 
 ghost use Rattle.cds_markup.specs.WrittenRows.{WrittenRows};
 
-/// The written forms of some elements.
+/// States the written forms of some elements.
 pub fn written_rows()
     ensures { WrittenRows }
 {}

@@ -1,3 +1,5 @@
+//! What a machine says when a byte completes something inside the root.
+
 use crate::letters::Letters;
 use crate::{Attrs, Name};
 
@@ -16,7 +18,7 @@ pub enum Event {
     Start(Name, Attrs),
     /// The tag of an empty element, at its `/`.
     Empty(Name, Attrs),
-    /// The `>` behind that.
+    /// The `>` after that `/`.
     Shut,
     /// An end tag.
     End,

@@ -1,17 +1,17 @@
-//! What is proved of the words about documents themselves: calling a function gives its law.
+//! What is proved of the words about documents themselves. Calling a function gives its law.
 
 ghost use Rattle.cds_markup.specs.Feeding.{RunsSay};
 ghost use Rattle.cds_markup.specs.Laws.{AllAreAnswered, AllIsTold, DocumentsAreRead, GoOnOrBreak, LeavesHaveOneEnd, NothingCountsPastTheLimit, OneAnswer, OneElement, OneTelling, PartsAreBuilt, PartsAreFound, PartsAreGiven, PartsAreOfRoots, PartsAreOne, PartsAreTold, PartsBegin, PartsStandBefore};
 ghost use Rattle.cds_markup.specs.Reader.{EveryCutting};
 ghost use Rattle.cds_markup.specs.Written.{WrittenIsRead};
 
-/// What is answered to bytes is what the grammar says: that they are read exactly where they are a document, and each
-/// refusal exactly where it stands; and the parts of a document are, nested, its element.
+/// What is answered to bytes is what the grammar says. They are read exactly if they are a document, and each refusal is given
+/// exactly if it stands. The parts of a document, once nested, are its element.
 pub fn documents_are_read()
     ensures { DocumentsAreRead }
 {}
 
-/// Bytes are a document of one element at most.
+/// Bytes are a document of at most one element.
 pub fn one_element()
     ensures { OneElement }
 {}
@@ -26,7 +26,7 @@ pub fn one_answer()
     ensures { OneAnswer }
 {}
 
-/// By the grammar alone: some document goes on from any bytes, or there is a first byte with which none does.
+/// By the grammar alone, some document goes on from any bytes, or there is a first byte with which none does.
 pub fn go_on_or_break()
     ensures { GoOnOrBreak }
 {}
@@ -41,18 +41,18 @@ pub fn parts_are_told()
     ensures { PartsAreTold }
 {}
 
-/// The parts that reading gives of any bytes are those that stand there before the first fault: each is what the
-/// grammar says at its place, and nothing that is found before the fault is left out.
+/// The parts that reading gives of any bytes are those that stand there before the first fault. Each is what the grammar says at
+/// its place. Nothing that is found before the fault is left out.
 pub fn parts_are_given()
     ensures { PartsAreGiven }
 {}
 
-/// Each of the parts of bytes stands there, and nothing that is found there before the first fault is left out.
+/// Each of the parts of bytes stands there. Nothing that is found there before the first fault is left out.
 pub fn parts_are_found()
     ensures { PartsAreFound }
 {}
 
-/// The parts up to a place at which no literal text ends begin the parts of all bytes that begin so.
+/// Take the parts up to a place at which no literal text ends. They begin the parts of all bytes that begin so.
 pub fn parts_begin()
     ensures { PartsBegin }
 {}
@@ -72,7 +72,7 @@ pub fn parts_are_of_roots()
     ensures { PartsAreOfRoots }
 {}
 
-/// The parts of bytes are one list: what stands at its place by the grammar is told by the bytes alone.
+/// The parts of bytes are one list. The bytes alone tell what stands at its place by the grammar.
 pub fn parts_are_one()
     ensures { PartsAreOne }
 {}
@@ -82,12 +82,12 @@ pub fn one_telling()
     ensures { OneTelling }
 {}
 
-/// What all bytes are answered and the parts that reading gives of them are what is told.
+/// What is told of all bytes is what they are answered and the parts that reading gives of them.
 pub fn all_is_told()
     ensures { AllIsTold }
 {}
 
-/// What comes behind more than 67,108,864 bytes changes neither the answer nor the parts.
+/// If more than 67,108,864 bytes came, what comes after them changes neither the answer nor the parts.
 pub fn nothing_counts_past_the_limit()
     ensures { NothingCountsPastTheLimit }
 {}
@@ -97,12 +97,12 @@ pub fn every_cutting()
     ensures { EveryCutting }
 {}
 
-/// What is written of an element that can be written is within the limits a document that means this element.
+/// Let an element be one that can be written within the limits. Then what is written of it is a document that means it.
 pub fn written_is_read()
     ensures { WrittenIsRead }
 {}
 
-/// A literal text in several runs says what it says in one: the element of the parts is that of their runs.
+/// A literal text in several runs says what it says in one. The element of the parts is also that of their runs.
 pub fn runs_say()
     ensures { RunsSay }
 {}

@@ -1,3 +1,5 @@
+//! Texts that grow by one character or one run at a time.
+
 ghost use Rattle.std.specs.Prelude.{◌≡◌, List, ℕ, [], ◌++◌, string_bytes, encode_utf8, length, ◌==◌, IfOk, OnOk, slice_index};
 ghost use Rattle.std.specs.Str.{IsAscii};
 ghost use Rattle.cds_markup.specs.Scans.{without_brackets};
@@ -22,7 +24,7 @@ impl Model for Letters {
     ghost view = { λ t. string_bytes t.value };
 }
 
-/// The text with these bytes, which are ASCII.
+/// Returns the text with these bytes, which are ASCII.
 pub fn ascii_text(alloc: Global, bytes: &[u8]) -> Result<Text, Mem>
     requires { IsAscii bytes.now }
     ensures { IfOk result (λ text. text ≡ bytes.now) }
@@ -34,7 +36,7 @@ pub fn ascii_text(alloc: Global, bytes: &[u8]) -> Result<Text, Mem>
 }
 
 impl Letters {
-    /// No letters yet.
+    /// Returns an empty text.
     pub fn new(alloc: Global) -> Self
         ensures { result ≡ [] }
     {
@@ -65,7 +67,7 @@ impl Letters {
         }
     }
 
-    /// These bytes, which are ASCII.
+    /// Returns a text of these bytes, which are ASCII.
     pub fn ascii(alloc: Global, bytes: &[u8]) -> Result<Self, Mem>
         requires { IsAscii bytes.now }
         ensures { IfOk result (λ letters. letters ≡ bytes.now) }
@@ -75,7 +77,7 @@ impl Letters {
         Ok(letters)
     }
 
-    /// Adds the run at the front, or nothing: how many bytes it has.
+    /// Adds the run of this kind that the bytes begin with, or nothing unless `going`. Returns how many bytes it added.
     pub fn push_run(&mut self, going: bool, plain: Plain, bytes: &[u8]) -> Result<usize, Mem>
         ensures { Collects going (is_plain plain) self.old bytes.now result self.new }
     {
@@ -87,14 +89,14 @@ impl Letters {
         Ok(count)
     }
 
-    /// Whether there is none.
+    /// Returns whether the text is empty.
     pub fn is_empty(&self) -> bool
         ensures { result ≡ (length self.now == 0) }
     {
         self.value.is_empty()
     }
 
-    /// Whether a closing bracket stands at the place.
+    /// Returns whether a closing bracket stands at the place.
     fn has_bracket(&self, at: usize) -> bool
         ensures { result ≡ (slice_index self.now at == 93) }
     {
@@ -104,7 +106,7 @@ impl Letters {
         }
     }
 
-    /// Takes away the two closing brackets at the end.
+    /// Removes the two closing brackets at the end.
     pub fn without_brackets(&mut self)
         ensures { self.new ≡ without_brackets self.old }
     {
@@ -114,7 +116,7 @@ impl Letters {
         }
     }
 
-    /// The text.
+    /// Returns the finished text.
     pub fn into_text(self) -> Text
         ensures { result ≡ self }
     {

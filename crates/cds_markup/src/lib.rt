@@ -1,4 +1,4 @@
-//! Documents: XML 1.0 with namespaces, without document types, entities of one's own and processing instructions.
+//! Documents: XML 1.0 with namespaces. Document types, entities of a document's own and processing instructions are left out.
 #![tactic(auto)]
 
 mod attributing;

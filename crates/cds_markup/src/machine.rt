@@ -1,3 +1,5 @@
+//! A machine that reads a document byte by byte, and says what each byte completes.
+
 ghost use Rattle.std.specs.Prelude.{◌≡◌, ◌<◌, ◌==◌, ◌&&◌, [], Ok, Err, Some, None, IfOk};
 ghost use Rattle.cds_base.specs.Characters.{is_allowed};
 ghost use Rattle.cds_markup.specs.declared.tag.Open.{Open};
@@ -27,13 +29,13 @@ pub const MOST_OPEN: usize = 16;
 pub struct Machine {
     /// The first bytes of a character that is not whole yet.
     pub begun: Vec<u8>,
-    /// Where the whole characters led.
+    /// The state after all whole characters.
     pub mode: Mode,
-    /// The elements that are open, the innermost first; at most sixteen.
+    /// The elements that are open, the innermost first; at most 16.
     pub opens: Vec<Open>,
 }
 
-/// The allowed character that the byte is, below U+0080.
+/// Returns the character of this byte below U+0080, if it is allowed.
 #[tactic(auto, using(crate::proofs::Decoded::ascii_whole, crate::proofs::Decoded::ascii_none))]
 fn ascii(b: u8) -> Result<Option<char>, Stop>
     requires { b < 128 }
@@ -48,7 +50,7 @@ fn ascii(b: u8) -> Result<Option<char>, Stop>
 }
 
 impl Machine {
-    /// A reader of nothing yet. It takes no memory so far.
+    /// Returns a machine that has read nothing. It takes no memory so far.
     pub fn new(alloc: Global) -> Self
         ensures { reading_of result ≡ nothing_read }
     {
@@ -59,7 +61,7 @@ impl Machine {
         }
     }
 
-    /// Whether as many elements are open as may be, and the byte begins the name of one more.
+    /// Returns whether the most elements are open and the byte begins the name of one more.
     fn is_deep(&self, b: u8) -> bool
         ensures { result ≡ is_deep (reading_of self.now) b }
     {
@@ -69,7 +71,7 @@ impl Machine {
             && may_begin_name(b)
     }
 
-    /// The byte where no character has begun, below U+0080.
+    /// Reads a byte below U+0080 while no character has begun.
     #[tactic(auto, using(crate::proofs::Decoded::plain_byte))]
     fn plain(&mut self, b: u8) -> Result<Option<char>, Stop>
         requires low { b < 128 }
@@ -79,7 +81,7 @@ impl Machine {
         ascii(b)
     }
 
-    /// The byte as one of a character of more than one.
+    /// Reads a byte of a character that has more than one byte.
     #[tactic(auto, using(crate::proofs::Decoded::wide_whole, crate::proofs::Decoded::wide_more, crate::proofs::Decoded::wide_stuck, crate::proofs::Decoded::wide_broken))]
     #[inline(never)]
     fn wide(&mut self, b: u8) -> Result<Option<char>, Stop>
@@ -107,7 +109,7 @@ impl Machine {
         }
     }
 
-    /// The character that the byte ends, `None` where more bytes of it are to come.
+    /// Reads a byte. Returns the character that it ends, or `None` if more bytes of that character are to come.
     fn character(&mut self, b: u8) -> Result<Option<char>, Stop>
         ensures { ByteSo (reading_of self.old) b result (reading_of self.new) }
     {
@@ -118,7 +120,7 @@ impl Machine {
         }
     }
 
-    /// What a start tag says that declares these namespaces: its name has this prefix and this local name.
+    /// Returns what a start tag says that declares these namespaces. Its name has this prefix and this local name.
     fn tag(
         &self,
         alloc: Global,
@@ -138,7 +140,7 @@ impl Machine {
         }
     }
 
-    /// A start tag.
+    /// Opens the element of a start tag.
     fn start(&mut self, alloc: Global, tag: Tag) -> Result<Event, Stop>
         ensures { TakenSo (reading_of self.old) (Token.Started tag) result (reading_of self.new) }
     {
@@ -159,7 +161,7 @@ impl Machine {
         Ok(Event::Start(said, attrs))
     }
 
-    /// The tag of an empty element.
+    /// Returns what the tag of an empty element says.
     fn empty(&mut self, alloc: Global, tag: Tag) -> Result<Event, Stop>
         ensures { TakenSo (reading_of self.old) (Token.Slash tag) result (reading_of self.new) }
     {
@@ -170,7 +172,7 @@ impl Machine {
         Ok(Event::Empty(name, attrs))
     }
 
-    /// An end tag.
+    /// Ends the innermost element at its end tag.
     fn end(&mut self) -> Event
         ensures { TakenSo (reading_of self.old) Token.Ended (Ok result) (reading_of self.new) }
     {
@@ -180,7 +182,7 @@ impl Machine {
         Event::End
     }
 
-    /// What a token says, with the elements that are open behind it.
+    /// Returns what a token says, and brings the open elements up to date.
     #[inline(never)]
     fn take(&mut self, alloc: Global, token: Token) -> Result<Event, Stop>
         ensures { TakenSo (reading_of self.old) token result (reading_of self.new) }
@@ -197,7 +199,7 @@ impl Machine {
         }
     }
 
-    /// A whole character.
+    /// Takes a whole character.
     #[tactic(auto, using(crate::proofs::Decoded::whole_nothing, crate::proofs::Decoded::whole_token, crate::proofs::Decoded::whole_broken, crate::proofs::Decoded::whole_refused))]
     fn whole(&mut self, alloc: Global, c: char) -> Result<Option<Event>, Stop>
         requires { self.old.begun.items ≡ [] }
@@ -210,7 +212,7 @@ impl Machine {
         Ok(Some(self.take(alloc, token)?))
     }
 
-    /// One byte, and what it completes. After a refusal nothing is known of the machine.
+    /// Reads one byte. Returns what it completes. After a refusal nothing is known of the machine.
     #[tactic(auto, using(crate::proofs::Decoded::step_deep, crate::proofs::Decoded::judged_refused, crate::proofs::Decoded::step_none, crate::proofs::Decoded::step_whole))]
     pub fn step(&mut self, alloc: Global, b: u8) -> Result<Option<Event>, Stop>
         ensures { JudgedSo (reading_of self.old) b result (reading_of self.new) }
@@ -224,28 +226,28 @@ impl Machine {
         self.whole(alloc, c)
     }
 
-    /// Whether the input may end here.
+    /// Returns whether the input may end here.
     pub fn may_end(&self) -> bool
         ensures { result ≡ may_end (reading_of self.now) }
     {
         self.begun.is_empty() && self.is_behind()
     }
 
-    /// Whether the first bytes of a character stand in a literal text.
+    /// Returns whether the first bytes of a character stand in a literal text.
     pub fn cuts_text(&self) -> bool
         ensures { result ≡ cuts_text (reading_of self.now) }
     {
         self.is_in_content() && !self.begun.is_empty()
     }
 
-    /// Whether it is between tags.
+    /// Returns whether the state is between tags.
     fn is_in_content(&self) -> bool
         ensures { result ≡ is_in_content self.now.mode }
     {
         matches!(self.mode, Mode::Inside(Turn::Content(_)))
     }
 
-    /// Whether it is behind the root.
+    /// Returns whether the state is after the root.
     fn is_behind(&self) -> bool
         ensures { result ≡ is_behind self.now.mode }
     {

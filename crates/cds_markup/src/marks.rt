@@ -1,4 +1,4 @@
-//! Parts of a document, as its bytes complete them.
+//! The parts of a document, as its bytes complete them.
 
 ghost use Rattle.std.specs.Prelude.{◌≡◌, ◌==◌, ◌&&◌, ◌++◌, not, false, Ok, Some, None, IfOk, OnOk, encode_utf8};
 ghost use Rattle.cds_base.specs.Characters.{is_blank};
@@ -19,9 +19,9 @@ use std::alloc::Global;
 /// A literal text that is not over.
 #[derive(Drop)]
 pub struct OpenText {
-    /// Where it begins.
+    /// The place where it begins.
     pub at: usize,
-    /// The place of its first character that is no blank.
+    /// The place of its first character that is not white space.
     pub non_blank: Option<usize>,
     /// What it says so far.
     pub said: Letters,
@@ -29,17 +29,17 @@ pub struct OpenText {
     pub behind_return: bool,
 }
 
-/// Where what is not complete yet began.
+/// The places where the things that are not complete yet begin.
 #[derive(Drop)]
 pub struct Marks {
-    /// The place of the first byte of what is open: a tag, a reference or a section; or the `/` of an empty element's tag.
+    /// The place of the first byte of an open tag, reference or section, or of the `/` of an empty element's tag.
     pub begin: usize,
     /// A literal text that is not over.
     pub text: Option<OpenText>,
 }
 
 impl Mode {
-    /// Whether it is between what parts are made of, before the root or inside it.
+    /// Returns whether the state is before the root or inside it, and between the things that parts are made of.
     pub fn is_between(&self) -> bool
         ensures { result ≡ is_between self.now }
     {
@@ -49,7 +49,7 @@ impl Mode {
         )
     }
 
-    /// Whether something began, where it was between what parts are made of or not.
+    /// Returns whether such a thing began, if the state was `between` them before.
     pub fn begins(&self, between: bool) -> bool
         ensures { result ≡ (between && not (is_between self.now)) }
     {
@@ -57,7 +57,7 @@ impl Mode {
     }
 }
 
-/// Adds what a literal character says: each line end is one line feed.
+/// Adds what a literal character says. Each line end says one line feed.
 fn push_line(said: &mut Letters, behind_return: bool, c: char) -> Result<(), Mem>
     ensures { OnOk result (said.new ≡ said.old ++ line_end_says behind_return c) }
 {
@@ -73,7 +73,7 @@ fn push_line(said: &mut Letters, behind_return: bool, c: char) -> Result<(), Mem
 }
 
 impl OpenText {
-    /// A text that begins at a place, of which nothing came.
+    /// Returns a text that begins at this place, of which nothing came.
     fn new(alloc: Global, at: usize) -> Self
         ensures { result ≡ open_text at }
     {
@@ -85,7 +85,8 @@ impl OpenText {
         }
     }
 
-    /// A text that begins at a place with this byte, before it: of a byte that is no white space the place is told.
+    /// Returns a text that begins at this place with this byte, which is not added yet. Its place is kept, unless the byte is
+    /// a space, a tab or a line feed.
     pub fn before(alloc: Global, at: usize, first: u8) -> Self
         ensures { result ≡ text_before at first }
     {
@@ -96,7 +97,7 @@ impl OpenText {
         text
     }
 
-    /// The same text behind what it says so far.
+    /// Returns the same text after what it says so far.
     fn rest(&self, alloc: Global) -> Self
         ensures { result ≡ rest_of self.now }
     {
@@ -108,7 +109,7 @@ impl OpenText {
         }
     }
 
-    /// A character whose first byte is at a place.
+    /// Adds a character whose first byte is at this place.
     fn push(&mut self, at: usize, c: char) -> Result<(), Mem>
         ensures { OnOk result (self.new ≡ text_with self.old at c) }
     {
@@ -120,7 +121,8 @@ impl OpenText {
         Ok(())
     }
 
-    /// Passes over white space at the front, or over letters once a character that is no white space came.
+    /// Passes over white space that the bytes begin with. Once a character that is not white space came, passes over letters.
+    /// Returns how many bytes it passed over.
     pub fn run(&mut self, bytes: &[u8]) -> Result<usize, Mem>
         ensures { TextRuns self.old bytes.now result self.new }
     {
@@ -132,7 +134,7 @@ impl OpenText {
     }
 }
 
-/// A run that says what is referred to, or stands in a section, and begins at a place.
+/// Returns the run of a reference or a section that begins at this place and says this text.
 fn run(at: usize, text: Text) -> Part
     ensures { result ≡ Run at (Some at) text }
 {
@@ -143,7 +145,7 @@ fn run(at: usize, text: Text) -> Part
     }
 }
 
-/// The text of one character.
+/// Returns the text of one character.
 fn text_of(alloc: Global, c: char) -> Result<Text, Mem>
     ensures { IfOk result (λ text. text ≡ encode_utf8 c) }
 {
@@ -152,7 +154,7 @@ fn text_of(alloc: Global, c: char) -> Result<Text, Mem>
     Ok(text.into_text())
 }
 
-/// What a section says, with its line ends.
+/// Returns what a section says, with each line end as one line feed.
 fn lines_of(alloc: Global, text: Letters) -> Result<Text, Mem>
     ensures { IfOk result (λ lines. lines ≡ line_ends text) }
 {
@@ -167,7 +169,7 @@ fn lines_of(alloc: Global, text: Letters) -> Result<Text, Mem>
 }
 
 impl Marks {
-    /// Nothing yet.
+    /// Returns marks of which nothing came.
     pub fn new() -> Self
         ensures { result ≡ marks 0 None }
     {
@@ -177,7 +179,7 @@ impl Marks {
         }
     }
 
-    /// A letter whose first byte is at a place.
+    /// Adds a letter whose first byte is at this place.
     fn letter(&mut self, alloc: Global, at: usize, c: char) -> Result<(), Mem>
         ensures { OnOk result (self.new ≡ letter_in self.old at c) }
     {
@@ -190,7 +192,7 @@ impl Marks {
         Ok(())
     }
 
-    /// The literal text that is open ends.
+    /// Ends the open literal text. Returns its part.
     fn end_text(&mut self) -> Option<Part>
         ensures part { EndsSo (ended_text self.old) result }
         ensures marks { self.new ≡ marks self.old.begin None }
@@ -203,7 +205,7 @@ impl Marks {
         })
     }
 
-    /// What begins at this place, behind the text that is open.
+    /// Begins something at this place, after the open text. Returns the part of that text.
     pub fn begin(&mut self, at: usize) -> Option<Part>
         ensures part { EndsSo (ended_text self.old) result }
         ensures marks { self.new ≡ marks at None }
@@ -213,7 +215,7 @@ impl Marks {
         part
     }
 
-    /// What begins at this place or does not, with no character of a part completed.
+    /// Begins something at this place if `begins`. No character of a part is complete. Returns the part of the text that ends.
     pub fn pass(&mut self, begins: bool, at: usize) -> Option<Part>
         ensures part { EndsSo (passed_over begins self.old at).0 result }
         ensures marks { self.new ≡ (passed_over begins self.old at).1 }
@@ -221,7 +223,8 @@ impl Marks {
         if begins { self.begin(at) } else { None }
     }
 
-    /// The text that is open as far as it goes, where the first byte of a character behind it stands at this place.
+    /// Ends the open text. Returns its part, which goes as far as its whole characters. The first byte of a character that is cut
+    /// after it is at `first`.
     fn cut_text(&mut self, alloc: Global, first: usize) -> Part
         ensures { result ≡ run_of (begun_text first (text_or first self.old.text)) }
     {
@@ -236,7 +239,7 @@ impl Marks {
         }
     }
 
-    /// The literal text that is open where what is read ends, with the first bytes of a character behind it or none.
+    /// Ends the open text at the end of what is read. Returns its part. If `cut`, the first bytes of a character stand after it.
     pub fn last(&mut self, alloc: Global, cut: bool, first: usize) -> Option<Part>
         ensures { EndsSo (last_part cut first self.old) result }
     {
@@ -247,7 +250,7 @@ impl Marks {
         }
     }
 
-    /// The literal text that goes on behind what is read, of which nothing is said yet.
+    /// Returns the literal text that goes on after what is read. Nothing of it is said yet.
     fn rest(&self, alloc: Global, cut: bool, first: usize) -> Option<OpenText>
         ensures { result ≡ goes_on_as cut first self.now.text }
     {
@@ -263,7 +266,7 @@ impl Marks {
         }
     }
 
-    /// The literal text that is open as far as it goes, which goes on behind what it says so far.
+    /// Returns the open literal text as far as it goes. The text stays open, and goes on after what it says so far.
     pub fn show(&mut self, alloc: Global, cut: bool, first: usize) -> Option<Part>
         ensures part { EndsSo (last_part cut first self.old) result }
         ensures marks { self.new ≡ marks self.old.begin (goes_on_as cut first self.old.text) }
@@ -275,7 +278,7 @@ impl Marks {
         part
     }
 
-    /// What a byte at a place completes, whose character's first byte is at `first`.
+    /// Completes what the byte at `at` ends. The first byte of its character is at `first`.
     pub fn complete(
         &mut self,
         alloc: Global,

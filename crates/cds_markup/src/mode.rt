@@ -1,3 +1,5 @@
+//! The states of the machine: what came, and what may come next.
+
 ghost use Rattle.std.specs.Prelude.{◌≡◌, if◌then◌else◌, true, drop, List, ℕ, Ok, Err, None};
 ghost use Rattle.cds_markup.specs.declared.error.Stop.TheVariants.{Broken};
 ghost use Rattle.cds_markup.specs.Steps.{is_next, is_over};
@@ -22,14 +24,14 @@ impl Model for Left {
 }
 
 impl Left {
-    /// This word.
+    /// Returns this word, all of it to come.
     pub fn of(bytes: &'static [u8]) -> Self
         ensures { result ≡ bytes.now }
     {
         Left { bytes }
     }
 
-    /// Whether the character is the next byte.
+    /// Returns whether the character is the next byte.
     pub fn is_next(&self, c: char) -> bool
         ensures { result ≡ is_next c self.now }
     {
@@ -39,14 +41,14 @@ impl Left {
         }
     }
 
-    /// Whether no byte is to come.
+    /// Returns whether no byte is to come.
     pub fn is_over(&self) -> bool
         ensures { result ≡ is_over self.now }
     {
         self.bytes.is_empty()
     }
 
-    /// Passes over one byte, where there is one.
+    /// Passes over one byte, if there is one.
     pub fn advance(&mut self)
         ensures { self.new ≡ drop 1 self.old }
     {
@@ -55,7 +57,7 @@ impl Left {
         }
     }
 
-    /// One character, which has to be the next byte.
+    /// Takes one character, which has to be the next byte.
     pub fn step<T>(&mut self, c: char) -> Result<Option<T>, Stop>
         ensures next { result ≡ (if is_next c self.old then Ok None else Err Broken) }
         ensures rest { is_next c self.old ≡ true → self.new ≡ drop 1 self.old }
@@ -68,18 +70,18 @@ impl Left {
     }
 }
 
-/// Inside a reference, behind its `&`.
+/// Inside a reference, after its `&`.
 #[derive(Drop)]
 pub enum Referring {
     /// The `&` came.
     Ampersand,
     /// `&a` came.
     EntityA,
-    /// The rest of an entity's name and its `;` are to come, and it stands for this character.
+    /// The rest of an entity's name and its `;` are to come. It stands for this character.
     Entity(Left, char),
     /// `&#` came.
     Sharp,
-    /// Digits came, hexadecimal ones or decimal ones, and make this number.
+    /// Digits came and make this number, hexadecimal ones if the first is true, and decimal ones otherwise.
     Number(bool, u32),
 }
 
@@ -88,7 +90,7 @@ pub enum Referring {
 pub struct Naming {
     /// The name before the colon, if one comes.
     pub first: Letters,
-    /// The name behind the colon, empty right behind it.
+    /// The name after the colon, empty right after it.
     pub second: Option<Letters>,
 }
 
@@ -97,13 +99,13 @@ pub struct Naming {
 pub enum NameStep {
     /// It belongs to the name.
     Goes,
-    /// It stands behind the name, which is this one.
+    /// It stands after the name, which is this one.
     Ends(QName),
     /// It cannot stand there.
     Breaks,
 }
 
-/// Inside an attribute's value, behind its first quote.
+/// Inside an attribute's value, after its first quote.
 #[derive(Drop)]
 pub struct Valuing {
     /// Whether the quote is a double one.
@@ -112,35 +114,35 @@ pub struct Valuing {
     pub text: Letters,
     /// Whether a literal carriage return stands right before.
     pub behind_return: bool,
-    /// A reference in it.
+    /// An open reference in it.
     pub reference: Option<Referring>,
 }
 
 /// Inside an attribute.
 #[derive(Drop)]
 pub enum Attributing {
-    /// Its name.
+    /// In its name.
     AttrName(Naming),
-    /// Behind its name and white space.
+    /// After its name and white space.
     AttrNamed(QName),
-    /// Behind its equals sign and white space.
+    /// After its equals sign and white space.
     Equals(QName),
-    /// Its value.
+    /// In its value.
     Value(QName, Valuing),
 }
 
-/// Inside a start tag, behind its `<`.
+/// Inside a start tag, after its `<`.
 #[derive(Drop)]
 pub enum Tagging {
     /// The `<` came.
     Opened,
-    /// The element's name.
+    /// In the element's name.
     Name(Naming),
-    /// Behind a name or a value.
+    /// After a name or a value.
     Tagged(Tag),
-    /// Behind white space.
+    /// After white space.
     Spaced(Tag),
-    /// An attribute.
+    /// In an attribute.
     Attribute(Tag, Attributing),
 }
 
@@ -157,28 +159,28 @@ pub enum Stage {
     Closing,
 }
 
-/// Inside the declaration, behind its `<?`.
+/// Inside the declaration, after its `<?`.
 #[derive(Drop)]
 pub enum Declaring {
-    /// The rest of `xml` is to come, and white space behind it.
+    /// The rest of `xml` is to come, and white space after it.
     Xml(Left),
-    /// Behind white space, with this part or a later one to come.
+    /// After white space, with this part or a later one to come.
     Gap(Stage),
-    /// The rest of this part's name is to come, and an equals sign behind it.
+    /// The rest of this part's name is to come, and an equals sign after it.
     PartName(Stage, Left),
-    /// Behind this part's equals sign, and white space.
+    /// After this part's equals sign, and white space.
     PartEquals(Stage),
-    /// The rest of this part's value is to come, and this quote behind it.
+    /// The rest of this part's value is to come, and this quote after it.
     PartValue(Stage, u32, Left),
-    /// Behind the quote of the standalone part.
+    /// After the first quote of the standalone part.
     YesOrNo(u32),
-    /// Behind a part, with this part or a later one to come.
+    /// After a part, with this part or a later one to come.
     BehindPart(Stage),
     /// `?` came.
     Question,
 }
 
-/// White space and comments before the root or behind it.
+/// White space and comments before the root or after it.
 #[derive(Drop)]
 pub enum Misc {
     /// Between them.
@@ -189,14 +191,14 @@ pub enum Misc {
     MiscBang,
     /// `<!-` came.
     MiscDash,
-    /// Inside a comment, behind so many dashes of those that count.
+    /// Inside a comment, after this many dashes of those that count.
     MiscComment(u32),
 }
 
 /// Inside an element, or in the root's start tag.
 #[derive(Drop)]
 pub enum Turn {
-    /// Between tags, behind so many closing brackets of those that count in a literal text.
+    /// Between tags, after this many closing brackets of those that count in a literal text.
     Content(u32),
     /// `<` came.
     Less,
@@ -204,11 +206,11 @@ pub enum Turn {
     Bang,
     /// `<!-` came.
     Dash,
-    /// Inside a comment, behind so many dashes of those that count.
+    /// Inside a comment, after this many dashes of those that count.
     Comment(u32),
     /// The rest of `<![CDATA[` is to come.
     Cdata(Left),
-    /// Inside a CDATA section, behind so many closing brackets of those that count, with its text so far.
+    /// Inside a CDATA section, after this many closing brackets of those that count, with its text so far.
     Section(u32, Letters),
     /// Inside a reference.
     Reference(Referring),
@@ -216,7 +218,7 @@ pub enum Turn {
     StartTag(Tagging),
     /// The `/` of an empty element's tag came.
     Slashed,
-    /// Inside an end tag, behind so many bytes of its name.
+    /// Inside an end tag, after this many bytes of its name.
     EndTag(usize),
 }
 
@@ -227,7 +229,7 @@ pub enum Mode {
     Begin,
     /// A byte order mark came.
     Marked,
-    /// A `<` in the first place came.
+    /// A `<` came as the first character, perhaps after a byte order mark.
     First,
     /// In the declaration.
     Declaration(Declaring),
@@ -235,6 +237,6 @@ pub enum Mode {
     Prolog(Misc),
     /// In the root.
     Inside(Turn),
-    /// Behind the root.
+    /// After the root.
     Epilog(Misc),
 }

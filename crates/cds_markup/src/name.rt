@@ -1,3 +1,5 @@
+//! Names, and attributes with their names.
+
 use cds_base::{Sequence, Text};
 
 /// A name with the namespace that it is in (Namespaces in XML).

@@ -1,3 +1,5 @@
+//! How the characters of a qualified name are read.
+
 ghost use Rattle.std.specs.Prelude.{◌≡◌, ◌==◌, true, false, Some, None, []};
 ghost use Rattle.cds_base.specs.Characters.{begins_name, is_in_name};
 ghost use Rattle.cds_markup.specs.Names.{naming, goes_on, is_whole, name_of};
@@ -9,14 +11,14 @@ use crate::tag::QName;
 use cds_base::Mem;
 use std::alloc::Global;
 
-/// Whether a name may begin with the character.
+/// Returns whether a name may begin with the character.
 pub fn begins_name(c: char) -> bool
     ensures { result ≡ begins_name c }
 {
     c.is_ascii_alphabetic() || c == '_' || (c >= '\u{80}' && cds_base::is_allowed(c))
 }
 
-/// Whether the character may stand inside a name.
+/// Returns whether the character may stand inside a name.
 pub fn is_in_name(c: char) -> bool
     ensures { result ≡ is_in_name c }
 {
@@ -24,7 +26,7 @@ pub fn is_in_name(c: char) -> bool
 }
 
 impl Naming {
-    /// A name of which nothing came.
+    /// Returns a name that has no character yet.
     pub fn new(alloc: Global) -> Self
         ensures { result ≡ naming [] None }
     {
@@ -34,7 +36,7 @@ impl Naming {
         }
     }
 
-    /// Whether it may end here.
+    /// Returns whether the name may end here.
     pub fn is_whole(&self) -> bool
         ensures { result ≡ is_whole self.now.second }
     {
@@ -44,7 +46,7 @@ impl Naming {
         }
     }
 
-    /// The qualified name.
+    /// Returns the qualified name.
     pub fn into_name(self, alloc: Global) -> QName
         ensures { result ≡ name_of self }
     {
@@ -61,7 +63,7 @@ impl Naming {
         }
     }
 
-    /// Goes on with the character, where it belongs to the name.
+    /// Adds the character to the name, if it belongs to it. Returns whether it does.
     pub fn go_on(&mut self, alloc: Global, c: char) -> Result<bool, Mem>
         ensures { GoesSo (goes_on self.old c) result self.old self.new }
     {
@@ -92,7 +94,7 @@ impl Naming {
     }
 }
 
-/// One character of a name or behind it. A name that ends is taken.
+/// Takes one character of a name or right after it. A name that ends is taken out.
 pub fn name_step(naming: &mut Naming, alloc: Global, c: char) -> Result<NameStep, Mem>
     ensures { NamedSo (goes_on naming.old c) (is_whole naming.old.second) (name_of naming.old) result naming.new }
 {

@@ -1,3 +1,5 @@
+//! The parts of a document.
+
 use crate::{Attrs, Name};
 use cds_base::{Sequence, Text};
 
@@ -22,10 +24,11 @@ pub enum Part {
     },
     /// A literal text, a reference or a CDATA section inside the root.
     Run {
-        /// Where it begins.
+        /// The place where it begins.
         at: usize,
-        /// The place of the first character that is no blank in a literal text, or of one right behind it that a fault or
-        /// a piece's end cuts, and `at` for the other two. Of the runs of one text the first that has a place has the text's.
+        /// The place of the first character that is not white space, in a literal text. That may be a character right after the
+        /// text that a fault or the end of a piece cuts. In a reference or a section it is `at`. If one text has several runs,
+        /// the first of them that has a place has the text's.
         non_blank: Option<usize>,
         /// What it says.
         text: Text,

@@ -28,8 +28,8 @@ pub struct Spot {
     pub marks: Marks,
 }
 
-/// Gives the parts of a document that comes in pieces, without keeping the bytes. Contracts see what is read so far and what
-/// is open, or `None` from a refusal on, want of memory included, and where what takes the parts has enough.
+/// Gives the parts of a document that comes in pieces, without keeping the bytes. Contracts see what is read so far and what is
+/// open. They see `None` after a refusal, also one for memory, and once what takes the parts has enough.
 #[derive(Drop)]
 pub struct PartReader {
     spot: Option<Spot>,
@@ -44,14 +44,14 @@ impl Model for PartReader {
     ghost view = { λ r. telling_in r.spot };
 }
 
-/// Its name alone: deriving it for all that it holds would be dear to prove, and nothing prints it.
+/// Prints its name alone. A derived form of all that it holds would be hard to prove, and nothing prints it.
 impl Debug for PartReader {
     fn fmt<W: fmt::Write>(&self, f: &mut Formatter<W>) -> fmt::Result {
         f.debug_struct("PartReader").finish_non_exhaustive()
     }
 }
 
-/// Gives the part, where there is one and it is wanted.
+/// Gives the part, if there is one and it is wanted.
 fn put<S: PartSink>(part: Option<Part>, to: &mut S) -> Result<(), MarkupError>
     ensures { Puts (Takes S.took S.enough) to.old (listed part) result to.new }
 {
@@ -66,7 +66,7 @@ fn put<S: PartSink>(part: Option<Part>, to: &mut S) -> Result<(), MarkupError>
     }
 }
 
-/// Gives the part before a fault, and the refusal unless no more is wanted.
+/// Gives the part before a fault. Returns the refusal, unless no more is wanted.
 fn refuse<S: PartSink>(
     part: Option<Part>,
     refusal: MarkupError,
@@ -83,7 +83,7 @@ fn refuse<S: PartSink>(
 }
 
 impl Spot {
-    /// The first place.
+    /// Returns the first place.
     pub fn new(alloc: Global) -> Self
         ensures { telling_of result ≡ begin_telling }
     {
@@ -93,7 +93,7 @@ impl Spot {
         }
     }
 
-    /// The literal text that is open where what is read ends, as far as it goes. It goes on behind that.
+    /// Gives the open literal text as far as it goes. The text goes on after what is read.
     fn show<S: PartSink>(&mut self, alloc: Global, to: &mut S) -> Result<(), MarkupError>
         ensures { ToldSo (Takes S.took S.enough) S.enough to.old (Ok (last_parts (telling_of self.old), shown (telling_of self.old))) result to.new (telling_of self.new) }
     {
@@ -102,7 +102,7 @@ impl Spot {
         put(self.marks.show(alloc, open, first), to)
     }
 
-    /// One byte more.
+    /// Reads one byte more.
     fn byte<S: PartSink>(&mut self, alloc: Global, b: u8, to: &mut S) -> Result<(), MarkupError>
         ensures { ToldSo (Takes S.took S.enough) S.enough to.old (told_byte (telling_of self.old) b) result to.new (telling_of self.new) }
     {
@@ -126,8 +126,9 @@ impl Spot {
         }
     }
 
-    /// Passes over the `<` at the front, where no literal text is open, or over the characters of one that begins there: white
-    /// space alone, or letters of which the first is no white space.
+    /// Passes over the `<` that the bytes begin with, or over the first characters of a literal text. These are white space
+    /// alone, or letters of which the first is not white space. No literal text is open before. Returns how many bytes it passed
+    /// over.
     #[inline(never)]
     fn begin_run(&mut self, alloc: Global, bytes: &[u8]) -> Result<usize, Mem>
         requires takes { takes_run (reading_of self.old.place.machine) ≡ true }
@@ -154,7 +155,7 @@ impl Spot {
         Ok(count)
     }
 
-    /// Passes over bytes at the front that complete nothing, all of which are within the limit: how many.
+    /// Passes over the first bytes that complete nothing, all of them within the limit. Returns how many.
     fn run_within(&mut self, alloc: Global, bytes: &[u8]) -> Result<usize, Mem>
         requires { self.old.place.at + length bytes.now ≤ INPUT_LIMIT }
         ensures { RunSo (telling_of self.old) bytes.now result (telling_of self.new) }
@@ -172,7 +173,7 @@ impl Spot {
         Ok(count)
     }
 
-    /// Passes over bytes at the front that complete nothing: how many.
+    /// Passes over the first bytes that complete nothing. Returns how many.
     fn run(&mut self, alloc: Global, bytes: &[u8]) -> Result<usize, Mem>
         ensures { RunSo (telling_of self.old) bytes.now result (telling_of self.new) }
     {
@@ -183,7 +184,7 @@ impl Spot {
         self.run_within(alloc, bytes.split_at(room).0)
     }
 
-    /// These bytes more, as long as more parts are wanted.
+    /// Reads these bytes, as long as more parts are wanted.
     fn pass<S: PartSink>(
         &mut self,
         alloc: Global,
@@ -210,7 +211,7 @@ impl Spot {
         Ok(())
     }
 
-    /// A piece, with the literal text that is open behind it as far as it goes.
+    /// Reads a piece, and gives the literal text that is open after it as far as it goes.
     pub fn piece<S: PartSink>(
         &mut self,
         alloc: Global,
@@ -223,7 +224,7 @@ impl Spot {
         self.show(alloc, to)
     }
 
-    /// The place to go on from, unless no more is wanted.
+    /// Returns the place to go on from, unless no more is wanted.
     fn unless(self, enough: bool) -> Option<Self>
         ensures { telling_in result ≡ (if enough then None else Some (telling_of self)) }
     {
@@ -232,7 +233,7 @@ impl Spot {
 }
 
 impl PartReader {
-    /// A reader to which nothing came yet. It takes no memory so far.
+    /// Returns a reader to which nothing came yet. It takes no memory so far.
     pub fn new(alloc: Global) -> Result<Self, Mem>
         ensures { IsOkAnd result (λ r. StandsFor r [] []) }
     {
@@ -241,11 +242,12 @@ impl PartReader {
         })
     }
 
-    /// The next piece. What its bytes complete is given, and a literal text that is open as far as it goes: one that pieces
-    /// cut comes in several runs of one place. The piece is refused where a byte of it decides that no document begins so,
-    /// whatever comes behind; then what stands before the fault is given, as far as its whole characters go. Where what takes
-    /// the parts has enough, the bytes behind are not read and the answer is `Ok`. From then on, from a refusal on, and from
-    /// `Mem` on, each call answers `Failed` and gives nothing.
+    /// Reads the next piece. What its bytes complete is given, and an open literal text as far as it goes. A text that pieces cut
+    /// comes in several runs of one place.
+    ///
+    /// The piece is refused if a byte of it decides that no document begins so, whatever comes after. Then what stands before the
+    /// fault is given, as far as its whole characters go. If what takes the parts has enough, the bytes after that are not read,
+    /// and the answer is `Ok`. Later calls answer `Failed` and give nothing, as they do after a refusal or `Mem`.
     pub fn feed<S: PartSink>(
         &mut self,
         alloc: Global,
@@ -264,8 +266,8 @@ impl PartReader {
         Ok(())
     }
 
-    /// The end of the input, before which all parts were given. `Failed` only where a piece was refused, memory ran out, or
-    /// what took the parts had enough.
+    /// Ends the input, before which all parts were given. `Failed` comes only if a piece was refused, memory ran out, or what
+    /// took the parts had enough.
     pub fn finish(self) -> Result<(), MarkupError>
         ensures ends { (came : List ℕ) (given : List Part) → StandsFor self came given → TakesEnd came given result }
         ensures failed { self ≡ None → result ≡ Err Failed }

@@ -21,7 +21,7 @@ pub struct Place {
     pub at: usize,
 }
 
-/// What to answer where the machine stopped at a byte.
+/// Returns the refusal for a machine that stopped at this byte.
 fn refusal(stop: Stop, at: usize) -> MarkupError
     ensures { result ≡ refusal stop at }
 {
@@ -33,7 +33,7 @@ fn refusal(stop: Stop, at: usize) -> MarkupError
 }
 
 impl Place {
-    /// The first place.
+    /// Returns the first place.
     pub fn new(alloc: Global) -> Self
         ensures { progress result ≡ begin_reading }
     {
@@ -43,14 +43,14 @@ impl Place {
         }
     }
 
-    /// The place of the first byte of the character that is not whole yet, or of the next one.
+    /// Returns the place of the first byte of the character that has begun. If none has, returns the place of the next byte.
     pub fn first(&self) -> usize
         ensures { result ≡ (progress self.now).at - length (progress self.now).read.begun }
     {
         self.at.saturating_sub(self.machine.begun.len())
     }
 
-    /// One byte more, and what it completes.
+    /// Reads one byte more. Returns what it completes.
     #[tactic(auto, using(crate::proofs::Decoded::next_event, crate::proofs::Decoded::next_stopped, crate::proofs::Decoded::next_long))]
     pub fn next(&mut self, alloc: Global, b: u8) -> Result<Option<Event>, MarkupError>
         ensures { NextSo (progress self.old) b result (progress self.new) }
@@ -67,7 +67,7 @@ impl Place {
         }
     }
 
-    /// The end of the input.
+    /// Ends the input. Refuses it if no document ends here.
     pub fn end(&self) -> Result<(), MarkupError>
         ensures { result ≡ ended (Some (progress self.now)) }
     {

@@ -8,15 +8,15 @@ use crate::{Element, Part, PartSink};
 use cds_base::{Mem, Sequence};
 use std::alloc::Global;
 
-/// An element that is the root of a document, with the places where it and its child elements begin. Places are bytes from the
-/// start of the document, from 0.
+/// The root element of a document, with the places where it and its child elements begin. Places are bytes from the start of the
+/// document, from 0.
 #[derive(Drop, Debug)]
 pub struct Placed {
     /// The element.
     pub element: Element,
     /// The place of the `<` of its start tag.
     pub at: usize,
-    /// Those of its child elements, in their order.
+    /// The places of its child elements, in their order.
     pub children: Sequence<usize>,
 }
 
@@ -25,14 +25,14 @@ pub struct Placed {
 pub struct PlacedBuilder {
     /// What they say.
     pub builder: Builder,
-    /// The place of the root's start tag, where it came.
+    /// The place of the root's start tag, if it came.
     pub at: Option<usize>,
-    /// Those of its child elements.
+    /// The places of its child elements.
     pub children: Sequence<usize>,
 }
 
 impl PlacedBuilder {
-    /// Nothing yet.
+    /// Returns a builder that has no parts yet.
     pub fn new(alloc: Global) -> Self
         ensures { placing_of result ≡ no_place }
     {
@@ -43,7 +43,7 @@ impl PlacedBuilder {
         }
     }
 
-    /// A start tag at a place, before its element is open.
+    /// Records the place of a start tag, if it is that of the root or of a child. The element is not open yet.
     fn note(&mut self, at: usize) -> Result<(), Mem>
         ensures { OnOk result (placing_of self.new ≡ noted at (placing_of self.old)) }
     {
@@ -55,7 +55,7 @@ impl PlacedBuilder {
         Ok(())
     }
 
-    /// The first node with its places, where it is an element.
+    /// Returns the first node with its places, if it is an element.
     pub fn into_placed(self) -> Option<Placed>
         ensures { result ≡ placed_as (placing_of self) }
     {

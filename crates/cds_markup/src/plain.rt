@@ -1,4 +1,4 @@
-//! How far bytes go on with what is open, one as the other.
+//! How far bytes go on with what is open, one like the other.
 
 ghost use Rattle.std.specs.Prelude.{◌≡◌, ◌∷◌, length, take_while, IfSome};
 ghost use Rattle.cds_markup.specs.Running.{is_plain_in_name, is_written, is_line_blank, is_plain, begins_plain_name, begins_blank, PartAt, NameAt, ValueAt, AttrAt};
@@ -13,48 +13,48 @@ pub enum Plain {
     Letters,
     /// Bytes that go on with any name.
     InName,
-    /// These, and colons.
+    /// Bytes that go on with any name, and colons.
     Written,
     /// White space without carriage returns.
     Blanks,
 }
 
-/// Whether the byte goes on with any name.
+/// Returns whether the byte goes on with any name.
 fn is_plain_in_name(b: u8) -> bool
     ensures { result ≡ is_plain_in_name b }
 {
     matches!(b, b'a'..=b'z' | b'A'..=b'Z' | b'0'..=b'9' | b'_' | b'-' | b'.')
 }
 
-/// How many bytes at the front go on with any name.
+/// Counts the first bytes that go on with any name.
 fn name_run(bytes: &[u8]) -> usize
     ensures { result ≡ length (take_while is_plain_in_name bytes.now) }
 {
     bytes.iter().take_while(|b| is_plain_in_name(**b)).count()
 }
 
-/// Whether the byte goes on with any name, or is a colon.
+/// Returns whether the byte goes on with any name, or is a colon.
 fn is_written(b: u8) -> bool
     ensures { result ≡ is_written b }
 {
     is_plain_in_name(b) || b == b':'
 }
 
-/// How many bytes at the front go on with any name or are colons.
+/// Counts the first bytes that go on with any name or are colons.
 fn written_run(bytes: &[u8]) -> usize
     ensures { result ≡ length (take_while is_written bytes.now) }
 {
     bytes.iter().take_while(|b| is_written(**b)).count()
 }
 
-/// Whether the byte is white space and no carriage return.
+/// Returns whether the byte is white space and no carriage return.
 pub fn is_line_blank(b: u8) -> bool
     ensures { result ≡ is_line_blank b }
 {
     b == b' ' || b == b'\t' || b == b'\n'
 }
 
-/// How many are white space without carriage returns.
+/// Counts the first bytes that are white space without carriage returns.
 fn blanks_run(bytes: &[u8]) -> usize
     ensures { result ≡ length (take_while is_line_blank bytes.now) }
 {
@@ -62,7 +62,7 @@ fn blanks_run(bytes: &[u8]) -> usize
 }
 
 impl Plain {
-    /// How many bytes of the kind stand at the front.
+    /// Counts the first bytes that are of this kind.
     pub fn run(self, bytes: &[u8]) -> usize
         ensures { result ≡ length (take_while (is_plain self) bytes.now) }
     {
@@ -75,14 +75,14 @@ impl Plain {
     }
 }
 
-/// Whether the byte begins any name.
+/// Returns whether the byte begins any name.
 fn begins_plain_name(b: u8) -> bool
     ensures { result ≡ begins_plain_name b }
 {
     b < 0x80 && begins_name(char::from(b))
 }
 
-/// Whether white space without a carriage return stands at the front.
+/// Returns whether the bytes begin with white space that is no carriage return.
 pub fn begins_blank(bytes: &[u8]) -> bool
     ensures { result ≡ begins_blank bytes.now }
 {
@@ -92,7 +92,7 @@ pub fn begins_blank(bytes: &[u8]) -> bool
     }
 }
 
-/// The name without a colon that stands at the front, in ASCII, and what is behind it.
+/// Returns the name without a colon that the bytes begin with, in ASCII, and what is after it.
 fn part_at(bytes: &[u8]) -> Option<(&[u8], &[u8])>
     ensures { IfSome result (λ found. PartAt found.0.now found.1.now bytes.now) }
 {
@@ -108,7 +108,7 @@ fn part_at(bytes: &[u8]) -> Option<(&[u8], &[u8])>
     }
 }
 
-/// What is behind this byte, where it stands at the front.
+/// Returns what is after this byte, if the bytes begin with it.
 pub fn behind(bytes: &[u8], b: u8) -> Option<&[u8]>
     ensures { IfSome result (λ rest. bytes.now ≡ b ∷ rest.now) }
 {
@@ -118,8 +118,8 @@ pub fn behind(bytes: &[u8], b: u8) -> Option<&[u8]>
     }
 }
 
-/// The name that stands at the front, in ASCII: its prefix, which is empty for none, what stands behind the prefix, and what is
-/// behind the name.
+/// Returns the name that the bytes begin with, in ASCII. Its values are the prefix, which is empty for none, the local name, and
+/// what is after the name.
 pub fn name_at(bytes: &[u8]) -> Option<(&[u8], &[u8], &[u8])>
     ensures { IfSome result (λ found. NameAt found.0.now found.1.now found.2.now bytes.now) }
 {
@@ -135,7 +135,7 @@ pub fn name_at(bytes: &[u8]) -> Option<(&[u8], &[u8], &[u8])>
     }
 }
 
-/// The letters in double quotes that stand at the front, each of them for itself, and what is behind them.
+/// Returns the letters in double quotes that the bytes begin with, and what is after them. Each letter stands for itself.
 fn value_at(bytes: &[u8]) -> Option<(&[u8], &[u8])>
     ensures { IfSome result (λ found. ValueAt found.0.now found.1.now bytes.now) }
 {
@@ -149,8 +149,8 @@ fn value_at(bytes: &[u8]) -> Option<(&[u8], &[u8])>
     }
 }
 
-/// The attribute that stands at the front, where it is a name as `name_at` finds it, an equals sign and letters in double
-/// quotes as `value_at` finds them: the two parts of its name, its value and what is behind it.
+/// Returns the attribute that the bytes begin with: the two parts of its name, its value, and what is after it. It has to be a
+/// name as `name_at` finds it, an equals sign, and a value as `value_at` finds it.
 pub fn attr_at(bytes: &[u8]) -> Option<(&[u8], &[u8], &[u8], &[u8])>
     ensures { IfSome result (λ found. AttrAt found.0.now found.1.now found.2.now found.3.now bytes.now) }
 {

@@ -1,3 +1,5 @@
+//! The calls that read a whole document from bytes in memory.
+
 ghost use Rattle.std.specs.Prelude.{◌≡◌, ◌++◌, OnErr, OnOk};
 ghost use Rattle.cds_markup.specs.Answer.{ran_out};
 ghost use Rattle.cds_markup.specs.Decided.{Decides};
@@ -11,14 +13,21 @@ use crate::{Element, MarkupError, PartSink, Parts};
 use cds_base::Mem;
 use std::alloc::Global;
 
-/// Gives the parts of a document one by one, in the order of the bytes: all of them, or those that stand before the
-/// first fault. A start tag is given once the `>` or `/` that ends it stands, whatever follows a `/`; a literal text that
-/// a fault cuts is given as far as its whole characters go; a reference, a section or an end tag that a fault cuts is not
-/// given. `Bad` is the place of the first byte that cannot stand there, or where the input ends and is no document, or of
-/// the `>` or `/` that ends a start tag which breaks a rule of namespaces; `TooDeep` the first byte of a start tag's name
-/// where 16 elements are open; `TooLong` where more than 67,108,864 bytes came without a fault before. `Mem` says nothing
-/// of the bytes, nor of what was given. Where what takes the parts has enough, the bytes behind are not read and the
-/// answer is `Ok`.
+/// Gives the parts of a document one by one, in the order of the bytes. It gives all of them, or those before the first fault.
+///
+/// - A start tag is given once the `>` or `/` that ends it stands, whatever follows a `/`.
+/// - A literal text that a fault cuts is given as far as its whole characters go.
+/// - A reference, a section or an end tag that a fault cuts is not given.
+///
+/// The refusals are these:
+///
+/// - `Bad` has the place of the first byte that cannot stand there, or of the end of the input if that is no document. It may
+///   also have the place of the `>` or `/` that ends a start tag which breaks a rule of namespaces.
+/// - `TooDeep` has the place of the first byte of a start tag's name that comes while 16 elements are open.
+/// - `TooLong` comes if more than 67,108,864 bytes came and no fault is before.
+/// - `Mem` says nothing of the bytes, nor of what was given.
+///
+/// If what takes the parts has enough, the bytes after that are not read, and the answer is `Ok`.
 pub fn give_parts<S: PartSink>(alloc: Global, bytes: &[u8], to: &mut S) -> Result<(), MarkupError>
     ensures told { TellsTo S.took S.enough bytes.now result to.old to.new }
 {
@@ -42,7 +51,7 @@ pub fn read_parts(alloc: Global, bytes: &[u8], out: &mut Parts) -> Result<(), Ma
     answer
 }
 
-/// Whether memory ran out.
+/// Returns whether memory ran out.
 fn ran_out(answer: &Result<(), MarkupError>) -> bool
     ensures { result ≡ ran_out answer.now }
 {
@@ -52,7 +61,7 @@ fn ran_out(answer: &Result<(), MarkupError>) -> bool
     false
 }
 
-/// Reads a document: the element that the bytes are, or why they are none, as `give_parts` says.
+/// Reads a document. Returns the element that the bytes are, or why they are none, as `give_parts` says.
 pub fn read_document(alloc: Global, bytes: &[u8]) -> Result<Element, MarkupError>
     ensures { Decides bytes.now result }
 {
@@ -64,7 +73,8 @@ pub fn read_document(alloc: Global, bytes: &[u8]) -> Result<Element, MarkupError
     }
 }
 
-/// The same, with the places where its element and the child elements of that begin.
+/// Reads a document as `read_document` does. The answer also has the places where its element and the child elements of that
+/// begin.
 pub fn read_placed(alloc: Global, bytes: &[u8]) -> Result<Placed, MarkupError>
     ensures { DecidesPlaced bytes.now result }
 {

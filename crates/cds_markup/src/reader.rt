@@ -12,8 +12,8 @@ use std::fmt;
 use std::fmt::{Debug, Formatter};
 use std::marker::Model;
 
-/// Reads a document that comes in pieces, without keeping them. Contracts see what is read so far, or nothing from a
-/// refusal on, want of memory included, and what the parts so far say.
+/// Reads a document that comes in pieces, without keeping them. Contracts see what is read so far and what the parts so far say.
+/// After a refusal, also one for memory, they see nothing read.
 #[derive(Drop)]
 pub struct Reader {
     parts: PartReader,
@@ -40,7 +40,7 @@ impl Debug for Reader {
 }
 
 impl Reader {
-    /// A reader to which nothing came yet. It takes no memory so far.
+    /// Returns a reader to which nothing came yet. It takes no memory so far.
     pub fn new(alloc: Global) -> Result<Self, Mem>
         ensures { IsOkAnd result (λ r. IsRead [] r) }
     {
@@ -50,9 +50,9 @@ impl Reader {
         })
     }
 
-    /// The next piece. It is refused as `read_document` refuses the bytes so far where a byte of it decides so, whatever
-    /// comes behind: the byte at the place of the refusal, or the byte behind 67,108,864 others. From a refusal on, and from
-    /// `Mem` on, each call answers `Failed`.
+    /// Reads the next piece. It is refused as `read_document` refuses the bytes so far, if a byte of it decides so, whatever
+    /// comes after. That is the byte at the place of the refusal, or the byte after 67,108,864 others. After a refusal, also
+    /// after `Mem`, each call answers `Failed`.
     pub fn feed(&mut self, alloc: Global, piece: &[u8]) -> Result<(), MarkupError>
         ensures fed { Fed self.old piece.now result self.new }
         ensures failed { self.old.parts ≡ None → (result ≡ Err Failed) × (self.new.parts ≡ None) }
@@ -60,7 +60,8 @@ impl Reader {
         self.parts.feed(alloc, piece, &mut self.builder)
     }
 
-    /// The end: what `read_document` answers to the bytes that came. `Failed` only where a piece was refused or memory ran out.
+    /// Ends the input. Returns what `read_document` answers to the bytes that came. `Failed` comes only if a piece was refused or
+    /// memory ran out.
     pub fn finish(self) -> Result<Element, MarkupError>
         ensures finished { Finished self result }
         ensures failed { self.parts ≡ None → result ≡ Err Failed }
@@ -68,7 +69,7 @@ impl Reader {
         Ok(self.finish_placed()?.element)
     }
 
-    /// The same, with the places where the element and its child elements begin.
+    /// Ends the input as `finish` does. The answer also has the places where the element and its child elements begin.
     pub fn finish_placed(self) -> Result<Placed, MarkupError>
         ensures finished { FinishedPlaced self result }
         ensures failed { self.parts ≡ None → result ≡ Err Failed }
@@ -77,7 +78,7 @@ impl Reader {
         parts.finish()?;
         match builder.into_placed() {
             Some(placed) => Ok(placed),
-            // not come to: the parts of a document are those of an element
+            // never reached: the parts of a document are those of an element
             None => Err(MarkupError::Mem),
         }
     }

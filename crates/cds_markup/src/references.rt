@@ -1,3 +1,5 @@
+//! How the characters of a reference are read.
+
 ghost use Rattle.std.specs.Prelude.{◌≡◌, ◌==◌, true, if◌then◌else◌, Option, Some, None};
 ghost use Rattle.cds_base.specs.Characters.{is_allowed};
 ghost use Rattle.cds_markup.specs.References.{number_step, step_reference};
@@ -9,7 +11,7 @@ use crate::mode::{Left, Referring};
 /// The greatest code point.
 const LAST: u64 = 0x10_FFFF;
 
-/// The allowed character with this code point (XML 1.0 on characters).
+/// Returns the character with this code point, if it is allowed (XML 1.0 on characters).
 fn allowed(code: u32) -> Option<char>
     ensures { result ≡ (if is_allowed code then Some code else None) }
 {
@@ -33,7 +35,7 @@ impl Referring {
         drop(std::mem::replace(self, referring));
     }
 
-    /// A digit of a number, or its `;`.
+    /// Takes a digit of a number, or the `;` after it.
     fn number(&mut self, hexadecimal: bool, value: u32, c: char) -> Result<Option<char>, Stop>
         ensures { Agrees (number_step hexadecimal value c) result self.new }
     {
@@ -59,7 +61,7 @@ impl Referring {
         }
     }
 
-    /// The entities by their first letters, and the sign of a number.
+    /// Takes the first letter of an entity's name, or the `#` of a number.
     fn ampersand(&mut self, c: char) -> Result<Option<char>, Stop>
         ensures { Agrees (step_reference Referring.Ampersand c) result self.new }
     {
@@ -74,7 +76,7 @@ impl Referring {
         Ok(None)
     }
 
-    /// The two entities that begin with `a`.
+    /// Takes the second letter of an entity that begins with `a`.
     fn entity_a(&mut self, c: char) -> Result<Option<char>, Stop>
         ensures { Agrees (step_reference Referring.EntityA c) result self.new }
     {
@@ -86,7 +88,7 @@ impl Referring {
         Ok(None)
     }
 
-    /// The character of the entity that is read.
+    /// Returns the character that the open entity stands for.
     fn entity_code(&self) -> char
         ensures { result ≡ entity_code self.now }
     {
@@ -96,7 +98,7 @@ impl Referring {
         }
     }
 
-    /// One character.
+    /// Takes one character. Returns the character that the reference stands for at its `;`.
     pub fn step(&mut self, c: char) -> Result<Option<char>, Stop>
         ensures { Agrees (step_reference self.old c) result self.new }
     {

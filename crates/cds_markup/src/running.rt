@@ -1,4 +1,4 @@
-//! Passing over runs of bytes that complete nothing, in place of one step for each of them.
+//! Passing over runs of bytes that complete nothing, which saves one step for each of them.
 
 ghost use Rattle.std.specs.Prelude.{◌≡◌, ◌==◌, ◌≤◌, ◌&&◌, true, List, length, IfOk};
 ghost use Rattle.std.specs.List.{list_all};
@@ -19,7 +19,7 @@ use crate::tagging::no_tag;
 use cds_base::{Mem, Sequence, letters_run};
 use std::alloc::Global;
 
-/// How many letters of a comment or a section are passed over, behind so many dashes or brackets.
+/// Counts the letters of a comment or a section that are passed over. There are none if a dash or a bracket counts before them.
 fn passed(before: u32, bytes: &[u8]) -> usize
     ensures { Passes (before == 0) stands_for_itself bytes.now result }
 {
@@ -27,14 +27,14 @@ fn passed(before: u32, bytes: &[u8]) -> usize
 }
 
 impl Valuing {
-    /// Whether letters stand for themselves here.
+    /// Returns whether letters stand for themselves here.
     fn takes_letters(&self) -> bool
         ensures { result ≡ takes_letters self.now }
     {
         !self.behind_return && self.reference.is_none()
     }
 
-    /// Passes over letters of the value.
+    /// Passes over letters of the value. Returns how many bytes.
     fn run(&mut self, bytes: &[u8]) -> Result<usize, Mem>
         ensures { ValueRuns self.old bytes.now result self.new }
     {
@@ -44,7 +44,7 @@ impl Valuing {
 }
 
 impl Attributing {
-    /// Passes over letters of a value.
+    /// Passes over letters of a value. Returns how many bytes.
     fn run(&mut self, bytes: &[u8]) -> Result<usize, Mem>
         ensures { AttrRuns self.old bytes.now result self.new }
     {
@@ -55,7 +55,7 @@ impl Attributing {
     }
 }
 
-/// The name with this prefix, which is empty for none, and this behind it, as far as it came.
+/// Returns the name as far as it came, with this prefix, which is empty for none, and this local name.
 fn plain_naming(alloc: Global, prefix: &[u8], local: &[u8]) -> Result<Naming, Mem>
     requires { is_plain_qname prefix.now local.now ≡ true }
     ensures { IfOk result (λ naming. naming ≡ plain_naming prefix.now local.now) }
@@ -74,7 +74,8 @@ fn plain_naming(alloc: Global, prefix: &[u8], local: &[u8]) -> Result<Naming, Me
     })
 }
 
-/// The attribute with such a name and this value, whose letters stand for themselves.
+/// Returns the attribute with this prefix, which is empty for none, this local name and this value. The letters of the value
+/// stand for themselves.
 fn plain_attr(alloc: Global, prefix: &[u8], local: &[u8], value: &[u8]) -> Result<TagAttr, Mem>
     requires name { is_plain_qname prefix.now local.now ≡ true }
     requires value { list_all stands_for_itself value.now ≡ true }
@@ -86,7 +87,7 @@ fn plain_attr(alloc: Global, prefix: &[u8], local: &[u8], value: &[u8]) -> Resul
 }
 
 impl Tag {
-    /// Passes over the attribute that stands at the front as `attr_at` finds it, and adds it: how many bytes it has.
+    /// Passes over the attribute that the bytes begin with, as `attr_at` finds it, and adds it. Returns how many bytes it has.
     fn run(&mut self, alloc: Global, bytes: &[u8]) -> Result<Option<usize>, Mem>
         ensures { AddsAttr self.old bytes.now result self.new }
     {
@@ -100,8 +101,8 @@ impl Tag {
 }
 
 impl Tagging {
-    /// Passes over letters of a value, or over an attribute that stands there whole and the white space behind it, or the name of
-    /// another.
+    /// Passes over letters of a value, or over a whole attribute and the white space after it, or over the name of another.
+    /// Returns how many bytes.
     fn run(&mut self, alloc: Global, bytes: &[u8]) -> Result<usize, Mem>
         ensures { TagRuns self.old bytes.now result self.new }
     {
@@ -130,7 +131,7 @@ impl Tagging {
 }
 
 impl Turn {
-    /// Goes over to a start tag behind white space, in which nothing but its name stands.
+    /// Goes over to a start tag after white space that has nothing but its name.
     fn begin_tag(&mut self, alloc: Global, name: QName)
         ensures { self.new ≡ Turn.StartTag (Tagging.Spaced (tag_named name)) }
     {
@@ -138,14 +139,15 @@ impl Turn {
         self.go_to(Turn::StartTag(Tagging::Spaced(Tag { name, attrs })));
     }
 
-    /// Goes over to a start tag of whose name so much came.
+    /// Goes over to a start tag in this part of its name.
     fn begin_name(&mut self, naming: Naming)
         ensures { self.new ≡ Turn.StartTag (Tagging.Name naming) }
     {
         self.go_to(Turn::StartTag(Tagging::Name(naming)));
     }
 
-    /// Passes over an element's name that stands at the front as `name_at` finds it, and over white space behind it.
+    /// Passes over an element's name that the bytes begin with, as `name_at` finds it, and over white space after it. Returns how
+    /// many bytes.
     fn name_run(&mut self, alloc: Global, bytes: &[u8]) -> Result<usize, Mem>
         requires { self.old ≡ Turn.Less }
         ensures { (opens : List Open) → LessRuns opens bytes.now result self.new }
@@ -163,14 +165,14 @@ impl Turn {
         Ok(count)
     }
 
-    /// Goes over to an end tag, behind so many bytes of its name.
+    /// Goes over to an end tag, after `n` bytes of its name.
     fn end_at(&mut self, n: usize)
         ensures { self.new ≡ Turn.EndTag n }
     {
         self.go_to(Turn::EndTag(n));
     }
 
-    /// Goes over to an end tag, behind so many bytes of its name, and passes over more of them: how many.
+    /// Goes over to an end tag, after `n` bytes of its name, and passes over more of them. Returns how many.
     fn end_run(&mut self, opens: &[Open], n: usize, bytes: &[u8]) -> usize
         ensures within { result ≤ length bytes.now }
         ensures ends { EndRuns opens.now n bytes.now result self.new }
@@ -189,7 +191,8 @@ impl Turn {
         }
     }
 
-    /// Passes over an element's name as `name_run` does, or over the slash of an end tag and bytes of its name.
+    /// Passes over an element's name as `name_run` does, or over the slash of an end tag and bytes of its name. Returns how many
+    /// bytes.
     fn less_run(&mut self, alloc: Global, opens: &[Open], bytes: &[u8]) -> Result<usize, Mem>
         requires { self.old ≡ Turn.Less }
         ensures { LessRuns opens.now bytes.now result self.new }
@@ -203,7 +206,7 @@ impl Turn {
         Ok(self.end_run(opens, 0, text) + 1)
     }
 
-    /// Passes over bytes of a tag, a comment or a section, where these elements are open.
+    /// Passes over bytes of a tag, a comment or a section, if these elements are open. Returns how many.
     fn run(&mut self, alloc: Global, opens: &[Open], bytes: &[u8]) -> Result<usize, Mem>
         ensures { TurnRuns opens.now self.old bytes.now result self.new }
     {
@@ -225,7 +228,7 @@ impl Turn {
 }
 
 impl Misc {
-    /// How many letters of a comment are passed over.
+    /// Counts the letters of a comment that are passed over.
     fn run(&self, bytes: &[u8]) -> usize
         ensures { MiscRuns self.now bytes.now result }
     {
@@ -237,7 +240,7 @@ impl Misc {
 }
 
 impl Mode {
-    /// Passes over bytes that go on with what is open, where these elements are.
+    /// Passes over bytes that go on with what is open, if these elements are open. Returns how many.
     fn run(&mut self, alloc: Global, opens: &[Open], bytes: &[u8]) -> Result<usize, Mem>
         ensures { ModeRuns opens.now self.old bytes.now result self.new }
     {
@@ -249,7 +252,7 @@ impl Mode {
         }
     }
 
-    /// Whether it is between tags, and no closing bracket stands right before.
+    /// Returns whether the state is between tags and no closing bracket stands right before.
     fn is_plain_content(&self) -> bool
         ensures { result ≡ is_plain_content self.now }
     {
@@ -261,21 +264,21 @@ impl Mode {
 }
 
 impl Machine {
-    /// Whether no character has begun.
+    /// Returns whether no character has begun.
     fn is_fresh(&self) -> bool
         ensures { result ≡ is_empty (reading_of self.now).begun }
     {
         self.begun.is_empty()
     }
 
-    /// Whether a start tag here would be one too many.
+    /// Returns whether a start tag here would be one too many.
     fn is_full(&self) -> bool
         ensures { result ≡ is_full (reading_of self.now) }
     {
         self.opens.len() == MOST_OPEN && self.mode.begins_tag()
     }
 
-    /// Passes over bytes at the front that complete nothing, where no literal text is open: how many.
+    /// Passes over the first bytes that complete nothing, if no literal text is open. Returns how many.
     #[tactic(auto, using(crate::proofs::Quiet::quiet_none))]
     pub fn run(&mut self, alloc: Global, bytes: &[u8]) -> Result<usize, Mem>
         ensures { QuietSo (reading_of self.old) bytes.now result (reading_of self.new) }
@@ -287,7 +290,7 @@ impl Machine {
         self.mode.run(alloc, opens, bytes)
     }
 
-    /// Whether a literal text may go on here, with no closing bracket right before.
+    /// Returns whether a literal text may go on here, with no closing bracket right before.
     pub fn takes_run(&self) -> bool
         ensures { result ≡ takes_run (reading_of self.now) }
     {

@@ -6,7 +6,7 @@ ghost use Rattle.cds_markup.specs.Steps.{Agrees};
 
 use crate::error::Stop;
 
-/// One character of a comment, behind so many dashes as count.
+/// Takes one character of a comment, after `dashes` dashes of those that count.
 pub fn comment_step(dashes: &mut u32, c: char) -> Result<Option<()>, Stop>
     ensures { Agrees (step_comment dashes.old c) result dashes.new }
 {
@@ -25,7 +25,7 @@ pub fn comment_step(dashes: &mut u32, c: char) -> Result<Option<()>, Stop>
     Err(Stop::Broken)
 }
 
-/// How many closing brackets stand right before, as far as it counts, with this character.
+/// Counts the closing brackets right before, as far as they matter, with this character.
 pub fn brackets_with(brackets: u32, c: char) -> u32
     ensures { result ≡ brackets_with brackets c }
 {
@@ -35,7 +35,7 @@ pub fn brackets_with(brackets: u32, c: char) -> u32
     if brackets == 0 { 1 } else { 2 }
 }
 
-/// Whether the character ends a section, which it may not in a literal text.
+/// Returns whether the character ends a section. In a literal text it may not.
 pub fn closes_section(brackets: u32, c: char) -> bool
     ensures { result ≡ closes_section brackets c }
 {

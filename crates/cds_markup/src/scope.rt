@@ -1,3 +1,5 @@
+//! Names with their namespaces, and the rules of start tags (Namespaces in XML).
+
 ghost use Rattle.std.specs.Prelude.{◌≡◌, ◌∷◌, Some, [], IfOk};
 ghost use Rattle.std.specs.Str.{bytes_eq};
 ghost use Rattle.std.specs.List.{list_all, list_any};
@@ -12,28 +14,28 @@ use std::alloc::Global;
 /// The namespace of the prefix `xml` (Namespaces in XML).
 pub const XML_SPACE: &str = "http://www.w3.org/XML/1998/namespace";
 
-/// Whether the name is that of an attribute that declares the namespace of names without a prefix.
+/// Returns whether an attribute of this name declares the namespace of names without a prefix.
 fn declares_default(name: &QName) -> bool
     ensures { result ≡ declares_default name.now }
 {
     name.prefix.len() == 0 && name.local.as_str() == "xmlns"
 }
 
-/// Whether the name is that of an attribute that declares a prefix.
+/// Returns whether an attribute of this name declares a prefix.
 fn declares_prefix(name: &QName) -> bool
     ensures { result ≡ declares_prefix name.now }
 {
     name.prefix.as_str() == "xmlns"
 }
 
-/// Whether the attribute declares a namespace.
+/// Returns whether the attribute declares a namespace.
 fn is_declaration(attr: &TagAttr) -> bool
     ensures { result ≡ is_declaration attr.now }
 {
     declares_default(&attr.name) || declares_prefix(&attr.name)
 }
 
-/// What the attribute declares.
+/// Returns what the attribute declares.
 fn declaration(alloc: Global, attr: &TagAttr) -> Result<Declaration, Mem>
     ensures { IfOk result (λ d. d ≡ declaration attr.now) }
 {
@@ -46,7 +48,7 @@ fn declaration(alloc: Global, attr: &TagAttr) -> Result<Declaration, Mem>
     Ok(Declaration { prefix, space })
 }
 
-/// What these attributes declare.
+/// Returns what these attributes declare.
 pub fn declarations(alloc: Global, attrs: &[TagAttr]) -> Result<Sequence<Declaration>, Mem>
     ensures { IfOk result (λ found. found ≡ declarations attrs.now) }
 {
@@ -60,7 +62,7 @@ pub fn declarations(alloc: Global, attrs: &[TagAttr]) -> Result<Sequence<Declara
     Ok(found)
 }
 
-/// Whether the declaration may be made: neither of `xml` nor of `xmlns`, nor of a prefix as empty.
+/// Returns whether the declaration may be made. It may declare neither `xml` nor `xmlns`, nor a prefix as empty.
 fn is_sound(declared: &Declaration) -> bool
     ensures { result ≡ is_sound declared.now }
 {
@@ -69,28 +71,28 @@ fn is_sound(declared: &Declaration) -> bool
         && (declared.prefix.len() == 0 || declared.space.len() != 0)
 }
 
-/// Whether all these declarations may be made.
+/// Returns whether all these declarations may be made.
 fn are_sound(found: &[Declaration]) -> bool
     ensures { result ≡ list_all is_sound found.now }
 {
     found.iter().all(|d| is_sound(d))
 }
 
-/// Whether two names are written alike. Most have no prefix, so what stands behind it tells more.
+/// Returns whether two names are written alike. Most have no prefix, so the local names are compared first.
 fn same_qname(one: &QName, other: &QName) -> bool
     ensures { result ≡ same_qname one.now other.now }
 {
     one.local.as_str() == other.local.as_str() && one.prefix.as_str() == other.prefix.as_str()
 }
 
-/// Whether two names are the same. Most are in no namespace, so the name in it tells more.
+/// Returns whether two names are the same. Most are in no namespace, so the local names are compared first.
 fn same_name(one: &Name, other: &Name) -> bool
     ensures { result ≡ same_name one.now other.now }
 {
     one.local.as_str() == other.local.as_str() && one.space.as_str() == other.space.as_str()
 }
 
-/// Whether an attribute is among these by its qualified name.
+/// Returns whether one of the others has the attribute's qualified name.
 fn has_qname(attr: &TagAttr, others: &[TagAttr]) -> bool
     ensures { result ≡ list_any (λ b. same_qname attr.now.name b.name) others.now }
 {
@@ -99,7 +101,7 @@ fn has_qname(attr: &TagAttr, others: &[TagAttr]) -> bool
         .any(|other| same_qname(&attr.name, &other.name))
 }
 
-/// Whether no qualified name comes twice.
+/// Returns whether no qualified name comes twice.
 fn no_attr_twice(attrs: &[TagAttr]) -> bool
     ensures { result ≡ no_attr_twice attrs.now }
 {
@@ -113,7 +115,7 @@ fn no_attr_twice(attrs: &[TagAttr]) -> bool
     true
 }
 
-/// Whether an attribute is among these by its name.
+/// Returns whether one of the others has the attribute's name.
 fn has_name(attr: &Attr, others: &[Attr]) -> bool
     ensures { result ≡ list_any (λ b. same_name attr.now.name b.name) others.now }
 {
@@ -122,7 +124,7 @@ fn has_name(attr: &Attr, others: &[Attr]) -> bool
         .any(|other| same_name(&attr.name, &other.name))
 }
 
-/// Whether no name comes twice.
+/// Returns whether no name comes twice.
 fn no_name_twice(attrs: &[Attr]) -> bool
     ensures { result ≡ no_name_twice attrs.now }
 {
@@ -136,7 +138,7 @@ fn no_name_twice(attrs: &[Attr]) -> bool
     true
 }
 
-/// Whether the texts are the same. Empty ones, as most prefixes are, are told by their length alone.
+/// Returns whether the texts are the same. Most prefixes are empty, and for these the length alone decides.
 fn same_text(one: &Text, other: &str) -> bool
     ensures { result ≡ bytes_eq one.now other.now }
 {
@@ -147,7 +149,7 @@ fn same_text(one: &Text, other: &str) -> bool
     }
 }
 
-/// What these declarations say of a prefix.
+/// Returns what these declarations say of a prefix.
 fn declared(alloc: Global, found: &[Declaration], prefix: &str) -> Result<Option<Text>, Mem>
     ensures { IfOk result (λ space. space ≡ declared found.now prefix.now) }
 {
@@ -160,7 +162,7 @@ fn declared(alloc: Global, found: &[Declaration], prefix: &str) -> Result<Option
     Ok(None)
 }
 
-/// What the innermost open element that speaks of a prefix says of it.
+/// Returns what the innermost open element that speaks of a prefix says of it.
 fn declared_in(alloc: Global, opens: &[Open], prefix: &str) -> Result<Option<Text>, Mem>
     ensures { IfOk result (λ space. space ≡ declared_in (scopes_in opens.now) prefix.now) }
 {
@@ -173,7 +175,7 @@ fn declared_in(alloc: Global, opens: &[Open], prefix: &str) -> Result<Option<Tex
     Ok(None)
 }
 
-/// The namespace of a prefix, `None` where it is not declared.
+/// Returns the namespace of a prefix, or `None` if it is not declared.
 fn space_of(
     alloc: Global,
     opens: &[Open],
@@ -201,7 +203,7 @@ fn space_of(
     }
 }
 
-/// The name with this prefix and local name, `None` where the prefix is not declared.
+/// Returns the name with this prefix and local name, or `None` if the prefix is not declared.
 fn name_in(
     alloc: Global,
     opens: &[Open],
@@ -217,7 +219,7 @@ fn name_in(
     Ok(Some(Name { space, local }))
 }
 
-/// The name of an attribute, `None` where its prefix is not declared.
+/// Returns the name of an attribute, or `None` if its prefix is not declared.
 fn attr_name(
     alloc: Global,
     opens: &[Open],
@@ -237,7 +239,7 @@ fn attr_name(
     }))
 }
 
-/// An attribute with its name, `None` where its prefix is not declared.
+/// Returns an attribute with its name, or `None` if its prefix is not declared.
 fn named_attr(
     alloc: Global,
     opens: &[Open],
@@ -255,7 +257,7 @@ fn named_attr(
     }))
 }
 
-/// An attribute whose name has no prefix, and so is in no namespace.
+/// Returns an attribute whose name has no prefix, and so is in no namespace.
 fn plain_attr(alloc: Global, attr: TagAttr) -> Attr
     ensures { Some result ≡ with_value attr.value (in_space attr.name.local (Some [])) }
 {
@@ -268,7 +270,7 @@ fn plain_attr(alloc: Global, attr: TagAttr) -> Attr
     Attr { name, value }
 }
 
-/// The attributes without those that declare namespaces, `None` where a prefix is not declared.
+/// Returns the attributes without those that declare namespaces, or `None` if a prefix is not declared.
 fn named_attrs(
     alloc: Global,
     opens: &[Open],
@@ -294,8 +296,9 @@ fn named_attrs(
     Ok(Some(found))
 }
 
-/// What a start tag of the name with this prefix and this local name says, with these attributes, where these elements are open
-/// and it declares this: the element's name and its attributes. `None` where it breaks a rule (Namespaces in XML).
+/// Returns what a start tag says: the element's name and its attributes. The tag has this prefix, this local name and these
+/// attributes, and declares `inner`. The elements `opens` are open around it. Returns `None` if the tag breaks a rule (Namespaces
+/// in XML).
 pub fn tag_says(
     alloc: Global,
     opens: &[Open],

@@ -1,23 +1,25 @@
+//! What takes the parts of a document.
+
 ghost use Rattle.std.specs.Prelude.{◌≡◌, ◌++◌, ◌∷◌, [], Bool, false, OnOk};
 
 use crate::{Part, Parts};
 use cds_base::Mem;
 
-/// What takes the parts of a document one by one, in their order. It may have enough, and then is given no more.
+/// Takes the parts of a document one by one, in their order. Once it has enough, it is given no more.
 pub trait PartSink {
     ghost use Rattle.cds_markup.specs.declared.part.Part.{Part};
 
-    // This part makes the second of the first.
+    // Says that this part turns the first into the second.
     ghost took: { Self → Part → Self → Type 0 };
 
-    // Whether no more is wanted.
+    // Says whether no more is wanted.
     ghost enough: { Self → Bool } = { λ _. false };
 
-    /// Takes the next part. A refusal is for want of memory, and says nothing of what the part made.
+    /// Takes the next part. A refusal means that memory ran out, and says nothing of what the part made.
     fn take(&mut self, part: Part) -> Result<(), Mem>
         ensures { OnOk result (took self.old part self.new) };
 
-    /// Whether no more is wanted.
+    /// Returns whether no more is wanted.
     fn has_enough(&self) -> bool
         ensures { result ≡ enough self.now };
 }

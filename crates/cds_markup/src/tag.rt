@@ -1,3 +1,5 @@
+//! Tags as they are written: qualified names, attributes and the namespaces that they declare.
+
 use cds_base::{Sequence, Text};
 
 /// A qualified name as it is written (Namespaces in XML).
@@ -5,7 +7,7 @@ use cds_base::{Sequence, Text};
 pub struct QName {
     /// The prefix, empty for none.
     pub prefix: Text,
-    /// What stands behind it.
+    /// The local name after it.
     pub local: Text,
 }
 
@@ -23,7 +25,7 @@ pub struct TagAttr {
 pub struct Tag {
     /// The element's name.
     pub name: QName,
-    /// Its attributes in order, those that declare namespaces too.
+    /// Its attributes in order, also those that declare namespaces.
     pub attrs: Sequence<TagAttr>,
 }
 

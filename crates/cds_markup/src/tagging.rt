@@ -1,3 +1,5 @@
+//! How the characters of a start tag are read.
+
 ghost use Rattle.std.specs.Prelude.{◌≡◌, ◌==◌, OnOk};
 ghost use Rattle.cds_markup.specs.Tags.{ends_tag, with_attr, tagged_step, spaced_step, step_tag};
 ghost use Rattle.cds_markup.specs.Names.{name_begun};
@@ -11,14 +13,14 @@ use crate::tag::{Tag, TagAttr};
 use cds_base::{Mem, Sequence};
 use std::alloc::Global;
 
-/// Whether the character ends a start tag.
+/// Returns whether the character ends a start tag.
 fn ends_tag(c: char) -> bool
     ensures { result ≡ ends_tag c }
 {
     c == '/' || c == '>'
 }
 
-/// A tag of which nothing is known.
+/// Returns an empty tag, which stands for a tag that is not known yet.
 pub fn no_tag(alloc: Global) -> Tag {
     Tag {
         name: no_name(alloc),
@@ -26,7 +28,7 @@ pub fn no_tag(alloc: Global) -> Tag {
     }
 }
 
-/// A name of one character.
+/// Returns a name of one character.
 fn name_begun(alloc: Global, c: char) -> Result<Naming, Mem>
     ensures { IsBegun c result }
 {
@@ -43,7 +45,7 @@ impl Tagging {
         drop(std::mem::replace(self, tagging));
     }
 
-    /// A tag that begins with this character.
+    /// Returns the state of a tag that begins with this character.
     pub fn begin(alloc: Global, c: char) -> Result<Self, Stop>
         ensures { BeginsTag c result }
     {
@@ -53,7 +55,7 @@ impl Tagging {
         Ok(Tagging::Name(name_begun(alloc, c)?))
     }
 
-    /// Behind a name or a value.
+    /// Takes a character after a name or a value.
     fn tagged(&mut self, tag: Tag, c: char) -> Result<Option<(Tag, char)>, Stop>
         ensures { Agrees (tagged_step tag c) result self.new }
     {
@@ -67,7 +69,7 @@ impl Tagging {
         Err(Stop::Broken)
     }
 
-    /// Behind white space.
+    /// Takes a character after white space.
     fn spaced(&mut self, alloc: Global, tag: Tag, c: char) -> Result<Option<(Tag, char)>, Stop>
         ensures { Agrees (spaced_step tag c) result self.new }
     {
@@ -86,7 +88,7 @@ impl Tagging {
         Err(Stop::Broken)
     }
 
-    /// Adds an attribute that ended to the tag that it stands in.
+    /// Adds a complete attribute to the tag that it stands in.
     #[inline(never)]
     fn end_attr(&mut self, alloc: Global, attr: TagAttr) -> Result<(), Mem>
         ensures { OnOk result (self.new ≡ Tagging.Tagged (with_attr (tag_open self.old) attr)) }
@@ -103,7 +105,7 @@ impl Tagging {
         Ok(())
     }
 
-    /// One character. At the `>` or `/` that ends the tag it gives the tag and which of them it is.
+    /// Takes one character. At the `>` or `/` that ends the tag, returns the tag and that character.
     pub fn step(&mut self, alloc: Global, c: char) -> Result<Option<(Tag, char)>, Stop>
         ensures { Agrees (step_tag self.old c) result self.new }
     {

@@ -1,3 +1,5 @@
+//! What a character completes inside the root, before namespaces are looked up.
+
 use crate::letters::Letters;
 use crate::tag::Tag;
 
@@ -16,7 +18,7 @@ pub enum Token {
     Started(Tag),
     /// The tag of an empty element, at its `/`.
     Slash(Tag),
-    /// The `>` behind that.
+    /// The `>` after that `/`.
     Shut,
     /// An end tag.
     Ended,

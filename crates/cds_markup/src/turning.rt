@@ -1,3 +1,5 @@
+//! How the characters inside the root are read.
+
 ghost use Rattle.std.specs.Prelude.{◌≡◌, ◌==◌, true, List, [], ◌∷◌, Some};
 ghost use Rattle.cds_markup.specs.declared.tag.Open.{Open};
 ghost use Rattle.cds_markup.specs.Turns.{given, content_step, tag_given, less_step, bang_step, section_step, end_blanks_step, end_step, step_turn};
@@ -14,7 +16,8 @@ use crate::tag::{Open, Tag};
 use crate::token::Token;
 use std::alloc::Global;
 
-/// One character of a section, behind so many closing brackets of those that count and this text. At the end it gives the text.
+/// Takes one character of a section, after this many closing brackets of those that count and this text. Returns the text at the
+/// end.
 fn section_step(
     brackets: &mut u32,
     text: &mut Letters,
@@ -41,7 +44,7 @@ impl Turn {
         drop(std::mem::replace(self, turn));
     }
 
-    /// A literal character, or what begins at it.
+    /// Takes a literal character, or what begins at it.
     #[inline(never)]
     fn content(&mut self, brackets: u32, c: char) -> Result<Option<Token>, Stop>
         ensures { (opens : List Open) → TurnsSo opens (content_step brackets opens c) result self.new }
@@ -61,7 +64,7 @@ impl Turn {
         Ok(Some(Token::Letter(c)))
     }
 
-    /// A start tag that ended with this character.
+    /// Ends a start tag with this character.
     #[inline(never)]
     fn end_start(&mut self, tag: Tag, end: char) -> Token
         ensures { (opens : List Open) → tag_given opens (tag, end) ≡ given result (opens_after result opens) self.new }
@@ -74,7 +77,7 @@ impl Turn {
         Token::Slash(tag)
     }
 
-    /// Behind a `<`.
+    /// Takes the character after a `<`.
     #[inline(never)]
     fn less(&mut self, alloc: Global, opens: &[Open], c: char) -> Result<Option<Token>, Stop>
         ensures { TurnsSo opens.now (less_step opens.now c) result self.new }
@@ -94,7 +97,7 @@ impl Turn {
         Ok(None)
     }
 
-    /// Behind a `<!`.
+    /// Takes the character after a `<!`.
     #[inline(never)]
     fn bang(&mut self, c: char) -> Result<Option<Token>, Stop>
         ensures { (opens : List Open) → TurnsSo opens (bang_step c) result self.new }
@@ -107,7 +110,7 @@ impl Turn {
         Ok(None)
     }
 
-    /// The first character of a section.
+    /// Takes the first character of a section.
     #[inline(never)]
     fn begin_section(&mut self, alloc: Global, c: char) -> Result<Option<Token>, Stop>
         ensures { (opens : List Open) → TurnsSo opens (section_step 0 [] opens c) result self.new }
@@ -118,7 +121,7 @@ impl Turn {
         Ok(None)
     }
 
-    /// Behind the name in an end tag.
+    /// Takes a character after the name in an end tag.
     fn end_blanks(&mut self, n: usize, c: char) -> Result<Option<Token>, Stop>
         ensures { (innermost : Open) (outer : List Open) → TurnsSo (innermost ∷ outer) (end_blanks_step n outer c) result self.new }
     {
@@ -133,7 +136,7 @@ impl Turn {
         Err(Stop::Broken)
     }
 
-    /// In an end tag, behind so many bytes of the innermost element's name.
+    /// Takes a character of an end tag, after `n` bytes of the innermost element's name.
     #[tactic(auto, using(crate::proofs::Decoded::end_over, crate::proofs::Decoded::end_goes, crate::proofs::Decoded::end_stuck))]
     #[inline(never)]
     fn end(&mut self, opens: &[Open], n: usize, c: char) -> Result<Option<Token>, Stop>
@@ -154,7 +157,7 @@ impl Turn {
         }
     }
 
-    /// The second dash of a comment's opening.
+    /// Takes the second dash that opens a comment.
     fn dash(&mut self, c: char) -> Result<Option<Token>, Stop>
         ensures { (opens : List Open) → TurnsSo opens (step_turn Turn.Dash opens c) result self.new }
     {
@@ -165,7 +168,7 @@ impl Turn {
         Ok(None)
     }
 
-    /// Behind the `/` of an empty element's tag.
+    /// Takes the character after the `/` of an empty element's tag.
     #[inline(never)]
     fn slashed(&mut self, c: char) -> Result<Option<Token>, Stop>
         ensures { (opens : List Open) → TurnsSo opens (step_turn Turn.Slashed opens c) result self.new }
@@ -177,7 +180,7 @@ impl Turn {
         Ok(Some(Token::Shut))
     }
 
-    /// Goes back between tags, behind this token.
+    /// Goes back between tags, after this token.
     fn close(&mut self, token: Token) -> Option<Token>
         ensures token { result ≡ Some token }
         ensures content { self.new ≡ Turn.Content 0 }
@@ -186,7 +189,7 @@ impl Turn {
         Some(token)
     }
 
-    /// One character of a start tag.
+    /// Takes one character of a start tag.
     #[inline(never)]
     #[tactic(auto, using(crate::proofs::Decoded::turns_err, crate::proofs::Decoded::turns_on, crate::proofs::Decoded::turns_done))]
     fn start_tag(&mut self, alloc: Global, c: char) -> Result<Option<Token>, Stop>
@@ -204,7 +207,7 @@ impl Turn {
         }
     }
 
-    /// One character of a comment, a section or a reference.
+    /// Takes one character of a comment, a section or a reference.
     #[inline(never)]
     #[tactic(auto, using(crate::proofs::Decoded::turns_err, crate::proofs::Decoded::turns_on, crate::proofs::Decoded::turns_done))]
     fn seldom(&mut self, alloc: Global, c: char) -> Result<Option<Token>, Stop>
@@ -242,8 +245,8 @@ impl Turn {
         }
     }
 
-    /// One character, where these elements are open. What is seldom open has functions of its own: what a function may hold is
-    /// cleared where it is called.
+    /// Takes one character, if these elements are open. States that are seldom open have functions of their own, since a function
+    /// clears all the memory that it may hold each time it is called.
     pub fn step(&mut self, alloc: Global, opens: &[Open], c: char) -> Result<Option<Token>, Stop>
         ensures { TurnsSo opens.now (step_turn self.old opens.now c) result self.new }
     {

@@ -1,3 +1,5 @@
+//! How the characters of an attribute's value are read.
+
 ghost use Rattle.std.specs.Prelude.{◌≡◌, ◌==◌, ◌++◌, false, Option, Some, None, OnOk};
 ghost use Rattle.cds_markup.specs.Values.{says_behind, literal_step, step_value};
 ghost use Rattle.cds_markup.specs.Steps.{Agrees};
@@ -9,7 +11,7 @@ use crate::values::ValuePiece;
 use cds_base::Mem;
 use std::alloc::Global;
 
-/// Adds what a literal character says: white space is a space, and of two bytes of a line end the second is nothing.
+/// Adds what a literal character says. White space says a space. The second byte of a line end of two says nothing.
 fn push_literal(text: &mut Letters, behind_return: bool, c: char) -> Result<(), Mem>
     ensures { OnOk result (text.new ≡ text.old ++ says_behind behind_return (ValuePiece.Literal c)) }
 {
@@ -25,7 +27,7 @@ fn push_literal(text: &mut Letters, behind_return: bool, c: char) -> Result<(), 
 }
 
 impl Valuing {
-    /// A literal character, the quote, or the `&` of a reference.
+    /// Takes a literal character, the quote, or the `&` of a reference.
     fn literal(&mut self, alloc: Global, c: char) -> Result<Option<Letters>, Stop>
         ensures { Agrees (literal_step self.old.double self.old.text self.old.behind_return c) result self.new }
     {
@@ -47,7 +49,7 @@ impl Valuing {
         Ok(None)
     }
 
-    /// One character. At the quote it gives what the value says.
+    /// Takes one character. Returns what the value says at the quote that ends it.
     #[inline(never)]
     pub fn step(&mut self, alloc: Global, c: char) -> Result<Option<Letters>, Stop>
         ensures { Agrees (step_value self.old c) result self.new }

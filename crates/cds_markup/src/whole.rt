@@ -1,3 +1,5 @@
+//! How the characters outside the root are read, and how a document changes from one section to the next.
+
 ghost use Rattle.std.specs.Prelude.{◌≡◌, ◌==◌, true, false, List};
 ghost use Rattle.cds_markup.specs.declared.tag.Open.{Open};
 ghost use Rattle.cds_markup.specs.Wholes.{misc_step, is_content, root_move, prolog_move, marked_move, step};
@@ -19,7 +21,8 @@ impl Misc {
         drop(std::mem::replace(self, misc));
     }
 
-    /// One character. It gives `()` where a `<` came and no comment, and the character belongs to what follows.
+    /// Takes one character. Returns `()` if a `<` came before it and no comment begins. Then the character belongs to what
+    /// follows.
     pub fn step(&mut self, c: char) -> Result<Option<()>, Stop>
         ensures { Agrees (misc_step self.old c) result self.new }
     {
@@ -62,7 +65,7 @@ impl Misc {
 }
 
 impl Turn {
-    /// Whether it is between tags.
+    /// Returns whether the state is between tags.
     fn is_content(&self) -> bool
         ensures { result ≡ is_content self.now }
     {
@@ -70,7 +73,7 @@ impl Turn {
     }
 }
 
-/// Whether no element is open behind what a character completed, where these were open before it.
+/// Returns whether no element is open after what a character completed. `opens` were open before it.
 fn is_last(said: &Result<Option<Token>, Stop>, opens: &[Open]) -> bool
     ensures { result ≡ is_last said.now opens.now }
 {
@@ -83,7 +86,7 @@ fn is_last(said: &Result<Option<Token>, Stop>, opens: &[Open]) -> bool
 }
 
 impl Mode {
-    /// Goes over behind the root.
+    /// Goes over to the state after the root.
     #[inline(never)]
     fn leave(&mut self)
         ensures { self.new ≡ Mode.Epilog Misc.Blanks }
@@ -98,7 +101,7 @@ impl Mode {
         self.go_to(Mode::Inside(Turn::Less));
     }
 
-    /// The first character of the root's name.
+    /// Takes the first character of the root's name.
     #[inline(never)]
     fn root(&mut self, alloc: Global, c: char) -> Result<Option<Token>, Stop>
         ensures { (opens : List Open) → MovesSo opens (root_move opens c) result self.new }
@@ -108,7 +111,7 @@ impl Mode {
         Ok(None)
     }
 
-    /// White space and comments before the root, and the first character of its name.
+    /// Takes a character of white space or comments before the root, or the first character of the root's name.
     #[inline(never)]
     fn prolog(&mut self, alloc: Global, misc: Misc, c: char) -> Result<Option<Token>, Stop>
         ensures { (opens : List Open) → MovesSo opens (prolog_move opens (misc_step misc c) c) result self.new }
@@ -121,7 +124,7 @@ impl Mode {
         Ok(None)
     }
 
-    /// Behind a byte order mark, or at the first character.
+    /// Takes the character after a byte order mark, or the first one if no mark came.
     #[inline(never)]
     fn marked(&mut self, alloc: Global, c: char) -> Result<Option<Token>, Stop>
         ensures { (opens : List Open) → MovesSo opens (marked_move opens c) result self.new }
@@ -140,7 +143,7 @@ impl Mode {
         drop(std::mem::replace(self, mode));
     }
 
-    /// One character outside the root.
+    /// Takes one character outside the root.
     #[inline(never)]
     fn outside(&mut self, alloc: Global, c: char) -> Result<Option<Token>, Stop>
         requires { is_outside self.old ≡ true }
@@ -185,7 +188,7 @@ impl Mode {
         }
     }
 
-    /// One character, where these elements are open.
+    /// Takes one character, if these elements are open.
     #[tactic(auto, using(crate::proofs::Decoded::inside_over, crate::proofs::Decoded::inside_on))]
     pub fn step(&mut self, alloc: Global, opens: &[Open], c: char) -> Result<Option<Token>, Stop>
         ensures { MovesSo opens.now (step self.old opens.now c) result self.new }

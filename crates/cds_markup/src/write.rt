@@ -9,7 +9,7 @@ use crate::scope::XML_SPACE;
 use crate::{Attr, Element, Name, Node};
 use cds_base::{Mem, escape, put, put_number};
 
-/// Puts a qualified name, of which the prefix may be empty.
+/// Puts a qualified name, whose prefix may be empty.
 #[tactic(auto, using(crate::proofs::Decoded::name_alone, crate::proofs::Decoded::name_prefixed))]
 fn put_name(out: &mut String, prefix: &str, local: &str) -> Result<(), Mem>
     ensures { OnOk result (string_bytes out.new ≡ string_bytes out.old ++ written_name prefix.now local.now) }
@@ -24,7 +24,7 @@ fn put_name(out: &mut String, prefix: &str, local: &str) -> Result<(), Mem>
     Ok(())
 }
 
-/// Puts an attribute behind a space.
+/// Puts a space and an attribute.
 fn put_attr(out: &mut String, prefix: &str, local: &str, value: &str) -> Result<(), Mem>
     ensures { OnOk result (string_bytes out.new ≡ string_bytes out.old ++ attr_text prefix.now local.now value.now) }
 {
@@ -36,7 +36,7 @@ fn put_attr(out: &mut String, prefix: &str, local: &str, value: &str) -> Result<
     Ok(())
 }
 
-/// Puts the declaration of an element's namespace, where it differs from that around the element.
+/// Puts the declaration of an element's namespace, if it differs from that around the element.
 fn put_default(out: &mut String, around: &str, space: &str) -> Result<(), Mem>
     ensures { OnOk result (string_bytes out.new ≡ string_bytes out.old ++ written_attrs (default_declared around.now space.now)) }
 {
@@ -63,7 +63,7 @@ fn put_own(out: &mut String, number: u64, attr: &Attr) -> Result<(), Mem>
     Ok(())
 }
 
-/// Puts an attribute that has a namespace, with its number among those.
+/// Puts an attribute that has a namespace, with its number among the attributes that have one.
 fn put_prefixed(out: &mut String, number: u64, attr: &Attr) -> Result<(), Mem>
     ensures { OnOk result (string_bytes out.new ≡ string_bytes out.old ++ written_attrs (with_prefix number attr.now)) }
 {
@@ -75,7 +75,7 @@ fn put_prefixed(out: &mut String, number: u64, attr: &Attr) -> Result<(), Mem>
     Ok(())
 }
 
-/// Puts an attribute, before which so many have a namespace, and says how many have one with it.
+/// Puts an attribute, before which `before` attributes have a namespace. Returns how many have one with it.
 fn put_next(out: &mut String, before: u64, attr: &Attr) -> Result<u64, Mem>
     requires { before + 1 < 2 ^ 64 }
     ensures next { IfOk result (λ next. next ≡ counted before attr.now) }
@@ -124,7 +124,7 @@ fn put_end(out: &mut String, local: &str) -> Result<(), Mem>
     Ok(())
 }
 
-/// Puts an element that stands inside one of a namespace. The recursion is as deep as elements are open.
+/// Puts an element inside one of this namespace. The recursion is as deep as elements are open.
 fn put_element(element: &Element, around: &str, out: &mut String) -> Result<(), Mem>
     ensures { OnOk result (string_bytes out.new ≡ string_bytes out.old ++ written_in around.now element.now) }
 {
@@ -141,10 +141,15 @@ fn put_element(element: &Element, around: &str, out: &mut String) -> Result<(), 
     Ok(())
 }
 
-/// Appends the one written form of an element, calling itself as deep as elements are open in it. These bytes are a
-/// document that means this element where it can be written: names are names, all characters are allowed, no text is
-/// empty or stands beside another, no attribute comes twice or is called `xmlns` without a namespace, and there are at
-/// most 16 open elements and 67,108,864 bytes. A refusal leaves `out` as it was.
+/// Appends the one written form of an element. It calls itself as deep as elements are open in the element. If the element can be
+/// written, these bytes are a document that means it. It can be written if all of this holds:
+///
+/// - Names are names, and all characters are allowed.
+/// - No text is empty or stands beside another.
+/// - No attribute comes twice, and none without a namespace is called `xmlns`.
+/// - At most 16 elements are open, and there are at most 67,108,864 bytes.
+///
+/// A refusal leaves `out` as it was.
 pub fn write_document(element: &Element, out: &mut Vec<u8>) -> Result<(), Mem>
     ensures ok { OnOk result (out.new.items ≡ out.old.items ++ written element.now) }
     ensures err { OnErr result (out.new.items ≡ out.old.items) }

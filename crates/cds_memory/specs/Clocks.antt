@@ -1,5 +1,6 @@
 -- What callers see of the clocks in memory.
-use Rattle.std.specs.Prelude.{ℕ, List, [], ◌∷◌, max}
+use Rattle.std.specs.Prelude.{ℕ, Some, List, [], ◌∷◌, max}
+use Rattle.cds_base.specs.Told.{ClockTold}
 
 -- A clock in memory.
 pub record ClockState : Type 0 where
@@ -15,7 +16,8 @@ pub record ClockState : Type 0 where
   -- the numbers, counted from 1, of the calls of `now` that are to fail
   pub fails : List ℕ
 
--- The moment that comes next: the first that is left, the last one again where none is left or it would fall.
+-- The moment that comes next: the first that is left, or the last one again. The last one comes if none is left or if the moment
+-- would fall.
 abbrev pub moment_after : List ℕ → ℕ → ℕ
 moment_after [] last = last
 moment_after (moment ∷ moments) last = max last moment
@@ -23,3 +25,7 @@ moment_after (moment ∷ moments) last = max last moment
 -- The same clock before anything was asked of it.
 abbrev pub fresh_clock : ClockState → ClockState
 fresh_clock clock = record { moments = clock.moments; last = 0; gave = []; calls = 0; faults = 0; fails = clock.fails }
+
+-- What a clock in memory tells of itself.
+abbrev pub clock_told : ClockState → ClockTold
+clock_told clock = record { last = clock.last; gave = Some clock.gave; faults = clock.faults }

@@ -1,14 +1,15 @@
 -- What callers see of the outside in memory.
-use Rattle.std.specs.Prelude.{◌≡◌, ℕ, List, [], ◌∷◌}
+use Rattle.std.specs.Prelude.{◌≡◌, ℕ, Some, List, [], ◌∷◌, map}
 use Rattle.cds_memory.specs.declared.asking.Ask.{Ask}
 use Rattle.cds_memory.specs.declared.asking.Ask.TheVariants.{Folder, Link, Clock, Door, Spawner}
 use Rattle.cds_base.specs.Asked.{Asked, ForClock, ForDoor, ForFolder, ForLink, ForSpawner}
+use Rattle.cds_base.specs.Told.{OutsideTold}
 use Rattle.cds_memory.specs.Clocks.{ClockState}
 use Rattle.cds_memory.specs.Doors.{DoorState, SpawnerState}
-use Rattle.cds_memory.specs.Folders.{FolderState, fresh_folder}
-use Rattle.cds_memory.specs.Links.{LinkState}
+use Rattle.cds_memory.specs.Folders.{FolderState, fresh_folder, told_of}
+use Rattle.cds_memory.specs.Links.{LinkState, link_told_of}
 
--- What gives objects in memory.
+-- The outside in memory, which gives objects in memory.
 pub record OutsideState : Type 0 where
   -- the objects that it has left, of each kind the next one first
   pub folders : List FolderState
@@ -30,6 +31,17 @@ pub record OutsideState : Type 0 where
   -- the numbers, counted from 1, of the calls that ask for an object that are to fail
   pub fails : List ℕ
 
+-- What it tells of itself.
+abbrev pub outside_told : OutsideState → OutsideTold
+outside_told outside = record {
+  faults = outside.faults;
+  asked = Some outside.asked;
+  ended = Some (map told_of outside.ended);
+  ended_links = Some (map link_told_of outside.ended_links);
+  connections = outside.connections;
+  started = outside.started;
+}
+
 -- What was asked for, as the outside tells it.
 abbrev pub asked_of : Ask → Asked
 asked_of (Folder path) = ForFolder path
@@ -38,7 +50,7 @@ asked_of Clock = ForClock
 asked_of (Door port) = ForDoor port
 asked_of Spawner = ForSpawner
 
--- A folder as it is when nothing was asked of it.
+-- A folder before anything was asked of it.
 abbrev pub folder_afresh : FolderState → FolderState
 folder_afresh folder = fresh_folder folder.items folder.fails
 

@@ -18,7 +18,7 @@ entry_of (FileItem path size bytes fails) = File path size
 abbrev pub entries_of : List MemItem → List Entry
 entries_of items = map entry_of items
 
--- A file's source as it is opened. Where the item has no bytes, the file cannot be opened.
+-- A file's source as it is opened. If the item has no bytes, the file cannot be opened.
 abbrev pub source_of : MemItem → Option SourceState
 source_of (FolderItem path) = None
 source_of (FileItem path size None fails) = None
@@ -90,7 +90,7 @@ item_path (FileItem path size bytes fails) = path
 abbrev pub is_before : MemItem → MemItem → Bool
 is_before item next = is_lt (slice_cmp nat_cmp (item_path item) (item_path next))
 
--- Whether it comes before the first of a list.
+-- Whether an item's path comes before that of the first of a list.
 abbrev pub is_before_first : MemItem → List MemItem → Bool
 is_before_first item [] = true
 is_before_first item (next ∷ items) = is_before item next

@@ -1,3 +1,5 @@
+//! What the outside in memory was asked for.
+
 use cds_base::Trace;
 
 /// What the outside in memory was asked for.

@@ -1,3 +1,5 @@
+//! Clocks in memory.
+
 ghost use Rattle.std.specs.Prelude.{◌≡◌, ◌≤◌, [], ◌∷◌, ◌++◌, length, drop, Some, if◌then◌else◌, is_err, IfOk, OnOk, OnErr};
 ghost use Rattle.cds_memory.specs.Clocks.{ClockState, fresh_clock, moment_after};
 ghost use Rattle.cds_memory.specs.Memory.{next_fails};
@@ -8,7 +10,7 @@ use cds_base::{Clock, Failed, Moments, Numbers, Trace};
 use std::marker::Model;
 use std::thread::yield_now;
 
-/// A clock in memory that tells the moments that it gave, and fails at the calls that it was told.
+/// A clock in memory. It tells the moments that it gave, and fails at the calls that it was told.
 #[derive(Drop)]
 pub struct MemClock {
     moments: Moments,
@@ -40,8 +42,8 @@ impl Model for MemClock {
 }
 
 impl MemClock {
-    /// A clock of these moments. One that is below the last moment given, and every one after the end, is the last
-    /// moment again. `fails` are the numbers, counted from 1, of the calls of `now` that are to fail.
+    /// Makes a clock of these moments. If a moment is below the last one given, or none is left, the last one comes again.
+    /// `fails` are the numbers, counted from 1, of the calls of `now` that are to fail.
     pub fn new(moments: Moments, fails: Numbers) -> Self
         ensures { result ≡ record { moments = moments; last = 0; gave = []; calls = 0; faults = 0; fails = fails } }
     {
@@ -56,7 +58,7 @@ impl MemClock {
         }
     }
 
-    /// The same clock before anything was asked of it.
+    /// Returns the same clock before anything was asked of it.
     pub fn afresh(self) -> Self
         ensures { result ≡ fresh_clock self }
     {
@@ -71,7 +73,7 @@ impl MemClock {
         }
     }
 
-    /// How many calls failed.
+    /// Returns how many calls failed.
     pub fn faults(&self) -> u64
         ensures { result ≡ self.now.faults }
     {
@@ -79,7 +81,7 @@ impl MemClock {
     }
 }
 
-/// The moment that comes next, where so many of the moments were given.
+/// Returns the moment that comes next after `at` of the moments.
 fn next_moment(moments: &[u64], at: usize, last: u64) -> u64
     requires { at ≤ length moments.now }
     ensures { result ≡ moment_after (drop at moments.now) last }
@@ -91,7 +93,7 @@ fn next_moment(moments: &[u64], at: usize, last: u64) -> u64
     }
 }
 
-/// The place behind the next moment, or the end again.
+/// Returns the place after the next moment, or the end again.
 fn place_behind(moments: &[u64], at: usize) -> usize
     requires { at ≤ length moments.now }
     ensures within { result ≤ length moments.now }
@@ -105,11 +107,9 @@ fn place_behind(moments: &[u64], at: usize) -> usize
 }
 
 impl Clock for MemClock {
-    ghost last = { λ s. s.last };
+    ghost use Rattle.cds_memory.specs.Clocks.{clock_told};
 
-    ghost gave = { λ s. Some s.gave };
-
-    ghost faults = { λ s. s.faults };
+    ghost told = { clock_told };
 
     fn now(&mut self) -> Result<u64, Failed>
         ensures fails { is_err result ≡ next_fails self.old.fails self.old.calls }

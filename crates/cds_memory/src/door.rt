@@ -1,4 +1,6 @@
-ghost use Rattle.std.specs.Prelude.{◌≡◌, ℕ, ◌≤◌, ◌<◌, ◌⊎◌, [], ◌++◌, length, take, drop, min, None, Some, is_err, IfOk, IfSome, IsErr, IsTrue, OnErr};
+//! Connections and doors in memory.
+
+ghost use Rattle.std.specs.Prelude.{◌≡◌, ℕ, ◌≤◌, ◌<◌, ◌⊎◌, [], ◌++◌, length, take, drop, min, None, Some, is_err, nat_lt, ◌||◌, IfOk, IfSome, OnErr};
 ghost use Rattle.cds_memory.specs.Doors.{ConnState, DoorState, SharedConnState, fresh_door};
 ghost use Rattle.cds_memory.specs.Memory.{SourceState, SinkState, next_fails};
 ghost use Rattle.cds_base.specs.Outside.{raised, Rose};
@@ -10,7 +12,7 @@ use std::alloc::{AllocError, Global};
 use std::marker::Model;
 use std::sync::{Arc, Mutex, Wait};
 
-/// A connection in memory, which tells what it gives and what it takes.
+/// A connection in memory. It tells what it gives and what it takes.
 #[derive(Drop, Debug)]
 pub struct MemConn {
     source: MemSource,
@@ -26,14 +28,14 @@ impl Model for MemConn {
 }
 
 impl MemConn {
-    /// A connection that gives the bytes of the source and whose bytes the sink takes.
+    /// Makes a connection that gives the bytes of the source, and whose bytes the sink takes.
     pub fn new(source: MemSource, sink: MemSink) -> Self
         ensures { result ≡ record { source = source; sink = sink } }
     {
         MemConn { source, sink }
     }
 
-    /// The bytes that it took.
+    /// Returns the bytes that it took.
     pub fn written(&self) -> &[u8]
         ensures { result.now ≡ self.now.sink.holds }
     {
@@ -42,11 +44,9 @@ impl MemConn {
 }
 
 impl Source for MemConn {
-    ghost left = { λ c. Some c.source.left };
+    ghost use Rattle.cds_memory.specs.Memory.{source_told};
 
-    ghost moved = { λ c. c.source.moved };
-
-    ghost faults = { λ c. c.source.faults };
+    ghost told = { λ c. source_told c.source };
 
     fn read(&mut self, into: &mut [u8]) -> Result<usize, Failed>
         ensures fails { is_err result ≡ next_fails self.old.source.fails self.old.source.calls }
@@ -68,12 +68,12 @@ impl Source for MemConn {
 }
 
 impl Sink for MemConn {
-    ghost holds = { λ c. Some c.sink.holds };
+    ghost use Rattle.cds_memory.specs.Memory.{sink_told};
 
-    ghost faults = { λ c. c.sink.faults };
+    ghost told = { λ c. sink_told c.sink };
 
     fn write(&mut self, piece: &[u8]) -> Result<usize, Failed>
-        ensures fails { IsTrue (next_fails self.old.sink.fails self.old.sink.calls) → IsErr result }
+        ensures fails { is_err result ≡ (next_fails self.old.sink.fails self.old.sink.calls || nat_lt self.old.sink.room (length piece.now)) }
         ensures exact { IfOk result (λ n. n ≡ length piece.now) }
         ensures source { self.new.source ≡ self.old.source }
         ensures room { IfOk result (λ n. n ≤ length piece.now) }
@@ -97,7 +97,7 @@ impl Conn for MemConn {
     }
 }
 
-/// A connection of a door in memory. Its bytes stand under a lock, where the door sees them too, so it tells none.
+/// A connection of a door in memory. Its bytes stand under a lock, and the door sees them too. So it tells none of them.
 #[derive(Drop)]
 pub struct SharedConn<R> {
     rt: R,
@@ -115,7 +115,7 @@ impl<R> Model for SharedConn<R> {
     ghost view = { λ c. record { moved = c.moved; read_faults = c.read_faults; write_faults = c.write_faults } };
 }
 
-/// Reads of a connection under its lock.
+/// Reads from a connection under its lock.
 fn read_shared<R: Wait>(rt: &R, conn: &Mutex<MemConn>, into: &mut [u8]) -> Result<usize, Failed>
     ensures { IfOk result (λ n. n ≤ length into.old) }
 {
@@ -130,11 +130,9 @@ fn write_shared<R: Wait>(rt: &R, conn: &Mutex<MemConn>, piece: &[u8]) -> Result<
 }
 
 impl<R: Wait> Source for SharedConn<R> {
-    ghost left = { λ _. None };
+    ghost use Rattle.cds_memory.specs.Doors.{shared_source_told};
 
-    ghost moved = { λ c. c.moved };
-
-    ghost faults = { λ c. c.read_faults };
+    ghost told = { shared_source_told };
 
     fn read(&mut self, into: &mut [u8]) -> Result<usize, Failed>
         ensures room { IfOk result (λ n. n ≤ length into.old) }
@@ -158,9 +156,9 @@ impl<R: Wait> Source for SharedConn<R> {
 }
 
 impl<R: Wait> Sink for SharedConn<R> {
-    ghost holds = { λ _. None };
+    ghost use Rattle.cds_memory.specs.Doors.{shared_sink_told};
 
-    ghost faults = { λ c. c.write_faults };
+    ghost told = { shared_sink_told };
 
     fn write(&mut self, piece: &[u8]) -> Result<usize, Failed>
         ensures room { IfOk result (λ n. n ≤ length piece.now) }
@@ -200,13 +198,13 @@ struct Waiting {
 }
 
 impl Waiting {
-    /// Counts a call, and answers whether it is one of those that are to fail.
+    /// Counts a call, and returns whether it is one of those that are to fail.
     fn is_next_listed(&mut self) -> bool {
         self.calls = self.calls.saturating_add(1);
         is_listed(self.fails.as_slice(), self.calls)
     }
 
-    /// The next connection. `None` where none is left, or the call is to fail.
+    /// Returns the next connection. `None` if none is left, or if the call is to fail.
     fn accept(&mut self) -> Option<Arc<Mutex<MemConn>>> {
         if self.is_next_listed() {
             return None;
@@ -217,7 +215,7 @@ impl Waiting {
     }
 }
 
-/// The connection at a place, where there is one.
+/// Returns the connection at a place, if there is one.
 fn conn_at(conns: &[Arc<Mutex<MemConn>>], at: usize) -> Option<Arc<Mutex<MemConn>>> {
     match conns.get(at) {
         Some(conn) => Arc::try_clone(conn).ok(),
@@ -225,7 +223,7 @@ fn conn_at(conns: &[Arc<Mutex<MemConn>>], at: usize) -> Option<Arc<Mutex<MemConn
     }
 }
 
-/// A door in memory. Its connections stand under a lock, which it shares with its other handles, so it tells none.
+/// A door in memory. Its connections stand under a lock, which it shares with its other handles. So it tells none of them.
 #[derive(Drop)]
 pub struct MemDoor<R> {
     rt: R,
@@ -243,8 +241,8 @@ impl<R> Model for MemDoor<R> {
 }
 
 impl<R: Wait + Clone + Drop> MemDoor<R> {
-    /// A door that gives these connections in their order. `fails` are the numbers, counted from 1 over the calls of
-    /// `accept` and `again` of all its handles, of those that are to fail.
+    /// Makes a door that gives these connections in their order. `fails` are the numbers of the calls that are to fail. They are
+    /// counted from 1 over the calls of `accept` and `again` of all its handles.
     pub fn new(rt: R, alloc: Global, conns: Sequence<MemConn>, fails: Numbers) -> Result<Self, Mem>
         ensures { IfOk result (λ door. door ≡ fresh_door) }
     {
@@ -266,7 +264,7 @@ impl<R: Wait + Clone + Drop> MemDoor<R> {
         })
     }
 
-    /// The same handle before anything was asked of it.
+    /// Returns the same handle before anything was asked of it.
     pub fn afresh(self) -> Self
         ensures { result ≡ fresh_door }
     {
@@ -278,21 +276,21 @@ impl<R: Wait + Clone + Drop> MemDoor<R> {
         }
     }
 
-    /// How many connections this handle gave.
+    /// Returns how many connections this handle gave.
     pub fn connections(&self) -> u64
         ensures { result ≡ self.now.connections }
     {
         self.connections
     }
 
-    /// How many calls of this handle failed.
+    /// Returns how many calls of this handle failed.
     pub fn faults(&self) -> u64
         ensures { result ≡ self.now.faults }
     {
         self.faults
     }
 
-    /// What was written so far to the connection at a place, counted from 0. `None` where there is no such connection.
+    /// Returns what was written so far to the connection at a place, counted from 0. `None` if there is no such connection.
     pub fn written(&self, alloc: Global, at: usize) -> Result<Option<Bytes>, Mem> {
         let found = conn_at(self.waiting.lock(&self.rt).conns.as_slice(), at);
         match found {
@@ -305,7 +303,7 @@ impl<R: Wait + Clone + Drop> MemDoor<R> {
         }
     }
 
-    /// The next connection, of which nothing was read yet.
+    /// Returns the next connection, of which nothing was read yet.
     fn next(&self) -> Option<SharedConn<R>>
         ensures { IfSome result (λ conn. conn ≡ record { moved = 0; read_faults = 0; write_faults = 0 }) }
     {
@@ -320,7 +318,7 @@ impl<R: Wait + Clone + Drop> MemDoor<R> {
         })
     }
 
-    /// Another handle, which gave nothing yet.
+    /// Returns another handle, which gave nothing yet.
     fn another(&self) -> Option<MemDoor<R>>
         ensures { IfSome result (λ door. door ≡ fresh_door) }
     {
@@ -339,9 +337,9 @@ impl<R: Wait + Clone + Drop> MemDoor<R> {
 }
 
 impl<R: Wait + Clone + Drop> Door for MemDoor<R> {
-    ghost connections = { λ d. d.connections };
+    ghost use Rattle.cds_memory.specs.Doors.{door_told};
 
-    ghost faults = { λ d. d.faults };
+    ghost told = { door_told };
 
     type Conn = SharedConn<R>;
 

@@ -1,3 +1,5 @@
+//! Folders in memory.
+
 ghost use Rattle.std.specs.Prelude.{◌≡◌, ◌≤◌, ◌||◌, [], ◌∷◌, ◌++◌, Some, is_none, IfOk, OnErr, IsTrue};
 ghost use Rattle.std.specs.List.{list_any};
 ghost use Rattle.cds_base.specs.Outside.{raised};
@@ -12,7 +14,7 @@ use cds_base::{Entry, Folder, FolderFault, Mem, Numbers, Sequence};
 use std::alloc::Global;
 use std::marker::Model;
 
-/// A folder in memory that tells its entries and what its files hold, and fails at the calls that it was told.
+/// A folder in memory. It tells its entries and what its files hold, and fails at the calls that it was told.
 #[derive(Drop, Debug)]
 pub struct MemFolder {
     items: Sequence<MemItem>,
@@ -50,8 +52,8 @@ impl Model for MemFolder {
 }
 
 impl MemFolder {
-    /// A folder that gives these items in their order. `fails` are the numbers, counted from 1 over the calls of
-    /// `entry` and `open`, of those that are to fail.
+    /// Makes a folder that gives these items in their order. `fails` are the numbers of the calls that are to fail, counted from
+    /// 1 over the calls of `entry` and `open`.
     pub fn new(items: Sequence<MemItem>, fails: Numbers) -> Self
         requires { IsTrue (is_tree (entries_of items)) }
         ensures { result ≡ fresh_folder items fails }
@@ -69,7 +71,7 @@ impl MemFolder {
         }
     }
 
-    /// The same folder before anything was asked of it.
+    /// Returns the same folder before anything was asked of it.
     pub fn afresh(self) -> Self
         ensures { result ≡ fresh_folder self.items self.fails }
     {
@@ -86,35 +88,35 @@ impl MemFolder {
         }
     }
 
-    /// How many entries it gave.
+    /// Returns how many entries it gave.
     pub fn entries(&self) -> u64
         ensures { result ≡ self.now.entries }
     {
         self.entries
     }
 
-    /// How many files it opened.
+    /// Returns how many files it opened.
     pub fn opened(&self) -> u64
         ensures { result ≡ self.now.opened }
     {
         self.opened
     }
 
-    /// How many files came back.
+    /// Returns how many files came back.
     pub fn returned(&self) -> u64
         ensures { result ≡ self.now.returned }
     {
         self.returned
     }
 
-    /// How many calls of `entry` failed.
+    /// Returns how many calls of `entry` failed.
     pub fn entry_faults(&self) -> u64
         ensures { result ≡ self.now.entry_faults }
     {
         self.entry_faults
     }
 
-    /// How many opens and reads of files failed, the reads counted once the file is back.
+    /// Returns how many opens and reads of files failed. The reads are counted once the file is back.
     pub fn file_faults(&self) -> u64
         ensures { result ≡ self.now.file_faults }
     {
@@ -123,26 +125,11 @@ impl MemFolder {
 }
 
 impl Folder for MemFolder {
-    ghost use Rattle.std.specs.Prelude.{Some};
-    ghost use Rattle.cds_memory.specs.Folders.{contents_of, entries_of, given_of};
+    ghost use Rattle.cds_memory.specs.Folders.{told_of};
 
     type File = MemSource;
 
-    ghost tree = { λ s. Some (entries_of s.items) };
-
-    ghost contents = { λ s. Some (contents_of s.items) };
-
-    ghost given = { given_of };
-
-    ghost entries = { λ s. s.entries };
-
-    ghost opened = { λ s. s.opened };
-
-    ghost returned = { λ s. s.returned };
-
-    ghost entry_faults = { λ s. s.entry_faults };
-
-    ghost file_faults = { λ s. s.file_faults };
+    ghost told = { told_of };
 
     fn entry(&mut self, alloc: Global) -> Result<Entry, FolderFault>
         ensures failed { has_failed result ≡ next_fails self.old.fails self.old.calls }

@@ -1,3 +1,5 @@
+//! The items of folders in memory, and whether they are a tree.
+
 ghost use Rattle.std.specs.Prelude.{◌≡◌, ◌==◌, ◌&&◌, not, Option, Some, None, ◌<◌, length, IfOk, IsTrue};
 ghost use Rattle.std.specs.List.{list_any, list_all};
 ghost use Rattle.std.specs.Str.{bytes_eq};
@@ -15,8 +17,8 @@ pub enum MemItem {
     FolderItem {
         path: Text,
     },
-    /// A file of a size in bytes. Without bytes it cannot be opened; `fails` are the numbers, counted from 1, of the
-    /// reads of each opened file that are to fail.
+    /// A file of a size in bytes. Without bytes it cannot be opened. `fails` are the numbers, counted from 1, of the reads of
+    /// each opened file that are to fail.
     FileItem {
         path: Text,
         size: u64,
@@ -25,29 +27,29 @@ pub enum MemItem {
     },
 }
 
-/// Whether the items are a whole tree: no path comes twice, and the parent of each is the root or stands among them
-/// as a folder.
+/// Returns whether the items are a whole tree. No path comes twice, and the parent of each is the root or stands among them as a
+/// folder.
 pub fn are_tree(items: &[MemItem]) -> bool
     ensures { result ≡ is_tree (entries_of items.now) }
 {
     all_paths_differ(items) && all_are_held(items)
 }
 
-/// Whether no path comes twice. Where the paths are in ascending order of bytes, one pass tells.
+/// Returns whether no path comes twice. If the paths are in ascending order of bytes, one pass tells.
 fn all_paths_differ(items: &[MemItem]) -> bool
     ensures { result ≡ all_differ (entries_of items.now) }
 {
     ascending_differ(items) || all_pairs_differ(items)
 }
 
-/// Whether each path comes before the next one in the order of bytes, so that none comes twice.
+/// Returns whether each path comes before the next one in the order of bytes. Then none comes twice.
 fn ascending_differ(items: &[MemItem]) -> bool
     ensures { IsTrue result → IsTrue (all_differ (entries_of items.now)) }
 {
     is_ascending(items)
 }
 
-/// Whether each path comes before the next one in the order of bytes.
+/// Returns whether each path comes before the next one in the order of bytes.
 fn is_ascending(items: &[MemItem]) -> bool
     ensures { result ≡ ascends items.now }
 {
@@ -61,7 +63,7 @@ fn is_ascending(items: &[MemItem]) -> bool
     true
 }
 
-/// Whether the item's path comes before that of the first of these.
+/// Returns whether the item's path comes before that of the first of these.
 fn comes_before(item: &MemItem, items: &[MemItem]) -> bool
     ensures { result ≡ is_before_first item.now items.now }
 {
@@ -71,7 +73,7 @@ fn comes_before(item: &MemItem, items: &[MemItem]) -> bool
     }
 }
 
-/// The item's path.
+/// Returns the item's path.
 fn path_of(item: &MemItem) -> &Text
     ensures { result.now ≡ item_path item.now }
 {
@@ -81,7 +83,7 @@ fn path_of(item: &MemItem) -> &Text
     }
 }
 
-/// Whether each path is that of none of the later ones.
+/// Returns whether each path differs from all later ones.
 fn all_pairs_differ(items: &[MemItem]) -> bool
     ensures { result ≡ all_differ (entries_of items.now) }
 {
@@ -95,7 +97,7 @@ fn all_pairs_differ(items: &[MemItem]) -> bool
     true
 }
 
-/// Whether the item's path is that of none of the others.
+/// Returns whether the item's path differs from those of all others.
 fn is_new_among(item: &MemItem, others: &[MemItem]) -> bool
     ensures { result ≡ is_new (entries_of others.now) (entry_of item.now) }
 {
@@ -105,7 +107,7 @@ fn is_new_among(item: &MemItem, others: &[MemItem]) -> bool
     }
 }
 
-/// Whether an item stands at the path.
+/// Returns whether an item stands at the path.
 fn is_any_at(items: &[MemItem], path: &Text) -> bool
     ensures { result ≡ list_any (is_at path.now) (entries_of items.now) }
 {
@@ -118,7 +120,7 @@ fn any_at(items: &[MemItem], path: &Text) -> bool
     items.iter().any(|item| is_item_at(item, path))
 }
 
-/// Whether the item stands at the path.
+/// Returns whether the item stands at the path.
 fn is_item_at(item: &MemItem, path: &Text) -> bool
     ensures { result ≡ is_at path.now (entry_of item.now) }
 {
@@ -128,7 +130,7 @@ fn is_item_at(item: &MemItem, path: &Text) -> bool
     }
 }
 
-/// Whether the parent of each is the root or stands among the items as a folder.
+/// Returns whether the parent of each is the root or stands among the items as a folder.
 fn all_are_held(items: &[MemItem]) -> bool
     ensures { result ≡ list_all (is_held (entries_of items.now)) (entries_of items.now) }
 {
@@ -141,7 +143,7 @@ fn all_held(items: &[MemItem]) -> bool
     items.iter().all(|item| is_held_among(items, item))
 }
 
-/// Whether the item's parent is the root or stands among the items as a folder.
+/// Returns whether the item's parent is the root or stands among the items as a folder.
 fn is_held_among(items: &[MemItem], item: &MemItem) -> bool
     ensures { result ≡ is_held (entries_of items.now) (entry_of item.now) }
 {
@@ -151,7 +153,7 @@ fn is_held_among(items: &[MemItem], item: &MemItem) -> bool
     }
 }
 
-/// Whether the path's parent is the root or stands among the items as a folder.
+/// Returns whether the path's parent is the root or stands among the items as a folder.
 fn has_parent_among(items: &[MemItem], path: &[u8]) -> bool
     ensures { result ≡ is_path_held (entries_of items.now) path.now }
 {
@@ -170,7 +172,7 @@ fn any_holds(items: &[MemItem], path: &[u8]) -> bool
     items.iter().any(|item| is_in_item(item, path))
 }
 
-/// Whether the item is the folder that the path is in.
+/// Returns whether the item is the folder that the path is in.
 fn is_in_item(item: &MemItem, path: &[u8]) -> bool
     ensures { result ≡ is_parent_of path.now (entry_of item.now) }
 {
@@ -180,7 +182,7 @@ fn is_in_item(item: &MemItem, path: &[u8]) -> bool
     }
 }
 
-/// Whether the path is the folder's path, a `/` and a name.
+/// Returns whether the path is the folder's path, a `/` and a name.
 fn is_path_in(folder: &[u8], path: &[u8]) -> bool
     ensures { result ≡ is_in folder.now path.now }
 {
@@ -199,7 +201,7 @@ fn is_slash_then_name(rest: &[u8]) -> bool
     }
 }
 
-/// Whether the text has no `/`.
+/// Returns whether the text has no `/`.
 fn is_one_name(text: &[u8]) -> bool
     ensures { result ≡ is_name text.now }
 {
@@ -212,7 +214,7 @@ fn has_slash(text: &[u8]) -> bool
     text.iter().any(|byte| *byte == b'/')
 }
 
-/// The entry that stands behind so many.
+/// Returns the entry of the item at a place counted from 0.
 pub fn entry_behind(alloc: Global, items: &[MemItem], at: usize) -> Result<Entry, Mem>
     requires { at < length items.now }
     ensures { IfOk result (λ entry. IsEntryBehind (entries_of items.now) at entry) }
@@ -221,7 +223,7 @@ pub fn entry_behind(alloc: Global, items: &[MemItem], at: usize) -> Result<Entry
     Ok(entry)
 }
 
-/// The entry that an item is given as.
+/// Returns the entry that an item is given as.
 fn entry_like(alloc: Global, item: &MemItem) -> Result<Entry, Mem>
     ensures { IfOk result (λ entry. entry ≡ entry_of item.now) }
 {
@@ -236,7 +238,7 @@ fn entry_like(alloc: Global, item: &MemItem) -> Result<Entry, Mem>
     }
 }
 
-/// The source of the first file at the path, where that has bytes.
+/// Returns the source of the first file at the path, if that has bytes.
 pub fn open_item(alloc: Global, items: &[MemItem], path: &str) -> Result<Option<MemSource>, Mem>
     ensures { IfOk result (λ source. source ≡ source_at items.now path.now) }
 {
@@ -250,7 +252,7 @@ pub fn open_item(alloc: Global, items: &[MemItem], path: &str) -> Result<Option<
     Ok(None)
 }
 
-/// Whether the item is a file at the path.
+/// Returns whether the item is a file at the path.
 fn is_file_here(item: &MemItem, path: &str) -> bool
     ensures { result ≡ is_file_at path.now (entry_of item.now) }
 {
@@ -260,7 +262,7 @@ fn is_file_here(item: &MemItem, path: &str) -> bool
     }
 }
 
-/// The source of a file, where it has bytes.
+/// Returns the source of a file, if it has bytes.
 fn open_bytes(alloc: Global, item: &MemItem) -> Result<Option<MemSource>, Mem>
     ensures { IfOk result (λ source. source ≡ source_of item.now) }
 {
@@ -275,7 +277,7 @@ fn open_bytes(alloc: Global, item: &MemItem) -> Result<Option<MemSource>, Mem>
     }
 }
 
-/// A source of equal bytes and calls that are to fail.
+/// Returns a source with copies of these bytes and of the numbers of the calls that are to fail.
 fn copied_source(alloc: Global, bytes: &Bytes, fails: &Numbers) -> Result<MemSource, Mem>
     ensures { IfOk result (λ source. source ≡ record { left = bytes.now; moved = 0; calls = 0; faults = 0; fails = fails.now }) }
 {

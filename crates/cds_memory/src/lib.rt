@@ -1,5 +1,5 @@
-//! The outside in memory: streams, folders, clocks, connections, doors, links, spawners and what gives them, each of which
-//! tells its content and fails at the calls that it was told.
+//! The outside in memory: streams, folders, clocks, connections, doors, links, spawners and what gives them. Each fails at the
+//! calls that it was told, and tells its content. Only a door, and the connections that it gives, tell no content.
 #![tactic(auto)]
 
 mod asking;

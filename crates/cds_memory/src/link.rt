@@ -1,3 +1,5 @@
+//! Links in memory.
+
 ghost use Rattle.std.specs.Prelude.{◌≡◌, ◌==◌, ◌≤◌, ◌<◌, ◌||◌, ℕ, List, [], ◌∷◌, ◌++◌, length, drop, Some, IfOk, IsErr, IsTrue};
 ghost use Rattle.cds_base.specs.declared.outside.link.LinkRequest.{LinkRequest};
 ghost use Rattle.cds_base.specs.Links.{IsFirstReply, LinkRose, PassesFirst, WhereOver, has_no_reply, requests_after};
@@ -10,8 +12,8 @@ use cds_base::{Bytes, Link, LinkFault, LinkRequest, Mem, Numbers, Sequence, Text
 use std::alloc::Global;
 use std::marker::Model;
 
-/// A link in memory that gives the replies that it was made with, keeps all requests, and fails at the calls that it
-/// was told and where no reply is left.
+/// A link in memory. It gives the replies that it was made with, and keeps all requests. It fails at the calls that it was told,
+/// and if no reply is left.
 #[derive(Drop, Debug)]
 pub struct MemLink {
     replies: Vec<Bytes>,
@@ -37,8 +39,8 @@ impl Model for MemLink {
 }
 
 impl MemLink {
-    /// A link that gives these replies in their order. `fails` are the numbers, counted from 1, of the calls that are
-    /// to fail.
+    /// Makes a link that gives these replies in their order. `fails` are the numbers, counted from 1, of the calls that are to
+    /// fail.
     pub fn new(alloc: Global, replies: Sequence<Bytes>, fails: Numbers) -> Self
         ensures { result ≡ record { replies = replies; requests = []; calls = 0; faults = 0; fails = fails } }
     {
@@ -51,7 +53,7 @@ impl MemLink {
         }
     }
 
-    /// The same link before anything was asked of it.
+    /// Returns the same link before anything was asked of it.
     pub fn afresh(self, alloc: Global) -> Self
         ensures { result ≡ fresh_link self }
     {
@@ -64,14 +66,14 @@ impl MemLink {
         }
     }
 
-    /// The requests that it took, in their order.
+    /// Returns the requests that it took, in their order.
     pub fn requests(&self) -> &[LinkRequest]
         ensures { result.now ≡ self.now.requests }
     {
         self.requests.as_slice()
     }
 
-    /// How many calls failed, and how many replies were too long.
+    /// Returns how many calls failed, and how many replies were too long.
     pub fn faults(&self) -> u64
         ensures { result ≡ self.now.faults }
     {
@@ -79,7 +81,7 @@ impl MemLink {
     }
 }
 
-/// A request that is kept.
+/// Returns a request that is kept.
 fn request_of(alloc: Global, url: &str, bytes: &[u8], limit: usize) -> Result<LinkRequest, Mem>
     ensures { IfOk result (λ request. request ≡ record { url = url.now; bytes = bytes.now; limit = limit }) }
 {
@@ -94,11 +96,9 @@ fn request_of(alloc: Global, url: &str, bytes: &[u8], limit: usize) -> Result<Li
 }
 
 impl Link for MemLink {
-    ghost requests = { λ s. Some s.requests };
+    ghost use Rattle.cds_memory.specs.Links.{link_told_of};
 
-    ghost replies = { λ s. Some s.replies };
-
-    ghost faults = { λ s. s.faults };
+    ghost told = { link_told_of };
 
     fn exchange(
         &mut self,

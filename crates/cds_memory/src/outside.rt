@@ -1,11 +1,15 @@
+//! The outside in memory as a whole: what gives the objects and takes them back.
+
 ghost use Rattle.std.specs.Prelude.{◌≡◌, ◌==◌, ◌≤◌, ◌||◌, if◌then◌else◌, not, [], ◌∷◌, ◌++◌, length, Some, IfOk, OnErr};
 ghost use Rattle.cds_base.specs.Asked.{ForClock, ForDoor, ForFolder, ForLink, ForSpawner, OutsideRose, gave_nothing};
-ghost use Rattle.cds_memory.specs.Clocks.{fresh_clock};
-ghost use Rattle.cds_memory.specs.Doors.{fresh_door, fresh_spawner};
+ghost use Rattle.cds_memory.specs.Clocks.{clock_told, fresh_clock};
+ghost use Rattle.cds_memory.specs.Doors.{door_told, fresh_door, fresh_spawner, spawner_told};
+ghost use Rattle.cds_base.specs.Entries.{IsUnasked};
 ghost use Rattle.cds_base.specs.Outside.{Told, raised};
+ghost use Rattle.cds_base.specs.Told.{IsFresh, IsUnsent, unasked_door, unasked_spawner};
 ghost use Rattle.cds_memory.specs.Exterior.{IsFirstOf, asked_of, folder_afresh};
-ghost use Rattle.cds_memory.specs.Folders.{given_of};
-ghost use Rattle.cds_memory.specs.Links.{fresh_link};
+ghost use Rattle.cds_memory.specs.Folders.{told_of};
+ghost use Rattle.cds_memory.specs.Links.{fresh_link, link_told_of};
 ghost use Rattle.cds_memory.specs.Memory.{next_fails};
 
 use crate::asking::Ask;
@@ -27,7 +31,7 @@ pub struct MemObjects<R> {
 }
 
 impl<R> MemObjects<R> {
-    /// No objects, which take no memory.
+    /// Makes no objects, which take no memory.
     pub fn new(alloc: Global) -> Self
         ensures folders { result.folders ≡ [] }
         ensures links { result.links ≡ [] }
@@ -45,8 +49,8 @@ impl<R> MemObjects<R> {
     }
 }
 
-/// What gives the objects in memory that it was made with, whatever the paths and ports, and fails at the calls that it
-/// was told and where no such object is left.
+/// Gives the objects in memory that it was made with, whatever the paths and ports. It fails at the calls that it was told, and
+/// if no such object is left.
 #[derive(Drop)]
 pub struct MemOutside<R> {
     folders: Vec<MemFolder>,
@@ -89,8 +93,8 @@ impl<R> Model for MemOutside<R> {
 }
 
 impl<R> MemOutside<R> {
-    /// What gives these objects. `fails` are the numbers, counted from 1 over the calls that ask for an object, of those
-    /// that are to fail.
+    /// Makes an outside that gives these objects. `fails` are the numbers of the calls that are to fail, counted from 1 over the
+    /// calls that ask for an object.
     pub fn new(objects: MemObjects<R>, fails: Numbers) -> Self
         ensures { result ≡ record {
           folders = objects.folders;
@@ -132,27 +136,27 @@ impl<R> MemOutside<R> {
         }
     }
 
-    /// How many calls failed, and how many objects with faults came back.
+    /// Returns how many calls failed, and how many objects with faults came back.
     pub fn faults(&self) -> u64
         ensures { result ≡ self.now.faults }
     {
         self.faults
     }
 
-    /// How many connections the doors that came back gave.
+    /// Returns how many connections the doors that came back gave.
     pub fn connections(&self) -> u64
         ensures { result ≡ self.now.connections }
     {
         self.connections
     }
 
-    /// How many jobs the spawners that came back started.
+    /// Returns how many jobs the spawners that came back started.
     pub fn started(&self) -> u64
         ensures { result ≡ self.now.started }
     {
         self.started
     }
-    /// Counts a call that asks for an object, of which there is one or none, and answers whether it is given.
+    /// Counts a call that asks for an object, and returns whether the object is given. `has_one` says whether there is one.
     fn admits(&mut self, ask: Ask, has_one: bool) -> bool
         ensures answer { not result ≡ (not has_one || next_fails self.old.fails self.old.calls) }
         ensures asked { self.new.asked ≡ self.old.asked ++ asked_of ask ∷ [] }
@@ -180,7 +184,7 @@ impl<R> MemOutside<R> {
     }
 }
 
-/// The bytes of a text, for contracts alone.
+/// Returns the bytes of a text, which only contracts see.
 fn traced(text: &str) -> Trace<u8>
     ensures { result ≡ text.now }
 {
@@ -193,9 +197,7 @@ fn traced(text: &str) -> Trace<u8>
 }
 
 impl<R: Wait + Clone + Send + Drop + 'static> Outside for MemOutside<R> {
-    ghost use Rattle.std.specs.Prelude.{map};
-    ghost use Rattle.cds_memory.specs.Folders.{told_of};
-    ghost use Rattle.cds_memory.specs.Links.{link_told_of};
+    ghost use Rattle.cds_memory.specs.Exterior.{outside_told};
 
     type F = MemFolder;
 
@@ -207,17 +209,7 @@ impl<R: Wait + Clone + Send + Drop + 'static> Outside for MemOutside<R> {
 
     type W = MemSpawner;
 
-    ghost faults = { λ s. s.faults };
-
-    ghost asked = { λ s. Some s.asked };
-
-    ghost ended = { λ s. Some (map told_of s.ended) };
-
-    ghost ended_links = { λ s. Some (map link_told_of s.ended_links) };
-
-    ghost connections = { λ s. s.connections };
-
-    ghost started = { λ s. s.started };
+    ghost told = { outside_told };
 
     fn folder(&mut self, _alloc: Global, path: &str) -> Result<MemFolder, OutsideFault>
         ensures failed { gave_nothing result ≡ ((length self.old.folders == 0) || next_fails self.old.fails self.old.calls) }
@@ -229,12 +221,7 @@ impl<R: Wait + Clone + Send + Drop + 'static> Outside for MemOutside<R> {
         ensures spawners_stay { self.new.spawners ≡ self.old.spawners }
         ensures calls { self.new.calls ≡ raised self.old.calls 1 }
         ensures same_fails { self.new.fails ≡ self.old.fails }
-        ensures given { IfOk result (λ folder. given_of folder ≡ []) }
-        ensures entries { IfOk result (λ folder. folder.entries ≡ 0) }
-        ensures opened { IfOk result (λ folder. folder.opened ≡ 0) }
-        ensures returned { IfOk result (λ folder. folder.returned ≡ 0) }
-        ensures entry_faults { IfOk result (λ folder. folder.entry_faults ≡ 0) }
-        ensures file_faults { IfOk result (λ folder. folder.file_faults ≡ 0) }
+        ensures unasked { IfOk result (λ folder. IsUnasked (told_of folder)) }
         ensures asked { Told (Some self.old.asked) (λ list. Some self.new.asked ≡ Some (list ++ ForFolder path.now ∷ [])) }
         ensures ended_stay { self.new.ended ≡ self.old.ended }
         ensures ended_links_stay { self.new.ended_links ≡ self.old.ended_links }
@@ -260,8 +247,7 @@ impl<R: Wait + Clone + Send + Drop + 'static> Outside for MemOutside<R> {
         ensures spawners_stay { self.new.spawners ≡ self.old.spawners }
         ensures calls { self.new.calls ≡ raised self.old.calls 1 }
         ensures same_fails { self.new.fails ≡ self.old.fails }
-        ensures no_requests { IfOk result (λ link. Told (Some link.requests) (λ list. list ≡ [])) }
-        ensures no_faults { IfOk result (λ link. link.faults ≡ 0) }
+        ensures unsent { IfOk result (λ link. IsUnsent (link_told_of link)) }
         ensures asked { Told (Some self.old.asked) (λ list. Some self.new.asked ≡ Some (list ++ ForLink ∷ [])) }
         ensures ended_stay { self.new.ended ≡ self.old.ended }
         ensures ended_links_stay { self.new.ended_links ≡ self.old.ended_links }
@@ -287,9 +273,7 @@ impl<R: Wait + Clone + Send + Drop + 'static> Outside for MemOutside<R> {
         ensures spawners_stay { self.new.spawners ≡ self.old.spawners }
         ensures calls { self.new.calls ≡ raised self.old.calls 1 }
         ensures same_fails { self.new.fails ≡ self.old.fails }
-        ensures no_moments { IfOk result (λ clock. Told (Some clock.gave) (λ list. list ≡ [])) }
-        ensures last { IfOk result (λ clock. clock.last ≡ 0) }
-        ensures no_faults { IfOk result (λ clock. clock.faults ≡ 0) }
+        ensures fresh { IfOk result (λ clock. IsFresh (clock_told clock)) }
         ensures asked { Told (Some self.old.asked) (λ list. Some self.new.asked ≡ Some (list ++ ForClock ∷ [])) }
         ensures ended_stay { self.new.ended ≡ self.old.ended }
         ensures ended_links_stay { self.new.ended_links ≡ self.old.ended_links }
@@ -315,8 +299,7 @@ impl<R: Wait + Clone + Send + Drop + 'static> Outside for MemOutside<R> {
         ensures spawners_stay { self.new.spawners ≡ self.old.spawners }
         ensures calls { self.new.calls ≡ raised self.old.calls 1 }
         ensures same_fails { self.new.fails ≡ self.old.fails }
-        ensures none_given { IfOk result (λ door. door.connections ≡ 0) }
-        ensures no_faults { IfOk result (λ door. door.faults ≡ 0) }
+        ensures unasked { IfOk result (λ door. door_told door ≡ unasked_door) }
         ensures asked { Told (Some self.old.asked) (λ list. Some self.new.asked ≡ Some (list ++ ForDoor port ∷ [])) }
         ensures ended_stay { self.new.ended ≡ self.old.ended }
         ensures ended_links_stay { self.new.ended_links ≡ self.old.ended_links }
@@ -342,8 +325,7 @@ impl<R: Wait + Clone + Send + Drop + 'static> Outside for MemOutside<R> {
         ensures doors_stay { self.new.doors ≡ self.old.doors }
         ensures calls { self.new.calls ≡ raised self.old.calls 1 }
         ensures same_fails { self.new.fails ≡ self.old.fails }
-        ensures none_started { IfOk result (λ spawner. spawner.started ≡ 0) }
-        ensures no_faults { IfOk result (λ spawner. spawner.faults ≡ 0) }
+        ensures unasked { IfOk result (λ spawner. spawner_told spawner ≡ unasked_spawner) }
         ensures asked { Told (Some self.old.asked) (λ list. Some self.new.asked ≡ Some (list ++ ForSpawner ∷ [])) }
         ensures ended_stay { self.new.ended ≡ self.old.ended }
         ensures ended_links_stay { self.new.ended_links ≡ self.old.ended_links }

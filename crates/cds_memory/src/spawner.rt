@@ -1,3 +1,5 @@
+//! Spawners in memory.
+
 ghost use Rattle.std.specs.Prelude.{◌≡◌, ◌≤◌, if◌then◌else◌, is_err, IsFalse, OnErr};
 ghost use Rattle.cds_memory.specs.Doors.{SpawnerState, fresh_spawner};
 ghost use Rattle.cds_memory.specs.Memory.{next_fails};
@@ -7,7 +9,7 @@ use crate::streams::is_listed;
 use cds_base::{Attempt, Failed, Numbers, Spawner};
 use std::marker::Model;
 
-/// A spawner that starts real threads and fails at the calls that it was told.
+/// A spawner that starts real threads. It fails at the calls that it was told.
 #[derive(Drop, Debug)]
 pub struct MemSpawner {
     started: u64,
@@ -25,7 +27,7 @@ impl Model for MemSpawner {
 }
 
 impl MemSpawner {
-    /// A spawner that started nothing yet. `fails` are the numbers, counted from 1, of the calls that are to fail.
+    /// Makes a spawner that started nothing yet. `fails` are the numbers, counted from 1, of the calls that are to fail.
     pub fn new(fails: Numbers) -> Self
         ensures { result ≡ record { started = 0; calls = 0; faults = 0; fails = fails } }
     {
@@ -37,7 +39,7 @@ impl MemSpawner {
         }
     }
 
-    /// The same spawner before anything was asked of it.
+    /// Returns the same spawner before anything was asked of it.
     pub fn afresh(self) -> Self
         ensures { result ≡ fresh_spawner self }
     {
@@ -49,14 +51,14 @@ impl MemSpawner {
         }
     }
 
-    /// How many jobs it started.
+    /// Returns how many jobs it started.
     pub fn started(&self) -> u64
         ensures { result ≡ self.now.started }
     {
         self.started
     }
 
-    /// How many calls failed.
+    /// Returns how many calls failed.
     pub fn faults(&self) -> u64
         ensures { result ≡ self.now.faults }
     {
@@ -65,9 +67,9 @@ impl MemSpawner {
 }
 
 impl Spawner for MemSpawner {
-    ghost started = { λ s. s.started };
+    ghost use Rattle.cds_memory.specs.Doors.{spawner_told};
 
-    ghost faults = { λ s. s.faults };
+    ghost told = { spawner_told };
 
     fn may_start(&mut self) -> Result<(), Failed>
         ensures fails { is_err result ≡ next_fails self.old.fails self.old.calls }

@@ -1,13 +1,15 @@
-ghost use Rattle.std.specs.Prelude.{◌≡◌, ℕ, ◌+◌, ◌≤◌, ◌<◌, ◌⊎◌, List, Some, [], ◌++◌, length, take, drop, min, ◌==◌, if◌then◌else◌, is_err, IfOk, OnErr, IsTrue, IsErr};
+//! Sources and sinks in memory.
+
+ghost use Rattle.std.specs.Prelude.{◌≡◌, ℕ, ◌+◌, ◌≤◌, ◌<◌, ◌⊎◌, List, Some, [], ◌++◌, length, take, drop, min, ◌==◌, if◌then◌else◌, is_err, nat_lt, ◌||◌, IfOk, OnErr, IsTrue, IsErr};
 ghost use Rattle.std.specs.List.{list_any};
 ghost use Rattle.cds_base.specs.Outside.{raised, Rose};
 ghost use Rattle.cds_memory.specs.Memory.{SourceState, SinkState, next_fails};
 
-use cds_base::{Bytes, Failed, Numbers, Sink, Source};
+use cds_base::{Bytes, Failed, Mem, Numbers, Sink, Source};
 use std::alloc::Global;
 use std::marker::Model;
 
-/// A source in memory that tells its bytes and fails at the calls that it was told.
+/// A source in memory. It tells its bytes, and fails at the calls that it was told.
 #[derive(Drop, Debug)]
 pub struct MemSource {
     contents: Bytes,
@@ -30,7 +32,7 @@ impl Model for MemSource {
 }
 
 impl MemSource {
-    /// A source of these bytes. `fails` are the numbers, counted from 1, of the calls that are to fail.
+    /// Makes a source of these bytes. `fails` are the numbers, counted from 1, of the calls that are to fail.
     pub fn new(contents: Bytes, fails: Numbers) -> Self
         ensures { result ≡ record { left = contents; moved = 0; calls = 0; faults = 0; fails = fails } }
     {
@@ -44,7 +46,7 @@ impl MemSource {
         }
     }
 
-    /// How many calls failed.
+    /// Returns how many calls failed.
     pub fn faults(&self) -> u64
         ensures { result ≡ self.now.faults }
     {
@@ -53,11 +55,9 @@ impl MemSource {
 }
 
 impl Source for MemSource {
-    ghost left = { λ s. Some s.left };
+    ghost use Rattle.cds_memory.specs.Memory.{source_told};
 
-    ghost moved = { λ s. s.moved };
-
-    ghost faults = { λ s. s.faults };
+    ghost told = { source_told };
 
     fn read(&mut self, into: &mut [u8]) -> Result<usize, Failed>
         ensures fails { is_err result ≡ next_fails self.old.fails self.old.calls }
@@ -88,14 +88,14 @@ impl Source for MemSource {
     }
 }
 
-/// Whether the number stands in the list.
+/// Returns whether the number stands in the list.
 pub fn is_listed(numbers: &[u32], number: u64) -> bool
     ensures { result ≡ list_any (λ x. x == number) numbers.now }
 {
     numbers.iter().any(|x| u64::from(*x) == number)
 }
 
-/// Copies what stands from `at` on, as much as both lists hold, to the front of `into`.
+/// Copies bytes from the place `at` on to the beginning of `into`, as many as both lists hold, and returns how many.
 fn copy_front(bytes: &[u8], at: usize, into: &mut [u8]) -> usize
     requires { at ≤ length bytes.now }
     ensures count { result ≡ min (length into.old) (length (drop at bytes.now)) }
@@ -107,44 +107,52 @@ fn copy_front(bytes: &[u8], at: usize, into: &mut [u8]) -> usize
     count
 }
 
-/// A sink in memory that tells what it holds and fails at the calls that it was told.
+/// A sink in memory. It tells what it holds. It fails at the calls that it was told, and if its room is too small for the piece.
 #[derive(Drop, Debug)]
 pub struct MemSink {
-    contents: Bytes,
+    contents: Vec<u8>,
+    room: usize,
     calls: u64,
     faults: u64,
     fails: Numbers,
 }
 
 impl Model for MemSink {
+    ghost use Rattle.std.specs.Prelude.{◌≤◌, ◌+◌, vec_len, vec_capacity};
     ghost use Rattle.cds_memory.specs.Memory.{SinkState};
 
     ghost Value = { SinkState };
 
-    ghost view = { λ s. record { holds = s.contents; calls = s.calls; faults = s.faults; fails = s.fails } };
+    ghost view = { λ s. record { holds = s.contents.items; room = s.room; calls = s.calls; faults = s.faults; fails = s.fails } };
+
+    ghost invariant = { λ s. vec_len s.contents + s.room ≤ vec_capacity s.contents };
 }
 
 impl MemSink {
-    /// A sink that holds these bytes. `fails` are the numbers, counted from 1, of the calls that are to fail.
-    pub fn new(contents: Bytes, fails: Numbers) -> Self
-        ensures { result ≡ record { holds = contents; calls = 0; faults = 0; fails = fails } }
+    /// Makes a sink that holds these bytes and takes `room` more. The memory for them is taken here. `fails` are the numbers,
+    /// counted from 1, of the calls that are to fail.
+    pub fn new(contents: Bytes, room: usize, fails: Numbers) -> Result<Self, Mem>
+        ensures { IfOk result (λ sink. sink ≡ record { holds = contents; room = room; calls = 0; faults = 0; fails = fails }) }
     {
-        MemSink {
+        let mut contents = contents.into_vec();
+        contents.reserve(room)?;
+        Ok(MemSink {
             contents,
+            room,
             calls: 0,
             faults: 0,
             fails,
-        }
+        })
     }
 
-    /// The bytes that it holds.
+    /// Returns the bytes that it holds.
     pub fn as_slice(&self) -> &[u8]
         ensures { result.now ≡ self.now.holds }
     {
         self.contents.as_slice()
     }
 
-    /// How many calls failed.
+    /// Returns how many calls failed.
     pub fn faults(&self) -> u64
         ensures { result ≡ self.now.faults }
     {
@@ -153,13 +161,15 @@ impl MemSink {
 }
 
 impl Sink for MemSink {
-    ghost holds = { λ s. Some s.holds };
+    ghost use Rattle.cds_memory.specs.Memory.{sink_told};
 
-    ghost faults = { λ s. s.faults };
+    ghost told = { sink_told };
 
     fn write(&mut self, piece: &[u8]) -> Result<usize, Failed>
-        ensures fails { IsTrue (next_fails self.old.fails self.old.calls) → IsErr result }
+        ensures fails { is_err result ≡ (next_fails self.old.fails self.old.calls || nat_lt self.old.room (length piece.now)) }
         ensures exact { IfOk result (λ n. n ≡ length piece.now) }
+        ensures rooms { IfOk result (λ n. self.new.room + n ≡ self.old.room) }
+        ensures room_stays { OnErr result (self.new.room ≡ self.old.room) }
         ensures calls { self.new.calls ≡ raised self.old.calls 1 }
         ensures same { self.new.fails ≡ self.old.fails }
         ensures faults { self.new.faults ≡ (if is_err result then raised self.old.faults 1 else self.old.faults) }
@@ -171,10 +181,14 @@ impl Sink for MemSink {
         ensures never_falls { self.old.faults ≤ self.new.faults }
     {
         self.calls = self.calls.saturating_add(1);
-        if is_listed(self.fails.as_slice(), self.calls) || self.contents.extend(piece).is_err() {
+        if is_listed(self.fails.as_slice(), self.calls) || self.room < piece.len() {
             self.faults = self.faults.saturating_add(1);
             return Err(Failed);
         }
+        if self.contents.extend_from_slice(piece).is_err() {
+            unreachable!();
+        }
+        self.room -= piece.len();
         Ok(piece.len())
     }
 }

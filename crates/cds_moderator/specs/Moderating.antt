@@ -1,6 +1,6 @@
--- What the moderation of a server's events keeps of the commands that it accepted (UPnP ContentDirectory:4 on the moderation of events): a
--- function of the first number and of these commands, the newest of which stands first. When a release comes and what it tells, the commands
--- alone say.
+-- What the moderation of a server's events keeps of the commands that it accepted (UPnP ContentDirectory:4 on the moderation of
+-- events). It is a function of the first number and of these commands, the newest of which is the first. The commands alone say
+-- when a release comes and what it tells.
 use Rattle.std.specs.Prelude.{◌≡◌, ◌+◌, ◌<◌, ◌≤◌, ◌&&◌, ℕ, Bool, true, false, cond, nat_lt, nat_le, List, [], ◌∷◌, ◌++◌, filter, Option, Some, None}
 use Rattle.cds_catalog.specs.Library.{FolderMap}
 use Rattle.cds_catalog.specs.History.{History, end_of}
@@ -10,7 +10,7 @@ use Rattle.cds_commands.specs.Releases.{Release, release_size, release_pause, re
 
 -- ---- by the commands
 
--- the span from one number to another, where it has a change
+-- the span from one number to another, if it has a change
 abbrev pub some_span : ℕ → ℕ → List Span
 some_span from to = cond (nat_lt from to) (record { from = from; to = to } ∷ []) []
 
@@ -46,7 +46,7 @@ moderated_by first commands = record {
   end = reached first (end_of (scans_of first commands));
 }
 
--- with room for so many more spans
+-- with room for this many more spans
 pub record Moderating : Type 0 where
   pub moderated : Moderated
   pub spare : ℕ
@@ -93,7 +93,7 @@ abbrev pub joined : List Span → Option Span
 joined [] = None
 joined (span ∷ spans) = Some (record { from = span.from; to = last_within (span.from + release_size) span.from (span ∷ spans) })
 
--- the release that comes at a moment, where one comes
+-- the release that comes at a moment, if one comes
 abbrev pub next_span : ℕ → Moderated → Option Span
 next_span now m = cond (is_due now m) (joined m.pending) None
 
@@ -101,7 +101,7 @@ next_span now m = cond (is_due now m) (joined m.pending) None
 abbrev pub with_span : Span → Moderated → Moderated
 with_span span m = record { pending = m.pending ++ span ∷ []; moment = m.moment; end = Some span.to }
 
--- with one more release, where one comes
+-- with one more release, if one comes
 abbrev pub with_release : ℕ → Option Span → Moderated → Moderated
 with_release now None m = m
 with_release now (Some span) m = record { pending = above span.to m.pending; moment = Some now; end = m.end }

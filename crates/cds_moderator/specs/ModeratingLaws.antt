@@ -5,7 +5,7 @@ use Rattle.cds_catalog.specs.History.{end_of}
 use Rattle.cds_commands.specs.Commands.{Command, Scans, Grants, Renews, Ends, Stops, scans_of}
 use Rattle.cds_moderator.specs.Moderating.{moderated_by}
 
--- a scan that finds no change changes nothing, and neither does any command that is no scan and no tick
+-- a scan without a change leaves all as it was; so does each command other than a scan or a tick
 abbrev pub other_commands_change_nothing : Type 0
 other_commands_change_nothing = (first : ℕ) (older : List Command) →
     ((library : FolderMap) → end_of (scans_of first (Scans library ∷ older)) ≡ end_of (scans_of first older)

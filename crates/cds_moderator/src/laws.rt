@@ -2,7 +2,7 @@
 
 ghost use Rattle.cds_moderator.specs.ModeratingLaws as laws;
 
-/// A scan without a change, and each command that is no scan and no tick, changes nothing.
+/// States that a scan without a change leaves all as it was, and so does each command other than a scan or a tick.
 pub fn other_commands_change_nothing()
     ensures { laws.other_commands_change_nothing }
 {}

@@ -48,7 +48,7 @@ fn drop_released(pending: &mut Vec<Span>, to: u32)
     pending.retain(|span| to < span.to);
 }
 
-/// The last end of some spans that is not above `most`, or `before`.
+/// Returns the last end of some spans that is not above `most`, or `before`.
 fn last_within(spans: &[Span], most: u64, before: u32) -> u32
     ensures { result ≡ last_within most before spans.now }
 {
@@ -61,7 +61,7 @@ fn last_within(spans: &[Span], most: u64, before: u32) -> u32
     last
 }
 
-/// As many of the spans as one release may have, as one.
+/// Joins as many of the spans as one release may have.
 fn join(pending: &[Span]) -> Option<Span>
     ensures { result ≡ joined pending.now }
 {
@@ -76,14 +76,14 @@ fn join(pending: &[Span]) -> Option<Span>
     }
 }
 
-/// Whether spans wait, and the pause after the last release is over.
+/// Returns whether spans wait, and the pause after the last release is over.
 fn is_due(pending: &[Span], moment: Option<u64>, now: u64) -> bool
     ensures { result ≡ (is_waiting pending.now && is_pause_over now moment) }
 {
     !pending.is_empty() && is_pause_over(now, moment)
 }
 
-/// Whether the pause after the last release is over.
+/// Returns whether the pause after the last release is over.
 fn is_pause_over(now: u64, moment: Option<u64>) -> bool
     ensures { result ≡ is_pause_over now moment }
 {
@@ -97,7 +97,7 @@ fn is_pause_over(now: u64, moment: Option<u64>) -> bool
 }
 
 impl Moderator {
-    /// A moderator before any change, which takes no memory.
+    /// Returns a moderator before any change, which takes no memory.
     pub fn new(alloc: Global) -> Moderator
         ensures nothing { result.moderated ≡ nothing_pending }
         ensures stands { (first : ℕ) → Moderates result first [] }
@@ -118,7 +118,7 @@ impl Moderator {
         Ok(())
     }
 
-    /// The span of a scan's changes, which were accepted. It takes no memory.
+    /// Adds the span of a scan's changes, which were accepted. It takes no memory.
     pub fn changed(&mut self, span: Span)
         requires spare { 1 ≤ self.old.spare }
         requires changes { (span.from < span.to) × (span.to ≤ span.from + scan_size) }
@@ -133,8 +133,8 @@ impl Moderator {
         }
     }
 
-    /// Whether a release comes at a moment in milliseconds: some change is not released yet, and the last release, where
-    /// there was one, was at least 200 milliseconds before.
+    /// Returns whether a release comes at a moment in milliseconds. It does if some change is not released yet, and the last
+    /// release, if there was one, was at least 200 milliseconds before.
     pub fn due(&self, now: u64) -> bool
         ensures step { result ≡ is_due now self.now.moderated }
         ensures stands { (first : ℕ) (commands : List Command) → Moderates self.now first commands
@@ -143,8 +143,8 @@ impl Moderator {
         is_due(self.pending.as_slice(), self.moment, now)
     }
 
-    /// The release that would come at a moment: as many whole scans as have at most 262,144 changes together, but one at
-    /// least. `None` where none is due.
+    /// Returns the release that would come at a moment, or `None` if none is due. It has as many whole scans as have at most
+    /// 262,144 changes together. It has at least one.
     pub fn next_span(&self, now: u64) -> Option<Span>
         ensures step { result ≡ next_span now self.now.moderated }
         ensures stands { (first : ℕ) (commands : List Command) → Moderates self.now first commands
@@ -158,7 +158,7 @@ impl Moderator {
         }
     }
 
-    /// The release that comes at a moment, which is then the moment of the last one. `None` where none is due, and
+    /// Makes the release that comes at a moment, which is then the moment of the last one. If none is due it answers `None`, and
     /// nothing changes.
     pub fn release(&mut self, now: u64) -> Option<Span>
         ensures step { result ≡ next_span now self.old.moderated }

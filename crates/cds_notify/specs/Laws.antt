@@ -35,7 +35,7 @@ pub record AreNumbers (number : ℕ) (containers : List (ℕ × ℕ)) (events : 
   pub pairs : AllByRecursion IsPair containers
   pub changes : AllByRecursion IsNumbered events
 
--- a written body says the number and the events that were written, where it is no longer than a document may be
+-- a written body says the number and the events that were written, if it is no longer than a document may be
 abbrev pub BodiesAreReadBack : Type 0
 BodiesAreReadBack =
     (number : ℕ) (containers : List (ℕ × ℕ)) (events : List Event) → AreNumbers number containers events
@@ -49,8 +49,8 @@ note_message url to body = record {
   body = body;
 }
 
--- a written note is read, whatever comes behind it, as a message that is the note with the name, the SEQ, the number and the events that
--- were written, where its head and its body are within the limits
+-- a written note is read, whatever comes after it, as a message that is the note that was written: with its name, its
+-- SEQ, its number and its events; its head and its body must be within the limits
 abbrev pub NotesAreReadBack : Type 0
 NotesAreReadBack =
     (url : Parts) (to : Address) (number : ℕ) (containers : List (ℕ × ℕ)) (events : List Event) (more : List ℕ) (ended : Bool)
@@ -61,7 +61,7 @@ NotesAreReadBack =
     (Whole (note_message url to (propertyset_text number containers events)) more)
     × IsNote (note_message url to (propertyset_text number containers events)) (record { name = to.sid.0; seq = to.seq; number = number; events = events })
 
--- with so many events, and two containers for each, a body is far below the limit of bytes
+-- with at most this many events, and at most twice as many containers, a body is far below the limit of bytes
 abbrev pub most_events : ℕ
 most_events = 262144
 
@@ -70,12 +70,13 @@ BodiesAreShort =
     (number : ℕ) (containers : List (ℕ × ℕ)) (events : List Event) → AreNumbers number containers events
     → length events ≤ most_events → length containers ≤ 2 * most_events → length (propertyset_text number containers events) < 66000000
 
--- the containers of a release are two for each of its changes at most: the one that it adds, and the one that it names as parent
+-- a release has at most two containers for each of its changes: the one that it adds, and the one that it names as
+-- parent
 abbrev pub ContainersAreFew : Type 0
 ContainersAreFew =
     (history : History) (release : Release) → length (released_containers history release) ≤ 2 * (release.to - release.from)
 
--- so the body of a release is below that limit, with so many events
+-- so the body of a release with at most this many events is below that limit
 abbrev pub ReleasedBodiesAreShort : Type 0
 ReleasedBodiesAreShort =
     (history : History) (release : Release) (events : List Event) → AreNumbers release.to (released_containers history release) events

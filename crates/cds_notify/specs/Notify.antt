@@ -8,8 +8,8 @@ use Rattle.cds_http.specs.Written.{written_request}
 use Rattle.cds_gena.specs.SidText.{sid_text}
 use Rattle.cds_gena.specs.declared.address.Address.{Address}
 
--- HOST is the host, and behind a colon the port, which a URL has only where it is not that of its scheme. The target is the path and the
--- query.
+-- HOST is the host of a URL and, after a colon, its port. A URL has a port only if it is not the port of its scheme.
+-- The target is the path and the query.
 abbrev pub host_of : Parts → List ℕ
 host_of url = text_between url BeforeHost AfterPort
 

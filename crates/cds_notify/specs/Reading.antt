@@ -1,4 +1,4 @@
--- What the parts of reading a note's body answer.
+-- What the parts of reading the body of a note answer.
 use Rattle.std.specs.Prelude.{◌≡◌, ℕ, Bool, ◌&&◌, List, filter, codes, Option, Some, None, Result, Ok, Err, ⊤, if◌then◌else◌}
 use Rattle.cds_object.specs.declared.event.Event.{Event}
 use Rattle.cds_markup.specs.declared.element.Node.{Node}
@@ -24,7 +24,7 @@ property_with local node = where_it (carries local) (element_in node)
 abbrev pub properties_with : List ℕ → List Node → List Meaning
 properties_with local nodes = filter (carries local) (elements_in nodes)
 
--- why a note is refused whose changes or whose body are refused so
+-- why a note is refused if its changes, or its body, are refused for this reason
 abbrev pub of_state : StateError → NoteError
 of_state Out = Mem
 of_state (Bad at) = Body
@@ -39,7 +39,8 @@ of_document (TooDeep at) = Body
 of_document TooManyBytes = Body
 of_document RefusedBefore = Body
 
--- the events of a text, the element of a document, and what a body says. Want of memory says nothing, and there is no cause but these
+-- the events of a text, the element of a document, and what a body says. If memory runs out, that says nothing of them.
+-- Besides that, the only refusal is `Body`
 abbrev pub EventsTold : List ℕ → Result (List Event) NoteError → Type 0
 EventsTold text (Ok events) = IsStateEvent text events
 EventsTold text (Err Mem) = ⊤

@@ -1,5 +1,6 @@
--- What a NOTIFY request says: its fields the subscription and the SEQ, its body the number and the events (UPnP Device Architecture 2.0 on
--- event messages; what is needed, and the order of the refusals, are this project's profile).
+-- What a NOTIFY request says. Its fields say the subscription and the SEQ, its body the number and the events (UPnP
+-- Device Architecture 2.0 on event messages). What is needed, and the order of the refusals, are this project's
+-- profile.
 use Rattle.std.specs.Prelude.{◌≡◌, ◌^◌, ℕ, Bool, true, false, ◌&&◌, List, codes, bytes_eq, Option, Some, None, is_some, option_map, option_and_then, Result, Ok, Err, ⊤, if◌then◌else◌}
 use Rattle.std.specs.List.{flat_map}
 use Rattle.cds_base.specs.Number.{number_below}
@@ -32,12 +33,12 @@ is_word word (Some text) = bytes_eq text word
 abbrev pub seq_in : Option (List ℕ) → Option ℕ
 seq_in text = option_and_then (number_below (2 ^ 32)) text
 
--- a note to a subscription, where SID has its name
+-- a note to a subscription, if SID has its name
 abbrev pub named_note : ℕ → Option ℕ → Result Heading NoteError
 named_note seq None = Err Precondition
 named_note seq (Some name) = Ok record { sid = record { 0 = name }; seq = seq }
 
--- by NT, NTS and SID, behind a SEQ
+-- by NT, NTS and SID, after a SEQ
 abbrev pub of_events : Option (List ℕ) → Option (List ℕ) → Option (List ℕ) → ℕ → Result Heading NoteError
 of_events nt nts sid seq =
     if is_word (codes "upnp:event") nt && is_word (codes "upnp:propchange") nts then named_note seq (option_and_then sid_in sid) else Err Precondition
@@ -101,13 +102,13 @@ pub record IsNote (message : Message) (note : Note) : Type 0 where
   pub heading : heading_of message ≡ Ok (record { sid = record { 0 = note.name }; seq = note.seq })
   pub body : Says message.body note.number note.events
 
--- its fields are those of a note, and its body says no number and events
+-- its fields are the fields of a note, and its body does not say a number and events
 pub record HasNoBody (message : Message) : Type 0 where
   pub heading : Heading
   pub headed : heading_of message ≡ Ok heading
   pub none : (number : ℕ) (events : List Event) → Says message.body number events → ⊥
 
--- what is answered to a message. Want of memory says nothing of it
+-- what is answered to a message. If memory runs out, that says nothing of it
 abbrev pub Answers : Message → Result Note NoteError → Type 0
 Answers message (Ok note) = IsNote message note
 Answers message (Err Mem) = ⊤

@@ -1,4 +1,4 @@
-//! What the body of a note says.
+//! Reads the body of a note.
 
 ghost use Rattle.std.specs.Prelude.{◌≡◌, IfOk, option_copied};
 ghost use Rattle.cds_markup.specs.Children.{is_any, called, nodes_in, only_of};
@@ -19,14 +19,14 @@ pub struct Said {
     pub changes: Text,
 }
 
-/// What a body says.
+/// What the body of a note says: the number of the last change, and the events.
 #[derive(Drop)]
 pub struct Content {
     pub number: u32,
     pub events: Events,
 }
 
-/// Whether an element is a property with this variable.
+/// Returns whether an element is a property with this variable.
 #[tactic(auto, unfolding(crate::specs::Said::event_space))]
 fn carries(element: &Element, local: &str) -> bool
     ensures { result ≡ carries local.now element.now }
@@ -35,7 +35,7 @@ fn carries(element: &Element, local: &str) -> bool
         && element.has_child_called(local)
 }
 
-/// The property with this variable that a node is.
+/// Returns the property with this variable that a node is.
 fn property_with<'a>(node: &'a Node, local: &str) -> Option<&'a Element>
     ensures { option_copied result ≡ property_with local.now node.now }
 {
@@ -51,7 +51,7 @@ fn property_with<'a>(node: &'a Node, local: &str) -> Option<&'a Element>
     }
 }
 
-/// The one property with this variable.
+/// Returns the one property with this variable.
 fn only_property<'a>(nodes: &'a [Node], local: &str) -> Option<&'a Element>
     ensures { option_copied result ≡ only_of (properties_with local.now nodes.now) }
 {
@@ -66,7 +66,7 @@ fn only_property<'a>(nodes: &'a [Node], local: &str) -> Option<&'a Element>
     found
 }
 
-/// The variable of this name, which must come once.
+/// Returns the variable of this name, which must come once.
 fn variable<'a>(root: &'a Element, local: &str) -> Option<&'a Element>
     ensures { option_copied result ≡ variable local.now root.now }
 {
@@ -76,7 +76,7 @@ fn variable<'a>(root: &'a Element, local: &str) -> Option<&'a Element>
     }
 }
 
-/// Its text.
+/// Returns the text of the variable of this name.
 fn variable_text(alloc: Global, root: &Element, local: &str) -> Result<Option<Text>, Mem>
     ensures { IfOk result (λ text. text ≡ variable_text local.now root.now) }
 {
@@ -86,7 +86,7 @@ fn variable_text(alloc: Global, root: &Element, local: &str) -> Result<Option<Te
     }
 }
 
-/// The number of the last change.
+/// Returns the number of the last change.
 fn number_said(alloc: Global, root: &Element) -> Result<Option<u32>, Mem>
     ensures { IfOk result (λ number. number ≡ number_said root.now) }
 {
@@ -96,7 +96,7 @@ fn number_said(alloc: Global, root: &Element) -> Result<Option<u32>, Mem>
     }
 }
 
-/// Whether an element is a set of properties.
+/// Returns `Some` if an element is a set of properties.
 #[tactic(auto, unfolding(crate::specs::Said::event_space))]
 fn where_set(root: &Element) -> Option<()>
     ensures { result ≡ where_set root.now }
@@ -108,7 +108,7 @@ fn where_set(root: &Element) -> Option<()>
     }
 }
 
-/// What a set of properties says.
+/// Returns what a set of properties says.
 #[tactic(auto, unfolding(crate::specs::Said::said_of))]
 fn said_of(alloc: Global, root: &Element) -> Result<Option<Said>, Mem>
     ensures { IfOk result (λ said. said ≡ said_of root.now) }
@@ -128,7 +128,7 @@ fn said_of(alloc: Global, root: &Element) -> Result<Option<Said>, Mem>
     Ok(Some(Said { number, changes }))
 }
 
-/// The events that a text is.
+/// Returns the events that a text is.
 fn state_event(alloc: Global, text: &[u8]) -> Result<Events, StateError>
     ensures { Decides text.now result }
 {
@@ -140,7 +140,7 @@ fn state_event(alloc: Global, text: &[u8]) -> Result<Events, StateError>
     reader.finish(alloc)
 }
 
-/// Why a note is refused whose changes are refused so.
+/// Returns why a note is refused if its changes are refused for this reason.
 fn of_state(refusal: StateError) -> NoteError
     ensures { result ≡ of_state refusal }
 {
@@ -150,7 +150,7 @@ fn of_state(refusal: StateError) -> NoteError
     }
 }
 
-/// Why a note is refused whose body is refused so.
+/// Returns why a note is refused if its body is refused for this reason.
 fn of_document(refusal: MarkupError) -> NoteError
     ensures { result ≡ of_document refusal }
 {
@@ -160,7 +160,7 @@ fn of_document(refusal: MarkupError) -> NoteError
     }
 }
 
-/// The events that a text is, `Body` where it is no StateEvent.
+/// Returns the events that a text is, or `Body` if it is no StateEvent.
 fn events_in(alloc: Global, text: &[u8]) -> Result<Events, NoteError>
     ensures { EventsTold text.now result }
 {
@@ -170,7 +170,7 @@ fn events_in(alloc: Global, text: &[u8]) -> Result<Events, NoteError>
     }
 }
 
-/// The document that a body is, `Body` where it is none.
+/// Returns the document that a body is, or `Body` if it is none.
 fn document(alloc: Global, body: &[u8]) -> Result<Element, NoteError>
     ensures { DocumentTold body.now result }
 {
@@ -180,7 +180,7 @@ fn document(alloc: Global, body: &[u8]) -> Result<Element, NoteError>
     }
 }
 
-/// What a body says, `Body` where it says no number and events.
+/// Returns what a body says, or `Body` if it does not say a number and events.
 pub fn content_of(alloc: Global, body: &[u8]) -> Result<Content, NoteError>
     ensures { BodyTold body.now result }
 {

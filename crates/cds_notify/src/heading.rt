@@ -1,4 +1,4 @@
-//! What the fields of a note say.
+//! Reads the fields of a note.
 
 ghost use Rattle.std.specs.Prelude.{◌≡◌, option_and_then, option_map};
 ghost use Rattle.cds_gena.specs.SidText.{sid_in};
@@ -16,7 +16,7 @@ pub struct Heading {
     pub seq: u32,
 }
 
-/// Whether a field is there and has this text.
+/// Returns whether a field is there and has this text.
 fn is_word(word: &str, text: Option<&[u8]>) -> bool
     ensures { result ≡ is_word word.now (option_map (λ x. x.now) text.entry) }
 {
@@ -26,7 +26,7 @@ fn is_word(word: &str, text: Option<&[u8]>) -> bool
     }
 }
 
-/// The number that a SEQ is.
+/// Returns the number that a SEQ is.
 fn seq_in(text: Option<&[u8]>) -> Option<u32>
     ensures { result ≡ seq_in (option_map (λ x. x.now) text.entry) }
 {
@@ -36,7 +36,7 @@ fn seq_in(text: Option<&[u8]>) -> Option<u32>
     }
 }
 
-/// The name in a SID.
+/// Returns the heading of a note with this SEQ, by the name in its SID.
 fn named_note(sid: Option<&[u8]>, seq: u32) -> Result<Heading, NoteError>
     ensures { result ≡ named_note seq (option_and_then sid_in (option_map (λ x. x.now) sid.entry)) }
 {
@@ -49,7 +49,7 @@ fn named_note(sid: Option<&[u8]>, seq: u32) -> Result<Heading, NoteError>
     }
 }
 
-/// What a note's NT, NTS and SID say, behind its SEQ.
+/// Returns what NT, NTS and SID of a note say, after its SEQ was read.
 fn of_events(
     nt: Option<&[u8]>,
     nts: Option<&[u8]>,
@@ -65,8 +65,8 @@ fn of_events(
     }
 }
 
-/// What the fields of a note say: `Head` where the method is not NOTIFY, NT or NTS is missing or SEQ is no number; then
-/// `Precondition` where NT or NTS is another, or SID has no name.
+/// Returns what the fields of a note say. `Head` comes if the method is not NOTIFY, if NT or NTS is missing, or if SEQ
+/// is no number. After these checks, `Precondition` comes if NT or NTS has another text, or if SID has no name.
 pub fn heading_of(message: &Message) -> Result<Heading, NoteError>
     ensures { result ≡ heading_of message.now }
 {

@@ -1,19 +1,20 @@
-//! What is proved of notes as they are written and read: calling a function gives its law.
+//! Laws of notes as they are written and read. Calling a function gives its law.
 
 ghost use Rattle.cds_notify.specs.Laws.{BodiesAreReadBack, BodiesAreShort, ContainersAreFew, NotesAreReadBack, OneAnswer, ReleasedBodiesAreShort};
 
-/// What `write_propertyset` writes says the number and the events that were written.
+/// What `write_propertyset` writes says the number and the events that were written, if it is no longer than a document
+/// may be.
 pub fn bodies_are_read_back()
     ensures { BodiesAreReadBack }
 {}
 
-/// What `write_notify` writes round what `write_propertyset` writes is read as the note with the name, the SEQ, the number and the
-/// events that were written.
+/// What `write_notify` writes around what `write_propertyset` writes is read as the note that was written: with its
+/// name, its SEQ, its number and its events. The head and the body must be within their limits.
 pub fn notes_are_read_back()
     ensures { NotesAreReadBack }
 {}
 
-/// A body of 262,144 events, with two containers for each, has fewer than 66,000,000 bytes.
+/// A body of at most 262,144 events and at most 524,288 containers has fewer than 66,000,000 bytes.
 pub fn bodies_are_short()
     ensures { BodiesAreShort }
 {}
@@ -23,7 +24,7 @@ pub fn containers_are_few()
     ensures { ContainersAreFew }
 {}
 
-/// So has the body of a release of at most 262,144 changes, with at most 262,144 events.
+/// The body of a release of at most 262,144 changes, with at most 262,144 events, has fewer than 66,000,000 bytes, too.
 pub fn released_bodies_are_short()
     ensures { ReleasedBodiesAreShort }
 {}

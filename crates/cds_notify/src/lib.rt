@@ -1,5 +1,5 @@
-//! Notes on the wire: the NOTIFY requests that carry a server's changes to its subscribers (UPnP Device Architecture 2.0 on
-//! eventing, UPnP ContentDirectory:4 on the evented variables).
+//! Notes on the wire: the NOTIFY requests that carry the changes of a server to its subscribers (UPnP Device
+//! Architecture 2.0 on eventing, UPnP ContentDirectory:4 on the evented variables).
 #![tactic(auto)]
 
 mod body;

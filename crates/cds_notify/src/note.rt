@@ -1,4 +1,4 @@
-//! Notes, and why a message is none.
+//! Notes, and why a message is not a note.
 
 ghost use Rattle.std.specs.Prelude.{◌≡◌, ◌+◌, ◌^◌, ◌≤◌, ◌&&◌, nat_eq, nat_lt};
 
@@ -30,14 +30,14 @@ impl Model for Note {
 }
 
 impl Note {
-    /// Its name.
+    /// Returns the name of its subscription.
     pub fn name(&self) -> Sid
         ensures { result.0 ≡ self.now.name }
     {
         self.sid
     }
 
-    /// The SEQ after its own.
+    /// Returns the SEQ after its own.
     pub fn next_seq(&self) -> u64
         ensures next { result ≡ self.now.seq + 1 }
         ensures within { result ≤ 2 ^ 32 }
@@ -45,35 +45,35 @@ impl Note {
         u64::from(self.seq) + 1
     }
 
-    /// Whether it is a first note above a position, which drops the copy.
+    /// Returns whether it is a first note whose number is above a position. Such a note drops the copy.
     pub fn drops(&self, position: u32) -> bool
         ensures { result ≡ (nat_eq self.now.seq 0 && nat_lt position self.now.number) }
     {
         self.seq == 0 && position < self.number
     }
 
-    /// Whether it is one of this name.
+    /// Returns whether it is a note of this name.
     pub fn is_of(&self, sid: Sid) -> bool
         ensures { result ≡ nat_eq self.now.name sid.0 }
     {
         self.sid.0 == sid.0
     }
 
-    /// Whether it has this SEQ.
+    /// Returns whether it has this SEQ.
     pub fn has_seq(&self, seq: u64) -> bool
         ensures { result ≡ nat_eq self.now.seq seq }
     {
         u64::from(self.seq) == seq
     }
 
-    /// Whether it is one of this name with this SEQ.
+    /// Returns whether it is a note of this name with this SEQ.
     pub fn is_at(&self, sid: Sid, seq: u64) -> bool
         ensures { result ≡ (nat_eq self.now.name sid.0 && nat_eq self.now.seq seq) }
     {
         self.is_of(sid) && self.has_seq(seq)
     }
 
-    /// Whether it has the name and the SEQ of another.
+    /// Returns whether it has the name and the SEQ of another note.
     pub fn is_same(&self, other: &Note) -> bool
         ensures { result ≡ (nat_eq self.now.name other.now.name && nat_eq self.now.seq other.now.seq) }
     {
@@ -81,15 +81,15 @@ impl Note {
     }
 }
 
-/// Why a message is no note.
+/// Why a message is not a note.
 #[derive(Clone, Copy, Debug, PartialEq, Eq, Error)]
 pub enum NoteError {
     #[error("out of memory")]
     Mem,
-    /// It is no NOTIFY, or lacks NT, NTS or a SEQ (status 400).
+    /// It is no NOTIFY, or it has no NT, no NTS or no valid SEQ (status 400).
     #[error("no note")]
     Head,
-    /// It is of other events, or names no subscription (status 412).
+    /// It is about other events, or names no subscription (status 412).
     #[error("precondition failed")]
     Precondition,
     /// Its body is no set of properties with a number and changes (status 400).

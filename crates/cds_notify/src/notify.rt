@@ -1,4 +1,4 @@
-//! The request that carries a note.
+//! Writes the request that carries a note.
 
 ghost use Rattle.std.specs.Prelude.{◌≡◌, ◌++◌, ◌<◌, ◌^◌, IfOk, IfSome, OnErr, OnOk};
 ghost use Rattle.std.specs.Fmt.{decimal};
@@ -12,7 +12,7 @@ use cds_http::{Fields, write_request};
 use std::alloc::Global;
 use url::Position;
 
-/// The given fields of a note to a host, with the name of a subscription and a SEQ.
+/// Returns the given fields of a note to a host, with the name of a subscription and a SEQ.
 fn note_fields(alloc: Global, host: &str, sid: Sid, seq: u32) -> Result<Fields, Mem>
     ensures fields { IfOk result (λ fields. fields ≡ note_fields host.now sid.0 seq) }
     ensures few { seq < 2 ^ 32 }
@@ -29,10 +29,10 @@ fn note_fields(alloc: Global, host: &str, sid: Sid, seq: u32) -> Result<Fields, 
     Ok(fields)
 }
 
-/// Appends the request that carries a note with this body: NOTIFY with the path and the query of the callback, HOST,
-/// CONTENT-TYPE, NT, NTS, SID, SEQ, CONTENT-LENGTH, `CONNECTION: close`, an empty line and the body (UPnP Device Architecture
-/// 2.0 on event messages). The callback is to be an `http` URL with a host, as those are that a book gives. Where there is no
-/// memory, nothing is appended.
+/// Appends the request that carries a note with this body (UPnP Device Architecture 2.0 on event messages). It is
+/// NOTIFY with the path and the query of the callback, HOST, CONTENT-TYPE, NT, NTS, SID, SEQ, CONTENT-LENGTH,
+/// `CONNECTION: close`, an empty line and the body. The callback must be an `http` URL with a host, as are those that a
+/// book gives. If memory runs out, nothing is appended.
 pub fn write_notify(alloc: Global, to: &Address, body: &[u8], out: &mut Vec<u8>) -> Result<(), Mem>
     requires delivered { IsDelivered to.now }
     ensures ok { OnOk result (IfSome (url_in to.now.callback) (λ url. out.new.items ≡ out.old.items ++ notify_text url to.now body.now)) }

@@ -1,4 +1,4 @@
-//! The body of a note, written.
+//! Writes the body of a note.
 
 ghost use Rattle.std.specs.Prelude.{◌≡◌, ◌++◌, codes, OnOk, OnErr, IfOk};
 ghost use Rattle.std.specs.Fmt.{decimal};
@@ -11,7 +11,7 @@ use cds_lastchange::write_state_event;
 use cds_object::Event;
 use std::alloc::Global;
 
-/// Puts bytes at the end.
+/// Appends bytes.
 fn put(out: &mut Vec<u8>, piece: &[u8]) -> Result<(), Mem>
     ensures { OnOk result (out.new.items ≡ out.old.items ++ piece.now) }
 {
@@ -19,7 +19,7 @@ fn put(out: &mut Vec<u8>, piece: &[u8]) -> Result<(), Mem>
     Ok(())
 }
 
-/// Puts a number at the end in decimal.
+/// Appends a number in decimal.
 fn put_number(out: &mut Vec<u8>, number: u32) -> Result<(), Mem>
     ensures { OnOk result (out.new.items ≡ out.old.items ++ decimal number) }
 {
@@ -28,7 +28,7 @@ fn put_number(out: &mut Vec<u8>, number: u32) -> Result<(), Mem>
     Ok(())
 }
 
-/// Puts a property at the end.
+/// Appends a property.
 #[tactic(auto, unfolding(crate::specs::Propertyset::property))]
 fn put_property(out: &mut Vec<u8>, name: &[u8], text: &[u8]) -> Result<(), Mem>
     ensures { OnOk result (out.new.items ≡ out.old.items ++ property name.now text.now) }
@@ -39,7 +39,7 @@ fn put_property(out: &mut Vec<u8>, name: &[u8], text: &[u8]) -> Result<(), Mem>
     Ok(())
 }
 
-/// Puts the name of a variable, its text and its name again at the end.
+/// Appends the name of a variable, its text and its name again.
 #[tactic(auto, unfolding(crate::specs::Propertyset::named))]
 fn put_named(out: &mut Vec<u8>, name: &[u8], text: &[u8]) -> Result<(), Mem>
     ensures { OnOk result (out.new.items ≡ out.old.items ++ named name.now text.now) }
@@ -52,7 +52,7 @@ fn put_named(out: &mut Vec<u8>, name: &[u8], text: &[u8]) -> Result<(), Mem>
     Ok(())
 }
 
-/// Puts a container and its update number at the end.
+/// Appends a container and its update number.
 fn put_pair(out: &mut Vec<u8>, pair: (u32, u32)) -> Result<(), Mem>
     ensures { OnOk result (out.new.items ≡ out.old.items ++ pair_text pair) }
 {
@@ -62,7 +62,7 @@ fn put_pair(out: &mut Vec<u8>, pair: (u32, u32)) -> Result<(), Mem>
     Ok(())
 }
 
-/// Puts a further one behind a comma.
+/// Appends a comma and another container with its update number.
 fn put_further(out: &mut Vec<u8>, pair: (u32, u32)) -> Result<(), Mem>
     ensures { OnOk result (out.new.items ≡ out.old.items ++ further_text pair) }
 {
@@ -71,7 +71,7 @@ fn put_further(out: &mut Vec<u8>, pair: (u32, u32)) -> Result<(), Mem>
     Ok(())
 }
 
-/// Puts pairs at the end, parted by commas.
+/// Appends pairs, separated by commas.
 fn put_pairs(out: &mut Vec<u8>, pairs: &[(u32, u32)]) -> Result<(), Mem>
     ensures { OnOk result (out.new.items ≡ out.old.items ++ pairs_text pairs.now) }
 {
@@ -85,7 +85,7 @@ fn put_pairs(out: &mut Vec<u8>, pairs: &[(u32, u32)]) -> Result<(), Mem>
     Ok(())
 }
 
-/// Puts the property of the number of the last change at the end.
+/// Appends the property of the number of the last change.
 fn put_update_id(out: &mut Vec<u8>, number: u32) -> Result<(), Mem>
     ensures { OnOk result (out.new.items ≡ out.old.items ++ property (codes "SystemUpdateID") (decimal number)) }
 {
@@ -95,7 +95,7 @@ fn put_update_id(out: &mut Vec<u8>, number: u32) -> Result<(), Mem>
     Ok(())
 }
 
-/// Puts the property of the containers at the end.
+/// Appends the property of the containers.
 fn put_containers(out: &mut Vec<u8>, pairs: &[(u32, u32)]) -> Result<(), Mem>
     ensures { OnOk result (out.new.items ≡ out.old.items ++ property (codes "ContainerUpdateIDs") (pairs_text pairs.now)) }
 {
@@ -105,7 +105,7 @@ fn put_containers(out: &mut Vec<u8>, pairs: &[(u32, u32)]) -> Result<(), Mem>
     Ok(())
 }
 
-/// The text of LastChange.
+/// Returns the text of LastChange.
 fn events_text(alloc: Global, events: &[Event]) -> Result<Vec<u8>, Mem>
     ensures { IfOk result (λ text. text.items ≡ escaped (spelled events.now)) }
 {
@@ -118,7 +118,7 @@ fn events_text(alloc: Global, events: &[Event]) -> Result<Vec<u8>, Mem>
     Ok(text)
 }
 
-/// Puts the property of the changes at the end.
+/// Appends the property of the changes.
 fn put_changes(out: &mut Vec<u8>, events: &[Event]) -> Result<(), Mem>
     ensures { OnOk result (out.new.items ≡ out.old.items ++ property (codes "LastChange") (escaped (spelled events.now))) }
 {
@@ -127,7 +127,7 @@ fn put_changes(out: &mut Vec<u8>, events: &[Event]) -> Result<(), Mem>
     Ok(())
 }
 
-/// The whole body.
+/// Returns the whole body.
 fn propertyset_text(
     alloc: Global,
     number: u32,
@@ -148,8 +148,8 @@ fn propertyset_text(
     Ok(text)
 }
 
-/// Appends the body of a note: the number of the last change, the containers that changed with their update numbers, and
-/// the changes. Where there is no memory, nothing is appended.
+/// Appends the body of a note: the number of the last change, the containers that changed with their update numbers,
+/// and the changes. If memory runs out, nothing is appended.
 pub fn write_propertyset(
     alloc: Global,
     number: u32,

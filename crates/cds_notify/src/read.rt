@@ -1,4 +1,4 @@
-//! Notes read.
+//! Reads notes.
 
 ghost use Rattle.cds_notify.specs.Said.{Answers};
 
@@ -8,11 +8,15 @@ use crate::note::{Note, NoteError};
 use cds_http::Message;
 use std::alloc::Global;
 
-/// The note that a message is (UPnP Device Architecture 2.0 on event messages). `Head` (status 400) where the method is not
-/// NOTIFY, NT or NTS is missing or SEQ is no number of 32 bits; then `Precondition` (412) where NT is not `upnp:event`, NTS
-/// not `upnp:propchange`, or SID is missing or has no name; then `Body` (400) where the body is no document, no
-/// `propertyset`, or SystemUpdateID or LastChange does not come once in its properties, as a number of 32 bits and a
-/// StateEvent. Other variables are passed over.
+/// Returns the note that a message is (UPnP Device Architecture 2.0 on event messages). Variables other than
+/// SystemUpdateID and LastChange are passed over. The refusals, in this order:
+///
+/// - `Head` (status 400): the method is not NOTIFY, NT or NTS is missing, or SEQ is no number of 32 bits.
+/// - `Precondition` (status 412): NT is not `upnp:event`, NTS is not `upnp:propchange`, or SID is missing or has no
+///   name.
+/// - `Body` (status 400): the body is no document or no `propertyset`.
+/// - `Body` (status 400): SystemUpdateID does not come once in its properties, as a number of 32 bits.
+/// - `Body` (status 400): LastChange does not come once in its properties, as a StateEvent.
 pub fn read_notify(alloc: Global, message: &Message) -> Result<Note, NoteError>
     ensures { Answers message.now result }
 {

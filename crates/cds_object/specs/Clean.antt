@@ -14,7 +14,7 @@ ends_line c = (c == 9 || c == 10) || c == 13
 abbrev pub clean_character : ℕ → ℕ
 clean_character c = cond (ends_line c) 32 (cond (is_allowed c) c 65533)
 
--- the longest front of the characters that takes at most so many bytes
+-- the longest prefix of the characters that takes at most this many bytes
 abbrev pub fitting : ℕ → List ℕ → List ℕ
 fitting room [] = []
 fitting room (c ∷ cs) = cond (nat_le (len_utf8 c) room) (c ∷ fitting (room - len_utf8 c) cs) []
@@ -27,14 +27,14 @@ cleaned text = encode_utf8_all (fitting 255 (map clean_character (chars text)))
 abbrev pub is_clean_character : ℕ → Bool
 is_clean_character c = is_allowed c && not (ends_line c)
 
--- a text of such characters, whole ones, and of at most 255 bytes
+-- a text of such characters, all of them whole, with at most 255 bytes
 pub record IsClean (text : List ℕ) : Type 0 where
   pub characters : List ℕ
   pub each : list_all is_clean_character characters ≡ true
   pub are : encode_utf8_all characters ≡ text
   pub short : length text ≤ 255
 
--- a text is the longest front of some characters that takes at most 255 bytes
+-- a text is the longest prefix of some characters that takes at most 255 bytes
 pub record IsLongestFront (characters text : List ℕ) : Type 0 where
   pub front : List ℕ
   pub rest : List ℕ

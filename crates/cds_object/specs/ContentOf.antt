@@ -1,5 +1,5 @@
--- What a track says of itself by its file: the comments that count, the sound's numbers and the file's name (this
--- project's profile; the names of comments are Vorbis comment field names).
+-- What a track says of itself by its file: the comments that count, the numbers of the sound and the name of the file
+-- (this project's profile; the names of comments are Vorbis comment field names).
 use Rattle.std.specs.Prelude.{◌-◌, ◌*◌, ◌/◌, ◌^◌, ℕ, Bool, cond, nat_eq, nat_lt, ◌&&◌, ◌||◌, List, [], ◌∷◌, length, take, drop, take_while, Option, Some, None, unwrap_or, codes}
 use Rattle.std.specs.Option.{option_and_then, option_map}
 use Rattle.std.specs.Char.{is_ascii_digit}
@@ -12,8 +12,8 @@ use Rattle.cds_object.specs.Content.{same_text}
 use Rattle.cds_object.specs.declared.content.Content.{Content}
 use Rattle.cds_object.specs.declared.content.Content.TheVariants.{Folder, Track}
 
--- the value of the first comment of a name, which is given in lower case; the ASCII case of a comment's name does not
--- count
+-- the value of the first comment of a name, which is given in lower case; the ASCII case of the name in a comment does
+-- not count
 abbrev pub first_comment : List ℕ → List Comment → Option (List ℕ)
 first_comment name [] = None
 first_comment name (comment ∷ comments) =
@@ -24,7 +24,7 @@ abbrev pub if_not_empty : Option (List ℕ) → Option (List ℕ)
 if_not_empty None = None
 if_not_empty (Some text) = cond (nat_eq (length text) 0) None (Some text)
 
--- the text of the first comment of a name, absent where it is empty
+-- the text of the first comment of a name, none if it is empty
 abbrev pub comment_text : List ℕ → List Comment → Option (List ℕ)
 comment_text name comments = if_not_empty (first_comment name comments)
 
@@ -33,15 +33,15 @@ abbrev pub has_flac_ending : List ℕ → Bool
 has_flac_ending name =
     nat_lt 5 (length name) && same_text (str_to_ascii_lowercase (drop (length name - 5) name)) (codes ".flac")
 
--- a file's name without its `.flac`, or whole where it does not end so or nothing else is left
+-- the name of a file without its `.flac`, or the whole name if it does not end so or nothing else is left
 abbrev pub title_from_name : List ℕ → List ℕ
 title_from_name name = cond (has_flac_ending name) (take (length name - 5) name) name
 
--- the title by the comments, or by the file's name where they have none
+-- the title by the comments, or by the name of the file if they have none
 abbrev pub track_title : List Comment → List ℕ → List ℕ
 track_title comments name = unwrap_or (comment_text (codes "title") comments) (title_from_name name)
 
--- the number that a text's leading digits are, where there are any and it is below 2^32
+-- the number that the leading digits of a text are, if there are any and the number is below 2^32
 abbrev pub leading_number : List ℕ → Option ℕ
 leading_number text = number_below (2 ^ 32) (take_while is_ascii_digit text)
 
@@ -49,7 +49,7 @@ leading_number text = number_below (2 ^ 32) (take_while is_ascii_digit text)
 abbrev pub track_number : List Comment → Option ℕ
 track_number comments = option_and_then leading_number (first_comment (codes "tracknumber") comments)
 
--- how many milliseconds so many samples last, cut down, where both numbers are known
+-- how many milliseconds this many samples last, rounded down, if both numbers are known
 abbrev pub milliseconds : ℕ → ℕ → Option ℕ
 milliseconds samples rate = cond (nat_eq samples 0 || nat_eq rate 0) None (Some (samples * 1000 / rate))
 

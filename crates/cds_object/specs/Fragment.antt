@@ -1,5 +1,5 @@
--- The text of a row: a DIDL-Lite element (UPnP ContentDirectory:4 on DIDL-Lite) with the properties of the tracking of
--- changes, written one way only (this project's profile).
+-- The text of a row: a DIDL-Lite element (UPnP ContentDirectory:4 on DIDL-Lite). It has the properties of the tracking
+-- of changes, and is written in one way only (this project's profile).
 use Rattle.std.specs.Prelude.{◌/◌, ◌%◌, ℕ, nat_eq, nat_lt, cond, List, [], ◌∷◌, ◌++◌, Option, Some, None, codes}
 use Rattle.std.specs.List.{flat_map}
 use Rattle.std.specs.Fmt.{decimal}
@@ -62,7 +62,7 @@ container_text row title trackers = container_front row title trackers.child_cou
 unfoldable pub duration_attribute : ℕ → List ℕ
 duration_attribute ms = codes " duration=\"" ++ duration_text ms ++ codes "\""
 
--- the attribute of the samples in a second; none where they are not known
+-- the attribute of the samples in a second, none if they are not known
 unfoldable pub rate_attribute : ℕ → List ℕ
 rate_attribute rate = cond (nat_eq rate 0) [] (number_attribute (codes "sampleFrequency") rate)
 
@@ -76,7 +76,7 @@ resource_attributes track =
     codes " protocolInfo=\"http-get:*:audio/flac:*\"" ++ number_attribute (codes "size") track.size
     ++ if_there duration_attribute track.duration ++ rate_attribute track.rate ++ sound_attributes track
 
--- where a track's bytes are had, and what they are: a path below the base, which is empty in scripts
+-- the address of a track's bytes, and what they are: a path below the base, which is empty in scripts
 unfoldable pub resource_text : ℕ → TrackContent → List ℕ
 resource_text id track = codes "<res" ++ resource_attributes track ++ codes ">/media/" ++ decimal id ++ codes "</res>"
 
@@ -100,7 +100,7 @@ item_text row track =
     item_front row track ++ work_text track ++ number_element (codes "upnp:objectUpdateID") row.object_update
     ++ resource_text row.id track ++ codes "</item>"
 
--- the text of a row; that of a folder without trackers, which no row is, is empty
+-- the text of a row; a folder without trackers, which no row is, has an empty text
 abbrev pub fragment : ObjectRow → List ℕ
 fragment row = of_content row.content row.trackers
   where
@@ -109,6 +109,6 @@ fragment row = of_content row.content row.trackers
     of_content (Folder title) (Some trackers) = container_text row title trackers
     of_content (Track track) trackers = item_text row track
 
--- all rows in their order, each ended by LF
+-- all rows in their order, each with LF at its end
 abbrev pub full_text : List ObjectRow → List ℕ
 full_text rows = flat_map (λ row. fragment row ++ 10 ∷ []) rows

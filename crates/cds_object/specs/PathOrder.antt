@@ -1,4 +1,4 @@
--- That places are put in one order, and are equal exactly where neither comes before the other.
+-- Places are put in one order, and are equal exactly if neither comes before the other.
 use Rattle.std.specs.Prelude.{◌≡◌, ℕ, List, refl}
 use Rattle.std.specs.Ordering.{eq_by_cmp, as_partial_cmp, nat_cmp}
 use Rattle.std.specs.Cmp.{IsTotalOrder, IsEquivalence, IsPartialEquivalence, IsPartialOrder, partial_equiv_from_equiv, partial_order_from_agreeing_total}

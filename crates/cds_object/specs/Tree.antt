@@ -1,5 +1,5 @@
--- Rows as a tree (UPnP ContentDirectory:4 on the hierarchy of objects): each row but the root's stands under a container
--- of a lower id, and each container counts its children.
+-- Rows as a tree (UPnP ContentDirectory:4 on the hierarchy of objects). Each row except the root's stands under a
+-- container of a lower id, and each container counts its children.
 use Rattle.std.specs.Prelude.{◌≡◌, ◌<◌, ℕ, Bool, true, false, cond, nat_eq, filter, List, [], ◌∷◌, Option, Some, None, MatchOption}
 use Rattle.std.specs.List.{count_by, AllByRecursion}
 use Rattle.std.specs.Option.{option_eq}
@@ -10,7 +10,7 @@ abbrev pub row_of : ℕ → List ObjectRow → Option ObjectRow
 row_of id [] = None
 row_of id (row ∷ rows) = cond (nat_eq row.id id) (Some row) (row_of id rows)
 
--- whether a row is that of a child of an object
+-- whether a row is the row of a child of an object
 abbrev pub is_child_of : ℕ → ObjectRow → Bool
 is_child_of id row = option_eq nat_eq row.parent (Some id)
 
@@ -18,7 +18,7 @@ is_child_of id row = option_eq nat_eq row.parent (Some id)
 abbrev pub children_of : ℕ → List ObjectRow → List ObjectRow
 children_of id rows = filter (is_child_of id) rows
 
--- whether there is a row, and it is a container's
+-- whether there is a row, and it is the row of a container
 abbrev pub is_container_row : Option ObjectRow → Bool
 is_container_row None = false
 is_container_row (Some row) = is_folder row.content
@@ -29,7 +29,7 @@ IdsAscend [] = Unit {0}
 IdsAscend (row ∷ []) = Unit {0}
 IdsAscend (row ∷ next ∷ rows) = (row.id < next.id) × IdsAscend (next ∷ rows)
 
--- a row that is not the root's stands under a container of a lower id
+-- a row, except the row of the root, stands under a container of a lower id
 abbrev pub IsHeld : List ObjectRow → ObjectRow → Type 0
 IsHeld rows row = MatchOption row.parent (row.id ≡ 0) (λ parent. (parent < row.id) × (is_container_row (row_of parent rows) ≡ true))
 

@@ -1,4 +1,4 @@
-//! Texts that objects may be shown with.
+//! Cleans the texts that objects are shown with.
 
 ghost use Rattle.std.specs.Prelude.{◌≡◌, IfOk, string_bytes};
 ghost use Rattle.cds_object.specs.Clean.{clean_character, cleaned};
@@ -9,9 +9,9 @@ use std::alloc::Global;
 /// The most bytes of a text that an object is shown with.
 const LONGEST: usize = 255;
 
-/// The text on one line: each tab, line feed and carriage return becomes a space, each other character that no document
-/// may have (XML 1.0 on characters) becomes U+FFFD, and then the longest front of whole characters stays that has at
-/// most 255 bytes.
+/// Returns the text on one line. Each tab, line feed and carriage return becomes a space. Each other character that no
+/// document may have (XML 1.0 on characters) becomes U+FFFD. After that, the longest prefix of whole characters stays
+/// that has at most 255 bytes.
 pub fn clean(alloc: Global, text: &str) -> Result<String, Mem>
     ensures { IfOk result (λ kept. string_bytes kept ≡ cleaned text.now) }
 {
@@ -26,7 +26,7 @@ pub fn clean(alloc: Global, text: &str) -> Result<String, Mem>
     Ok(kept)
 }
 
-/// The character that stands for this one.
+/// Returns the character that stands for this one.
 fn clean_character(c: char) -> char
     ensures { result ≡ clean_character c }
 {

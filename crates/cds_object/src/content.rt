@@ -1,3 +1,5 @@
+//! What objects are and say of themselves.
+
 ghost use Rattle.std.specs.Prelude.{◌≡◌, IfOk};
 ghost use Rattle.cds_object.specs.Content.{same_content, same_kind, same_track};
 ghost use Rattle.cds_object.specs.Object.{is_folder};
@@ -14,25 +16,25 @@ pub struct TrackContent {
     pub genre: Option<Text>,
     /// The number of the track on its album.
     pub number: Option<u32>,
-    /// The file's size in bytes.
+    /// The size of the file in bytes.
     pub size: u64,
     /// How long it plays, in milliseconds.
     pub duration: Option<u64>,
-    /// Samples in a second; 0 where it is not known.
+    /// Samples in a second, 0 if it is not known.
     pub rate: u32,
     pub channels: u8,
     /// Bits in a sample.
     pub bits: u8,
 }
 
-/// What an object is and says of itself, its place and its numbers aside.
+/// What an object is and says of itself, without its place and its numbers.
 #[derive(Drop, Debug, PartialEq, Eq)]
 pub enum Content {
     Folder { title: Text },
     Track(TrackContent),
 }
 
-/// An equal text, or none where there is none.
+/// Returns an equal text, or `None` for `None`.
 fn copy_if_there(alloc: Global, text: &Option<Text>) -> Result<Option<Text>, Mem>
     ensures { IfOk result (λ copy. copy ≡ text.now) }
 {
@@ -43,7 +45,7 @@ fn copy_if_there(alloc: Global, text: &Option<Text>) -> Result<Option<Text>, Mem
 }
 
 impl TrackContent {
-    /// An equal content.
+    /// Returns an equal content.
     pub fn copy(&self, alloc: Global) -> Result<Self, Mem>
         ensures { IfOk result (λ copy. copy ≡ self.now) }
     {
@@ -65,7 +67,7 @@ impl TrackContent {
         })
     }
 
-    /// Whether both say the same in every field.
+    /// Returns whether both say the same in every field.
     fn says_the_same(&self, other: &TrackContent) -> bool
         ensures { result ≡ same_track self.now other.now }
     {
@@ -74,7 +76,7 @@ impl TrackContent {
 }
 
 impl Content {
-    /// An equal content.
+    /// Returns an equal content.
     pub fn copy(&self, alloc: Global) -> Result<Self, Mem>
         ensures { IfOk result (λ copy. copy ≡ self.now) }
     {
@@ -86,14 +88,14 @@ impl Content {
         }
     }
 
-    /// Whether it is that of a folder.
+    /// Returns whether it is the content of a folder.
     pub fn is_folder(&self) -> bool
         ensures { result ≡ is_folder self.now }
     {
         matches!(self, Content::Folder { .. })
     }
 
-    /// Whether both say the same in every field.
+    /// Returns whether both say the same in every field.
     pub fn says_the_same(&self, other: &Content) -> bool
         ensures { result ≡ same_content self.now other.now }
     {
@@ -104,7 +106,7 @@ impl Content {
         }
     }
 
-    /// Whether both are folders or both are tracks.
+    /// Returns whether both are folders or both are tracks.
     pub fn is_of_kind(&self, other: &Content) -> bool
         ensures { result ≡ same_kind self.now other.now }
     {

@@ -1,3 +1,5 @@
+//! Why a path is refused.
+
 ghost use Rattle.cds_object.specs.declared.error.PathError.{PathError};
 ghost use Rattle.std.specs.Prelude.{◌≡◌};
 
@@ -8,7 +10,8 @@ use thiserror::Error;
 /// Why a text is no path.
 #[derive(Clone, Copy, Debug, PartialEq, Eq, Error)]
 pub enum PathError {
-    /// The place, in bytes from 0, at which the first bad name begins, or 1,024 where only the text's length is wrong.
+    /// The place, in bytes from 0, at which the first bad name begins. It is 1,024 if only the length of the text is
+    /// wrong.
     #[error("no path: what stands at {at} cannot stand there")]
     BadPath { at: usize },
     #[error("out of memory")]

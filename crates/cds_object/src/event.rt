@@ -7,7 +7,7 @@ ghost use Rattle.cds_object.specs.Events.{is_container, update_of, object_of, is
 use crate::Content;
 use cds_base::Sequence;
 
-/// What kind of object was added.
+/// The kind of object that was added.
 #[derive(Clone, Copy, Debug, PartialEq, Eq)]
 pub enum Class {
     /// `object.container`
@@ -17,7 +17,7 @@ pub enum Class {
 }
 
 impl Class {
-    /// The class of an object, by what it says.
+    /// Returns the class of an object, by what it says.
     pub fn of(content: &Content) -> Class
         ensures { result ≡ class_of content.now }
     {
@@ -28,7 +28,7 @@ impl Class {
         }
     }
 
-    /// Whether objects of the class hold others.
+    /// Returns whether objects of the class hold others.
     pub fn is_container(self) -> bool
         ensures { result ≡ is_container self }
     {
@@ -36,8 +36,8 @@ impl Class {
     }
 }
 
-/// One event. `update` is the SystemUpdateID of a change, and `st` whether the change belongs to a subtree update, whose
-/// end a `StDone` tells.
+/// One event. `update` is the SystemUpdateID of a change. `st` says whether the change belongs to a subtree update,
+/// whose end is told by a `StDone`.
 #[derive(Clone, Copy, Debug, PartialEq, Eq)]
 pub enum Event {
     /// An object was added under a parent.
@@ -48,7 +48,7 @@ pub enum Event {
         parent: u32,
         class: Class,
     },
-    /// An object says something else.
+    /// An object says something else now.
     ObjMod {
         id: u32,
         update: u32,
@@ -60,7 +60,7 @@ pub enum Event {
         update: u32,
         st: bool,
     },
-    /// The subtree update of this object is done; `update` is the number of its last change.
+    /// The subtree update of this object is done. `update` is the number of its last change.
     StDone {
         id: u32,
         update: u32,
@@ -68,7 +68,7 @@ pub enum Event {
 }
 
 impl Event {
-    /// The number of the change that it tells, or of the last one of the subtree update that is done.
+    /// Returns the number of the change that it tells, or of the last change of the subtree update that is done.
     pub fn update(&self) -> u32
         ensures { result ≡ update_of self.now }
     {
@@ -80,7 +80,7 @@ impl Event {
         }
     }
 
-    /// The id of the object that it names.
+    /// Returns the id of the object that it names.
     pub fn object(&self) -> u32
         ensures { result ≡ object_of self.now }
     {
@@ -92,7 +92,7 @@ impl Event {
         }
     }
 
-    /// Whether it tells a change, and not that a subtree update is done.
+    /// Returns whether it tells a change, and not that a subtree update is done.
     pub fn is_change(&self) -> bool
         ensures { result ≡ is_change self.now }
     {

@@ -1,4 +1,5 @@
-//! What a track says of itself, by the comments of its file, its sound and its name, and a folder by its name.
+//! Makes the content of a track from the comments of its file, its sound and its name. Makes the content of a folder
+//! from its name.
 
 ghost use Rattle.std.specs.Prelude.{◌≡◌, ◌<◌, ◌≤◌, ◌-◌, ◌^◌, drop, length, IfOk, option_copied};
 ghost use Rattle.std.specs.Char.{is_ascii_digit};
@@ -13,9 +14,9 @@ use crate::{Comment, Content, FlacInfo, TrackContent, clean};
 use cds_base::{Mem, Text, read_u32};
 use std::alloc::Global;
 
-/// What a track says of itself, by what its file says, its name and its size in bytes: the first TITLE, ARTIST, ALBUM,
-/// GENRE and TRACKNUMBER count, the ASCII case of their names aside, and the file's name where there is no title. Each
-/// text is cleaned.
+/// Returns what a track says of itself, by what its file says, its name and its size in bytes. The first TITLE, ARTIST,
+/// ALBUM, GENRE and TRACKNUMBER count, whatever the ASCII case of their names. If there is no title, the name of the
+/// file is used. Each text is cleaned.
 pub fn content_of(alloc: Global, info: &FlacInfo, name: &str, size: u64) -> Result<Content, Mem>
     requires { info.now.samples < 2 ^ 36 }
     ensures { IfOk result (λ content. content ≡ track_of info.now name.now size) }
@@ -39,7 +40,7 @@ pub fn content_of(alloc: Global, info: &FlacInfo, name: &str, size: u64) -> Resu
     }))
 }
 
-/// What a folder of this name says of itself: the name, cleaned.
+/// Returns what a folder of this name says of itself: the name, cleaned.
 pub fn folder_of(alloc: Global, name: &str) -> Result<Content, Mem>
     ensures { IfOk result (λ content. content ≡ folder_of name.now) }
 {
@@ -47,7 +48,7 @@ pub fn folder_of(alloc: Global, name: &str) -> Result<Content, Mem>
     Ok(Content::Folder { title })
 }
 
-/// The title by the comments, or by the file's name where they have none.
+/// Returns the title from the comments, or from the name of the file if they have none.
 fn title_of(alloc: Global, comments: &[Comment], name: &str) -> Result<Text, Mem>
     ensures { IfOk result (λ title. title ≡ cleaned (track_title comments.now name.now)) }
 {
@@ -57,14 +58,14 @@ fn title_of(alloc: Global, comments: &[Comment], name: &str) -> Result<Text, Mem
     }
 }
 
-/// The text, cleaned.
+/// Returns the text, cleaned.
 fn cleaned(alloc: Global, text: &str) -> Result<Text, Mem>
     ensures { IfOk result (λ kept. kept ≡ cleaned text.now) }
 {
     Ok(Text::from(clean(alloc, text)?))
 }
 
-/// The text of the first comment of a name, cleaned, `None` where it is empty. The name is in lower case.
+/// Returns the text of the first comment of a name, cleaned, or `None` if it is empty. The name must be in lower case.
 fn text_of(alloc: Global, name: &str, comments: &[Comment]) -> Result<Option<Text>, Mem>
     requires { str_to_ascii_lowercase name.now ≡ name.now }
     ensures { IfOk result (λ text. text ≡ option_map cleaned (comment_text name.now comments.now)) }
@@ -75,7 +76,7 @@ fn text_of(alloc: Global, name: &str, comments: &[Comment]) -> Result<Option<Tex
     }
 }
 
-/// The value of the first comment of a name, which is in lower case.
+/// Returns the value of the first comment of a name. The name must be in lower case.
 fn value_of<'a>(name: &str, comments: &'a [Comment]) -> Option<&'a Text>
     requires { str_to_ascii_lowercase name.now ≡ name.now }
     ensures { option_copied result ≡ first_comment name.now comments.now }
@@ -88,7 +89,7 @@ fn value_of<'a>(name: &str, comments: &'a [Comment]) -> Option<&'a Text>
     None
 }
 
-/// Whether a comment has this name, which is in lower case.
+/// Returns whether a comment has this name. The name must be in lower case.
 fn is_named(comment: &Comment, name: &str) -> bool
     requires { str_to_ascii_lowercase name.now ≡ name.now }
     ensures { result ≡ same_text name.now (str_to_ascii_lowercase comment.now.name) }
@@ -96,7 +97,7 @@ fn is_named(comment: &Comment, name: &str) -> bool
     is_in_any_case(name.as_bytes(), comment.name.as_str().as_bytes())
 }
 
-/// Whether a text is the one in lower case, its own ASCII case aside.
+/// Returns whether a text equals the one in lower case, whatever its own ASCII case.
 fn is_in_any_case(lower: &[u8], text: &[u8]) -> bool
     requires { str_to_ascii_lowercase lower.now ≡ lower.now }
     ensures { result ≡ same_text lower.now (str_to_ascii_lowercase text.now) }
@@ -104,7 +105,7 @@ fn is_in_any_case(lower: &[u8], text: &[u8]) -> bool
     lower.eq_ignore_ascii_case(text)
 }
 
-/// A file's name without its `.flac`, or whole where it has no such ending or nothing else.
+/// Returns the name of a file without its `.flac`. The name stays whole if it has no such ending, or nothing before it.
 fn without_ending(name: &str) -> &str
     ensures { result.now ≡ title_from_name name.now }
 {
@@ -115,14 +116,14 @@ fn without_ending(name: &str) -> &str
     }
 }
 
-/// Whether a name ends in `.flac` in any ASCII case, with something before it.
+/// Returns whether a name ends in `.flac` in any ASCII case, with something before it.
 fn has_ending(name: &str) -> bool
     ensures { result ≡ has_flac_ending name.now }
 {
     name.len() > 5 && is_in_any_case(b".flac", last_five(name))
 }
 
-/// The last five bytes of a name.
+/// Returns the last five bytes of a name.
 fn last_five(name: &str) -> &[u8]
     requires { 5 ≤ length name.now }
     ensures { result.now ≡ drop (length name.now - 5) name.now }
@@ -130,7 +131,7 @@ fn last_five(name: &str) -> &[u8]
     name.as_bytes().split_at(name.len() - 5).1
 }
 
-/// The number of the first TRACKNUMBER comment.
+/// Returns the number of the first TRACKNUMBER comment.
 fn number_of(comments: &[Comment]) -> Option<u32>
     ensures { result ≡ track_number comments.now }
 {
@@ -140,21 +141,21 @@ fn number_of(comments: &[Comment]) -> Option<u32>
     }
 }
 
-/// The number that a text's leading digits are.
+/// Returns the number that the leading digits of a text are.
 fn number_at_start(text: &[u8]) -> Option<u32>
     ensures { result ≡ leading_number text.now }
 {
     read_u32(text.split_at(leading_digits(text)).0)
 }
 
-/// How many digits a text begins with.
+/// Returns how many digits a text begins with.
 fn leading_digits(text: &[u8]) -> usize
     ensures { result ≡ prefix_len is_ascii_digit text.now }
 {
     text.iter().take_while(|byte| byte.is_ascii_digit()).count()
 }
 
-/// How long so many samples play, in milliseconds, where both numbers are known.
+/// Returns how long this many samples play, in milliseconds, if both numbers are known.
 fn duration_of(samples: u64, rate: u32) -> Option<u64>
     requires { samples < 2 ^ 36 }
     ensures { result ≡ milliseconds samples rate }

@@ -9,19 +9,19 @@ pub struct Comment {
     pub value: Text,
 }
 
-/// The comments of a file, in the order in which they stand.
+/// The comments of a file, in their order in the file.
 pub type Comments = Sequence<Comment>;
 
 /// What STREAMINFO and the first VORBIS_COMMENT block say.
 #[derive(Drop, Debug)]
 pub struct FlacInfo {
-    /// Samples in a second, in what is read below 2^20; 0 where it is not known.
+    /// Samples in a second, 0 if it is not known. What is read from a file is below 2^20.
     pub rate: u32,
-    /// Channels, in what is read 1 to 8.
+    /// Channels. What is read from a file is 1 to 8.
     pub channels: u8,
-    /// Bits in a sample, in what is read 1 to 32.
+    /// Bits in a sample. What is read from a file is 1 to 32.
     pub bits: u8,
-    /// Samples of one channel, in what is read below 2^36; 0 where it is not known.
+    /// Samples of one channel, 0 if it is not known. What is read from a file is below 2^36.
     pub samples: u64,
     pub comments: Comments,
 }

@@ -1,5 +1,5 @@
-//! The objects of a ContentDirectory: their ids, their places in the library, what they hold, the rows in which a server
-//! shows them, the events of their changes, and the pieces of XML that texts about them are written of.
+//! The objects of a ContentDirectory: their ids, their places in the library, and what they hold. Also the rows in
+//! which a server shows them, the events of their changes, and the pieces of XML from which texts about them are made.
 #![tactic(auto)]
 
 mod cleaning;

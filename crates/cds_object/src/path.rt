@@ -1,3 +1,5 @@
+//! The places of objects in the library.
+
 ghost use Rattle.std.specs.Prelude.{◌≡◌, [], IfOk, nat_eq, nat_le, ◌||◌, refl};
 ghost use Rattle.std.specs.List.{list_any, slice_split};
 ghost use Rattle.std.specs.Ordering.{as_partial_cmp};
@@ -11,8 +13,8 @@ use std::alloc::Global;
 use std::cmp::Ordering;
 use std::marker::Model;
 
-/// Where an object stands in the library: the names of the folders that lead to it and its own. The root's place has
-/// no name. Contracts see the list of the names, each the list of its bytes.
+/// The place of an object in the library: the names of the folders that lead to it, and its own name. The place of the
+/// root has no name. Contracts see the list of the names, each as the list of its bytes.
 #[derive(Drop, Debug)]
 pub struct Path {
     names: Sequence<Text>,
@@ -26,18 +28,18 @@ impl Model for Path {
     ghost view = { λ p. p.names };
 }
 
-/// The most names that lead to an object, its own included.
+/// The most names that lead to an object, with its own.
 const MOST_NAMES: usize = 16;
 
 /// The most bytes of a name.
 const LONGEST_NAME: usize = 255;
 
-/// The most bytes of a path's text.
+/// The most bytes of the text of a path.
 const LONGEST_TEXT: usize = 1024;
 
 impl Path {
-    /// The place that a text names: 1 to 16 names parted by `/`, each of 1 to 255 bytes, none `.` or `..`, without NUL
-    /// and of at most 1,024 bytes together. Any other text is `BadPath`.
+    /// Reads the place that a text names: 1 to 16 names separated by `/`. Each name has 1 to 255 bytes and no NUL, and
+    /// is neither `.` nor `..`. The text has at most 1,024 bytes. Any other text is refused as `BadPath`.
     pub fn read(alloc: Global, text: &str) -> Result<Self, PathError>
         ensures { IsPathAnswer text.now result }
     {
@@ -51,7 +53,7 @@ impl Path {
         Ok(Path { names })
     }
 
-    /// The root's place.
+    /// Returns the place of the root.
     pub fn root(alloc: Global) -> Self
         ensures { result ≡ [] }
     {
@@ -60,14 +62,14 @@ impl Path {
         }
     }
 
-    /// The names that lead to the object, its own the last.
+    /// Returns the names that lead to the object. Its own name is the last.
     pub fn names(&self) -> &[Text]
         ensures { result.now ≡ self.now }
     {
         self.names.as_slice()
     }
 
-    /// The object's own name, empty for the root.
+    /// Returns the object's own name, empty for the root.
     pub fn name(&self) -> &str
         ensures { result.now ≡ name_of self.now }
     {
@@ -77,14 +79,14 @@ impl Path {
         }
     }
 
-    /// Whether it is the root's place.
+    /// Returns whether it is the place of the root.
     pub fn is_root(&self) -> bool
         ensures { result ≡ same_path self.now [] }
     {
         self.names.is_empty()
     }
 
-    /// The place of the folder that the object stands in; the root's own is the root's.
+    /// Returns the place of the folder in which the object stands. For the root it is the root again.
     pub fn parent(&self, alloc: Global) -> Result<Self, Mem>
         ensures { IfOk result (λ parent. parent ≡ parent_of self.now) }
     {
@@ -97,7 +99,7 @@ impl Path {
         Ok(Path { names })
     }
 
-    /// An equal place.
+    /// Returns an equal place.
     pub fn copy(&self, alloc: Global) -> Result<Self, Mem>
         ensures { IfOk result (λ copy. copy ≡ self.now) }
     {
@@ -109,7 +111,7 @@ impl Path {
     }
 }
 
-/// The names that a text has between its `/`.
+/// Returns the names that a text has between its `/`.
 fn split_names(alloc: Global, text: &str) -> Result<Sequence<Text>, Mem>
     ensures { IfOk result (λ names. names ≡ slice_split (λ b. nat_eq b 47) text.now) }
 {
@@ -120,7 +122,7 @@ fn split_names(alloc: Global, text: &str) -> Result<Sequence<Text>, Mem>
     Ok(names)
 }
 
-/// The place in the text of the first name that cannot stand in a path, the 17th being such a one.
+/// Returns the place in the text of the first name that cannot stand in a path. A 17th name cannot stand.
 fn first_bad_name(names: &[Text]) -> Option<usize>
     ensures { result ≡ bad_name_at 0 0 names.now }
 {
@@ -134,14 +136,14 @@ fn first_bad_name(names: &[Text]) -> Option<usize>
     None
 }
 
-/// Whether a name cannot stand in a path with so many names before it.
+/// Returns whether a name cannot stand in a path with this many names before it.
 fn is_bad_there(number: usize, name: &Text) -> bool
     ensures { result ≡ (nat_le 16 number || is_bad_name name.now) }
 {
     number >= MOST_NAMES || is_bad(name.as_str())
 }
 
-/// Whether a name cannot stand in a path.
+/// Returns whether a name cannot stand in a path.
 fn is_bad(name: &str) -> bool
     ensures { result ≡ is_bad_name name.now }
 {

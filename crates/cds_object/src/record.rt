@@ -1,3 +1,5 @@
+//! What a scan found.
+
 use crate::{Content, Path};
 use cds_base::Sequence;
 

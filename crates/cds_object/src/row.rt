@@ -1,3 +1,5 @@
+//! The rows in which a server shows objects.
+
 ghost use Rattle.std.specs.Prelude.{◌≡◌, IfOk};
 ghost use Rattle.cds_object.specs.Object.{IsRow};
 
@@ -9,11 +11,12 @@ use std::marker::Model;
 /// How a container tracks the changes of its children (UPnP ContentDirectory:4 on tracking changes).
 #[derive(Clone, Copy, Debug, PartialEq, Eq)]
 pub struct Trackers {
-    /// The SystemUpdateID of the last change of a child that it counts, or of its own start where there is none.
+    /// The SystemUpdateID of the last change of a child that the container counts, or of its own start if there is
+    /// none.
     pub container_update: u32,
-    /// How many children there are.
+    /// The number of children.
     pub child_count: u32,
-    /// How many deletions of children it counts.
+    /// The number of deletions of children that the container counts.
     pub deleted: u32,
 }
 
@@ -52,14 +55,14 @@ impl Model for Row {
 }
 
 impl Row {
-    /// What holds of every row, which this makes known where a proof needs it.
+    /// Makes known what holds of every row. Only proofs need this.
     pub fn facts(&self)
         ensures { IsRow self.now }
     {
         let _ = &self.id;
     }
 
-    /// An equal row.
+    /// Returns an equal row.
     pub fn copy(&self, alloc: Global) -> Result<Self, Mem>
         ensures { IfOk result (λ copy. copy ≡ self.now) }
     {

@@ -1,12 +1,11 @@
-//! Pieces of XML put at the end of a text that is written. A refusal leaves the text as it was, or with a front of the
-//! piece.
+//! Appends pieces of XML to a text. A refusal leaves the text as it was, or with a prefix of the piece.
 
 ghost use Rattle.std.specs.Prelude.{◌≡◌, ◌++◌, OnOk, codes, string_bytes};
 ghost use Rattle.cds_object.specs.Writing.{attribute, number_attribute, text_element, number_element};
 
 use cds_base::{Mem, escape, put, put_number};
 
-/// Puts an attribute behind a space, with a value that needs no escape.
+/// Appends a space and an attribute, with a value that needs no escape.
 #[tactic(auto, unfolding(crate::specs::Writing::attribute))]
 pub fn put_attribute(out: &mut String, name: &str, value: &str) -> Result<(), Mem>
     ensures { OnOk result (string_bytes out.new ≡ string_bytes out.old ++ attribute name.now value.now) }
@@ -19,7 +18,7 @@ pub fn put_attribute(out: &mut String, name: &str, value: &str) -> Result<(), Me
     Ok(())
 }
 
-/// Puts an attribute with a number behind a space.
+/// Appends a space and an attribute with a number.
 #[tactic(auto, unfolding(crate::specs::Writing::number_attribute))]
 pub fn put_number_attribute(out: &mut String, name: &str, number: u64) -> Result<(), Mem>
     ensures { OnOk result (string_bytes out.new ≡ string_bytes out.old ++ number_attribute name.now number) }
@@ -32,7 +31,7 @@ pub fn put_number_attribute(out: &mut String, name: &str, number: u64) -> Result
     Ok(())
 }
 
-/// Puts an element without attributes round a text, which is escaped.
+/// Appends an element without attributes around a text, which is escaped.
 #[tactic(auto, unfolding(crate::specs::Writing::text_element))]
 pub fn put_text_element(out: &mut String, name: &str, text: &str) -> Result<(), Mem>
     ensures { OnOk result (string_bytes out.new ≡ string_bytes out.old ++ text_element name.now text.now) }
@@ -43,7 +42,7 @@ pub fn put_text_element(out: &mut String, name: &str, text: &str) -> Result<(), 
     Ok(())
 }
 
-/// Puts an element without attributes round a number.
+/// Appends an element without attributes around a number.
 #[tactic(auto, unfolding(crate::specs::Writing::number_element))]
 pub fn put_number_element(out: &mut String, name: &str, number: u64) -> Result<(), Mem>
     ensures { OnOk result (string_bytes out.new ≡ string_bytes out.old ++ number_element name.now number) }
@@ -54,7 +53,7 @@ pub fn put_number_element(out: &mut String, name: &str, number: u64) -> Result<(
     Ok(())
 }
 
-/// Puts a start tag without attributes.
+/// Appends a start tag without attributes.
 fn put_start(out: &mut String, name: &str) -> Result<(), Mem>
     ensures { OnOk result (string_bytes out.new ≡ string_bytes out.old ++ (codes "<" ++ name.now ++ codes ">")) }
 {
@@ -64,7 +63,7 @@ fn put_start(out: &mut String, name: &str) -> Result<(), Mem>
     Ok(())
 }
 
-/// Puts an end tag.
+/// Appends an end tag.
 fn put_end(out: &mut String, name: &str) -> Result<(), Mem>
     ensures { OnOk result (string_bytes out.new ≡ string_bytes out.old ++ (codes "</" ++ name.now ++ codes ">")) }
 {

@@ -1,4 +1,4 @@
-//! What a replica asks and is shown.
+//! The rows `ask` and `shown`: what a replica asks, and what a reply shows it.
 
 use crate::requests::sent;
 use crate::row::Row;
@@ -9,7 +9,7 @@ use cds_load::{Ask, Shown};
 use std::alloc::Global;
 use url::Url;
 
-/// The ask that fields from a place on are: its name, an id and a place.
+/// Returns the ask that the fields from a place on say: its name, an id and a place.
 fn ask(row: &Row, at: usize) -> Ask {
     let id = row.small(at.saturating_add(1));
     match row.text(at) {
@@ -23,7 +23,7 @@ fn ask(row: &Row, at: usize) -> Ask {
     }
 }
 
-/// `ask | address | ask | id | place`: the request of an ask.
+/// `ask | address | ask | id | place`: shows the request of an ask.
 pub fn written(alloc: Global, row: &Row, out: &mut Out) {
     let mut text = Vec::new(alloc);
     let is_done = put_ask(alloc, ask(row, 2), row.text(1), &mut text).is_ok();
@@ -31,7 +31,7 @@ pub fn written(alloc: Global, row: &Row, out: &mut Out) {
     out.show(text.as_slice());
 }
 
-/// The request of an ask to an address, nothing where that is none.
+/// Puts the request of an ask to an address, or nothing if the address is not a URL.
 fn put_ask(alloc: Global, ask: Ask, address: &str, out: &mut Vec<u8>) -> Result<(), Mem> {
     match Url::parse(alloc, address) {
         Ok(url) => put_ask_to(ask, &url, out),
@@ -39,7 +39,7 @@ fn put_ask(alloc: Global, ask: Ask, address: &str, out: &mut Vec<u8>) -> Result<
     }
 }
 
-/// The request of an ask to an address, nothing where that is none of `http`.
+/// Puts the request of an ask to a URL, or nothing if its scheme is not `http`.
 fn put_ask_to(ask: Ask, url: &Url, out: &mut Vec<u8>) -> Result<(), Mem> {
     if url.scheme() == "http" {
         return ask_bytes(&ask, url, out);
@@ -47,7 +47,7 @@ fn put_ask_to(ask: Ask, url: &Url, out: &mut Vec<u8>) -> Result<(), Mem> {
     Ok(())
 }
 
-/// `shown | ask | id | place | head | body | behind`: what a reply shows to an ask.
+/// `shown | ask | id | place | head | body | rest`: shows what a reply shows to an ask.
 pub fn shown(alloc: Global, row: &Row, out: &mut Out) {
     let text = sent(alloc, row, 4);
     out.note(text.is_whole());

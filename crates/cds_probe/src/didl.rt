@@ -1,4 +1,4 @@
-//! Rows of objects as documents.
+//! The rows `didl`, `didl-rewrite` and `fragment`: objects as DIDL-Lite documents.
 
 use crate::objects::content_shown;
 use crate::row::Row;
@@ -7,7 +7,7 @@ use cds_didl::{Filter, read_didl, write_didl, write_fragment};
 use cds_object::{Row as Object, Rows};
 use std::alloc::Global;
 
-/// `didl | text`: the rows that a document shows.
+/// `didl | text`: shows the rows that a document shows.
 pub fn read(alloc: Global, row: &Row, out: &mut Out) {
     match read_didl(alloc, row.bytes(1)) {
         Ok(rows) => rows_shown(&rows, out),
@@ -23,7 +23,8 @@ fn rows_shown(rows: &Rows, out: &mut Out) {
     }
 }
 
-/// Shows the id of a row, its parent's, its update, its content, and for a folder its update, its children and the deletions.
+/// Shows a row: its id, its parent's id, its update and its content. For a folder also its update, its children and the
+/// deletions.
 fn object_shown(object: &Object, out: &mut Out) {
     out.say("; ", &object.id.0);
     match object.parent {
@@ -40,8 +41,9 @@ fn object_shown(object: &Object, out: &mut Out) {
     }
 }
 
-/// `didl-rewrite | filter | base | text`: what is written through a filter, with addresses that begin with a base, of the rows
-/// that a document shows. `fragment`: the same without the document round them.
+/// `didl-rewrite | filter | base | text`: shows the document that is written of the rows that a document shows. It is
+/// written through a filter, and its addresses begin with a base. `fragment`: the same without the document round the
+/// rows.
 pub fn rewritten(alloc: Global, row: &Row, out: &mut Out) {
     match read_didl(alloc, row.bytes(3)) {
         Ok(rows) => rows_written(alloc, &rows, row, out),

@@ -1,11 +1,11 @@
-//! Lists of events.
+//! The rows `events` and `events-rewrite`: lists of events as StateEvents.
 
 use crate::row::Row;
 use crate::show::Out;
 use cds_lastchange::{Events, StateError, StateReader, write_state_event};
 use std::alloc::Global;
 
-/// `events | text`: the events that a text lists, or why it lists none and how many bytes show that.
+/// `events | text`: shows the events that a text lists. If it is refused, shows why and how many bytes came before.
 pub fn read(alloc: Global, row: &Row, out: &mut Out) {
     let mut taken = 0;
     match events_of(alloc, row.bytes(1), &mut taken) {
@@ -17,7 +17,7 @@ pub fn read(alloc: Global, row: &Row, out: &mut Out) {
     }
 }
 
-/// The events of a text that comes byte by byte, and how many bytes came before the one that is refused.
+/// Reads the events of a text that comes byte by byte. Counts the bytes before the one that is refused.
 fn events_of(alloc: Global, bytes: &[u8], taken: &mut usize) -> Result<Events, StateError> {
     let mut reader = StateReader::new(alloc)?;
     match feed(alloc, bytes, &mut reader, taken) {
@@ -50,7 +50,7 @@ fn events_shown(events: &Events, out: &mut Out) {
     }
 }
 
-/// `events-rewrite | text`: what is written of the events that a text lists.
+/// `events-rewrite | text`: shows what is written of the events that a text lists.
 pub fn rewritten(alloc: Global, row: &Row, out: &mut Out) {
     match events_of(alloc, row.bytes(1), &mut 0) {
         Ok(events) => events_written(alloc, &events, out),

@@ -1,4 +1,4 @@
-//! FLAC files.
+//! The rows `flac` and `flac-cut`: FLAC files.
 
 use crate::row::Row;
 use crate::show::Out;
@@ -8,14 +8,14 @@ use cds_memory::MemSource;
 use std::alloc::Global;
 use std::convert::From;
 
-/// What is read of these bytes.
+/// Reads these bytes as a FLAC file.
 fn read(alloc: Global, bytes: &[u8]) -> Result<FlacInfo, FlacError> {
     let contents = Bytes::from(Vec::from_slice(alloc, bytes)?);
     let mut source = MemSource::new(contents, Numbers::new(alloc));
     read_flac(alloc, &mut source)
 }
 
-/// `flac | bytes`: rate, channels, bits, samples and comments of a file.
+/// `flac | bytes`: shows the rate, the channels, the bits, the samples and the comments of a file.
 pub fn flac(alloc: Global, row: &Row, out: &mut Out) {
     match read(alloc, row.bytes(1)) {
         Ok(info) => info_shown(&info, out),
@@ -34,13 +34,13 @@ fn info_shown(info: &FlacInfo, out: &mut Out) {
     }
 }
 
-/// Whether so many first bytes are refused at their end.
+/// Returns whether the prefix of `count` bytes is refused at its end.
 fn is_cut_off(alloc: Global, bytes: &[u8], count: usize) -> bool {
     let (front, _) = bytes.split_at(count.min(bytes.len()));
     read(alloc, front).err() == Some(FlacError::Truncated { at: front.len() })
 }
 
-/// `flac-cut | bytes`: how many beginnings are refused at their end.
+/// `flac-cut | bytes`: shows how many prefixes are refused at their end.
 pub fn cuts(alloc: Global, row: &Row, out: &mut Out) {
     let bytes = row.bytes(1);
     let mut refused: usize = 0;

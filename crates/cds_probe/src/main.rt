@@ -1,6 +1,6 @@
-//! `cds_probe`: reads rows from its standard input, one a line, and writes one line for each with what the libraries' calls
-//! answer. An empty line and one that begins with `#` are written as they stand, so that line by line the output answers the
-//! input.
+//! `cds_probe`: reads rows from its standard input, one a line. For each it writes one line with what the libraries'
+//! calls answer. An empty line and a line that begins with `#` are written as they stand. So line n of the output
+//! answers line n of the input.
 #![tactic(auto)]
 
 mod asks;

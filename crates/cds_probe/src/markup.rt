@@ -1,4 +1,4 @@
-//! Documents of XML.
+//! The rows `document`, `marks`, `parts`, `placed` and `rewrite`: XML documents.
 
 use crate::row::{Row, SIZES};
 use crate::show::Out;
@@ -8,7 +8,7 @@ use cds_markup::{
 };
 use std::alloc::Global;
 
-/// `document | text`: whether the text is a document, and the size of pieces in which that is answered otherwise.
+/// `document | text`: shows whether the text is a document, and each size of pieces for which the answer differs.
 pub fn document(alloc: Global, row: &Row, out: &mut Out) {
     let bytes = row.bytes(1);
     let refusal = read_document(alloc, bytes).err();
@@ -24,12 +24,12 @@ pub fn document(alloc: Global, row: &Row, out: &mut Out) {
     }
 }
 
-/// Why bytes that come in pieces of so many are no document.
+/// Returns why bytes that come in pieces of `size` bytes are no document.
 fn refusal_by(alloc: Global, bytes: &[u8], size: usize) -> Option<MarkupError> {
     element_by(alloc, bytes, size).err()
 }
 
-/// The element of a document that comes in pieces of so many bytes.
+/// Reads the root element of a document that comes in pieces of `size` bytes.
 fn element_by(alloc: Global, bytes: &[u8], size: usize) -> Result<Element, MarkupError> {
     let mut reader = Reader::new(alloc)?;
     match feed_by(alloc, bytes, size, &mut reader) {
@@ -53,8 +53,12 @@ fn feed_by(
     Ok(())
 }
 
-/// `marks | document | byte`: for each number of first bytes of a document what the byte behind them is: `x` that it cannot
-/// stand there, `.` that it can and the document then ends too early, `=` that a document ends with it.
+/// `marks | document | byte`: shows for each prefix of a document what the byte is after it:
+///
+/// - `x`: it cannot stand there;
+/// - `.`: it can, and the document then ends too early;
+/// - `=`: a document ends with it;
+/// - `?`: the bytes are refused in another way.
 pub fn marks(alloc: Global, row: &Row, out: &mut Out) {
     let mut bytes = Vec::new(alloc);
     put_mark(alloc, &mut bytes, row.bytes(2), out);
@@ -65,7 +69,7 @@ pub fn marks(alloc: Global, row: &Row, out: &mut Out) {
     }
 }
 
-/// Puts what more bytes behind these are.
+/// Puts the mark of more bytes after these.
 fn put_mark(alloc: Global, bytes: &mut Vec<u8>, more: &[u8], out: &mut Out) {
     let before = bytes.len();
     let is_done = bytes.extend_from_slice(more).is_ok();
@@ -83,7 +87,7 @@ fn mark(refusal: Option<MarkupError>, before: usize) -> &'static str {
     }
 }
 
-/// `parts | text`: the parts of the text and where it breaks.
+/// `parts | text`: shows the parts of the text and where it breaks.
 pub fn parts(alloc: Global, row: &Row, out: &mut Out) {
     let mut parts = Parts::new(alloc);
     let answer = read_parts(alloc, row.bytes(1), &mut parts);
@@ -136,7 +140,7 @@ fn attrs_shown(attrs: &Attrs, out: &mut Out) {
     }
 }
 
-/// `placed | text`: where the root and its child elements begin, and how many nodes the root has.
+/// `placed | text`: shows at which byte the root and its child elements begin, and how many nodes the root has.
 pub fn placed(alloc: Global, row: &Row, out: &mut Out) {
     match read_placed(alloc, row.bytes(1)) {
         Ok(placed) => placed_shown(&placed, out),
@@ -153,7 +157,7 @@ fn placed_shown(placed: &Placed, out: &mut Out) {
     }
 }
 
-/// `rewrite | document`: what is written of what is read, byte by byte.
+/// `rewrite | document`: shows what is written of a document that is read byte by byte.
 pub fn rewritten(alloc: Global, row: &Row, out: &mut Out) {
     match element_by(alloc, row.bytes(1), 1) {
         Ok(element) => element_shown(alloc, &element, out),

@@ -1,4 +1,4 @@
-//! Messages of HTTP.
+//! The rows `request`, `reply`, `request-write`, `reply-write` and `head-write`: HTTP messages.
 
 use crate::row::{Row, SIZES, cut, text_of};
 use crate::show::Out;
@@ -9,9 +9,9 @@ use cds_http::{
 };
 use std::alloc::Global;
 
-/// `request | bytes | field`, `reply | bytes | field`: the first line, the values of a field, the body, and how many bytes are
-/// behind it, or why the bytes are no message, and the first size of pieces in which that is answered otherwise. No text is read in
-/// more than 512 pieces.
+/// `request | bytes | field`, `reply | bytes | field`: shows the first line, the values of a field, the body and how
+/// many bytes come after it. If the bytes are no message, shows why. Then shows the first size of pieces for which the
+/// answer differs. No text is read in more than 512 pieces.
 pub fn read(alloc: Global, side: Side, row: &Row, out: &mut Out) {
     let count = row.bytes(1).len();
     read_by(alloc, side, row, count, out);
@@ -23,14 +23,14 @@ pub fn read(alloc: Global, side: Side, row: &Row, out: &mut Out) {
     }
 }
 
-/// Whether bytes in pieces of so many are answered as this.
+/// Returns whether the bytes in pieces of `size` bytes give this answer.
 fn is_same_by(alloc: Global, side: Side, row: &Row, size: usize, answer: &str) -> bool {
     let mut other = Out::new(alloc);
     read_by(alloc, side, row, size, &mut other);
     other.as_str() == answer
 }
 
-/// Shows what bytes in pieces of so many are.
+/// Shows what the bytes are if they come in pieces of `size` bytes.
 fn read_by(alloc: Global, side: Side, row: &Row, size: usize, out: &mut Out) {
     let mut behind = 0;
     match message_by(alloc, side, row.bytes(1), size, &mut behind) {
@@ -43,7 +43,7 @@ fn read_by(alloc: Global, side: Side, row: &Row, size: usize, out: &mut Out) {
     }
 }
 
-/// The message that comes in pieces of so many bytes, and how many bytes came behind it.
+/// Reads the message that comes in pieces of `size` bytes, and counts the bytes that come after it.
 pub fn message_by(
     alloc: Global,
     side: Side,
@@ -95,7 +95,7 @@ fn start_shown(start: &Start, out: &mut Out) {
     }
 }
 
-/// The fields that texts `name: value` are.
+/// Reads the fields from texts `name: value`.
 fn fields_of(alloc: Global, texts: &[Vec<u8>]) -> Result<Fields, Mem> {
     let mut fields = Fields::new(alloc);
     for text in texts {
@@ -105,8 +105,11 @@ fn fields_of(alloc: Global, texts: &[Vec<u8>]) -> Result<Fields, Mem> {
     Ok(fields)
 }
 
-/// `request-write | method | target | body | name: value ..`, `reply-write | status | body | name: value ..`, `head-write |
-/// status | number of bytes | name: value ..`: what is written.
+/// Shows what is written:
+///
+/// - `request-write | method | target | body | name: value ..`
+/// - `reply-write | status | body | name: value ..`
+/// - `head-write | status | number of bytes | name: value ..`
 pub fn written(alloc: Global, row: &Row, out: &mut Out) {
     let from = if row.text(0) == "request-write" { 4 } else { 3 };
     match fields_of(alloc, row.from(from)) {
@@ -133,7 +136,7 @@ fn put_message(row: &Row, fields: &Fields, out: &mut Vec<u8>) -> Result<(), Mem>
     }
 }
 
-/// The status that a row says.
+/// Returns the status that a row says, or 0 if it is no such number.
 fn status(row: &Row) -> u16 {
     match u16::try_from(row.number(1)) {
         Ok(status) => status,

@@ -1,4 +1,4 @@
-//! Paths and contents.
+//! The rows `path`, `folder` and `track`: paths and contents.
 
 use crate::row::{Row, cut, text_of};
 use crate::show::Out;
@@ -6,7 +6,7 @@ use cds_base::{Mem, Text};
 use cds_object::{Comment, Comments, Content, FlacInfo, Path, TrackContent, content_of, folder_of};
 use std::alloc::Global;
 
-/// `path | text`: how many names, and the last.
+/// `path | text`: shows how many names the path has, and the last one.
 pub fn path(alloc: Global, row: &Row, out: &mut Out) {
     match Path::read(alloc, row.text(1)) {
         Ok(path) => path_shown(&path, out),
@@ -20,12 +20,12 @@ fn path_shown(path: &Path, out: &mut Out) {
     out.quote(path.name().as_bytes());
 }
 
-/// `folder | name`: the content of a folder.
+/// `folder | name`: shows the content of a folder.
 pub fn folder(alloc: Global, row: &Row, out: &mut Out) {
     made_shown(folder_of(alloc, row.text(1)), out);
 }
 
-/// `track | name | size | samples | rate | NAME=value ..`: the content of a file of 16 bits and two channels.
+/// `track | name | size | samples | rate | NAME=value ..`: shows the content of a file of 16 bits and two channels.
 pub fn track(alloc: Global, row: &Row, out: &mut Out) {
     let mut info = FlacInfo {
         rate: row.small(4),
@@ -47,7 +47,7 @@ fn track_of(alloc: Global, info: &FlacInfo, row: &Row, out: &mut Out) {
     }
 }
 
-/// Puts the comments that fields are.
+/// Puts the comments that fields `NAME=value` say.
 fn put_comments(alloc: Global, fields: &[Vec<u8>], list: &mut Comments) -> Result<(), Mem> {
     for field in fields {
         put_comment(alloc, text_of(field.as_slice()), list)?;
@@ -55,7 +55,7 @@ fn put_comments(alloc: Global, fields: &[Vec<u8>], list: &mut Comments) -> Resul
     Ok(())
 }
 
-/// Puts the comment that a text is.
+/// Puts the comment that a text `NAME=value` says.
 fn put_comment(alloc: Global, text: &str, list: &mut Comments) -> Result<(), Mem> {
     let (name, value) = cut(text, "=");
     let name = Text::read(alloc, name)?;

@@ -1,4 +1,5 @@
-//! Replies to control requests (SOAP), and what is asked and answered by an action.
+//! The rows `action-write`, `answer` and `answer-write`: requests for an action, and replies to control requests
+//! (SOAP).
 
 ghost use Rattle.std.specs.Prelude.{◌≡◌};
 ghost use Rattle.std.specs.List.{list_all};
@@ -12,8 +13,11 @@ use cds_soap::{Action, Answer, fits, read_answer, write_answer};
 use std::alloc::Global;
 use std::convert::From;
 
-/// `action-write | address | action | what it asks with ..`: the request for an action. `answer | action | head | body | behind`:
-/// what a reply answers. `answer-write | action | version | token | kind | what it says ..`: the reply with an answer.
+/// Shows what comes of an action:
+///
+/// - `action-write | address | action | what it asks with ..`: the request for it;
+/// - `answer | action | head | body | rest`: what a reply answers to it;
+/// - `answer-write | action | version | token | kind | what it says ..`: the reply with an answer.
 pub fn of_action(alloc: Global, row: &Row, out: &mut Out) {
     let at = if row.text(0) == "action-write" { 2 } else { 1 };
     match action(alloc, row, at) {
@@ -61,7 +65,7 @@ fn answer_shown(answer: &Answer, out: &mut Out) {
     }
 }
 
-/// The answer that fields from a place on are: its kind and what it says.
+/// Returns the answer that the fields from a place on say: its kind and what it says.
 fn answer(alloc: Global, row: &Row, at: usize) -> Result<Answer, Mem> {
     let says = at.saturating_add(1);
     match row.text(at) {
@@ -98,7 +102,8 @@ fn reply_shown(alloc: Global, action: &Action, row: &Row, answer: &Answer, out: 
     out.show(text.as_slice());
 }
 
-/// The reply to an action with an answer and a token, nothing where they are none.
+/// Writes the reply to an action with an answer and a token. Writes nothing if the answer does not fit or the token is
+/// none.
 fn reply_to(action: &Action, row: &Row, answer: &Answer, out: &mut Vec<u8>) -> Result<(), Mem> {
     let version = u8::try_from(row.number(2)).unwrap_or(0);
     let token = row.text(3);
@@ -114,21 +119,21 @@ fn reply_to(action: &Action, row: &Row, answer: &Answer, out: &mut Vec<u8>) -> R
     Ok(())
 }
 
-/// Whether a byte may stand in a token.
+/// Returns whether a byte may stand in a token.
 fn is_token_byte(byte: u8) -> bool
     ensures { result ≡ is_token_byte byte }
 {
     33 <= byte && byte <= 126
 }
 
-/// Whether bytes may stand in a token.
+/// Returns whether all of these bytes may stand in a token.
 fn are_token_bytes(bytes: &[u8]) -> bool
     ensures { result ≡ list_all is_token_byte bytes.now }
 {
     bytes.iter().all(|byte| is_token_byte(*byte))
 }
 
-/// Whether a text is a token.
+/// Returns whether a text is a token.
 fn is_token(text: &str) -> bool
     ensures { result ≡ is_reset_token text.now }
 {

@@ -1,4 +1,4 @@
-//! Control requests (SOAP).
+//! The row `action`: control requests (SOAP).
 
 use crate::messages::message_by;
 use crate::row::Row;
@@ -9,7 +9,8 @@ use cds_soap::{Action, Asked, BrowseRequest, SearchRequest, read_action, write_a
 use std::alloc::Global;
 use url::Url;
 
-/// The bytes of a message: a head whose last field is the length of a body, the body and what is behind it, or one field alone.
+/// Returns the bytes of a message. Three fields say it: a head, a body and the rest that comes after it. The last field
+/// of the head is then the length of the body. One field alone is the whole message.
 pub fn sent(alloc: Global, row: &Row, at: usize) -> Out {
     let mut out = Out::new(alloc);
     out.put(row.text(at));
@@ -23,7 +24,7 @@ pub fn sent(alloc: Global, row: &Row, at: usize) -> Out {
     out
 }
 
-/// `action | head | body`: what a request asks for.
+/// `action | head | body`: shows what a request asks for.
 pub fn read(alloc: Global, row: &Row, out: &mut Out) {
     let text = sent(alloc, row, 1);
     out.note(text.is_whole());
@@ -75,7 +76,7 @@ fn search_shown(request: &SearchRequest, out: &mut Out) {
     out.put(request.sort.as_str());
 }
 
-/// The action that fields from a place on are: its name, and what it asks with.
+/// Returns the action that the fields from a place on say: its name, and what it asks with.
 pub fn action(alloc: Global, row: &Row, at: usize) -> Result<Action, Mem> {
     match row.text(at) {
         "Browse" => browse(alloc, row, at.saturating_add(1)),
@@ -106,7 +107,7 @@ fn browse_request(alloc: Global, row: &Row, at: usize) -> Result<BrowseRequest, 
     })
 }
 
-/// The same fields as Search asks with.
+/// Returns a Search action from the same fields as Browse asks with.
 fn search(alloc: Global, row: &Row, at: usize) -> Result<Action, Mem> {
     let BrowseRequest {
         object,
@@ -134,7 +135,7 @@ pub fn action_written(alloc: Global, action: &Action, address: &str, out: &mut O
     out.show(text.as_slice());
 }
 
-/// The request for an action to an address, nothing where that is none.
+/// Puts the request for an action to an address, or nothing if the address is not a URL.
 fn put_action(alloc: Global, action: &Action, address: &str, out: &mut Vec<u8>) -> Result<(), Mem> {
     match Url::parse(alloc, address) {
         Ok(url) => put_action_to(action, &url, out),
@@ -142,7 +143,7 @@ fn put_action(alloc: Global, action: &Action, address: &str, out: &mut Vec<u8>) 
     }
 }
 
-/// The request for an action to an address, nothing where that is none of `http`.
+/// Puts the request for an action to a URL, or nothing if its scheme is not `http`.
 fn put_action_to(action: &Action, url: &Url, out: &mut Vec<u8>) -> Result<(), Mem> {
     if url.scheme() == "http" {
         return write_action(action, url, out);

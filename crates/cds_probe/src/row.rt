@@ -1,12 +1,12 @@
-//! Rows: a subject and its fields, parted by `|`, with spaces round each that do not count. In a field `%XX` is a byte,
-//! `{name}` the bytes of a named piece, `{3*name}` these three times, and `{name~old~new}` these with the first `old` replaced
-//! by `new`.
+//! Rows: a subject and its fields, parted by `|`. Spaces round a field do not count. In a field `%XX` is a byte and
+//! `{name}` the bytes of a named piece. `{3*name}` is that piece three times. `{name~old~new}` is the piece with the
+//! first `old` replaced by `new`.
 
 use cds_base::{Mem, Sequence, Text, read_plain};
 use percent_encoding::percent_decode;
 use std::alloc::{AllocError, Global};
 
-/// In pieces of how many bytes what comes in pieces is read.
+/// The sizes, in bytes, of the pieces in which a text is read again.
 pub const SIZES: [usize; 8] = [1, 2, 3, 5, 7, 16, 54, 112];
 
 /// Bytes that have a name.
@@ -16,7 +16,7 @@ pub struct Piece {
     bytes: Vec<u8>,
 }
 
-/// Pieces in the order in which they were named. The first of a name counts.
+/// Pieces in the order in which they were named. The first piece of a name counts.
 pub type Pieces = Sequence<Piece>;
 
 /// A row. Its subject is field 0.
@@ -26,7 +26,7 @@ pub struct Row {
 }
 
 impl Row {
-    /// The row of a line.
+    /// Reads the row of a line.
     pub fn read(alloc: Global, pieces: &[Piece], line: &str) -> Result<Row, Mem> {
         let mut fields = Vec::new(alloc);
         for text in line.split("|") {
@@ -35,12 +35,12 @@ impl Row {
         Ok(Row { fields })
     }
 
-    /// Whether there is a field at a place.
+    /// Returns whether there is a field at a place.
     pub fn has(&self, at: usize) -> bool {
         at < self.fields.len()
     }
 
-    /// The bytes of the field at a place, none where there is no such field.
+    /// Returns the bytes of the field at a place, empty if there is no such field.
     pub fn bytes(&self, at: usize) -> &[u8] {
         match self.fields.get(at) {
             Some(field) => field.as_slice(),
@@ -48,17 +48,17 @@ impl Row {
         }
     }
 
-    /// The text of the field at a place, none where the bytes are no text.
+    /// Returns the text of the field at a place, empty if the bytes are no text.
     pub fn text(&self, at: usize) -> &str {
         text_of(self.bytes(at))
     }
 
-    /// The number that the field at a place says in decimal, else 0.
+    /// Returns the number that the field at a place says in decimal, or 0 if it says none.
     pub fn number(&self, at: usize) -> u64 {
         read_plain(self.bytes(at)).unwrap_or(0)
     }
 
-    /// The same of a small number.
+    /// Returns the same as a small number, or 0 if it is not one.
     pub fn small(&self, at: usize) -> u32 {
         match u32::try_from(self.number(at)) {
             Ok(number) => number,
@@ -66,23 +66,23 @@ impl Row {
         }
     }
 
-    /// The fields from a place on.
+    /// Returns the fields from a place on.
     pub fn from(&self, at: usize) -> &[Vec<u8>] {
         self.fields.get(at..).unwrap_or(&[])
     }
 }
 
-/// The text that bytes are, none where they are none.
+/// Returns the text that bytes are, empty if they are none.
 pub fn text_of(bytes: &[u8]) -> &str {
     str::from_utf8(bytes).unwrap_or("")
 }
 
-/// A text in two at the first `mark`, whole and empty where there is none.
+/// Cuts a text in two at the first `mark`. If there is none, the parts are the whole text and an empty one.
 pub fn cut<'a>(text: &'a str, mark: &str) -> (&'a str, &'a str) {
     text.split_once(mark).unwrap_or((text, ""))
 }
 
-/// The bytes of a field.
+/// Returns the bytes of a field.
 fn field(alloc: Global, pieces: &[Piece], text: &str) -> Result<Vec<u8>, AllocError> {
     let mut out = Vec::new(alloc);
     for part in text.split("{") {
@@ -91,7 +91,7 @@ fn field(alloc: Global, pieces: &[Piece], text: &str) -> Result<Vec<u8>, AllocEr
     Ok(out)
 }
 
-/// Puts what stands behind a `{`: a piece up to the `}` and the text behind it, or a text alone.
+/// Puts what comes after a `{`: a piece up to the `}` and the text after it, or a text alone.
 fn put_part(pieces: &[Piece], part: &str, out: &mut Vec<u8>) -> Result<(), AllocError> {
     match part.split_once("}") {
         Some((inside, text)) => {
@@ -115,7 +115,7 @@ fn put_named(pieces: &[Piece], inside: &str, out: &mut Vec<u8>) -> Result<(), Al
     }
 }
 
-/// Puts a text with a piece of it replaced by another.
+/// Puts a text with the first `old` in it replaced by `new`.
 fn put_changed(text: &str, change: &str, out: &mut Vec<u8>) -> Result<(), AllocError> {
     let (old, new) = cut(change, "~");
     match text.split_once(old) {
@@ -128,7 +128,7 @@ fn put_changed(text: &str, change: &str, out: &mut Vec<u8>) -> Result<(), AllocE
     }
 }
 
-/// Puts a piece once, or as often as a number with `*` before it says.
+/// Puts a piece once, or as often as the number before a `*` says.
 fn put_repeated(pieces: &[Piece], inside: &str, out: &mut Vec<u8>) -> Result<(), AllocError> {
     let (count, name) = counted(inside);
     for _ in 0..count {
@@ -137,7 +137,7 @@ fn put_repeated(pieces: &[Piece], inside: &str, out: &mut Vec<u8>) -> Result<(),
     Ok(())
 }
 
-/// A number and the name behind its `*`; 1 where there is none.
+/// Returns a number and the name after its `*`. The number is 1 if there is no `*`.
 fn counted(inside: &str) -> (u64, &str) {
     match inside.split_once("*") {
         Some((count, name)) => (read_plain(count.as_bytes()).unwrap_or(0), name),
@@ -145,7 +145,7 @@ fn counted(inside: &str) -> (u64, &str) {
     }
 }
 
-/// The bytes of a piece.
+/// Returns the bytes of a piece.
 fn bytes_of<'a>(pieces: &'a [Piece], name: &str) -> &'a [u8] {
     for piece in pieces {
         if piece.name.as_str() == name {
@@ -155,7 +155,7 @@ fn bytes_of<'a>(pieces: &'a [Piece], name: &str) -> &'a [u8] {
     b"(no such piece)"
 }
 
-/// Keeps the last field of a row as a piece that the first one names.
+/// Keeps field 2 of a row as a piece with the name in field 1.
 pub fn keep(alloc: Global, pieces: &mut Pieces, row: &Row) -> Result<(), Mem> {
     let name = Text::read(alloc, row.text(1))?;
     let bytes = Vec::from_slice(alloc, row.bytes(2))?;

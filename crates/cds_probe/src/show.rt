@@ -1,4 +1,4 @@
-//! How answers are shown: in ASCII on one line, with every other byte and `%` as `%XX`.
+//! How answers are shown: in ASCII on one line. Control bytes, bytes above ASCII and `%` are shown as `%XX`.
 
 use cds_base::Text;
 use percent_encoding::{AsciiSet, CONTROLS, ascii_set, percent_encode};
@@ -8,7 +8,7 @@ use std::fmt::Debug;
 /// The bytes of ASCII that are shown as `%XX`.
 const HIDDEN: AsciiSet = ascii_set!(CONTROLS.add(b'%'));
 
-/// What answers a row. It keeps in mind that memory ran out, so that only the end has to look.
+/// The answer to a row. It remembers if memory ran out, so that only the end has to check.
 #[derive(Drop)]
 pub struct Out {
     text: String,
@@ -16,7 +16,7 @@ pub struct Out {
 }
 
 impl Out {
-    /// An empty answer.
+    /// Makes an empty answer.
     pub fn new(alloc: Global) -> Out {
         Out {
             text: String::new(alloc),
@@ -24,19 +24,19 @@ impl Out {
         }
     }
 
-    /// Notes whether memory was there for a call.
+    /// Notes whether a call had enough memory.
     pub fn note(&mut self, is_done: bool) {
         if !is_done {
             self.is_cut = true;
         }
     }
 
-    /// Whether memory was there for each call.
+    /// Returns whether each call had enough memory.
     pub fn is_whole(&self) -> bool {
         !self.is_cut
     }
 
-    /// What is written.
+    /// Returns what is written.
     pub fn as_str(&self) -> &str {
         self.text.as_str()
     }
@@ -67,14 +67,14 @@ impl Out {
         self.note(is_done);
     }
 
-    /// Shows bytes in quotes, behind a space.
+    /// Shows bytes in quotes, after a space.
     pub fn quote(&mut self, bytes: &[u8]) {
         self.put(" \"");
         self.show(bytes);
         self.put("\"");
     }
 
-    /// Shows a text in quotes or `-` where there is none, behind a space.
+    /// Shows a text in quotes, or `-` if there is none, after a space.
     pub fn quote_maybe(&mut self, text: &Option<Text>) {
         match text {
             Some(text) => self.quote(text.as_str().as_bytes()),

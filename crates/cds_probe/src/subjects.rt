@@ -1,4 +1,4 @@
-//! What each subject asks the libraries.
+//! Sends each row to the module for its subject.
 
 use crate::row::{Pieces, Row, keep};
 use crate::show::Out;
@@ -6,7 +6,7 @@ use crate::{asks, didl, events, files, markup, messages, objects, replies, reque
 use cds_http::Side;
 use std::alloc::Global;
 
-/// The line that answers a line.
+/// Returns the line that answers a line.
 pub fn answer(alloc: Global, pieces: &mut Pieces, line: &str) -> Out {
     let mut out = Out::new(alloc);
     if line.is_empty() || line.starts_with("#") {
@@ -24,7 +24,7 @@ fn answer_row(alloc: Global, pieces: &mut Pieces, line: &str, out: &mut Out) {
     }
 }
 
-/// `piece | name | bytes` keeps a piece for later rows; the answer is how many bytes it has.
+/// Answers a row. `piece | name | bytes` keeps a piece for later rows; the answer is how many bytes it has.
 fn answer_to(alloc: Global, pieces: &mut Pieces, row: &Row, out: &mut Out) {
     if row.text(0) == "piece" {
         let is_done = keep(alloc, pieces, row).is_ok();
@@ -36,7 +36,7 @@ fn answer_to(alloc: Global, pieces: &mut Pieces, row: &Row, out: &mut Out) {
     }
 }
 
-/// What the library that a row is about answers.
+/// Shows what the library of the row's subject answers.
 fn ask(alloc: Global, row: &Row, out: &mut Out) {
     match row.text(0) {
         "escape" => texts::escaped(alloc, row, out),

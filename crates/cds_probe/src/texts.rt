@@ -1,4 +1,4 @@
-//! Texts and numbers.
+//! The rows `escape`, `unescape`, `number`, `run` and `clean`: texts and numbers.
 
 use crate::row::Row;
 use crate::show::Out;
@@ -6,7 +6,7 @@ use cds_base::{escape, first_forbidden, letters_run, plain_run, read_plain, read
 use cds_object::clean;
 use std::alloc::Global;
 
-/// `escape | text`: the text as XML has it.
+/// `escape | text`: shows the text as XML has it.
 pub fn escaped(alloc: Global, row: &Row, out: &mut Out) {
     let mut text = String::new(alloc);
     let is_done = escape(row.text(1), &mut text).is_ok();
@@ -14,7 +14,7 @@ pub fn escaped(alloc: Global, row: &Row, out: &mut Out) {
     out.show(text.as_bytes());
 }
 
-/// `unescape | text`: what the text says, or where it says nothing.
+/// `unescape | text`: shows what the text says, or the refusal and its place.
 pub fn unescaped(alloc: Global, row: &Row, out: &mut Out) {
     match unescape(alloc, row.text(1)) {
         Ok(text) => out.show(text.as_bytes()),
@@ -22,14 +22,14 @@ pub fn unescaped(alloc: Global, row: &Row, out: &mut Out) {
     }
 }
 
-/// `number | digits`: the number where any digits count, and where a first 0 does not.
+/// `number | digits`: shows the number in two ways: with any digits, and with no first 0.
 pub fn number(row: &Row, out: &mut Out) {
     let digits = row.bytes(1);
     out.value(&read_u32(digits));
     out.say(" ", &read_plain(digits));
 }
 
-/// `run | bytes`: how many first bytes are plain, how many are letters, and the place of the first that is forbidden.
+/// `run | bytes`: shows how many first bytes are plain, how many are letters, and the place of the first forbidden one.
 pub fn run(row: &Row, out: &mut Out) {
     let bytes = row.bytes(1);
     out.value(&plain_run(bytes));
@@ -37,7 +37,7 @@ pub fn run(row: &Row, out: &mut Out) {
     out.say(" ", &first_forbidden(bytes));
 }
 
-/// `clean | text`: the text as a content keeps it.
+/// `clean | text`: shows the text as a content keeps it.
 pub fn cleaned(alloc: Global, row: &Row, out: &mut Out) {
     match clean(alloc, row.text(1)) {
         Ok(text) => out.show(text.as_bytes()),

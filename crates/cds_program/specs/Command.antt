@@ -12,14 +12,14 @@ command_named word =
     (cond (same_text word (codes "--help")) (Some Help)
     (cond (same_text word (codes "--version")) (Some Version) None)))
 
--- to serve, where a port and a number of connections are given
+-- to serve, if a port and a number of connections are given
 abbrev pub service_of : Option ℕ → Option ℕ → Option Command
 service_of (Some port) (Some requests) = Some (Serve port requests)
 service_of (Some port) None = None
 service_of None requests = None
 
--- a command is one word alone, but for `scan`, behind which a folder stands, and `serve`, behind which a port, a folder and a number of
--- connections stand, the numbers in plain decimal
+-- a command is one word alone, except `scan`, which a folder follows, and `serve`. A port, a folder and a number of connections
+-- follow `serve`, the numbers in plain decimal
 abbrev pub command_of : List (List ℕ) → Option Command
 command_of [] = None
 command_of (word ∷ []) = command_named word
@@ -49,7 +49,7 @@ TakesInput command = (command ≡ Some Replay) ⊎ (command ≡ Some Check)
 abbrev pub Serves : Option Command → Type 0
 Serves command = (port : ℕ) × ((requests : ℕ) × (command ≡ Some (Serve port requests)))
 
--- what is written where the words are no command's
+-- what is written if the words are no command's
 abbrev pub usage_text : List ℕ
 usage_text = codes "usage: cds COMMAND\n"
 

@@ -17,11 +17,11 @@ pub enum Command {
     Check,
     /// Scans the folder that the next word names, and writes its catalog and the files that were refused.
     Scan,
-    /// Serves the folder that a word behind names, at this port and for so many connections.
+    /// Serves the folder that a later word names, at this port and for this many connections.
     Serve {
         /// The port.
         port: u16,
-        /// How many connections.
+        /// The number of connections.
         requests: u32,
     },
     /// Writes a page on the commands and the exit statuses.
@@ -30,7 +30,7 @@ pub enum Command {
     Version,
 }
 
-/// The command of the words after the program's name; `None` where they are no command's.
+/// Returns the command of the words after the program's name, or `None` if they are no command's.
 pub fn read_command(words: &[Text]) -> Option<Command>
     ensures { result ≡ command_of words.now }
 {
@@ -40,7 +40,7 @@ pub fn read_command(words: &[Text]) -> Option<Command>
     }
 }
 
-/// The command of a word with these behind it.
+/// Returns the command of a word with these after it.
 fn read_behind(word: &Text, others: &[Text]) -> Option<Command>
     ensures { result ≡ command_of (word.now ∷ others.now) }
 {
@@ -50,7 +50,7 @@ fn read_behind(word: &Text, others: &[Text]) -> Option<Command>
     }
 }
 
-/// The command of two words with these behind them.
+/// Returns the command of two words with these after them.
 fn read_more(word: &Text, next: &Text, more: &[Text]) -> Option<Command>
     ensures { result ≡ command_of (word.now ∷ next.now ∷ more.now) }
 {
@@ -60,7 +60,7 @@ fn read_more(word: &Text, next: &Text, more: &[Text]) -> Option<Command>
     }
 }
 
-/// The command of three words with these behind them.
+/// Returns the command of three words with these after them.
 fn read_rest(word: &Text, port: &Text, folder: &Text, rest: &[Text]) -> Option<Command>
     ensures { result ≡ command_of (word.now ∷ port.now ∷ folder.now ∷ rest.now) }
 {
@@ -70,7 +70,7 @@ fn read_rest(word: &Text, port: &Text, folder: &Text, rest: &[Text]) -> Option<C
     }
 }
 
-/// The command of four words with these behind them.
+/// Returns the command of four words with these after them.
 fn read_last(
     word: &Text,
     port: &Text,
@@ -86,7 +86,7 @@ fn read_last(
     }
 }
 
-/// The command of this name that takes a folder.
+/// Returns the command of this name that takes a folder.
 fn with_folder(word: &Text) -> Option<Command>
     ensures { result ≡ cond (same_text word.now (codes "scan")) (Some Scan) None }
 {
@@ -97,7 +97,7 @@ fn with_folder(word: &Text) -> Option<Command>
     }
 }
 
-/// The command of this name that takes a port, a folder and a number of connections.
+/// Returns the command of this name that takes a port, a folder and a number of connections.
 fn with_service(word: &Text, port: &Text, requests: &Text) -> Option<Command>
     ensures { result ≡ cond (same_text word.now (codes "serve")) (service_of (plain_below (2 ^ 16) port.now) (plain_below (2 ^ 32) requests.now)) None }
 {
@@ -108,7 +108,7 @@ fn with_service(word: &Text, port: &Text, requests: &Text) -> Option<Command>
     }
 }
 
-/// To serve at this port for so many connections.
+/// Returns the command to serve at this port for this many connections.
 fn service(port: Option<u16>, requests: Option<u32>) -> Option<Command>
     ensures { result ≡ service_of port requests }
 {
@@ -119,7 +119,7 @@ fn service(port: Option<u16>, requests: Option<u32>) -> Option<Command>
     }
 }
 
-/// The port that a word is, in plain decimal.
+/// Returns the port that a word is, in plain decimal.
 fn port_of(word: &Text) -> Option<u16>
     ensures { result ≡ plain_below (2 ^ 16) word.now }
 {
@@ -129,7 +129,7 @@ fn port_of(word: &Text) -> Option<u16>
     }
 }
 
-/// The number of connections that a word is, in plain decimal.
+/// Returns the number of connections that a word is, in plain decimal.
 fn count_of(word: &Text) -> Option<u32>
     ensures { result ≡ plain_below (2 ^ 32) word.now }
 {
@@ -139,7 +139,7 @@ fn count_of(word: &Text) -> Option<u32>
     }
 }
 
-/// The folder that the words of `scan` name.
+/// Returns the folder that the words of `scan` name.
 pub fn folder_in(words: &[Text]) -> &str
     ensures { result.now ≡ folder_in words.now }
 {
@@ -149,7 +149,7 @@ pub fn folder_in(words: &[Text]) -> &str
     }
 }
 
-/// The folder that the words of `serve` name.
+/// Returns the folder that the words of `serve` name.
 pub fn place_in(words: &[Text]) -> &str
     ensures { result.now ≡ place_in words.now }
 {
@@ -159,7 +159,7 @@ pub fn place_in(words: &[Text]) -> &str
     }
 }
 
-/// The command of this name.
+/// Returns the command of this name.
 fn named(word: &Text) -> Option<Command>
     ensures { result ≡ command_named word.now }
 {
@@ -176,7 +176,7 @@ fn named(word: &Text) -> Option<Command>
     }
 }
 
-/// Whether a word has these bytes.
+/// Returns whether a word has these bytes.
 fn is_text(word: &Text, text: &str) -> bool
     ensures { result ≡ same_text word.now text.now }
 {

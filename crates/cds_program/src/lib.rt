@@ -1,5 +1,5 @@
-//! What the program does: it plays scripts, reads StateEvents, scans a folder of FLAC files and serves one. `run` takes its
-//! words over the streams and the objects that it is given.
+//! What the program does: it plays scripts, reads StateEvents, scans a folder of FLAC files and serves one. `run` takes its words
+//! over the streams and the objects that it is given.
 #![tactic(auto)]
 
 mod command;

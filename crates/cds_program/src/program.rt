@@ -18,15 +18,13 @@ ghost use Rattle.cds_program.specs.declared.command.Command.TheVariants.{Replay,
 
 use crate::command::{Command, folder_in, place_in, read_command};
 use crate::serving::serve_folder;
-use cds_base::{Door, Folder, Outside, Sink, Source, Words};
+use cds_base::{Door, Folder, Outside, Runtime, Sink, Source, Words};
 use cds_replay::{ReplayError, replay};
 use cds_subcommands::{check, scan_folder, write_text};
 use std::alloc::Global;
-use std::marker::{Send, Sync};
-use std::sync::Wait;
-use std::thread::Threads;
+use std::marker::Send;
 
-/// What is written where the words are no command's.
+/// What is written if the words are no command's.
 pub const USAGE: &str = "usage: cds COMMAND\n";
 
 /// What `--version` writes.
@@ -59,20 +57,20 @@ Exit status:
 
 /// Plays the script on the source.
 fn play<S: Source, K: Sink>(alloc: Global, source: &mut S, sink: &mut K) -> u8
-    ensures ends { Told (S.left source.old) (λ bytes. Ends result (script_ending bytes).status) }
-    ensures writes { Told (S.left source.old) (λ bytes. Told (K.holds sink.old)
-        (λ before. Writes result (script_ending bytes).text before (K.holds sink.new))) }
-    ensures whole { Told (S.left source.old) (λ bytes. result ≡ 0 → S.left source.new ≡ Some []) }
-    ensures within { result ≡ 0 → S.moved source.new ≤ raised (S.moved source.old) INPUT_LIMIT }
-    ensures taken { S.moved source.new ≤ S.moved source.old + (INPUT_LIMIT + 1) }
-    ensures long { result ≡ 6 → raised (S.moved source.old) (line_limit + 1) ≤ S.moved source.new }
-    ensures read_fault { result ≡ 2 → Rose (S.faults source.old) (S.faults source.new) }
-    ensures write_fault { result ≡ 3 → Rose (K.faults sink.old) (K.faults sink.new) }
+    ensures ends { Told (S.told source.old).left (λ bytes. Ends result (script_ending bytes).status) }
+    ensures writes { Told (S.told source.old).left (λ bytes. Told (K.told sink.old).holds
+        (λ before. Writes result (script_ending bytes).text before (K.told sink.new).holds)) }
+    ensures whole { Told (S.told source.old).left (λ bytes. result ≡ 0 → (S.told source.new).left ≡ Some []) }
+    ensures within { result ≡ 0 → (S.told source.new).moved ≤ raised (S.told source.old).moved INPUT_LIMIT }
+    ensures taken { (S.told source.new).moved ≤ (S.told source.old).moved + (INPUT_LIMIT + 1) }
+    ensures long { result ≡ 6 → raised (S.told source.old).moved (line_limit + 1) ≤ (S.told source.new).moved }
+    ensures read_fault { result ≡ 2 → Rose (S.told source.old).faults (S.told source.new).faults }
+    ensures write_fault { result ≡ 3 → Rose (K.told sink.old).faults (K.told sink.new).faults }
     ensures known { (result ≡ 5 → ⊥) × (result ≤ 6) }
-    ensures turns { Told (S.left source.old) (λ bytes. IsReportOf (script_turns bytes) (script_stop bytes) (script_ending bytes)) }
-    ensures load_bound { Told (S.left source.old) (λ bytes. BoundsLoads (script_turns bytes)) }
-    ensures stands { Told (S.left source.old) (λ bytes. StandsAtScanEnds (script_turns bytes)) }
-    ensures complete { Told (S.left source.old) (λ bytes. AnswersAreComplete (script_turns bytes)) }
+    ensures turns { Told (S.told source.old).left (λ bytes. IsReportOf (script_turns bytes) (script_stop bytes) (script_ending bytes)) }
+    ensures load_bound { Told (S.told source.old).left (λ bytes. BoundsLoads (script_turns bytes)) }
+    ensures stands { Told (S.told source.old).left (λ bytes. StandsAtScanEnds (script_turns bytes)) }
+    ensures complete { Told (S.told source.old).left (λ bytes. AnswersAreComplete (script_turns bytes)) }
 {
     match replay(alloc, source, sink) {
         Ok(()) => 0,
@@ -88,125 +86,124 @@ fn play<S: Source, K: Sink>(alloc: Global, source: &mut S, sink: &mut K) -> u8
 /// Writes the page on the commands and the exit statuses.
 fn write_help<K: Sink>(sink: &mut K) -> u8
     ensures ends { EndsText result 0 }
-    ensures writes { Told (K.holds sink.old) (λ before. WritesText result help_text before (K.holds sink.new)) }
-    ensures write_fault { result ≡ 3 → Rose (K.faults sink.old) (K.faults sink.new) }
+    ensures writes { Told (K.told sink.old).holds (λ before. WritesText result help_text before (K.told sink.new).holds) }
+    ensures write_fault { result ≡ 3 → Rose (K.told sink.old).faults (K.told sink.new).faults }
 {
     write_text(sink, HELP.as_bytes(), 0)
 }
 
-/// Writes what words are that are no command's.
+/// Writes the usage, for words that are no command's.
 fn write_usage<K: Sink>(sink: &mut K) -> u8
     ensures ends { EndsText result 5 }
-    ensures writes { Told (K.holds sink.old) (λ before. WritesText result usage_text before (K.holds sink.new)) }
-    ensures write_fault { result ≡ 3 → Rose (K.faults sink.old) (K.faults sink.new) }
+    ensures writes { Told (K.told sink.old).holds (λ before. WritesText result usage_text before (K.told sink.new).holds) }
+    ensures write_fault { result ≡ 3 → Rose (K.told sink.old).faults (K.told sink.new).faults }
 {
     write_text(sink, USAGE.as_bytes(), 5)
 }
 
 /// Runs the program on the words after its name, and answers its exit status.
 ///
-/// `replay` plays the script on the source and writes its report to the sink (status 0, or 1 where a line is outside the
-/// grammar, or 6 where the script or a line of it is too long). `check` reads the StateEvent on the source and writes its
-/// one written form and LF (status 0), or `refused AT` with the place of the first fault, in bytes from 0 (8), or `error
-/// limit` where it has more than 67,108,864 bytes without a fault before (6). `scan FOLDER` scans the folder once and
-/// writes each row of its catalog and LF, and `refused PATH` and LF for each file that was refused, in ascending order of
-/// their paths (0), or `error limit` where a path has too many names or bytes, or the folder too many entries or objects
-/// (6). `serve PORT FOLDER REQUESTS` listens at the port, in decimal below 65,536, answers so many connections over HTTP, a
-/// number below 2^32, and writes `serving PORT` at the start and `served REQUESTS scans A refused B memory C` at the end (0),
-/// or ends with 7 where the port, a connection or a thread could not be had. `--help` and `--version`, each alone, write their text (status 0). Other words are no command's: the usage is
-/// written (status 5). A source that could not be read is status 2, and so is a folder of the outside; a sink that could
-/// not be written is 3, and 4 is that memory ran out.
-pub fn run<
-    R: Threads + Wait + Clone + Drop + Send + Sync + 'static,
-    S: Source,
-    K: Sink,
-    O: Outside,
->(rt: &R, alloc: Global, words: &Words, source: &mut S, sink: &mut K, outside: &mut O) -> u8
+/// - `replay` plays the script on the source and writes its report to the sink.
+/// - `check` reads the StateEvent on the source and writes its one written form and LF. If the input is none, it writes
+///   `refused AT` with the place of the first fault, in bytes from 0. With the status 6 it writes `error limit`.
+/// - `scan FOLDER` scans the folder once. It writes each row of its catalog and LF, and `refused PATH` and LF for each file that
+///   was refused, in ascending order of their paths. With the status 6 it writes `error limit`.
+/// - `serve PORT FOLDER REQUESTS` listens at the port, in decimal below 65,536. It answers `REQUESTS` connections over HTTP, a
+///   number below 2^32. It writes `serving PORT` at the start and `served REQUESTS scans A refused B memory C` at the end.
+/// - `--help` and `--version`, each alone, write their text.
+/// - Other words are no command's, and the usage is written.
+///
+/// The statuses:
+/// - 0: the command did this.
+/// - 1: a line of the script is outside the grammar.
+/// - 2: the source could not be read, or a folder of the outside.
+/// - 3: the sink could not be written.
+/// - 4: memory ran out.
+/// - 5: the words are no command's.
+/// - 6: the script or a line of it is too long; or the input of `check` has more than 67,108,864 bytes without a fault before; or
+///   a path that `scan` found has too many names or bytes, or its folder too many entries or objects.
+/// - 7: `serve` could not have the port, a connection or a thread.
+/// - 8: the input of `check` is no StateEvent.
+pub fn run<R: Runtime, S: Source, K: Sink, O: Outside>(
+    rt: &R,
+    alloc: Global,
+    words: &Words,
+    source: &mut S,
+    sink: &mut K,
+    outside: &mut O,
+) -> u8
 where
     <O::D as Door>::Conn: Send,
     <O::F as Folder>::File: Send,
     // What was written is exactly the report of the script, up to its end, its broken line or its limit.
-    ensures report { command_of words.now ≡ Some Replay → Told (S.left source.old)
-        (λ bytes. Told (K.holds sink.old) (λ before. Writes result (script_ending bytes).text before (K.holds sink.new))) }
-    ensures status { command_of words.now ≡ Some Replay → Told (S.left source.old) (λ bytes. Ends result (script_ending bytes).status) }
-    ensures read_to_its_end { TakesInput (command_of words.now) → Told (S.left source.old) (λ bytes. result ≡ 0 → S.left source.new ≡ Some []) }
+    ensures report { command_of words.now ≡ Some Replay → Told (S.told source.old).left
+        (λ bytes. Told (K.told sink.old).holds (λ before. Writes result (script_ending bytes).text before (K.told sink.new).holds)) }
+    ensures status { command_of words.now ≡ Some Replay → Told (S.told source.old).left (λ bytes. Ends result (script_ending bytes).status) }
+    ensures read_to_its_end { TakesInput (command_of words.now) → Told (S.told source.old).left (λ bytes. result ≡ 0 → (S.told source.new).left ≡ Some []) }
 
-    // The limit of an input, by the number of bytes that the source moved: however the program ends, it took at most one byte
+    // The limit of an input, by the number of bytes that the source moved. However the program ends, it took at most one byte
     // more than an input may have.
-    ensures within_limit { TakesInput (command_of words.now) → result ≡ 0 → S.moved source.new ≤ raised (S.moved source.old) INPUT_LIMIT }
-    ensures taken { S.moved source.new ≤ S.moved source.old + (INPUT_LIMIT + 1) }
-    ensures past_limit { TakesInput (command_of words.now) → result ≡ 6 → raised (S.moved source.old) (line_limit + 1) ≤ S.moved source.new }
-    ensures past_check_limit { command_of words.now ≡ Some Check → result ≡ 6 → raised (S.moved source.old) (INPUT_LIMIT + 1) ≤ S.moved source.new }
+    ensures within_limit { TakesInput (command_of words.now) → result ≡ 0 → (S.told source.new).moved ≤ raised (S.told source.old).moved INPUT_LIMIT }
+    ensures taken { (S.told source.new).moved ≤ (S.told source.old).moved + (INPUT_LIMIT + 1) }
+    ensures past_limit { TakesInput (command_of words.now) → result ≡ 6 → raised (S.told source.old).moved (line_limit + 1) ≤ (S.told source.new).moved }
+    ensures past_check_limit { command_of words.now ≡ Some Check → result ≡ 6 → raised (S.told source.old).moved (INPUT_LIMIT + 1) ≤ (S.told source.new).moved }
 
-    // What was written is what the script's turns write, one after the other, and then its last line. Each ask of these
-    // turns that writes `behind load` comes before any load was begun, or after fewer reads than a load of the catalog takes,
-    // and two more, since the load began, a first note dropped the copy, or the catalog last changed.
-    ensures turns { command_of words.now ≡ Some Replay → Told (S.left source.old) (λ bytes. Told (K.holds sink.old)
-        (λ before. Writes result (report_of (script_turns bytes) ++ (script_stop bytes).text) before (K.holds sink.new))) }
-    ensures load_bound { command_of words.now ≡ Some Replay → Told (S.left source.old) (λ bytes. BoundsLoads (script_turns bytes)) }
+    // What was written is what the script's turns write, one after the other, and then its last line. If an ask of these turns
+    // writes `behind load`, no load was begun before it, or few reads were answered since. They are fewer than a load of the
+    // catalog takes, and two more. They count since the load began, a first note dropped the copy, or the catalog last changed.
+    ensures turns { command_of words.now ≡ Some Replay → Told (S.told source.old).left (λ bytes. Told (K.told sink.old).holds
+        (λ before. Writes result (report_of (script_turns bytes) ++ (script_stop bytes).text) before (K.told sink.new).holds)) }
+    ensures load_bound { command_of words.now ≡ Some Replay → Told (S.told source.old).left (λ bytes. BoundsLoads (script_turns bytes)) }
 
-    // Each ask of these turns that writes `stands` and a number writes a scan end of the scans that were accepted by then, and
-    // after it the rows of the catalog after the scans up to this one.
-    ensures stands { command_of words.now ≡ Some Replay → Told (S.left source.old) (λ bytes. StandsAtScanEnds (script_turns bytes)) }
+    // Each ask of these turns that writes `stands` and a number writes a scan end of the scans that were accepted by then. After
+    // it come the rows of the catalog after the scans up to this one.
+    ensures stands { command_of words.now ≡ Some Replay → Told (S.told source.old).left (λ bytes. StandsAtScanEnds (script_turns bytes)) }
 
-    // The answer is complete: an ask of these turns writes the server's number and the catalog after all scans where a load
-    // was begun, the subscription that was accepted last lives, each note that was sent to it was delivered and none of them
-    // answered `full`, no change waits for its release, and a read wrote `read none` since the last load, acceptance and delivery.
-    ensures complete { command_of words.now ≡ Some Replay → Told (S.left source.old) (λ bytes. AnswersAreComplete (script_turns bytes)) }
+    // The answer is complete: an ask of these turns writes the server's number and the catalog after all scans, if this holds
+    // before. A load was begun, and the subscription that was accepted last lives. Each note that was sent to it was delivered,
+    // at least once so that the answer was not `full`. No change waits for its release. A read wrote `read none` since the last
+    // load, acceptance and delivery.
+    ensures complete { command_of words.now ≡ Some Replay → Told (S.told source.old).left (λ bytes. AnswersAreComplete (script_turns bytes)) }
 
-    // What `check` wrote is the one written form of the events that the input is and LF, where it is a StateEvent; else the place
-    // of its first fault, or that it is too long.
-    ensures check { command_of words.now ≡ Some Check → Told (S.left source.old)
-        (λ bytes. Told (K.holds sink.old) (λ before. WritesCheck bytes result before (K.holds sink.new))) }
-    ensures check_status { command_of words.now ≡ Some Check → Told (S.left source.old) (λ bytes. EndsCheck bytes result) }
+    // What `check` wrote is the one written form of the events that the input is and LF, if it is a StateEvent. Otherwise it is
+    // the place of its first fault, or that it is too long.
+    ensures check { command_of words.now ≡ Some Check → Told (S.told source.old).left
+        (λ bytes. Told (K.told sink.old).holds (λ before. WritesCheck bytes result before (K.told sink.new).holds)) }
+    ensures check_status { command_of words.now ≡ Some Check → Told (S.told source.old).left (λ bytes. EndsCheck bytes result) }
 
-    // What `scan` wrote is the catalog of one scan of the folder from the first number 0, and the files that were refused, where
-    // the scan came to the end of the folder's tree; else that it stopped at an entry. The outside was asked for this folder
-    // alone, which came back with all its files.
-    ensures scan { command_of words.now ≡ Some Scan → Told (K.holds sink.old)
-        (λ before. WritesScan (O.ended outside.old) (O.ended outside.new) result before (K.holds sink.new)) }
-    ensures scan_status { command_of words.now ≡ Some Scan → EndsScan (O.ended outside.old) (O.ended outside.new) result }
-    ensures scan_asks { command_of words.now ≡ Some Scan → AsksFor (folder_in words.now) (O.asked outside.old) (O.asked outside.new) }
-    ensures scan_back { command_of words.now ≡ Some Scan → GivesBack (O.ended outside.old) (O.ended outside.new) }
+    // If the scan came to the end of the folder's tree, `scan` wrote its catalog from the first number 0, and the files that were
+    // refused. Otherwise it wrote that the scan stopped at an entry. The outside was asked for
+    // this folder alone, which came back with all its files.
+    ensures scan { command_of words.now ≡ Some Scan → Told (K.told sink.old).holds
+        (λ before. WritesScan (O.told outside.old).ended (O.told outside.new).ended result before (K.told sink.new).holds) }
+    ensures scan_status { command_of words.now ≡ Some Scan → EndsScan (O.told outside.old).ended (O.told outside.new).ended result }
+    ensures scan_asks { command_of words.now ≡ Some Scan → AsksFor (folder_in words.now) (O.told outside.old).asked (O.told outside.new).asked }
+    ensures scan_back { command_of words.now ≡ Some Scan → GivesBack (O.told outside.old).ended (O.told outside.new).ended }
 
-    // `serve` ends by its causes: with 0 both lines are written, its doors gave as many connections as were asked for, and its
+    // `serve` ends by its causes. With 0 both lines are written, its doors gave as many connections as were asked for, and its
     // spawner started six jobs. It may wait.
     ensures serve { (port requests : ℕ) → command_of words.now ≡ Some (Serve port requests) →
         EndsLife port (place_in words.now) requests result
-        (record {
-          faults = O.faults outside.old;
-          asked = O.asked outside.old;
-          connections = O.connections outside.old;
-          started = O.started outside.old;
-          sink_faults = K.faults sink.old;
-          holds = K.holds sink.old;
-        })
-        (record {
-          faults = O.faults outside.new;
-          asked = O.asked outside.new;
-          connections = O.connections outside.new;
-          started = O.started outside.new;
-          sink_faults = K.faults sink.new;
-          holds = K.holds sink.new;
-        }) }
+        (record { outside = O.told outside.old; sink = K.told sink.old })
+        (record { outside = O.told outside.new; sink = K.told sink.new }) }
 
     // Only `scan` hands a folder back to the outside, and no command a link, whose faults would count as the outside's.
-    ensures folders_stay { command_of words.now ≢ Some Scan → O.ended outside.new ≡ O.ended outside.old }
-    ensures links_stay { O.ended_links outside.new ≡ O.ended_links outside.old }
+    ensures folders_stay { command_of words.now ≢ Some Scan → (O.told outside.new).ended ≡ (O.told outside.old).ended }
+    ensures links_stay { (O.told outside.new).ended_links ≡ (O.told outside.old).ended_links }
 
-    // Faults of the outside come only where their count rose.
-    ensures read_fault { TakesInput (command_of words.now) → result ≡ 2 → Rose (S.faults source.old) (S.faults source.new) }
-    ensures outside_fault { command_of words.now ≡ Some Scan → result ≡ 2 → Rose (O.faults outside.old) (O.faults outside.new) }
-    ensures service_fault { result ≡ 7 → Rose (O.faults outside.old) (O.faults outside.new) }
-    ensures write_fault { result ≡ 3 → Rose (K.faults sink.old) (K.faults sink.new) }
+    // Faults of the outside come only if their count rose.
+    ensures read_fault { TakesInput (command_of words.now) → result ≡ 2 → Rose (S.told source.old).faults (S.told source.new).faults }
+    ensures outside_fault { command_of words.now ≡ Some Scan → result ≡ 2 → Rose (O.told outside.old).faults (O.told outside.new).faults }
+    ensures service_fault { result ≡ 7 → Rose (O.told outside.old).faults (O.told outside.new).faults }
+    ensures write_fault { result ≡ 3 → Rose (K.told sink.old).faults (K.told sink.new).faults }
 
     // The other commands, and words that are no command's, write one text and take nothing of the source.
-    ensures help { command_of words.now ≡ Some Help → EndsText result 0 × Told (K.holds sink.old)
-        (λ before. WritesText result help_text before (K.holds sink.new)) }
-    ensures version { command_of words.now ≡ Some Version → EndsText result 0 × Told (K.holds sink.old)
-        (λ before. WritesText result version_text before (K.holds sink.new)) }
-    ensures usage { command_of words.now ≡ None → EndsText result 5 × Told (K.holds sink.old)
-        (λ before. WritesText result usage_text before (K.holds sink.new)) }
+    ensures help { command_of words.now ≡ Some Help → EndsText result 0 × Told (K.told sink.old).holds
+        (λ before. WritesText result help_text before (K.told sink.new).holds) }
+    ensures version { command_of words.now ≡ Some Version → EndsText result 0 × Told (K.told sink.old).holds
+        (λ before. WritesText result version_text before (K.told sink.new).holds) }
+    ensures usage { command_of words.now ≡ None → EndsText result 5 × Told (K.told sink.old).holds
+        (λ before. WritesText result usage_text before (K.told sink.new).holds) }
     ensures untouched { (TakesInput (command_of words.now) → ⊥) → source.new ≡ source.old }
     ensures outside_untouched { command_of words.now ≢ Some Scan → (Serves (command_of words.now) → ⊥) → outside.new ≡ outside.old }
 

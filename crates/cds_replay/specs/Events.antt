@@ -1,5 +1,5 @@
--- Requests about a script's subscriptions and their replies, and the requests that carry notes, as bytes (UPnP Device Architecture 2.0
--- on eventing).
+-- Requests about a script's subscriptions and their replies, and the requests that carry notes, as bytes (UPnP Device
+-- Architecture 2.0 on eventing).
 use Rattle.std.specs.Prelude.{◌≡◌, ℕ, false, List, [], ◌∷◌, codes, Option, Some, None}
 use Rattle.url.specs.Parts.{Parts}
 use Rattle.url.specs.declared.host.Host.TheVariants.{Ipv4}
@@ -32,23 +32,23 @@ local_url port path = record {
   fragment = None;
 }
 
--- where a script's server is asked
+-- the URL at which a script's server takes control requests
 abbrev pub control_url : Parts
 control_url = local_url 49152 (codes "/control")
 
--- where it is asked about subscriptions, and where the notes to its replica go
+-- the URL at which it takes requests about subscriptions, and the URL to which the notes to its replica go
 abbrev pub event_url : Parts
 event_url = local_url 49152 (codes "/event")
 
 abbrev pub callback_url : Parts
 callback_url = local_url 49153 (codes "/notify")
 
--- bytes are one message of a side, whole and with nothing behind it
+-- bytes are one message of a side, whole and with nothing after it
 abbrev pub IsMessage : Side → List ℕ → Type 0
 IsMessage side bytes = (m : Message) × Decides false side bytes (Whole m [])
 
--- a server that stood for commands answered the bytes of a request, which are a message, at a moment: what it replied and accepted,
--- and the first note, are those of the message
+-- a server that stood for commands answered the bytes of a request at a moment. The bytes are one message; the reply, the command
+-- and the first note are those of the message
 pub record IsAnswered (start : Start) (commands : List Command) (now : ℕ) (request old new : List ℕ) (note : Option FirstNote) (after : Serving) : Type 0 where
   pub message : Message
   pub whole : Decides false Request request (Whole message [])
@@ -57,14 +57,14 @@ pub record IsAnswered (start : Start) (commands : List Command) (now : ℕ) (req
   pub noted : note ≡ note_at start commands now message
   pub goes : GoesOut note
 
--- bytes are a reply with a status, or with some
+-- bytes are a reply with this status; or with some status
 abbrev pub HasStatus : List ℕ → ℕ → Type 0
 HasStatus reply status = (m : Message) × Decides false Reply reply (Whole m []) × (m.start ≡ of_reply status)
 
 abbrev pub HasSomeStatus : List ℕ → Type 0
 HasSomeStatus reply = (status : ℕ) × HasStatus reply status
 
--- bytes are a reply that grants this
+-- bytes are a reply that grants this lease, or none
 abbrev pub HasLease : List ℕ → Option Lease → Type 0
 HasLease reply lease = (m : Message) × Decides false Reply reply (Whole m []) × (lease ≡ lease_in m)
 
@@ -82,7 +82,7 @@ pub record IsAsked (start : Start) (commands : List Command) (now : ℕ) (reques
   pub answered : IsAnswered start commands now request [] reply note after
   pub has : HasStatus reply status
 
--- bytes are the request that carries a note, under the name that it has there; or some note
+-- bytes are the request that carries this note, under the name that it has there; or some note
 pub record IsNoteRequest (request : List ℕ) (note : Note) : Type 0 where
   pub message : Message
   pub whole : Decides false Request request (Whole message [])

@@ -24,7 +24,7 @@ use Rattle.cds_replay.specs.Sending.{SentNote, head_of}
 abbrev pub numbered_line : List ℕ → ℕ → List ℕ
 numbered_line word number = word ++ decimal number ++ codes "\n"
 
--- the line of what a scan was answered; none where memory ran out
+-- the line that answers a scan; empty if memory ran out
 abbrev pub scan_line : Result Span ApplyError → List ℕ
 scan_line (Ok span) = numbered_line (codes "scan ") span.to
 scan_line (Err (BadRecords line)) = numbered_line (codes "scan bad ") line
@@ -61,7 +61,7 @@ known_text (Stands number) rows = stands_text number rows
 abbrev pub note_line : ℕ → SentHead → List ℕ
 note_line number head = codes "note " ++ decimal number ++ codes " seq " ++ decimal head.seq ++ numbered_line (codes " at ") head.number
 
--- the word of what became of a note; none where memory ran out, or where it was refused as none of a script is
+-- the word of what became of a note; empty if memory ran out, or if the replica refused its changes, as it does none in a script
 abbrev pub taken_text : Result Taken NotifyError → List ℕ
 taken_text (Ok Took) = codes "took"
 taken_text (Ok Repeat) = codes "repeat"
@@ -77,7 +77,7 @@ taken_text (Err NoMemory) = []
 abbrev pub delivered_line : ℕ → Result Taken NotifyError → List ℕ
 delivered_line number answer = codes "deliver " ++ decimal number ++ codes " " ++ taken_text answer ++ codes "\n"
 
--- the rows of a copy of which it is known what they say
+-- the rows of a copy that are known: it is known what they say
 abbrev pub known_rows : List KeptRow → List ObjectRow
 known_rows rows = filter_map shown_row (map (λ (kept : KeptRow). kept.row) rows)
 

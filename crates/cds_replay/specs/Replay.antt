@@ -9,7 +9,7 @@ use Rattle.cds_replay.specs.declared.script.Stop.TheVariants.{Outside, Limit as 
 use Rattle.cds_replay.specs.declared.play.ReplayError.{ReplayError}
 use Rattle.cds_replay.specs.declared.play.ReplayError.TheVariants.{Line, ReadFault, WriteFault, Limit, Refused, Mem}
 
--- what holds where a line was outside the grammar, by its number
+-- what holds if a line was outside the grammar, by its number
 abbrev pub OnLine : ReplayError → (ℕ → Type 0) → Type 0
 OnLine (Line line) P = P line
 OnLine ReadFault P = Unit {0}
@@ -18,7 +18,7 @@ OnLine Limit P = Unit {0}
 OnLine (Refused line) P = Unit {0}
 OnLine Mem P = Unit {0}
 
--- what holds where the replica refused what a line gave it, by the line's number
+-- what holds if the replica refused what a line gave it, by the line's number
 abbrev pub OnRefused : ReplayError → (ℕ → Type 0) → Type 0
 OnRefused (Line line) P = Unit {0}
 OnRefused ReadFault P = Unit {0}
@@ -27,7 +27,7 @@ OnRefused Limit P = Unit {0}
 OnRefused (Refused line) P = P line
 OnRefused Mem P = Unit {0}
 
--- what holds where a limit was passed
+-- what holds if a limit was passed
 abbrev pub OnLimit : ReplayError → Type 0 → Type 0
 OnLimit (Line line) P = Unit {0}
 OnLimit ReadFault P = Unit {0}
@@ -36,7 +36,7 @@ OnLimit Limit P = P
 OnLimit (Refused line) P = Unit {0}
 OnLimit Mem P = Unit {0}
 
--- what holds where a read failed
+-- what holds if a read failed
 abbrev pub OnReadFault : ReplayError → Type 0 → Type 0
 OnReadFault (Line line) P = Unit {0}
 OnReadFault ReadFault P = P
@@ -45,7 +45,7 @@ OnReadFault Limit P = Unit {0}
 OnReadFault (Refused line) P = Unit {0}
 OnReadFault Mem P = Unit {0}
 
--- what holds where a write failed
+-- what holds if a write failed
 abbrev pub OnWriteFault : ReplayError → Type 0 → Type 0
 OnWriteFault (Line line) P = Unit {0}
 OnWriteFault ReadFault P = Unit {0}
@@ -54,7 +54,7 @@ OnWriteFault Limit P = Unit {0}
 OnWriteFault (Refused line) P = Unit {0}
 OnWriteFault Mem P = Unit {0}
 
--- what a sink holds after a text, where it tells what it held before
+-- a sink holds what it held before and then this text, if it tells what it held before
 abbrev pub Holds : Option (List ℕ) → List ℕ → Option (List ℕ) → Type 0
 Holds before text after = Told before (λ held. after ≡ Some (held ++ text))
 
@@ -74,8 +74,8 @@ pub record Played (carried : List ℕ → List ℕ) (before written piece : List
   pub goes : GoesOn carried script (before ++ piece) (written ++ added)
   pub holds : Holds held added after
 
--- a script ends with these bytes, of which the first wrote this before: with a refusal or none, a status, and what it writes besides,
--- with this at its end, is in the sink
+-- a script ends with these bytes, and a prefix of them wrote this before. It ends with a refusal or none, and a status. What it
+-- writes besides, which ends with this, is in the sink
 pub record Closes (carried : List ℕ → List ℕ) (bytes written : List ℕ) (refused : Option ℕ) (status : ℕ) (last : List ℕ) (held after : Option (List ℕ)) : Type 0 where
   pub ending : WiredEnding
   pub is : EndsOver carried bytes ending
@@ -107,7 +107,7 @@ answer_of (Some (Outside line)) = Err (Line line)
 answer_of (Some PastLimit) = Err Limit
 answer_of (Some (RefusedAt line)) = Err (Refused line)
 
--- a replay under way: a front of the bytes was taken and what they wrote is in the sink, and its source tells that the others are left
+-- a replay under way: a prefix of the bytes was taken, and what it wrote is in the sink. The source tells that the rest is left
 pub record Under (carried : List ℕ → List ℕ) (whole : List ℕ) (told held after : Option (List ℕ)) (script : Script) : Type 0 where
   pub front : List ℕ
   pub bytes : List ℕ

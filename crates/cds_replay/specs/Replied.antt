@@ -27,18 +27,19 @@ pub record AreReplied (start : Start) (commands : List Command) (now : ℕ) (req
   pub replied : IsReply start commands now message reply
   pub has : HasStatus reply status
 
--- the reply to an ask, where what the server has is plain, is its reply to the message of the ask's request, and it has no other
+-- if what the server has is plain, the reply to an ask is the server's reply to the message of the ask's request. That message
+-- has no other reply
 abbrev pub asks_are_replied : Type 0
 asks_are_replied = (first now : ℕ) (commands : List Command) (ask : Ask) (m : Message) (reply : List ℕ) →
     IsPlainMoment (moment_after script_token first commands) → IsInRange ask → Decides false Request (written_action (action_of ask) control_url) (Whole m []) →
     IsReply (script_start first) commands now m reply ↔ (reply ≡ server_reply (moment_after script_token first commands) ask)
 
--- a subscribe request gets 200 exactly where there is room, and else 503
+-- a subscribe request gets 200 if there is room, and otherwise 503
 abbrev pub subscriptions_are_replied : Type 0
 subscriptions_are_replied = (first now : ℕ) (commands : List Command) → granted commands + 1 < 2 ^ 32 →
     AreReplied (script_start first) commands now (subscribe_text event_url callback_url) (cond (has_room now commands (notes_of first commands)) 200 503)
 
--- a renewal and an end get 200 exactly where the subscription lives, and else 412
+-- a renewal and a request to end get 200 if the subscription lives, and otherwise 412
 abbrev pub renewals_are_replied : Type 0
 renewals_are_replied = (first now name : ℕ) (commands : List Command) → granted commands < 2 ^ 32 → script_names name < 2 ^ 128 →
     AreReplied (script_start first) commands now (renewal_text event_url (script_names name)) (cond (lives name first now commands) 200 412)

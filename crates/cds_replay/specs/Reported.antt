@@ -1,5 +1,5 @@
--- What a script over a wire comes to: its steps are the turns of its first lines, each read as the wire left its reply, and its report is
--- what they write, one after the other, and a last line.
+-- What a script over a wire comes to. Its steps are the turns of its first lines, each read as the wire left its reply. Its
+-- report is what they write, one after the other, and then a last line.
 use Rattle.std.specs.Prelude.{◌≡◌, ◌⊎◌, ℕ, true, false, List, [], ◌∷◌, ◌++◌, take, Option, Some, None}
 use Rattle.cds_script.specs.Played.{script_lines, turns_of}
 use Rattle.cds_script.specs.Report.{Ending, written_first, outside_ending, limit_ending, script_ending}
@@ -11,7 +11,7 @@ abbrev pub written_of : List Step → List ℕ
 written_of [] = []
 written_of (step ∷ older) = written_of older ++ written_on older step
 
--- of steps of which the replica refused the newest, or none, those that it did not refuse
+-- the steps that the replica did not refuse, among steps of which it refused the newest or none
 abbrev pub taken_of : Option ℕ → List Step → List Step
 taken_of None steps = steps
 taken_of (Some line) [] = []
@@ -22,14 +22,14 @@ abbrev pub AreTaken : List Step → Type 0
 AreTaken [] = Unit {0}
 AreTaken (step ∷ older) = (may_stand_by older step.turn ≡ true) × (refuses older step ≡ false) × AreTaken older
 
--- so each, or each but the newest, which may stand and is refused
+-- so each; or each except the newest, which may stand and is refused
 abbrev pub AreTakenBut : Option ℕ → List Step → Type 0
 AreTakenBut None steps = AreTaken steps
 AreTakenBut (Some line) [] = ⊥
 AreTakenBut (Some line) (step ∷ older) = (may_stand_by older step.turn ≡ true) × (refuses older step ≡ true) × AreTaken older
 
--- the status of a script and its last line: it comes to its end with 0 and no such line, a line is outside the grammar, or a limit is
--- passed; where a line is refused it has none of its own
+-- the status of a script and its last line. It comes to its end with 0 and no such line, a line is outside the grammar, or a
+-- limit is passed. If a line is refused, it has none of its own
 abbrev pub ends_well : Ending
 ends_well = record { status = 0; text = [] }
 

@@ -11,8 +11,8 @@ use Rattle.cds_replay.specs.declared.script.Script.{Script}
 use Rattle.cds_replay.specs.declared.script.Stop.{Stop}
 use Rattle.cds_replay.specs.declared.script.Stop.TheVariants.{Outside, Limit, Refused}
 
--- the status of a script that stops before its last byte. A refusal by the replica is no status of a script's: 0 stands for none, and the
--- line's number in `refused` says why it stops
+-- the status of a script that stops before its last byte. A refusal by the replica is no status of a script's: 0 stands for none,
+-- and the line's number in `refused` says why it stops
 abbrev pub stop_status : Stop → ℕ
 stop_status (Outside line) = 1
 stop_status Limit = 6
@@ -24,7 +24,7 @@ stop_text (Outside line) = codes "error line " ++ decimal line ++ codes "\n"
 stop_text Limit = codes "error limit\n"
 stop_text (Refused line) = []
 
--- and the line of which the replica refused what it gave
+-- and the line that gave what the replica refused, if it refused something
 abbrev pub stop_refused : Stop → Option ℕ
 stop_refused (Outside line) = None
 stop_refused Limit = None
@@ -46,8 +46,8 @@ pub record Sound (carried : List ℕ → List ℕ) (script : Script) : Type 0 wh
   pub played : IsPlayed carried script.session
   pub lines : script.line + script.room ≤ script_limit + 1
 
--- how a script goes on whose bytes so far wrote this: they are those before its last line, and what has come of that line; its session
--- stands for some steps, and the last line and what comes after it are still to be taken
+-- how a script goes on whose bytes so far wrote this: they are those before its last line, and what has come of that line. Its
+-- session stands for some steps, and the last line and what comes after it are still to be taken
 pub record GoesOn (carried : List ℕ → List ℕ) (script : Script) (before written : List ℕ) : Type 0 where
   pub front : List ℕ
   pub parts : before ≡ front ++ script.partial.items
@@ -62,8 +62,8 @@ pub record Went (carried : List ℕ → List ℕ) (before written piece old new 
   pub goes : GoesOn carried script (before ++ piece) (written ++ added)
   pub out : new ≡ old ++ added
 
--- a script ends with these bytes, of which the first wrote this before: with a refusal or none, a status, and what was added to the
--- text, and this at its end
+-- a script ends with these bytes, and a prefix of them wrote this before: with a refusal or none, a status, and what was added to
+-- the text, which ends with this
 pub record EndsAt (carried : List ℕ → List ℕ) (bytes written : List ℕ) (refused : Option ℕ) (status : ℕ) (last old new : List ℕ) : Type 0 where
   pub ending : WiredEnding
   pub is : EndsOver carried bytes ending
@@ -91,14 +91,14 @@ abbrev pub WhileGoing : Option Stop → Type 0 → Type 0
 WhileGoing None P = P
 WhileGoing (Some stop) P = Unit {0}
 
--- what holds where a script stopped at a limit
+-- what holds if a script stopped at a limit
 abbrev pub AtLimit : Option Stop → Type 0 → Type 0
 AtLimit None P = Unit {0}
 AtLimit (Some (Outside line)) P = Unit {0}
 AtLimit (Some Limit) P = P
 AtLimit (Some (Refused line)) P = Unit {0}
 
--- and where the replica refused what a line gave it
+-- and if the replica refused what a line gave it
 abbrev pub AtRefusal : Option Stop → Type 0 → Type 0
 AtRefusal None P = Unit {0}
 AtRefusal (Some (Outside line)) P = Unit {0}

@@ -10,7 +10,7 @@ use Rattle.cds_server.specs.declared.notes.Notes.{Notes}
 use Rattle.cds_replay.specs.declared.sent.KeptNote.{KeptNote}
 use Rattle.cds_replay.specs.declared.sent.SentHead.{SentHead}
 
--- a note that was sent: where it goes, the number that it tells, and its body
+-- a note that was sent: the address that it goes to, the number that it tells, and its body
 pub record SentNote : Type 0 where
   pub to : Address
   pub number : ℕ
@@ -20,7 +20,7 @@ pub record SentNote : Type 0 where
 abbrev pub note_at : List (List ℕ) → KeptNote → SentNote
 note_at bodies kept = record { to = kept.to; number = kept.number; body = unwrap_or (slice_get bodies kept.body) [] }
 
--- its body is one of so many, and it can be delivered
+-- its body is one of this many, and it can be delivered
 pub record IsKept (bodies : ℕ) (kept : KeptNote) : Type 0 where
   pub body : kept.body < bodies
   pub delivered : IsDelivered kept.to
@@ -36,12 +36,12 @@ kept_note number body to = record { to = to; number = number; body = body }
 abbrev pub sent_to : ℕ → List ℕ → Address → SentNote
 sent_to number body to = record { to = to; number = number; body = body }
 
--- the notes of a tick, where it sends some
+-- the notes of a tick, if it sends some
 abbrev pub sent_notes : Option Notes → List SentNote
 sent_notes None = []
 sent_notes (Some notes) = map (sent_to notes.span.to notes.body) notes.to
 
--- the first note of a subscription, where one was granted, which tells a number
+-- the first note of a subscription, if one was granted; it tells a number
 abbrev pub first_sent : ℕ → Option FirstNote → List SentNote
 first_sent number None = []
 first_sent number (Some note) = sent_to number note.body note.to ∷ []
@@ -58,7 +58,7 @@ sent_of number notes = cond (nat_eq number 0) None (slice_get notes (number - 1)
 abbrev pub carries : Address → List ℕ → List ℕ → Type 0
 carries to body request = IfSome (url_in to.callback) (λ url. request ≡ notify_text url to body)
 
--- or a note, where there is one
+-- or a note, if there is one
 abbrev pub is_request_of : Option SentNote → Option (List ℕ) → Type 0
 is_request_of None request = request ≡ None
 is_request_of (Some note) None = ⊥

@@ -33,8 +33,8 @@ use Rattle.cds_replica.specs.Replies.{IsNextReading}
 use Rattle.cds_script.specs.declared.reply.HeldReply.{HeldReply}
 use Rattle.cds_script.specs.declared.reply.HeldReply.TheVariants.{NoReply, Named, Refusal}
 
--- what a session has: the server, the replica, the notes that were sent, what was found since the last scan, the current moment, the
--- bytes of the reply to a subscribe request that is held back, and what the last turn was
+-- what a session has: the server, the replica, the notes that were sent, what was found since the last scan, the current moment;
+-- the bytes of the reply to a subscribe request that is held back; and what the last turn was
 pub record Playing : Type 0 where
   pub server : Serving
   pub replica : ReplicaState
@@ -68,7 +68,7 @@ pub record Telling : Type 0 where
 abbrev pub all_telling : List (ℕ × ℕ) → List Note → List Telling
 all_telling containers notes = map (λ (note : Note). record { note = note; containers = containers }) notes
 
--- the containers that the notes of a command tell: those of the release, where a tick makes one; a first note tells none
+-- the containers that the notes of a command tell: those of the release, if a tick makes one; a first note tells none
 abbrev pub release_tells : History → Option Release → List (ℕ × ℕ)
 release_tells history None = []
 release_tells history (Some release) = released_containers history release
@@ -85,8 +85,8 @@ abbrev pub tellings_of : ℕ → List Command → List Telling
 tellings_of first [] = []
 tellings_of first (command ∷ older) = tellings_of first older ++ tellings_by first older command
 
--- a note that was sent, as it goes over the wire: to the callback of a script, under the name and the SEQ of the note, with a body that
--- tells its number, its changes, and these containers
+-- a note that was sent, as it goes over the wire: to the callback of a script, under the name and the SEQ of the note. Its body
+-- tells the number of the note, its changes, and these containers
 pub record IsSentAs (sent : SentNote) (note : Note) (containers : List (ℕ × ℕ)) : Type 0 where
   pub to : sent.to ≡ record { sid = record { 0 = script_names note.name }; callback = script_callback; seq = note.seq }
   pub number : sent.number ≡ note.number
@@ -112,8 +112,8 @@ IsHeldAs (Some reply) NoReply = ⊥
 IsHeldAs (Some reply) (Named name) = (reply ≡ lease_reply (script_names name) granted_seconds) × (name < 2 ^ 32)
 IsHeldAs (Some reply) Refusal = reply ≡ empty_reply 503
 
--- whether a session stands for steps, the newest first: its server for the commands that were accepted, its replica for the replica's
--- turns, under the names on the wire, and what was sent and is held back for the notes and the reply
+-- whether a session stands for steps, the newest first. Its server stands for the commands that were accepted, and its replica
+-- for the replica's turns, under the names on the wire. What was sent and what is held back are the notes and the reply
 pub record IsAfter (playing : Playing) (steps : List Step) : Type 0 where
   pub may : MayBeBy steps
   pub server : ServerStandsFor playing.server (script_start (first_of (turns_in steps))) (played_by steps).commands
@@ -163,13 +163,13 @@ QuietTaken older turn old new playing (Ok done) = StepTaken older (quiet turn) o
 QuietTaken older turn old new playing (Err Refused) = StepRefused older (quiet turn) old new
 QuietTaken older turn old new playing (Err NoMemory) = Unit {0}
 
--- an answer that only want of memory stands in the way of, as the answer to a turn
+-- the answer of a call that fails only if memory runs out, as the answer to a turn
 abbrev pub of_memory : Result (Unit {0}) Mem → Result (Unit {0}) TurnError
 of_memory (Ok done) = Ok tt
 of_memory (Err none) = Err NoMemory
 
--- ---- what a replica is given in a turn: it takes it, and this is written, or it refuses it. The turns name subscriptions by the numbers
--- of their grants, and the replica by their names on the wire
+-- ---- what a replica is given in a turn: it takes it, and this is written, or it refuses it. The turns name subscriptions by the
+-- numbers of their grants, and the replica names them as on the wire
 
 -- the bytes of the reply to its next ask, which are read as something or as nothing
 pub record ReplyIsTaken (turns : List ReplicaTurn) (read : Option Shown) (old new : List ℕ) (replica : ReplicaState) : Type 0 where

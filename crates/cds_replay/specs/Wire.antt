@@ -1,4 +1,4 @@
--- A wire between a script's server and its replica: it leaves of each reply what it does, and the reads of the script are what the
+-- A wire between a script's server and its replica, which leaves of each reply what it does. The reads of the script are what the
 -- bytes that it left are read as (UPnP Device Architecture 2.0 on control; UPnP ContentDirectory:4).
 use Rattle.std.specs.Prelude.{◌≡◌, ◌⊎◌, ◌+◌, ℕ, Bool, true, false, cond, nat_lt, nat_le, List, [], ◌∷◌, ◌++◌, length, take, Option, Some, None, codes}
 use Rattle.std.specs.List.{AllByRecursion}
@@ -24,7 +24,7 @@ use Rattle.cds_script.specs.declared.turn.Turn.{Turn}
 use Rattle.cds_script.specs.declared.turn.Turn.TheVariants.{Read, Ask}
 use Rattle.cds_replay.specs.Wired.{Step, turns_in, played_by, moment_by, may_stand_by, refuses, written_on, MayBeBy}
 
--- where the bytes of tracks are, for whoever asks a script's server
+-- the URL that the bytes of tracks are under, for whoever asks a script's server
 abbrev pub script_base : List ℕ
 script_base = codes "http://127.0.0.1:49152"
 
@@ -39,7 +39,7 @@ abbrev pub IsLeftOf : (List ℕ → List ℕ) → Moment → Option Asked → Op
 IsLeftOf carried moment None read = read ≡ None
 IsLeftOf carried moment (Some ask) read = IsReading ask (carried (server_reply moment ask)) read
 
--- so with the next ask of the replica where a turn is a read; no other turn has a reply
+-- so with the next ask of the replica if a turn is a read; no other turn has a reply
 abbrev pub IsReadBy : (List ℕ → List ℕ) → List Step → Turn → Option Shown → Type 0
 IsReadBy carried older Read read = IsLeftOf carried (moment_by older) (next_ask (known_by (played_by older).replica)) read
 IsReadBy carried older turn read = read ≡ None
@@ -51,8 +51,9 @@ AreReadBy carried (step ∷ older) = IsReadBy carried older step.turn step.read 
 
 -- ---- how a script ends
 
--- the steps that it came to, the newest first, with the one that the replica refused; the number of that one's line; and the status
--- and all that was written, which for a refused line are no status, told as 0, and what the lines before it wrote
+-- the steps that it came to, the newest first, with the one that the replica refused; the number of that one's line; and the
+-- status and all that was written. If a line is refused there is no status, told as 0, and what was written is that of the lines
+-- before it
 pub record WiredEnding : Type 0 where
   pub steps : List Step
   pub refused : Option ℕ
@@ -70,7 +71,7 @@ refused_at steps number = record { steps = steps; refused = Some number; ending 
 abbrev pub wired_first : List ℕ → WiredEnding → WiredEnding
 wired_first text later = record { steps = later.steps; refused = later.refused; ending = written_first text later.ending }
 
--- where a test holds the first, else the second
+-- the first if a test holds, else the second
 abbrev pub Either : Bool → Type 0 → Type 0 → Type 0
 Either true P Q = P
 Either false P Q = Q
@@ -81,21 +82,22 @@ EndsAtStep older step number Later ending =
     Either (refuses older step) (ending ≡ refused_at (step ∷ older) number)
     ((later : WiredEnding) × Later (step ∷ older) later × (ending ≡ wired_first (written_on older step) later))
 
--- a turn may stand, and the reply to it is read as what the wire left of it, or its line is outside the grammar
+-- if a turn may stand, the reply to it is read as what the wire left of it; otherwise its line is outside the grammar
 abbrev pub EndsAtTurn : (List ℕ → List ℕ) → List Step → Turn → ℕ → (List Step → WiredEnding → Type 0) → WiredEnding → Type 0
 EndsAtTurn carried older turn number Later ending =
     Either (may_stand_by older turn)
     ((read : Option Shown) × IsReadBy carried older turn read × EndsAtStep older (record { turn = turn; read = read }) number Later ending)
     (ending ≡ unrefused older (outside_ending number))
 
--- how a script goes on at a line, by what it means: after these steps, at the line of this number, with what comes after further ones
+-- how a script goes on at a line, by what it means: after these steps, at the line of this number, with what comes after further
+-- ones
 abbrev pub EndsAtLine : (List ℕ → List ℕ) → List Step → Meaning → ℕ → (List Step → WiredEnding → Type 0) → WiredEnding → Type 0
 EndsAtLine carried steps Nothing number Later ending = Later steps ending
 EndsAtLine carried steps (Means turn) number Later ending = EndsAtTurn carried steps turn number Later ending
 EndsAtLine carried steps Outside number Later ending = ending ≡ unrefused steps (outside_ending number)
 
--- how a script ends after steps, where the first of the lines that are left has this number; the last part says whether the script
--- ends with these lines, or passes its limit
+-- how a script ends after steps; the first of the lines that are left has this number. The last part says whether the script ends
+-- with these lines, or passes its limit
 abbrev pub EndsFrom : (List ℕ → List ℕ) → List Step → ℕ → List (List ℕ) → Bool → WiredEnding → Type 0
 EndsFrom carried steps number [] whole ending = ending ≡ unrefused steps (cond whole (record { status = 0; text = [] }) limit_ending)
 EndsFrom carried steps number (line ∷ lines) whole ending =
@@ -106,7 +108,7 @@ EndsFrom carried steps number (line ∷ lines) whole ending =
 abbrev pub lines_in : ℕ → List ℕ → List (List ℕ)
 lines_in room bytes = cond (nat_le (length bytes) room) (lines_of bytes) (ended_lines (take room bytes))
 
--- how a script goes on after steps, at the line of this number, where so many bytes more may be taken
+-- how a script goes on after steps, at the line of this number, if this many more bytes may be taken
 abbrev pub EndsOf : (List ℕ → List ℕ) → List Step → ℕ → ℕ → List ℕ → WiredEnding → Type 0
 EndsOf carried steps number room bytes ending = EndsFrom carried steps number (lines_in room bytes) (nat_le (length bytes) room) ending
 
@@ -135,7 +137,7 @@ pub record WritesWhatWasLeft (steps : List Step) (number : ℕ) : Type 0 where
   pub text : written_on steps (record { turn = Ask; read = None }) ≡ codes "stands " ++ decimal number ++ codes "\n" ++ full_text rows
   pub left : AllByRecursion (λ row. WasLeft row steps) rows
 
--- each ask among steps does, where the replica stands
+-- each ask among steps does, if the replica stands
 abbrev pub AsksShow : List Step → Type 0
 AsksShow steps = (newer older : List Step) (read : Option Shown) (number : ℕ) → steps ≡ newer ++ record { turn = Ask; read = read } ∷ older →
     says (played_by older).replica ≡ Stands number → WritesWhatWasLeft older number

@@ -1,5 +1,5 @@
--- What turns lead to by what the replies to their reads were read as, whatever that is: the replica takes or refuses this, and all
--- else is played as in every script (this project's profile).
+-- What turns lead to by what the replies to their reads were read as, whatever that is. The replica takes or refuses this, and
+-- all else is played as in every script (this project's profile).
 use Rattle.std.specs.Prelude.{◌≡◌, ◌≤◌, ℕ, Bool, true, false, nat_lt, nat_le, ◌&&◌, List, [], ◌∷◌, length, Option, Some, None, codes}
 use Rattle.cds_object.specs.declared.record.Record.{Record}
 use Rattle.cds_load.specs.Server.{Moment}
@@ -30,7 +30,7 @@ turns_in (step ∷ older) = step.turn ∷ turns_in older
 
 -- ---- what steps lead to
 
--- the replica's turns after a read: what cannot be read is no turn, nor is what is refused; where nothing is asked no reply comes
+-- the replica's turns after a read. What is unreadable or refused is no turn. If nothing is asked, there is no reply
 abbrev pub and_read : Option Asked → Option Shown → List ReplicaTurn → List ReplicaTurn
 and_read None read turns = turns
 and_read (Some ask) read turns = and_shown read turns
@@ -62,14 +62,14 @@ refuses_read None read turns = false
 refuses_read (Some ask) None turns = true
 refuses_read (Some ask) (Some shown) turns = is_refused (Shows shown) turns
 
--- the name in the reply to its subscribe request, where the notes that came early for it tell what cannot be
+-- the name in the reply to its subscribe request, if the notes that came early for it tell what cannot be
 abbrev pub refuses_reply : HeldReply → List ReplicaTurn → Bool
 refuses_reply NoReply turns = false
 refuses_reply (Named name) turns = is_refused (Accepts name) turns
 refuses_reply Refusal turns = false
 
--- a note that is the next one, where it or those that follow it tell what cannot be. To a note of another name, and to one too
--- many, the replica has its answers
+-- a note that is the next one, if it or those that follow it tell what cannot be. To a note of another name, and to one too many,
+-- the replica has its answers
 abbrev pub refuses_arrival : Arrival → Outcome → Bool
 refuses_arrival IsUnknown outcome = false
 refuses_arrival IsRepeat outcome = false
@@ -94,13 +94,13 @@ refuses older step = refuses_turn step.read (first_of (turns_in older)) (played_
 
 -- ---- what steps write
 
--- a read: what was read, where it is taken
+-- a read: what was read, if it is taken
 abbrev pub read_text_by : Option Asked → Option Shown → List ℕ
 read_text_by None read = codes "read none\n"
 read_text_by (Some ask) None = []
 read_text_by (Some ask) (Some shown) = reply_text shown
 
--- an ask writes what the replica says, and where it stands the rows of its copy
+-- an ask writes what the replica says, and the rows of its copy if it stands
 abbrev pub written_read : Option Shown → ℕ → ℕ → List Record → Played → Turn → List ℕ
 written_read read first now records p Read = read_text_by (next_ask (known_by p.replica)) read
 written_read read first now records p Ask = known_text (says p.replica) (copied (known_by p.replica))
@@ -112,8 +112,8 @@ written_on older step =
 
 -- ---- steps that may be a script's
 
--- the numbers of each turn are in their ranges, it may stand after the older ones, nothing was refused, and the first number is one of
--- the server's
+-- the numbers of each turn are in their ranges; it may stand after the older ones; nothing was refused; and the first number is
+-- one of the server's
 abbrev pub AllStandBy : List Step → Type 0
 AllStandBy [] = Unit {0}
 AllStandBy (step ∷ older) = (may_stand_by older step.turn ≡ true) × IsInRange step.turn × (refuses older step ≡ false) × AllStandBy older

@@ -25,11 +25,11 @@ use cds_server::Server;
 use std::alloc::Global;
 use url::Url;
 
-/// Where a script's server is asked.
+/// The URL at which a script's server takes control requests.
 const CONTROL: &str = "http://127.0.0.1:49152/control";
 
-/// What a wire leaves of the bytes that a server replies to an ask, which goes to it as a control request at a moment in
-/// milliseconds.
+/// Asks a server at a moment in milliseconds, and returns the bytes of the reply as a wire leaves them. The ask goes to the
+/// server as a control request.
 pub fn carried_reply<W: Wire>(
     alloc: Global,
     server: &mut Server,
@@ -48,7 +48,7 @@ pub fn carried_reply<W: Wire>(
     Ok(reply)
 }
 
-/// The bytes of an ask's control request.
+/// Returns the bytes of an ask's control request.
 fn request_of(alloc: Global, ask: Ask) -> Result<Vec<u8>, Mem>
     ensures { IfOk result (λ request. request.items ≡ written_action (action_of ask) control_url) }
 {
@@ -58,7 +58,7 @@ fn request_of(alloc: Global, ask: Ask) -> Result<Vec<u8>, Mem>
     Ok(request)
 }
 
-/// What a server replies to the bytes of an ask's control request.
+/// Returns the reply of a server to the bytes of an ask's control request.
 fn reply_to(
     alloc: Global,
     server: &mut Server,
@@ -88,7 +88,7 @@ fn carry_over<W: Wire>(wire: &W, reply: &mut Vec<u8>)
     wire.carry(reply.as_mut_slice());
 }
 
-/// The ids and places of an ask are of 32 bits.
+/// Shows that the ids and places of an ask are of 32 bits. Only proofs need it.
 fn asks_fit(ask: Ask)
     ensures { IsInRange ask }
 {
@@ -105,7 +105,7 @@ fn asks_fit(ask: Ask)
     }
 }
 
-/// The address that is asked. It is one, so that no other cause is left for a refusal than memory.
+/// Returns the URL that is asked. Its text is a URL, so only memory can run out.
 fn control_url(alloc: Global) -> Result<Url, Mem>
     ensures { IfOk result (λ url. url ≡ control_url) }
 {
@@ -115,7 +115,7 @@ fn control_url(alloc: Global) -> Result<Url, Mem>
     }
 }
 
-/// The message that bytes are, condition: they are one, whole and with nothing behind it.
+/// Returns the message that bytes are. Condition: they are one whole message, with nothing after it.
 pub fn message_of(alloc: Global, side: Side, bytes: &[u8]) -> Result<Message, Mem>
     requires { IsMessage side bytes.now }
     ensures { (message : MessageValue) → Decides false side bytes.now (Whole message []) → IfOk result (λ m. m ≡ message) }
@@ -132,7 +132,7 @@ pub fn message_of(alloc: Global, side: Side, bytes: &[u8]) -> Result<Message, Me
     }
 }
 
-/// Want of memory, condition: a refusal is no other.
+/// Returns the refusal as `Mem`. Condition: it is that memory ran out.
 fn of_memory(refusal: HttpError) -> Mem
     requires { refusal ≡ OutOfMemory }
 {

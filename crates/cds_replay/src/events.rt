@@ -24,13 +24,13 @@ use cds_server::{FirstNote, Server};
 use std::alloc::Global;
 use url::Url;
 
-/// Where a script's server is asked about subscriptions.
+/// The URL at which a script's server takes requests about subscriptions.
 const EVENT: &str = "http://127.0.0.1:49152/event";
 
-/// Where the notes to a script's replica go.
+/// The URL to which the notes to a script's replica go.
 const CALLBACK: &str = "http://127.0.0.1:49153/notify";
 
-/// The URL that a text is. It is one, so that no other cause is left for a refusal than memory.
+/// Returns the URL that a text is. The text is a URL, so only memory can run out.
 fn url_of(alloc: Global, text: &str) -> Result<Url, Mem>
     ensures { IfOk result (λ url. parse_url None text.now ≡ Gave url) }
 {
@@ -40,7 +40,7 @@ fn url_of(alloc: Global, text: &str) -> Result<Url, Mem>
     }
 }
 
-/// The request for a subscription.
+/// Returns the request for a subscription.
 pub fn subscribe_request(alloc: Global) -> Result<Vec<u8>, Mem>
     ensures { IfOk result (λ request. request.items ≡ subscribe_text event_url callback_url) }
 {
@@ -51,7 +51,7 @@ pub fn subscribe_request(alloc: Global) -> Result<Vec<u8>, Mem>
     Ok(request)
 }
 
-/// The request that renews a subscription.
+/// Returns the request that renews a subscription.
 pub fn renew_request(alloc: Global, sid: Sid) -> Result<Vec<u8>, Mem>
     ensures { IfOk result (λ request. request.items ≡ renewal_text event_url sid.0) }
 {
@@ -61,7 +61,7 @@ pub fn renew_request(alloc: Global, sid: Sid) -> Result<Vec<u8>, Mem>
     Ok(request)
 }
 
-/// The request that ends a subscription.
+/// Returns the request that ends a subscription.
 pub fn unsubscribe_request(alloc: Global, sid: Sid) -> Result<Vec<u8>, Mem>
     ensures { IfOk result (λ request. request.items ≡ unsubscribe_text event_url sid.0) }
 {
@@ -71,8 +71,8 @@ pub fn unsubscribe_request(alloc: Global, sid: Sid) -> Result<Vec<u8>, Mem>
     Ok(request)
 }
 
-/// What a server does with the bytes of a request at a moment, condition: they are one message. The bytes of its reply, and the
-/// first note of a subscription that it granted.
+/// Has a server handle the bytes of a request at a moment. Condition: they are one message. Appends the bytes of the reply, and
+/// returns the first note of a subscription that the server granted.
 pub fn answered(
     alloc: Global,
     server: &mut Server,
@@ -88,7 +88,7 @@ pub fn answered(
     server.handle(alloc, now, &message, reply)
 }
 
-/// The message of a reply, condition: the bytes are one.
+/// Returns the message of a reply. Condition: the bytes are one.
 fn reply_of(alloc: Global, reply: &[u8]) -> Result<Message, Mem>
     requires { IsMessage of_reply reply.now }
     ensures { (message : MessageValue) → Decides false of_reply reply.now (Whole message []) → IfOk result (λ m. m ≡ message) }
@@ -96,7 +96,7 @@ fn reply_of(alloc: Global, reply: &[u8]) -> Result<Message, Mem>
     message_of(alloc, Side::Reply, reply)
 }
 
-/// The status of a message, condition: it is a reply.
+/// Returns the status of a message. Condition: it is a reply.
 fn status_in(message: &Message) -> u16
     requires { (code : ℕ) × (message.now.start ≡ start_reply code) }
     ensures { (code : ℕ) → message.now.start ≡ start_reply code → result ≡ code }
@@ -107,7 +107,7 @@ fn status_in(message: &Message) -> u16
     }
 }
 
-/// The status of a reply, condition: the bytes are one.
+/// Returns the status of a reply. Condition: the bytes are one.
 pub fn status_of(alloc: Global, reply: &[u8]) -> Result<u16, Mem>
     requires { HasSomeStatus reply.now }
     ensures { IfOk result (λ status. HasStatus reply.now status) }
@@ -116,7 +116,7 @@ pub fn status_of(alloc: Global, reply: &[u8]) -> Result<u16, Mem>
     Ok(status_in(&message))
 }
 
-/// What a reply to a subscribe request grants, condition: the bytes are one.
+/// Returns the lease that a reply to a subscribe request grants. Condition: the bytes are a reply.
 pub fn lease_of(alloc: Global, reply: &[u8]) -> Result<Option<Lease>, Mem>
     requires { IsMessage of_reply reply.now }
     ensures { IfOk result (λ lease. HasLease reply.now lease) }
@@ -125,7 +125,7 @@ pub fn lease_of(alloc: Global, reply: &[u8]) -> Result<Option<Lease>, Mem>
     Ok(read_lease(&message))
 }
 
-/// The note that the bytes of a request carry, condition: they carry one.
+/// Returns the note that the bytes of a request carry. Condition: they carry one.
 pub fn note_of(alloc: Global, request: &Bytes) -> Result<Note, Mem>
     requires { CarriesNote request.now }
     ensures { (note : Told) → IsNoteRequest request.now note → IfOk result (λ read. read ≡ note) }
@@ -137,7 +137,7 @@ pub fn note_of(alloc: Global, request: &Bytes) -> Result<Note, Mem>
     }
 }
 
-/// Want of memory, condition: a refusal is no other.
+/// Returns the refusal as `Mem`. Condition: it is that memory ran out.
 fn of_memory(refusal: NoteError) -> Mem
     requires { refusal ≡ OutOfMemory }
 {

@@ -1,3 +1,5 @@
+//! The kind of the last turn of a session, by which the next one may stand.
+
 /// What the last turn of a session was.
 #[derive(Clone, Copy, Drop)]
 pub enum Last {

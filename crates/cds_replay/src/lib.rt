@@ -1,4 +1,4 @@
-//! Scripts, played: a server and a replica take the turns of a script, and the report is written line by line.
+//! Plays scripts: a server and a replica take the turns of a script, and the report is written line by line.
 #![tactic(auto)]
 
 mod control;

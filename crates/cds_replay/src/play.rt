@@ -1,4 +1,4 @@
-//! A script from a source, and its report into a sink.
+//! Reads a script from a source and writes its report into a sink.
 
 ghost use Rattle.std.specs.Prelude.{◌≡◌, ℕ, ◌+◌, ◌-◌, ◌<◌, ◌≤◌, ◌++◌, ◌⊎◌, [], ◌∷◌, List, true, Option, Some, None, length, take, drop, IfOk, IfErr, OnOk, OnErr};
 ghost use Rattle.cds_base.specs.declared.limits.TheConstants.{INPUT_LIMIT};
@@ -24,8 +24,8 @@ use thiserror::Error;
 /// Why a replay ended before its script did.
 #[derive(Clone, Copy, Debug, PartialEq, Eq, Error)]
 pub enum ReplayError {
-    /// The line of this number, counted from 1, is outside the grammar. The report of the lines before it was written,
-    /// and the line `error line N`.
+    /// The line of this number, counted from 1, is outside the grammar. The report of the lines before it was written, and then
+    /// the line `error line N`.
     #[error("line {line} is outside the grammar")]
     Line { line: u32 },
     /// The source could not be read.
@@ -34,12 +34,12 @@ pub enum ReplayError {
     /// The sink could not be written.
     #[error("the report could not be written")]
     WriteFault,
-    /// More than 67,108,864 bytes came, or a line of more than 4,096. The report of the lines before was written, and
-    /// the line `error limit`.
+    /// More than 67,108,864 bytes came, or a line of more than 4,096. The report of the lines before was written, and then the
+    /// line `error limit`.
     #[error("the script or a line of it is too long")]
     Limit,
-    /// The replica refused what the line of this number, counted from 1, gave it: what a wire left of a reply, or a note that
-    /// does not go with what such replies showed before. The report of the lines before it was written.
+    /// The replica refused what the line of this number, counted from 1, gave it. This was what a wire left of a reply, or a note
+    /// that does not go with what such replies showed before. The report of the lines before it was written.
     #[error("the replica refused what line {line} gave it")]
     Refused { line: u32 },
     #[error("out of memory")]
@@ -56,40 +56,41 @@ impl From<Mem> for ReplayError {
     }
 }
 
-/// Plays the script that a source gives and writes its report. The answer of a line is written before the next line is
-/// looked at. However the replay ends, it takes at most one byte more of the source than a script may have (`taken`).
+/// Plays the script that a source gives and writes its report. The answer of a line is written before the next line is looked at.
+/// However the replay ends, it takes at most one byte more of the source than a script may have (`taken`).
 ///
-/// The report is what the script's turns write, one after the other, and then its last line (`turns`); each line `behind
-/// load` in it obeys the bound on loads (`load_bound`), each line `stands` tells a scan end, with the catalog of the scans
-/// up to it (`stands`), and where all notes were delivered and all was read the answer is the server's (`complete`).
+/// The report is what the script's turns write, one after the other, and then its last line (`turns`):
+/// - each line `behind load` in it obeys the bound on loads (`load_bound`);
+/// - each line `stands` tells a scan end, with the catalog of the scans up to it (`stands`);
+/// - if all notes were delivered and all was read, the answer is the server's (`complete`).
 pub fn replay<S: Source, K: Sink>(
     alloc: Global,
     source: &mut S,
     sink: &mut K,
 ) -> Result<(), ReplayError>
-    ensures ok_status { OnOk result (Told (S.left source.old) (λ script. (script_ending script).status ≡ 0)) }
-    ensures ok_report { OnOk result (Told (S.left source.old) (λ script. Holds (K.holds sink.old) (script_ending script).text (K.holds sink.new))) }
-    ensures ok_end { OnOk result (Told (S.left source.old) (λ script. S.left source.new ≡ Some [])) }
-    ensures ok_moved { OnOk result (S.moved source.new ≤ raised (S.moved source.old) INPUT_LIMIT) }
-    ensures line_status { IfErr result (λ e. OnLine e (λ line. Told (S.left source.old) (λ script. (script_ending script).status ≡ 1))) }
-    ensures line_report { IfErr result (λ e. OnLine e (λ line. Told (S.left source.old)
-        (λ script. Holds (K.holds sink.old) (script_ending script).text (K.holds sink.new)))) }
-    ensures line_number { IfErr result (λ e. OnLine e (λ line. Told (S.left source.old)
+    ensures ok_status { OnOk result (Told (S.told source.old).left (λ script. (script_ending script).status ≡ 0)) }
+    ensures ok_report { OnOk result (Told (S.told source.old).left (λ script. Holds (K.told sink.old).holds (script_ending script).text (K.told sink.new).holds)) }
+    ensures ok_end { OnOk result (Told (S.told source.old).left (λ script. (S.told source.new).left ≡ Some [])) }
+    ensures ok_moved { OnOk result ((S.told source.new).moved ≤ raised (S.told source.old).moved INPUT_LIMIT) }
+    ensures line_status { IfErr result (λ e. OnLine e (λ line. Told (S.told source.old).left (λ script. (script_ending script).status ≡ 1))) }
+    ensures line_report { IfErr result (λ e. OnLine e (λ line. Told (S.told source.old).left
+        (λ script. Holds (K.told sink.old).holds (script_ending script).text (K.told sink.new).holds))) }
+    ensures line_number { IfErr result (λ e. OnLine e (λ line. Told (S.told source.old).left
         (λ script. (front : List ℕ) × ((script_ending script).text ≡ front ++ (outside_ending line).text)))) }
-    ensures limit_status { IfErr result (λ e. OnLimit e (Told (S.left source.old) (λ script. (script_ending script).status ≡ 6))) }
-    ensures limit_report { IfErr result (λ e. OnLimit e (Told (S.left source.old)
-        (λ script. Holds (K.holds sink.old) (script_ending script).text (K.holds sink.new)))) }
-    ensures limit_moved { IfErr result (λ e. OnLimit e (raised (S.moved source.old) (line_limit + 1) ≤ S.moved source.new)) }
+    ensures limit_status { IfErr result (λ e. OnLimit e (Told (S.told source.old).left (λ script. (script_ending script).status ≡ 6))) }
+    ensures limit_report { IfErr result (λ e. OnLimit e (Told (S.told source.old).left
+        (λ script. Holds (K.told sink.old).holds (script_ending script).text (K.told sink.new).holds))) }
+    ensures limit_moved { IfErr result (λ e. OnLimit e (raised (S.told source.old).moved (line_limit + 1) ≤ (S.told source.new).moved)) }
     ensures never_refused { IfErr result (λ e. OnRefused e (λ line. ⊥)) }
-    ensures read_fault { IfErr result (λ e. OnReadFault e (Rose (S.faults source.old) (S.faults source.new))) }
-    ensures write_fault { IfErr result (λ e. OnWriteFault e (Rose (K.faults sink.old) (K.faults sink.new))) }
-    ensures taken { S.moved source.new ≤ S.moved source.old + (INPUT_LIMIT + 1) }
-    ensures source_faults { S.faults source.old ≤ S.faults source.new }
-    ensures sink_faults { K.faults sink.old ≤ K.faults sink.new }
-    ensures turns { Told (S.left source.old) (λ script. IsReportOf (script_turns script) (script_stop script) (script_ending script)) }
-    ensures load_bound { Told (S.left source.old) (λ script. BoundsLoads (script_turns script)) }
-    ensures stands { Told (S.left source.old) (λ script. StandsAtScanEnds (script_turns script)) }
-    ensures complete { Told (S.left source.old) (λ script. AnswersAreComplete (script_turns script)) }
+    ensures read_fault { IfErr result (λ e. OnReadFault e (Rose (S.told source.old).faults (S.told source.new).faults)) }
+    ensures write_fault { IfErr result (λ e. OnWriteFault e (Rose (K.told sink.old).faults (K.told sink.new).faults)) }
+    ensures taken { (S.told source.new).moved ≤ (S.told source.old).moved + (INPUT_LIMIT + 1) }
+    ensures source_faults { (S.told source.old).faults ≤ (S.told source.new).faults }
+    ensures sink_faults { (K.told sink.old).faults ≤ (K.told sink.new).faults }
+    ensures turns { Told (S.told source.old).left (λ script. IsReportOf (script_turns script) (script_stop script) (script_ending script)) }
+    ensures load_bound { Told (S.told source.old).left (λ script. BoundsLoads (script_turns script)) }
+    ensures stands { Told (S.told source.old).left (λ script. StandsAtScanEnds (script_turns script)) }
+    ensures complete { Told (S.told source.old).left (λ script. AnswersAreComplete (script_turns script)) }
 {
     cds_script::laws::script_turns_may_be();
     cds_script::laws::reports_are_of_turns();
@@ -100,43 +101,43 @@ pub fn replay<S: Source, K: Sink>(
     replay_by(alloc, source, sink, &Straight)
 }
 
-/// Plays a script whose server and replica have a wire between them: each read goes to the server as a control request, and the
+/// Plays a script whose server and replica have a wire between them. Each read goes to the server as a control request, and the
 /// replica takes the bytes that the wire leaves of the reply.
 ///
-/// The report is what the script's turns write, one after the other, by what the bytes, as the wire left them, are read as, and then
-/// its last line (`reported`); each line `stands` in it is followed by rows each of which has the content and the objectUpdateID that
-/// one of these replies showed for its id (`asks`). Where the replica refuses what a line gives it, the report of the lines before is
-/// written, and the replay ends. Over a wire that leaves each reply as it is the report is the script's (`straight_report`).
+/// The report is what the script's turns write, one after the other, and then its last line (`reported`). The turns go by what
+/// the bytes are read as that the wire left. Rows follow each line `stands` in it. One of these replies showed for the id of each
+/// row its content and its objectUpdateID (`asks`). If the replica refuses what a line gives it, the report of the lines before
+/// is written, and the replay ends. Over a wire that leaves each reply as it is, the report is the script's (`straight_report`).
 pub fn replay_by<S: Source, K: Sink, W: Wire>(
     alloc: Global,
     source: &mut S,
     sink: &mut K,
     wire: &W,
 ) -> Result<(), ReplayError>
-    ensures ok { OnOk result (Told (S.left source.old) (λ script. OnWire (W.carried wire.now) script (Reports None 0 (K.holds sink.old) (K.holds sink.new)))) }
-    ensures ok_end { OnOk result (Told (S.left source.old) (λ script. S.left source.new ≡ Some [])) }
-    ensures ok_moved { OnOk result (S.moved source.new ≤ raised (S.moved source.old) INPUT_LIMIT) }
-    ensures line_report { IfErr result (λ e. OnLine e (λ line. Told (S.left source.old)
-        (λ script. OnWire (W.carried wire.now) script (Reports None 1 (K.holds sink.old) (K.holds sink.new))))) }
-    ensures line_number { IfErr result (λ e. OnLine e (λ line. Told (S.left source.old)
+    ensures ok { OnOk result (Told (S.told source.old).left (λ script. OnWire (W.carried wire.now) script (Reports None 0 (K.told sink.old).holds (K.told sink.new).holds))) }
+    ensures ok_end { OnOk result (Told (S.told source.old).left (λ script. (S.told source.new).left ≡ Some [])) }
+    ensures ok_moved { OnOk result ((S.told source.new).moved ≤ raised (S.told source.old).moved INPUT_LIMIT) }
+    ensures line_report { IfErr result (λ e. OnLine e (λ line. Told (S.told source.old).left
+        (λ script. OnWire (W.carried wire.now) script (Reports None 1 (K.told sink.old).holds (K.told sink.new).holds)))) }
+    ensures line_number { IfErr result (λ e. OnLine e (λ line. Told (S.told source.old).left
         (λ script. OnWire (W.carried wire.now) script (EndsWith (outside_ending line).text)))) }
-    ensures limit_report { IfErr result (λ e. OnLimit e (Told (S.left source.old)
-        (λ script. OnWire (W.carried wire.now) script (Reports None 6 (K.holds sink.old) (K.holds sink.new))))) }
-    ensures limit_moved { IfErr result (λ e. OnLimit e (raised (S.moved source.old) (line_limit + 1) ≤ S.moved source.new)) }
-    ensures refused_report { IfErr result (λ e. OnRefused e (λ line. Told (S.left source.old)
-        (λ script. OnWire (W.carried wire.now) script (Reports (Some line) 0 (K.holds sink.old) (K.holds sink.new))))) }
+    ensures limit_report { IfErr result (λ e. OnLimit e (Told (S.told source.old).left
+        (λ script. OnWire (W.carried wire.now) script (Reports None 6 (K.told sink.old).holds (K.told sink.new).holds)))) }
+    ensures limit_moved { IfErr result (λ e. OnLimit e (raised (S.told source.old).moved (line_limit + 1) ≤ (S.told source.new).moved)) }
+    ensures refused_report { IfErr result (λ e. OnRefused e (λ line. Told (S.told source.old).left
+        (λ script. OnWire (W.carried wire.now) script (Reports (Some line) 0 (K.told sink.old).holds (K.told sink.new).holds)))) }
     ensures straight { ((bytes : List ℕ) → W.carried wire.now bytes ≡ bytes) → IfErr result (λ e. OnRefused e (λ line. ⊥)) }
-    ensures read_fault { IfErr result (λ e. OnReadFault e (Rose (S.faults source.old) (S.faults source.new))) }
-    ensures write_fault { IfErr result (λ e. OnWriteFault e (Rose (K.faults sink.old) (K.faults sink.new))) }
-    ensures taken { S.moved source.new ≤ S.moved source.old + (INPUT_LIMIT + 1) }
-    ensures source_faults { S.faults source.old ≤ S.faults source.new }
-    ensures sink_faults { K.faults sink.old ≤ K.faults sink.new }
-    ensures asks { Told (S.left source.old) (λ script. (ending : WiredEnding) → EndsOver (W.carried wire.now) script ending → AsksShow ending.steps) }
-    ensures once { Told (S.left source.old) (λ script. (one other : WiredEnding) → EndsOver (W.carried wire.now) script one →
+    ensures read_fault { IfErr result (λ e. OnReadFault e (Rose (S.told source.old).faults (S.told source.new).faults)) }
+    ensures write_fault { IfErr result (λ e. OnWriteFault e (Rose (K.told sink.old).faults (K.told sink.new).faults)) }
+    ensures taken { (S.told source.new).moved ≤ (S.told source.old).moved + (INPUT_LIMIT + 1) }
+    ensures source_faults { (S.told source.old).faults ≤ (S.told source.new).faults }
+    ensures sink_faults { (K.told sink.old).faults ≤ (K.told sink.new).faults }
+    ensures asks { Told (S.told source.old).left (λ script. (ending : WiredEnding) → EndsOver (W.carried wire.now) script ending → AsksShow ending.steps) }
+    ensures once { Told (S.told source.old).left (λ script. (one other : WiredEnding) → EndsOver (W.carried wire.now) script one →
         EndsOver (W.carried wire.now) script other → one ≡ other) }
-    ensures reported { Told (S.left source.old) (λ script. (ending : WiredEnding) → EndsOver (W.carried wire.now) script ending →
+    ensures reported { Told (S.told source.old).left (λ script. (ending : WiredEnding) → EndsOver (W.carried wire.now) script ending →
         IsReported (W.carried wire.now) script ending) }
-    ensures straight_report { ((bytes : List ℕ) → W.carried wire.now bytes ≡ bytes) → Told (S.left source.old)
+    ensures straight_report { ((bytes : List ℕ) → W.carried wire.now bytes ≡ bytes) → Told (S.told source.old).left
         (λ script. (ending : WiredEnding) → EndsOver (W.carried wire.now) script ending → IsTheScripts script ending) }
 {
     crate::wire_laws::asks_write_what_was_left();
@@ -166,20 +167,20 @@ fn play_on<W: Wire, S: Source, K: Sink>(
 ) -> Result<(), ReplayError>
     requires sound { Sound (W.carried wire.now) script.old }
     requires some { 0 < length buffer.old }
-    ensures well { (bytes : List ℕ) → GoesOn (W.carried wire.now) script.old [] [] → S.left source.old ≡ Some bytes →
-        OnOk result (EndsIn (W.carried wire.now) bytes [] (K.holds sink.old) (K.holds sink.new)) }
-    ensures end { (bytes : List ℕ) → GoesOn (W.carried wire.now) script.old [] [] → S.left source.old ≡ Some bytes →
-        OnOk result (S.left source.new ≡ Some []) }
-    ensures stops { (bytes : List ℕ) → GoesOn (W.carried wire.now) script.old [] [] → S.left source.old ≡ Some bytes →
-        IfErr result (λ e. Stopped (W.carried wire.now) e bytes [] (K.holds sink.old) (K.holds sink.new)) }
-    ensures moved { OnOk result (S.moved source.new ≤ raised (S.moved source.old) (left_in script.old)) }
-    ensures limit { IfErr result (λ e. OnLimit e (raised (S.moved source.old) (left_in script.old + line_limit + 1 - script_limit) ≤ S.moved source.new)) }
-    ensures read_fault { IfErr result (λ e. OnReadFault e (Rose (S.faults source.old) (S.faults source.new))) }
+    ensures well { (bytes : List ℕ) → GoesOn (W.carried wire.now) script.old [] [] → (S.told source.old).left ≡ Some bytes →
+        OnOk result (EndsIn (W.carried wire.now) bytes [] (K.told sink.old).holds (K.told sink.new).holds) }
+    ensures end { (bytes : List ℕ) → GoesOn (W.carried wire.now) script.old [] [] → (S.told source.old).left ≡ Some bytes →
+        OnOk result ((S.told source.new).left ≡ Some []) }
+    ensures stops { (bytes : List ℕ) → GoesOn (W.carried wire.now) script.old [] [] → (S.told source.old).left ≡ Some bytes →
+        IfErr result (λ e. Stopped (W.carried wire.now) e bytes [] (K.told sink.old).holds (K.told sink.new).holds) }
+    ensures moved { OnOk result ((S.told source.new).moved ≤ raised (S.told source.old).moved (left_in script.old)) }
+    ensures limit { IfErr result (λ e. OnLimit e (raised (S.told source.old).moved (left_in script.old + line_limit + 1 - script_limit) ≤ (S.told source.new).moved)) }
+    ensures read_fault { IfErr result (λ e. OnReadFault e (Rose (S.told source.old).faults (S.told source.new).faults)) }
     ensures straight { ((bytes : List ℕ) → W.carried wire.now bytes ≡ bytes) → IfErr result (λ e. OnRefused e (λ line. ⊥)) }
-    ensures write_fault { IfErr result (λ e. OnWriteFault e (Rose (K.faults sink.old) (K.faults sink.new))) }
-    ensures taken { S.moved source.new ≤ S.moved source.old + (left_in script.old + 1) }
-    ensures source_faults { S.faults source.old ≤ S.faults source.new }
-    ensures sink_faults { K.faults sink.old ≤ K.faults sink.new }
+    ensures write_fault { IfErr result (λ e. OnWriteFault e (Rose (K.told sink.old).faults (K.told sink.new).faults)) }
+    ensures taken { (S.told source.new).moved ≤ (S.told source.old).moved + (left_in script.old + 1) }
+    ensures source_faults { (S.told source.old).faults ≤ (S.told source.new).faults }
+    ensures sink_faults { (K.told sink.old).faults ≤ (K.told sink.new).faults }
 {
     loop {
         match read_piece(source, buffer, script.left()) {
@@ -193,8 +194,8 @@ fn play_on<W: Wire, S: Source, K: Sink>(
     }
 }
 
-/// Plays a piece of a script: what a line adds to the report is written before the next line is looked at, so that the
-/// answers of a piece never stand in memory together.
+/// Plays a piece of a script. What a line adds to the report is written before the next line is looked at, so the answers of a
+/// piece never stand in memory together.
 fn take_piece<W: Wire, K: Sink>(
     alloc: Global,
     wire: &W,
@@ -204,16 +205,16 @@ fn take_piece<W: Wire, K: Sink>(
 ) -> Result<(), ReplayError>
     requires { Sound (W.carried wire.now) script.old }
     ensures goes { (before written : List ℕ) → GoesOn (W.carried wire.now) script.old before written →
-        OnOk result (Played (W.carried wire.now) before written piece.now (K.holds sink.old) (K.holds sink.new) script.new) }
+        OnOk result (Played (W.carried wire.now) before written piece.now (K.told sink.old).holds (K.told sink.new).holds script.new) }
     ensures sound { OnOk result (Sound (W.carried wire.now) script.new) }
     ensures left { OnOk result (left_in script.new + length piece.now ≡ left_in script.old) }
     ensures stops { (before written more : List ℕ) → GoesOn (W.carried wire.now) script.old before written → IfErr result
-        (λ e. Stopped (W.carried wire.now) e ((before ++ piece.now) ++ more) written (K.holds sink.old) (K.holds sink.new)) }
+        (λ e. Stopped (W.carried wire.now) e ((before ++ piece.now) ++ more) written (K.told sink.old).holds (K.told sink.new).holds) }
     ensures limit { IfErr result (λ e. OnLimit e (left_in script.old + line_limit < script_limit + length piece.now)) }
     ensures no_read { IfErr result (λ e. OnReadFault e ⊥) }
     ensures straight { ((bytes : List ℕ) → W.carried wire.now bytes ≡ bytes) → IfErr result (λ e. OnRefused e (λ line. ⊥)) }
-    ensures write_fault { IfErr result (λ e. OnWriteFault e (Rose (K.faults sink.old) (K.faults sink.new))) }
-    ensures never_falls { K.faults sink.old ≤ K.faults sink.new }
+    ensures write_fault { IfErr result (λ e. OnWriteFault e (Rose (K.told sink.old).faults (K.told sink.new).faults)) }
+    ensures never_falls { (K.told sink.old).faults ≤ (K.told sink.new).faults }
 {
     let mut rest = piece;
     while let Some((line, after)) = cut_line(rest) {
@@ -234,24 +235,23 @@ fn take_line<W: Wire, K: Sink>(
     requires sound { Sound (W.carried wire.now) script.old }
     requires whole { is_unbroken line.now ≡ true }
     ensures goes { (before written : List ℕ) → GoesOn (W.carried wire.now) script.old before written →
-        OnOk result (Played (W.carried wire.now) before written (line.now ++ 10 ∷ []) (K.holds sink.old) (K.holds sink.new) script.new) }
+        OnOk result (Played (W.carried wire.now) before written (line.now ++ 10 ∷ []) (K.told sink.old).holds (K.told sink.new).holds script.new) }
     ensures sound { OnOk result (Sound (W.carried wire.now) script.new) }
     ensures left { OnOk result (left_in script.new + (length line.now + 1) ≡ left_in script.old) }
     ensures stops { (before written more : List ℕ) → GoesOn (W.carried wire.now) script.old before written → IfErr result
-        (λ e. Stopped (W.carried wire.now) e ((before ++ (line.now ++ 10 ∷ [])) ++ more) written (K.holds sink.old) (K.holds sink.new)) }
+        (λ e. Stopped (W.carried wire.now) e ((before ++ (line.now ++ 10 ∷ [])) ++ more) written (K.told sink.old).holds (K.told sink.new).holds) }
     ensures limit { IfErr result (λ e. OnLimit e (left_in script.old + line_limit < script_limit + (length line.now + 1))) }
     ensures no_read { IfErr result (λ e. OnReadFault e ⊥) }
     ensures straight { ((bytes : List ℕ) → W.carried wire.now bytes ≡ bytes) → IfErr result (λ e. OnRefused e (λ line. ⊥)) }
-    ensures write_fault { IfErr result (λ e. OnWriteFault e (Rose (K.faults sink.old) (K.faults sink.new))) }
-    ensures never_falls { K.faults sink.old ≤ K.faults sink.new }
+    ensures write_fault { IfErr result (λ e. OnWriteFault e (Rose (K.told sink.old).faults (K.told sink.new).faults)) }
+    ensures never_falls { (K.told sink.old).faults ≤ (K.told sink.new).faults }
 {
     let mut out = String::new(alloc);
     let stop = script.end_line(alloc, wire, line, &mut out)?;
     write_out(sink, out.as_bytes(), stop)
 }
 
-/// Keeps the rest of a piece, which has no LF, and writes what this adds to the report: no more than that a limit was
-/// passed.
+/// Keeps the rest of a piece, which has no LF, and writes what this adds to the report. It adds at most that a limit was passed.
 fn keep_rest<W: Wire, K: Sink>(
     alloc: Global,
     wire: &W,
@@ -262,16 +262,16 @@ fn keep_rest<W: Wire, K: Sink>(
     requires sound { Sound (W.carried wire.now) script.old }
     requires whole { is_unbroken rest.now ≡ true }
     ensures goes { (before written : List ℕ) → GoesOn (W.carried wire.now) script.old before written →
-        OnOk result (Played (W.carried wire.now) before written rest.now (K.holds sink.old) (K.holds sink.new) script.new) }
+        OnOk result (Played (W.carried wire.now) before written rest.now (K.told sink.old).holds (K.told sink.new).holds script.new) }
     ensures sound { OnOk result (Sound (W.carried wire.now) script.new) }
     ensures left { OnOk result (left_in script.new + length rest.now ≡ left_in script.old) }
     ensures stops { (before written more : List ℕ) → GoesOn (W.carried wire.now) script.old before written → IfErr result
-        (λ e. Stopped (W.carried wire.now) e ((before ++ rest.now) ++ more) written (K.holds sink.old) (K.holds sink.new)) }
+        (λ e. Stopped (W.carried wire.now) e ((before ++ rest.now) ++ more) written (K.told sink.old).holds (K.told sink.new).holds) }
     ensures limit { IfErr result (λ e. OnLimit e (left_in script.old + line_limit < script_limit + length rest.now)) }
     ensures no_read { IfErr result (λ e. OnReadFault e ⊥) }
     ensures straight { ((bytes : List ℕ) → W.carried wire.now bytes ≡ bytes) → IfErr result (λ e. OnRefused e (λ line. ⊥)) }
-    ensures write_fault { IfErr result (λ e. OnWriteFault e (Rose (K.faults sink.old) (K.faults sink.new))) }
-    ensures never_falls { K.faults sink.old ≤ K.faults sink.new }
+    ensures write_fault { IfErr result (λ e. OnWriteFault e (Rose (K.told sink.old).faults (K.told sink.new).faults)) }
+    ensures never_falls { (K.told sink.old).faults ≤ (K.told sink.new).faults }
 {
     let _ = wire;
     let mut out = String::new(alloc);
@@ -288,26 +288,26 @@ fn finish<W: Wire, K: Sink>(
 ) -> Result<(), ReplayError>
     requires { Sound (W.carried wire.now) script.old }
     ensures well { (before written : List ℕ) → GoesOn (W.carried wire.now) script.old before written →
-        OnOk result (EndsIn (W.carried wire.now) before written (K.holds sink.old) (K.holds sink.new)) }
+        OnOk result (EndsIn (W.carried wire.now) before written (K.told sink.old).holds (K.told sink.new).holds) }
     ensures stops { (before written : List ℕ) → GoesOn (W.carried wire.now) script.old before written →
-        IfErr result (λ e. Stopped (W.carried wire.now) e before written (K.holds sink.old) (K.holds sink.new)) }
+        IfErr result (λ e. Stopped (W.carried wire.now) e before written (K.told sink.old).holds (K.told sink.new).holds) }
     ensures no_limit { IfErr result (λ e. OnLimit e ⊥) }
     ensures no_read { IfErr result (λ e. OnReadFault e ⊥) }
     ensures straight { ((bytes : List ℕ) → W.carried wire.now bytes ≡ bytes) → IfErr result (λ e. OnRefused e (λ line. ⊥)) }
-    ensures write_fault { IfErr result (λ e. OnWriteFault e (Rose (K.faults sink.old) (K.faults sink.new))) }
-    ensures never_falls { K.faults sink.old ≤ K.faults sink.new }
+    ensures write_fault { IfErr result (λ e. OnWriteFault e (Rose (K.told sink.old).faults (K.told sink.new).faults)) }
+    ensures never_falls { (K.told sink.old).faults ≤ (K.told sink.new).faults }
 {
     let mut out = String::new(alloc);
     let stop = script.finish(alloc, wire, &mut out)?;
     write_out(sink, out.as_bytes(), stop)
 }
 
-/// Writes a text, and answers with the stop that it ends with.
+/// Writes a text, and returns the stop that it ends with.
 fn write_out<K: Sink>(sink: &mut K, text: &[u8], stop: Option<Stop>) -> Result<(), ReplayError>
     ensures answer { (result ≡ Err ReplayError.WriteFault) ⊎ (result ≡ answer_of stop) }
-    ensures held { (result ≡ answer_of stop) → Holds (K.holds sink.old) text.now (K.holds sink.new) }
-    ensures write_fault { IfErr result (λ e. OnWriteFault e (Rose (K.faults sink.old) (K.faults sink.new))) }
-    ensures never_falls { K.faults sink.old ≤ K.faults sink.new }
+    ensures held { (result ≡ answer_of stop) → Holds (K.told sink.old).holds text.now (K.told sink.new).holds }
+    ensures write_fault { IfErr result (λ e. OnWriteFault e (Rose (K.told sink.old).faults (K.told sink.new).faults)) }
+    ensures never_falls { (K.told sink.old).faults ≤ (K.told sink.new).faults }
 {
     match write_all(sink, text) {
         Err(Failed) => return Err(ReplayError::WriteFault),

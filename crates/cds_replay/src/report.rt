@@ -21,14 +21,14 @@ fn put_numbered_line(out: &mut String, word: &str, number: u64) -> Result<(), Me
     put(out, "\n")
 }
 
-/// Whether a scan was answered: memory did not run out.
+/// Returns whether a scan was answered: memory did not run out.
 pub fn was_answered(answer: &Result<Span, ApplyError>) -> bool
     ensures { result ≡ was_answered answer.now }
 {
     !matches!(answer, Err(ApplyError::Mem))
 }
 
-/// Puts what a scan was answered. Want of memory is no answer, and nothing is written.
+/// Puts the answer to a scan. If memory ran out there is no answer, and nothing is written.
 pub fn put_scan(out: &mut String, answer: Result<Span, ApplyError>) -> Result<(), Mem>
     ensures { OnOk result (string_bytes out.new ≡ string_bytes out.old ++ scan_line answer) }
 {
@@ -63,7 +63,7 @@ pub fn put_read(out: &mut String, read: Read) -> Result<(), Mem>
     }
 }
 
-/// Puts what a replica knows, and the rows of its copy where it stands, each ended by LF.
+/// Puts what a replica knows, and the rows of its copy if it stands, each ended by LF.
 pub fn put_known(out: &mut String, known: Says, rows: &[CopyRow]) -> Result<(), Mem>
     ensures { OnOk result (string_bytes out.new ≡ string_bytes out.old ++ known_text known (known_rows rows.now)) }
 {
@@ -86,7 +86,7 @@ fn put_copy(out: &mut String, number: u32, rows: &[CopyRow]) -> Result<(), Mem>
     put_rows(out, rows)
 }
 
-/// Puts the rows of which it is known what they say, in their order, each ended by LF.
+/// Puts the known rows in their order, each ended by LF. A row is known if it is known what it says.
 fn put_rows(out: &mut String, rows: &[CopyRow]) -> Result<(), Mem>
     ensures { OnOk result (string_bytes out.new ≡ string_bytes out.old ++ full_text (known_rows rows.now)) }
 {
@@ -96,7 +96,7 @@ fn put_rows(out: &mut String, rows: &[CopyRow]) -> Result<(), Mem>
     Ok(())
 }
 
-/// Puts a row, ended by LF, where it is known what it says.
+/// Puts a row, ended by LF, if it is known what it says.
 fn put_known_row(out: &mut String, kept: &CopyRow) -> Result<(), Mem>
     ensures { OnOk result (string_bytes out.new ≡ string_bytes out.old ++ full_text (known_rows (kept.now ∷ []))) }
 {
@@ -137,8 +137,8 @@ fn put_note(out: &mut String, number: u64, head: SentHead) -> Result<(), Mem>
     put_numbered_line(out, " at ", u64::from(head.number))
 }
 
-/// Puts what became of the note of a number. Want of memory is no answer, nor is what no note of a script is answered, and
-/// nothing is written.
+/// Puts what became of the note of a number. Its word is empty if memory ran out, or if the replica refused the changes of the
+/// note.
 pub fn put_delivered(
     out: &mut String,
     number: u64,
@@ -176,14 +176,14 @@ fn put_numbered(out: &mut String, word: &str, number: u64) -> Result<(), Mem>
     put_number(out, number)
 }
 
-/// Whether a note was answered: memory did not run out.
+/// Returns whether a note was answered: memory did not run out.
 pub fn was_noticed(answer: &Result<Taken, NotifyError>) -> bool
     ensures { result ≡ was_noticed answer.now }
 {
     !matches!(answer, Err(NotifyError::Mem))
 }
 
-/// Whether what a note told could be: the replica did not refuse it for its changes.
+/// Returns whether what a note told could be: the replica did not refuse it for its changes.
 pub fn can_be_told(answer: &Result<Taken, NotifyError>) -> bool
     ensures { result ≡ can_be_told answer.now }
 {

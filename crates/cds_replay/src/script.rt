@@ -1,4 +1,4 @@
-//! A script that comes part by part: each line is answered as soon as it has ended.
+//! A script that comes part by part. Each line is answered as soon as it has ended.
 
 ghost use Rattle.std.specs.Prelude.{◌≡◌, ℕ, ◌+◌, ◌<◌, ◌≤◌, ◌++◌, ◌^◌, [], ◌∷◌, List, Some, true, length, IfOk, OnOk, MatchOption, string_bytes};
 ghost use Rattle.cds_script.specs.declared.turn.Meaning.TheVariants.{Means};
@@ -31,11 +31,11 @@ pub enum Stop {
     Refused { line: u32 },
 }
 
-/// A script of which a part has come. The report goes on at the end of the text that each call is given.
+/// A script that has come in part. The report goes on at the end of the text that each call is given.
 #[derive(Drop)]
 pub struct Script {
     session: Session,
-    /// What has come of the line that has not ended.
+    /// The bytes so far of the line that has not ended.
     partial: Vec<u8>,
     /// The number of that line, counted from 1.
     line: u32,
@@ -44,7 +44,7 @@ pub struct Script {
 }
 
 impl Script {
-    /// A script of which nothing has come.
+    /// Returns a script before any byte of it has come.
     pub fn new(alloc: Global) -> Result<Script, Mem>
         ensures sound { (carried : List ℕ → List ℕ) → IfOk result (Sound carried) }
         ensures left { IfOk result (λ script. left_in script ≡ script_limit) }
@@ -59,7 +59,7 @@ impl Script {
         })
     }
 
-    /// How many bytes more the script may have.
+    /// Returns how many more bytes the script may have.
     pub fn left(&self) -> usize
         requires { length self.now.partial.items ≤ self.now.room }
         ensures { result ≡ left_in self.now }
@@ -67,7 +67,7 @@ impl Script {
         self.room - self.partial.len()
     }
 
-    /// Answers the last line, where it has no LF.
+    /// Answers the last line, if it has no LF.
     pub fn finish<W: Wire>(
         &mut self,
         alloc: Global,
@@ -177,7 +177,7 @@ impl Script {
     }
 }
 
-/// The first line and what comes after its LF, where one stands in the bytes.
+/// Returns the first line and what comes after its LF, if the bytes have an LF.
 pub fn cut_line(bytes: &[u8]) -> Option<(&[u8], &[u8])>
     ensures { MatchOption result (is_unbroken bytes.now ≡ true) (λ cut. (is_unbroken cut.0.now ≡ true) × (bytes.now ≡ cut.0.now ++ 10 ∷ cut.1.now)) }
 {
@@ -217,7 +217,7 @@ fn answer_line<W: Wire>(
     }
 }
 
-/// Takes a turn, where it may stand; its line is outside the grammar where it may not.
+/// Takes a turn if it may stand. Otherwise its line is outside the grammar.
 fn answer_turn<W: Wire>(
     session: &mut Session,
     alloc: Global,
@@ -257,7 +257,7 @@ fn write_outside(out: &mut String, number: u32) -> Result<Option<Stop>, Mem>
     Ok(Some(stop))
 }
 
-/// Writes the last line of a script that stops, where it has one: a turn that is refused writes none.
+/// Writes the last line of a script that stops, if it has one. A turn that is refused writes none.
 fn write_stop(out: &mut String, stop: Stop) -> Result<(), Mem>
     ensures { OnOk result (string_bytes out.new ≡ string_bytes out.old ++ stop_text stop) }
 {

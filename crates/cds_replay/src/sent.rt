@@ -20,7 +20,7 @@ pub struct SentHead {
     pub number: u32,
 }
 
-/// Where a note goes, the number that it tells, and the place of its body.
+/// A note that was sent: the address that it goes to, the number that it tells, and the place of its body.
 #[derive(Drop)]
 pub struct KeptNote {
     pub to: Address,
@@ -28,7 +28,7 @@ pub struct KeptNote {
     pub body: usize,
 }
 
-/// All notes that were sent, the oldest first, and each of their bodies once. Contracts see the list of the notes with their
+/// All notes that were sent, the oldest first. Each of their bodies is kept once. Contracts see the list of the notes with their
 /// bodies.
 #[derive(Drop)]
 pub struct Sent {
@@ -47,7 +47,7 @@ impl Model for Sent {
     ghost invariant = { λ s. AreKept s.bodies.items s.notes.items };
 }
 
-/// A copy of an address.
+/// Returns a copy of an address.
 fn copied(alloc: Global, to: &Address) -> Result<Address, Mem>
     ensures { IfOk result (λ copy. copy ≡ to.now) }
 {
@@ -58,7 +58,7 @@ fn copied(alloc: Global, to: &Address) -> Result<Address, Mem>
     })
 }
 
-/// The notes of a release to some addresses, by the place of their body.
+/// Returns the notes of a release to some addresses, with the place of their body.
 fn notes_to(alloc: Global, to: &[Address], number: u32, body: usize) -> Result<Vec<KeptNote>, Mem>
     ensures { IfOk result (λ notes. notes.items ≡ map (kept_note number body) to.now) }
 {
@@ -73,7 +73,7 @@ fn notes_to(alloc: Global, to: &[Address], number: u32, body: usize) -> Result<V
     Ok(notes)
 }
 
-/// The bytes of the request that carries a body to an address.
+/// Returns the bytes of the request that carries a body to an address.
 fn carrying(alloc: Global, to: &Address, body: &[u8]) -> Result<Bytes, Mem>
     requires { IsDelivered to.now }
     ensures { IfOk result (λ request. carries to.now body.now request) }
@@ -83,7 +83,7 @@ fn carrying(alloc: Global, to: &Address, body: &[u8]) -> Result<Bytes, Mem>
     Ok(Bytes::from(request))
 }
 
-/// Adds notes and the body that they have; a refusal leaves both as they were.
+/// Adds notes and the body that they have. A refusal leaves both lists as they were.
 fn put_sent(
     notes: &mut Vec<KeptNote>,
     bodies: &mut Vec<Bytes>,
@@ -104,7 +104,7 @@ fn put_sent(
 }
 
 impl Sent {
-    /// No notes.
+    /// Returns a list without notes.
     pub fn new(alloc: Global) -> Sent
         ensures { result ≡ [] }
     {
@@ -114,14 +114,14 @@ impl Sent {
         }
     }
 
-    /// How many notes were sent.
+    /// Returns how many notes were sent.
     pub fn len(&self) -> usize
         ensures { result ≡ length self.now }
     {
         self.notes.len()
     }
 
-    /// What is written of the note at a place counted from 0, `None` past the end.
+    /// Returns what is written of the note at a place counted from 0, or `None` past the end.
     pub fn head(&self, at: usize) -> Option<SentHead>
         ensures { result ≡ option_map head_of (slice_get self.now at) }
     {
@@ -134,7 +134,7 @@ impl Sent {
         }
     }
 
-    /// The bytes of the request that carries the note of a number, counted from 1; `None` where none has it.
+    /// Returns the bytes of the request that carries the note of a number, counted from 1, or `None` if no note has it.
     pub fn request(&self, alloc: Global, number: u32) -> Result<Option<Bytes>, Mem>
         ensures { IfOk result (λ request. is_request_of (sent_of number self.now) request) }
     {
@@ -177,7 +177,7 @@ impl Sent {
         Ok(())
     }
 
-    /// Adds the notes of a tick, where it sends some.
+    /// Adds the notes of a tick, if it sends some.
     pub fn send_due(&mut self, alloc: Global, notes: Option<Notes>) -> Result<(), Mem>
         requires { IfSome notes AllGoOut }
         ensures { OnOk result (self.new ≡ self.old ++ sent_notes notes) }
@@ -188,7 +188,7 @@ impl Sent {
         }
     }
 
-    /// Adds the first note of a subscription, which tells a number, where one was granted.
+    /// Adds the first note of a subscription, which tells a number, if one was granted.
     pub fn send_granted(
         &mut self,
         alloc: Global,

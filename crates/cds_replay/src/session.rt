@@ -44,11 +44,11 @@ use thiserror::Error;
 /// The boot words of a script's server, which make its reset token.
 const BOOT: [u64; 2] = [0, 0];
 
-/// Why a turn was not taken. After it the session is done with.
+/// Why a turn was not taken. After it the session takes no more turns.
 #[derive(Clone, Copy, Debug, PartialEq, Eq, Error)]
 pub enum TurnError {
-    /// The replica refused what it was given: a reply that a wire changed, or a note that does not go with what such replies
-    /// showed before.
+    /// The replica refused what it was given. This was a reply that a wire changed, or a note that does not go with what such
+    /// replies showed before.
     #[error("the replica refused what it was given")]
     Refused,
     #[error("out of memory")]
@@ -66,8 +66,8 @@ impl From<Mem> for TurnError {
     }
 }
 
-/// A script's server and replica after the turns so far, what was found since its last scan, and the reply that is held back.
-/// It keeps no list of turns, but stands for one.
+/// A script's server and replica after the turns so far, what was found since its last scan, and the reply that is held back. It
+/// keeps no list of turns, but stands for one.
 #[derive(Drop)]
 pub struct Session {
     server: Server,
@@ -92,7 +92,7 @@ impl Model for Session {
 }
 
 impl Session {
-    /// Before any turn: a server that begins at 0 with the root alone, and a replica without a copy.
+    /// Returns a session before any turn: a server that begins at 0 with the root alone, and a replica without a copy.
     pub fn new(alloc: Global) -> Result<Session, Mem>
         ensures { IfOk result (λ session. IsAfter session []) }
     {
@@ -108,8 +108,11 @@ impl Session {
         })
     }
 
-    /// Whether a turn may stand after those so far: the first number comes before all else, a comment stands behind a track or
-    /// another comment, moments never fall, and a note that is delivered was sent.
+    /// Returns whether a turn may stand after those so far:
+    /// - the first number comes before all else;
+    /// - a comment comes after a track or another comment;
+    /// - moments never fall;
+    /// - a note that is delivered was sent.
     pub fn may_stand(&self, turn: &Turn) -> bool
         ensures { (steps : List Step) → IsAfter self.now steps → result ≡ may_stand_by steps turn.now }
     {
@@ -122,7 +125,7 @@ impl Session {
         }
     }
 
-    /// Whether a note of this number was sent.
+    /// Returns whether a note of this number was sent.
     fn has_sent(&self, number: u32) -> bool
         ensures { result ≡ (nat_lt 0 number && nat_le number (length self.now.sent)) }
     {
@@ -190,7 +193,7 @@ impl Session {
         })
     }
 
-    /// Puts a comment to the last thing that was found, where it is a track.
+    /// Puts a comment to the last thing that was found, if it is a track.
     fn add_tag(&mut self, comment: Comment) -> Result<(), Mem>
         ensures { OnOk result (self.new ≡ with_tag self.old comment) }
     {
@@ -199,7 +202,7 @@ impl Session {
         Ok(())
     }
 
-    /// Scans: what was found since the last scan is all that the library has now, and is dropped.
+    /// Does a scan. What was found since the last scan is all that the library has now, and is dropped.
     fn scan(&mut self, alloc: Global, out: &mut String) -> Result<(), Mem>
         requires { length self.old.found < 2 ^ 32 }
         ensures after { (steps : List Step) → IsAfter self.old steps → OnOk result (IsAfter self.new (quiet Scan ∷ steps)) }
@@ -225,8 +228,8 @@ impl Session {
         Ok(())
     }
 
-    /// Sends the next ask of the replica to the server, where there is one, as a control request, and takes what the wire
-    /// leaves of the reply.
+    /// Sends the next ask of the replica, if there is one, to the server as a control request. Then the replica takes what the
+    /// wire leaves of the reply.
     fn read<W: Wire>(&mut self, alloc: Global, wire: &W, out: &mut String) -> Result<(), TurnError>
         ensures taken { (steps : List Step) → IsAfter self.old steps →
             TurnTaken (W.carried wire.now) steps Read (string_bytes out.old) (string_bytes out.new) self.new result }
@@ -244,7 +247,7 @@ impl Session {
         }
     }
 
-    /// Puts what the replica knows, and the rows of its copy where it stands.
+    /// Puts what the replica knows, and the rows of its copy if it stands.
     fn ask(&mut self, out: &mut String) -> Result<(), Mem>
         ensures after { (steps : List Step) → IsAfter self.old steps → OnOk result (IsAfter self.new (quiet Ask ∷ steps)) }
         ensures written { (steps : List Step) → IsAfter self.old steps →
@@ -265,7 +268,7 @@ impl Session {
         Ok(())
     }
 
-    /// The moment is another from now on, and the server releases what is due.
+    /// Sets the moment to another one, and the server releases what is due.
     fn tick(&mut self, alloc: Global, moment: u64, out: &mut String) -> Result<(), Mem>
         requires rises { self.old.clock ≤ moment }
         requires within { moment < moment_limit }
@@ -282,7 +285,7 @@ impl Session {
         put_notes(out, &self.sent, sent)
     }
 
-    /// A subscribe request of the replica goes out; the server answers it, and the reply is held back.
+    /// Sends a subscribe request of the replica. The server answers it, and the reply is held back.
     fn subscribe(&mut self, alloc: Global, out: &mut String) -> Result<(), Mem>
         requires standing { IsStanding self.old }
         requires granted { self.old.server.book.subscribed.granted + 1 < 2 ^ 32 }
@@ -309,8 +312,8 @@ impl Session {
         put_notes(out, &self.sent, sent)
     }
 
-    /// The reply that was held back reaches the replica, which takes it, or refuses the name where the notes that came early for
-    /// it tell what cannot be.
+    /// Gives the replica the reply that was held back. The replica takes it. Or it refuses the name, if the notes that came early
+    /// for it tell what cannot be.
     fn accept(&mut self, alloc: Global, out: &mut String) -> Result<(), TurnError>
         requires { IsStanding self.old }
         ensures taken { (steps : List Step) → IsAfter self.old steps →
@@ -364,8 +367,8 @@ impl Session {
         }
     }
 
-    /// The status of the server's reply to a request about a subscription that stands, condition: the bytes are one request, to
-    /// which the server replies.
+    /// Returns the status of the server's reply to a request about a subscription that stands. Condition: the bytes are one
+    /// request, to which the server replies.
     fn asked(&mut self, alloc: Global, request: &[u8]) -> Result<u16, Mem>
         requires whole { IsMessage Request request.now }
         requires replies { RepliesTo self.old.server self.old.clock request.now }
@@ -378,8 +381,8 @@ impl Session {
         status_of(alloc, reply.as_slice())
     }
 
-    /// The note of a number reaches the replica, which takes it or answers why not; a note that is the next one and tells what
-    /// cannot be is refused.
+    /// Gives the replica the note of a number. The replica takes it or answers why not. It refuses a note that is the next one
+    /// and tells what cannot be.
     fn deliver(&mut self, alloc: Global, number: u32, out: &mut String) -> Result<(), TurnError>
         requires { IsStanding self.old }
         ensures taken { (steps : List Step) → IsAfter self.old steps → may_stand_by steps (Deliver number) ≡ true →
@@ -395,7 +398,7 @@ impl Session {
         }
     }
 
-    /// The reply to one read is lost.
+    /// Loses the reply to one read.
     fn lose_read(&mut self, out: &mut String) -> Result<(), Mem>
         ensures after { (steps : List Step) → IsAfter self.old steps → OnOk result (IsAfter self.new (quiet ReadFault ∷ steps)) }
         ensures written { OnOk result (string_bytes out.new ≡ string_bytes out.old ++ codes "readfault\n") }
@@ -405,7 +408,7 @@ impl Session {
     }
 }
 
-/// An answer that only want of memory stands in the way of, as the answer to a turn.
+/// Returns the answer of a call that fails only if memory runs out, as the answer to a turn.
 fn of_memory(answer: Result<(), Mem>) -> Result<(), TurnError>
     ensures { result ≡ of_memory answer }
 {
@@ -415,7 +418,7 @@ fn of_memory(answer: Result<(), Mem>) -> Result<(), TurnError>
     }
 }
 
-/// The replica takes the bytes of the reply to its next ask, condition: there is one. It refuses them where they show nothing, or
+/// Has the replica take the bytes of the reply to its next ask. Condition: there is one. It refuses bytes that show nothing, and
 /// what it cannot take.
 fn take_reply(
     replica: &mut Replica,
@@ -439,8 +442,8 @@ fn take_reply(
     }
 }
 
-/// The replica takes the reply to its subscribe request, conditions: the request is out, and the bytes are a reply. One that grants
-/// nothing is a refusal.
+/// Has the replica take the reply to its subscribe request. Conditions: the request is out, and the bytes are a reply. A reply
+/// that grants nothing is a refusal.
 fn take_lease(
     replica: &mut Replica,
     alloc: Global,
@@ -462,8 +465,8 @@ fn take_lease(
     }
 }
 
-/// The replica takes the name under which its subscribe request was granted, condition: the request is out. `Unknown` and `Full` are
-/// no answers to a name.
+/// Has the replica take the name under which its subscribe request was granted. Condition: the request is out. `Unknown` and
+/// `Full` are no answers to a name.
 fn take_name(
     replica: &mut Replica,
     alloc: Global,
@@ -487,7 +490,7 @@ fn take_name(
     }
 }
 
-/// The replica takes the note of a number, or answers why not.
+/// Has the replica take the note of a number, or answers why not.
 fn take_note(
     replica: &mut Replica,
     alloc: Global,
@@ -509,7 +512,7 @@ fn take_note(
     Ok(())
 }
 
-/// What the turn was that found something.
+/// Returns what the turn was that found something.
 fn last_found(one: &Found) -> Last
     ensures { result ≡ last_found one.now }
 {

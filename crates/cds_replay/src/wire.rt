@@ -1,4 +1,4 @@
-//! What lies between a script's server and its replica.
+//! What lies between a script's server and its replica: the wire of the replies.
 
 ghost use Rattle.std.specs.Prelude.{◌≡◌, ℕ, List};
 

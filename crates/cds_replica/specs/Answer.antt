@@ -15,8 +15,8 @@ read_of (Number n) = ReadOk
 read_of (Page rows total update) = ReadOk
 read_of (Fault code) = ReadFault code
 
--- an answer is exactly what becomes of a reply, and a refusal changes nothing; a want of memory may stand in place of
--- any answer, and changes nothing
+-- an answer is exactly what becomes of a reply, and a refusal changes nothing. If memory runs out, this is the answer instead,
+-- and nothing changes
 abbrev pub IsOutcome : Taken → Held → Held → Result Read AnswerError → Type 0
 IsOutcome becomes old new (Ok read) = becomes ≡ Holds new
 IsOutcome becomes old new (Err Unreadable) = (becomes ≡ CannotBeRead) × (new ≡ old)
@@ -24,7 +24,7 @@ IsOutcome becomes old new (Err (Jump expected first)) = ⊥
 IsOutcome becomes old new (Err (Torn id)) = (becomes ≡ CannotBe id) × (new ≡ old)
 IsOutcome becomes old new (Err Mem) = new ≡ old
 
--- the item of a list, where there is only one
+-- the item of a list, if there is only one
 abbrev pub only : {X : Type 0} → List X → Option X
 only [] = None
 only (x ∷ []) = Some x

@@ -1,5 +1,5 @@
--- What a replica's calls say of the load in its turns, whatever server told and replied: by the attempt that runs, of the
--- replies that were taken since the load began or its number last changed; and that its rows were shown.
+-- What a replica's calls say of the load in its turns, whatever server told and replied. They go by the attempt that runs, of the
+-- replies that were taken since the load began or its number last changed. They also say that its rows were shown.
 use Rattle.std.specs.Prelude.{◌≡◌, ◌⊎◌, ℕ, true, false, List, ◌∷◌, Option, None, Result, Ok, Err}
 use Rattle.std.specs.Option.{option_and_then}
 use Rattle.cds_load.specs.Attempts.{Verdict, Fine, CannotBeRead, CannotBe, attempt_of, ask_in, verdict_by, says_by, copied_by, ShowsRows}
@@ -23,15 +23,15 @@ abbrev pub AsksByAttempt : ReplicaState → Option Ask → Type 0
 AsksByAttempt kept ask = (turns : List ReplicaTurn) → StandsFor kept turns → ShowsRows (load_turns turns) → has_copy (known_by turns).held ≡ false →
     ask ≡ option_and_then ask_in (attempt_of (load_turns turns))
 
--- how a reply ends a load with a refusal: the attempt with it is complete, at a number, and the changes above this number that
--- notes told meanwhile do not go on from its rows
+-- how a reply ends a load with a refusal: the attempt with it is complete, at a number. The changes above this number that notes
+-- told meanwhile do not go on from its rows
 pub record EndsRefused (turns : List ReplicaTurn) (shown : Shown) (outcome : Outcome) : Type 0 where
   pub number : ℕ
   pub complete : says_by (attempt_of (LoadShows shown ∷ load_turns turns)) ≡ LoadStands number
   pub refused : load_ended (known_by turns) number (copied_by (attempt_of (LoadShows shown ∷ load_turns turns))) ≡ outcome
 
--- an answer is the verdict on a reply; where the attempt takes it, the changes that notes told meanwhile may be refused at
--- the load's end, as they are then; a want of memory may stand in its place
+-- an answer is the verdict on a reply. If the attempt takes it, the changes that notes told meanwhile may be refused at the
+-- load's end, as they are then. If memory runs out, this is the answer instead
 abbrev pub IsVerdict : List ReplicaTurn → Shown → Verdict → Result Read AnswerError → Type 0
 IsVerdict turns shown verdict (Ok read) = verdict ≡ Fine
 IsVerdict turns shown verdict (Err Unreadable) = verdict ≡ CannotBeRead
@@ -44,7 +44,7 @@ abbrev pub TakesByAttempt : ReplicaState → Shown → Result Read AnswerError �
 TakesByAttempt kept shown result = (turns : List ReplicaTurn) → StandsFor kept turns → ShowsRows (LoadShows shown ∷ load_turns turns) →
     has_copy (known_by turns).held ≡ false → IsVerdict turns shown (verdict_by (attempt_of (load_turns turns)) shown) result
 
--- where no SEQ is missing, no copy stands exactly where the attempt is not complete
+-- if no SEQ is missing, a copy stands if and only if the attempt is complete
 abbrev pub SaysByAttempt : ReplicaState → Says → Type 0
 SaysByAttempt kept answer = (turns : List ReplicaTurn) → StandsFor kept turns → ShowsRows (load_turns turns) → missing turns ≡ None →
     (answer ≡ BehindLoad → says_by (attempt_of (load_turns turns)) ≡ LoadRuns) × (says_by (attempt_of (load_turns turns)) ≡ LoadRuns → answer ≡ BehindLoad)

@@ -21,7 +21,7 @@ use Rattle.cds_replica.specs.declared.note.Taken.TheVariants.{Took, Repeat, Earl
 abbrev pub GoesOn : ReplicaState → ReplicaTurn → ReplicaState → Type 0
 GoesOn old turn new = (turns : List ReplicaTurn) → StandsFor old turns → StandsFor new (turn ∷ turns)
 
--- what stood for some turns stands for them and this one, where it is not refused
+-- what stood for some turns stands for them and this one, if it is not refused
 abbrev pub TakesTurn : ReplicaState → ReplicaTurn → ReplicaState → Type 0
 TakesTurn old turn new = (turns : List ReplicaTurn) → StandsFor old turns → StandsFor new (and_turn turn turns)
 
@@ -33,8 +33,8 @@ HoldsFew kept = (turns : List ReplicaTurn) → StandsFor kept turns → length (
 abbrev pub IsTaken : Outcome → Type 0
 IsTaken outcome = (now : Known) × (outcome ≡ Knows now)
 
--- an answer to a note is exactly what becomes of it: by the notes alone, and, where it is the next one, by what the notes
--- tell that are taken; a want of memory may stand in its place
+-- an answer to a note is exactly what becomes of it: by the notes alone, and, if it is the next one, by what the notes tell that
+-- are taken. If memory runs out, this is the answer instead
 abbrev pub IsNotice : Arrival → Outcome → Result Taken NotifyError → Type 0
 IsNotice arrives becomes (Ok Took) = (arrives ≡ IsNext) × IsTaken becomes
 IsNotice arrives becomes (Ok Repeat) = arrives ≡ IsRepeat
@@ -85,7 +85,7 @@ UnlessMem (Err AnswerMem) fact = Unit {0}
 abbrev pub of_notes : List Note → KeptKnown → Becomes KeptKnown
 of_notes notes kept = with_new_changes (is_drop (kept_position kept) notes) (tells notes (nothing_told (kept_position kept) kept.last_note)) kept
 
--- an answer where notes are to be taken, after which this inbox is kept
+-- an answer if notes are to be taken, after which this inbox is kept
 abbrev pub IsTaking : Becomes KeptKnown → ReplicaState → KeptInbox → ReplicaState → Result (Unit {0}) NotifyError → Type 0
 IsTaking becomes old inbox new (Ok done) = (becomes ≡ Leads new.known) × (new.inbox ≡ inbox)
 IsTaking becomes old inbox new (Err Unknown) = ⊥

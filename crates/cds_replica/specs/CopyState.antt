@@ -7,8 +7,8 @@ use Rattle.cds_object.specs.declared.event.Event.{Event}
 use Rattle.cds_follow.specs.Copy.{KnownRow, known_row, Happening, Changes, Reads, rows_after, cannot_be, knows, marks, since_deletion, least, read_up_to}
 use Rattle.cds_object.specs.Events.{update_of, is_change}
 
--- a row of a copy; the greatest number at which a change added or modified its object since the object's last deletion; and
--- the greatest version of it that a read showed since then. Where there is none it is 0
+-- a row of a copy; the greatest number at which a change added or modified its object since the object's last deletion; and the
+-- greatest version of it that a read showed since then. If there is none it is 0
 pub record KeptRow : Type 0 where
   pub row : KnownRow
   pub wanted : ℕ
@@ -18,7 +18,7 @@ pub record KeptRow : Type 0 where
 abbrev pub kept_id : KeptRow → ℕ
 kept_id kept = kept.row.id
 
--- what a row stands for, where it is known what it says or not
+-- what a row stands for, whether it is known what it says or not
 abbrev pub kept_in : ObjectRow → Bool → ℕ → ℕ → KeptRow
 kept_in row known wanted shown = record {
   row = record {
@@ -57,7 +57,7 @@ shown_at id happenings = greatest (filter_map (shows id) (since_deletion id happ
 abbrev pub kept_row : List Happening → KnownRow → KeptRow
 kept_row happenings row = record { row = row; wanted = wanted_at row.id happenings; shown = shown_at row.id happenings }
 
--- what a copy keeps after a load that ended with these rows, and after all that befell it since, the newest standing first
+-- what a copy keeps after a load that ended with these rows, and after all that befell it since; the newest is the first
 abbrev pub copy_of : List ObjectRow → List Happening → KeptCopy
 copy_of rows happenings = record {
   rows = map (kept_row happenings) (rows_after rows happenings);
@@ -88,7 +88,7 @@ AreAbove at events = AllByRecursion (λ (event : Event). (is_change event ≡ tr
 abbrev pub is_wanted : KeptRow → Bool
 is_wanted kept = nat_lt kept.shown kept.wanted
 
--- the lesser of two numbers, where they are there
+-- the lesser of two numbers, if they are there
 abbrev pub lesser_of : Option ℕ → Option ℕ → Option ℕ
 lesser_of None other = other
 lesser_of (Some n) None = Some n

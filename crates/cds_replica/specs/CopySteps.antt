@@ -32,7 +32,7 @@ counts Deleted number = counts_deletion number
 abbrev pub count_row : ChildChange → ℕ → ObjectRow → ObjectRow
 count_row change number row = record row { trackers = option_map (counts change number) row.trackers }
 
--- a row whose trackers are counted anew where it is the parent's, and so each of several
+-- a row whose trackers are counted anew if it is the parent's; and so each of several
 abbrev pub counted_row : (Trackers → Trackers) → Option ℕ → KeptRow → KeptRow
 counted_row count parent kept =
     cond (option_eq nat_eq (Some kept.row.id) parent) (record kept { row = record kept.row { trackers = option_map count kept.row.trackers } }) kept
@@ -40,7 +40,7 @@ counted_row count parent kept =
 abbrev pub counted_rows : (Trackers → Trackers) → Option ℕ → List KeptRow → List KeptRow
 counted_rows count parent rows = map (counted_row count parent) rows
 
--- a row that is wanted at a number where it has the id, and so each of several
+-- a row that is wanted at a number if it has the id; and so each of several
 abbrev pub wanted_row : ℕ → ℕ → KeptRow → KeptRow
 wanted_row id number kept = cond (nat_eq id kept.row.id) (record kept { wanted = max number kept.wanted }) kept
 
@@ -106,8 +106,8 @@ abbrev pub first_cannot : List KnownRow → List Event → Option ℕ
 first_cannot rows [] = None
 first_cannot rows (event ∷ events) = cond (cannot_come rows event) (Some (object_of event)) (first_cannot (changed rows event) events)
 
--- what becomes of changes on a copy: they are counted, and this is the copy then; or the first of them is not the one after
--- the position; or what is told of this object cannot be
+-- what becomes of changes on a copy: they are counted, and this is the copy then; or the first of them is not the one after the
+-- position; or what is told of this object cannot be
 pub data Count : Type 0 where
   Counts : KeptCopy → Count
   Leaps : ℕ → ℕ → Count
@@ -130,13 +130,13 @@ count_of rows CannotBeRead = Tears 0
 count_of rows (Jumps expected first) = Leaps expected first
 count_of rows (Cannot id) = Tears id
 
--- the refusal where the first of changes is not the one after a position
+-- the refusal if the first of changes is not the one after a position
 abbrev pub leap_from : ℕ → List Event → Option CountError
 leap_from at [] = None
 leap_from at (event ∷ events) = cond (nat_eq (update_of event) (at + 1)) None (Some (Jump (at + 1) (update_of event)))
 
--- an answer is exactly what becomes of changes, and a refusal changes nothing; a want of memory may stand in place of any
--- answer, and changes nothing
+-- an answer is exactly what becomes of changes, and a refusal changes nothing. If memory runs out, this is the answer instead,
+-- and nothing changes
 abbrev pub IsCount : Count → KeptCopy → KeptCopy → Result (Unit {0}) CountError → Type 0
 IsCount becomes old new (Ok done) = becomes ≡ Counts new
 IsCount becomes old new (Err (Jump expected first)) = (becomes ≡ Leaps expected first) × (new ≡ old)
@@ -147,7 +147,7 @@ IsCount becomes old new (Err Mem) = new ≡ old
 abbrev pub read_of_row : Version → KeptRow → KeptRow
 read_of_row v kept = record kept { row = record kept.row { says = Some (newer v kept.row.says) }; shown = max v.object_update kept.shown }
 
--- a content is of the kind of a row, where it is there
+-- a content is of the kind of a row, if there is one
 abbrev pub IsOfKind : Content → Option KnownRow → Type 0
 IsOfKind content None = Unit {0}
 IsOfKind content (Some row) = is_folder content ≡ row.folder

@@ -29,7 +29,7 @@ tracks row = is_some row.trackers
 abbrev pub is_end : Progress → List ObjectRow → Bool
 is_end listing page = nat_le (length listing.waiting) 1 && not (list_any tracks listing.part) && not (list_any tracks page)
 
--- a refusal is what becomes of changes; want of memory may stand in its place
+-- a refusal is what becomes of changes; or that memory ran out
 abbrev pub IsRefusal : Count → CountError → Type 0
 IsRefusal becomes (Jump expected first) = becomes ≡ Leaps expected first
 IsRefusal becomes (Torn id) = becomes ≡ Tears id

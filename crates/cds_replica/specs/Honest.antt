@@ -1,5 +1,5 @@
--- What a replica's calls say where all that it is given is an honest server's, whatever its reset token and whatever names it
--- has for its subscriptions, in every order of notes, with losses and repeats.
+-- What a replica's calls say if all that it is given is an honest server's. The server may have any reset token and any names for
+-- its subscriptions. The notes may come in every order, with losses and repeats.
 use Rattle.std.specs.Prelude.{◌≡◌, ◌≤◌, ℕ, true, List, ◌∷◌, length, Some, None, Result, Ok, Err, Contains}
 use Rattle.std.specs.Option.{option_map}
 use Rattle.std.specs.List.{AllByRecursion}
@@ -38,8 +38,8 @@ IsReadThen (Err (AnswerJump expected first)) fact = ⊥
 IsReadThen (Err (AnswerTorn id)) fact = ⊥
 IsReadThen (Err AnswerMem) fact = Unit {0}
 
--- what notes tell is never refused, and this holds then; but a note may be of another name, or one too many, or memory may
--- run out
+-- what notes tell is never refused, and this holds then; but a note may be of another name, or one too many, or memory may run
+-- out
 abbrev pub IsHeardThen : {A : Type 0} → Result A NotifyError → Type 0 → Type 0
 IsHeardThen (Ok x) fact = fact
 IsHeardThen (Err Unknown) fact = fact
@@ -67,21 +67,22 @@ AcceptsGiven old name new result = (token : List ℕ) (names : ℕ → ℕ) (fir
     IsGiven token first commands (Granted k number ∷ entries) → StandsFor old (named names (given_by token first commands entries)) →
     IsHeardThen result (StandsFor new (named names (given_by token first commands (Granted k number ∷ entries))))
 
--- a number is the end of the scans of some of the oldest commands, at most so many, and rows are the catalog after them
+-- a number is the end of the scans of some of the oldest commands, at most this many, and rows are the catalog after them
 pub record StoodAfter (first : ℕ) (commands : List Command) (most number : ℕ) (rows : List ObjectRow) : Type 0 where
   pub length : ℕ
   pub within : length ≤ most
   pub ends : end_of (scans_of first (oldest length commands)) ≡ number
   pub has_catalog : rows ≡ catalog (scans_of first (oldest length commands))
 
--- where a replica stands, it does at a scan end, with the catalog there
+-- if a replica stands, it does at a scan end, with the catalog there
 abbrev pub SaysGiven : ReplicaState → Says → Type 0
 SaysGiven kept answer = (token : List ℕ) (names : ℕ → ℕ) (first : ℕ) (commands : List Command) (newest : Entry) (older : List Entry) (number : ℕ) → TellApart names → AreAccepted first commands →
     IsGiven token first commands (newest ∷ older) → StandsFor kept (named names (given_by token first commands (newest ∷ older))) → answer ≡ Stands number →
     StoodAfter first commands (length_at newest) number (phase_rows kept.known.phase)
 
--- the answer is complete: where a load was begun, the subscription that was accepted last lives, each note that was sent to it was received, no change waits for its release, and nothing is to be read, the replica
--- stands at the server's number
+-- the answer is complete under these conditions: a load was begun; the subscription that was accepted last lives; each note that
+-- was sent to it was received; no change waits for its release; and nothing is to be read. Then the replica stands at the
+-- server's number
 abbrev pub CompletesGiven : ReplicaState → Says → Type 0
 CompletesGiven kept answer = (token : List ℕ) (names : ℕ → ℕ) (first : ℕ) (commands : List Command) (newest : Entry) (older : List Entry) (name now : ℕ) → TellApart names → AreAccepted first commands →
     IsGiven token first commands (newest ∷ older) →

@@ -49,7 +49,7 @@ arrival_in note kept =
     (cond (not (accepts note.name kept)) IsEarly
     (cond (nat_lt kept.next note.seq) (IsHeld kept.next) IsNext))))
 
--- the SEQ after those that notes have from one on without a hole; and the notes that are behind such a run
+-- the SEQ after those that notes have from one on without a hole; and the notes that are after such a run
 abbrev pub run_end : ℕ → List Note → ℕ
 run_end from notes = least_outside (length notes) from notes
 
@@ -114,8 +114,8 @@ taken_in IsEarly note kept = []
 taken_in (IsHeld seq) note kept = []
 taken_in IsNext note kept = note ∷ followers kept
 
--- what holds of each inbox: not more notes are held than may be; and those that wait are of the accepted name, behind the
--- next SEQ, which is not above the number of all SEQs
+-- what holds of each inbox: at most as many notes are held as may be. Those that wait are of the accepted name and after the next
+-- SEQ, which is at most the number of all SEQs
 abbrev pub IsWaiting : Option ℕ → ℕ → Note → Type 0
 IsWaiting accepted next note = (accepted ≡ Some note.name) × (next < note.seq)
 

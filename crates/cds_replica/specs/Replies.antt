@@ -20,12 +20,12 @@ use Rattle.cds_replica.specs.State.{ReplicaState, StandsFor}
 use Rattle.cds_replica.specs.declared.error.AnswerError.{AnswerError}
 use Rattle.cds_replica.specs.declared.error.AnswerError.TheVariants.{Unreadable}
 
--- what the bytes of a reply are read as to the next ask; where nothing is asked they are read as nothing
+-- what the bytes of a reply are read as to the next ask; if nothing is asked they are read as nothing
 abbrev pub IsNextReading : Option Ask → List ℕ → Option Shown → Type 0
 IsNextReading None bytes read = read ≡ None
 IsNextReading (Some ask) bytes read = IsReading ask bytes read
 
--- the turns with what was read; where nothing was, there is no turn
+-- the turns with what was read; if nothing was, there is no turn
 abbrev pub and_shown : Option Shown → List ReplicaTurn → List ReplicaTurn
 and_shown None turns = turns
 and_shown (Some shown) turns = and_turn (Shows shown) turns
@@ -35,7 +35,7 @@ abbrev pub with_reading : Known → Option Shown → Outcome
 with_reading known None = CannotBeRead
 with_reading known (Some shown) = with_reply known known.held shown
 
--- what stood for some turns stands for them and the reply, where it can be read and what it shows is not refused
+-- what stood for some turns stands for them and the reply, if it can be read and what it shows is not refused
 abbrev pub TakesReply : ReplicaState → List ℕ → ReplicaState → Type 0
 TakesReply old bytes new = (turns : List ReplicaTurn) (read : Option Shown) → StandsFor old turns →
     IsNextReading (next_ask (known_by turns)) bytes read → StandsFor new (and_shown read turns)

@@ -1,4 +1,4 @@
--- In which replies a copy's rows were shown, where replies come as bytes (UPnP Device Architecture 2.0 on control; UPnP
+-- Which replies showed the rows of a copy, if replies come as bytes (UPnP Device Architecture 2.0 on control; UPnP
 -- ContentDirectory:4 on the results of actions).
 use Rattle.std.specs.Prelude.{◌⊎◌, ℕ, List, [], ◌∷◌}
 use Rattle.cds_object.specs.Object.{ObjectRow}

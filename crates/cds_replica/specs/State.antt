@@ -1,5 +1,5 @@
--- What a replica keeps: what it knows beside its notes, and its inbox. It keeps no list of turns, of happenings or of notes
--- that it took (this project's profile).
+-- What a replica keeps: what it knows besides its notes, and its inbox. It keeps no list of turns, of happenings or of notes that
+-- it took (this project's profile).
 use Rattle.std.specs.Prelude.{◌≡◌, ℕ, max, List}
 use Rattle.cds_object.specs.declared.event.Event.{Event}
 use Rattle.cds_load.specs.Stages.{Held, Idle, Begun, HasToken, HasNumber, HasRoot, Lists, HasPage, HasCopy}
@@ -24,8 +24,8 @@ phase_of (Lists number listing) happenings = Loads (Lists number listing)
 phase_of (HasPage number listing page) happenings = Loads (HasPage number listing page)
 phase_of (HasCopy number rows) happenings = Copies number (copy_of rows happenings)
 
--- what is kept beside the notes: the load or the copy; the number that the last ended load read; the greatest number of a
--- note that was taken; and, while no copy stands, the changes of the notes that were taken since the load began
+-- what is kept besides the notes: the load or the copy; the number that the last ended load read; the greatest number of a note
+-- that was taken; and, while no copy stands, the changes of the notes that were taken since the load began
 pub record KeptKnown : Type 0 where
   pub phase : KeptPhase
   pub base : ℕ

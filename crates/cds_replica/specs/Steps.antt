@@ -25,8 +25,8 @@ use Rattle.cds_replica.specs.declared.count_error.CountError.TheVariants.{Jump a
 use Rattle.cds_replica.specs.declared.error.AnswerError.{AnswerError}
 use Rattle.cds_replica.specs.declared.error.AnswerError.TheVariants.{Unreadable as AnswerUnreadable, Jump, Torn, Mem}
 
--- what is taken leads to what is kept then; or a reply cannot be read as one to the ask; or the first change above the
--- position is not the one after it; or what is told or shown of this object cannot be
+-- what is taken leads to what is kept then; or a reply cannot be read as one to the ask; or the first change above the position
+-- is not the one after it; or what is told or shown of this object cannot be
 pub data Becomes (X : Type 0) : Type 0 where
   Leads : X → Becomes X
   Unreadable : Becomes X
@@ -51,8 +51,8 @@ of_count (Counts copy) = Leads copy
 of_count (Leaps expected first) = Leap expected first
 of_count (CannotCount id) = Tear id
 
--- an answer is exactly what becomes of it, and a refusal changes nothing; a want of memory may stand in place of any answer,
--- and changes nothing
+-- an answer is exactly what becomes of it, and a refusal changes nothing. If memory runs out, this is the answer instead, and
+-- nothing changes
 abbrev pub IsHeard : {X : Type 0} → Becomes X → X → X → Result (Unit {0}) CountError → Type 0
 IsHeard becomes old new (Ok done) = becomes ≡ Leads new
 IsHeard becomes old new (Err (CountJump expected first)) = (becomes ≡ Leap expected first) × (new ≡ old)
@@ -93,7 +93,7 @@ hears told kept =
     with_what (λ (now : KeptPhase × List Event). record { phase = now.0; base = kept.base; last_note = told.last_note; changes = now.1 })
     (hears_changes kept.phase (kept_position kept) kept.changes told.changes)
 
--- what becomes of what notes tell, where the first of them may drop the copy
+-- what becomes of what notes tell, if the first of them may drop the copy
 abbrev pub with_new_changes : Bool → KeptChanges → KeptKnown → Becomes KeptKnown
 with_new_changes drops told kept = cond drops (Leads (record { phase = Loads Begun; base = kept.base; last_note = told.last_note; changes = told.changes })) (hears told kept)
 

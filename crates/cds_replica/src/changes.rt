@@ -9,7 +9,7 @@ use cds_base::Mem;
 use cds_object::Event;
 use std::alloc::Global;
 
-/// Whether an event is a change above a number.
+/// Returns whether an event is a change above a number.
 fn is_above(number: u32, event: &Event) -> bool
     ensures { result ≡ (is_change event.now && nat_lt number (update_of event.now)) }
 {
@@ -28,7 +28,7 @@ pub fn add_changes_above(changes: &mut Vec<Event>, number: u32, events: &[Event]
     Ok(())
 }
 
-/// The changes above a number.
+/// Returns the changes above a number.
 pub fn changes_above(alloc: Global, number: u32, events: &[Event]) -> Result<Vec<Event>, Mem>
     ensures changes { IfOk result (λ changes. changes.items ≡ changes_above number events.now) }
     ensures above { IfOk result (λ changes. AreAbove number changes.items) }

@@ -12,11 +12,11 @@ use crate::listing::Listing;
 use crate::order::{Identified, has_in_order, is_in_order};
 use cds_object::Row;
 
-/// How many rows a page has at most.
+/// The greatest number of rows of a page.
 const PAGE_SIZE: usize = 256;
 
 impl Listing {
-    /// The id of the container that is being listed.
+    /// Returns the id of the container that is being listed.
     pub fn id(&self) -> u32
         ensures { result ≡ listed_id (listing_in self.now) }
     {
@@ -26,7 +26,7 @@ impl Listing {
         }
     }
 
-    /// How many children it has.
+    /// Returns how many children it has.
     pub fn children(&self) -> u32
         ensures { result ≡ listed_children (listing_in self.now) }
     {
@@ -36,14 +36,14 @@ impl Listing {
         }
     }
 
-    /// How many of them were shown, which is where the next page starts.
+    /// Returns how many of them were shown, which is the place of the next page.
     pub fn start(&self) -> u32
         ensures { result ≡ length self.now.part.items }
     {
         self.part.len() as u32
     }
 
-    /// Whether a page goes on with the children of this container.
+    /// Returns whether a page goes on with the children of this container.
     pub fn fits(&self, page: &[Row]) -> bool
         ensures exact { result ≡ fits (listing_in self.now) page.now }
         ensures short { IsTrue result → length self.now.part.items + length page.now < 2 ^ 32 }
@@ -51,7 +51,7 @@ impl Listing {
         are_children(page, self.id()) && self.are_new(page) && page.len() == self.next_page_len()
     }
 
-    /// How many rows the next page has.
+    /// Returns how many rows the next page has.
     fn next_page_len(&self) -> usize
         ensures exact { result ≡ min 256 (listed_children (listing_in self.now) - length self.now.part.items) }
         ensures short { length self.now.part.items + result < 2 ^ 32 }
@@ -61,7 +61,7 @@ impl Listing {
             .min(PAGE_SIZE)
     }
 
-    /// Whether no row of a page was shown before.
+    /// Returns whether no row of a page was shown before.
     fn are_new(&self, page: &[Row]) -> bool
         ensures { result ≡ all_new (known_ids (listing_in self.now)) page.now }
     {
@@ -75,7 +75,7 @@ impl Listing {
         true
     }
 
-    /// Whether an id was shown before, also earlier in the page. Where the part is in order it is looked through by
+    /// Returns whether an id was shown before, also earlier in the page. If the part is in order, it is looked through by
     /// halving.
     fn was_shown(&self, id: u32, ordered: bool, earlier: &[Row]) -> bool
         requires { IsTrue ordered → KeysAscend id_of_row self.now.part.items }
@@ -84,14 +84,14 @@ impl Listing {
         self.stands(id) || self.is_in_part(id, ordered) || is_among(earlier, id)
     }
 
-    /// Whether an id is among the rows of whole listings.
+    /// Returns whether an id is among the rows of whole listings.
     fn stands(&self, id: u32) -> bool
         ensures { result ≡ list_any (has_id id) self.now.rows.items }
     {
         has_in_order(self.rows.as_slice(), id)
     }
 
-    /// Whether an id is in the part.
+    /// Returns whether an id is in the part.
     fn is_in_part(&self, id: u32, ordered: bool) -> bool
         requires { IsTrue ordered → KeysAscend id_of_row self.now.part.items }
         ensures { result ≡ list_any (has_id id) self.now.part.items }
@@ -104,14 +104,14 @@ impl Listing {
     }
 }
 
-/// Whether one of these rows has this id.
+/// Returns whether one of these rows has this id.
 fn is_among(rows: &[Row], id: u32) -> bool
     ensures { result ≡ list_any (has_id id) rows.now }
 {
     rows.iter().any(|row| id == row.id())
 }
 
-/// Whether a row is that of a child of this object.
+/// Returns whether a row is that of a child of this object.
 fn is_child(row: &Row, parent: u32) -> bool
     ensures { result ≡ is_child_of parent row.now }
 {
@@ -121,7 +121,7 @@ fn is_child(row: &Row, parent: u32) -> bool
     }
 }
 
-/// Whether each row is that of a child of this object.
+/// Returns whether each row is that of a child of this object.
 fn are_children(rows: &[Row], parent: u32) -> bool
     ensures { result ≡ list_all (is_child_of parent) rows.now }
 {

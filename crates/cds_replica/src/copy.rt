@@ -26,7 +26,7 @@ use std::marker::Model;
 #[derive(Drop)]
 pub struct CatalogCopy {
     rows: Vec<CopyRow>,
-    /// The greatest version that a read showed since the load; 0 where none did.
+    /// The greatest version that a read showed since the load; 0 if none did.
     read_up_to: u32,
 }
 
@@ -38,14 +38,14 @@ impl Model for CatalogCopy {
     ghost view = { λ c. record { rows = c.rows.items; read_up_to = c.read_up_to } };
 }
 
-/// Its name alone: deriving it for all that it holds would be dear to prove, and nothing prints it.
+/// Writes its name alone. Deriving this for all that it holds would cost much to prove, and nothing prints it.
 impl Debug for CatalogCopy {
     fn fmt<W: fmt::Write>(&self, f: &mut Formatter<W>) -> fmt::Result {
         f.debug_struct("CatalogCopy").finish_non_exhaustive()
     }
 }
 
-/// Whether the first change is not the one after the position; then the number of it.
+/// Returns the refusal with the numbers if the first change is not the one after the position.
 pub fn leap(at: u32, events: &[Event]) -> Option<CountError>
     requires { AreAbove at events.now }
     ensures { result ≡ leap_from at events.now }
@@ -64,7 +64,7 @@ pub fn leap(at: u32, events: &[Event]) -> Option<CountError>
     }
 }
 
-/// The lesser of the least so far and another id.
+/// Returns the lesser of the least so far and another id.
 fn lesser(least: Option<u32>, id: u32) -> Option<u32>
     ensures { result ≡ lesser_of least (Some id) }
 {
@@ -75,7 +75,7 @@ fn lesser(least: Option<u32>, id: u32) -> Option<u32>
 }
 
 impl CatalogCopy {
-    /// A copy of rows, of which nothing was read since the load.
+    /// Returns a copy of rows, of which nothing was read since the load.
     pub fn new(rows: Vec<CopyRow>) -> CatalogCopy
         ensures { result ≡ record { rows = rows.items; read_up_to = 0 } }
     {
@@ -85,21 +85,21 @@ impl CatalogCopy {
         }
     }
 
-    /// The rows, in ascending order of ids.
+    /// Returns the rows, in ascending order of ids.
     pub fn rows(&self) -> &[CopyRow]
         ensures { result.now ≡ self.now.rows }
     {
         self.rows.as_slice()
     }
 
-    /// The greatest version that a read showed since the load; 0 where none did.
+    /// Returns the greatest version that a read showed since the load; 0 if none did.
     pub fn read_up_to(&self) -> u32
         ensures { result ≡ self.now.read_up_to }
     {
         self.read_up_to
     }
 
-    /// The object of the least id that is to be read.
+    /// Returns the object of the least id that is to be read.
     pub fn unread(&self) -> Option<u32>
         ensures { result ≡ least_wanted self.now }
     {
@@ -112,7 +112,7 @@ impl CatalogCopy {
         least
     }
 
-    /// The row at a place among those of which it is known what they say, counted from 0. It takes a walk over the rows.
+    /// Returns the row at a place among those of which it is known what they say, counted from 0. It takes a walk over the rows.
     pub fn row(&self, at: usize) -> Option<&Row>
         ensures { option_copied result ≡ slice_get (filter_map shown_row (bare_rows self.now)) at }
     {
@@ -128,10 +128,10 @@ impl CatalogCopy {
         None
     }
 
-    /// Counts changes on the copy, each above the position. `Jump` comes where the first of them is not the one after the
-    /// position; `Torn` where a change cannot be: an addition is of an id that does not stand, under a container that does;
-    /// a modification or deletion is of what stands, and never the root's; a deletion is of what has no child. All memory
-    /// is taken before anything is changed.
+    /// Counts changes on the copy, each above the position. `Jump` comes if the first of them is not the one after the position,
+    /// and `Torn` if a change cannot be. An addition is of an id that does not stand, under a container that does. A modification
+    /// or deletion is of what stands, and never the root's. A deletion is of what has no child. All memory is taken before
+    /// anything is changed.
     pub fn count(&mut self, alloc: Global, at: u32, events: &[Event]) -> Result<(), CountError>
         requires { AreAbove at events.now }
         ensures { IsCount (count_from self.old at events.now) self.old self.new result }
@@ -150,8 +150,8 @@ impl CatalogCopy {
         Ok(())
     }
 
-    /// Takes the reply to the read of the object that is to be read next. A refusal leaves the copy as it was: the object
-    /// is to be read still.
+    /// Takes the reply to the read of the object that is to be read next. A refusal leaves the copy as it was: the object is
+    /// still to be read.
     pub fn take(&mut self, shown: Shown) -> Result<Read, AnswerError>
         ensures outcome { IsStep (copy_takes self.old (least_wanted self.old) shown) self.old self.new result }
         ensures read { IfOk result (λ read. read ≡ read_of shown) }
@@ -181,8 +181,8 @@ impl CatalogCopy {
         }
     }
 
-    /// Takes an object's own row, where it can be its: it has its id, and the kind that the id has in the copy. Answers
-    /// whether it did. A version lower than the one that is kept is passed over.
+    /// Takes an object's own row, if it can be its: it has its id, and the kind that the id has in the copy. Answers whether it
+    /// did. A version lower than the one that is kept is passed over.
     pub fn read(&mut self, id: u32, row: Row) -> bool
         ensures answer { result ≡ can_be_of self.old id row }
         ensures after { self.new ≡ cond result (copy_read self.old id (version_of row)) self.old }
@@ -196,7 +196,7 @@ impl CatalogCopy {
         true
     }
 
-    /// Whether a row can be that of this object of the copy.
+    /// Returns whether a row can be that of this object of the copy.
     fn can_be_of(&self, id: u32, row: &Row) -> bool
         ensures { result ≡ can_be_of self.now id row.now }
     {

@@ -24,16 +24,16 @@ pub enum ChildChange {
     Deleted,
 }
 
-/// A row of a copy, which tells besides whether its object is to be read.
+/// A row of a copy, which also tells whether its object is to be read.
 #[derive(Drop)]
 pub struct CopyRow {
-    /// What is known of the object. Where it was not read yet its content says nothing but its kind.
+    /// What is known of the object. If it was not read yet, its content says nothing but its kind.
     row: Row,
     /// Whether it is known what the object says.
     known: bool,
-    /// The greatest number at which a note told that the object was added or modified; 0 where none did.
+    /// The greatest number at which a note told that the object was added or modified; 0 if none did.
     wanted: u32,
-    /// The greatest version of the object that a read showed; 0 where none did.
+    /// The greatest version of the object that a read showed; 0 if none did.
     shown: u32,
 }
 
@@ -45,7 +45,7 @@ impl Model for CopyRow {
     ghost view = { λ c. kept_in c.row c.known c.wanted c.shown };
 }
 
-/// Its name alone: deriving it for all that it holds would be dear to prove, and nothing prints it.
+/// Writes its name alone. Deriving this for all that it holds would cost much to prove, and nothing prints it.
 impl Debug for CopyRow {
     fn fmt<W: fmt::Write>(&self, f: &mut Formatter<W>) -> fmt::Result {
         f.debug_struct("CopyRow").finish_non_exhaustive()
@@ -62,7 +62,7 @@ impl Identified for CopyRow {
     }
 }
 
-/// A content that says nothing but its kind, and takes no memory.
+/// Returns a content that says nothing but its kind, and takes no memory.
 fn content_of_class(alloc: Global, class: Class) -> Content
     ensures { is_folder result ≡ is_container class }
 {
@@ -84,7 +84,7 @@ fn content_of_class(alloc: Global, class: Class) -> Content
     }
 }
 
-/// The trackers of a container that was added at a number; a track has none.
+/// Returns the trackers of a container that was added at a number; a track has none.
 fn trackers_of_class(number: u32, class: Class) -> Option<Trackers>
     ensures { result ≡ new_trackers number class }
 {
@@ -98,7 +98,7 @@ fn trackers_of_class(number: u32, class: Class) -> Option<Trackers>
     }
 }
 
-/// The trackers after a change of a child. A count that rises stands still at its last value.
+/// Returns the trackers after a change of a child. A count that rises stands still at its last value.
 fn counted(trackers: Trackers, change: ChildChange, number: u32) -> Trackers
     ensures { result ≡ counts change number trackers }
 {
@@ -126,7 +126,7 @@ fn count_row(row: &mut Row, change: ChildChange, number: u32)
 }
 
 impl CopyRow {
-    /// A row that a load has read.
+    /// Returns a row that a load has read.
     pub fn of(row: Row) -> CopyRow
         ensures { result ≡ loaded_row row }
     {
@@ -138,7 +138,7 @@ impl CopyRow {
         }
     }
 
-    /// The row of an object that a note added, condition: its id is above 0.
+    /// Returns the row of an object that a note added. Condition: its id is above 0.
     pub(crate) fn added(alloc: Global, id: u32, number: u32, parent: u32, class: Class) -> CopyRow
         requires { 0 < id }
         ensures { result ≡ new_row id number parent class }
@@ -158,14 +158,14 @@ impl CopyRow {
         }
     }
 
-    /// The row, where it is known what the object says.
+    /// Returns the row, if it is known what the object says.
     pub fn row(&self) -> Option<&Row>
         ensures { option_copied result ≡ shown_row self.now.row }
     {
         if self.known { Some(&self.row) } else { None }
     }
 
-    /// The id of the parent; the root has none.
+    /// Returns the id of the parent; the root has none.
     pub(crate) fn parent(&self) -> Option<u32>
         ensures { result ≡ self.now.row.parent }
     {
@@ -175,21 +175,22 @@ impl CopyRow {
         }
     }
 
-    /// Whether it is a container's.
+    /// Returns whether it is a container's.
     pub(crate) fn is_folder(&self) -> bool
         ensures { result ≡ self.now.row.folder }
     {
         self.row.content.is_folder()
     }
 
-    /// Whether the object is to be read: no read showed the number at which it was last added or modified, or a later one.
+    /// Returns whether the object is to be read: no read showed the number at which it was last added or modified, or a later
+    /// one.
     pub(crate) fn is_wanted(&self) -> bool
         ensures { result ≡ is_wanted self.now }
     {
         self.shown < self.wanted
     }
 
-    /// Whether it is the row of this object.
+    /// Returns whether it is the row of this object.
     fn is_of(&self, id: Option<u32>) -> bool
         ensures { result ≡ option_eq nat_eq (Some self.now.row.id) id }
     {
@@ -199,7 +200,7 @@ impl CopyRow {
         }
     }
 
-    /// Counts a change of a child in the trackers, where this is the parent's row.
+    /// Counts a change of a child in the trackers, if this is the parent's row.
     pub(crate) fn count(&mut self, parent: Option<u32>, change: ChildChange, number: u32)
         ensures { self.new ≡ counted_row (counts change number) parent self.old }
     {
@@ -208,7 +209,7 @@ impl CopyRow {
         }
     }
 
-    /// Has the object read at this number or later, where this is its row.
+    /// Has the object read at this number or later, if this is its row.
     pub(crate) fn want(&mut self, id: u32, number: u32)
         ensures { self.new ≡ wanted_row id number self.old }
     {
@@ -217,8 +218,8 @@ impl CopyRow {
         }
     }
 
-    /// Takes what a read showed, condition: the content is of the row's kind. A version lower than the one that is kept
-    /// is passed over.
+    /// Takes what a read showed. Condition: the content is of the row's kind. A version lower than the one that is kept is passed
+    /// over.
     pub(crate) fn read(&mut self, content: Content, version: u32)
         requires { is_folder content ≡ self.old.row.folder }
         ensures { self.new ≡ read_of_row (record { content = content; object_update = version }) self.old }

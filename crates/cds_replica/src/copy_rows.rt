@@ -33,7 +33,7 @@ fn want(rows: &mut Vec<CopyRow>, id: u32, number: u32)
     }
 }
 
-/// The parent of an object; none where it does not stand, or is the root.
+/// Returns the parent of an object, or none if it does not stand or is the root.
 fn parent_of(rows: &[CopyRow], id: u32) -> Option<u32>
     ensures { result ≡ parent_among id rows.now }
 {
@@ -88,7 +88,7 @@ fn delete(rows: &mut Vec<CopyRow>, id: u32, number: u32)
     count_children(rows, parent, ChildChange::Deleted, number);
 }
 
-/// Makes a change, where there is room for it and it adds no root.
+/// Makes a change. Conditions: there is room for it, and it does not add the root.
 fn change(rows: &mut Vec<CopyRow>, alloc: Global, event: &Event)
     requires room { vec_len rows.old + adds event.now ≤ vec_capacity rows.old }
     requires above { AddsNoRoot event.now }
@@ -110,7 +110,7 @@ fn change(rows: &mut Vec<CopyRow>, alloc: Global, event: &Event)
     }
 }
 
-/// Makes changes one after the other, where there is room for them and none adds the root.
+/// Makes changes one after the other. Conditions: there is room for them, and none adds the root.
 pub fn change_all(rows: &mut Vec<CopyRow>, alloc: Global, events: &[Event])
     requires room { vec_len rows.old + additions events.now ≤ vec_capacity rows.old }
     requires above { AllByRecursion AddsNoRoot events.now }
@@ -121,7 +121,7 @@ pub fn change_all(rows: &mut Vec<CopyRow>, alloc: Global, events: &[Event])
     }
 }
 
-/// How many of these are additions.
+/// Returns how many of these are additions.
 pub fn additions(events: &[Event]) -> usize
     ensures { result ≡ additions events.now }
 {
@@ -131,7 +131,7 @@ pub fn additions(events: &[Event]) -> usize
         .count()
 }
 
-/// Takes what a read showed of an object, condition: the content is of its kind.
+/// Takes what a read showed of an object. Condition: the content is of its kind.
 pub fn read(rows: &mut [CopyRow], id: u32, content: Content, version: u32)
     requires { IsOfKind content (known_of id (map (λ (kept : KeptRow). kept.row) rows.old)) }
     ensures { rows.new ≡ rows_read id (record { content = content; object_update = version }) rows.old }

@@ -1,9 +1,11 @@
+//! Why changes were not counted on a copy.
+
 use cds_base::Mem;
 use std::alloc::AllocError;
 use std::convert::From;
 use thiserror::Error;
 
-/// Why changes were not counted on a copy. The copy is as before then.
+/// Why changes were not counted on a copy. The copy is then as before.
 #[derive(Clone, Copy, Debug, PartialEq, Eq, Error)]
 pub enum CountError {
     /// The first change is not the one after the position.

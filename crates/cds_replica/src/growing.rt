@@ -13,7 +13,7 @@ use cds_object::Row;
 use std::alloc::{AllocError, Global};
 
 impl Listing {
-    /// What a load begins with: the root's row, and the root waits. Without memory the row comes back.
+    /// Returns what a load begins with: the root's row, and the root waits. Without memory the row comes back.
     pub fn new(alloc: Global, root: Row) -> Result<Listing, Row>
         ensures ok { IfOk result (λ listing. listing_in listing ≡ listing_of root) }
         ensures err { IfErr result (λ row. row ≡ root) }
@@ -32,7 +32,7 @@ impl Listing {
         })
     }
 
-    /// What a page that fits leads to, where it does not end the load. Without memory both come back.
+    /// Returns what a page that fits leads to, if it does not end the load. Without memory both come back.
     pub fn with_page(self, alloc: Global, page: Vec<Row>) -> Result<Listing, (Listing, Vec<Row>)>
         requires short { length self.part.items + length page.items < 2 ^ 32 }
         requires goes_on { ends_load (listing_in self) page.items ≡ false }
@@ -46,21 +46,21 @@ impl Listing {
         }
     }
 
-    /// Whether a page is its container's last.
+    /// Returns whether a page is its container's last.
     fn is_last(&self, page: &[Row]) -> bool
         ensures { result ≡ nat_eq (length (self.now.part.items ++ page.now)) (listed_children (listing_in self.now)) }
     {
         self.part.len() + page.len() == self.children() as usize
     }
 
-    /// Whether a page ends the load.
+    /// Returns whether a page ends the load.
     pub fn ends_load(&self, page: &[Row]) -> bool
         ensures { result ≡ ends_load (listing_in self.now) page.now }
     {
         self.is_last(page) && self.ends_with(page)
     }
 
-    /// The listing with a page that is not the container's last.
+    /// Returns the listing with a page that is not the container's last.
     fn with_more(self, mut page: Vec<Row>) -> Result<Listing, (Listing, Vec<Row>)>
         requires { length self.part.items + length page.items < 2 ^ 32 }
         ensures ok { IfOk result (λ listing. listing_in listing ≡ with_part (listing_in self) page.items) }
@@ -83,7 +83,7 @@ impl Listing {
         }
     }
 
-    /// The listing after the last page of a container, where another one waits.
+    /// Returns the listing after the last page of a container, if another one waits.
     fn with_last_page(
         self,
         alloc: Global,
@@ -120,7 +120,7 @@ impl Listing {
     }
 }
 
-/// Makes room for so many rows and for as many containers.
+/// Makes room for this many rows and for as many containers.
 fn reserve(rows: &mut Vec<Row>, waiting: &mut Vec<Container>, more: usize) -> Result<(), AllocError>
     ensures rows { rows.new.items ≡ rows.old.items }
     ensures waiting { waiting.new.items ≡ waiting.old.items }

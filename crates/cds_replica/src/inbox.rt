@@ -1,5 +1,5 @@
-//! Which notes are taken and which are held, with no copy in it (this project's profile, over UPnP Device Architecture 2.0
-//! on event keys).
+//! Which notes are taken and which are held, with no copy in it (this project's profile, over UPnP Device Architecture 2.0 on
+//! event keys).
 
 ghost use Rattle.std.specs.Prelude.{◌≡◌, ◌^◌, ◌<◌, ◌≤◌, ◌&&◌, ◌||◌, [], ◌∷◌, cond, filter, not, nat_eq, nat_lt, nat_le, IsTrue, IfOk, OnOk, OnErr, option_copied};
 ghost use Rattle.std.specs.List.{list_any};
@@ -29,7 +29,7 @@ pub enum Arrival {
     Unknown,
     /// It came before.
     Repeat,
-    /// It cannot be taken now, and so many notes are held.
+    /// It cannot be taken now, and this many notes are held.
     Full { held: u32 },
     /// It is held for the request that is out.
     Early,
@@ -39,8 +39,8 @@ pub enum Arrival {
     Next,
 }
 
-/// The name that was accepted last, whether a subscribe request is out, the SEQ after those that were taken, the notes
-/// that were received and not taken, and the early ones. Of the held notes the newest stands first.
+/// The name that was accepted last; whether a subscribe request is out; the SEQ after those that were taken; the notes that were
+/// received and not taken; and the early ones. Of the held notes the newest is the first.
 #[derive(Drop)]
 pub struct Inbox {
     accepted: Option<Sid>,
@@ -68,7 +68,7 @@ impl Model for Inbox {
 }
 
 impl Inbox {
-    /// The inbox before any turn, which takes no memory.
+    /// Returns the inbox before any turn, which takes no memory.
     pub fn new(alloc: Global) -> Inbox
         ensures { result ≡ inbox_of [] }
     {
@@ -81,21 +81,21 @@ impl Inbox {
         }
     }
 
-    /// The name that was accepted last.
+    /// Returns the name that was accepted last.
     pub fn accepted(&self) -> Option<Sid>
         ensures { option_map (λ sid. sid.0) result ≡ self.now.accepted }
     {
         self.accepted
     }
 
-    /// Whether a subscribe request is out.
+    /// Returns whether a subscribe request is out.
     pub fn is_out(&self) -> bool
         ensures { result ≡ self.now.out }
     {
         self.out
     }
 
-    /// The SEQ that is missing: a later one was received.
+    /// Returns the SEQ that is missing: a later one was received.
     pub fn missing(&self) -> Option<u32>
         ensures { result ≡ missing_of self.now.waiting self.now.next }
     {
@@ -106,7 +106,7 @@ impl Inbox {
         }
     }
 
-    /// Whether a note waits for the next SEQ.
+    /// Returns whether a note waits for the next SEQ.
     fn waits(&self) -> bool
         ensures waits { result ≡ list_any (λ note. nat_lt self.now.next note.seq) self.now.waiting }
         ensures fits { IsTrue result → self.now.next < 2 ^ 32 }
@@ -117,14 +117,14 @@ impl Inbox {
         }
     }
 
-    /// What holds of every inbox, which this makes known where a proof needs it.
+    /// Makes known what holds of every inbox. Only proofs need it.
     pub fn facts(&self)
         ensures { IsInbox self.now }
     {
         let _ = &self.waiting;
     }
 
-    /// What becomes of a delivered note.
+    /// Returns what becomes of a delivered note.
     pub fn arrival(&self, note: &Note) -> Arrival
         ensures { arrival_of result ≡ arrival_in note.now self.now }
     {
@@ -140,7 +140,7 @@ impl Inbox {
         self.placed(note)
     }
 
-    /// What becomes of a note that is none of those before.
+    /// Returns what becomes of a note that is none of those before.
     fn placed(&self, note: &Note) -> Arrival
         ensures { arrival_of result ≡ cond (not (accepts note.now.name self.now)) IsEarly
             (cond (nat_lt self.now.next note.now.seq) (IsHeld self.now.next) IsNext) }
@@ -157,7 +157,7 @@ impl Inbox {
         }
     }
 
-    /// Whether a name is the accepted one.
+    /// Returns whether a name is the accepted one.
     fn accepts(&self, sid: Sid) -> bool
         ensures { result ≡ accepts sid.0 self.now }
     {
@@ -167,14 +167,14 @@ impl Inbox {
         }
     }
 
-    /// Whether nothing is known of a name.
+    /// Returns whether nothing is known of a name.
     fn is_unknown(&self, sid: Sid) -> bool
         ensures { result ≡ (not (accepts sid.0 self.now) && not self.now.out) }
     {
         !self.accepts(sid) && !self.out
     }
 
-    /// Whether a note came before.
+    /// Returns whether a note came before.
     fn repeats(&self, note: &Note) -> bool
         ensures { result ≡ repeats note.now self.now }
     {
@@ -185,7 +185,7 @@ impl Inbox {
         }
     }
 
-    /// Whether a note of the accepted name with this SEQ was taken or waits.
+    /// Returns whether a note of the accepted name with this SEQ was taken or waits.
     fn has_received(&self, seq: u32) -> bool
         ensures { result ≡ (nat_lt seq self.now.next || has_seq self.now.waiting seq) }
     {
@@ -193,28 +193,28 @@ impl Inbox {
         seq < self.next || has_seq(&self.waiting, seq)
     }
 
-    /// Whether a note is the next one.
+    /// Returns whether a note is the next one.
     fn follows(&self, note: &Note) -> bool
         ensures { result ≡ follows note.now self.now }
     {
         self.accepts(note.sid) && u64::from(note.seq) == self.next
     }
 
-    /// Whether a note cannot be taken now, and no room is left to hold it.
+    /// Returns whether a note cannot be taken now, and no room is left to hold it.
     fn is_full(&self, note: &Note) -> bool
         ensures { result ≡ (not (follows note.now self.now) && nat_le held_limit (held_count self.now)) }
     {
         !self.follows(note) && HELD_LIMIT <= self.held()
     }
 
-    /// How many notes are held.
+    /// Returns how many notes are held.
     fn held(&self) -> u32
         ensures { result ≡ held_count self.now }
     {
         (self.waiting.len() + self.early.len()) as u32
     }
 
-    /// What the next note and those that follow it tell.
+    /// Returns what the next note and those that follow it tell.
     pub fn told_by(
         &self,
         alloc: Global,
@@ -233,7 +233,7 @@ impl Inbox {
         Ok(told)
     }
 
-    /// The notes that wait.
+    /// Returns the notes that wait.
     fn waiting(&self) -> &[Note]
         ensures waiting { result.now ≡ self.now.waiting }
         ensures facts { IsInbox self.now }
@@ -241,14 +241,14 @@ impl Inbox {
         self.waiting.as_slice()
     }
 
-    /// The early notes.
+    /// Returns the early notes.
     fn early(&self) -> &[Note]
         ensures { result.now ≡ self.now.early }
     {
         self.early.as_slice()
     }
 
-    /// The SEQ after the next note and those that follow it.
+    /// Returns the SEQ after the next note and those that follow it.
     fn run_after(&self, note: &Note) -> u64
         requires { IsTrue (follows note.now self.now) }
         ensures after { result ≡ run_after self.now }
@@ -257,7 +257,7 @@ impl Inbox {
         run_end(self.waiting(), note.name(), note.next_seq())
     }
 
-    /// What the early notes of a name tell that are taken where it is accepted.
+    /// Returns what the early notes of a name tell that are taken when it is accepted.
     pub fn told_early(
         &self,
         alloc: Global,
@@ -274,28 +274,28 @@ impl Inbox {
         Ok(told)
     }
 
-    /// Whether the first of these drops the copy.
+    /// Returns whether the first of these drops the copy.
     pub fn drops_early(&self, sid: Sid, position: u32) -> bool
         ensures { result ≡ is_drop position (taken_early sid.0 self.now) }
     {
         drops(note_of(self.early(), sid, 0), position)
     }
 
-    /// A subscribe request goes out.
+    /// Keeps that a subscribe request goes out.
     pub fn request(&mut self)
         ensures { self.new ≡ with_request self.old }
     {
         self.drop_early(true);
     }
 
-    /// The request was refused.
+    /// Keeps that the request was refused.
     pub fn refuse(&mut self)
         ensures { self.new ≡ with_refusal self.old }
     {
         self.drop_early(false);
     }
 
-    /// Drops the early notes, where a request goes out or was refused.
+    /// Drops the early notes, because a request goes out or was refused.
     fn drop_early(&mut self, out: bool)
         ensures { self.new ≡ record self.old { out = out; early = [] } }
     {
@@ -303,7 +303,7 @@ impl Inbox {
         self.out = out;
     }
 
-    /// A name was accepted: its early notes are taken, or wait.
+    /// Accepts a name: its early notes are taken, or wait.
     pub fn accept(&mut self, sid: Sid)
         ensures { self.new ≡ with_name sid.0 self.old }
     {
@@ -349,7 +349,7 @@ impl Inbox {
     }
 }
 
-/// Whether a first note drops the copy at a position.
+/// Returns whether a first note drops the copy at a position.
 fn drops(note: Option<&Note>, position: u32) -> bool
     ensures { result ≡ drops_first position (option_copied note.entry) }
 {
@@ -359,14 +359,14 @@ fn drops(note: Option<&Note>, position: u32) -> bool
     }
 }
 
-/// Whether a note is one of this name behind a SEQ.
+/// Returns whether a note is one of this name after a SEQ.
 fn is_behind(note: &Note, name: u128, next: u64) -> bool
     ensures { result ≡ (nat_eq note.now.name name && nat_lt next note.now.seq) }
 {
     note.sid.0 == name && next < u64::from(note.seq)
 }
 
-/// Keeps the notes of a name behind a SEQ.
+/// Keeps the notes of a name after a SEQ.
 fn keep_behind(notes: &mut Vec<Note>, sid: Sid, next: u64)
     ensures { notes.new.items ≡ filter (λ note. nat_eq note.name sid.0 && nat_lt next note.seq) notes.old.items }
 {
@@ -374,14 +374,14 @@ fn keep_behind(notes: &mut Vec<Note>, sid: Sid, next: u64)
     notes.retain(|note| is_behind(note, name, next));
 }
 
-/// Whether one of these notes has this SEQ.
+/// Returns whether one of these notes has this SEQ.
 fn has_seq(notes: &[Note], seq: u64) -> bool
     ensures { result ≡ has_seq notes.now seq }
 {
     notes.iter().any(|note| note.has_seq(seq))
 }
 
-/// Whether one of these notes has the name and the SEQ of another.
+/// Returns whether one of these notes has the name and the SEQ of another.
 fn has_same(notes: &[Note], note: &Note) -> bool
     ensures { result ≡ list_any (is_same_note note.now) notes.now }
 {

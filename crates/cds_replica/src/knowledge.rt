@@ -1,4 +1,4 @@
-//! What a replica knows beside its notes.
+//! What a replica knows besides its notes.
 
 ghost use Rattle.std.specs.Prelude.{◌≡◌, map, IfOk, option_copied, slice_get};
 ghost use Rattle.cds_follow.specs.Follow.{nothing_known};
@@ -42,7 +42,7 @@ impl Model for Knowledge {
 }
 
 impl Knowledge {
-    /// What is known before any turn, which takes no memory.
+    /// Returns what is known before any turn, which takes no memory.
     pub fn new(alloc: Global) -> Knowledge
         ensures { result ≡ kept_known nothing_known }
     {
@@ -54,14 +54,14 @@ impl Knowledge {
         }
     }
 
-    /// The greatest of the number that the last ended load read and the numbers of all notes that were taken.
+    /// Returns the greatest of the number that the last ended load read and the numbers of all notes that were taken.
     pub fn position(&self) -> u32
         ensures { result ≡ kept_position self.now }
     {
         self.base.max(self.last_note)
     }
 
-    /// The greatest number of a note that was taken.
+    /// Returns the greatest number of a note that was taken.
     pub fn last_note(&self) -> u32
         ensures { result ≡ self.now.last_note }
     {
@@ -102,7 +102,7 @@ impl Knowledge {
         Ok(())
     }
 
-    /// The next read.
+    /// Returns the next read.
     pub fn next_ask(&self) -> Option<Ask>
         ensures { result ≡ phase_ask self.now.phase }
     {
@@ -139,7 +139,7 @@ impl Knowledge {
         self.phase.go_to(phase);
     }
 
-    /// What is said where no SEQ is missing.
+    /// Returns what is said if no SEQ is missing.
     pub fn says(&self) -> Says
         ensures { result ≡ phase_tells self.now self.now.phase }
     {
@@ -149,14 +149,14 @@ impl Knowledge {
         }
     }
 
-    /// The rows of the copy, in ascending order of ids; none where no copy stands.
+    /// Returns the rows of the copy, in ascending order of ids; none if no copy stands.
     pub fn rows(&self) -> &[CopyRow]
         ensures { map (λ kept. kept.row) result.now ≡ phase_all self.now.phase }
     {
         self.phase.rows()
     }
 
-    /// The row of the copy at a place among those of which it is known what they say.
+    /// Returns the row of the copy at a place among those of which it is known what they say.
     pub fn row(&self, at: usize) -> Option<&Row>
         ensures { option_copied result ≡ slice_get (phase_rows self.now.phase) at }
     {
@@ -164,7 +164,7 @@ impl Knowledge {
     }
 }
 
-/// What a copy says at a position.
+/// Returns what a copy says at a position.
 fn copy_says(copy: &CatalogCopy, position: u32) -> Says
     ensures { result ≡ copy_tells position copy.now (least_wanted copy.now) }
 {

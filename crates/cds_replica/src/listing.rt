@@ -34,7 +34,7 @@ impl Identified for Container {
 }
 
 impl Container {
-    /// The container of a row, `None` where it is a track's.
+    /// Returns the container of a row, or `None` if it is a track's.
     pub fn of(row: &Row) -> Option<Container>
         ensures { result ≡ waiting_of row.now }
     {
@@ -47,7 +47,7 @@ impl Container {
         }
     }
 
-    /// How many children it has.
+    /// Returns how many children it has.
     pub fn children(&self) -> u32
         ensures { result ≡ self.now.children }
     {
@@ -55,8 +55,8 @@ impl Container {
     }
 }
 
-/// The rows of whole listings in ascending order of ids, the containers among them that are not listed yet, and the
-/// children shown so far of the first of these.
+/// The rows of whole listings in ascending order of ids; the containers among them that are not listed yet; and the children
+/// shown so far of the first of these.
 #[derive(Drop)]
 pub struct Listing {
     pub rows: Vec<Row>,

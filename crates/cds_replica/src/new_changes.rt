@@ -31,7 +31,7 @@ impl Model for NewChanges {
 }
 
 impl NewChanges {
-    /// What no note tells, at a position.
+    /// Returns what no note tells, at a position.
     pub fn new(alloc: Global, position: u32, last_note: u32) -> NewChanges
         ensures { result ≡ nothing_told position last_note }
     {
@@ -42,21 +42,21 @@ impl NewChanges {
         }
     }
 
-    /// The greatest number of a note.
+    /// Returns the greatest number of a note.
     pub fn last_note(&self) -> u32
         ensures { result ≡ self.now.last_note }
     {
         self.last_note
     }
 
-    /// The changes that were new.
+    /// Returns the changes that were new.
     pub fn changes(&self) -> &[Event]
         ensures { result.now ≡ self.now.changes }
     {
         self.changes.as_slice()
     }
 
-    /// The changes that were new, by value.
+    /// Returns the changes that were new, by value.
     pub fn into_changes(self) -> Vec<Event>
         ensures { result.items ≡ self.changes }
     {
@@ -86,7 +86,7 @@ impl NewChanges {
     }
 }
 
-/// The note of a name and a SEQ, which came first of these: the newest stands first.
+/// Returns the note of a name and a SEQ, the one that came first. Of these notes the newest is the first.
 pub fn note_of(notes: &[Note], sid: Sid, seq: u64) -> Option<&Note>
     ensures note { option_copied result ≡ note_of seq (of_name sid.0 notes.now) }
     ensures seq { IfSome result (λ note. note.now.seq ≡ seq) }
@@ -101,7 +101,7 @@ pub fn note_of(notes: &[Note], sid: Sid, seq: u64) -> Option<&Note>
     found
 }
 
-/// The SEQ after those that the notes of a name have from one on without a hole.
+/// Returns the SEQ after those that the notes of a name have from one on without a hole.
 pub fn run_end(notes: &[Note], sid: Sid, from: u64) -> u64
     requires { from ≤ 2 ^ 32 }
     ensures end { result ≡ run_end from (of_name sid.0 notes.now) }

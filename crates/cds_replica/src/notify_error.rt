@@ -1,3 +1,5 @@
+//! Why a note was not taken.
+
 ghost use Rattle.std.specs.Prelude.{◌≡◌};
 
 use cds_base::Mem;
@@ -5,13 +7,13 @@ use std::alloc::AllocError;
 use std::convert::From;
 use thiserror::Error;
 
-/// Why a note was refused, or a name with the notes that came early for it. The replica is as before then.
+/// Why a note was refused, or a name with the notes that came early for it. The replica is then as before.
 #[derive(Clone, Copy, Debug, PartialEq, Eq, Error)]
 pub enum NotifyError {
     /// The name is not the accepted one, and no subscribe request is out.
     #[error("the name of the note is not known")]
     Unknown,
-    /// The note cannot be taken now, and so many notes are held.
+    /// The note cannot be taken now, and this many notes are held.
     #[error("{held} notes are held, and no more are")]
     Full { held: u32 },
     /// The first change above the position is not the one after it.

@@ -1,5 +1,4 @@
-//! The rows of a copy in outline, and whether changes can be: what is told is judged as a whole before any of it is
-//! counted.
+//! The rows of a copy in outline, and whether changes can be. What is told is judged as a whole before any of it is counted.
 
 ghost use Rattle.std.specs.Prelude.{◌≡◌, nat_eq, not, filter, IfOk};
 ghost use Rattle.std.specs.Option.{option_eq};
@@ -12,7 +11,7 @@ use cds_base::Mem;
 use cds_object::{Class, Event};
 use std::alloc::Global;
 
-/// What of a row decides whether a change can be.
+/// What decides of a row whether a change can be.
 #[derive(Clone, Copy, Drop)]
 pub struct Outline {
     pub id: u32,
@@ -31,14 +30,14 @@ impl Identified for Outline {
     }
 }
 
-/// Whether an object stands.
+/// Returns whether an object stands.
 fn has_object(outlines: &[Outline], id: u32) -> bool
     ensures { result ≡ has_object id outlines.now }
 {
     outlines.iter().any(|outline| outline.id == id)
 }
 
-/// Whether a container of this id stands.
+/// Returns whether a container of this id stands.
 fn has_container(outlines: &[Outline], id: u32) -> bool
     ensures { result ≡ has_container id outlines.now }
 {
@@ -47,7 +46,7 @@ fn has_container(outlines: &[Outline], id: u32) -> bool
         .any(|outline| outline.id == id && outline.folder)
 }
 
-/// Whether the parent of an object is this one.
+/// Returns whether the parent of an object is this one.
 fn is_child(outline: &Outline, id: u32) -> bool
     ensures { result ≡ option_eq nat_eq outline.now.parent (Some id) }
 {
@@ -57,15 +56,15 @@ fn is_child(outline: &Outline, id: u32) -> bool
     }
 }
 
-/// Whether an object has a child.
+/// Returns whether an object has a child.
 fn has_child(outlines: &[Outline], id: u32) -> bool
     ensures { result ≡ has_child id outlines.now }
 {
     outlines.iter().any(|outline| is_child(outline, id))
 }
 
-/// Whether a change cannot be: an addition is of an id that does not stand, under a container that does; a modification or
-/// deletion is of what stands, and never the root's; a deletion is of what has no child.
+/// Returns whether a change cannot be. An addition is of an id that does not stand, under a container that does. A modification
+/// or deletion is of what stands, and never the root's. A deletion is of what has no child.
 fn cannot_be(outlines: &[Outline], event: &Event) -> bool
     ensures { result ≡ outline_cannot outlines.now event.now }
 {
@@ -123,7 +122,7 @@ fn change(outlines: &mut Vec<Outline>, event: &Event) -> Result<(), Mem>
     }
 }
 
-/// The object of the first change that cannot be, one after the other.
+/// Returns the object of the first change that cannot be, one after the other.
 pub fn first_cannot(mut outlines: Vec<Outline>, events: &[Event]) -> Result<Option<u32>, Mem>
     ensures { IfOk result (λ first. first ≡ outlines_cannot outlines.items events.now) }
 {
@@ -136,7 +135,7 @@ pub fn first_cannot(mut outlines: Vec<Outline>, events: &[Event]) -> Result<Opti
     Ok(None)
 }
 
-/// The outline of a row of a copy.
+/// Returns the outline of a row of a copy.
 fn outline_of(row: &CopyRow) -> Outline
     ensures { result ≡ outline_of row.now.row }
 {
@@ -147,7 +146,7 @@ fn outline_of(row: &CopyRow) -> Outline
     }
 }
 
-/// The rows of a copy in outline.
+/// Returns the rows of a copy in outline.
 pub fn outlines_of(alloc: Global, rows: &[CopyRow]) -> Result<Vec<Outline>, Mem>
     ensures { IfOk result (λ outlines. outlines.items ≡ outlines_of rows.now) }
 {

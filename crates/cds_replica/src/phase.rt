@@ -30,7 +30,7 @@ impl Phase {
         drop(mem::replace(self, phase));
     }
 
-    /// The next read.
+    /// Returns the next read.
     pub fn next_ask(&self) -> Option<Ask>
         ensures { result ≡ phase_ask (phase_in self.now) }
     {
@@ -43,7 +43,7 @@ impl Phase {
         }
     }
 
-    /// The row at a place among those of which it is known what they say.
+    /// Returns the row at a place among those of which it is known what they say.
     pub fn row(&self, at: usize) -> Option<&Row>
         ensures { option_copied result ≡ slice_get (phase_rows (phase_in self.now)) at }
     {
@@ -53,7 +53,7 @@ impl Phase {
         }
     }
 
-    /// The rows of the copy, in ascending order of ids; none where no copy stands.
+    /// Returns the rows of the copy, in ascending order of ids; none if no copy stands.
     pub fn rows(&self) -> &[CopyRow]
         ensures { map (λ kept. kept.row) result.now ≡ phase_all (phase_in self.now) }
     {
@@ -63,8 +63,7 @@ impl Phase {
         }
     }
 
-    /// Takes the changes that notes tell, each above the position: a load keeps them beside the others, and a copy counts
-    /// them.
+    /// Takes the changes that notes tell, each above the position. A load keeps them with the others, and a copy counts them.
     pub fn hear(
         &mut self,
         alloc: Global,

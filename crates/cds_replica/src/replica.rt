@@ -1,3 +1,5 @@
+//! The replica of a server: its calls, and what they answer.
+
 ghost use Rattle.std.specs.Prelude.{◌≡◌, [], List, ◌∷◌, ◌++◌, None, map, IsOk, IfOk, IfSome, IsSome, IsTrue, OnOk, OnErr, option_copied, slice_get, codes};
 ghost use Rattle.std.specs.List.{filter_map};
 ghost use Rattle.std.specs.Option.{option_map};
@@ -36,9 +38,9 @@ use std::fmt::{Debug, Formatter};
 use std::marker::Model;
 use url::Url;
 
-/// A copy of a server's catalog that goes on with the notes of a subscription, or the load that is to give one. It stands for
-/// the turns that it took, the newest first, though it keeps none of them: a load that was begun, a reply, a subscribe
-/// request, its answer, a note. A turn that is refused is none.
+/// A copy of a server's catalog that goes on with the notes of a subscription, or the load that is to give one. It stands for the
+/// turns that it took, the newest first, though it keeps none of them. A turn is a load that was begun, a reply, a subscribe
+/// request, its answer, or a note. A turn that is refused is none.
 #[derive(Drop)]
 pub struct Replica {
     known: Knowledge,
@@ -53,7 +55,7 @@ impl Model for Replica {
     ghost view = { λ r. record { known = r.known; inbox = r.inbox } };
 }
 
-/// Its name alone: deriving it for all that it holds would be dear to prove, and nothing prints it.
+/// Writes its name alone. Deriving this for all that it holds would cost much to prove, and nothing prints it.
 impl Debug for Replica {
     fn fmt<W: fmt::Write>(&self, f: &mut Formatter<W>) -> fmt::Result {
         f.debug_struct("Replica").finish_non_exhaustive()
@@ -61,7 +63,7 @@ impl Debug for Replica {
 }
 
 impl Replica {
-    /// A replica without a copy and without a subscription, which takes no memory.
+    /// Returns a replica without a copy and without a subscription, which takes no memory.
     pub fn new(alloc: Global) -> Replica
         ensures { StandsFor result [] }
     {
@@ -71,7 +73,7 @@ impl Replica {
         }
     }
 
-    /// What holds of the notes of every replica, which this makes known where a proof needs it.
+    /// Makes known what holds of the notes of every replica. Only proofs need it.
     fn facts(&self)
         ensures { HoldsFew self.now }
     {
@@ -89,7 +91,7 @@ impl Replica {
         Ok(())
     }
 
-    /// A subscribe request goes out. The early notes of the request before it are dropped.
+    /// Keeps that a subscribe request goes out. The early notes of the request before it are dropped.
     pub fn subscribing(&mut self) -> Result<(), Mem>
         ensures ok { IsOk result }
         ensures stands { GoesOn self.old Requests self.new }
@@ -100,7 +102,7 @@ impl Replica {
         Ok(())
     }
 
-    /// The request was refused. Its early notes are dropped, and the subscription from before stays.
+    /// Keeps that the request was refused. Its early notes are dropped, and the subscription from before stays.
     pub fn not_subscribed(&mut self)
         ensures stands { GoesOn self.old Refuses self.new }
         ensures few { HoldsFew self.new }
@@ -109,7 +111,7 @@ impl Replica {
         self.facts();
     }
 
-    /// Whether a subscribe request is out.
+    /// Returns whether a subscribe request is out.
     pub fn is_subscribing(&self) -> bool
         ensures kept { result ≡ self.now.inbox.out }
         ensures request { (turns : List ReplicaTurn) → StandsFor self.now turns → result ≡ is_out turns }
@@ -117,9 +119,9 @@ impl Replica {
         self.inbox.is_out()
     }
 
-    /// The request was answered with a name, condition: it is out. The notes that are held for the name from before are
-    /// dropped; of the early notes those of the new name are taken or held, and the others dropped. `Jump` and `Torn` come
-    /// as in `notify`, and then nothing changes.
+    /// Accepts the name that the request was answered with. Condition: the request is out. The notes that are held for the name
+    /// from before are dropped. Of the early notes those of the new name are taken or held, and the others dropped. `Jump` and
+    /// `Torn` come as in `notify`, and then nothing changes.
     pub fn subscribed(&mut self, alloc: Global, sid: Sid) -> Result<(), NotifyError>
         requires { IsTrue self.old.inbox.out }
         ensures unchanged { OnErr result (self.new ≡ self.old) }
@@ -151,13 +153,19 @@ impl Replica {
         Ok(())
     }
 
-    /// Takes or holds a note, or refuses it, and then it counts as not delivered. What becomes of it is decided in this
-    /// order. `Unknown`: its name is not the accepted one, and no subscribe request is out. `Repeat`: it came before. `Full`:
-    /// it cannot be taken now, and 64 notes are held. `Early`: its name is not the accepted one. `Held`: a SEQ before it is
-    /// missing. Else it and the held notes that follow it without a hole are to be taken. `Jump`: the first change above the
-    /// position is not the one after it. `Torn`: a change names an object or a parent that it cannot. Else they are taken: a
-    /// first note above the position drops the copy and begins a load; each change above the position is counted once, or
-    /// kept for the load's end. All is decided, and all memory taken, before anything changes.
+    /// Takes or holds a note, or refuses it, and then it counts as not delivered. What becomes of it is decided in this order:
+    /// - `Unknown`: its name is not the accepted one, and no subscribe request is out.
+    /// - `Repeat`: it came before.
+    /// - `Full`: it cannot be taken now, and 64 notes are held.
+    /// - `Early`: its name is not the accepted one.
+    /// - `Held`: a SEQ before it is missing.
+    ///
+    /// Otherwise it and the held notes that follow it without a hole are to be taken. Two refusals may come:
+    /// - `Jump`: the first change above the position is not the one after it.
+    /// - `Torn`: a change names an object or a parent that it cannot.
+    ///
+    /// Otherwise they are taken. A first note above the position drops the copy and begins a load. Each change above the position
+    /// is counted once, or kept for the load's end. All is decided, and all memory taken, before anything changes.
     pub fn notify(&mut self, alloc: Global, note: Note) -> Result<Taken, NotifyError>
         ensures unchanged { OnErr result (self.new ≡ self.old) }
         ensures stands { UnlessNoMemory result (TakesTurn self.old (Delivers note) self.new) }
@@ -211,8 +219,8 @@ impl Replica {
         Ok(())
     }
 
-    /// The next read: that of the load, or else the own row of the unread object of the least id; `None` exactly where no
-    /// load runs and nothing is unread.
+    /// Returns the next read: that of the load, or else the own row of the unread object of the least id. It is `None` if and
+    /// only if no load runs and nothing is unread.
     pub fn next_ask(&self) -> Option<Ask>
         ensures kept { result ≡ phase_ask self.now.known.phase }
         ensures next { (turns : List ReplicaTurn) → StandsFor self.now turns → result ≡ next_ask (known_by turns) }
@@ -231,9 +239,9 @@ impl Replica {
         cds_exchange::ask_bytes(ask, url, out)
     }
 
-    /// Takes the bytes of the reply to the next ask, condition: there is one. It does what `take` does with what they show;
-    /// where they are no reply that answers the ask, or a page in them is no DIDL-Lite document, it answers `Unreadable`. What
-    /// is behind the reply is passed over. A refusal leaves the replica as it was.
+    /// Takes the bytes of the reply to the next ask. Condition: there is one. It does what `take` does with what they show. If
+    /// they are no reply that answers the ask, or a page in them is no DIDL-Lite document, it answers `Unreadable`. What comes
+    /// after the reply is passed over. A refusal leaves the replica as it was.
     pub fn answer(&mut self, alloc: Global, reply: &[u8]) -> Result<Read, AnswerError>
         requires { IsSome (phase_ask self.old.known.phase) }
         ensures unchanged { OnErr result (self.new ≡ self.old) }
@@ -255,7 +263,7 @@ impl Replica {
         }
     }
 
-    /// Takes what was read of the bytes of a reply, or refuses them where that is nothing.
+    /// Takes what was read of the bytes of a reply, or refuses them if that is nothing.
     fn take_read(&mut self, alloc: Global, read: Option<Shown>) -> Result<Read, AnswerError>
         requires { IsSome (phase_ask self.old.known.phase) }
         ensures { TakesRead self.old read self.new result }
@@ -266,7 +274,7 @@ impl Replica {
         }
     }
 
-    /// What the bytes of a reply show to the next ask.
+    /// Returns what the bytes of a reply show to the next ask.
     fn read_next(&self, alloc: Global, reply: &[u8]) -> Result<Option<Shown>, Mem>
         ensures { IfOk result (λ read. IsNextReading (phase_ask self.now.known.phase) reply.now read) }
     {
@@ -276,11 +284,13 @@ impl Replica {
         }
     }
 
-    /// Takes the reply to the next ask, condition: there is one. A refusal leaves the replica as it was. `Unreadable` comes
-    /// where the reply is of another kind than the ask, or is not one row where an object's row was asked. `Torn` comes where
-    /// the row of the root is another's or no container's; where the number stayed and the page before it was refused or does
-    /// not go on with the container's children; and where an object's own row is another's, or of another kind. `Jump` and
-    /// `Torn` come besides at the end of a load as in `notify`, of the changes that notes told meanwhile.
+    /// Takes the reply to the next ask. Condition: there is one. A refusal leaves the replica as it was. `Unreadable` comes if
+    /// the reply is of another kind than the ask, or is not one row if an object's row was asked. `Torn` comes in three cases:
+    /// - the row of the root is another's or no container's;
+    /// - the number stayed, and the page before it was refused or does not go on with the container's children;
+    /// - an object's own row is another's, or of another kind.
+    ///
+    /// At the end of a load `Jump` and `Torn` also come as in `notify`, of the changes that notes told meanwhile.
     pub fn take(&mut self, alloc: Global, shown: Shown) -> Result<Read, AnswerError>
         requires { IsSome (phase_ask self.old.known.phase) }
         ensures unchanged { OnErr result (self.new ≡ self.old) }
@@ -296,8 +306,8 @@ impl Replica {
         answer
     }
 
-    /// What is known of the server's catalog, in this order: a SEQ is missing; no copy stands; an object is unread; an object
-    /// was read as it was after a change that no note has told yet; or the copy stands at the position.
+    /// Returns what is known of the server's catalog, in this order: a SEQ is missing; no copy stands; an object is unread; an
+    /// object was read as it was after a change that no note has told yet; or the copy stands at the position.
     pub fn says(&self) -> Says
         ensures kept { result ≡ kept_says self.now }
         ensures says { (turns : List ReplicaTurn) → StandsFor self.now turns → result ≡ says turns }
@@ -311,8 +321,8 @@ impl Replica {
         }
     }
 
-    /// The row at a place among those of the copy of which it is known what they say, counted from 0, in ascending order of
-    /// ids; `None` past the end and where no copy stands. It takes a walk over the rows.
+    /// Returns the row at a place among those of the copy of which it is known what they say, counted from 0, in ascending order
+    /// of ids. It is `None` past the end, and if no copy stands. It takes a walk over the rows.
     pub fn rows(&self, at: usize) -> Option<&Row>
         ensures kept { option_copied result ≡ slice_get (phase_rows self.now.known.phase) at }
         ensures row { (turns : List ReplicaTurn) → StandsFor self.now turns → option_copied result ≡ slice_get (copied (known_by turns)) at }
@@ -322,8 +332,8 @@ impl Replica {
         self.known.row(at)
     }
 
-    /// The rows of the copy, in ascending order of ids, with those of which it is not known yet what they say; none where no
-    /// copy stands. To go over them takes one walk.
+    /// Returns the rows of the copy, in ascending order of ids, with those of which it is not known yet what they say. There are
+    /// none if no copy stands. To go over them takes one walk.
     pub fn copy(&self) -> &[CopyRow]
         ensures kept { map (λ kept. kept.row) result.now ≡ phase_all self.now.known.phase }
         ensures rows { (turns : List ReplicaTurn) → StandsFor self.now turns →
@@ -333,7 +343,7 @@ impl Replica {
         self.known.rows()
     }
 
-    /// The name of the subscription that was accepted last.
+    /// Returns the name of the subscription that was accepted last.
     pub fn accepted(&self) -> Option<Sid>
         ensures kept { option_map (λ sid. sid.0) result ≡ self.now.inbox.accepted }
         ensures name { (turns : List ReplicaTurn) → StandsFor self.now turns → option_map (λ sid. sid.0) result ≡ accepted turns }
@@ -342,7 +352,7 @@ impl Replica {
     }
 }
 
-/// The answer to a note whose changes cannot be counted.
+/// Returns the answer to a note whose changes cannot be counted.
 fn refusal_of(refusal: CountError) -> NotifyError
     ensures { result ≡ refusal_of refusal }
 {

@@ -26,7 +26,7 @@ pub enum Stage {
         number: u32,
         listing: Listing,
     },
-    /// A page came, or a refusal in its place, and the number is asked again.
+    /// A page came, or a refusal instead of one, and the number is asked again.
     HasPage {
         number: u32,
         listing: Listing,
@@ -35,7 +35,7 @@ pub enum Stage {
 }
 
 impl Stage {
-    /// The next read.
+    /// Returns the next read.
     pub fn next_ask(&self) -> Option<Ask>
         ensures { result ≡ next_ask (held_in self.now) }
     {

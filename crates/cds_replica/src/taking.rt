@@ -1,4 +1,4 @@
-//! What each reply leads to, stage by stage. Each step takes the stage's parts and hands them back where it refuses.
+//! What each reply leads to, stage by stage. Each step takes the stage's parts, and hands them back if it refuses.
 
 ghost use Rattle.std.specs.Prelude.{◌≡◌, ◌+◌, ◌<◌, ◌^◌, ◌&&◌, List, true, false, nat_eq, length, IfOk};
 ghost use Rattle.cds_object.specs.Object.{is_folder};
@@ -26,7 +26,7 @@ type Step = (Stage, Result<Read, AnswerError>);
 pub type PhaseStep = (Phase, Result<Read, AnswerError>);
 
 impl Stage {
-    /// What a reply leads to, with the changes that were kept for the load's end.
+    /// Returns what a reply leads to, with the changes that were kept for the load's end.
     pub fn take(self, alloc: Global, changes: &[Event], shown: Shown) -> PhaseStep
         ensures outcome { IsStep (load_takes changes.now (taken (held_in self) shown)) (Loads (held_in self)) (phase_in result.0) result.1 }
         ensures read { IfOk result.1 (λ read. read ≡ read_of shown) }
@@ -49,7 +49,7 @@ impl Stage {
     }
 }
 
-/// A load goes on.
+/// Returns the phase of a load that goes on.
 fn goes_on(step: Step) -> PhaseStep
     ensures step { (becomes : Taken) (old : Held) (changes : List Event) → IsOutcome becomes old (held_in step.0) step.1 →
         IsStep (load_takes changes becomes) (Loads old) (phase_in result.0) result.1 }
@@ -97,7 +97,7 @@ fn take_root(number: u32, shown: Shown) -> Step
     }
 }
 
-/// The row, where there is only one.
+/// Returns the row, if there is only one.
 pub fn only_row(rows: Rows) -> Option<Row>
     ensures { result ≡ only rows }
 {
@@ -105,7 +105,7 @@ pub fn only_row(rows: Rows) -> Option<Row>
     if rows.len() == 1 { rows.pop() } else { None }
 }
 
-/// Whether a row is that of the root, a container.
+/// Returns whether a row is that of the root, a container.
 fn is_root(row: &Row) -> bool
     ensures { result ≡ (nat_eq row.now.id 0 && is_folder row.now.content) }
 {
@@ -190,7 +190,7 @@ fn take_number_after_page(
     judge_page(alloc, number, listing, page, changes)
 }
 
-/// The load as it stands with a page.
+/// Returns the load as it stands with a page.
 fn with_page(number: u32, listing: Listing, page: Option<Rows>) -> Phase
     ensures { phase_in result ≡ Loads (HoldsPage number (listing_in listing) page) }
 {
@@ -286,7 +286,7 @@ fn end_load(
     }
 }
 
-/// The answer to a reply with which the changes that were kept cannot be counted.
+/// Returns the answer to a reply with which the changes that were kept cannot be counted.
 fn answer_of(refusal: CountError) -> AnswerError
     ensures { result ≡ answer_of refusal }
 {

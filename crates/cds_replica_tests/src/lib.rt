@@ -1,5 +1,5 @@
-//! Tests alone, of what a replica refuses, of replays over wires and streams that fail, of the program over an outside in
-//! memory, and of the objects of the system.
+//! Tests alone: of what a replica refuses, of replays over wires and streams that fail, and of the program over an
+//! outside in memory.
 #![tactic(auto)]
 
 #[cfg(test)]
@@ -10,7 +10,5 @@ mod program_tests;
 mod replica_tests;
 #[cfg(test)]
 mod stream_tests;
-#[cfg(test)]
-mod system_tests;
 #[cfg(test)]
 mod wire_tests;

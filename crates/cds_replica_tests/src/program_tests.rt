@@ -1,18 +1,24 @@
-//! The program over an outside in memory, where a stream or a folder fails. What it does otherwise, the examples show.
+//! Tests of the program over an outside in memory, in which a stream or a folder fails. The examples show what it does
+//! otherwise.
 
-use crate::made::{calls, sink, source};
-use cds_base::{Mem, Numbers, Sequence, Text, Words};
+use crate::made::{MEMORY, calls, sink, source};
+use cds_base::{Numbers, Runtime, Sequence, Text, Words};
 use cds_memory::{MemFolder, MemItem, MemObjects, MemOutside, MemSink, are_tree};
 use cds_program::run;
 use std::alloc::Global;
-use std::marker::{Send, Sync};
-use std::sync::Wait;
-use std::test::Fail;
-use std::thread::Threads;
+use std::process::Abort;
 
-/// Words of a command line, and what standard input holds; the reads and the writes that fail; the folders
-/// in the folder of the outside, and the calls of it that fail; and the status, how many faults the outside counts, and what is
-/// written.
+/// A case is, in this order:
+///
+/// - the words of a command line;
+/// - what standard input holds;
+/// - the reads that fail;
+/// - the writes that fail;
+/// - the folders in the folder of the outside;
+/// - the calls of that folder that fail;
+/// - the status;
+/// - how many faults the outside counts;
+/// - what is written.
 type Case = (
     &'static [&'static str],
     &'static str,
@@ -67,114 +73,88 @@ const CASES: [Case; 14] = [
     ),
 ];
 
-/// The words of a command line.
-fn words_of(alloc: Global, words: &[&str]) -> Result<Words, Mem> {
+/// Makes the words of a command line.
+fn words_of<R: Abort>(rt: &R, alloc: Global, words: &[&str]) -> Words {
     let mut list = Words::new(alloc);
     for word in words {
-        list.push(Text::read(alloc, word)?)?;
+        let word = Text::read(alloc, word).expect(rt, MEMORY);
+        list.push(word).expect(rt, MEMORY);
     }
-    Ok(list)
+    list
 }
 
-/// Folders at these paths.
-fn items_of(alloc: Global, folders: &[&str]) -> Result<Sequence<MemItem>, Mem> {
+/// Makes folders at these paths.
+fn items_of<R: Abort>(rt: &R, alloc: Global, folders: &[&str]) -> Sequence<MemItem> {
     let mut items = Sequence::new(alloc);
     for folder in folders {
-        let path = Text::read(alloc, folder)?;
-        items.push(MemItem::FolderItem { path })?;
+        let path = Text::read(alloc, folder).expect(rt, MEMORY);
+        items.push(MemItem::FolderItem { path }).expect(rt, MEMORY);
     }
-    Ok(items)
+    items
 }
 
-/// A folder with these folders, whose calls of these numbers fail.
-fn folder_of(alloc: Global, folders: &[&str], fails: &[u32]) -> Result<MemFolder, Fail> {
-    let items = items_of(alloc, folders)?;
+/// Makes a folder with these folders, of which these calls fail. They must be a tree.
+fn folder_of<R: Abort>(rt: &R, alloc: Global, folders: &[&str], fails: &[u32]) -> MemFolder {
+    let fails = calls(rt, alloc, fails);
+    let items = items_of(rt, alloc, folders);
     let is_whole = are_tree(items.as_slice());
     if is_whole {
-        Ok(MemFolder::new(items, calls(alloc, fails)?))
+        MemFolder::new(items, fails)
     } else {
-        Err(Fail::new("no tree"))
+        panic!(rt; "no tree")
     }
 }
 
-/// An outside's objects: that folder alone.
-fn objects_of<R>(alloc: Global, folder: MemFolder) -> Result<MemObjects<R>, Mem> {
+/// Makes an outside's objects: that folder alone.
+fn objects_of<R: Abort>(rt: &R, alloc: Global, folder: MemFolder) -> MemObjects<R> {
     let mut folders = Sequence::new(alloc);
-    folders.push(folder)?;
-    Ok(MemObjects {
+    folders.push(folder).expect(rt, MEMORY);
+    MemObjects {
         folders,
         links: Sequence::new(alloc),
         clocks: Sequence::new(alloc),
         doors: Sequence::new(alloc),
         spawners: Sequence::new(alloc),
-    })
+    }
 }
 
-/// The status of a command whose input is this.
-fn status_of<R: Threads + Wait + Clone + Drop + Send + Sync + 'static>(
+/// Returns the status of the case's command with the case's input.
+fn status_of<R: Runtime + Abort>(
     rt: &R,
     alloc: Global,
     case: &Case,
-    words: &Words,
     sink: &mut MemSink,
     outside: &mut MemOutside<R>,
-) -> Result<u8, Mem> {
-    let mut source = source(alloc, case.1.as_bytes(), case.2)?;
-    Ok(run(rt, alloc, words, &mut source, sink, outside))
+) -> u8 {
+    let words = words_of(rt, alloc, case.0);
+    let mut source = source(rt, alloc, case.1.as_bytes(), case.2);
+    run(rt, alloc, &words, &mut source, sink, outside)
 }
 
-/// Whether a command ends so, the outside counts so many faults, and this is written.
-fn writes<R: Threads + Wait + Clone + Drop + Send + Sync + 'static>(
-    rt: &R,
-    alloc: Global,
-    case: &Case,
-    words: &Words,
-    outside: &mut MemOutside<R>,
-) -> Result<bool, Mem> {
-    let mut sink = sink(alloc, case.3)?;
-    let status = status_of(rt, alloc, case, words, &mut sink, outside)?;
-    Ok(status == case.6 && outside.faults() == case.7 && sink.as_slice() == case.8.as_bytes())
-}
-
-/// Whether a case comes out so over an outside.
-fn is_played_over<R: Threads + Wait + Clone + Drop + Send + Sync + 'static>(
+/// Returns whether the command ends with the case's status, the outside counts its faults, and its text is written.
+fn writes<R: Runtime + Abort>(
     rt: &R,
     alloc: Global,
     case: &Case,
     outside: &mut MemOutside<R>,
-) -> Result<bool, Mem> {
-    let words = words_of(alloc, case.0)?;
-    writes(rt, alloc, case, &words, outside)
+) -> bool {
+    let mut sink = sink(rt, alloc, case.3);
+    let status = status_of(rt, alloc, case, &mut sink, outside);
+    status == case.6 && outside.faults() == case.7 && sink.as_slice() == case.8.as_bytes()
 }
 
-/// Whether a case comes out so over these objects.
-fn ends<R: Threads + Wait + Clone + Drop + Send + Sync + 'static>(
-    rt: &R,
-    alloc: Global,
-    case: &Case,
-    objects: MemObjects<R>,
-) -> Result<bool, Mem> {
+/// Returns whether a case comes out so.
+fn is_played<R: Runtime + Abort>(rt: &R, alloc: Global, case: &Case) -> bool {
+    let folder = folder_of(rt, alloc, case.4, case.5);
+    let objects = objects_of(rt, alloc, folder);
     let mut outside = MemOutside::new(objects, Numbers::new(alloc));
-    let is_played = is_played_over(rt, alloc, case, &mut outside);
-    drop(outside);
-    is_played
-}
-
-/// Whether a case comes out so.
-fn is_played<R: Threads + Wait + Clone + Drop + Send + Sync + 'static>(
-    rt: &R,
-    alloc: Global,
-    case: &Case,
-) -> Result<bool, Fail> {
-    let folder = folder_of(alloc, case.4, case.5)?;
-    Ok(ends(rt, alloc, case, objects_of(alloc, folder)?)?)
+    writes(rt, alloc, case, &mut outside)
 }
 
 #[test]
-fn faults_have_their_statuses(rt: HostRuntime) -> Result<(), Fail> {
+fn faults_have_their_statuses(rt: HostRuntime) {
     let cases = &CASES;
     for at in 0..cases.len() {
-        assert!(rt; is_played(&rt, rt.alloc(), &cases[at])?, "{at}");
+        assert!(rt; is_played(&rt, rt.alloc(), &cases[at]), "{at}");
     }
-    Ok(())
 }

@@ -1,13 +1,14 @@
-//! What a replica is given that no honest server shows or sends. What it makes of honest ones, the examples show.
+//! Tests of a replica that is given what no honest server shows or sends. The examples show what it makes of honest
+//! ones.
 
-use crate::made::PAGE;
-use cds_base::{Mem, Text};
+use crate::made::{MEMORY, PAGE};
+use cds_base::Text;
 use cds_object::{Class, Content, Event, Events, ObjectId, Row, Rows, TrackContent, Trackers};
 use cds_replica::{AnswerError, Ask, Note, NotifyError, Read, Replica, Says, Shown, Sid, Taken};
 use std::alloc::Global;
-use std::test::Fail;
+use std::process::Abort;
 
-/// An object: its id, which is its objectUpdateID too, its parent's, and how many children it has where it is a folder.
+/// An object: its id, which is its objectUpdateID too; its parent's id; and how many children it has if it is a folder.
 type Object = (u32, u32, Option<u32>);
 
 /// What a reply shows.
@@ -35,7 +36,7 @@ const HONEST: [Reply; 6] = [
     Reply::Number(7),
 ];
 
-/// The same of nothing.
+/// The replies to a whole load of nothing.
 const EMPTY: [Reply; 6] = [
     Reply::Token,
     Reply::Number(0),
@@ -45,9 +46,9 @@ const EMPTY: [Reply; 6] = [
     Reply::Number(0),
 ];
 
-fn content_of(alloc: Global, object: &Object) -> Result<Content, Mem> {
-    let title = Text::read(alloc, "title")?;
-    Ok(match object.2 {
+fn content_of<R: Abort>(rt: &R, alloc: Global, object: &Object) -> Content {
+    let title = Text::read(alloc, "title").expect(rt, MEMORY);
+    match object.2 {
         Some(_) => Content::Folder { title },
         None => Content::Track(TrackContent {
             title,
@@ -61,11 +62,11 @@ fn content_of(alloc: Global, object: &Object) -> Result<Content, Mem> {
             channels: 2,
             bits: 16,
         }),
-    })
+    }
 }
 
-fn row_of(alloc: Global, object: &Object) -> Result<Row, Mem> {
-    let content = content_of(alloc, object)?;
+fn row_of<R: Abort>(rt: &R, alloc: Global, object: &Object) -> Row {
+    let content = content_of(rt, alloc, object);
     let trackers = match &content {
         Content::Folder { .. } => Some(Trackers {
             container_update: 0,
@@ -79,65 +80,66 @@ fn row_of(alloc: Global, object: &Object) -> Result<Row, Mem> {
     } else {
         Some(ObjectId(object.1))
     };
-    Ok(Row {
+    Row {
         id: ObjectId(object.0),
         parent,
         content,
         object_update: object.0,
         trackers,
-    })
+    }
 }
 
-fn page_of(alloc: Global, objects: &[Object]) -> Result<Shown, Mem> {
+fn page_of<R: Abort>(rt: &R, alloc: Global, objects: &[Object]) -> Shown {
     let mut rows = Rows::new(alloc);
     for object in objects {
-        rows.push(row_of(alloc, object)?)?;
+        rows.push(row_of(rt, alloc, object)).expect(rt, MEMORY);
     }
-    Ok(Shown::Page {
+    Shown::Page {
         rows,
         total: 0,
         update: 0,
-    })
-}
-
-fn shown_of(alloc: Global, reply: &Reply) -> Result<Shown, Mem> {
-    match reply {
-        Reply::Token => Ok(Shown::Text(Text::read(alloc, "token")?)),
-        Reply::Number(number) => Ok(Shown::Number(*number)),
-        Reply::Page(objects) => page_of(alloc, objects),
-        Reply::Refusal => Ok(Shown::Fault { code: 701 }),
     }
 }
 
-/// Whether a replica asks something, and answers this to a reply.
-fn takes(
+fn shown_of<R: Abort>(rt: &R, alloc: Global, reply: &Reply) -> Shown {
+    match reply {
+        Reply::Token => Shown::Text(Text::read(alloc, "token").expect(rt, MEMORY)),
+        Reply::Number(number) => Shown::Number(*number),
+        Reply::Page(objects) => page_of(rt, alloc, objects),
+        Reply::Refusal => Shown::Fault { code: 701 },
+    }
+}
+
+/// Returns whether a replica asks something, and answers this to a reply.
+fn takes<R: Abort>(
+    rt: &R,
     alloc: Global,
     replica: &mut Replica,
     reply: &Reply,
     want: Result<Read, AnswerError>,
-) -> Result<bool, Mem> {
+) -> bool {
     if replica.next_ask().is_none() {
-        return Ok(false);
+        return false;
     }
-    let shown = shown_of(alloc, reply)?;
-    Ok(replica.take(alloc, shown) == want)
+    let shown = shown_of(rt, alloc, reply);
+    replica.take(alloc, shown) == want
 }
 
-/// Whether a load begins that takes all these replies.
-fn loads(alloc: Global, replica: &mut Replica, replies: &[Reply]) -> Result<bool, Mem> {
-    replica.begin_load()?;
+/// Returns whether a load begins that takes all these replies.
+fn loads<R: Abort>(rt: &R, alloc: Global, replica: &mut Replica, replies: &[Reply]) -> bool {
+    replica.begin_load().expect(rt, MEMORY);
     for reply in replies {
-        if !takes(alloc, replica, reply, Ok(Read::Ok))? {
-            return Ok(false);
+        if !takes(rt, alloc, replica, reply, Ok(Read::Ok)) {
+            return false;
         }
     }
-    Ok(true)
+    true
 }
 
-/// Whether a load begins that takes the first four honest replies, behind which the page of the tracks is asked for.
-fn loads_up_to_a_page(alloc: Global, replica: &mut Replica) -> Result<bool, Mem> {
+/// Returns whether a load takes the first four honest replies. After them the page of the tracks is asked for.
+fn loads_up_to_a_page<R: Abort>(rt: &R, alloc: Global, replica: &mut Replica) -> bool {
     let honest = &HONEST;
-    loads(alloc, replica, &honest[..4])
+    loads(rt, alloc, replica, &honest[..4])
 }
 
 /// How many replies of a load were taken, the reply that is refused, and why.
@@ -159,58 +161,60 @@ const REFUSED: [(usize, Reply, AnswerError); 11] = [
     (5, Reply::Refusal, AnswerError::Unreadable),
 ];
 
-/// Whether a replica refuses a reply, and asks and says the same afterwards.
-fn refuses(
+/// Returns whether a replica refuses a reply, and asks and says the same afterwards.
+fn refuses<R: Abort>(
+    rt: &R,
     alloc: Global,
     replica: &mut Replica,
     reply: &Reply,
     refusal: AnswerError,
-) -> Result<bool, Mem> {
+) -> bool {
     let ask = replica.next_ask();
     let says = replica.says();
-    Ok(
-        takes(alloc, replica, reply, Err(refusal))?
-            && replica.next_ask() == ask
-            && replica.says() == says,
-    )
+    takes(rt, alloc, replica, reply, Err(refusal))
+        && replica.next_ask() == ask
+        && replica.says() == says
 }
 
-/// Whether a fresh replica refuses a reply after so many honest ones.
-fn refuses_after(
+/// Returns whether a fresh replica refuses a reply after the first `reads` honest ones.
+fn refuses_after<R: Abort>(
+    rt: &R,
     alloc: Global,
     replica: &mut Replica,
     reads: usize,
     reply: &Reply,
     refusal: AnswerError,
-) -> Result<bool, Mem> {
+) -> bool {
     let honest = &HONEST;
-    Ok(loads(alloc, replica, &honest[..reads.min(6)])? && refuses(alloc, replica, reply, refusal)?)
+    loads(rt, alloc, replica, &honest[..reads.min(6)])
+        && refuses(rt, alloc, replica, reply, refusal)
 }
 
-/// Whether a replica refuses a reply after so many honest ones, and asks and says the same afterwards.
-fn is_refused(
+/// Returns whether a replica refuses a reply after `reads` honest ones, and asks and says the same afterwards.
+fn is_refused<R: Abort>(
+    rt: &R,
     alloc: Global,
     reads: usize,
     reply: &Reply,
     refusal: AnswerError,
-) -> Result<bool, Mem> {
+) -> bool {
     let mut replica = Replica::new(alloc);
-    let refuses = refuses_after(alloc, &mut replica, reads, reply, refusal);
-    drop(replica);
-    refuses
+    refuses_after(rt, alloc, &mut replica, reads, reply, refusal)
 }
 
 #[test]
-fn replies_that_are_refused(rt: HostRuntime) -> Result<(), Fail> {
+fn replies_that_are_refused(rt: HostRuntime) {
     let refused = &REFUSED;
     for at in 0..refused.len() {
         let case = &refused[at];
-        assert!(rt; is_refused(rt.alloc(), case.0, &case.1, case.2)?, "{at}");
+        assert!(rt;
+            is_refused(&rt, rt.alloc(), case.0, &case.1, case.2),
+            "{at}"
+        );
     }
-    Ok(())
 }
 
-/// Pages of the root that cannot be, and what was read where they came.
+/// Pages of the root that cannot be, and what is read when they come.
 const PAGES: [(Reply, Read); 7] = [
     (Reply::Refusal, Read::Fault { code: 701 }),
     (Reply::Page(&[]), Read::Ok),
@@ -221,37 +225,39 @@ const PAGES: [(Reply, Read); 7] = [
     (Reply::Page(&[ONE, (0, 0, Some(0))]), Read::Ok),
 ];
 
-/// Whether a replica takes a page, the same number after it tells that it cannot be, and another one begins the load again.
-fn judges(alloc: Global, replica: &mut Replica, page: &Reply, read: Read) -> Result<bool, Mem> {
+/// Returns whether a replica takes a page and refuses it when the same number comes after it. Another number then
+/// begins the load again.
+fn judges<R: Abort>(
+    rt: &R,
+    alloc: Global,
+    replica: &mut Replica,
+    page: &Reply,
+    read: Read,
+) -> bool {
     let torn = Err(AnswerError::Torn { id: 0 });
-    Ok(
-        loads_up_to_a_page(alloc, replica)?
-            && takes(alloc, replica, page, Ok(read))?
-            && takes(alloc, replica, &Reply::Number(7), torn)?
-            && takes(alloc, replica, &Reply::Number(9), Ok(Read::Ok))?
-            && replica.next_ask() == Some(Ask::Token),
-    )
+    loads_up_to_a_page(rt, alloc, replica)
+        && takes(rt, alloc, replica, page, Ok(read))
+        && takes(rt, alloc, replica, &Reply::Number(7), torn)
+        && takes(rt, alloc, replica, &Reply::Number(9), Ok(Read::Ok))
+        && replica.next_ask() == Some(Ask::Token)
 }
 
-/// Whether a page is judged so after the first four honest replies.
-fn is_judged(alloc: Global, page: &Reply, read: Read) -> Result<bool, Mem> {
+/// Returns whether a page is judged so after the first four honest replies.
+fn is_judged<R: Abort>(rt: &R, alloc: Global, page: &Reply, read: Read) -> bool {
     let mut replica = Replica::new(alloc);
-    let judges = judges(alloc, &mut replica, page, read);
-    drop(replica);
-    judges
+    judges(rt, alloc, &mut replica, page, read)
 }
 
 #[test]
-fn pages_that_cannot_be(rt: HostRuntime) -> Result<(), Fail> {
+fn pages_that_cannot_be(rt: HostRuntime) {
     let pages = &PAGES;
     for at in 0..pages.len() {
         let case = &pages[at];
-        assert!(rt; is_judged(rt.alloc(), &case.0, case.1)?, "{at}");
+        assert!(rt; is_judged(&rt, rt.alloc(), &case.0, case.1), "{at}");
     }
-    Ok(())
 }
 
-/// Whether the bytes of a reply are answered so.
+/// Returns whether the bytes of a reply are answered so.
 fn answers(
     alloc: Global,
     replica: &mut Replica,
@@ -264,7 +270,8 @@ fn answers(
     replica.answer(alloc, reply) == want
 }
 
-/// How many bytes of the page are the first that this replica does not call unreadable.
+/// Returns the length of the shortest proper prefix of the page that this replica does not call unreadable. `None` says that
+/// it calls all unreadable.
 fn first_readable_by(alloc: Global, replica: &mut Replica) -> Option<usize> {
     let bytes = PAGE.as_bytes();
     for end in 0..bytes.len() {
@@ -275,57 +282,47 @@ fn first_readable_by(alloc: Global, replica: &mut Replica) -> Option<usize> {
     None
 }
 
-/// Whether the page is unreadable for a replica, wherever it is cut off.
-fn refuses_pieces(alloc: Global, replica: &mut Replica) -> Result<bool, Mem> {
-    Ok(loads_up_to_a_page(alloc, replica)? && first_readable_by(alloc, replica).is_none())
+/// Returns whether the page is unreadable for a replica at every place where it is cut off.
+fn refuses_pieces<R: Abort>(rt: &R, alloc: Global, replica: &mut Replica) -> bool {
+    loads_up_to_a_page(rt, alloc, replica) && first_readable_by(alloc, replica).is_none()
 }
 
-/// The same of a fresh replica.
-fn pieces_are_refused(alloc: Global) -> Result<bool, Mem> {
+/// Returns the same for a fresh replica.
+fn pieces_are_refused<R: Abort>(rt: &R, alloc: Global) -> bool {
     let mut replica = Replica::new(alloc);
-    let refuses = refuses_pieces(alloc, &mut replica);
-    drop(replica);
-    refuses
+    refuses_pieces(rt, alloc, &mut replica)
 }
 
-/// The whole page, with bytes of another reply behind it.
-fn more_than_the_page(alloc: Global) -> Result<Vec<u8>, Mem> {
-    let mut reply = Vec::from_slice(alloc, PAGE.as_bytes())?;
-    reply.extend_from_slice(b"HTTP/1.1 200 OK")?;
-    Ok(reply)
+/// Makes the whole page, with bytes of another reply after it.
+fn more_than_the_page<R: Abort>(rt: &R, alloc: Global) -> Vec<u8> {
+    let mut reply = Vec::from_slice(alloc, PAGE.as_bytes()).expect(rt, MEMORY);
+    reply
+        .extend_from_slice(b"HTTP/1.1 200 OK")
+        .expect(rt, MEMORY);
+    reply
 }
 
-/// Whether a replica reads a page.
-fn reads_page(alloc: Global, replica: &mut Replica, reply: &[u8]) -> Result<bool, Mem> {
-    Ok(
-        loads_up_to_a_page(alloc, replica)?
-            && answers(alloc, replica, reply, Ok(Read::Ok))
-            && replica.next_ask() == Some(Ask::Number),
-    )
+/// Returns whether a replica reads a page.
+fn reads_page<R: Abort>(rt: &R, alloc: Global, replica: &mut Replica, reply: &[u8]) -> bool {
+    loads_up_to_a_page(rt, alloc, replica)
+        && answers(alloc, replica, reply, Ok(Read::Ok))
+        && replica.next_ask() == Some(Ask::Number)
 }
 
-/// The same of a fresh replica.
-fn page_is_read(alloc: Global, reply: &[u8]) -> Result<bool, Mem> {
+/// Returns whether a fresh replica reads the whole page although other bytes come after it.
+fn whole_is_read<R: Abort>(rt: &R, alloc: Global) -> bool {
+    let reply = more_than_the_page(rt, alloc);
     let mut replica = Replica::new(alloc);
-    let reads = reads_page(alloc, &mut replica, reply);
-    drop(replica);
-    reads
-}
-
-/// Whether the whole page is read, whatever stands behind it.
-fn whole_is_read(alloc: Global) -> Result<bool, Mem> {
-    let reply = more_than_the_page(alloc)?;
-    page_is_read(alloc, reply.as_slice())
+    reads_page(rt, alloc, &mut replica, reply.as_slice())
 }
 
 #[test]
-fn replies_that_are_cut_off(rt: HostRuntime) -> Result<(), Fail> {
-    assert!(rt; pieces_are_refused(rt.alloc())?);
-    assert!(rt; whole_is_read(rt.alloc())?);
-    Ok(())
+fn replies_that_are_cut_off(rt: HostRuntime) {
+    assert!(rt; pieces_are_refused(&rt, rt.alloc()));
+    assert!(rt; whole_is_read(&rt, rt.alloc()));
 }
 
-/// The SEQ of a note of the name 1, its number and its events; what is answered, and what the replica says then.
+/// A note of subscription 1: its SEQ, its number and its events; what is answered; and what the replica says then.
 type Told = (u32, u32, &'static [Event], Result<Taken, NotifyError>, Says);
 
 /// The addition of a track with this number.
@@ -352,7 +349,7 @@ const OTHER: Event = Event::ObjMod {
     st: false,
 };
 
-/// Notes of which two tell what cannot be.
+/// Notes, two of which tell what cannot be.
 const NOTES: [Told; 4] = [
     (0, 0, &[], Ok(Taken::Took), Says::Stands { at: 0 }),
     (
@@ -375,46 +372,47 @@ const NOTES: [Told; 4] = [
     (1, 1, &[NEXT], Ok(Taken::Took), Says::BehindRead { id: 1 }),
 ];
 
-/// A note of the name 1.
-fn note_of(alloc: Global, told: &Told) -> Result<Note, Mem> {
+/// Makes a note of subscription 1.
+fn note_of<R: Abort>(rt: &R, alloc: Global, told: &Told) -> Note {
     let mut events = Events::new(alloc);
-    events.extend(told.2)?;
-    Ok(Note {
+    events.extend(told.2).expect(rt, MEMORY);
+    Note {
         sid: Sid(1),
         seq: told.0,
         number: told.1,
         events,
-    })
-}
-
-/// Whether a note is answered so.
-fn hears(alloc: Global, replica: &mut Replica, told: &Told) -> Result<bool, Mem> {
-    let note = note_of(alloc, told)?;
-    Ok(replica.notify(alloc, note) == told.3 && replica.says() == told.4)
-}
-
-/// Whether a replica with a copy of nothing is subscribed under the name 1.
-fn subscribes(alloc: Global, replica: &mut Replica) -> Result<bool, Fail> {
-    let loads = loads(alloc, replica, &EMPTY)?;
-    replica.subscribing()?;
-    if !replica.is_subscribing() {
-        return Ok(false);
     }
-    replica.subscribed(alloc, Sid(1))?;
-    Ok(loads)
 }
 
-/// Whether all notes are answered so.
-fn hears_all(alloc: Global, replica: &mut Replica) -> Result<bool, Mem> {
+/// Returns whether a note is answered so.
+fn hears<R: Abort>(rt: &R, alloc: Global, replica: &mut Replica, told: &Told) -> bool {
+    let note = note_of(rt, alloc, told);
+    replica.notify(alloc, note) == told.3 && replica.says() == told.4
+}
+
+/// Returns whether a replica with a copy of nothing gets subscription 1.
+fn subscribes<R: Abort>(rt: &R, alloc: Global, replica: &mut Replica) -> bool {
+    let loads = loads(rt, alloc, replica, &EMPTY);
+    replica.subscribing().expect(rt, MEMORY);
+    if !replica.is_subscribing() {
+        return false;
+    }
+    let answer = replica.subscribed(alloc, Sid(1));
+    answer.expect(rt, "no subscription");
+    loads
+}
+
+/// Returns whether all notes are answered so.
+fn hears_all<R: Abort>(rt: &R, alloc: Global, replica: &mut Replica) -> bool {
     for told in &NOTES {
-        if !hears(alloc, replica, told)? {
-            return Ok(false);
+        if !hears(rt, alloc, replica, told) {
+            return false;
         }
     }
-    Ok(true)
+    true
 }
 
-/// Whether the replica stands at 1, with a track under the root.
+/// Returns whether the replica stands at 1, with a track under the root.
 fn has_track(replica: &Replica) -> bool {
     let (Some(root), Some(track)) = (replica.rows(0), replica.rows(1)) else {
         return false;
@@ -431,26 +429,21 @@ fn has_track(replica: &Replica) -> bool {
         && replica.rows(2).is_none()
 }
 
-/// Whether a replica takes a load, a subscription, notes and a read, and gives its rows.
-fn goes(alloc: Global, replica: &mut Replica) -> Result<bool, Fail> {
-    Ok(
-        subscribes(alloc, replica)?
-            && hears_all(alloc, replica)?
-            && takes(alloc, replica, &Reply::Page(&[ONE]), Ok(Read::Ok))?
-            && has_track(replica),
-    )
+/// Returns whether a replica takes a load, a subscription, notes and a read, and gives its rows.
+fn goes<R: Abort>(rt: &R, alloc: Global, replica: &mut Replica) -> bool {
+    subscribes(rt, alloc, replica)
+        && hears_all(rt, alloc, replica)
+        && takes(rt, alloc, replica, &Reply::Page(&[ONE]), Ok(Read::Ok))
+        && has_track(replica)
 }
 
-/// Whether a replica goes its way through its public calls alone.
-fn follows(alloc: Global) -> Result<bool, Fail> {
+/// Returns whether a replica goes its way through its public calls alone.
+fn follows<R: Abort>(rt: &R, alloc: Global) -> bool {
     let mut replica = Replica::new(alloc);
-    let goes = goes(alloc, &mut replica);
-    drop(replica);
-    goes
+    goes(rt, alloc, &mut replica)
 }
 
 #[test]
-fn a_replica_goes_its_way(rt: HostRuntime) -> Result<(), Fail> {
-    assert!(rt; follows(rt.alloc())?);
-    Ok(())
+fn a_replica_goes_its_way(rt: HostRuntime) {
+    assert!(rt; follows(&rt, rt.alloc()));
 }

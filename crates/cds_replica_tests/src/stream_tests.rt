@@ -1,14 +1,14 @@
-//! Replays whose streams fail, and one that is driven line by line.
+//! Tests of replays whose streams fail, and of one that is driven line by line.
 
 ghost use Rattle.std.specs.Prelude.{None};
 
 use crate::made::{sink, source};
-use cds_base::{Failed, Mem, Sink, Source};
+use cds_base::{Failed, Sink, Source};
 use cds_memory::MemSink;
 use cds_replay::{ReplayError, replay};
 use std::alloc::Global;
 use std::cell::Cell;
-use std::test::Fail;
+use std::process::Abort;
 
 /// A script, the reads and the writes that fail, the fault, and the report.
 type Failing = (
@@ -31,30 +31,29 @@ const FAILING: [Failing; 3] = [
     ("ask\n# w\n", &[], &[1], ReplayError::WriteFault, ""),
 ];
 
-/// Whether a replay into a sink has this fault.
-fn has_fault(alloc: Global, case: &Failing, sink: &mut MemSink) -> Result<bool, Mem> {
-    let mut source = source(alloc, case.0.as_bytes(), case.1)?;
-    Ok(replay(alloc, &mut source, sink) == Err(case.3))
+/// Returns whether a replay into a sink has this fault.
+fn has_fault<R: Abort>(rt: &R, alloc: Global, case: &Failing, sink: &mut MemSink) -> bool {
+    let mut source = source(rt, alloc, case.0.as_bytes(), case.1);
+    replay(alloc, &mut source, sink) == Err(case.3)
 }
 
-/// Whether a script fails so.
-fn fails(alloc: Global, case: &Failing) -> Result<bool, Mem> {
-    let mut sink = sink(alloc, case.2)?;
-    Ok(has_fault(alloc, case, &mut sink)? && sink.as_slice() == case.4.as_bytes())
+/// Returns whether a script fails so, with this report.
+fn fails<R: Abort>(rt: &R, alloc: Global, case: &Failing) -> bool {
+    let mut sink = sink(rt, alloc, case.2);
+    has_fault(rt, alloc, case, &mut sink) && sink.as_slice() == case.4.as_bytes()
 }
 
 #[test]
-fn reads_and_writes_that_fail(rt: HostRuntime) -> Result<(), Fail> {
+fn reads_and_writes_that_fail(rt: HostRuntime) {
     for case in &FAILING {
-        assert!(rt; fails(rt.alloc(), case)?, "{}", case.0);
+        assert!(rt; fails(&rt, rt.alloc(), case), "{}", case.0);
     }
-    Ok(())
 }
 
 /// A line, and how many bytes of the report are written before the source is read for it.
 type Asked<'a> = (&'a [u8], usize);
 
-/// A source that gives one line at a time, and looks whether the answers of those before are written.
+/// A source that gives one line at a time. It checks that the answers to the lines before are written.
 #[derive(Drop)]
 struct Typed<'a> {
     lines: &'a [Asked<'a>],
@@ -65,11 +64,7 @@ struct Typed<'a> {
 }
 
 impl Source for Typed<'_> {
-    ghost left = { λ _. None };
-
-    ghost moved = { λ s. s.moved };
-
-    ghost faults = { λ _. 0 };
+    ghost told = { λ s. record { left = None; moved = s.moved; faults = 0 } };
 
     fn read(&mut self, into: &mut [u8]) -> Result<usize, Failed> {
         let Some((line, answered)) = self.lines.get(self.at) else {
@@ -92,9 +87,7 @@ struct Heard<'a> {
 }
 
 impl Sink for Heard<'_> {
-    ghost holds = { λ _. None };
-
-    ghost faults = { λ _. 0 };
+    ghost told = { λ _. record { holds = None; faults = 0 } };
 
     fn write(&mut self, piece: &[u8]) -> Result<usize, Failed> {
         self.written
@@ -116,7 +109,7 @@ const LINES: [Asked; 8] = [
     (b"", 75),
 ];
 
-/// Whether all lines are read, each after those before it are answered.
+/// Returns whether all lines are read, each after those before it are answered.
 fn are_answered_in_time(alloc: Global, written: &Cell<usize>, sink: &mut Heard) -> bool {
     let mut source = Typed {
         lines: &LINES,
@@ -129,7 +122,7 @@ fn are_answered_in_time(alloc: Global, written: &Cell<usize>, sink: &mut Heard) 
     answer == Ok(()) && !source.late && source.at == 8
 }
 
-/// Whether the lines are answered in time, and those of one piece one by one.
+/// Returns whether the lines are answered in time, and the lines of one piece one by one.
 fn are_answered_one_by_one(alloc: Global, written: &Cell<usize>) -> bool {
     let mut sink = Heard {
         written,

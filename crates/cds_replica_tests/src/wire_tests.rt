@@ -1,11 +1,11 @@
+//! Tests of replays over wires that change replies.
 ghost use Rattle.std.specs.Prelude.{◌≡◌, cond, nat_eq};
 
 use crate::made::{PAGE, sink, source};
-use cds_base::Mem;
 use cds_memory::MemSink;
 use cds_replay::{ReplayError, Wire, replay_by};
 use std::alloc::Global;
-use std::test::Fail;
+use std::process::Abort;
 
 /// A wire that writes one byte for each of another.
 #[derive(Drop)]
@@ -26,7 +26,7 @@ impl Wire for Writes {
     }
 }
 
-/// What is written for a byte, where another stands for an old one.
+/// Returns what is written for a byte if `new` is written for each `old`.
 fn written(old: u8, new: u8, byte: u8) -> u8
     ensures { result ≡ cond (nat_eq byte old) new byte }
 {
@@ -39,47 +39,48 @@ const ONE_TRACK: &str =
 const SHOWN: &str =
     "scan 1\nread ok\nread ok\nread ok\nread ok\nread ok\nread ok\nstands 1\n<container id=\"0\" parentID=\"-1\" restricted=\"1\" searchable=\"1\" childCount=\"1\"><dc:title>root</dc:title><upnp:class>object.container</upnp:class><upnp:objectUpdateID>0</upnp:objectUpdateID><upnp:containerUpdateID>1</upnp:containerUpdateID><upnp:totalDeletedChildCount>0</upnp:totalDeletedChildCount></container>\n<item id=\"1\" parentID=\"0\" restricted=\"1\"><dc:title>Y</dc:title><upnp:class>object.item.audioItem.musicTrack</upnp:class><upnp:objectUpdateID>1</upnp:objectUpdateID><res protocolInfo=\"http-get:*:audio/flac:*\" size=\"10\" bitsPerSample=\"16\" nrAudioChannels=\"2\">/media/1</res></item>\n";
 
-/// What a script over a wire is answered.
-fn answer_of<W: Wire>(
+/// Returns what a script over a wire is answered.
+fn answer_of<R: Abort, W: Wire>(
+    rt: &R,
     alloc: Global,
     script: &str,
     wire: &W,
     sink: &mut MemSink,
-) -> Result<Result<(), ReplayError>, Mem> {
-    let mut source = source(alloc, script.as_bytes(), &[])?;
-    Ok(replay_by(alloc, &mut source, sink, wire))
+) -> Result<(), ReplayError> {
+    let mut source = source(rt, alloc, script.as_bytes(), &[]);
+    replay_by(alloc, &mut source, sink, wire)
 }
 
-/// Whether a script over a wire is answered so, with this report.
-fn is_played<W: Wire>(
+/// Returns whether a script over a wire is answered so, with this report.
+fn is_played<R: Abort, W: Wire>(
+    rt: &R,
     alloc: Global,
     script: &str,
     wire: &W,
     want: Result<(), ReplayError>,
     report: &str,
-) -> Result<bool, Mem> {
-    let mut sink = sink(alloc, &[])?;
-    let answer = answer_of(alloc, script, wire, &mut sink)?;
-    Ok(answer == want && sink.as_slice() == report.as_bytes())
+) -> bool {
+    let mut sink = sink(rt, alloc, &[]);
+    let answer = answer_of(rt, alloc, script, wire, &mut sink);
+    answer == want && sink.as_slice() == report.as_bytes()
 }
 
-/// Whether the rows that a script shows are those that a wire left, which writes another title than the server's.
-fn shows_what_is_left(alloc: Global) -> Result<bool, Mem> {
+/// Returns whether a script shows the rows that a wire left. The wire writes another title than the server's.
+fn shows_what_is_left<R: Abort>(rt: &R, alloc: Global) -> bool {
     let wire = Writes {
         old: b'Z',
         new: b'Y',
     };
-    is_played(alloc, ONE_TRACK, &wire, Ok(()), SHOWN)
+    is_played(rt, alloc, ONE_TRACK, &wire, Ok(()), SHOWN)
 }
 
 /// The replica's rows are those that the wire left.
 #[test]
-fn rows_are_what_the_wire_left(rt: HostRuntime) -> Result<(), Fail> {
-    assert!(rt; shows_what_is_left(rt.alloc())?);
-    Ok(())
+fn rows_are_what_the_wire_left(rt: HostRuntime) {
+    assert!(rt; shows_what_is_left(&rt, rt.alloc()));
 }
 
-/// A wire that makes zero of the first byte of a reply that is exactly this.
+/// A wire that makes the first byte of a reply zero if the reply is exactly this one.
 #[derive(Drop)]
 struct Spoils<'a> {
     reply: &'a [u8],
@@ -101,18 +102,18 @@ impl Wire for Spoils<'_> {
 const TAGGED: &str =
     "track s.flac 10 0 2 16 0\ntag TITLE A%20&%20\"B\"%20<C>%01\nscan\nload\nread\nread\nread\nread\nread\nread\nask\n";
 
-/// Whether a script ends at the reply that is exactly the page, the fifth, which a wire spoils. The wire leaves all others.
-fn ends_at_the_page(alloc: Global) -> Result<bool, Mem> {
+/// Returns whether a script ends at the fifth reply, which is exactly the page and which a wire spoils. The wire leaves
+/// all others.
+fn ends_at_the_page<R: Abort>(rt: &R, alloc: Global) -> bool {
     let wire = Spoils {
         reply: PAGE.as_bytes(),
     };
     let answer = Err(ReplayError::Refused { line: 9 });
     let shown = "scan 1\nread ok\nread ok\nread ok\nread ok\n";
-    is_played(alloc, TAGGED, &wire, answer, shown)
+    is_played(rt, alloc, TAGGED, &wire, answer, shown)
 }
 
 #[test]
-fn the_page_of_a_tagged_track(rt: HostRuntime) -> Result<(), Fail> {
-    assert!(rt; ends_at_the_page(rt.alloc())?);
-    Ok(())
+fn the_page_of_a_tagged_track(rt: HostRuntime) {
+    assert!(rt; ends_at_the_page(&rt, rt.alloc()));
 }

@@ -40,7 +40,7 @@ Adds (Kept r) old new =
 Adds (Refused file) old new = new ≡ record { records = old.records; refused = put_refusal old.refused file; kept = old.kept }
 Adds Passed old new = new ≡ old
 
--- why a record is not kept: there are as many as there may be, or memory ran out
+-- why a record is not kept: as many are kept as there may be, or memory ran out
 abbrev pub IsKeepFault : FoundState → ScanError → Type 0
 IsKeepFault old (Full objects) = (objects ≡ 65536) × (old.kept ≡ 65535)
 IsKeepFault old Mem = ⊤

@@ -1,5 +1,5 @@
--- What becomes of the entries of a folder in a scan (this project's profile): a folder is kept, a file whose name ends in
--- `.flac` is kept by what its metadata says (RFC 9639) or refused, and every other file is passed over.
+-- What becomes of the entries of a folder in a scan (this project's profile). A folder is kept. A file whose name ends in `.flac`
+-- is kept by what its metadata says (RFC 9639), or refused. Every other file is passed over.
 use Rattle.std.specs.Prelude.{◌≡◌, ◌-◌, ◌&&◌, ℕ, ⊤, Bool, true, false, nat_le, List, [], ◌∷◌, length, drop, Option, Some, None, Ok, Err, codes}
 use Rattle.std.specs.List.{filter_map}
 use Rattle.std.specs.Str.{str_to_ascii_lowercase}
@@ -27,22 +27,22 @@ pub data Outcome : Type 0 where
   Refused : RefusedFile → Outcome
   Passed : Outcome
 
--- the bytes of a file are those of FLAC metadata that says this
+-- The bytes of a file are those of FLAC metadata that says this.
 abbrev pub SayInfo : Option (List ℕ) → FlacInfo → Type 0
 SayInfo None info = ⊥
 SayInfo (Some bytes) info = (rest : List ℕ) × (metadata bytes ≡ Ok (info, rest))
 
--- the bytes of a file are refused so
+-- The bytes of a file are refused for this reason.
 abbrev pub AreRefused : Option (List ℕ) → FlacError → Type 0
 AreRefused None refusal = ⊥
 AreRefused (Some bytes) refusal = metadata bytes ≡ Err refusal
 
--- what the file at a path says, where it is told
+-- what the file at a path says, if the contents are told
 abbrev pub IsInfo : Option Contents → List ℕ → FlacInfo → Type 0
 IsInfo contents path info = Told contents (λ c. SayInfo (c path) info)
 
--- why the file at a path is refused: by its bytes, where they are told, or because it could not be read; want of memory
--- refuses none
+-- Why the file at a path is refused: by its bytes, if they are told, or because it could not be read. If memory runs out, no file
+-- is refused.
 abbrev pub IsRefusal : Option Contents → List ℕ → FlacError → Type 0
 IsRefusal contents path ReadFault = ⊤
 IsRefusal contents path Mem = ⊥
@@ -60,12 +60,12 @@ IsTrackOutcome contents path place size (Kept r) = (info : FlacInfo) × (r ≡ t
 IsTrackOutcome contents path place size (Refused file) = (file.path ≡ path) × IsRefusal contents path file.error
 IsTrackOutcome contents path place size Passed = ⊥
 
--- what becomes of a file, whose name ends so or does not
+-- what becomes of a file; the flag says whether its name ends in `.flac`
 abbrev pub IsFileOutcome : Bool → Option Contents → List ℕ → List (List ℕ) → ℕ → Outcome → Type 0
 IsFileOutcome true contents path place size outcome = IsTrackOutcome contents path place size outcome
 IsFileOutcome false contents path place size outcome = outcome ≡ Passed
 
--- what becomes of an entry, whose path has to be a place in the library
+-- what becomes of an entry; its path has to be a place in the library
 abbrev pub IsOutcome : Option Contents → Entry → Outcome → Type 0
 IsOutcome contents (Folder path) outcome =
     (place : List (List ℕ)) × (path_read path ≡ Ok place) × (outcome ≡ Kept (folder_record place))
@@ -80,7 +80,7 @@ AreOutcomes contents [] (outcome ∷ outcomes) = ⊥
 AreOutcomes contents (entry ∷ entries) [] = ⊥
 AreOutcomes contents (entry ∷ entries) (outcome ∷ outcomes) = IsOutcome contents entry outcome × AreOutcomes contents entries outcomes
 
--- the record that was kept, and the file that was refused
+-- the record that an outcome kept, and the file that it refused
 abbrev pub kept_of : Outcome → Option Record
 kept_of (Kept r) = Some r
 kept_of (Refused file) = None

@@ -15,12 +15,12 @@ abbrev pub IsReading : Option Contents → List ℕ → Reading → Type 0
 IsReading contents path (Read info) = IsInfo contents path info
 IsReading contents path (Unread refusal) = IsRefusal contents path refusal
 
--- what is read has fewer than 2^36 samples
+-- If a file is read, it has fewer than 2^36 samples.
 abbrev pub HasSamples : Reading → Type 0
 HasSamples (Read info) = info.samples < 2 ^ 36
 HasSamples (Unread refusal) = ⊤
 
--- a failed read is answered where the count of faults rose
+-- If the answer is a failed read, the count of faults rose.
 abbrev pub FaultRose : FlacError → ℕ → ℕ → Type 0
 FaultRose ReadFault old new = Rose old new
 FaultRose _ old new = ⊤
@@ -29,7 +29,7 @@ abbrev pub ReadFaultRose : Reading → ℕ → ℕ → Type 0
 ReadFaultRose (Read info) old new = ⊤
 ReadFaultRose (Unread refusal) old new = FaultRose refusal old new
 
--- want of memory is no refusal of a file
+-- If memory runs out, the file is not refused.
 abbrev pub IsUnread : FlacError → Result Reading Memory → Type 0
 IsUnread Mem answer = (memory : Memory) × (answer ≡ Err memory)
 IsUnread refusal answer = answer ≡ Ok (Unread refusal)

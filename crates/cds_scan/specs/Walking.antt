@@ -26,19 +26,19 @@ IsPlaceAnswer path (Err FolderFault) = ⊥
 IsPlaceAnswer path (Err TooMany) = ⊥
 IsPlaceAnswer path (Err Mem) = ⊤
 
--- an entry that was given; a file can be opened
+-- an entry other than the end; if it is a file, it was given, so it can be opened
 abbrev pub IsGiven : Entry → List Entry → Type 0
 IsGiven (Folder path) given = ⊤
 IsGiven (File path size) given = IsTrue (list_any (is_file_at path) given)
 IsGiven End given = ⊥
 
--- the count of faults of files rose where a file could not be read
+-- If a file could not be read, the count of faults of files rose.
 abbrev pub OutcomeRose : Outcome → ℕ → ℕ → Type 0
 OutcomeRose (Kept r) before now = ⊤
 OutcomeRose (Refused file) before now = FaultRose file.error before now
 OutcomeRose Passed before now = ⊤
 
--- an entry was taken with its outcome
+-- An entry was taken with its outcome.
 pub record TakesEntry (contents : Option Contents) (entry : Entry) (old new : FoundState) (before now : ℕ) : Type 0 where
   pub outcome : Outcome
   pub is : IsOutcome contents entry outcome
@@ -57,14 +57,14 @@ IsEntryFault contents entry old Mem = ⊤
 abbrev pub IsFolderLeft : List ℕ → FoundState → ScanError → Type 0
 IsFolderLeft path old e = (contents : Option Contents) → IsEntryFault contents (Folder path) old e
 
--- the next entry was taken
+-- The next entry was taken.
 pub record TakesNext (tree : Option (List Entry)) (contents : Option Contents) (given_old given_new : List Entry) (old new : FoundState) (before now : ℕ) : Type 0 where
   pub entry : Entry
   pub given : given_new ≡ given_old ++ entry ∷ []
   pub told : Told tree (λ entries. (rest : List Entry) × (entries ≡ given_old ++ entry ∷ rest))
   pub takes : TakesEntry contents entry old new before now
 
--- the tree ended with the entries given
+-- The tree ended with the entries given.
 pub record Ends (tree : Option (List Entry)) (given : List Entry) (old new : FoundState) : Type 0 where
   pub whole : IsTrue (is_tree given)
   pub told : Told tree (λ entries. entries ≡ given)
@@ -74,7 +74,7 @@ abbrev pub IsStep : Bool → Option (List Entry) → Option Contents → List En
 IsStep true tree contents given_old given_new old new before now = Ends tree given_old old new
 IsStep false tree contents given_old given_new old new before now = TakesNext tree contents given_old given_new old new before now
 
--- why no entry was taken: one of it
+-- why the next entry was not taken
 pub record NotTaken (tree : Option (List Entry)) (contents : Option Contents) (given : List Entry) (old : FoundState) (error : ScanError) : Type 0 where
   pub entry : Entry
   pub told : Told tree (λ entries. (rest : List Entry) × (entries ≡ given ++ entry ∷ rest))
@@ -87,7 +87,7 @@ IsStepFault tree contents given old before now TooMany = ⊥
 IsStepFault tree contents given old before now (TooDeep bytes) = NotTaken tree contents given old (TooDeep bytes)
 IsStepFault tree contents given old before now (Full objects) = NotTaken tree contents given old (Full objects)
 
--- what was found is that of the entries seen
+-- What was found is what the entries seen give.
 pub record Reached (contents : Option Contents) (seen : List Entry) (found : FoundState) (before now : ℕ) : Type 0 where
   pub outcomes : List Outcome
   pub each : AreOutcomes contents seen outcomes
@@ -97,7 +97,7 @@ pub record Reached (contents : Option Contents) (seen : List Entry) (found : Fou
   pub room : found.kept ≤ 65535
   pub faults : Covers (faults_in found.refused) before now
 
--- the whole tree was walked
+-- The whole tree was walked.
 pub record Walked (tree : Option (List Entry)) (contents : Option Contents) (found : FoundState) (before now : ℕ) : Type 0 where
   pub seen : List Entry
   pub whole : IsTrue (is_tree seen)
@@ -105,13 +105,13 @@ pub record Walked (tree : Option (List Entry)) (contents : Option Contents) (fou
   pub few : length seen ≤ 1048576
   pub reached : Reached contents seen found before now
 
--- whether it is the end of a tree
+-- whether an entry is the end of a tree
 abbrev pub is_the_end : Entry → Bool
 is_the_end (Folder path) = false
 is_the_end (File path size) = false
 is_the_end End = true
 
--- the tree ended with the entries given, or one more came behind them
+-- The tree ended with the entries given, or one more came after them.
 abbrev pub IsOver : Bool → Option (List Entry) → List Entry → Type 0
 IsOver true tree given = IsTrue (is_tree given) × Told tree (λ entries. entries ≡ given)
 IsOver false tree given = (entry : Entry) × Told tree (λ entries. (rest : List Entry) × (entries ≡ given ++ entry ∷ rest))
@@ -124,16 +124,16 @@ IsFolderFault before now TooMany = ⊥
 IsFolderFault before now (TooDeep bytes) = ⊥
 IsFolderFault before now (Full objects) = ⊥
 
--- a folder was kept
+-- A folder was kept.
 abbrev pub TakesFolder : List ℕ → FoundState → FoundState → Type 0
 TakesFolder path old new = (place : List (List ℕ)) × (path_read path ≡ Ok place) × Adds (Kept (folder_record place)) old new
 
--- the outcome of a file by what its reading answered
+-- the outcome of a file, by the answer of its reading
 abbrev pub outcome_of : List ℕ → List (List ℕ) → ℕ → Reading → Outcome
 outcome_of path place size (Read info) = Kept (track_record place info size)
 outcome_of path place size (Unread error) = Refused (record { path = path; error = error })
 
--- why that was not taken
+-- why a file that was read or refused was not taken
 abbrev pub IsNoMemory : ScanError → Type 0
 IsNoMemory Mem = ⊤
 IsNoMemory FolderFault = ⊥

@@ -1,3 +1,5 @@
+//! Why a folder was not scanned.
+
 ghost use Rattle.std.specs.Prelude.{◌≡◌};
 ghost use Rattle.cds_scan.specs.declared.error.ScanError.TheVariants.{Mem};
 ghost use Rattle.cds_scan.specs.Faults.{scan_fault};
@@ -9,13 +11,13 @@ use thiserror::Error;
 /// Why a folder was not scanned.
 #[derive(Clone, Copy, Debug, PartialEq, Eq, Error)]
 pub enum ScanError {
-    /// The folder gave no entry, and its count of faults of entries says so.
+    /// The folder gave no entry. Its count of faults of entries says so.
     #[error("the folder failed")]
     FolderFault,
-    /// An entry's path of so many bytes is none that an object may have.
+    /// An entry's path of this many bytes is one that no object may have.
     #[error("a path of {bytes} bytes that no object may have")]
     TooDeep { bytes: usize },
-    /// There would be so many objects beside the root, which is one more than there may be.
+    /// This many objects would stand beside the root, one more than there may be.
     #[error("{objects} objects are too many")]
     Full { objects: u32 },
     /// More than 1,048,576 entries came.

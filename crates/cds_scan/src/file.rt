@@ -1,3 +1,5 @@
+//! Reading one file of a folder.
+
 ghost use Rattle.std.specs.Prelude.{◌≡◌, ◌≤◌, ◌<◌, ◌^◌, IfOk, IsTrue};
 ghost use Rattle.std.specs.List.{list_any};
 ghost use Rattle.cds_base.specs.Entries.{is_file_at};
@@ -17,17 +19,13 @@ pub enum Reading {
 
 /// Opens a file of the folder, reads its metadata and hands it back.
 pub fn read_file<F: Folder>(alloc: Global, folder: &mut F, path: &str) -> Result<Reading, Mem>
-    requires { IsTrue (list_any (is_file_at path.now) (F.given folder.old)) }
-    ensures reading { IfOk result (λ r. IsReading (F.contents folder.old) path.now r) }
+    requires { IsTrue (list_any (is_file_at path.now) (F.told folder.old).given) }
+    ensures reading { IfOk result (λ r. IsReading (F.told folder.old).contents path.now r) }
     ensures samples { IfOk result HasSamples }
-    ensures rose { IfOk result (λ r. ReadFaultRose r (F.file_faults folder.old) (F.file_faults folder.new)) }
-    ensures never_falls { F.file_faults folder.old ≤ F.file_faults folder.new }
-    ensures back { CameBack (F.opened folder.old) (F.opened folder.new) (F.returned folder.old) (F.returned folder.new) }
-    ensures tree_stays { F.tree folder.new ≡ F.tree folder.old }
-    ensures contents_stay { F.contents folder.new ≡ F.contents folder.old }
-    ensures given_stay { F.given folder.new ≡ F.given folder.old }
-    ensures entries_stay { F.entries folder.new ≡ F.entries folder.old }
-    ensures entry_faults_stay { F.entry_faults folder.new ≡ F.entry_faults folder.old }
+    ensures rose { IfOk result (λ r. ReadFaultRose r (F.told folder.old).file_faults (F.told folder.new).file_faults) }
+    ensures never_falls { (F.told folder.old).file_faults ≤ (F.told folder.new).file_faults }
+    ensures back { CameBack (F.told folder.old).opened (F.told folder.new).opened (F.told folder.old).returned (F.told folder.new).returned }
+    ensures others_stay { F.told folder.new ≡ record (F.told folder.old) { opened = (F.told folder.new).opened; returned = (F.told folder.new).returned; file_faults = (F.told folder.new).file_faults } }
 {
     match folder.open(alloc, path) {
         Ok(mut file) => {
@@ -40,7 +38,7 @@ pub fn read_file<F: Folder>(alloc: Global, folder: &mut F, path: &str) -> Result
     }
 }
 
-/// The same, told apart.
+/// Returns the same, with `Mem` told apart from a refusal.
 fn reading_of(info: Result<FlacInfo, FlacError>) -> Result<Reading, Mem>
     ensures { IsReadingOf info result }
 {

@@ -1,3 +1,5 @@
+//! What a scan found so far.
+
 ghost use Rattle.std.specs.Prelude.{◌≡◌, [], IfOk, IfErr};
 ghost use Rattle.cds_scan.specs.Outcomes.{Kept, Refused as RefusedOutcome};
 ghost use Rattle.cds_scan.specs.Found.{Adds, IsKeepFault, paired, placed};
@@ -10,7 +12,7 @@ use std::alloc::Global;
 use std::collections::BTreeMap;
 use std::marker::Model;
 
-/// The most objects that there may be beside the root.
+/// The largest number of objects beside the root.
 const MOST_OBJECTS: u32 = 65535;
 
 /// What a scan found so far.
@@ -33,7 +35,7 @@ impl Model for Found {
 }
 
 impl Found {
-    /// Nothing yet.
+    /// Makes a record of nothing yet.
     pub fn new(alloc: Global) -> Self
         ensures { result ≡ record { records = []; refused = []; kept = 0 } }
     {
@@ -69,7 +71,7 @@ impl Found {
         Ok(())
     }
 
-    /// What was found, as lists.
+    /// Returns what was found, as lists.
     pub fn into_scan(self, alloc: Global) -> Result<Scan, Mem>
         ensures records { IfOk result (λ scan. placed scan.records ≡ self.records) }
         ensures refused { IfOk result (λ scan. paired scan.refused ≡ self.refused) }

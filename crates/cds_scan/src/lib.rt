@@ -1,4 +1,5 @@
-//! One pass over a folder of FLAC files: the records of its folders and tracks, and the files that were refused.
+//! One pass over a folder of FLAC files. It gives the records of the folder's folders and tracks, and the files that were
+//! refused.
 #![tactic(auto)]
 
 mod error;

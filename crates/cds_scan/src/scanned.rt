@@ -1,3 +1,5 @@
+//! What a scan found.
+
 use cds_base::{Sequence, Text};
 use cds_flac::FlacError;
 use cds_object::Records;
@@ -7,7 +9,7 @@ use cds_object::Records;
 pub struct RefusedFile {
     /// Its path from the folder.
     pub path: Text,
-    /// The first refusal. A file that could not be opened has `ReadFault`; none has `Mem`.
+    /// The first refusal. A file that could not be opened has `ReadFault`; no file has `Mem`.
     pub error: FlacError,
 }
 

@@ -1,9 +1,11 @@
+//! Scanning a folder: the walk over its tree, entry by entry.
+
 ghost use Rattle.std.specs.Prelude.{◌≡◌, ◌+◌, ◌≤◌, [], None, IfOk, IfErr};
 ghost use Rattle.std.specs.List.{count_by};
 ghost use Rattle.cds_base.specs.declared.outside.folder.Entry.TheVariants.{File as FileEntry};
 ghost use Rattle.cds_catalog.specs.Scans.{bad_record};
 ghost use Rattle.cds_scan.specs.Found.{Adds};
-ghost use Rattle.cds_scan.specs.Scanning.{CameBack, Covers, IsRefused, IsScan, is_read_fault};
+ghost use Rattle.cds_scan.specs.Scanning.{CameBack, Covers, GoesOn, IsRefusedBy, IsScanOf, is_read_fault};
 ghost use Rattle.cds_scan.specs.Reading.{HasSamples};
 ghost use Rattle.cds_scan.specs.Walking.{IsEntryFault, IsFolderFault, IsFolderLeft, IsGiven, IsOver, IsPlaceAnswer, IsStep, IsStepFault, IsTrackFault, TakesEntry, TakesFolder, Walked, is_the_end, outcome_of};
 
@@ -15,25 +17,25 @@ use cds_base::{Entry, Folder, Text};
 use cds_object::{Path, PathError, content_of, folder_of};
 use std::alloc::Global;
 
-/// The most entries that a folder may have.
+/// The largest number of entries that a folder may have.
 const MOST_ENTRIES: u32 = 1_048_576;
 
-/// Scans a folder from its beginning: each folder is a record, and so is each file whose name ends in `.flac` in any
-/// ASCII case and that is read (RFC 9639); such a file that is not read is refused and the scan goes on, every other is
-/// passed over. `TooDeep` comes at the first path that no object may have, `Full` at the 65,536th record and `TooMany`
-/// where more than 1,048,576 entries come; the first in the order of entries decides. `FolderFault` comes only where the
-/// folder's count of faults of entries rose. The records can all stand: a store takes them.
+/// Scans a folder from its beginning. What becomes of an entry:
+///
+/// - A folder is a record.
+/// - A file whose name ends in `.flac` in any ASCII case is a record if it is read (RFC 9639). Otherwise it is refused, and the
+///   scan goes on.
+/// - Every other file is passed over.
+///
+/// `TooDeep` comes at the first path that no object may have. `Full` comes at the 65,536th record. `TooMany` comes if more than
+/// 1,048,576 entries come. The first of these in the order of entries decides. `FolderFault` comes only if the folder's count of
+/// faults of entries rose. The records can all stand: a store takes them.
 pub fn scan<F: Folder>(alloc: Global, folder: &mut F) -> Result<Scan, ScanError>
-    ensures found { IfOk result (λ scan. IsScan (F.tree folder.old) (F.contents folder.old) scan) }
+    ensures found { IfOk result (IsScanOf (F.told folder.old)) }
     ensures stands { IfOk result (λ scan. bad_record scan.records ≡ None) }
-    ensures refused { IfErr result (λ e. IsRefused (F.tree folder.old) (F.contents folder.old) (F.entry_faults folder.old) (F.entry_faults folder.new) (F.file_faults folder.old) (F.file_faults folder.new) e) }
-    ensures read_faults { IfOk result (λ scan. Covers (count_by (λ file. is_read_fault file.error) scan.refused) (F.file_faults folder.old) (F.file_faults folder.new)) }
-    ensures never_falls { F.file_faults folder.old ≤ F.file_faults folder.new }
-    ensures entry_faults_rise { F.entry_faults folder.old ≤ F.entry_faults folder.new }
-    ensures ends { F.entries folder.new ≤ F.entries folder.old + 1048577 }
-    ensures back { CameBack (F.opened folder.old) (F.opened folder.new) (F.returned folder.old) (F.returned folder.new) }
-    ensures tree_stays { F.tree folder.new ≡ F.tree folder.old }
-    ensures contents_stay { F.contents folder.new ≡ F.contents folder.old }
+    ensures refused { IfErr result (IsRefusedBy (F.told folder.old) (F.told folder.new)) }
+    ensures read_faults { IfOk result (λ scan. Covers (count_by (λ file. is_read_fault file.error) scan.refused) (F.told folder.old).file_faults (F.told folder.new).file_faults) }
+    ensures goes { GoesOn (F.told folder.old) (F.told folder.new) }
 {
     folder.restart();
     let found = walk(alloc, folder)?;
@@ -43,15 +45,10 @@ pub fn scan<F: Folder>(alloc: Global, folder: &mut F) -> Result<Scan, ScanError>
 
 /// Walks over the whole tree, of which nothing was given yet.
 fn walk<F: Folder>(alloc: Global, folder: &mut F) -> Result<Found, ScanError>
-    requires { F.given folder.old ≡ [] }
-    ensures walked { IfOk result (λ found. Walked (F.tree folder.old) (F.contents folder.old) found (F.file_faults folder.old) (F.file_faults folder.new)) }
-    ensures refused { IfErr result (λ e. IsRefused (F.tree folder.old) (F.contents folder.old) (F.entry_faults folder.old) (F.entry_faults folder.new) (F.file_faults folder.old) (F.file_faults folder.new) e) }
-    ensures never_falls { F.file_faults folder.old ≤ F.file_faults folder.new }
-    ensures entry_faults_rise { F.entry_faults folder.old ≤ F.entry_faults folder.new }
-    ensures ends { F.entries folder.new ≤ F.entries folder.old + 1048577 }
-    ensures back { CameBack (F.opened folder.old) (F.opened folder.new) (F.returned folder.old) (F.returned folder.new) }
-    ensures tree_stays { F.tree folder.new ≡ F.tree folder.old }
-    ensures contents_stay { F.contents folder.new ≡ F.contents folder.old }
+    requires { (F.told folder.old).given ≡ [] }
+    ensures walked { IfOk result (λ found. Walked (F.told folder.old).tree (F.told folder.old).contents found (F.told folder.old).file_faults (F.told folder.new).file_faults) }
+    ensures refused { IfErr result (IsRefusedBy (F.told folder.old) (F.told folder.new)) }
+    ensures goes { GoesOn (F.told folder.old) (F.told folder.new) }
 {
     let mut found = Found::new(alloc);
     let mut count = 0;
@@ -69,17 +66,17 @@ fn walk<F: Folder>(alloc: Global, folder: &mut F) -> Result<Found, ScanError>
     Err(ScanError::TooMany)
 }
 
-/// Takes the next entry, and answers whether the tree ended instead.
+/// Takes the next entry, and returns whether the tree ended instead.
 fn take_next<F: Folder>(alloc: Global, folder: &mut F, found: &mut Found) -> Result<bool, ScanError>
-    ensures ok { IfOk result (λ ended. IsStep ended (F.tree folder.old) (F.contents folder.old) (F.given folder.old) (F.given folder.new) found.old found.new (F.file_faults folder.old) (F.file_faults folder.new)) }
-    ensures err { IfErr result (λ e. IsStepFault (F.tree folder.old) (F.contents folder.old) (F.given folder.old) found.old (F.entry_faults folder.old) (F.entry_faults folder.new) e) }
-    ensures entry_faults_stay { IfOk result (λ _. F.entry_faults folder.new ≡ F.entry_faults folder.old) }
-    ensures never_falls { F.file_faults folder.old ≤ F.file_faults folder.new }
-    ensures entry_faults_rise { F.entry_faults folder.old ≤ F.entry_faults folder.new }
-    ensures ends { F.entries folder.new ≤ F.entries folder.old + 1 }
-    ensures back { CameBack (F.opened folder.old) (F.opened folder.new) (F.returned folder.old) (F.returned folder.new) }
-    ensures tree_stays { F.tree folder.new ≡ F.tree folder.old }
-    ensures contents_stay { F.contents folder.new ≡ F.contents folder.old }
+    ensures ok { IfOk result (λ ended. IsStep ended (F.told folder.old).tree (F.told folder.old).contents (F.told folder.old).given (F.told folder.new).given found.old found.new (F.told folder.old).file_faults (F.told folder.new).file_faults) }
+    ensures err { IfErr result (λ e. IsStepFault (F.told folder.old).tree (F.told folder.old).contents (F.told folder.old).given found.old (F.told folder.old).entry_faults (F.told folder.new).entry_faults e) }
+    ensures entry_faults_stay { IfOk result (λ _. (F.told folder.new).entry_faults ≡ (F.told folder.old).entry_faults) }
+    ensures never_falls { (F.told folder.old).file_faults ≤ (F.told folder.new).file_faults }
+    ensures entry_faults_rise { (F.told folder.old).entry_faults ≤ (F.told folder.new).entry_faults }
+    ensures ends { (F.told folder.new).entries ≤ (F.told folder.old).entries + 1 }
+    ensures back { CameBack (F.told folder.old).opened (F.told folder.new).opened (F.told folder.old).returned (F.told folder.new).returned }
+    ensures tree_stays { (F.told folder.new).tree ≡ (F.told folder.old).tree }
+    ensures contents_stay { (F.told folder.new).contents ≡ (F.told folder.old).contents }
 {
     let entry = folder.entry(alloc)?;
     if is_end(&entry) {
@@ -89,46 +86,38 @@ fn take_next<F: Folder>(alloc: Global, folder: &mut F, found: &mut Found) -> Res
     Ok(false)
 }
 
-/// Whether the tree ends, and no entry more comes.
+/// Returns whether the tree ends, so that no more entry comes.
 fn is_over<F: Folder>(alloc: Global, folder: &mut F) -> Result<bool, ScanError>
-    ensures ok { IfOk result (λ over. IsOver over (F.tree folder.old) (F.given folder.old)) }
-    ensures err { IfErr result (λ e. IsFolderFault (F.entry_faults folder.old) (F.entry_faults folder.new) e) }
-    ensures ends { F.entries folder.new ≤ F.entries folder.old + 1 }
-    ensures entry_faults_rise { F.entry_faults folder.old ≤ F.entry_faults folder.new }
-    ensures file_faults_stay { F.file_faults folder.new ≡ F.file_faults folder.old }
-    ensures opened_stays { F.opened folder.new ≡ F.opened folder.old }
-    ensures returned_stays { F.returned folder.new ≡ F.returned folder.old }
-    ensures tree_stays { F.tree folder.new ≡ F.tree folder.old }
-    ensures contents_stay { F.contents folder.new ≡ F.contents folder.old }
+    ensures ok { IfOk result (λ over. IsOver over (F.told folder.old).tree (F.told folder.old).given) }
+    ensures err { IfErr result (λ e. IsFolderFault (F.told folder.old).entry_faults (F.told folder.new).entry_faults e) }
+    ensures ends { (F.told folder.new).entries ≤ (F.told folder.old).entries + 1 }
+    ensures entry_faults_rise { (F.told folder.old).entry_faults ≤ (F.told folder.new).entry_faults }
+    ensures others_stay { F.told folder.new ≡ record (F.told folder.old) { given = (F.told folder.new).given; entries = (F.told folder.new).entries; entry_faults = (F.told folder.new).entry_faults } }
 {
     let entry = folder.entry(alloc)?;
     Ok(is_end(&entry))
 }
 
-/// Whether it is the end of the tree.
+/// Returns whether an entry is the end of the tree.
 fn is_end(entry: &Entry) -> bool
     ensures { result ≡ is_the_end entry.now }
 {
     matches!(entry, Entry::End)
 }
 
-/// Takes an entry: a folder is kept, a file whose name ends in `.flac` is kept or refused, every other is passed over.
+/// Takes an entry. A folder is kept, a file whose name ends in `.flac` is kept or refused, and every other file is passed over.
 fn take_entry<F: Folder>(
     alloc: Global,
     folder: &mut F,
     found: &mut Found,
     entry: Entry,
 ) -> Result<(), ScanError>
-    requires { IsGiven entry (F.given folder.old) }
-    ensures ok { IfOk result (λ _. TakesEntry (F.contents folder.old) entry found.old found.new (F.file_faults folder.old) (F.file_faults folder.new)) }
-    ensures err { IfErr result (λ e. IsEntryFault (F.contents folder.old) entry found.old e) }
-    ensures never_falls { F.file_faults folder.old ≤ F.file_faults folder.new }
-    ensures back { CameBack (F.opened folder.old) (F.opened folder.new) (F.returned folder.old) (F.returned folder.new) }
-    ensures tree_stays { F.tree folder.new ≡ F.tree folder.old }
-    ensures contents_stay { F.contents folder.new ≡ F.contents folder.old }
-    ensures given_stay { F.given folder.new ≡ F.given folder.old }
-    ensures entries_stay { F.entries folder.new ≡ F.entries folder.old }
-    ensures entry_faults_stay { F.entry_faults folder.new ≡ F.entry_faults folder.old }
+    requires { IsGiven entry (F.told folder.old).given }
+    ensures ok { IfOk result (λ _. TakesEntry (F.told folder.old).contents entry found.old found.new (F.told folder.old).file_faults (F.told folder.new).file_faults) }
+    ensures err { IfErr result (λ e. IsEntryFault (F.told folder.old).contents entry found.old e) }
+    ensures never_falls { (F.told folder.old).file_faults ≤ (F.told folder.new).file_faults }
+    ensures back { CameBack (F.told folder.old).opened (F.told folder.new).opened (F.told folder.old).returned (F.told folder.new).returned }
+    ensures others_stay { F.told folder.new ≡ record (F.told folder.old) { opened = (F.told folder.new).opened; returned = (F.told folder.new).returned; file_faults = (F.told folder.new).file_faults } }
 {
     match entry {
         Entry::Folder { path } => {
@@ -154,7 +143,7 @@ fn take_folder(alloc: Global, found: &mut Found, path: &str) -> Result<(), ScanE
     Ok(())
 }
 
-/// The place that a path names. Any other path is `TooDeep`.
+/// Returns the place that a path names. Any other path is `TooDeep`.
 fn read_place(alloc: Global, path: &str) -> Result<Path, ScanError>
     ensures { IsPlaceAnswer path.now result }
 {
@@ -165,7 +154,7 @@ fn read_place(alloc: Global, path: &str) -> Result<Path, ScanError>
     }
 }
 
-/// Takes a file: one whose name ends in `.flac` is kept or refused, every other is passed over.
+/// Takes a file. If its name ends in `.flac`, it is kept or refused; otherwise it is passed over.
 fn take_file<F: Folder>(
     alloc: Global,
     folder: &mut F,
@@ -173,16 +162,12 @@ fn take_file<F: Folder>(
     path: Text,
     size: u64,
 ) -> Result<(), ScanError>
-    requires { IsGiven (FileEntry path size) (F.given folder.old) }
-    ensures ok { IfOk result (λ _. TakesEntry (F.contents folder.old) (FileEntry path size) found.old found.new (F.file_faults folder.old) (F.file_faults folder.new)) }
-    ensures err { IfErr result (λ e. IsEntryFault (F.contents folder.old) (FileEntry path size) found.old e) }
-    ensures never_falls { F.file_faults folder.old ≤ F.file_faults folder.new }
-    ensures back { CameBack (F.opened folder.old) (F.opened folder.new) (F.returned folder.old) (F.returned folder.new) }
-    ensures tree_stays { F.tree folder.new ≡ F.tree folder.old }
-    ensures contents_stay { F.contents folder.new ≡ F.contents folder.old }
-    ensures given_stay { F.given folder.new ≡ F.given folder.old }
-    ensures entries_stay { F.entries folder.new ≡ F.entries folder.old }
-    ensures entry_faults_stay { F.entry_faults folder.new ≡ F.entry_faults folder.old }
+    requires { IsGiven (FileEntry path size) (F.told folder.old).given }
+    ensures ok { IfOk result (λ _. TakesEntry (F.told folder.old).contents (FileEntry path size) found.old found.new (F.told folder.old).file_faults (F.told folder.new).file_faults) }
+    ensures err { IfErr result (λ e. IsEntryFault (F.told folder.old).contents (FileEntry path size) found.old e) }
+    ensures never_falls { (F.told folder.old).file_faults ≤ (F.told folder.new).file_faults }
+    ensures back { CameBack (F.told folder.old).opened (F.told folder.new).opened (F.told folder.old).returned (F.told folder.new).returned }
+    ensures others_stay { F.told folder.new ≡ record (F.told folder.old) { opened = (F.told folder.new).opened; returned = (F.told folder.new).returned; file_faults = (F.told folder.new).file_faults } }
 {
     let place = read_place(alloc, path.as_str())?;
     if !ends_in_flac(place.name()) {

@@ -1,5 +1,5 @@
--- The answer is complete, in the words of a script: a load was begun, the subscription that was accepted last lives, every note
--- that was sent to it was delivered, no change waits for its release, and a read found nothing to be read.
+-- When the answer is complete, in the words of a script. A load was begun, and the subscription that was accepted last lives.
+-- Every note that was sent to it was delivered, and no change waits for its release. A read found nothing to be read.
 use Rattle.std.specs.Prelude.{◌≡◌, ℕ, Bool, true, false, List, ◌∷◌, ◌++◌, Some, None, codes}
 use Rattle.std.specs.List.{AllByRecursion, list_all}
 use Rattle.std.specs.Fmt.{decimal}
@@ -34,14 +34,14 @@ delivered_notes_are_received = (turns : List Turn) (name : ℕ) → MayBe turns 
     AllByRecursion (λ (note : Note). note.name ≡ name → has_seq (received (played turns).replica) note.seq ≡ true)
     (notes_of (first_of turns) (played turns).commands)
 
--- whether a turn leaves what is to be read, where nothing is: it begins no load, and takes no note
+-- whether nothing stays to be read after a turn, if nothing was before it: the turn begins no load, and takes no note
 abbrev pub is_quiet : Turn → Bool
 is_quiet Load = false
 is_quiet Accept = false
 is_quiet (Deliver note) = false
 is_quiet turn = true
 
--- after a read that wrote `read none` nothing is to be read until a load is begun, a reply accepted or a note delivered
+-- after a read that wrote `read none` nothing is to be read until a load is begun, a reply is accepted or a note is delivered
 abbrev pub nothing_is_to_be_read : Type 0
 nothing_is_to_be_read = (newer older : List Turn) → written_by older Read ≡ codes "read none\n" → list_all is_quiet newer ≡ true →
     next_ask (known_by (played (newer ++ Read ∷ older)).replica) ≡ None

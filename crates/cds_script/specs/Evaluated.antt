@@ -23,7 +23,7 @@ small_item id title update size bits channels =
     ++ codes "</upnp:objectUpdateID><res protocolInfo=\"http-get:*:audio/flac:*\" size=\"" ++ size
     ++ codes "\" bitsPerSample=\"" ++ bits ++ codes "\" nrAudioChannels=\"" ++ channels ++ codes "\">/media/" ++ id ++ codes "</res></item>\n"
 
--- a line, or a byte, so many times
+-- a line, or a byte, this many times
 abbrev pub times : ℕ → List ℕ → List ℕ
 times zero line = []
 times (suc n) line = line ++ times n line
@@ -76,7 +76,7 @@ numbers_end = Leaves
     (codes "first 4294967293\ntrack a.flac 10 0 2 16 0\ntrack b.flac 10 0 2 16 0\ntrack c.flac 10 0 2 16 0\nscan\ntrack b.flac 10 0 2 16 0\ntrack c.flac 10 0 2 16 0\nscan\n") 0
     (codes "scan spent 3\nscan 4294967295\n")
 
--- a note that was not sent cannot be delivered, a note of number 0 neither
+-- a note that was not sent cannot be delivered; nor can a note of number 0
 abbrev pub note_never_sent : Type 0
 note_never_sent =
     Leaves (codes "deliver 1\n") 1 (codes "error line 1\n")
@@ -105,6 +105,6 @@ first_number_first =
 abbrev pub broken_line : Type 0
 broken_line = Leaves (codes "# a comment\n\nask\nfolder ../x\nask\n") 1 (codes "behind load\nerror line 4\n")
 
--- a line of 4,096 bytes does nothing where it begins with `#`; one byte more passes the limit
+-- a line of 4,096 bytes does nothing if it begins with `#`; one more byte passes the limit
 abbrev pub longest_line : Type 0
 longest_line = Leaves (times 4096 (codes "#")) 0 [] × Leaves (times 4097 (codes "#")) 6 (codes "error limit\n")

@@ -33,7 +33,7 @@ prepared = codes "load\n" ++ times 6 (codes "read\n") ++ codes "subscribe\naccep
 abbrev pub prepared_report : List ℕ
 prepared_report = times 6 (codes "read ok\n") ++ codes "note 1 seq 0 at 0\naccept 200\ndeliver 1 took\n"
 
--- the item of a track with two channels: of ten bytes, or of so many
+-- the item of a track with two channels: of ten bytes, or of this many
 abbrev pub item_of : List ℕ → List ℕ → List ℕ → List ℕ → List ℕ
 item_of id title update size = small_item id title update size (codes "16") (codes "2")
 
@@ -109,7 +109,7 @@ early_note = Leaves
 abbrev pub repeat_of_the_first : Type 0
 repeat_of_the_first = Leaves (prepared ++ codes "deliver 1\n") 0 (prepared_report ++ codes "deliver 1 repeat\n")
 
--- a reply that is lost leaves the ask; it is told also where nothing is to be asked
+-- a reply that is lost leaves the ask; it is told also if nothing is to be asked
 abbrev pub lost_reply : Type 0
 lost_reply = Leaves (codes "readfault\nread\nload\nreadfault\n" ++ times 6 (codes "read\n") ++ codes "ask\n") 0
     (codes "readfault\nread none\nreadfault\n" ++ times 6 (codes "read ok\n") ++ codes "stands 0\n" ++ root_line (codes "0") (codes "0") (codes "0"))
@@ -118,7 +118,7 @@ lost_reply = Leaves (codes "readfault\nread\nload\nreadfault\n" ++ times 6 (code
 abbrev pub replies_are_used_up : Type 0
 replies_are_used_up = Leaves (codes "accept\nsubscribe\naccept\naccept\n") 0 (codes "accept none\nnote 1 seq 0 at 0\naccept 200\naccept none\n")
 
--- the first notes of so many subscriptions, from a number on
+-- the first notes of this many subscriptions, from a number on
 abbrev pub first_notes : ℕ → ℕ → List ℕ
 first_notes zero number = []
 first_notes (suc n) number = codes "note " ++ decimal number ++ codes " seq 0 at 0\n" ++ first_notes n (number + 1)
@@ -136,8 +136,8 @@ given_up_once = Leaves (codes "unsubscribe\nsubscribe\nunsubscribe\naccept\nunsu
 abbrev pub renewal_at : List ℕ → List ℕ
 renewal_at moment = codes "subscribe\naccept\nat " ++ moment ++ codes "\nrenew\n"
 
--- it is renewed while it lives, which is 1,799,999 milliseconds after its grant and not 1,800,000; before a reply is accepted there
--- is none to be renewed. From a renewal on it lives as long again, and gets notes
+-- it is renewed while it lives, which is 1,799,999 milliseconds after its grant and not 1,800,000. Before a reply is accepted
+-- there is none to be renewed. After a renewal it lives as long again, and gets notes
 abbrev pub subscriptions_are_renewed : Type 0
 subscriptions_are_renewed =
     Leaves (renewal_at (codes "1799999")) 0 (codes "note 1 seq 0 at 0\naccept 200\nrenew 200\n")
@@ -146,8 +146,8 @@ subscriptions_are_renewed =
     × Leaves (renewal_at (codes "1799999") ++ one_track ++ codes "scan\nat 3599998\nrenew\nat 5399998\nrenew\n") 0
     (codes "note 1 seq 0 at 0\naccept 200\nrenew 200\nscan 1\nnote 2 seq 1 at 1\nrenew 200\nrenew 412\n")
 
--- early notes of two requests: the second drops those of the first, and a note of the name that the first would have given is
--- unknown once the second is accepted
+-- early notes of two requests: the second request drops those of the first. The first would have given a name; a note of this
+-- name is unknown once the second is accepted
 abbrev pub early_notes_are_dropped : Type 0
 early_notes_are_dropped = Leaves
     (codes "subscribe\ndeliver 1\ndeliver 1\nsubscribe\ndeliver 1\ndeliver 2\ndeliver 1\naccept\nask\n" ++ one_track ++ codes "scan\nat 0\ndeliver 4\ndeliver 3\nask\n") 0
@@ -165,8 +165,8 @@ first_note_while_loading = Leaves
     (codes "read ok\nread ok\nscan 1\nnote 1 seq 0 at 1\naccept 200\ndeliver 1 took\n" ++ times 5 (codes "read ok\n") ++ codes "behind load\nread ok\nstands 1\n"
     ++ root_line (codes "1") (codes "1") (codes "0") ++ ten_bytes (codes "1") (codes "a") (codes "1") ++ codes "read none\n")
 
--- the note of a SEQ, each of which tells one more track; and a replica with a copy of an empty library that took the first note,
--- to which so many notes came from SEQ 2 on
+-- the note of a SEQ, each of which tells one more track; and a replica with a copy of an empty library that took the first note.
+-- Then it got this many notes from SEQ 2 on
 abbrev pub note_at : ℕ → Note
 note_at seq = record { name = 1; seq = seq; number = seq; events = ObjAdd seq seq false 0 IsTrack ∷ [] }
 
@@ -174,8 +174,8 @@ abbrev pub came : ℕ → List ReplicaTurn
 came zero = given_by script_token 0 (grant_at 0 ∷ []) loaded
 came (suc n) = and_turn (Delivers (note_at (n + 2))) (came n)
 
--- with 64 notes held a further one is refused and counts as lost; a repeat is a repeat, and the next one is taken with those that
--- follow it; then the one that was lost is missing
+-- if 64 notes are held a further one is refused and counts as lost. A repeat is a repeat, and the next one is taken with those
+-- that follow it. Then the one that was lost is missing
 abbrev pub sixty_four_are_held : Type 0
 sixty_four_are_held =
     (arrival (note_at 65) (came 63) ≡ IsHeld 1)

@@ -12,7 +12,7 @@ pub record FoundFile : Type 0 where
   pub info : FlacInfo
   pub size : ℕ
 
--- with a comment behind those that it has
+-- with a comment after those that it has
 abbrev pub with_comment : Comment → FoundFile → FoundFile
 with_comment comment file = record file { info = record file.info { comments = file.info.comments ++ comment ∷ [] } }
 

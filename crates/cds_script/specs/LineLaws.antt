@@ -1,4 +1,4 @@
--- What the lines of bytes are, told from the lines and not byte by byte.
+-- What the lines of bytes are, told by the lines and not byte by byte.
 use Rattle.std.specs.Prelude.{◌≡◌, ℕ, true, List, [], ◌∷◌, ◌++◌}
 use Rattle.std.specs.List.{AllByRecursion}
 use Rattle.cds_script.specs.Lines.{lines_of, ended_lines, is_unbroken}

@@ -8,7 +8,7 @@ abbrev pub lines_of : List ℕ → List (List ℕ)
 lines_of [] = []
 lines_of (b ∷ bytes) = cond (nat_eq b 10) ([] ∷ lines_of bytes) (onto_first b (lines_of bytes))
 
--- a byte put before the first line, where there is one
+-- a byte put before the first line, if there is one
 abbrev pub onto_line : ℕ → List (List ℕ) → List (List ℕ)
 onto_line b [] = []
 onto_line b (line ∷ lines) = (b ∷ line) ∷ lines

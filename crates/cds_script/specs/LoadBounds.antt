@@ -1,5 +1,5 @@
--- How long a replica of a script may be behind its load: fewer reads than a load of the catalog takes, and two more, were answered
--- since the latest of the load's beginning, a first note that dropped the copy, and the last scan with changes.
+-- How long a replica of a script may be behind its load. Fewer reads were answered than a load of the catalog takes, and two
+-- more. They count from the latest of the load's beginning, a first note that dropped the copy, and the last scan with changes.
 use Rattle.std.specs.Prelude.{◌≡◌, ◌+◌, ◌<◌, ◌⊎◌, ◌&&◌, ℕ, Bool, false, cond, not, nat_eq, List, [], ◌∷◌, ◌++◌, Option, Some, None, codes}
 use Rattle.cds_object.specs.declared.record.Record.{Record}
 use Rattle.cds_catalog.specs.History.{end_of}
@@ -20,7 +20,7 @@ use Rattle.cds_script.specs.declared.turn.Turn.TheVariants.{Scan, Load, Read, As
 use Rattle.cds_script.specs.Report.{first_of, records_since, Played, scanned, sent_note, played, history_of, written_by}
 use Rattle.cds_script.specs.Played.{MayBe}
 
--- one more read was answered, where something was asked
+-- one more read was answered, if something was asked
 abbrev pub answered : Option Asked → ℕ → ℕ
 answered None n = n
 answered (Some ask) n = n + 1
@@ -38,8 +38,8 @@ abbrev pub note_drops : Option Note → List ReplicaTurn → Bool
 note_drops None older = false
 note_drops (Some note) older = drops (Delivers note) older
 
--- how many reads were answered, after a turn: from a load's beginning and a scan with changes on they are counted anew, not from
--- a scan whose end is the number before it
+-- how many reads were answered, after a turn. They are counted anew from a load's beginning, and from a scan with changes. They
+-- are not from a scan whose end is the number before it
 abbrev pub answered_after : ℕ → List Record → Played → ℕ → Turn → ℕ
 answered_after first records p n Scan =
     cond (nat_eq (end_of (scans_of first (scanned (scan_answer (scans_of first p.commands) records) records p.commands))) (end_of (scans_of first p.commands))) n 0
@@ -53,8 +53,8 @@ abbrev pub answered_since : List Turn → ℕ
 answered_since [] = 0
 answered_since (turn ∷ older) = answered_after (first_of older) (records_since older) (played older) (answered_since older) turn
 
--- the replica is behind its load only where none was begun, or where too few reads were answered since: fewer than a load
--- of the catalog takes, and two more
+-- if the replica is behind its load, none was begun or few reads were answered since: fewer than a load of the catalog takes, and
+-- two more
 abbrev pub loads_are_bounded : Type 0
 loads_are_bounded = (turns : List Turn) → MayBe turns → says (played turns).replica ≡ BehindLoad →
     (load_was_begun (played turns).replica ≡ false) ⊎ (answered_since turns < load_reads (catalog (history_of turns)) + 2)

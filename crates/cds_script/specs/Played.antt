@@ -60,13 +60,13 @@ abbrev pub report_of : List Turn → List ℕ
 report_of [] = []
 report_of (turn ∷ older) = report_of older ++ written_by older turn
 
--- the status and the last line of a script that comes to these lines, the first of which is not answered and has this number:
--- without any it ends well, or it is too long
+-- the status and the last line of a script that comes to these lines. The first of them is not answered and has this number. If
+-- there are none, the script ends well, or it is too long
 abbrev pub stop_at : ℕ → List (List ℕ) → Bool → Ending
 stop_at number [] whole = cond whole (record { status = 0; text = [] }) limit_ending
 stop_at number (line ∷ later) whole = cond (is_long line) limit_ending (outside_ending number)
 
--- the status of a script and its last line, if it has one beside those of its turns
+-- the status of a script and its last line, if it has one besides those of its turns
 abbrev pub script_stop : List ℕ → Ending
 script_stop bytes = stop_at (answered_of bytes + 1) (drop (answered_of bytes) (script_lines bytes)) (nat_le (length bytes) script_limit)
 

@@ -36,7 +36,7 @@ use Rattle.cds_script.specs.declared.turn.Meaning.TheVariants.{Nothing, Means, O
 use Rattle.cds_script.specs.declared.turn.Turn.{Turn}
 use Rattle.cds_script.specs.declared.turn.Turn.TheVariants.{Folder, Track, Tag, Scan, Load, Read, Ask, First, At, Subscribe, Accept, Renew, Unsubscribe, Deliver, ReadFault}
 
--- a comment put to the last thing that was found, where it is a file
+-- a comment put to the last thing that was found, if it is a file
 abbrev pub commented : Comment → Found → Found
 commented comment (FolderFound path) = FolderFound path
 commented comment (TrackFound file) = TrackFound (with_comment comment file)
@@ -273,8 +273,8 @@ is_tagging (Track path info size ∷ older) = true
 is_tagging (Tag comment ∷ older) = true
 is_tagging turns = false
 
--- whether a turn may stand after the older ones, or its line is outside the grammar: the first number comes before all else,
--- a comment behind a track or another comment, moments never fall, and a note that is delivered was sent
+-- whether a turn may stand after the older ones; otherwise its line is outside the grammar. The first number comes before all
+-- else, and a comment after a track or another comment. Moments never fall, and a note that is delivered was sent
 abbrev pub may_stand : List Turn → Turn → Bool
 may_stand older (Tag comment) = is_tagging older
 may_stand older (First number) = nat_eq (length older) 0
@@ -290,16 +290,16 @@ ending_at (Means turn) turns number go_on =
     cond (may_stand turns turn) (written_first (written_by turns turn) (go_on (turn ∷ turns))) (outside_ending number)
 ending_at Outside turns number go_on = outside_ending number
 
--- how a script ends after turns, where the first of the lines that are left has this number; the last part says whether
--- the script ends with these lines, or passes its limit
+-- how a script ends after turns; the first of the lines that are left has this number. The last part says whether the script ends
+-- with these lines, or passes its limit
 abbrev pub ending_from : List Turn → ℕ → List (List ℕ) → Bool → Ending
 ending_from turns number [] whole = cond whole (record { status = 0; text = [] }) limit_ending
 ending_from turns number (line ∷ lines) whole =
     cond (nat_lt line_limit (length line)) limit_ending
     (ending_at (meaning_of line) turns number (λ now. ending_from now (number + 1) lines whole))
 
--- how a script goes on after turns, at the line of this number, where so many bytes more may be taken: the lines before
--- a broken one are answered, and of a script that is too long those that ended before the limit was passed
+-- how a script goes on after turns, at the line of this number, if this many more bytes may be taken. The lines before a broken
+-- one are answered. Of a script that is too long, those are that ended before the limit was passed
 abbrev pub ending_of : List Turn → ℕ → ℕ → List ℕ → Ending
 ending_of turns number room bytes =
     cond (nat_le (length bytes) room) (ending_from turns number (lines_of bytes) true)

@@ -56,7 +56,7 @@ plain_turn word =
     (cond (same_text word (codes "unsubscribe")) (Some Unsubscribe)
     (cond (same_text word (codes "readfault")) (Some ReadFault) None))))))))
 
--- each subscription of a script is granted and renewed for so many seconds, and has this callback
+-- each subscription of a script is granted and renewed for this many seconds, and has this callback
 abbrev pub granted_seconds : ℕ
 granted_seconds = 1800
 
@@ -130,17 +130,17 @@ abbrev pub meaning_of_turn : Option Turn → Meaning
 meaning_of_turn None = Outside
 meaning_of_turn (Some turn) = Means turn
 
--- what words mean, where each part of a line is one
+-- what words mean, if each part of a line is one
 abbrev pub meaning_of_said : Option (List (List ℕ)) → Meaning
 meaning_of_said None = Outside
 meaning_of_said (Some words) = meaning_of_turn (turn_of words)
 
--- what the parts of a line mean: a turn, where each is a word and together they are a turn's; else the line is outside the
+-- what the parts of a line mean: a turn, if each is a word and together they are a turn's. Otherwise the line is outside the
 -- grammar
 abbrev pub meaning_of_words : List (List ℕ) → Meaning
 meaning_of_words parts = meaning_of_said (words_said parts)
 
--- what a line means: nothing, where it is empty or begins with `#`; else what its parts mean
+-- what a line means: nothing, if it is empty or begins with `#`; else what its parts mean
 abbrev pub meaning_of : List ℕ → Meaning
 meaning_of [] = Nothing
 meaning_of (b ∷ rest) = cond (nat_eq b 35) Nothing (meaning_of_words (words_of (b ∷ rest)))

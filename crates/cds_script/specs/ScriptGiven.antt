@@ -1,6 +1,6 @@
--- The replica of a script is one of an honest server, whose commands are those that the script's turns gave it; and what follows
--- for the script's turns: nothing is unreadable, jumps or is torn, few subscriptions live, what stands is a scan end, and the
--- answer is complete.
+-- The replica of a script is one of an honest server, whose commands are those that the script's turns gave it. What follows for
+-- the script's turns: nothing is unreadable, jumps or is torn, few subscriptions live, what stands is a scan end, and the answer
+-- is complete.
 use Rattle.std.specs.Prelude.{◌≡◌, ◌≤◌, ℕ, true, List, ◌∷◌, ◌++◌, length, Some, None, codes}
 use Rattle.std.specs.List.{AllByRecursion}
 use Rattle.std.specs.Fmt.{decimal}
@@ -26,7 +26,7 @@ use Rattle.cds_script.specs.declared.turn.Turn.TheVariants.{Ask}
 use Rattle.cds_script.specs.Report.{script_token, first_of, clock_of, sent_note, lives, played, history_of, written_by}
 use Rattle.cds_script.specs.Played.{MayBe}
 
--- a number is the end of a history's oldest scans, so many of them, and rows are the catalog after these
+-- a number is the end of some of a history's scans, the oldest ones, and rows are the catalog after these
 pub record IsScanEnd (history : History) (number : ℕ) (rows : List ObjectRow) : Type 0 where
   pub newer : List FolderMap
   pub older : List FolderMap
@@ -34,7 +34,7 @@ pub record IsScanEnd (history : History) (number : ℕ) (rows : List ObjectRow) 
   pub ends : end_of (record { first = history.first; maps = older }) ≡ number
   pub are : rows ≡ catalog (record { first = history.first; maps = older })
 
--- the commands that turns gave the server are accepted ones, and the replica's turns are what an honest server gives, each at a
+-- the commands that turns gave the server are accepted ones. The replica's turns are what an honest server gives, each at a
 -- length of the list of these commands
 pub record AreGiven (turns : List Turn) : Type 0 where
   pub accepted : AreAccepted (first_of turns) (played turns).commands
@@ -46,8 +46,8 @@ pub record AreGiven (turns : List Turn) : Type 0 where
 abbrev pub scripts_are_given : Type 0
 scripts_are_given = (turns : List Turn) → MayBe turns → AreGiven turns
 
--- what may come after turns is taken: the reply to the next read, the notes that came early for the name whose reply is held
--- back, and each note that was sent, with those that follow it. None cannot be read, jumps over a change, or tells what cannot be
+-- what may come after turns is taken: the reply to the next read; the notes that came early for the name whose reply is held
+-- back; and each note that was sent, with those that follow it. All can be read, jump over no change, and tell only what can be
 pub record AreTaken (turns : List Turn) : Type 0 where
   pub reads : (ask : Asked) → next_ask (known_by (played turns).replica) ≡ Some ask →
       (now : Known) × (with_reply (known_by (played turns).replica) (known_by (played turns).replica).held
@@ -68,7 +68,7 @@ living_names turns = alive_names (clock_of turns) (played turns).commands (notes
 abbrev pub subscriptions_are_few : Type 0
 subscriptions_are_few = (turns : List Turn) → MayBe turns → length (living_names turns) ≤ subscription_limit
 
--- each ask among turns that writes `stands` writes the number that the replica says, and the rows of its copy; the number is a
+-- each ask among turns that writes `stands` writes the number that the replica says, and the rows of its copy. The number is a
 -- scan end of the scans that were accepted by then, and the rows are the catalog after the scans up to it
 abbrev pub StandsAtScanEnds : List Turn → Type 0
 StandsAtScanEnds turns = (newer older : List Turn) (rest : List ℕ) → turns ≡ newer ++ Ask ∷ older →
@@ -80,8 +80,8 @@ StandsAtScanEnds turns = (newer older : List Turn) (rest : List ℕ) → turns �
 abbrev pub all_turns_stand_at_scan_ends : Type 0
 all_turns_stand_at_scan_ends = (turns : List Turn) → MayBe turns → StandsAtScanEnds turns
 
--- a load was begun, the subscription that was accepted last lives, each note that was sent to it was received, no change waits
--- for its release, and nothing is to be read
+-- a load was begun, and the subscription that was accepted last lives. Each note that was sent to it was received, no change
+-- waits for its release, and nothing is to be read
 pub record IsComplete (turns : List Turn) (name : ℕ) : Type 0 where
   pub begun : load_was_begun (played turns).replica ≡ true
   pub named : accepted (played turns).replica ≡ Some name

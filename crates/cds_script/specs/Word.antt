@@ -20,7 +20,7 @@ abbrev pub escaped_byte : Option ℕ → Option ℕ → Option ℕ
 escaped_byte (Some high) (Some low) = Some (16 * high + low)
 escaped_byte high low = None
 
--- a byte before others, where both are there
+-- a byte before others, if both are there
 abbrev pub byte_before : Option ℕ → Option (List ℕ) → Option (List ℕ)
 byte_before (Some b) (Some bytes) = Some (b ∷ bytes)
 byte_before b bytes = None
@@ -38,7 +38,7 @@ decoded (b ∷ c ∷ d ∷ rest) =
 abbrev pub word_said : List ℕ → Option (List ℕ)
 word_said part = cond (nat_lt 0 (length part)) (decoded part) None
 
--- a word before others, where all are there
+-- a word before others, if all are there
 abbrev pub word_before : Option (List ℕ) → Option (List (List ℕ)) → Option (List (List ℕ))
 word_before (Some word) (Some words) = Some (word ∷ words)
 word_before word words = None
@@ -85,14 +85,14 @@ abbrev pub byte_of_piece : Piece → ℕ
 byte_of_piece (Plain b) = b
 byte_of_piece (Escape high low) = 16 * high + low
 
--- a part of a line is pieces one behind the other, which stand for these bytes
+-- a part of a line is pieces, one after the other, which stand for these bytes
 pub record IsOfPieces (part bytes : List ℕ) : Type 0 where
   pub pieces : List Piece
   pub all : AllByRecursion IsPiece pieces
   pub text : flat_map text_of_piece pieces ≡ part
   pub meant : map byte_of_piece pieces ≡ bytes
 
--- a part of a line stands for bytes exactly where it is such pieces, so every other part is no word
+-- a part of a line stands for bytes if and only if it is such pieces; so every other part is no word
 abbrev pub words_are_of_pieces : Type 0
 words_are_of_pieces = (part bytes : List ℕ) → (decoded part ≡ Some bytes) ↔ IsOfPieces part bytes
 

@@ -29,7 +29,7 @@ impl Model for FoundFile {
 }
 
 impl FoundFile {
-    /// A file at a place, with what it says and its size in bytes.
+    /// Returns a file at a place, with what it says and its size in bytes.
     pub fn new(path: Path, info: FlacInfo, size: u64) -> FoundFile
         requires { info.samples < 2 ^ 36 }
         ensures { result ≡ record { path = path; info = info; size = size } }
@@ -37,14 +37,14 @@ impl FoundFile {
         FoundFile { path, info, size }
     }
 
-    /// Puts a comment behind those that the file has.
+    /// Puts a comment after those that the file has.
     pub fn add(&mut self, comment: Comment) -> Result<(), Mem>
         ensures { OnOk result (self.new ≡ with_comment comment self.old) }
     {
         self.info.comments.push(comment)
     }
 
-    /// The record of the track: what its file says.
+    /// Returns the record of the track: what its file says.
     pub fn record(&self, alloc: Global) -> Result<Record, Mem>
         ensures { IfOk result (λ made. made ≡ track_record self.now) }
     {
@@ -62,7 +62,7 @@ pub enum Found {
 }
 
 impl Found {
-    /// The record of what was found.
+    /// Returns the record of what was found.
     pub fn record(&self, alloc: Global) -> Result<Record, Mem>
         ensures { IfOk result (λ made. made ≡ record_of self.now) }
     {
@@ -73,7 +73,7 @@ impl Found {
     }
 }
 
-/// The same with a comment put to it, where it is a track.
+/// Returns the same with a comment put to it, if it is a track.
 fn with_comment(one: Found, comment: Comment) -> Result<Found, Mem>
     ensures { IfOk result (λ made. made ≡ commented comment one) }
 {
@@ -86,7 +86,7 @@ fn with_comment(one: Found, comment: Comment) -> Result<Found, Mem>
     }
 }
 
-/// The record of a folder, whose title is its name, cleaned.
+/// Returns the record of a folder, whose title is its name, cleaned.
 fn folder_record(alloc: Global, path: &Path) -> Result<Record, Mem>
     ensures { IfOk result (λ made. made ≡ folder_record path.now) }
 {
@@ -111,7 +111,7 @@ impl Model for FoundList {
 }
 
 impl FoundList {
-    /// Nothing, which takes no memory.
+    /// Returns an empty list, which takes no memory.
     pub fn new(alloc: Global) -> FoundList
         ensures { result ≡ [] }
     {
@@ -128,7 +128,7 @@ impl FoundList {
         Ok(())
     }
 
-    /// Puts a comment to the last thing, where it is a track.
+    /// Puts a comment to the last thing, if it is a track.
     pub fn tag(&mut self, comment: Comment) -> Result<(), Mem>
         ensures { OnOk result (self.new ≡ last_commented comment self.old) }
     {
@@ -142,7 +142,7 @@ impl FoundList {
         }
     }
 
-    /// The records of what was found.
+    /// Returns the records of what was found.
     pub fn records(&self, alloc: Global) -> Result<Records, Mem>
         ensures { IfOk result (λ records. records ≡ map record_of self.now) }
     {

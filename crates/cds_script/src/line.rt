@@ -13,7 +13,7 @@ use cds_base::{Mem, Sequence, Text, read_plain};
 use cds_object::{Comment, FlacInfo, Path, PathError};
 use std::alloc::Global;
 
-/// What a line of a script means, given without its LF.
+/// Returns what a line of a script means, given without its LF.
 pub fn read_line(alloc: Global, line: &[u8]) -> Result<Meaning, Mem>
     ensures { IfOk result (λ meaning. meaning ≡ meaning_of line.now) }
 {
@@ -29,7 +29,7 @@ pub fn read_line(alloc: Global, line: &[u8]) -> Result<Meaning, Mem>
     }
 }
 
-/// What a line that is neither empty nor a comment means.
+/// Returns what a line means that is neither empty nor a comment.
 fn read_words(alloc: Global, line: &[u8]) -> Result<Meaning, Mem>
     ensures { IfOk result (λ meaning. meaning ≡ meaning_of_words (words_of line.now)) }
 {
@@ -40,7 +40,7 @@ fn read_words(alloc: Global, line: &[u8]) -> Result<Meaning, Mem>
     }
 }
 
-/// What words mean.
+/// Returns what words mean.
 fn means(alloc: Global, words: &[Word]) -> Result<Meaning, Mem>
     ensures { IfOk result (λ meaning. meaning ≡ meaning_of_turn (turn_of words.now)) }
 {
@@ -50,7 +50,7 @@ fn means(alloc: Global, words: &[Word]) -> Result<Meaning, Mem>
     }
 }
 
-/// The parts of a line between its spaces.
+/// Returns the parts of a line between its spaces.
 fn split_words(alloc: Global, line: &[u8]) -> Result<Vec<&[u8]>, Mem>
     ensures { IfOk result (λ words. map (λ w. w.now) words.items ≡ words_of line.now) }
 {
@@ -58,14 +58,14 @@ fn split_words(alloc: Global, line: &[u8]) -> Result<Vec<&[u8]>, Mem>
     Ok(words)
 }
 
-/// Whether a word has these bytes.
+/// Returns whether a word has these bytes.
 fn is_text(word: &[u8], text: &str) -> bool
     ensures { result ≡ same_text word.now text.now }
 {
     word == text.as_bytes()
 }
 
-/// The turn of a line of words.
+/// Returns the turn of a line of words.
 fn turn(alloc: Global, words: &[Word]) -> Result<Option<Turn>, Mem>
     ensures { IfOk result (λ turn. turn ≡ turn_of words.now) }
 {
@@ -86,7 +86,7 @@ fn turn(alloc: Global, words: &[Word]) -> Result<Option<Turn>, Mem>
     }
 }
 
-/// The turn of a line that is one word alone, or a word and a number.
+/// Returns the turn of a line that is one word alone, or a word and a number.
 fn short(word: &[u8], others: &[Word]) -> Option<Turn>
     ensures { result ≡ plain_line word.now others.now }
 {
@@ -97,7 +97,7 @@ fn short(word: &[u8], others: &[Word]) -> Option<Turn>
     }
 }
 
-/// The turn of a line of one word.
+/// Returns the turn of a line of one word.
 fn plain(word: &[u8]) -> Option<Turn>
     ensures { result ≡ plain_turn word.now }
 {
@@ -124,7 +124,7 @@ fn plain(word: &[u8]) -> Option<Turn>
     }
 }
 
-/// The turn of a line of a word and a number.
+/// Returns the turn of a line of a word and a number.
 fn numbered(word: &[u8], number: &[u8]) -> Option<Turn>
     ensures { result ≡ number_turn word.now number.now }
 {
@@ -139,7 +139,7 @@ fn numbered(word: &[u8], number: &[u8]) -> Option<Turn>
     }
 }
 
-/// The turn of a line that names the server's first number.
+/// Returns the turn of a line that names the server's first number.
 fn first(number: &[u8]) -> Option<Turn>
     ensures { result ≡ first_turn (plain_below (2 ^ 32) number.now) }
 {
@@ -151,7 +151,7 @@ fn first(number: &[u8]) -> Option<Turn>
     }
 }
 
-/// The turn of a line that names a moment.
+/// Returns the turn of a line that names a moment.
 fn at(moment: &[u8]) -> Option<Turn>
     ensures { result ≡ at_turn (plain_below moment_limit moment.now) }
 {
@@ -161,7 +161,7 @@ fn at(moment: &[u8]) -> Option<Turn>
     }
 }
 
-/// The turn of a line that names a note.
+/// Returns the turn of a line that names a note.
 fn deliver(note: &[u8]) -> Option<Turn>
     ensures { result ≡ deliver_turn (plain_below (2 ^ 32) note.now) }
 {
@@ -171,7 +171,7 @@ fn deliver(note: &[u8]) -> Option<Turn>
     }
 }
 
-/// The place that a word names, if it names one.
+/// Returns the place that a word names, if it names one.
 fn path_of(alloc: Global, word: &[u8]) -> Result<Option<Path>, Mem>
     ensures { IfOk result (λ path. path ≡ path_said word.now) }
 {
@@ -185,7 +185,7 @@ fn path_of(alloc: Global, word: &[u8]) -> Result<Option<Path>, Mem>
     }
 }
 
-/// The turn of a line that begins with `folder`, by its other words.
+/// Returns the turn of a line that begins with `folder`, by its other words.
 fn folder(alloc: Global, words: &[Word]) -> Result<Option<Turn>, Mem>
     ensures { IfOk result (λ turn. turn ≡ folder_line words.now) }
 {
@@ -195,7 +195,7 @@ fn folder(alloc: Global, words: &[Word]) -> Result<Option<Turn>, Mem>
     }
 }
 
-/// The turn of a folder at the place that a word names.
+/// Returns the turn of a folder at the place that a word names.
 fn folder_at(alloc: Global, path: &[u8]) -> Result<Option<Turn>, Mem>
     ensures { IfOk result (λ turn. turn ≡ folder_turn (path_said path.now)) }
 {
@@ -205,7 +205,7 @@ fn folder_at(alloc: Global, path: &[u8]) -> Result<Option<Turn>, Mem>
     }
 }
 
-/// A number in plain decimal below a limit.
+/// Reads a number in plain decimal below a limit.
 fn number_below(word: &[u8], limit: u64) -> Option<u64>
     ensures exact { result ≡ plain_below limit word.now }
     ensures below { IfSome result (λ n. n < limit) }
@@ -216,7 +216,7 @@ fn number_below(word: &[u8], limit: u64) -> Option<u64>
     }
 }
 
-/// A number in plain decimal from 1 up to another.
+/// Reads a number in plain decimal from 1 up to another.
 fn number_up_to(word: &[u8], high: u8) -> Option<u8>
     ensures { result ≡ number_from_to 1 high word.now }
 {
@@ -226,7 +226,7 @@ fn number_up_to(word: &[u8], high: u8) -> Option<u8>
     }
 }
 
-/// What a file without comments says, by the words of its samples in a second, channels, bits in a sample and samples.
+/// Returns what a file without comments says, by the words of its samples in a second, channels, bits in a sample and samples.
 fn info_of(
     alloc: Global,
     rate: &[u8],
@@ -251,7 +251,7 @@ fn info_of(
     })
 }
 
-/// The turn of a line that begins with `track`, by its other words.
+/// Returns the turn of a line that begins with `track`, by its other words.
 fn track(alloc: Global, words: &[Word]) -> Result<Option<Turn>, Mem>
     ensures { IfOk result (λ turn. turn ≡ track_line words.now) }
 {
@@ -270,7 +270,7 @@ fn track(alloc: Global, words: &[Word]) -> Result<Option<Turn>, Mem>
     }
 }
 
-/// The turn of a track at the place that a word names, if its size and what it says are there.
+/// Returns the turn of a track at the place that a word names, if its size and what it says are there.
 fn track_at(
     alloc: Global,
     path: &[u8],
@@ -285,7 +285,7 @@ fn track_at(
     }
 }
 
-/// The turn of a line that begins with `tag`, by its other words.
+/// Returns the turn of a line that begins with `tag`, by its other words.
 fn tag(alloc: Global, words: &[Word]) -> Result<Option<Turn>, Mem>
     ensures { IfOk result (λ turn. turn ≡ tag_line words.now) }
 {
@@ -295,7 +295,7 @@ fn tag(alloc: Global, words: &[Word]) -> Result<Option<Turn>, Mem>
     }
 }
 
-/// The turn of a comment, if its name and its value are texts.
+/// Returns the turn of a comment, if its name and its value are texts.
 fn tag_of(alloc: Global, name: &[u8], value: &[u8]) -> Result<Option<Turn>, Mem>
     ensures { IfOk result (λ turn. turn ≡ tag_turn name.now value.now) }
 {

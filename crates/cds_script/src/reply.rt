@@ -1,3 +1,5 @@
+//! The reply to a subscribe request of a script.
+
 /// The reply to a subscribe request, which is held back until the replica gets it.
 #[derive(Clone, Copy, Debug, PartialEq, Eq)]
 pub enum HeldReply {

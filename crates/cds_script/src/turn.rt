@@ -1,3 +1,5 @@
+//! The turns of a script, and what a line of it means.
+
 use cds_object::{Comment, FlacInfo, Path};
 
 /// One line of a script that does something.
@@ -29,8 +31,8 @@ pub enum Turn {
     First {
         number: u32,
     },
-    /// The current moment is this one from now on, in milliseconds; then the server ends the subscriptions that have run out, and
-    /// releases what is due.
+    /// Sets the current moment, in milliseconds. Then the server ends the subscriptions that have run out, and releases what is
+    /// due.
     At {
         moment: u64,
     },

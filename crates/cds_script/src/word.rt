@@ -9,7 +9,7 @@ use std::alloc::Global;
 /// The bytes that a word stands for.
 pub(crate) type Word = Sequence<u8>;
 
-/// The words that the parts of a line are, if each is one.
+/// Returns the words that the parts of a line are, if each is one.
 pub(crate) fn words_in(alloc: Global, parts: &[&[u8]]) -> Result<Option<Sequence<Word>>, Mem>
     ensures { IfOk result (λ words. words ≡ words_said (map (λ p. p.now) parts.now)) }
 {
@@ -23,7 +23,7 @@ pub(crate) fn words_in(alloc: Global, parts: &[&[u8]]) -> Result<Option<Sequence
     Ok(Some(words))
 }
 
-/// The word that a part of a line is, if it is one.
+/// Returns the word that a part of a line is, if it is one.
 fn word_in(alloc: Global, part: &[u8]) -> Result<Option<Word>, Mem>
     ensures { IfOk result (λ word. word ≡ word_said part.now) }
 {
@@ -33,7 +33,7 @@ fn word_in(alloc: Global, part: &[u8]) -> Result<Option<Word>, Mem>
     decode(alloc, part)
 }
 
-/// The bytes that a part of a line stands for, if it stands for any.
+/// Returns the bytes that a part of a line stands for, if it stands for any.
 fn decode(alloc: Global, part: &[u8]) -> Result<Option<Word>, Mem>
     ensures { IfOk result (λ word. word ≡ decoded part.now) }
 {
@@ -51,7 +51,7 @@ fn decode(alloc: Global, part: &[u8]) -> Result<Option<Word>, Mem>
     Ok(Some(word))
 }
 
-/// The byte that the beginning of a part stands for, and what is behind it.
+/// Returns the byte that the beginning of a part stands for, and what comes after it.
 fn first_byte(part: &[u8]) -> Option<(u8, &[u8])>
     requires { 0 < length part.now }
     ensures meaning { MatchOption result (decoded part.now ≡ None) (λ first. decoded part.now ≡ byte_before (Some first.0) (decoded first.1.now)) }
@@ -71,14 +71,14 @@ fn first_byte(part: &[u8]) -> Option<(u8, &[u8])>
     }
 }
 
-/// Whether a byte of a part stands for itself.
+/// Returns whether a byte of a part stands for itself.
 fn is_plain(byte: u8) -> bool
     ensures { result ≡ is_plain_byte byte }
 {
     33 <= byte && byte <= 126 && byte != b'%'
 }
 
-/// The byte that two upper-case hexadecimal digits stand for.
+/// Returns the byte that two upper-case hexadecimal digits stand for.
 fn escaped(high: u8, low: u8) -> Option<u8>
     ensures { result ≡ escaped_byte (digit_value high) (digit_value low) }
 {
@@ -88,7 +88,7 @@ fn escaped(high: u8, low: u8) -> Option<u8>
     }
 }
 
-/// The value of an upper-case hexadecimal digit.
+/// Returns the value of an upper-case hexadecimal digit.
 fn digit(byte: u8) -> Option<u8>
     ensures exact { result ≡ digit_value byte }
     ensures below { IfSome result (λ value. value < 16) }

@@ -1,10 +1,9 @@
 -- How one request is read from a connection, piece by piece.
-use Rattle.std.proofs.Common.{◌≡◌, ◌⊎◌, inl, inr, ℕ, false, true, List, [], ◌++◌, length, take, drop, Option, Some, None, Result, Ok, Err, refl, sym, ◌∙◌, ap, subst, append_assoc, ◌<◌, ◌≤◌, arith}
+use Rattle.std.proofs.Common.{◌≡◌, ◌⊎◌, inl, inr, ℕ, false, true, List, [], ◌++◌, length, take, drop, Option, Some, Result, Ok, Err, refl, sym, ◌∙◌, ap, subst, append_assoc, ◌<◌, ◌≤◌, arith}
 use Rattle.std.specs.Prelude.{⊤}
 use Rattle.std.proofs.lemmas.List.{take-append-drop, append-nil, length-take}
 use Rattle.cds_http.specs.declared.error.HttpError.{HttpError}
 use Rattle.cds_http.specs.declared.error.HttpError.TheVariants.{BadHead, HeadTooLong, BadLength, BadChunk, TooLong, Truncated, Failed, Mem}
-use Rattle.cds_http.specs.declared.message.Fed.{Fed}
 use Rattle.cds_http.specs.declared.message.Fed.TheVariants.{More, Whole as WholeFed}
 use Rattle.cds_http.specs.declared.message.Message.{Message}
 use Rattle.cds_http.specs.declared.message.Side.TheVariants as side
@@ -15,12 +14,10 @@ use Rattle.cds_http.specs.Reading.{Finishes, IsWhole, Stands, Takes, at_end}
 use Rattle.cds_http.specs.Steps.{Explains}
 use Rattle.cds_http.proofs.Once.{one_outcome}
 use Rattle.cds_serve.specs.Answered.{ReadsFrom, piece_limit}
-use Rattle.cds_serve.specs.declared.request.Filled.{Filled}
-use Rattle.cds_serve.specs.declared.request.Filled.TheVariants as filled
 use Rattle.cds_serve.specs.declared.request.Request.{Request}
 use Rattle.cds_serve.specs.declared.request.Request.TheVariants as request
 use Rattle.cds_base.specs.Outside.{Rose}
-use Rattle.cds_serve.specs.Requested.{BrokenRose, ComesTo, GoesOn, HasAll, IsCause, IsLastIn, IsRequest}
+use Rattle.cds_serve.specs.Requested.{BrokenRose, ComesTo, HasAll, IsCause, IsLastIn, IsRequest}
 
 -- ---- the end of a message
 

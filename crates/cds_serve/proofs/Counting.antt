@@ -12,8 +12,8 @@ use Rattle.cds_gena.specs.declared.error.GenaError.TheVariants as error
 use Rattle.cds_gena.specs.declared.gena.Gena.{Gena}
 use Rattle.cds_gena.specs.declared.gena.Gena.TheVariants as gena
 use Rattle.cds_http.specs.declared.message.Message.{Message}
-use Rattle.cds_server.specs.Route.{Goes, Route, Subscribes, asks_events, route, way_by}
-use Rattle.cds_server.specs.Outcome.{Outcome, command_of, event_reply, granting, living_number, outcome, outcome_of, outcome_reply, refusal_of, renewing, ending, status_of, empty_reply}
+use Rattle.cds_server.specs.Route.{Goes, Route, Subscribes, asks_events, way_by}
+use Rattle.cds_server.specs.Outcome.{Outcome, command_of, event_reply, granting, living_number, outcome, outcome_of, outcome_reply, refusal_of, renewing, ending}
 use Rattle.cds_server.specs.Replies.{IsReply, IsReplyOf, command_at, command_by}
 use Rattle.cds_serve.specs.Served.{added, is_two}
 

@@ -1,42 +1,46 @@
 -- How one connection is served, put together from its parts.
-use Rattle.std.proofs.Common.{◌≡◌, ◌+◌, inl, inr, ℕ, true, List, [], ◌++◌, length, Option, Some, Result, Ok, Err, IsErr, IsOk, IsSome, IfOk, OnOk, OnErr, refl, sym, ap, subst, ◌∙◌, append-nil, true≢false, arith}
+use Rattle.std.proofs.Common.{◌≡◌, ◌+◌, inl, inr, ℕ, true, List, [], ◌∷◌, ◌++◌, append_assoc, length, Option, Some, Result, Ok, Err, IsErr, IsOk, IsSome, IfOk, OnOk, OnErr, refl, sym, ap, subst, ◌∙◌, append-nil, true≢false, arith}
 use Rattle.std.specs.Prelude.{⊤}
 use Rattle.std.proofs.lemmas.List.{take_all}
 use Rattle.cds_base.specs.declared.mem.Mem.{Mem as Memory}
-use Rattle.cds_base.specs.Outside.{Told, HoldsPart, Rose}
+use Rattle.cds_base.specs.Outside.{HoldsPart, Rose, SinkTold, Told}
 use Rattle.cds_commands.specs.Commands.{Command, Start}
 use Rattle.cds_http.specs.declared.message.Message.{Message}
 use Rattle.cds_http.specs.declared.message.Side.TheVariants as side
 use Rattle.cds_http.specs.Decided.{Decides}
 use Rattle.cds_http.specs.Known.{Known}
-use Rattle.cds_server.specs.Outcome.{GoesOut}
+use Rattle.cds_server.specs.Outcome.{Ended, GoesOut, Granted, Outcome, Refused as RefusedBy, Renewed, outcome}
+use Rattle.cds_server.specs.Replies.{command_at, command_by}
+use Rattle.cds_server.specs.Route.{Goes, Route, Subscribes, route}
+use Rattle.std.specs.List.{AllByRecursion}
+use Rattle.cds_serve.specs.Jobs.{AddsAnswers, IsOfMessage}
+use Rattle.cds_serve.specs.Served.{added}
 use Rattle.cds_turn.specs.Line.{Extends}
+use Rattle.cds_turn.specs.Turn.{SeatTold, after_turn}
 use Rattle.cds_serve.specs.Acts.{IsReplyGiven, free_text, reply_adds, reply_requests, reply_text}
-use Rattle.cds_serve.specs.Answered.{Around, Broken, Free, Handled, NeedsTurn, ReadsFrom, Serves, Starved, Unhandled, free_status, no_memory_reply}
+use Rattle.cds_serve.specs.Answered.{Around, Broken, Course, Free, Handled, NeedsTurn, ReadsFrom, Serves, Starved, TakesTurn, Unhandled, free_status, no_memory_reply}
 use Rattle.cds_serve.specs.Sent.{GivesAll, GivesEach, first_requests}
-use Rattle.cds_serve.specs.Told.{IsAlone, IsMoment, WritesTo}
+use Rattle.cds_serve.specs.Told.{IsAlone, IsMoment, Writes}
 use Rattle.cds_serve.specs.declared.acts.Reply.{Reply}
 
 -- ---- what was written
 
-pub writes-nothing : (before after : Option (List ℕ)) (old new : ℕ) → after ≡ before → WritesTo [] before after old new
-writes-nothing before after old new same held told =
-    let is : after ≡ Some (held ++ []) = same ∙ told ∙ ap Some (sym (append-nil held)) in
+pub writes-nothing : (old new : SinkTold) → new ≡ old → Writes [] old new
+writes-nothing old new same held told =
+    let is : new.holds ≡ Some (held ++ []) = ap (λ (t : SinkTold). t.holds) same ∙ told ∙ ap Some (sym (append-nil held)) in
     ((0, omega arith, is), inl is)
 
-pub writes-from : (text : List ℕ) (before mid after : Option (List ℕ)) (old between new : ℕ) → mid ≡ before → between ≡ old
-    → WritesTo text mid after between new → WritesTo text before after old new
-writes-from text before mid after old between new same count w =
-    subst (λ (n : ℕ). WritesTo text before after n new) count (subst (λ (h : Option (List ℕ)). WritesTo text h after between new) same w)
+pub writes-from : (text : List ℕ) (old mid new : SinkTold) → mid ≡ old → Writes text mid new → Writes text old new
+writes-from text old mid new same w = subst (λ (t : SinkTold). Writes text t new) same w
 
 -- by how the writing ended
-pub written-by : {X E : Type 0} (result : Result X E) (text : List ℕ) (before after : Option (List ℕ)) (old new : ℕ)
-    → OnOk result (Told before (λ held. after ≡ Some (held ++ text))) → OnErr result (Told before (λ held. HoldsPart held text after))
-    → OnErr result (Rose old new) → WritesTo text before after old new
-written-by (Ok value) text before after old new all part rose held told =
+pub written-by : {X E : Type 0} (result : Result X E) (text : List ℕ) (old new : SinkTold)
+    → OnOk result (Told old.holds (λ held. new.holds ≡ Some (held ++ text))) → OnErr result (Told old.holds (λ held. HoldsPart held text new.holds))
+    → OnErr result (Rose old.faults new.faults) → Writes text old new
+written-by (Ok value) text old new all part rose held told =
     let is = all held told in
     ((length text, omega arith, is ∙ ap (λ l. Some (held ++ l)) (sym (take_all (length text) text (omega arith)))), inl is)
-written-by (Err e) text before after old new all part rose held told = (part held told, inr rose)
+written-by (Err e) text old new all part rose held told = (part held told, inr rose)
 
 -- what is written for want of memory
 pub free-starved : {A : Type 0} (status : ℕ) (result : Result A Memory) → IsErr result → free_text status result ≡ no_memory_reply
@@ -63,18 +67,18 @@ goes-out start found now m (Err memory) given = tt
 module _ {A : Type 0} (start : Start) (result : Result A Memory) (before now : ℕ) (old new : Around) where
   -- what is so for all that the bytes may say
   abbrev pub ForBytes : (Known Message → Type 0) → Type 0
-  ForBytes P = Told old.conn.left (λ bytes. (known : Known Message) → Decides true side.Request bytes known → P known)
+  ForBytes P = Told old.conn.source.left (λ bytes. (known : Known Message) → Decides true side.Request bytes known → P known)
 
   abbrev pub WritesHere : List ℕ → Type 0
-  WritesHere text = WritesTo text old.conn.holds new.conn.holds old.conn.write_faults new.conn.write_faults
+  WritesHere text = Writes text old.conn.sink new.conn.sink
 
   abbrev pub ReadsHere : (List ℕ → Type 0) → Type 0
-  ReadsHere P = Told old.conn.left (λ bytes. ReadsFrom bytes new.conn.left P)
+  ReadsHere P = Told old.conn.source.left (λ bytes. ReadsFrom bytes new.conn.source.left P)
 
   -- a turn was taken
   pub turned : (found : List Command) (m : Message) (reply : Result Reply Memory) → ForBytes (NeedsTurn m) → ReadsHere (λ piece. ⊤) → Extends found old.seat.seen
       → IsAlone old.seat found → IsReplyGiven start found now m reply
-      → new.seat ≡ record { seen = reply_adds start found now m reply ++ found; passes = old.seat.passes; turns = old.seat.turns + 1; seats = old.seat.seats }
+      → new.seat ≡ after_turn old.seat found (reply_adds start found now m reply)
       → IsMoment old.clock new.clock before now → WritesHere (reply_text reply)
       → GivesAll result (reply_requests reply) old.link.requests new.link.requests → (IsErr reply → IsErr result)
       → IfOk reply (λ reply. IsErr result → IsSome reply.note)
@@ -107,15 +111,17 @@ module _ {A : Type 0} (start : Start) (result : Result A Memory) (before now : �
   -- the same of the moment that the turn was given
   pub turned-at : (found : List Command) (m : Message) (reply : Result Reply Memory) (tick : ℕ) → tick ≡ now → ForBytes (NeedsTurn m)
       → ReadsHere (λ piece. ⊤) → Extends found old.seat.seen → IsAlone old.seat found → IsReplyGiven start found tick m reply → new.seat.seen ≡ reply_adds start found tick m reply ++ found
+      → new.seat.own ≡ reply_adds start found tick m reply ++ old.seat.own
       → new.seat.passes ≡ old.seat.passes → new.seat.turns ≡ old.seat.turns + 1 → new.seat.seats ≡ old.seat.seats
       → IsMoment old.clock new.clock before now → WritesHere (reply_text reply)
       → GivesAll result (reply_requests reply) old.link.requests new.link.requests → (IsErr reply → IsErr result)
       → IfOk reply (λ reply. IsErr result → IsSome reply.note)
       → Serves start result before now old new
-  turned-at found m reply tick same bytes read begun alone given seen passes turns seats moment written notes starved noted =
+  turned-at found m reply tick same bytes read begun alone given seen own passes turns seats moment written notes starved noted =
       turned found m reply bytes read begun alone (subst (λ (n : ℕ). IsReplyGiven start found n m reply) same given)
       (λ i. record {
         seen = (seen ∙ ap (λ (n : ℕ). reply_adds start found n m reply ++ found) same) i;
+        own = (own ∙ ap (λ (n : ℕ). reply_adds start found n m reply ++ old.seat.own) same) i;
         passes = passes i;
         turns = turns i;
         seats = seats i;
@@ -133,7 +139,7 @@ module _ {A : Type 0} (start : Start) (result : Result A Memory) (before now : �
         by (Ok value) = kept
         by (Err memory) = kept
 
-    pub broken : IsOk result → ReadsHere (λ piece. piece ≡ []) → Rose old.conn.read_faults new.conn.read_faults → WritesHere [] → Serves start result before now old new
+    pub broken : IsOk result → ReadsHere (λ piece. piece ≡ []) → Rose old.conn.source.faults new.conn.source.faults → WritesHere [] → Serves start result before now old new
     broken ok read rose written = record {
       course = Broken;
       for_bytes = λ bytes told known d. tt;
@@ -179,3 +185,37 @@ freed start (Ok value) before now old new seat moment clock link status bytes re
 }
 freed start (Err memory) before now old new seat moment clock link status bytes read written =
     starved start (Err memory) before now old new seat moment clock link read refl written
+
+-- ---- what a seat has after a connection
+
+pub turn-passes : (start : Start) (now : ℕ) (course : Course) (old new : SeatTold Command) → TakesTurn start now course old new → new.passes ≡ old.passes
+turn-passes start now Broken old new is = ap (λ (t : SeatTold Command). t.passes) is
+turn-passes start now Starved old new is = ap (λ (t : SeatTold Command). t.passes) is
+turn-passes start now (Free status) old new is = ap (λ (t : SeatTold Command). t.passes) is
+turn-passes start now (Handled found m) old new t = ap (λ (s : SeatTold Command). s.passes) t.2
+turn-passes start now (Unhandled found m) old new t = ap (λ (s : SeatTold Command). s.passes) t.2
+
+-- the command of a message
+of-message : (way : Route) (now : ℕ) (come : Outcome) → AllByRecursion IsOfMessage (added (command_by way now come))
+of-message (Goes way) now come = tt
+of-message Subscribes now (RefusedBy status) = tt
+of-message Subscribes now (Granted callback seconds) = (tt, tt)
+of-message Subscribes now (Renewed number seconds) = (tt, tt)
+of-message Subscribes now (Ended number) = (tt, tt)
+
+all-both : {A : Type 0} (P : A → Type 0) (xs ys : List A) → AllByRecursion P xs → AllByRecursion P ys → AllByRecursion P (xs ++ ys)
+all-both P [] ys all both = both
+all-both P (x ∷ xs) ys all both = (all.0, all-both P xs ys all.1 both)
+
+pub turn-own : (start : Start) (now : ℕ) (course : Course) (old new : SeatTold Command) (first : List Command) → TakesTurn start now course old new
+    → AddsAnswers first old.own → AddsAnswers first new.own
+turn-own start now Broken old new first is a = subst (AddsAnswers first) (sym (ap (λ (t : SeatTold Command). t.own) is)) a
+turn-own start now Starved old new first is a = subst (AddsAnswers first) (sym (ap (λ (t : SeatTold Command). t.own) is)) a
+turn-own start now (Free status) old new first is a = subst (AddsAnswers first) (sym (ap (λ (t : SeatTold Command). t.own) is)) a
+turn-own start now (Handled found m) old new first t a =
+    let more = added (command_at start found now m) in (
+      more ++ a.0,
+      all-both IsOfMessage more a.0 (of-message (route m) now (outcome start found now m)) a.1,
+      ap (λ (s : SeatTold Command). s.own) t.2 ∙ ap (λ (z : List Command). more ++ z) a.2 ∙ sym (append_assoc more a.0 first),
+    )
+turn-own start now (Unhandled found m) old new first t a = subst (AddsAnswers first) (sym (ap (λ (s : SeatTold Command). s.own) t.2)) a

@@ -18,6 +18,7 @@ use Rattle.cds_serve.specs.contracts.notifier.Notified as Notified
 use Rattle.cds_serve.specs.contracts.notifier.Notifier as Notifier
 use Rattle.cds_serve.specs.contracts.scanner.Scanned as Scanned
 use Rattle.cds_serve.specs.contracts.scanner.Scanner as Scanner
+use Rattle.cds_serve.specs.contracts.worker.Worked as Worked
 use Rattle.cds_serve.specs.contracts.worker.Worker as Worker
 
 -- ---- a server goes
@@ -90,3 +91,6 @@ scanned-send F f = search shares depth 60 fits 20000
 
 pub worker-send : (R D T L G : RattleType) → IsSend R → IsSend D → IsSend T → IsSend L → IsSend G → IsSend (Worker.the_row R D T L G)
 worker-send R D T L G r d t l g = search shares depth 60 fits 20000
+
+pub worked-send : (D : RattleType) → IsSend D → IsSend (Worked.the_row D)
+worked-send D d = search shares depth 60 fits 20000

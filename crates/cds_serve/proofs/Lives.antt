@@ -1,5 +1,5 @@
 -- The life of a server that listens, put together from its parts.
-use Rattle.std.proofs.Common.{◌≡◌, ◌≢◌, ◌⊎◌, inl, inr, ℕ, zero, suc, Bool, true, false, true≢false, ◌+◌, ◌-◌, ◌*◌, ◌/◌, ◌%◌, ◌^◌, ◌<◌, ◌≤◌, ◌==◌, min, List, [], ◌∷◌, ◌++◌, length, take, Option, Some, None, Result, Ok, Err, IsErrAnd, IfErr, IfOk, OnOk, OnErr, refl, sym, ap, subst, ◌∙◌, append_assoc, append-nil, cond, nat_lt, is_some, unwrap_or, sum_by, div-add-mod', mod-lt, IfNone, IfSome, IsTrue, IsFalse, IsNone, arith, le_trans, length-append}
+use Rattle.std.proofs.Common.{◌≡◌, ◌≢◌, ◌⊎◌, inl, inr, ℕ, zero, suc, Bool, true, false, true≢false, ◌+◌, ◌-◌, ◌*◌, ◌/◌, ◌%◌, ◌^◌, ◌<◌, ◌≤◌, ◌==◌, min, List, [], ◌∷◌, ◌++◌, length, take, Option, Some, None, Result, Ok, Err, IsErrAnd, IfErr, IfOk, OnOk, refl, sym, ap, subst, ◌∙◌, append_assoc, append-nil, cond, nat_lt, is_some, unwrap_or, sum_by, div-add-mod', mod-lt, IfNone, IfSome, IsTrue, IsFalse, IsNone, arith, le_trans, length-append}
 use Rattle.std.proofs.lemmas.Bool.Decides.{nat_tests}
 use Rattle.std.proofs.lemmas.List.Sums.{sum_by-cons}
 use Rattle.std.specs.Prelude.{⊤}
@@ -8,9 +8,9 @@ use Rattle.cds_base.specs.Asked.{Asked, ForClock, ForLink, OutsideRose}
 use Rattle.cds_base.specs.declared.outside.exterior.OutsideFault.{OutsideFault}
 use Rattle.cds_base.specs.declared.outside.exterior.OutsideFault.TheVariants as outside_fault
 use Rattle.cds_base.specs.Outside.{Told, HoldsPart, Rose, raised}
-use Rattle.cds_serve.specs.Jobs.{DoorTold}
-use Rattle.cds_serve.specs.Life.{AreCounts, Asks, AsksFor, Counts, EndsLife, IsCaused, IsFresh, OfFirst, Outer, OutsideTold, Served, Stops, Takes, WritesLife, WritesLine, fault_of, life_asks, life_text, served_line, serving_line, share_of, status_of, worker_asks}
-use Rattle.cds_serve.specs.Told.{ClockTold}
+use Rattle.cds_base.specs.Told.{ClockTold, DoorTold, IsFresh, OutsideTold, and_moment, asked_then}
+use Rattle.cds_serve.specs.Told.{IsMoment}
+use Rattle.cds_serve.specs.Life.{AreBootWords, AreCounts, AreFirstWords, Asks, AsksFor, Counts, EndsLife, GaveOnce, IsCaused, KeepsEnded, OfFirst, Outer, Stops, Takes, WritesLife, WritesLine, fault_of, life_asks, life_text, doors_back, served_line, served_then, serving_line, share_of, status_of, worker_asks}
 use Rattle.cds_serve.specs.declared.fault.Fault.{Fault}
 use Rattle.cds_serve.specs.declared.fault.Fault.TheVariants as fault
 use Rattle.cds_serve.proofs.Rounds.{rose-more, rose-on}
@@ -95,14 +95,13 @@ asks-over {A} {B} (Err e) v xs old new one = subst (λ l. AsksFor {A = B} (Err e
 -- ---- single asks
 
 module _ {A : Type 0} (a : Asked) (old new : OutsideTold) (told : Told old.asked (λ list. new.asked ≡ Some (list ++ a ∷ [])))
-    (up : old.faults ≤ new.faults) (ended : new.ended ≡ old.ended) (ended_links : new.ended_links ≡ old.ended_links)
-    (connections : new.connections ≡ old.connections) (started : new.started ≡ old.started) where
+    (up : old.faults ≤ new.faults) (others : new ≡ asked_then old new) where
   asks-ok : (v : A) → Asks {A = A} (Ok v) (a ∷ []) old new
-  asks-ok v = record { asked = told; cause = tt; ended = ended; ended_links = ended_links; connections = connections; started = started; never_falls = up }
+  asks-ok v = record { asked = told; cause = tt; others = others; never_falls = up }
 
   asks-err : (e : OutsideFault) → OutsideRose {A = A} (Err e) old.faults new.faults → Asks {A = A} (Err (fault_of e)) (a ∷ []) old new
-  asks-err outside_fault.Failed rose = record { asked = λ list is. (1, told list is); cause = rose; ended = ended; ended_links = ended_links; connections = connections; started = started; never_falls = up }
-  asks-err outside_fault.Mem rose = record { asked = λ list is. (1, told list is); cause = tt; ended = ended; ended_links = ended_links; connections = connections; started = started; never_falls = up }
+  asks-err outside_fault.Failed rose = record { asked = λ list is. (1, told list is); cause = rose; others = others; never_falls = up }
+  asks-err outside_fault.Mem rose = record { asked = λ list is. (1, told list is); cause = tt; others = others; never_falls = up }
 
   pub asks-one : (answer : Result A OutsideFault) (result : Result A Fault) → IfOk answer (λ object. result ≡ Ok object)
       → IfErr answer (λ f. result ≡ Err (fault_of f)) → OutsideRose answer old.faults new.faults → Asks result (a ∷ []) old new
@@ -115,17 +114,6 @@ pub same-fact : {A : Type 0} (answer : Result A OutsideFault) (result : Result A
 same-fact (Ok v) result P ok err p = subst (λ r. IfOk r P) (sym ok) p
 same-fact (Err e) result P ok err p = subst (λ r. IfOk r P) (sym err) tt
 
-pub both-facts : {A E : Type 0} (answer : Result A E) (P Q : A → Type 0) → IfOk answer P → IfOk answer Q → IfOk answer (λ object. P object × Q object)
-both-facts (Ok v) P Q p q = (p, q)
-both-facts (Err e) P Q p q = tt
-
--- a clock that was given
-pub fresh-clock : {A E : Type 0} (answer : Result A E) (told : A → ClockTold) → IfOk answer (λ clock. (told clock).last ≡ 0)
-    → IfOk answer (λ clock. Told (told clock).gave (λ list. list ≡ [])) → IfOk answer (λ clock. (told clock).faults ≡ 0)
-    → IfOk answer (λ clock. IsFresh (told clock))
-fresh-clock (Ok clock) told last gave faults = record { last = last; gave = gave; faults = faults }
-fresh-clock (Err e) told last gave faults = tt
-
 -- ---- asks one after another
 
 pub beside-door : {A : Type 0} (r : Result A Fault) (xs : List Asked) (old new : OutsideTold) (door : DoorTold) → Asks r xs old new
@@ -133,10 +121,7 @@ pub beside-door : {A : Type 0} (r : Result A Fault) (xs : List Asked) (old new :
 beside-door r xs old new door a = record {
   asked = a.asked;
   cause = cause-as r ⊥ (Rose old.faults new.faults) ⊥ _ a.cause (λ n. n) inl;
-  ended = a.ended;
-  ended_links = a.ended_links;
-  connections = a.connections;
-  started = a.started;
+  others = a.others;
   never_falls = a.never_falls;
   none_given = refl;
   door_never_falls = omega arith;
@@ -147,10 +132,7 @@ pub takes-then : {A B : Type 0} (r : Result B Fault) (v : A) (xs ys : List Asked
 takes-then r v xs ys old mid new door between after a b = record {
   asked = asks-all r v xs ys old.asked mid.asked new.asked a.asked b.asked;
   cause = cause-as r ⊥ (Rose mid.faults new.faults ⊎ Rose between.faults after.faults) ⊥ _ b.cause (λ n. n) on;
-  ended = b.ended ∙ a.ended;
-  ended_links = b.ended_links ∙ a.ended_links;
-  connections = b.connections ∙ a.connections;
-  started = b.started ∙ a.started;
+  others = b.others ∙ ap (λ (t : OutsideTold). record t { faults = new.faults; asked = new.asked }) a.others;
   never_falls = le_trans a.never_falls b.never_falls;
   none_given = b.none_given ∙ a.none_given;
   door_never_falls = le_trans a.door_never_falls b.door_never_falls;
@@ -165,10 +147,7 @@ pub takes-front : {A B : Type 0} (e : Fault) (xs ys : List Asked) (old new : Out
 takes-front e xs ys old new door after a = record {
   asked = asks-front e xs ys old.asked new.asked a.asked;
   cause = caused-as e ⊥ _ ⊥ _ a.cause (λ n. n) (λ q. q);
-  ended = a.ended;
-  ended_links = a.ended_links;
-  connections = a.connections;
-  started = a.started;
+  others = a.others;
   never_falls = a.never_falls;
   none_given = a.none_given;
   door_never_falls = a.door_never_falls;
@@ -189,10 +168,7 @@ takes-no-memory {A} {B} (Err x) v xs ys old new door after err a =
     subst (λ (z : Fault). Takes {A = B} (Err z) (xs ++ ys) old new door after) (sym err) (record {
       asked = asks-stopped fault.Mem v xs ys old.asked new.asked a.asked;
       cause = tt;
-      ended = a.ended;
-      ended_links = a.ended_links;
-      connections = a.connections;
-      started = a.started;
+      others = a.others;
       never_falls = a.never_falls;
       none_given = a.none_given;
       door_never_falls = a.door_never_falls;
@@ -205,10 +181,7 @@ pub takes-handle : {A B : Type 0} (r : Result B Fault) (v : A) (xs : List Asked)
 takes-handle (Ok w) v xs old new door after a cause same up = record {
   asked = a.asked;
   cause = tt;
-  ended = a.ended;
-  ended_links = a.ended_links;
-  connections = a.connections;
-  started = a.started;
+  others = a.others;
   never_falls = a.never_falls;
   none_given = same;
   door_never_falls = up;
@@ -216,10 +189,7 @@ takes-handle (Ok w) v xs old new door after a cause same up = record {
 takes-handle {A} {B} (Err e) v xs old new door after a cause same up = record {
   asked = subst (λ l. AsksFor {A = B} (Err e) l old.asked new.asked) (append-nil xs) (asks-stopped e v xs [] old.asked new.asked a.asked);
   cause = caused-as e ⊥ (Rose door.faults after.faults) ⊥ _ cause (λ n. n) inr;
-  ended = a.ended;
-  ended_links = a.ended_links;
-  connections = a.connections;
-  started = a.started;
+  others = a.others;
   never_falls = a.never_falls;
   none_given = same;
   door_never_falls = up;
@@ -229,10 +199,7 @@ pub takes-none : (old : OutsideTold) (door : DoorTold) → Takes {A = ⊤} (Ok t
 takes-none old door = record {
   asked = λ list told. told ∙ ap Some (sym (append-nil list));
   cause = tt;
-  ended = refl;
-  ended_links = refl;
-  connections = refl;
-  started = refl;
+  others = refl;
   never_falls = omega arith;
   none_given = refl;
   door_never_falls = omega arith;
@@ -243,10 +210,7 @@ pub takes-ok : {A B : Type 0} (v : A) (w : B) (xs : List Asked) (old new : Outsi
 takes-ok v w xs old new door after a = record {
   asked = a.asked;
   cause = tt;
-  ended = a.ended;
-  ended_links = a.ended_links;
-  connections = a.connections;
-  started = a.started;
+  others = a.others;
   never_falls = a.never_falls;
   none_given = a.none_given;
   door_never_falls = a.door_never_falls;
@@ -390,6 +354,30 @@ some-is a b e = ap (λ o. unwrap_or o []) e
 none-is-no : {A P : Type 0} (b : List A) → None ≡ Some b → P
 none-is-no b e = absurd (true≢false (sym (ap is_some e)))
 
+-- ---- the boot words
+
+gave-one : (gave : Option (List ℕ)) → Told gave (λ list. list ≡ []) → (moment : ℕ) (now : Option (List ℕ)) → now ≡ and_moment moment gave
+    → Told now (λ list. list ≡ moment ∷ [])
+gave-one None none moment now is list told = none-is-no list (sym is ∙ told)
+gave-one (Some gave) none moment now is list told =
+    some-is list (moment ∷ []) (sym told ∙ is ∙ ap (λ (l : List ℕ). Some (l ++ moment ∷ [])) (none gave refl))
+
+gave-once : (before clock : ClockTold) (moment : ℕ) → IsFresh before → IsMoment before clock 0 moment → GaveOnce clock moment
+gave-once before clock moment fresh (inl is) =
+    inl (ap (λ (t : ClockTold). t.last) is, gave-one before.gave fresh.1 moment clock.gave (ap (λ (t : ClockTold). t.gave) is))
+gave-once before clock moment fresh (inr none) =
+    inr (subst (λ (n : ℕ). Rose n clock.faults) fresh.2 none.0, none.1, λ list told. fresh.1 list (sym (ap (λ (t : ClockTold). t.gave) none.2) ∙ told))
+
+pub first-words : (port : ℕ) (before clock : ClockTold) (boot : List ℕ) → IsFresh before → AreBootWords port before clock boot
+    → AreFirstWords port clock boot
+first-words port before clock boot fresh words = record {
+  moment = words.moment;
+  once = gave-once before clock words.moment fresh words.asked;
+  words = words.words;
+}
+
+-- ---- counts
+
 -- counts that are some, where nothing is told
 abbrev once : Counts
 once = record { accepted = 1; refused = 0; memory = 0 }
@@ -479,27 +467,27 @@ line-as result text line before after same w = subst (λ l. WritesLine result l 
 -- ---- the whole
 
 module _ (port requests : ℕ) (path : List ℕ) (old new : Outer) where
-  stops : (e : Fault) → WritesLife {A = ⊤} (Err e) port requests old.holds new.holds → AsksFor {A = ⊤} (Err e) (life_asks port path) old.asked new.asked
+  stops : (e : Fault) → WritesLife {A = ⊤} (Err e) port requests old.sink.holds new.sink.holds → AsksFor {A = ⊤} (Err e) (life_asks port path) old.outside.asked new.outside.asked
       → Stops port path requests old new
   stops e w a =
-      let c = front-counts port requests e old.holds new.holds w in
+      let c = front-counts port requests e old.sink.holds new.sink.holds w in
       record { counts = c.0; are_counts = c.1; written = c.2; asked = a }
 
-  by-result : (result : Result ⊤ Fault) → IsCaused result (Rose old.sink_faults new.sink_faults) (Rose old.faults new.faults)
-      → WritesLife result port requests old.holds new.holds → AsksFor result (life_asks port path) old.asked new.asked
-      → OnOk result (new.connections ≡ raised old.connections requests) → OnOk result (new.started ≡ raised old.started 6)
+  by-result : (result : Result ⊤ Fault) → IsCaused result (Rose old.sink.faults new.sink.faults) (Rose old.outside.faults new.outside.faults)
+      → WritesLife result port requests old.sink.holds new.sink.holds → AsksFor result (life_asks port path) old.outside.asked new.outside.asked
+      → OnOk result (new.outside.connections ≡ raised old.outside.connections requests) → OnOk result (new.outside.started ≡ raised old.outside.started 6)
       → EndsLife port path requests (status_of result) old new
   by-result (Ok value) cause w a connections started =
-      let c = all-counts port requests old.holds new.holds w in
+      let c = all-counts port requests old.sink.holds new.sink.holds w in
       inl (refl, record { counts = c.0; are_counts = c.1; written = c.2; connections = connections; started = started; asked = a })
   by-result (Err fault.Sink) cause w a connections started = inr (inl (refl, cause, stops fault.Sink w a))
   by-result (Err fault.Mem) cause w a connections started = inr (inr (inl (refl, stops fault.Mem w a)))
   by-result (Err fault.Outside) cause w a connections started = inr (inr (inr (refl, cause, stops fault.Outside w a)))
 
   pub ends-life : (result : Result ⊤ Fault) (status : ℕ) → status ≡ status_of result
-      → IsCaused result (Rose old.sink_faults new.sink_faults) (Rose old.faults new.faults)
-      → WritesLife result port requests old.holds new.holds → AsksFor result (life_asks port path) old.asked new.asked
-      → OnOk result (new.connections ≡ raised old.connections requests) → OnOk result (new.started ≡ raised old.started 6)
+      → IsCaused result (Rose old.sink.faults new.sink.faults) (Rose old.outside.faults new.outside.faults)
+      → WritesLife result port requests old.sink.holds new.sink.holds → AsksFor result (life_asks port path) old.outside.asked new.outside.asked
+      → OnOk result (new.outside.connections ≡ raised old.outside.connections requests) → OnOk result (new.outside.started ≡ raised old.outside.started 6)
       → EndsLife port path requests status old new
   ends-life result status is cause w a connections started =
       subst (λ n. EndsLife port path requests n old new) (sym is) (by-result result cause w a connections started)
@@ -534,6 +522,25 @@ shares-next requests n = ap (shares_below requests) (one-up n)
     one-up : (n : ℕ) → n + 1 ≡ suc n
     one-up n = omega arith
 
+-- ---- what came back
+
+pub keeps-on : (old mid new : OutsideTold) → KeepsEnded old mid → KeepsEnded mid new → KeepsEnded old new
+keeps-on old mid new one other = (other.0 ∙ one.0, other.1 ∙ one.1)
+
+pub keeps : (old new same : OutsideTold) → new ≡ same → same.ended ≡ old.ended → same.ended_links ≡ old.ended_links → KeepsEnded old new
+keeps old new same is ended links = (ap (λ (t : OutsideTold). t.ended) is ∙ ended, ap (λ (t : OutsideTold). t.ended_links) is ∙ links)
+
+-- nothing came back where the outside was asked
+pub served-asked : (old new : OutsideTold) → new ≡ asked_then old new → new ≡ served_then old new
+served-asked old new is =
+    is ∙ ap (λ (n : ℕ). record old { faults = new.faults; asked = new.asked; connections = n }) (sym (ap (λ (t : OutsideTold). t.connections) is))
+
+-- doors came back then
+pub served-doors : (old mid new : OutsideTold) → mid ≡ asked_then old mid → new ≡ doors_back mid new → new ≡ served_then old new
+served-doors old mid new one is =
+    is ∙ ap (λ (t : OutsideTold). record t { faults = new.faults; connections = new.connections }) one
+    ∙ ap (λ (a : Option (List Asked)). record old { faults = new.faults; asked = a; connections = new.connections }) (sym (ap (λ (t : OutsideTold). t.asked) is))
+
 -- ---- all jobs
 
 -- a job that is what was passed has what that had
@@ -561,6 +568,13 @@ gave-more old mid new total served before gave so-far none its is n =
 
     regrouped : (a b c : ℕ) → a + (b + c) ≡ (a + b) + c
     regrouped a b c = omega arith
+
+-- a door gave one connection more
+pub gave-next : (old mid new served : ℕ) → raised mid 0 ≡ raised old served → new ≡ raised mid 1 → raised new 0 ≡ raised old (served + 1)
+gave-next old mid new served so-far one = next old mid new served (2 ^ 64 - 1) so-far one
+  where
+    next : (old mid new served top : ℕ) → min (mid + 0) top ≡ min (old + served) top → new ≡ min (mid + 1) top → min (new + 0) top ≡ min (old + (served + 1)) top
+    next old mid new served top so-far one = omega (arith, so-far, one)
 
 pub front-sum : {A : Type 0} (f : A → ℕ) (n : ℕ) (xs : List A) → sum_by f (take n xs) ≤ sum_by f xs
 front-sum f zero xs = let none : sum_by f [] ≡ 0 = refl in omega (arith, none)

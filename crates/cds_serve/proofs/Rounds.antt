@@ -1,5 +1,5 @@
 -- Scans one after another: what the counts of a scanner say of them.
-use Rattle.std.proofs.Common.{◌≡◌, ◌≢◌, ◌⊎◌, inl, inr, ℕ, Bool, true, false, true≢false, ◌+◌, ◌-◌, ◌^◌, ◌<◌, ◌≤◌, min, List, [], ◌∷◌, ◌++◌, length, map, suc, Option, Result, Ok, Err, IfErr, IsTrue, OnOk, refl, sym, ap, subst, ◌∙◌, append_assoc, arith, le_trans}
+use Rattle.std.proofs.Common.{◌≡◌, ◌≢◌, inl, inr, ℕ, Bool, true, false, true≢false, ◌+◌, ◌-◌, ◌^◌, ◌<◌, ◌≤◌, min, List, [], ◌∷◌, ◌++◌, length, suc, Option, Result, Ok, Err, IfErr, IsTrue, OnOk, refl, sym, ap, subst, ◌∙◌, append_assoc, arith, le_trans}
 use Rattle.std.proofs.Math.Nat.{le-min}
 use Rattle.std.specs.List.{AllByRecursion}
 use Rattle.cds_base.specs.declared.outside.folder.Entry.{Entry}
@@ -16,9 +16,9 @@ use Rattle.cds_store.specs.declared.error.ApplyError.{ApplyError}
 use Rattle.cds_store.specs.declared.error.ApplyError.TheVariants as apply_error
 use Rattle.cds_turn.specs.Line.{Extends}
 use Rattle.cds_serve.specs.Counted.{counted}
-use Rattle.cds_serve.specs.Jobs.{AreAccepted, CanRefuse, EndsScanning, IsUnacceptable, ScansSoFar, StandAmong}
-use Rattle.cds_serve.specs.Scanned.{Across, Accepts, Declines, IsApplyRefusal, IsScanRefusal, MayGive, ScansOnce, TakesNone, TakesOne}
-use Rattle.cds_serve.specs.Told.{SeatTold}
+use Rattle.cds_serve.specs.Jobs.{AddsScans, AreAccepted, CanRefuse, EndsScanning, IsUnacceptable, ScansSoFar, StandAmong}
+use Rattle.cds_serve.specs.Scanned.{Across, Accepts, IsApplyRefusal, IsScanRefusal, MayGive, ScansOnce}
+use Rattle.cds_turn.specs.Turn.{SeatTold}
 use Rattle.cds_serve.specs.declared.scanner.Counts.{Counts}
 use Rattle.cds_serve.specs.declared.scanning.ScanRefused.{ScanRefused}
 use Rattle.cds_serve.specs.declared.scanning.ScanRefused.TheVariants as refused
@@ -210,7 +210,7 @@ module _ (start : Start) (told : FolderTold) (first : List Command) (before now 
   so-far-accepted : Accepts start before now old new → b ≡ record a { accepted = raised a.accepted 1 }
       → ScansSoFar start old.seat.passes old.seat.seats told new.folder first new.seat.seen b.accepted b.refused
   so-far-accepted c is =
-      let seen : new.seat.seen ≡ Scans (map_of c.scan.records) ∷ c.found = ap (λ (t : SeatTold). t.seen) c.turn.seat in
+      let seen : new.seat.seen ≡ Scans (map_of c.scan.records) ∷ c.found = ap (λ (t : SeatTold Command). t.seen) c.turn.seat in
       let more : Extends new.seat.seen old.seat.seen =
       (Scans (map_of c.scan.records) ∷ c.turn.begun.0, seen ∙ ap (λ l. Scans (map_of c.scan.records) ∷ l) c.turn.begun.1) in
       let begun : Extends c.found old.seat.seen = c.turn.begun in
@@ -242,21 +242,35 @@ module _ (start : Start) (told : FolderTold) (first : List Command) (before now 
       → ScansSoFar start old.seat.passes old.seat.seats told new.folder first new.seat.seen b.accepted b.refused
   one-more (Ok value) c is none = so-far-accepted c is
   one-more (Err (refused.Scan error)) c none is =
-      so-far-same (ap (λ (t : SeatTold). t.seen) c.1.0) (ap (λ (k : Counts). k.accepted) is)
+      so-far-same (ap (λ (t : SeatTold Command). t.seen) c.1.0) (ap (λ (k : Counts). k.accepted) is)
       (λ some. scan-refuses start told old.folder new.folder tree contents entries files s.tree s.contents s.entry_faults s.file_faults
       new.seat.seen error c.0)
   one-more (Err (refused.Apply error)) c none is =
-      let seen : new.seat.seen ≡ c.found = ap (λ (t : SeatTold). t.seen) c.turn.seat in
+      let seen : new.seat.seen ≡ c.found = ap (λ (t : SeatTold Command). t.seen) c.turn.seat in
       so-far-more (λ only. seen ∙ c.turn.alone only) (subst (λ l. Extends l old.seat.seen) (sym seen) c.turn.begun) (ap (λ (k : Counts). k.accepted) is)
       (λ some. server-refuses start told old.folder new.folder tree contents entries files s.tree s.contents s.entry_faults s.file_faults
       new.seat.seen c.found c.scan error c.given c.refused (extends-itself c.found new.seat.seen seen))
   one-more (Err refused.Mem) (inl none-taken) none is =
-      let seen : new.seat.seen ≡ old.seat.seen = ap (λ (t : SeatTold). t.seen) none-taken.0 in
+      let seen : new.seat.seen ≡ old.seat.seen = ap (λ (t : SeatTold Command). t.seen) none-taken.0 in
       so-far-same seen (ap (λ (k : Counts). k.accepted) is) (same-cause (extends-itself old.seat.seen new.seat.seen seen) (ap (λ (k : Counts). k.refused) is))
   one-more (Err refused.Mem) (inr taken) none is =
-      let seen : new.seat.seen ≡ taken.0 = ap (λ (t : SeatTold). t.seen) taken.1.seat in
+      let seen : new.seat.seen ≡ taken.0 = ap (λ (t : SeatTold Command). t.seen) taken.1.seat in
       let more : Extends new.seat.seen old.seat.seen = subst (λ l. Extends l old.seat.seen) (sym seen) taken.1.begun in
       so-far-more (λ only. seen ∙ taken.1.alone only) more (ap (λ (k : Counts). k.accepted) is) (same-cause more (ap (λ (k : Counts). k.refused) is))
+
+-- a scan adds its map to the own commands of its seat, or nothing
+pub scans-own : {A : Type 0} (start : Start) (result : Result A ScanRefused) (before now : ℕ) (old new : Across) → ScansOnce start result before now old new
+    → (first : List Command) → AddsScans first old.seat.own → AddsScans first new.seat.own
+scans-own start (Ok value) before now old new c first a =
+    (map_of c.scan.records ∷ a.0, ap (λ (t : SeatTold Command). t.own) c.turn.seat ∙ ap (λ (z : List Command). Scans (map_of c.scan.records) ∷ z) a.1)
+scans-own start (Err (refused.Scan error)) before now old new c first a =
+    subst (AddsScans first) (sym (ap (λ (t : SeatTold Command). t.own) c.1.0)) a
+scans-own start (Err (refused.Apply error)) before now old new c first a =
+    subst (AddsScans first) (sym (ap (λ (t : SeatTold Command). t.own) c.turn.seat)) a
+scans-own start (Err refused.Mem) before now old new (inl none) first a =
+    subst (AddsScans first) (sym (ap (λ (t : SeatTold Command). t.own) none.0)) a
+scans-own start (Err refused.Mem) before now old new (inr taken) first a =
+    subst (AddsScans first) (sym (ap (λ (t : SeatTold Command). t.own) taken.1.seat)) a
 
 -- each scan is counted
 pub some-counted : {A : Type 0} (result : Result A ScanRefused) (a b : Counts) → OnOk result (b ≡ record a { accepted = raised a.accepted 1 })

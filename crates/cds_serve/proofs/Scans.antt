@@ -1,9 +1,8 @@
 -- One scan, put together from its parts.
-use Rattle.std.proofs.Common.{◌≡◌, ◌+◌, ◌⊎◌, inl, inr, ℕ, Bool, true, false, cond, nat_lt, List, ◌∷◌, ◌++◌, length, None, Result, Ok, Err, IsErrAnd, IsErrOf, IsOk, IfErr, OnOk, true≢false, refl, sym, ap, subst, ◌∙◌, arith}
-use Rattle.cds_catalog.specs.Library.{map_of}
-use Rattle.cds_catalog.specs.Scans.{Accepted, BadRecord, NoNumbers, ScanAnswer, TooMany, answer_by, bad_record, needed_by, scan_answer}
+use Rattle.std.proofs.Common.{◌≡◌, ◌+◌, inl, inr, ℕ, Bool, true, false, cond, nat_lt, List, [], ◌++◌, length, None, Result, Ok, Err, IsErrAnd, IsErrOf, IsOk, IfErr, OnOk, true≢false, refl, sym, ap, subst, ◌∙◌, arith}
+use Rattle.cds_catalog.specs.Scans.{Accepted, BadRecord, NoNumbers, ScanAnswer, TooMany, answer_by, bad_record, needed_by}
 use Rattle.cds_catalog.specs.History.{History, end_of}
-use Rattle.cds_commands.specs.Commands.{Command, Start, Scans, scans_of}
+use Rattle.cds_commands.specs.Commands.{Command, Start, scans_of}
 use Rattle.cds_object.specs.declared.record.Record.{Record}
 use Rattle.cds_scan.specs.declared.scanned.Scan.{Scan}
 use Rattle.cds_store.specs.declared.error.ApplyError.{ApplyError}
@@ -11,8 +10,9 @@ use Rattle.cds_store.specs.declared.error.ApplyError.TheVariants as apply_error
 use Rattle.cds_store.specs.declared.span.Span.{Span}
 use Rattle.cds_turn.specs.Line.{Extends}
 use Rattle.cds_serve.specs.Acts.{IsScanAnswer, scan_adds}
-use Rattle.cds_serve.specs.Scanned.{Across, IsUnscanned, MayGive, ScansOnce, TakesNone, declined}
-use Rattle.cds_serve.specs.Told.{IsAlone, IsMoment, SeatTold}
+use Rattle.cds_serve.specs.Scanned.{Across, IsUnscanned, MayGive, ScansOnce, declined}
+use Rattle.cds_turn.specs.Turn.{SeatTold, after_turn}
+use Rattle.cds_serve.specs.Told.{IsAlone, IsMoment}
 use Rattle.cds_serve.specs.declared.scanning.ScanRefused.{ScanRefused}
 use Rattle.cds_serve.specs.declared.scanning.ScanRefused.TheVariants as refused
 
@@ -32,8 +32,8 @@ zero-line history records = by (nat_lt 65535 (length records)) (nat_lt 429496729
     by false false = refl
 
 -- a seat by its parts
-seat-as : (a b : SeatTold) → a.seen ≡ b.seen → a.passes ≡ b.passes → a.turns ≡ b.turns → a.seats ≡ b.seats → a ≡ b
-seat-as a b seen passes turns seats = λ i. record { seen = seen i; passes = passes i; turns = turns i; seats = seats i }
+seat-as : (a b : SeatTold Command) → a.seen ≡ b.seen → a.own ≡ b.own → a.passes ≡ b.passes → a.turns ≡ b.turns → a.seats ≡ b.seats → a ≡ b
+seat-as a b seen own passes turns seats = λ i. record { seen = seen i; own = own i; passes = passes i; turns = turns i; seats = seats i }
 
 module _ (start : Start) (before now : ℕ) (old new : Across) where
   -- the folder was not scanned
@@ -47,7 +47,7 @@ module _ (start : Start) (before now : ℕ) (old new : Across) where
       (alone : IsAlone old.seat found) (moment : IsMoment old.clock new.clock before now) where
     -- it was accepted
     pub accepted : {A : Type 0} (value : A) (span : Span) → IsScanAnswer start found scan.records (Ok span)
-        → new.seat ≡ record { seen = scan_adds scan.records (Ok span) ++ found; passes = old.seat.passes; turns = old.seat.turns + 1; seats = old.seat.seats }
+        → new.seat ≡ after_turn old.seat found (scan_adds scan.records (Ok span))
         → ScansOnce start (Ok value) before now old new
     accepted value span is seat = record {
       scan = scan;
@@ -59,7 +59,7 @@ module _ (start : Start) (before now : ℕ) (old new : Across) where
 
     -- it was not
     pub refused-by : (A : Type 0) (error : ApplyError) → bad_record scan.records ≡ None → IsScanAnswer start found scan.records (Err error)
-        → new.seat ≡ record { seen = found; passes = old.seat.passes; turns = old.seat.turns + 1; seats = old.seat.seats }
+        → new.seat ≡ after_turn old.seat found []
         → ScansOnce {A = A} start (Err (declined error)) before now old new
     refused-by A (apply_error.BadRecords line) good is seat = absurd (never (sym is ∙ ap (answer_by (scans_of start.first found) scan.records) good))
       where
@@ -90,17 +90,19 @@ module _ (start : Start) (before now : ℕ) (old new : Across) where
     -- as it was answered
     pub taken : {A : Type 0} (answer : Result Span ApplyError) (result : Result A ScanRefused) (given_scan : Scan) → given_scan ≡ scan
         → bad_record scan.records ≡ None → IsScanAnswer start found given_scan.records answer
-        → new.seat.seen ≡ scan_adds given_scan.records answer ++ found → new.seat.passes ≡ old.seat.passes → new.seat.turns ≡ old.seat.turns + 1
+        → new.seat.seen ≡ scan_adds given_scan.records answer ++ found → new.seat.own ≡ scan_adds given_scan.records answer ++ old.seat.own
+        → new.seat.passes ≡ old.seat.passes → new.seat.turns ≡ old.seat.turns + 1
         → new.seat.seats ≡ old.seat.seats → OnOk answer (IsOk result) → IfErr answer (λ refusal. IsErrOf result (declined refusal)) → ScansOnce start result before now old new
-    taken {A} (Ok span) (Ok value) given_scan same good is seen passes turns seats ok err =
+    taken {A} (Ok span) (Ok value) given_scan same good is seen own passes turns seats ok err =
         accepted value span (subst (λ (k : Scan). IsScanAnswer start found k.records (Ok span)) same is)
-        (seat-as new.seat (record { seen = scan_adds scan.records (Ok span) ++ found; passes = old.seat.passes; turns = old.seat.turns + 1; seats = old.seat.seats })
-        (seen ∙ ap (λ (k : Scan). scan_adds k.records (Ok span) ++ found) same) passes turns seats)
-    taken {A} (Ok span) (Err e) given_scan same good is seen passes turns seats ok err = absurd (true≢false (sym ok))
-    taken {A} (Err error) result given_scan same good is seen passes turns seats ok err =
+        (seat-as new.seat (after_turn old.seat found (scan_adds scan.records (Ok span)))
+        (seen ∙ ap (λ (k : Scan). scan_adds k.records (Ok span) ++ found) same)
+        (own ∙ ap (λ (k : Scan). scan_adds k.records (Ok span) ++ old.seat.own) same) passes turns seats)
+    taken {A} (Ok span) (Err e) given_scan same good is seen own passes turns seats ok err = absurd (true≢false (sym ok))
+    taken {A} (Err error) result given_scan same good is seen own passes turns seats ok err =
         subst (λ (r : Result A ScanRefused). ScansOnce start r before now old new) (sym err)
         (refused-by A error good (subst (λ (k : Scan). IsScanAnswer start found k.records (Err error)) same is)
-        (seat-as new.seat (record { seen = found; passes = old.seat.passes; turns = old.seat.turns + 1; seats = old.seat.seats }) seen passes turns seats))
+        (seat-as new.seat (after_turn old.seat found []) seen own passes turns seats))
 
   -- the folder was not scanned, at the exit
   pub unscanned-exit : {A : Type 0} (result : Result A ScanRefused) (refusal : ScanRefused) → IsErrAnd result (λ x. x ≡ refusal)

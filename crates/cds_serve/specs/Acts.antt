@@ -1,5 +1,5 @@
--- The jobs on a shared server, each done in one turn: the commands that it appends, and what it answers.
-use Rattle.std.specs.Prelude.{◌≡◌, ℕ, Bool, List, [], ◌∷◌, Result, Ok, Err, IfSome, ⊤}
+-- The jobs on a shared server, each done in one turn: the commands that a job appends and its answer.
+use Rattle.std.specs.Prelude.{◌≡◌, ℕ, List, [], ◌∷◌, Result, Ok, Err, IfSome, ⊤}
 use Rattle.cds_base.specs.declared.outside.link.LinkRequest.{LinkRequest}
 use Rattle.cds_base.specs.declared.mem.Mem.{Mem}
 use Rattle.cds_catalog.specs.Library.{map_of}
@@ -19,7 +19,7 @@ use Rattle.cds_serve.specs.Answered.{no_memory_reply}
 use Rattle.cds_serve.specs.Sent.{first_requests}
 use Rattle.cds_serve.specs.Served.{added}
 
--- a message is handled: the server's reply to it, and its first note, by the list found
+-- The server handles a message: its reply and its first note, by the list of commands found.
 abbrev pub reply_adds : Start → List Command → ℕ → Message → Result Reply Mem → List Command
 reply_adds start found now m (Ok reply) = added (command_at start found now m)
 reply_adds start found now m (Err memory) = []
@@ -29,7 +29,7 @@ IsReplyGiven start found now m (Ok reply) =
     IsReply start found now m reply.text × (reply.note ≡ note_at start found now m) × GoesOut reply.note
 IsReplyGiven start found now m (Err memory) = ⊤
 
--- what is written and sent of it
+-- the text that is written for this answer and the requests that are sent
 abbrev pub reply_text : Result Reply Mem → List ℕ
 reply_text (Ok reply) = reply.text
 reply_text (Err memory) = no_memory_reply
@@ -38,7 +38,7 @@ abbrev pub reply_requests : Result Reply Mem → List LinkRequest
 reply_requests (Ok reply) = first_requests reply.note
 reply_requests (Err memory) = []
 
--- what is written where no turn is taken
+-- the text that is written if no turn is taken
 abbrev pub free_text : {A : Type 0} → ℕ → Result A Mem → List ℕ
 free_text status (Ok value) = empty_reply status
 free_text status (Err memory) = no_memory_reply
@@ -52,7 +52,7 @@ abbrev pub IsLook : Start → List Command → ℕ → Result Look Mem → Type 
 IsLook start found now (Ok look) = (look.notes ≡ due start found now) × (look.stopped ≡ is_stopped found) × IfSome look.notes AllGoOut
 IsLook start found now (Err memory) = ⊤
 
--- what a scan found is accepted, or refused as the store refuses it
+-- The server accepts the records of a scan, or refuses them as the store does.
 abbrev pub scan_adds : List Record → Result Span ApplyError → List Command
 scan_adds records (Ok span) = Scans (map_of records) ∷ []
 scan_adds records (Err refusal) = []

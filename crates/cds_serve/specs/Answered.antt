@@ -1,6 +1,6 @@
--- What a connection is answered, by what its bytes say (RFC 9110 on the statuses 400, 404, 405 and 413; UPnP Device Architecture 2.0 on the
--- URLs of control and of eventing).
-use Rattle.std.specs.Prelude.{◌≡◌, ◌+◌, ◌≤◌, ℕ, Bool, true, false, ◌||◌, bytes_eq, codes, if◌then◌else◌, List, [], ◌∷◌, ◌++◌, length, Option, Some, None, IsSome, Result, Ok, Err, IsErr, IsOk, ⊤}
+-- What a connection is answered, by its bytes. RFC 9110 gives the statuses 400, 404, 405 and 413. UPnP Device Architecture 2.0
+-- gives the URLs of control and of eventing.
+use Rattle.std.specs.Prelude.{◌≡◌, ◌≤◌, ℕ, Bool, true, false, ◌||◌, bytes_eq, codes, if◌then◌else◌, List, [], ◌++◌, length, Option, Some, None, IsSome, Result, IsErr, IsOk, ⊤}
 use Rattle.cds_base.specs.declared.mem.Mem.{Mem as Memory}
 use Rattle.cds_base.specs.declared.outside.link.LinkRequest.{LinkRequest}
 use Rattle.cds_base.specs.Outside.{Told, Rose}
@@ -19,11 +19,13 @@ use Rattle.cds_server.specs.Outcome.{empty_reply}
 use Rattle.cds_server.specs.Replies.{IsReply, command_at, fault_reply, note_at}
 use Rattle.cds_serve.specs.Sent.{GivesAll, first_requests}
 use Rattle.cds_serve.specs.Served.{added}
-use Rattle.cds_serve.specs.Told.{ClockTold, ConnTold, IsAlone, IsMoment, SeatTold, Writes}
+use Rattle.cds_base.specs.Told.{ClockTold, ConnTold}
+use Rattle.cds_turn.specs.Turn.{SeatTold, after_turn}
+use Rattle.cds_serve.specs.Told.{IsAlone, IsMoment, Writes}
 
 -- ---- answers that need no server
 
--- a message that is refused as too long is 413, and one that is refused for any other cause 400
+-- the status of a refused message: 413 if it is too long, 400 for any other cause
 abbrev pub refusal_status : HttpError → ℕ
 refusal_status TooLong = 413
 refusal_status BadHead = 400
@@ -34,45 +36,49 @@ refusal_status Truncated = 400
 refusal_status Failed = 400
 refusal_status Mem = 400
 
--- whether a method is one that the target of events takes
+-- whether the target of events takes this method
 abbrev pub is_event_method : List ℕ → Bool
 is_event_method method = bytes_eq method (codes "SUBSCRIBE") || bytes_eq method (codes "UNSUBSCRIBE")
 
--- a method that a target does not take is 405
+-- a method that a target does not take gets 405
 abbrev pub status_unless : Bool → Option ℕ
 status_unless true = None
 status_unless false = Some 405
 
--- the target `/control` takes POST, and `/event` SUBSCRIBE and UNSUBSCRIBE; every other target is 404
+-- The target `/control` takes POST; `/event` takes SUBSCRIBE and UNSUBSCRIBE. Every other target gets 404.
 abbrev pub status_at : List ℕ → List ℕ → Option ℕ
 status_at target method =
     if bytes_eq target (codes "/control") then status_unless (bytes_eq method (codes "POST"))
     else if bytes_eq target (codes "/event") then status_unless (is_event_method method)
     else Some 404
 
--- that of a request; what is no request is 400
+-- the status of a start line, if the server has no part in it; a line that is no request gets 400
 abbrev pub request_status : Line → Option ℕ
 request_status (line.Request method target) = status_at target method
 request_status (line.Reply status) = Some 400
 
--- The status that bytes are answered with no turn. Bytes that end before the message does are refused as cut off
+-- The status that bytes are answered with, without a turn. Bytes that end before their message does are refused as cut off.
 abbrev pub free_status : Known Message → Option ℕ
 free_status (Whole m rest) = request_status m.start
 free_status Needs = Some 400
 free_status (Refused cause) = Some (refusal_status cause)
 
--- The bytes begin with the message, and it needs a turn
+-- The bytes begin with the message, and the message needs a turn.
 abbrev pub NeedsTurn : Message → Known Message → Type 0
 NeedsTurn m known = (free_status known ≡ None) × ((rest : List ℕ) × (known ≡ Whole m rest))
 
--- the constant reply for want of memory
+-- the constant reply if memory runs out
 abbrev pub no_memory_reply : List ℕ
 no_memory_reply = fault_reply 603
 
 -- ---- how one connection is served
 
--- its bytes did not come, since it failed; or there was no memory to read them or to answer; or they were answered with a status and no
--- turn; or in one turn, in which the server stood for a list of commands, it handled the message, or had no memory to
+-- The ways in which a connection is served:
+-- - `Broken`: the connection failed, so its bytes did not come.
+-- - `Starved`: no memory was left to read the bytes or to answer them.
+-- - `Free`: the bytes were answered with this status and without a turn.
+-- - `Handled`: in one turn the server stood for this list of commands and handled the message.
+-- - `Unhandled`: in one turn the server stood for this list of commands, and had no memory to handle the message.
 pub data Course : Type 0 where
   Broken : Course
   Starved : Course
@@ -80,7 +86,7 @@ pub data Course : Type 0 where
   Handled : List Command → Message → Course
   Unhandled : List Command → Message → Course
 
--- it is the course for what the bytes say; a connection may fail, and memory run out, whatever they say
+-- The course fits what the bytes say. A connection may fail and memory may run out, whatever the bytes say.
 abbrev pub IsCourseFor : Known Message → Course → Type 0
 IsCourseFor known Broken = ⊤
 IsCourseFor known Starved = ⊤
@@ -88,12 +94,12 @@ IsCourseFor known (Free status) = free_status known ≡ Some status
 IsCourseFor known (Handled found m) = NeedsTurn m known
 IsCourseFor known (Unhandled found m) = NeedsTurn m known
 
--- how many bytes come last, at most
+-- the largest number of bytes in the last piece
 abbrev pub piece_limit : ℕ
 piece_limit = 8192
 
--- Of these bytes so many were read that this is left. Those before what came last did not tell the message yet, neither a whole one nor a refusal. What came
--- last has no more bytes than that, and of it this holds
+-- The bytes are `came`, then the last piece, then `rest`, and `rest` is left. The bytes in `came` decide nothing yet: they are
+-- neither a whole message nor a refusal. The last piece is within the limit, and `IsLast` holds of it.
 pub record ReadsFrom (bytes : List ℕ) (left : Option (List ℕ)) (IsLast : List ℕ → Type 0) : Type 0 where
   pub came : List ℕ
   pub piece : List ℕ
@@ -104,7 +110,7 @@ pub record ReadsFrom (bytes : List ℕ) (left : Option (List ℕ)) (IsLast : Lis
   pub short : length piece ≤ piece_limit
   pub last : IsLast piece
 
--- no last piece came of a connection that failed, so that all that came of it did not tell the message
+-- A connection that failed has no last piece. All that came of it did not yet decide the message.
 abbrev pub IsLastOf : Course → List ℕ → Type 0
 IsLastOf Broken piece = piece ≡ []
 IsLastOf Starved piece = ⊤
@@ -112,27 +118,26 @@ IsLastOf (Free status) piece = ⊤
 IsLastOf (Handled found m) piece = ⊤
 IsLastOf (Unhandled found m) piece = ⊤
 
--- A connection that failed counted it. Want of memory is answered where the constant reply is owed, and elsewhere only where a first note is
+-- A connection that failed counted a fault. The answer is `Mem` if the constant reply is owed. Otherwise it is `Mem` only if a
+-- first note is owed.
 abbrev pub HasCause : {A : Type 0} → Start → ℕ → Result A Memory → ConnTold → ConnTold → Course → Type 0
-HasCause start now result old new Broken = Rose old.read_faults new.read_faults × IsOk result
+HasCause start now result old new Broken = Rose old.source.faults new.source.faults × IsOk result
 HasCause start now result old new Starved = IsErr result
 HasCause start now result old new (Free status) = IsOk result
 HasCause start now result old new (Handled found m) = IsErr result → IsSome (note_at start found now m)
 HasCause start now result old new (Unhandled found m) = IsErr result
 
--- The turn that was taken: the list found begins with all that the seat had seen, and is just that where no other seat is out; what the message adds
--- to it was appended, and nothing for want of memory; and this is what the seat has seen then
-abbrev pub TakesTurn : Start → ℕ → Course → SeatTold → SeatTold → Type 0
+-- The turn that was taken. The list found begins with all that the seat had seen, and equals it if no other seat is out. The
+-- commands of the message are appended to it, or nothing if memory ran out. The result is what the seat has then seen.
+abbrev pub TakesTurn : Start → ℕ → Course → SeatTold Command → SeatTold Command → Type 0
 TakesTurn start now Broken old new = new ≡ old
 TakesTurn start now Starved old new = new ≡ old
 TakesTurn start now (Free status) old new = new ≡ old
 TakesTurn start now (Handled found m) old new =
-    Extends found old.seen × IsAlone old found
-    × (new ≡ record { seen = added (command_at start found now m) ++ found; passes = old.passes; turns = old.turns + 1; seats = old.seats })
-TakesTurn start now (Unhandled found m) old new =
-    Extends found old.seen × IsAlone old found × (new ≡ record { seen = found; passes = old.passes; turns = old.turns + 1; seats = old.seats })
+    Extends found old.seen × IsAlone old found × (new ≡ after_turn old found (added (command_at start found now m)))
+TakesTurn start now (Unhandled found m) old new = Extends found old.seen × IsAlone old found × (new ≡ after_turn old found [])
 
--- the clock is asked once for a turn, and not without one
+-- A turn asks the clock once. Without a turn the clock is not asked.
 abbrev pub AsksClock : Course → ClockTold → ClockTold → ℕ → ℕ → Type 0
 AsksClock (Handled found m) old new before now = IsMoment old new before now
 AsksClock (Unhandled found m) old new before now = IsMoment old new before now
@@ -153,20 +158,20 @@ owed_requests start now course = []
 
 -- a seat, a connection, a clock and a link, before or after a call
 pub record Around : Type 0 where
-  pub seat : SeatTold
+  pub seat : SeatTold Command
   pub conn : ConnTold
   pub clock : ClockTold
   pub link : LinkTold
 
--- One connection was served from one moment up to another
+-- One connection was served, from the moment `before` to the moment `now`.
 pub record Serves {A : Type 0} (start : Start) (result : Result A Memory) (before now : ℕ) (old new : Around) : Type 0 where
   pub course : Course
-  pub for_bytes : Told old.conn.left (λ bytes. (known : Known Message) → Decides true side.Request bytes known → IsCourseFor known course)
-  pub read : Told old.conn.left (λ bytes. ReadsFrom bytes new.conn.left (IsLastOf course))
+  pub for_bytes : Told old.conn.source.left (λ bytes. (known : Known Message) → Decides true side.Request bytes known → IsCourseFor known course)
+  pub read : Told old.conn.source.left (λ bytes. ReadsFrom bytes new.conn.source.left (IsLastOf course))
   pub cause : HasCause start now result old.conn new.conn course
   pub turn : TakesTurn start now course old.seat new.seat
   pub moment : AsksClock course old.clock new.clock before now
   pub text : List ℕ
   pub owed : IsOwed start now course text
-  pub written : Writes text old.conn new.conn
+  pub written : Writes text old.conn.sink new.conn.sink
   pub notes : GivesAll result (owed_requests start now course) old.link.requests new.link.requests

@@ -4,7 +4,7 @@ use Rattle.cds_serve.specs.declared.scanner.Counts.{Counts}
 use Rattle.cds_serve.specs.declared.scanning.ScanRefused.{ScanRefused}
 use Rattle.cds_serve.specs.declared.scanning.ScanRefused.TheVariants as refused
 
--- want of memory is counted for itself, and every other refusal as one
+-- A scan refused because memory ran out raises `memory`. Every other refusal raises `refused`.
 abbrev pub counted : Counts → ScanRefused → Counts
 counted counts (refused.Scan error) = record counts { refused = raised counts.refused 1 }
 counted counts (refused.Apply error) = record counts { refused = raised counts.refused 1 }

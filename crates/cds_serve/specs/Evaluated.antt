@@ -1,5 +1,5 @@
 -- Small cases, evaluated from the definitions.
-use Rattle.std.specs.Prelude.{◌≡◌, ◌+◌, ◌^◌, ℕ, List, codes, Some, None}
+use Rattle.std.specs.Prelude.{◌≡◌, ◌+◌, ◌^◌, codes, Some, None}
 use Rattle.cds_http.specs.declared.error.HttpError.TheVariants.{BadHead, HeadTooLong, TooLong}
 use Rattle.cds_http.specs.Known.{Needs, Refused}
 use Rattle.cds_commands.specs.Names.{name_of}
@@ -7,8 +7,11 @@ use Rattle.cds_gena.specs.SidText.{sid_text}
 use Rattle.cds_serve.specs.Answered.{free_status, status_at}
 use Rattle.cds_serve.specs.Life.{first_word, life_text, second_word, share_of}
 
--- what is written by a server that served two connections and scanned once; the shares of its workers; and the name of its first subscription,
--- by the moment 1, at the port 49152
+-- what is evaluated:
+-- - the lines of a server that served two connections and scanned once;
+-- - the shares of its workers;
+-- - the first boot word of the moment 2^48 + 1, which is that of the moment 1;
+-- - the name of the first subscription, at the moment 1 and the port 49152
 abbrev pub LivesAreWritten : Type 0
 LivesAreWritten =
     (life_text 49152 2 (record { accepted = 1; refused = 0; memory = 0 }) ≡ codes "serving 49152\nserved 2 scans 1 refused 0 memory 0\n")
@@ -23,7 +26,7 @@ LivesAreWritten =
     × (first_word (2 ^ 48 + 1) ≡ 65536)
     × (sid_text (name_of (record { high = first_word 1; low = second_word 49152; first = 0 }) 1) ≡ codes "uuid:00000000-0001-8000-8000-c00000000001")
 
--- which requests are answered without a turn: the target is compared whole, and the method as it stands
+-- the requests that are answered without a turn: target and method are compared whole and as they stand
 abbrev pub RequestsAreFree : Type 0
 RequestsAreFree =
     (status_at (codes "/control") (codes "POST") ≡ None)

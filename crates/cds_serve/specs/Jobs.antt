@@ -3,40 +3,56 @@ use Rattle.std.specs.Prelude.{◌≡◌, ◌≢◌, ◌⊎◌, ◌+◌, ◌<◌,
 use Rattle.std.specs.List.{AllByRecursion}
 use Rattle.cds_base.specs.Entries.{FolderTold}
 use Rattle.cds_base.specs.Outside.{raised, Rose}
-use Rattle.cds_catalog.specs.Library.{map_of}
+use Rattle.cds_base.specs.Told.{DoorTold}
+use Rattle.cds_catalog.specs.Library.{FolderMap, map_of}
 use Rattle.cds_catalog.specs.Scans.{Accepted, scan_answer}
-use Rattle.cds_commands.specs.Commands.{Command, Start, Scans, Ticks, is_stopped, scans_of}
+use Rattle.cds_commands.specs.Commands.{Command, Start, Ends, Grants, Renews, Scans, Stops, Ticks, is_stopped, scans_of}
 use Rattle.cds_scan.specs.Scanning.{IsStop}
 use Rattle.cds_scan.specs.declared.error.ScanError.{ScanError}
 use Rattle.cds_scan.specs.declared.scanned.Scan.{Scan}
 use Rattle.cds_turn.specs.Line.{Extends}
+use Rattle.cds_turn.specs.Turn.{SeatTold}
 use Rattle.cds_serve.specs.Scanned.{MayGive}
 
 -- ---- a worker
 
--- a door: how many connections it gave, and how many of its calls failed
-pub record DoorTold : Type 0 where
-  pub connections : ℕ
-  pub faults : ℕ
-
--- It answers how many connections its door gave, whose count stops at the last value of a u64: its share, or fewer where the door failed
+-- A worker answers how many connections its door gave. That is its share, or fewer if the door failed. The door's count stops at
+-- the last value of a u64.
 pub record EndsWorking (share served : ℕ) (old new : DoorTold) : Type 0 where
   pub gave : raised new.connections 0 ≡ raised old.connections served
   pub no_more : served ≤ share
   pub all : (served ≡ share) ⊎ Rose old.faults new.faults
   pub never_falls : old.faults ≤ new.faults
 
+-- a command that a request about a subscription gives: a grant, a renewal or an end
+abbrev pub IsOfMessage : Command → Type 0
+IsOfMessage (Grants now callback seconds) = ⊤
+IsOfMessage (Renews now number seconds) = ⊤
+IsOfMessage (Ends now number) = ⊤
+IsOfMessage (Scans library) = ⊥
+IsOfMessage (Ticks now) = ⊥
+IsOfMessage Stops = ⊥
+
+-- Such commands and no others were added to a list.
+abbrev pub AddsAnswers : List Command → List Command → Type 0
+AddsAnswers before own = (commands : List Command) × AllByRecursion IsOfMessage commands × (own ≡ commands ++ before)
+
 -- ---- the scanner
 
--- the maps of what scans gave stand among commands, the newest first and each at a place of its own
+-- Scans and no other commands were added to a list.
+abbrev pub AddsScans : List Command → List Command → Type 0
+AddsScans before own = (maps : List FolderMap) × (own ≡ map Scans maps ++ before)
+
+-- The maps of what scans gave stand among commands, the newest first, each at a place of its own.
 abbrev pub StandAmong : List Scan → List Command → Type 0
 StandAmong [] commands = ⊤
 StandAmong (scan ∷ scans) [] = ⊥
 StandAmong (scan ∷ scans) (command ∷ older) =
     ((command ≡ Scans (map_of scan.records)) × StandAmong scans older) ⊎ StandAmong (scan ∷ scans) older
 
--- So many scans of the folder were accepted, and the count stops at the last value of a u64: the folder may give each of them, and their maps stand
--- among what the seat has seen since the beginning, each at a place of its own. Of a seat that is the only one they are all that it has seen since
+-- This many scans of the folder were accepted; the count stops at the last value of a u64. The folder may give each of them.
+-- Their maps stand among what the seat has seen since the beginning, each at a place of its own. If the seat is the only one,
+-- they are all that it has seen since.
 pub record AreAccepted (passes seats : ℕ) (old new : FolderTold) (before seen : List Command) (accepted : ℕ) : Type 0 where
   pub scans : List Scan
   pub many : accepted ≡ raised 0 (length scans)
@@ -46,7 +62,7 @@ pub record AreAccepted (passes seats : ℕ) (old new : FolderTold) (before seen 
   pub stand : StandAmong scans since
   pub alone : passes ≡ seats → seen ≡ map (λ (scan : Scan). Scans (map_of scan.records)) scans ++ before
 
--- a server that stood for the commands refuses what a scan of the folder may give
+-- A server that stood for the commands refuses what a scan of the folder may give.
 pub record IsUnacceptable (start : Start) (old new : FolderTold) (seen : List Command) : Type 0 where
   pub scan : Scan
   pub given : MayGive old new scan
@@ -54,16 +70,18 @@ pub record IsUnacceptable (start : Start) (old new : FolderTold) (seen : List Co
   pub begun : Extends seen older
   pub refused : scan_answer (scans_of start.first older) scan.records ≢ Accepted
 
--- why a scan was refused for another cause than want of memory: the folder's count of faults of entries rose, or a scan refuses its tree, or a
--- server, at a beginning of what the seat has seen, refuses what a scan of it may give
+-- why a scan was refused, if memory did not run out:
+-- - the folder's count of faults of entries rose;
+-- - a scan refuses the folder's tree; or
+-- - a server refuses what a scan of the folder may give, at a beginning of what the seat has seen
 abbrev pub CanRefuse : Start → FolderTold → FolderTold → List Command → Type 0
 CanRefuse start old new seen =
     Rose old.entry_faults new.entry_faults
     ⊎ (((error : ScanError) × IsStop old.tree old.contents old.file_faults new.file_faults error)
     ⊎ IsUnacceptable start old new seen)
 
--- So far: each scan that it counts as accepted is one of its folder and stands in what its seat has seen, and where it counts one as refused, there
--- is a cause. The folder tells the same of its tree, and its counts of faults never fall
+-- So far: each scan counted as accepted is one of the folder and stands in what the seat has seen. If a scan is counted as
+-- refused, there is a cause. The folder tells the same tree, and its counts of faults never fall.
 pub record ScansSoFar (start : Start) (passes seats : ℕ) (old new : FolderTold) (before seen : List Command) (accepted refused : ℕ) : Type 0 where
   pub begun : Extends seen before
   pub stands : AreAccepted passes seats old new before seen accepted
@@ -73,9 +91,9 @@ pub record ScansSoFar (start : Start) (passes seats : ℕ) (old new : FolderTold
   pub entry_faults : old.entry_faults ≤ new.entry_faults
   pub file_faults : old.file_faults ≤ new.file_faults
 
--- The scanner ended: it counts at least one scan and has seen the stop, each scan that it counts as accepted is one of its folder and stands in
--- what its seat has seen, and where it counts one as refused, there is a cause. Where its seat is the only one, it has added nothing but the scans
--- that it counts as accepted
+-- The scanner ended. It counts at least one scan and has seen the stop. Each scan counted as accepted is one of the folder and
+-- stands in what the seat has seen. If a scan is counted as refused, there is a cause. If its seat is the only one, it has added
+-- nothing except the scans counted as accepted.
 pub record EndsScanning (start : Start) (passes seats : ℕ) (old new : FolderTold) (before seen : List Command) (accepted refused memory : ℕ) : Type 0 where
   pub begun : Extends seen before
   pub stands : AreAccepted passes seats old new before seen accepted
@@ -85,16 +103,18 @@ pub record EndsScanning (start : Start) (passes seats : ℕ) (old new : FolderTo
 
 -- ---- the notifier
 
--- ticks and nothing else were added to a list
+-- Ticks and nothing else were added to a list.
 abbrev pub AddsTicks : List Command → List Command → Type 0
 AddsTicks before seen = (moments : List ℕ) × (seen ≡ map Ticks moments ++ before)
 
--- The notifier ended: the newest command that its seat has seen is a tick, and a stop is among those before it. Where its seat is the only one, it
--- has added nothing but ticks
-pub record EndsNotifying (passes seats : ℕ) (before seen : List Command) : Type 0 where
+-- The notifier ended. The newest command that its seat has seen is a tick, and a stop is among those before it. If its seat is
+-- the only one, it has added nothing except ticks.
+pub record EndsNotifying (old new : SeatTold Command) : Type 0 where
   pub moment : ℕ
   pub found : List Command
-  pub last : seen ≡ Ticks moment ∷ found
-  pub begun : Extends found before
+  pub last : new.seen ≡ Ticks moment ∷ found
+  pub begun : Extends found old.seen
   pub stopped : IsTrue (is_stopped found)
-  pub alone : passes ≡ seats → AddsTicks before seen
+  pub own : AddsTicks old.own new.own
+  pub passes : new.passes ≡ old.passes
+  pub alone : old.passes ≡ old.seats → AddsTicks old.seen new.seen

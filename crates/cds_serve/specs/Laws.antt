@@ -1,4 +1,4 @@
--- Laws of what a connection is answered and how a server that listens is named.
+-- Laws of what a connection is answered and of how a listening server makes names.
 use Rattle.std.specs.Prelude.{◌≡◌, ◌↔◌, ◌+◌, ◌*◌, ◌%◌, ◌^◌, ◌<◌, ℕ, List, [], ◌∷◌, Some}
 use Rattle.cds_http.specs.declared.message.Message.{Message}
 use Rattle.cds_commands.specs.Commands.{Command, Start}
@@ -8,8 +8,8 @@ use Rattle.cds_server.specs.Replies.{IsReply}
 use Rattle.cds_serve.specs.Answered.{request_status}
 use Rattle.cds_serve.specs.Life.{first_word, second_word, start_with}
 
--- a request that is answered with a status and no turn would get the same reply from the server, at each moment and after each list of
--- commands
+-- If a request is answered with a status and no turn, the server would give the same reply, at each moment and after each list of
+-- commands.
 abbrev pub free_answers_are_replies : Type 0
 free_answers_are_replies = (start : Start) (commands : List Command) (now : ℕ) (m : Message) (status : ℕ) (text : List ℕ) →
     request_status m.start ≡ Some status → IsReply start commands now m text ↔ (text ≡ empty_reply status)
@@ -18,13 +18,13 @@ free_answers_are_replies = (start : Start) (commands : List Command) (now : ℕ)
 abbrev pub start_at : ℕ → ℕ → Start
 start_at moment port = start_with (first_word moment ∷ second_word port ∷ [])
 
--- Of the 128 bits of a name the upper 48 are the moment's lowest, and the lower 48 are the port and the number of the grant; between them stand the
--- version 8 and the variant of a UUID (RFC 9562) and no other bit
+-- A name has 128 bits. The upper 48 are the moment's lowest; the lower 48 are the port and the number of the grant. Between them
+-- stand the version 8 and the variant of a UUID (RFC 9562). No other bit is set.
 abbrev pub names_are_of_the_start : Type 0
 names_are_of_the_start = (moment port number : ℕ) → port < 2 ^ 16 →
     name_of (start_at moment port) number ≡ moment % 2 ^ 48 * 2 ^ 80 + 8 * 2 ^ 76 + 2 ^ 63 + port * 2 ^ 32 + number
 
--- names of fewer than 2^32 grants tell the moment modulo 2^48, the port and the number
+-- If grants number fewer than 2^32, a name tells the moment modulo 2^48, the port and the number.
 abbrev pub names_tell_the_server : Type 0
 names_tell_the_server = (moment other port beside number count : ℕ) → port < 2 ^ 16 → beside < 2 ^ 16 → number < 2 ^ 32 → count < 2 ^ 32 →
     name_of (start_at moment port) number ≡ name_of (start_at other beside) count →

@@ -2,14 +2,12 @@
 use Rattle.std.specs.Prelude.{◌≡◌, ◌⊎◌, ◌+◌, ◌*◌, ◌/◌, ◌%◌, ◌^◌, ◌≤◌, ◌<◌, ℕ, codes, nat_lt, if◌then◌else◌, slice_index, List, [], ◌∷◌, ◌++◌, take, zero, suc, Option, Some, Result, Ok, Err, ⊤}
 use Rattle.std.specs.Fmt.{decimal}
 use Rattle.cds_base.specs.Asked.{Asked, ForClock, ForDoor, ForFolder, ForLink, ForSpawner}
-use Rattle.cds_base.specs.Entries.{FolderTold}
-use Rattle.cds_base.specs.Outside.{Told, HoldsPart, Rose, raised}
-use Rattle.cds_base.specs.Links.{LinkTold}
+use Rattle.cds_base.specs.Outside.{HoldsPart, Rose, SinkTold, Told, raised}
 use Rattle.cds_base.specs.declared.outside.exterior.OutsideFault.{OutsideFault}
 use Rattle.cds_base.specs.declared.outside.exterior.OutsideFault.TheVariants as outside_fault
 use Rattle.cds_commands.specs.Commands.{Start}
-use Rattle.cds_serve.specs.Jobs.{DoorTold}
-use Rattle.cds_serve.specs.Told.{ClockTold, IsMoment}
+use Rattle.cds_base.specs.Told.{ClockTold, DoorTold, OutsideTold, asked_then}
+use Rattle.cds_serve.specs.Told.{IsMoment}
 use Rattle.cds_serve.specs.declared.fault.Fault.{Fault}
 use Rattle.cds_serve.specs.declared.fault.Fault.TheVariants as fault
 
@@ -18,13 +16,14 @@ use Rattle.cds_serve.specs.declared.fault.Fault.TheVariants as fault
 abbrev pub serving_line : ℕ → List ℕ
 serving_line port = codes "serving " ++ decimal port ++ codes "\n"
 
--- how many scans were accepted, were refused for want of memory, and were refused for another cause
+-- The number of scans that were accepted, and of those that were refused. `memory` counts the refusals because memory ran out,
+-- and `refused` all others.
 pub record Counts : Type 0 where
   pub accepted : ℕ
   pub refused : ℕ
   pub memory : ℕ
 
--- counts of a scanner: at least one scan is counted, and each stops at the last value of a u64
+-- The counts of a scanner: at least one scan is counted, and each count stops at the last value of a u64.
 pub record AreCounts (counts : Counts) : Type 0 where
   pub some : 1 ≤ counts.accepted + counts.refused + counts.memory
   pub accepted : counts.accepted < 2 ^ 64
@@ -52,74 +51,71 @@ life_asks port path =
 
 -- ---- the boot words
 
--- the first is a moment of the clock modulo 2^48, or 0 where it failed, and the second the port; both stand in the bits that names keep
+-- The first word is a moment of the clock modulo 2^48, or 0 if the clock failed. The second word is the port. Both stand in the
+-- bits that names keep.
 abbrev pub first_word : ℕ → ℕ
 first_word moment = (moment % 2 ^ 48) * 2 ^ 16
 
 abbrev pub second_word : ℕ → ℕ
 second_word port = port * 2 ^ 32
 
--- The boot words of a server at a port, by a clock: those of the one moment that it gave, or of 0 where it gave none, as its count says
+-- The boot words of a server at a port, by a clock. They are those of the one moment that the clock gave, or of 0 if it gave none
+-- and counted a fault.
 pub record AreBootWords (port : ℕ) (old new : ClockTold) (boot : List ℕ) : Type 0 where
   pub moment : ℕ
   pub asked : IsMoment old new 0 moment
   pub words : boot ≡ first_word moment ∷ second_word port ∷ []
 
--- nothing was asked of a clock yet
-pub record IsFresh (clock : ClockTold) : Type 0 where
-  pub last : clock.last ≡ 0
-  pub gave : Told clock.gave (λ list. list ≡ [])
-  pub faults : clock.faults ≡ 0
+-- A clock was asked once: it gave this moment and no other. Or it failed, as its count says, gave none, and the moment is 0.
+abbrev pub GaveOnce : ClockTold → ℕ → Type 0
+GaveOnce clock moment =
+    ((clock.last ≡ moment) × Told clock.gave (λ list. list ≡ moment ∷ []))
+    ⊎ (Rose 0 clock.faults × (moment ≡ 0) × Told clock.gave (λ list. list ≡ []))
 
--- they are those of a moment of a clock that can have been fresh before it was asked, or of 0 where it failed
+-- The boot words of a server at a port, by a clock that was asked once.
 pub record AreFirstWords (port : ℕ) (clock : ClockTold) (boot : List ℕ) : Type 0 where
-  pub before : ClockTold
-  pub fresh : IsFresh before
-  pub words : AreBootWords port before clock boot
+  pub moment : ℕ
+  pub once : GaveOnce clock moment
+  pub words : boot ≡ first_word moment ∷ second_word port ∷ []
 
 -- the start of a server with these boot words, at the number 0
 abbrev pub start_with : List ℕ → Start
 start_with boot = record { high = slice_index boot 0; low = slice_index boot 1; first = 0 }
 
--- a list has a first element, of which this holds
+-- A list has a first element, and this holds of it.
 abbrev pub OfFirst : {A : Type 0} → (A → Type 0) → List A → Type 0
 OfFirst P [] = ⊥
 OfFirst P (x ∷ xs) = P x
 
 -- ---- the shares of the workers
 
--- the first workers serve one connection more, where four do not divide the number
+-- If the number is no multiple of 4, the first workers serve one connection more.
 abbrev pub share_of : ℕ → ℕ → ℕ
 share_of requests worker = requests / 4 + (if nat_lt worker (requests % 4) then 1 else 0)
 
 -- ---- the end
 
--- what the outside and the sink tell before or after the call: how many calls of the outside failed and how many objects with faults came back
--- to it, what it was asked for, how many connections the doors gave and how many jobs the spawners started that came back; how many writes to
--- the sink failed, and what it holds
+-- the outside and the sink, before or after the call
 pub record Outer : Type 0 where
-  pub faults : ℕ
-  pub asked : Option (List Asked)
-  pub connections : ℕ
-  pub started : ℕ
-  pub sink_faults : ℕ
-  pub holds : Option (List ℕ)
+  pub outside : OutsideTold
+  pub sink : SinkTold
 
--- The server served to its end: both lines are written, the doors gave as many connections as were asked for, and six jobs were started
+-- The server served to its end. Both lines are written, the doors gave as many connections as were asked for, and six jobs were
+-- started.
 pub record Served (port : ℕ) (path : List ℕ) (requests : ℕ) (old new : Outer) : Type 0 where
   pub counts : Counts
   pub are_counts : AreCounts counts
-  pub written : Told old.holds (λ held. new.holds ≡ Some (held ++ life_text port requests counts))
-  pub connections : new.connections ≡ raised old.connections requests
-  pub started : new.started ≡ raised old.started 6
-  pub asked : Told old.asked (λ list. new.asked ≡ Some (list ++ life_asks port path))
+  pub written : Told old.sink.holds (λ held. new.sink.holds ≡ Some (held ++ life_text port requests counts))
+  pub connections : new.outside.connections ≡ raised old.outside.connections requests
+  pub started : new.outside.started ≡ raised old.outside.started 6
+  pub asked : Told old.outside.asked (λ list. new.outside.asked ≡ Some (list ++ life_asks port path))
 
--- It ended before: a front of what a server may write is written, and the outside was asked for the first so many things
+-- The server ended early. A prefix of its possible output is written, and the outside was asked for the first n things.
 pub record Stops (port : ℕ) (path : List ℕ) (requests : ℕ) (old new : Outer) : Type 0 where
   pub counts : Counts
   pub are_counts : AreCounts counts
-  pub written : Told old.holds (λ held. HoldsPart held (life_text port requests counts) new.holds)
-  pub asked : Told old.asked (λ list. (n : ℕ) × (new.asked ≡ Some (list ++ take n (life_asks port path))))
+  pub written : Told old.sink.holds (λ held. HoldsPart held (life_text port requests counts) new.sink.holds)
+  pub asked : Told old.outside.asked (λ list. (n : ℕ) × (new.outside.asked ≡ Some (list ++ take n (life_asks port path))))
 
 -- ---- its parts
 
@@ -130,31 +126,31 @@ status_of (Err fault.Sink) = 3
 status_of (Err fault.Mem) = 4
 status_of (Err fault.Outside) = 7
 
--- a fault of the sink has one cause, and one of the outside another
+-- A fault of the sink has one cause, and a fault of the outside another.
 abbrev pub IsCaused : {A : Type 0} → Result A Fault → Type 0 → Type 0 → Type 0
 IsCaused (Ok value) sink outside = ⊤
 IsCaused (Err fault.Sink) sink outside = sink
 IsCaused (Err fault.Mem) sink outside = ⊤
 IsCaused (Err fault.Outside) sink outside = outside
 
--- both lines were written, or a front of what may be written
+-- Both lines were written, or a prefix of a possible output.
 abbrev pub WritesLife : {A : Type 0} → Result A Fault → ℕ → ℕ → Option (List ℕ) → Option (List ℕ) → Type 0
 WritesLife (Ok value) port requests before after =
     Told before (λ held. (counts : Counts) × AreCounts counts × (after ≡ Some (held ++ life_text port requests counts)))
 WritesLife (Err cause) port requests before after =
     Told before (λ held. (counts : Counts) × AreCounts counts × HoldsPart held (life_text port requests counts) after)
 
--- the outside was asked for all of these, or for the first so many
+-- The outside was asked for all of these, or for the first n of them.
 abbrev pub AsksFor : {A : Type 0} → Result A Fault → List Asked → Option (List Asked) → Option (List Asked) → Type 0
 AsksFor (Ok value) asks before after = Told before (λ list. after ≡ Some (list ++ asks))
 AsksFor (Err cause) asks before after = Told before (λ list. (n : ℕ) × (after ≡ Some (list ++ take n asks)))
 
--- a line was written, or a front of it
+-- A line was written, or a prefix of it.
 abbrev pub WritesLine : {A : Type 0} → Result A Fault → List ℕ → Option (List ℕ) → Option (List ℕ) → Type 0
 WritesLine (Ok value) line before after = Told before (λ held. after ≡ Some (held ++ line))
 WritesLine (Err cause) line before after = Told before (λ held. HoldsPart held line after)
 
--- what so many workers are given
+-- what n workers are given
 abbrev pub worker_asks : ℕ → List Asked
 worker_asks zero = []
 worker_asks (suc workers) = ForClock ∷ ForLink ∷ worker_asks workers
@@ -164,44 +160,44 @@ abbrev pub fault_of : OutsideFault → Fault
 fault_of outside_fault.Failed = fault.Outside
 fault_of outside_fault.Mem = fault.Mem
 
--- what the outside tells: also of the folders and of the links that came back to it
-pub record OutsideTold : Type 0 where
-  pub faults : ℕ
-  pub asked : Option (List Asked)
-  pub ended : Option (List FolderTold)
-  pub ended_links : Option (List LinkTold)
-  pub connections : ℕ
-  pub started : ℕ
-
--- The outside was asked for these, or for the first so many where it failed or memory ran out. Nothing came back to it
+-- The outside was asked for these, or for the first n of them if it failed or memory ran out. Nothing came back to it.
 pub record Asks {A : Type 0} (result : Result A Fault) (asks : List Asked) (old new : OutsideTold) : Type 0 where
   pub asked : AsksFor result asks old.asked new.asked
   pub cause : IsCaused result ⊥ (Rose old.faults new.faults)
-  pub ended : new.ended ≡ old.ended
-  pub ended_links : new.ended_links ≡ old.ended_links
-  pub connections : new.connections ≡ old.connections
-  pub started : new.started ≡ old.started
+  pub others : new ≡ asked_then old new
   pub never_falls : old.faults ≤ new.faults
 
--- the same beside a door, which may fail too and gave no connection
+-- the same, beside a door that may fail too and that gave no connection
 pub record Takes {A : Type 0} (result : Result A Fault) (asks : List Asked) (old new : OutsideTold) (door after : DoorTold) : Type 0 where
   pub asked : AsksFor result asks old.asked new.asked
   pub cause : IsCaused result ⊥ (Rose old.faults new.faults ⊎ Rose door.faults after.faults)
-  pub ended : new.ended ≡ old.ended
-  pub ended_links : new.ended_links ≡ old.ended_links
-  pub connections : new.connections ≡ old.connections
-  pub started : new.started ≡ old.started
+  pub others : new ≡ asked_then old new
   pub never_falls : old.faults ≤ new.faults
   pub none_given : after.connections ≡ door.connections
   pub door_never_falls : door.faults ≤ after.faults
 
 -- ---- the whole
 
--- The status, and its cause: 0 where the server served to its end; 3 only where a write to the sink failed, 7 only where the outside or an
--- object that came back to it did, and 4 for want of memory
+-- Doors came back to the outside and nothing else did. Its counts of faults and of connections may rise.
+abbrev pub doors_back : OutsideTold → OutsideTold → OutsideTold
+doors_back old new = record old { faults = new.faults; connections = new.connections }
+
+-- The outside was asked for objects, and doors came back.
+abbrev pub served_then : OutsideTold → OutsideTold → OutsideTold
+served_then old new = record old { faults = new.faults; asked = new.asked; connections = new.connections }
+
+-- The folders and the links that came back are the same as before.
+abbrev pub KeepsEnded : OutsideTold → OutsideTold → Type 0
+KeepsEnded old new = (new.ended ≡ old.ended) × (new.ended_links ≡ old.ended_links)
+
+-- The status and its cause:
+-- - 0: the server served to its end
+-- - 3: only if a write to the sink failed
+-- - 4: memory ran out
+-- - 7: only if the outside failed, or an object that came back to it
 abbrev pub EndsLife : ℕ → List ℕ → ℕ → ℕ → Outer → Outer → Type 0
 EndsLife port path requests status old new =
     ((status ≡ 0) × Served port path requests old new)
-    ⊎ (((status ≡ 3) × Rose old.sink_faults new.sink_faults × Stops port path requests old new)
+    ⊎ (((status ≡ 3) × Rose old.sink.faults new.sink.faults × Stops port path requests old new)
     ⊎ (((status ≡ 4) × Stops port path requests old new)
-    ⊎ ((status ≡ 7) × Rose old.faults new.faults × Stops port path requests old new)))
+    ⊎ ((status ≡ 7) × Rose old.outside.faults new.outside.faults × Stops port path requests old new)))

@@ -15,14 +15,14 @@ use Rattle.cds_serve.specs.declared.request.Filled.TheVariants as filled
 use Rattle.cds_serve.specs.declared.request.Request.{Request}
 use Rattle.cds_serve.specs.declared.request.Request.TheVariants as request
 
--- it is the request of bytes that say this
+-- The request comes from bytes that say this.
 abbrev pub IsRequest : Known Message → Request → Type 0
 IsRequest known (request.Needing m) = NeedsTurn m known
 IsRequest known (request.Free status) = free_status known ≡ Some status
 IsRequest known request.Broken = ⊤
 IsRequest known request.Starved = ⊤
 
--- a connection that failed counts it
+-- A connection that failed counts a fault.
 abbrev pub BrokenRose : Request → ℕ → ℕ → Type 0
 BrokenRose (request.Needing m) old new = ⊤
 BrokenRose (request.Free status) old new = ⊤
@@ -35,7 +35,7 @@ FilledRose (Some filled.Done) old new = ⊤
 FilledRose (Some (filled.Refused cause)) old new = ⊤
 FilledRose (Some filled.Broken) old new = Rose old new
 
--- of a connection that failed no last piece came
+-- A connection that failed has no last piece.
 abbrev pub IsLastIn : Request → List ℕ → Type 0
 IsLastIn (request.Needing m) piece = ⊤
 IsLastIn (request.Free status) piece = ⊤
@@ -47,7 +47,7 @@ IsLastBy filled.Done piece = ⊤
 IsLastBy (filled.Refused cause) piece = ⊤
 IsLastBy filled.Broken piece = piece ≡ []
 
--- so much of the bytes of a connection came to a reader and did not tell the message yet, and this is left
+-- These bytes of a connection came to a reader and decide nothing yet; the rest is left.
 pub record ComesTo (bytes : List ℕ) (left : Option (List ℕ)) (reader : MessageReader) : Type 0 where
   pub came : List ℕ
   pub rest : List ℕ
@@ -56,7 +56,7 @@ pub record ComesTo (bytes : List ℕ) (left : Option (List ℕ)) (reader : Messa
   pub stands : Stands side.Request reader (Some came)
   pub needed : Decides false side.Request came Needs
 
--- a reader has all that the message needs: the connection gave all its bytes, or the message is whole
+-- A reader has all that the message needs: the connection gave all its bytes, or the message is whole.
 pub record HasAll (bytes : List ℕ) (reader : MessageReader) : Type 0 where
   pub came : List ℕ
   pub rest : List ℕ
@@ -64,7 +64,7 @@ pub record HasAll (bytes : List ℕ) (reader : MessageReader) : Type 0 where
   pub stands : Stands side.Request reader (Some came)
   pub enough : (rest ≡ []) ⊎ ((m : Message) × IsWhole side.Request came m)
 
--- bytes are refused for this cause, or memory ran out
+-- The bytes are refused for this cause, or memory ran out.
 abbrev pub IsCause : HttpError → List ℕ → Type 0
 IsCause Mem bytes = ⊤
 IsCause BadHead bytes = Decides true side.Request bytes (Refused BadHead)
@@ -80,7 +80,7 @@ IsFilled filled.Done bytes reader = HasAll bytes reader
 IsFilled (filled.Refused cause) bytes reader = IsCause cause bytes
 IsFilled filled.Broken bytes reader = ⊤
 
--- after a piece: the reader is done, with this piece as the last, or goes on
+-- After a piece the reader is done, with this piece as the last, or it goes on.
 abbrev pub GoesOn : Option Filled → List ℕ → Option (List ℕ) → MessageReader → Type 0
 GoesOn None bytes left reader = ComesTo bytes left reader
 GoesOn (Some how) bytes left reader = IsFilled how bytes reader × ReadsFrom bytes left (IsLastBy how)

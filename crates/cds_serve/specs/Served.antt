@@ -8,7 +8,7 @@ pub record Opened : Type 0 where
   pub server : Serving
   pub start : Start
 
--- it stands for the commands that the server stands for, from what it was opened with and from nothing else
+-- It stands for the same commands as its server, and only from what it was opened with.
 abbrev pub Stands : Opened → Start → List Command → Type 0
 Stands opened start commands = (opened.start ≡ start) × StandsFor opened.server start commands
 
@@ -17,7 +17,7 @@ abbrev pub added : Option Command → List Command
 added None = []
 added (Some command) = command ∷ []
 
--- whether a digit is there and is `2`
+-- whether there is a digit and it is `2`
 abbrev pub is_two : Option ℕ → Bool
 is_two None = false
 is_two (Some digit) = digit == 50

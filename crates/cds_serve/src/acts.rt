@@ -23,14 +23,14 @@ pub(crate) struct Reply {
     pub note: Option<FirstNote>,
 }
 
-/// What a tick found: the notes of a release, where one was due, and whether the server was stopped.
+/// What a tick found: the notes of a release, if one was due, and whether the server was stopped.
 #[derive(Drop)]
 pub(crate) struct Look {
     pub notes: Option<Notes>,
     pub stopped: bool,
 }
 
-/// Whether a message asks of a subscription at the target of events.
+/// Returns whether a message asks about a subscription at the target of events.
 fn asks_events(message: &Message) -> bool
     ensures { result ≡ asks_events message.now.start }
 {
@@ -42,7 +42,7 @@ fn asks_events(message: &Message) -> bool
     }
 }
 
-/// Whether a reply has a status from 200 to 299: its text is `HTTP/1.1 ` and the digits.
+/// Returns whether a reply has a status from 200 to 299. Its text is `HTTP/1.1 ` and the digits.
 fn is_good(text: &[u8]) -> bool
     ensures { result ≡ is_two (slice_get text.now 9) }
 {
@@ -52,8 +52,8 @@ fn is_good(text: &[u8]) -> bool
     }
 }
 
-/// How many commands a message appended, by the reply to it: of the requests about subscriptions, those that are accepted
-/// have the status 200 and no others.
+/// Returns how many commands a message appended, judged by the reply. Of the requests about subscriptions, exactly the accepted
+/// ones have the status 200.
 fn appended(message: &Message, text: &[u8]) -> u64
     ensures { (start : Start) (found : List Command) (now : ℕ) → IsReply start found now message.now text.now
         → result ≡ length (added (command_at start found now message.now)) }
@@ -127,7 +127,7 @@ impl<'a> Act<Served> for Accept<'a> {
     }
 }
 
-/// The job of taking what a scan found at a moment.
+/// Returns the job of taking what a scan found at a moment.
 pub(crate) fn accepting<'a>(alloc: Global, now: u64, scan: &'a Scan) -> Accept<'a>
     requires { length scan.now.records < 2 ^ 32 }
     ensures { result.scan.now ≡ scan.now }

@@ -5,8 +5,9 @@ ghost use Rattle.std.proofs.Props.{props};
 ghost use Rattle.std.specs.Arc.{arc_value};
 ghost use Rattle.std.specs.List.{AllByRecursion};
 ghost use Rattle.cds_base.specs.Outside.{Rose, raised};
+ghost use Rattle.cds_base.specs.Told.{unasked_door};
 ghost use Rattle.cds_turn.specs.Turn.{IsSeatOf, passes_of, start_of};
-ghost use Rattle.cds_serve.specs.Life.{AreCounts, AreFirstWords, IsCaused, OfFirst, share_of, start_with};
+ghost use Rattle.cds_serve.specs.Life.{AreCounts, AreFirstWords, IsCaused, doors_back, OfFirst, share_of, start_with};
 
 use crate::acts::Stop;
 use crate::fault::Fault;
@@ -15,22 +16,22 @@ use crate::notifier::{Notified, Notifier};
 use crate::scanner::{Scanned, Scanner};
 use crate::served::Served;
 use crate::worker::{Worked, Worker};
-use cds_base::{Clock, Door, Folder, Gate, Job, Link, Mem, Outside, Running, Spawner};
+use cds_base::{Clock, Door, Folder, Gate, Job, Link, Mem, Outside, Running, Runtime, Spawner};
 use cds_turn::{Seat, Turn};
 use std::alloc::Global;
-use std::marker::{Send, Sync};
+use std::marker::Send;
 use std::sync::{Arc, Wait};
 use std::thread::Threads;
 
-/// The numbers of the other jobs.
+/// The numbers of the scanner and the notifier. The workers have the numbers from 0 to 3.
 const SCANNER: u32 = 4;
 
 const NOTIFIER: u32 = 5;
 
-/// How many seats there are: one of each job, and one more.
+/// The number of seats: one for each job, and one more.
 const SEATS: u32 = 7;
 
-/// All jobs, before they are started, with the turn and its last seat.
+/// All jobs before they are started, with the turn and its last seat.
 #[derive(Drop)]
 pub(crate) struct Crew<R, D, T, L, F, G> {
     pub(crate) turn: Arc<Turn<Served>>,
@@ -70,7 +71,8 @@ struct Started<W: Job, S: Job, N: Job> {
     notifier: Option<Running<N>>,
 }
 
-/// How many scans of a scanner were accepted, refused for another cause than want of memory, and refused for that.
+/// The number of scans that were accepted, and of those that were refused. `memory` counts the refusals because memory ran out,
+/// and `refused` all others.
 #[derive(Clone, Copy)]
 pub(crate) struct Counts {
     pub(crate) accepted: u64,
@@ -78,7 +80,7 @@ pub(crate) struct Counts {
     pub(crate) memory: u64,
 }
 
-/// The share of a worker, by its number.
+/// Returns the share of a worker, by its number from 0.
 fn share_of(requests: u32, number: u32) -> u32
     requires { number < 4 }
     ensures { result ≡ share_of requests number }
@@ -86,16 +88,16 @@ fn share_of(requests: u32, number: u32) -> u32
     requests / 4 + extra_of(requests % 4, number)
 }
 
-/// One for each of the first workers, so many as are left over.
+/// Returns 1 for the first `left` workers, 0 for the rest.
 fn extra_of(left: u32, number: u32) -> u32
     ensures { result ≡ (if nat_lt number left then 1 else 0) }
 {
     if number < left { 1 } else { 0 }
 }
 
-/// A server at a port with all its jobs, of which none is started. It is opened with the boot words of the means.
+/// Makes a server with all its jobs; none of them is started. It is opened with the boot words of the means.
 pub(crate) fn hire_crew<
-    R: Threads + Wait + Clone + Drop + Send + Sync + 'static,
+    R: Runtime,
     D: Door + Send + Drop + 'static,
     T: Clock + Send + Drop + 'static,
     L: Link + Send + Drop + 'static,
@@ -109,12 +111,11 @@ pub(crate) fn hire_crew<
     means: Means<D, T, L, F>,
     gate: &mut G,
 ) -> Result<Crew<R, D, T, L, F, G>, Mem>
-    requires fresh { AllByRecursion (λ ends. (D.connections ends.door ≡ 0) × (D.faults ends.door ≡ 0)) means.workers.items }
+    requires fresh { AllByRecursion (λ ends. D.told ends.door ≡ unasked_door) means.workers.items }
     requires few { length means.workers.items ≡ 4 }
-    requires boot { OfFirst (λ ends. AreFirstWords port
-        (record { last = T.last ends.clock; gave = T.gave ends.clock; faults = T.faults ends.clock }) means.boot) means.workers.items }
+    requires boot { OfFirst (λ ends. AreFirstWords port (T.told ends.clock) means.boot) means.workers.items }
     ensures workers { IfOk result (λ crew. sum_by (λ worker. worker.share) crew.workers.items ≡ requests) }
-    ensures fresh { IfOk result (λ crew. AllByRecursion (λ worker. (D.connections worker.door ≡ 0) × (D.faults worker.door ≡ 0)) crew.workers.items) }
+    ensures fresh { IfOk result (λ crew. AllByRecursion (λ worker. D.told worker.door ≡ unasked_door) crew.workers.items) }
     ensures few { IfOk result (λ crew. length crew.workers.items ≡ 4) }
     ensures start { IfOk result (λ crew. start_of (arc_value crew.turn) crew.seat ≡ start_with means.boot) }
 {
@@ -139,7 +140,7 @@ pub(crate) fn hire_crew<
     })
 }
 
-/// A server that is opened with these boot words, before any command, and the one seat of its turn.
+/// Opens a server with these boot words, before any command, and returns the one seat of its turn.
 fn open_turn(alloc: Global, boot: [u64; 2]) -> Result<Place, Mem>
     ensures seats { IfOk result (λ place. passes_of place.seat ≡ 7) }
     ensures start { IfOk result (λ place. start_of (arc_value place.turn) place.seat ≡ start_with boot) }
@@ -150,7 +151,7 @@ fn open_turn(alloc: Global, boot: [u64; 2]) -> Result<Place, Mem>
     Ok(Place { turn, seat })
 }
 
-/// A place for one job, whose seat takes one of the passes.
+/// Returns a place for one job, whose seat takes one of the passes.
 fn place_of(turn: &Arc<Turn<Served>>, seat: &mut Seat<Served>) -> Result<Place, Mem>
     requires seat { IsSeatOf (arc_value turn.now) seat.old }
     requires passes { 2 ≤ passes_of seat.old }
@@ -166,7 +167,7 @@ fn place_of(turn: &Arc<Turn<Served>>, seat: &mut Seat<Served>) -> Result<Place, 
     })
 }
 
-/// The post of the job of a number, whose seat takes one of the passes.
+/// Returns the post of the job of this number, whose seat takes one of the passes.
 fn post_of<R: Clone + Drop, G: Gate + Drop>(
     rt: &R,
     alloc: Global,
@@ -195,9 +196,9 @@ fn post_of<R: Clone + Drop, G: Gate + Drop>(
     })
 }
 
-/// The workers.
+/// Makes the four workers, with their shares of the connections.
 fn hire_workers<
-    R: Threads + Wait + Clone + Drop + Send + Sync + 'static,
+    R: Runtime,
     D: Door + Send + Drop + 'static,
     T: Clock + Send + Drop + 'static,
     L: Link + Send + Drop + 'static,
@@ -213,12 +214,12 @@ fn hire_workers<
 ) -> Result<Vec<Worker<R, D, T, L, G>>, Mem>
     requires seat { IsSeatOf (arc_value turn.now) seat.old }
     requires passes { 5 ≤ passes_of seat.old }
-    requires fresh { AllByRecursion (λ ends. (D.connections ends.door ≡ 0) × (D.faults ends.door ≡ 0)) all.items }
+    requires fresh { AllByRecursion (λ ends. D.told ends.door ≡ unasked_door) all.items }
     requires few { length all.items ≡ 4 }
     ensures seat { IsSeatOf (arc_value turn.now) seat.new }
     ensures passes { OnOk result (passes_of seat.new + 4 ≡ passes_of seat.old) }
     ensures workers { IfOk result (λ workers. sum_by (λ worker. worker.share) workers.items ≡ requests) }
-    ensures fresh { IfOk result (λ workers. AllByRecursion (λ worker. (D.connections worker.door ≡ 0) × (D.faults worker.door ≡ 0)) workers.items) }
+    ensures fresh { IfOk result (λ workers. AllByRecursion (λ worker. D.told worker.door ≡ unasked_door) workers.items) }
     ensures few { IfOk result (λ workers. length workers.items ≡ 4) }
     ensures turn { IfOk result (λ workers. AllByRecursion (λ worker. arc_value worker.turn ≡ arc_value turn.now) workers.items) }
 {
@@ -232,9 +233,9 @@ fn hire_workers<
     Ok(workers)
 }
 
-/// The worker of a number.
+/// Makes the worker of this number.
 fn hire_worker<
-    R: Threads + Wait + Clone + Drop + Send + Sync + 'static,
+    R: Runtime,
     D: Door + Send + Drop + 'static,
     T: Clock + Send + Drop + 'static,
     L: Link + Send + Drop + 'static,
@@ -272,9 +273,9 @@ fn hire_worker<
     })
 }
 
-/// The scanner of a folder.
+/// Makes the scanner of a folder.
 fn hire_scanner<
-    R: Threads + Wait + Clone + Drop + Send + Sync + 'static,
+    R: Runtime,
     F: Folder + Send + Drop + 'static,
     T: Clock + Send + Drop + 'static,
     G: Gate + Send + Drop + 'static,
@@ -305,9 +306,9 @@ fn hire_scanner<
     })
 }
 
-/// The notifier.
+/// Makes the notifier.
 fn hire_notifier<
-    R: Threads + Wait + Clone + Drop + Send + Sync + 'static,
+    R: Runtime,
     T: Clock + Send + Drop + 'static,
     L: Link + Send + Drop + 'static,
     G: Gate + Send + Drop + 'static,
@@ -338,13 +339,9 @@ fn hire_notifier<
     })
 }
 
-/// Starts all jobs, and joins them: the workers end by themselves, and the others once the server is stopped. Where one cannot
-/// be started, the server is stopped at once. What the scanner counted.
-pub(crate) fn run_crew<
-    R: Threads + Wait + Clone + Drop + Send + Sync + 'static,
-    O: Outside,
-    G: Gate + Send + Drop + 'static,
->(
+/// Starts all jobs, joins them, and returns what the scanner counted. The workers end by themselves, and the others once the
+/// server is stopped. If a job cannot be started, the server is stopped at once.
+pub(crate) fn run_crew<R: Runtime, O: Outside, G: Gate + Send + Drop + 'static>(
     rt: &R,
     crew: Crew<R, O::D, O::C, O::L, O::F, G>,
     running: Vec<Running<Worker<R, O::D, O::C, O::L, G>>>,
@@ -356,20 +353,17 @@ where
     <O::D as Door>::Conn: Send,
     <O::F as Folder>::File: Send,
     requires served { sum_by (λ worker. worker.share) crew.workers.items ≡ requests }
-    requires fresh { AllByRecursion (λ worker. (O.D.connections worker.door ≡ 0) × (O.D.faults worker.door ≡ 0)) crew.workers.items }
+    requires fresh { AllByRecursion (λ worker. O.D.told worker.door ≡ unasked_door) crew.workers.items }
     requires few { length crew.workers.items ≡ 4 }
     requires none { running.items ≡ [] }
     requires room { 4 ≤ vec_capacity running }
     ensures counts { IfOk result (λ counts. AreCounts (record { accepted = counts.accepted; refused = counts.refused; memory = counts.memory })) }
-    ensures connections { OnOk result ((n : ℕ) → raised (O.connections outside.new) n ≡ raised (O.connections outside.old) (requests + n)) }
-    ensures started { OnOk result ((n : ℕ) → raised (O.W.started spawner.new) n ≡ raised (O.W.started spawner.old) (6 + n)) }
-    ensures cause { IsCaused result ⊥ (Rose (O.faults outside.old) (O.faults outside.new) ⊎ Rose (O.W.faults spawner.old) (O.W.faults spawner.new)) }
-    ensures asked_stay { O.asked outside.new ≡ O.asked outside.old }
-    ensures ended_stay { O.ended outside.new ≡ O.ended outside.old }
-    ensures ended_links_stay { O.ended_links outside.new ≡ O.ended_links outside.old }
-    ensures ended_none { O.started outside.new ≡ O.started outside.old }
-    ensures spawner_never_falls { O.W.faults spawner.old ≤ O.W.faults spawner.new }
-    ensures outside_never_falls { O.faults outside.old ≤ O.faults outside.new }
+    ensures connections { OnOk result ((n : ℕ) → raised (O.told outside.new).connections n ≡ raised (O.told outside.old).connections (requests + n)) }
+    ensures started { OnOk result ((n : ℕ) → raised (O.W.told spawner.new).started n ≡ raised (O.W.told spawner.old).started (6 + n)) }
+    ensures cause { IsCaused result ⊥ (Rose (O.told outside.old).faults (O.told outside.new).faults ⊎ Rose (O.W.told spawner.old).faults (O.W.told spawner.new).faults) }
+    ensures others_stay { O.told outside.new ≡ doors_back (O.told outside.old) (O.told outside.new) }
+    ensures spawner_never_falls { (O.W.told spawner.old).faults ≤ (O.W.told spawner.new).faults }
+    ensures outside_never_falls { (O.told outside.old).faults ≤ (O.told outside.new).faults }
 {
     let Crew {
         turn,
@@ -394,7 +388,7 @@ where
     outcome_of(started, served, requests, counts)
 }
 
-/// What the scanner counted, where all jobs were started and all connections served.
+/// Returns what the scanner counted, if all jobs were started and all connections served.
 fn outcome_of(
     started: bool,
     served: u64,
@@ -418,7 +412,7 @@ fn outcome_of(
     }
 }
 
-/// Tells the server to stop, where it is to be told.
+/// Tells the server to stop, if this is wanted.
 fn stop_if<R: Wait>(wanted: bool, rt: &R, turn: &Turn<Served>, seat: &mut Seat<Served>)
     requires { IsSeatOf turn.now seat.old }
     ensures { IsSeatOf turn.now seat.new }
@@ -444,9 +438,9 @@ fn start_crew<R: Threads, P: Spawner, W: Job, S: Job, N: Job>(
     ensures notifier { IfSome result.notifier (λ running. running ≡ notifier) }
     ensures all { IsTrue (is_some result.notifier) → (result.workers.items ≡ workers.items) × IsTrue (is_some result.scanner) }
     ensures started { IsTrue (is_some result.notifier)
-        → (n : ℕ) → raised (P.started spawner.new) n ≡ raised (P.started spawner.old) (vec_len workers + 2 + n) }
-    ensures rose { IfNone result.notifier (Rose (P.faults spawner.old) (P.faults spawner.new)) }
-    ensures never_falls { P.faults spawner.old ≤ P.faults spawner.new }
+        → (n : ℕ) → raised (P.told spawner.new).started n ≡ raised (P.told spawner.old).started (vec_len workers + 2 + n) }
+    ensures rose { IfNone result.notifier (Rose (P.told spawner.old).faults (P.told spawner.new).faults) }
+    ensures never_falls { (P.told spawner.old).faults ≤ (P.told spawner.new).faults }
 {
     let all = start_workers(rt, spawner, workers, &mut running);
     let scanner = start_if(all, rt, spawner, scanner);
@@ -458,7 +452,7 @@ fn start_crew<R: Threads, P: Spawner, W: Job, S: Job, N: Job>(
     }
 }
 
-/// Starts a job, where it is to be started and can be.
+/// Starts a job, if this is wanted and possible.
 fn start_if<R: Threads, W: Spawner, J: Job>(
     wanted: bool,
     rt: &R,
@@ -466,9 +460,9 @@ fn start_if<R: Threads, W: Spawner, J: Job>(
     job: J,
 ) -> Option<Running<J>>
     ensures job { IfSome result (λ running. (running ≡ job) × IsTrue wanted) }
-    ensures started { IfSome result (λ _. W.started spawner.new ≡ raised (W.started spawner.old) 1) }
-    ensures rose { IfNone result (IsTrue wanted → Rose (W.faults spawner.old) (W.faults spawner.new)) }
-    ensures never_falls { W.faults spawner.old ≤ W.faults spawner.new }
+    ensures started { IfSome result (λ _. (W.told spawner.new).started ≡ raised (W.told spawner.old).started 1) }
+    ensures rose { IfNone result (IsTrue wanted → Rose (W.told spawner.old).faults (W.told spawner.new).faults) }
+    ensures never_falls { (W.told spawner.old).faults ≤ (W.told spawner.new).faults }
 {
     if wanted {
         spawner.start(rt, job).ok()
@@ -478,7 +472,7 @@ fn start_if<R: Threads, W: Spawner, J: Job>(
     }
 }
 
-/// Starts workers until one cannot be started. Whether all were.
+/// Starts workers until one cannot be started, and returns whether all were.
 fn start_workers<R: Threads, W: Spawner, J: Job>(
     rt: &R,
     spawner: &mut W,
@@ -488,10 +482,10 @@ fn start_workers<R: Threads, W: Spawner, J: Job>(
     requires none { running.old.items ≡ [] }
     requires room { vec_len jobs ≤ vec_capacity running.old }
     ensures all { IsTrue result → running.new.items ≡ jobs.items }
-    ensures started { IsTrue result → (n : ℕ) → raised (W.started spawner.new) n ≡ raised (W.started spawner.old) (vec_len jobs + n) }
+    ensures started { IsTrue result → (n : ℕ) → raised (W.told spawner.new).started n ≡ raised (W.told spawner.old).started (vec_len jobs + n) }
     ensures some { (n : ℕ) × (running.new.items ≡ take n jobs.items) }
-    ensures rose { IsFalse result → Rose (W.faults spawner.old) (W.faults spawner.new) }
-    ensures never_falls { W.faults spawner.old ≤ W.faults spawner.new }
+    ensures rose { IsFalse result → Rose (W.told spawner.old).faults (W.told spawner.new).faults }
+    ensures never_falls { (W.told spawner.old).faults ≤ (W.told spawner.new).faults }
 {
     'jobs: for job in jobs {
         match spawner.start(rt, job) {
@@ -506,37 +500,39 @@ fn start_workers<R: Threads, W: Spawner, J: Job>(
     true
 }
 
-/// Joins the workers that were started, and hands their doors back. How many connections they served.
-fn join_workers<
-    R: Threads + Wait + Clone + Drop + Send + Sync + 'static,
-    O: Outside,
-    G: Gate + Send + Drop + 'static,
->(rt: &R, outside: &mut O, running: Vec<Running<Worker<R, O::D, O::C, O::L, G>>>) -> u64
+/// Joins the workers that were started, hands their doors back, and returns how many connections they served.
+fn join_workers<R: Runtime, O: Outside, G: Gate + Send + Drop + 'static>(
+    rt: &R,
+    outside: &mut O,
+    running: Vec<Running<Worker<R, O::D, O::C, O::L, G>>>,
+) -> u64
 where
     <O::D as Door>::Conn: Send,
-    requires fresh { AllByRecursion (λ worker. (O.D.connections worker.door ≡ 0) × (O.D.faults worker.door ≡ 0)) running.items }
+    requires fresh { AllByRecursion (λ worker. O.D.told worker.door ≡ unasked_door) running.items }
     requires few { sum_by (λ worker. worker.share) running.items < 2 ^ 32 }
-    ensures connections { (n : ℕ) → raised (O.connections outside.new) n ≡ raised (O.connections outside.old) (result + n) }
+    ensures connections { (n : ℕ) → raised (O.told outside.new).connections n ≡ raised (O.told outside.old).connections (result + n) }
     ensures no_more { result ≤ sum_by (λ worker. worker.share) running.items }
-    ensures all { (result ≡ sum_by (λ worker. worker.share) running.items) ⊎ Rose (O.faults outside.old) (O.faults outside.new) }
-    ensures never_falls { O.faults outside.old ≤ O.faults outside.new }
-    ensures asked_stay { O.asked outside.new ≡ O.asked outside.old }
-    ensures ended_stay { O.ended outside.new ≡ O.ended outside.old }
-    ensures ended_links_stay { O.ended_links outside.new ≡ O.ended_links outside.old }
-    ensures started_stay { O.started outside.new ≡ O.started outside.old }
+    ensures all { (result ≡ sum_by (λ worker. worker.share) running.items) ⊎ Rose (O.told outside.old).faults (O.told outside.new).faults }
+    ensures never_falls { (O.told outside.old).faults ≤ (O.told outside.new).faults }
+    ensures others_stay { O.told outside.new ≡ doors_back (O.told outside.old) (O.told outside.new) }
 {
     let mut total = 0;
     'joined: for worker in running {
-        let Worked { door, served } = worker.join(rt);
+        let Worked {
+            door,
+            seat: theirs,
+            served,
+        } = worker.join(rt);
+        drop(theirs);
         outside.end_door(door);
         total += u64::from(served);
     }
     total
 }
 
-/// Joins the scanner, where it was started, and takes its seat back. What it counted.
+/// Joins the scanner, if it was started, takes its seat back, and returns what it counted.
 fn join_scanner<
-    R: Threads + Wait + Clone + Drop + Send + Sync + 'static,
+    R: Runtime,
     F: Folder + Send + Drop + 'static,
     T: Clock + Send + Drop + 'static,
     G: Gate + Send + Drop + 'static,
@@ -569,9 +565,9 @@ where
     })
 }
 
-/// Joins the notifier, where it was started, and takes its seat back.
+/// Joins the notifier, if it was started, and takes its seat back.
 fn join_notifier<
-    R: Threads + Wait + Clone + Drop + Send + Sync + 'static,
+    R: Runtime,
     T: Clock + Send + Drop + 'static,
     L: Link + Send + Drop + 'static,
     G: Gate + Send + Drop + 'static,

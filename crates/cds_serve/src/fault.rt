@@ -1,16 +1,16 @@
-//! Why a server that listens ended before it had served.
+//! Why a listening server ended early.
 
 ghost use Rattle.std.specs.Prelude.{◌≡◌};
 
 use cds_base::Mem;
 use std::alloc::{AllocError, AllocFailed};
 
-/// Why a server that listens ended before it had served.
+/// Why a listening server ended early.
 #[derive(Clone, Copy)]
 pub(crate) enum Fault {
     /// The sink could not be written.
     Sink,
-    /// There was no memory.
+    /// Memory ran out.
     Mem,
     /// The outside, or an object of it, failed.
     Outside,

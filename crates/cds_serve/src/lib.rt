@@ -1,6 +1,6 @@
-//! A media server that listens: workers that serve connections, a scanner that takes the library again and again, and a
-//! notifier that sends the notes of its changes, all over one server that they share in turns (UPnP Device Architecture 2.0
-//! on control and on eventing; UPnP ContentDirectory:4).
+//! A media server that listens. Workers serve connections, a scanner scans the library again and again, and a notifier sends the
+//! notes of its changes. They share one server in turns (UPnP Device Architecture 2.0 on control and on eventing; UPnP
+//! ContentDirectory:4).
 #![tactic(auto)]
 
 mod acts;

@@ -3,30 +3,31 @@
 ghost use Rattle.std.specs.Prelude.{◌≡◌, ◌⊎◌, ◌+◌, ◌≤◌, ℕ, [], ◌++◌, drop, Ok, Err, IfOk, OnOk, string_bytes};
 ghost use Rattle.std.specs.Fmt.{decimal};
 ghost use Rattle.cds_base.specs.Outside.{Rose, raised};
-ghost use Rattle.cds_serve.specs.Life.{AsksFor, EndsLife, IsCaused, WritesLife, WritesLine, life_asks, served_line, serving_line, status_of};
+ghost use Rattle.cds_serve.specs.Life.{AsksFor, EndsLife, IsCaused, KeepsEnded, WritesLife, WritesLine, life_asks, served_line, served_then, serving_line, status_of};
 
 use crate::crew::{Counts, hire_crew, run_crew};
 use crate::fault::Fault;
 use crate::means::{WORKERS, ask_door, ask_means, ask_spawner};
-use cds_base::{Door, Folder, Gate, Mem, Outside, Sink, put, put_number, write_all};
+use cds_base::{Door, Folder, Gate, Mem, Outside, Runtime, Sink, put, put_number, write_all};
 use std::alloc::Global;
-use std::marker::{Send, Sync};
-use std::sync::Wait;
-use std::thread::Threads;
+use std::marker::Send;
 
-/// Serves a library over HTTP: answers the connections that come at the port, scans the folder again and again, and sends the
-/// notes of its changes, until so many connections were served (UPnP ContentDirectory:4). It writes `serving PORT` once it
-/// listens, and `served REQUESTS scans A refused B memory C` at the end: how many scans were accepted, how many were refused
-/// for another cause than want of memory, and how many for that. Four workers, a scanner and a notifier do the work, each in a
-/// thread of its own. The status is 0, or 3 where the sink could not be written, 4 for want of memory, or 7 where the outside,
-/// the spawner or a door failed; the jobs that were started have ended then. A fault of one connection, of a link, of the
-/// folder or of a clock ends nothing, and neither the folder nor a link is handed back to the outside.
-pub fn serve<
-    R: Threads + Wait + Clone + Drop + Send + Sync + 'static,
-    K: Sink,
-    O: Outside,
-    G: Gate + Send + Drop + 'static,
->(
+/// Serves a library over HTTP until `requests` connections were served (UPnP ContentDirectory:4). It answers the connections at
+/// the port, scans the folder again and again, and sends the notes of its changes.
+///
+/// It writes `serving PORT` once it listens, and `served REQUESTS scans A refused B memory C` at the end. A scans were accepted.
+/// C were refused because memory ran out, and B for another cause.
+///
+/// Four workers, a scanner and a notifier do the work, each in a thread of its own. The status is:
+///
+/// - 0: all was served
+/// - 3: the sink could not be written
+/// - 4: memory ran out
+/// - 7: the outside, the spawner or a door failed
+///
+/// When it returns, the jobs that were started have ended. A fault of one connection, of a link, of the folder or of a clock ends
+/// nothing. Neither the folder nor a link is handed back to the outside.
+pub fn serve<R: Runtime, K: Sink, O: Outside, G: Gate + Send + Drop + 'static>(
     rt: &R,
     alloc: Global,
     port: u16,
@@ -40,26 +41,11 @@ where
     <O::D as Door>::Conn: Send,
     <O::F as Folder>::File: Send,
     ensures ends { EndsLife port folder.now requests result
-        (record {
-          faults = O.faults outside.old;
-          asked = O.asked outside.old;
-          connections = O.connections outside.old;
-          started = O.started outside.old;
-          sink_faults = K.faults sink.old;
-          holds = K.holds sink.old;
-        })
-        (record {
-          faults = O.faults outside.new;
-          asked = O.asked outside.new;
-          connections = O.connections outside.new;
-          started = O.started outside.new;
-          sink_faults = K.faults sink.new;
-          holds = K.holds sink.new;
-        }) }
-    ensures ended_stay { O.ended outside.new ≡ O.ended outside.old }
-    ensures ended_links_stay { O.ended_links outside.new ≡ O.ended_links outside.old }
-    ensures sink_never_falls { K.faults sink.old ≤ K.faults sink.new }
-    ensures outside_never_falls { O.faults outside.old ≤ O.faults outside.new }
+        (record { outside = O.told outside.old; sink = K.told sink.old })
+        (record { outside = O.told outside.new; sink = K.told sink.new }) }
+    ensures ended_stays { KeepsEnded (O.told outside.old) (O.told outside.new) }
+    ensures sink_never_falls { (K.told sink.old).faults ≤ (K.told sink.new).faults }
+    ensures outside_never_falls { (O.told outside.old).faults ≤ (O.told outside.new).faults }
 {
     match ask_door(alloc, port, outside) {
         Ok(mut door) => {
@@ -74,12 +60,7 @@ where
 }
 
 /// Serves the connections of a door.
-fn serve_door<
-    R: Threads + Wait + Clone + Drop + Send + Sync + 'static,
-    K: Sink,
-    O: Outside,
-    G: Gate + Send + Drop + 'static,
->(
+fn serve_door<R: Runtime, K: Sink, O: Outside, G: Gate + Send + Drop + 'static>(
     rt: &R,
     alloc: Global,
     port: u16,
@@ -93,18 +74,17 @@ fn serve_door<
 where
     <O::D as Door>::Conn: Send,
     <O::F as Folder>::File: Send,
-    ensures cause { IsCaused result (Rose (K.faults sink.old) (K.faults sink.new))
-        (Rose (O.faults outside.old) (O.faults outside.new) ⊎ Rose (O.D.faults door.old) (O.D.faults door.new)) }
-    ensures writes { WritesLife result port requests (K.holds sink.old) (K.holds sink.new) }
-    ensures asks { AsksFor result (drop 1 (life_asks port folder.now)) (O.asked outside.old) (O.asked outside.new) }
-    ensures connections { OnOk result ((n : ℕ) → raised (O.connections outside.new) n ≡ raised (O.connections outside.old) (requests + n)) }
-    ensures started { OnOk result (O.started outside.new ≡ raised (O.started outside.old) 6) }
-    ensures none_given { O.D.connections door.new ≡ O.D.connections door.old }
-    ensures door_never_falls { O.D.faults door.old ≤ O.D.faults door.new }
-    ensures ended_stay { O.ended outside.new ≡ O.ended outside.old }
-    ensures ended_links_stay { O.ended_links outside.new ≡ O.ended_links outside.old }
-    ensures sink_never_falls { K.faults sink.old ≤ K.faults sink.new }
-    ensures outside_never_falls { O.faults outside.old ≤ O.faults outside.new }
+    ensures cause { IsCaused result (Rose (K.told sink.old).faults (K.told sink.new).faults)
+        (Rose (O.told outside.old).faults (O.told outside.new).faults ⊎ Rose (O.D.told door.old).faults (O.D.told door.new).faults) }
+    ensures writes { WritesLife result port requests (K.told sink.old).holds (K.told sink.new).holds }
+    ensures asks { AsksFor result (drop 1 (life_asks port folder.now)) (O.told outside.old).asked (O.told outside.new).asked }
+    ensures connections { OnOk result ((n : ℕ) → raised (O.told outside.new).connections n ≡ raised (O.told outside.old).connections (requests + n)) }
+    ensures started { OnOk result ((O.told outside.new).started ≡ raised (O.told outside.old).started 6) }
+    ensures none_given { (O.D.told door.new).connections ≡ (O.D.told door.old).connections }
+    ensures door_never_falls { (O.D.told door.old).faults ≤ (O.D.told door.new).faults }
+    ensures ended_stays { KeepsEnded (O.told outside.old) (O.told outside.new) }
+    ensures sink_never_falls { (K.told sink.old).faults ≤ (K.told sink.new).faults }
+    ensures outside_never_falls { (O.told outside.old).faults ≤ (O.told outside.new).faults }
 {
     let mut spawner = ask_spawner(alloc, outside)?;
     let ended = serve_spawned(
@@ -123,13 +103,8 @@ where
     ended
 }
 
-/// Serves them with jobs of a spawner, and writes both lines.
-fn serve_spawned<
-    R: Threads + Wait + Clone + Drop + Send + Sync + 'static,
-    K: Sink,
-    O: Outside,
-    G: Gate + Send + Drop + 'static,
->(
+/// Serves the connections with jobs of a spawner, and writes both lines.
+fn serve_spawned<R: Runtime, K: Sink, O: Outside, G: Gate + Send + Drop + 'static>(
     rt: &R,
     alloc: Global,
     port: u16,
@@ -144,21 +119,19 @@ fn serve_spawned<
 where
     <O::D as Door>::Conn: Send,
     <O::F as Folder>::File: Send,
-    ensures cause { IsCaused result (Rose (K.faults sink.old) (K.faults sink.new))
-        (Rose (O.faults outside.old) (O.faults outside.new)
-        ⊎ (Rose (O.D.faults door.old) (O.D.faults door.new) ⊎ Rose (O.W.faults spawner.old) (O.W.faults spawner.new))) }
-    ensures writes { WritesLife result port requests (K.holds sink.old) (K.holds sink.new) }
-    ensures asks { AsksFor result (drop 2 (life_asks port folder.now)) (O.asked outside.old) (O.asked outside.new) }
-    ensures connections { OnOk result ((n : ℕ) → raised (O.connections outside.new) n ≡ raised (O.connections outside.old) (requests + n)) }
-    ensures started { OnOk result ((n : ℕ) → raised (O.W.started spawner.new) n ≡ raised (O.W.started spawner.old) (6 + n)) }
-    ensures ended_none { O.started outside.new ≡ O.started outside.old }
-    ensures none_given { O.D.connections door.new ≡ O.D.connections door.old }
-    ensures door_never_falls { O.D.faults door.old ≤ O.D.faults door.new }
-    ensures spawner_never_falls { O.W.faults spawner.old ≤ O.W.faults spawner.new }
-    ensures ended_stay { O.ended outside.new ≡ O.ended outside.old }
-    ensures ended_links_stay { O.ended_links outside.new ≡ O.ended_links outside.old }
-    ensures sink_never_falls { K.faults sink.old ≤ K.faults sink.new }
-    ensures outside_never_falls { O.faults outside.old ≤ O.faults outside.new }
+    ensures cause { IsCaused result (Rose (K.told sink.old).faults (K.told sink.new).faults)
+        (Rose (O.told outside.old).faults (O.told outside.new).faults
+        ⊎ (Rose (O.D.told door.old).faults (O.D.told door.new).faults ⊎ Rose (O.W.told spawner.old).faults (O.W.told spawner.new).faults)) }
+    ensures writes { WritesLife result port requests (K.told sink.old).holds (K.told sink.new).holds }
+    ensures asks { AsksFor result (drop 2 (life_asks port folder.now)) (O.told outside.old).asked (O.told outside.new).asked }
+    ensures connections { OnOk result ((n : ℕ) → raised (O.told outside.new).connections n ≡ raised (O.told outside.old).connections (requests + n)) }
+    ensures started { OnOk result ((n : ℕ) → raised (O.W.told spawner.new).started n ≡ raised (O.W.told spawner.old).started (6 + n)) }
+    ensures others_stay { O.told outside.new ≡ served_then (O.told outside.old) (O.told outside.new) }
+    ensures none_given { (O.D.told door.new).connections ≡ (O.D.told door.old).connections }
+    ensures door_never_falls { (O.D.told door.old).faults ≤ (O.D.told door.new).faults }
+    ensures spawner_never_falls { (O.W.told spawner.old).faults ≤ (O.W.told spawner.new).faults }
+    ensures sink_never_falls { (K.told sink.old).faults ≤ (K.told sink.new).faults }
+    ensures outside_never_falls { (O.told outside.old).faults ≤ (O.told outside.new).faults }
 {
     let means = ask_means(alloc, port, folder, outside, door)?;
     let crew = hire_crew(rt, alloc, port, requests, means, gate)?;
@@ -168,7 +141,7 @@ where
     write_served(alloc, sink, requests, counts)
 }
 
-/// The status of an end.
+/// Returns the status of an end.
 fn status_of(ended: Result<(), Fault>) -> u8
     ensures { result ≡ status_of ended }
 {
@@ -180,7 +153,7 @@ fn status_of(ended: Result<(), Fault>) -> u8
     }
 }
 
-/// The line that says that a server listens.
+/// Returns the line that says that a server listens.
 fn serving_line(alloc: Global, port: u16) -> Result<String, Mem>
     ensures { IfOk result (λ line. string_bytes line ≡ serving_line port) }
 {
@@ -190,7 +163,7 @@ fn serving_line(alloc: Global, port: u16) -> Result<String, Mem>
     Ok(line)
 }
 
-/// The line that says what was done.
+/// Returns the line that says what was done.
 fn served_line(alloc: Global, requests: u32, counts: Counts) -> Result<String, Mem>
     ensures { IfOk result (λ line. string_bytes line
         ≡ served_line requests (record { accepted = counts.accepted; refused = counts.refused; memory = counts.memory })) }
@@ -200,7 +173,7 @@ fn served_line(alloc: Global, requests: u32, counts: Counts) -> Result<String, M
     Ok(line)
 }
 
-/// Puts the line that says what was done.
+/// Appends the line that says what was done.
 fn put_served(line: &mut String, requests: u32, counts: Counts) -> Result<(), Mem>
     requires { string_bytes line.old ≡ [] }
     ensures { OnOk result (string_bytes line.new
@@ -214,7 +187,7 @@ fn put_served(line: &mut String, requests: u32, counts: Counts) -> Result<(), Me
     Ok(())
 }
 
-/// Puts a word and a number at the end.
+/// Appends a word and a number.
 fn put_count(line: &mut String, word: &str, number: u64) -> Result<(), Mem>
     ensures { OnOk result (string_bytes line.new ≡ string_bytes line.old ++ word.now ++ decimal number) }
 {
@@ -224,9 +197,9 @@ fn put_count(line: &mut String, word: &str, number: u64) -> Result<(), Mem>
 
 /// Writes a line.
 fn write_line<K: Sink>(sink: &mut K, line: &str) -> Result<(), Fault>
-    ensures written { WritesLine result line.now (K.holds sink.old) (K.holds sink.new) }
-    ensures cause { IsCaused result (Rose (K.faults sink.old) (K.faults sink.new)) ⊥ }
-    ensures never_falls { K.faults sink.old ≤ K.faults sink.new }
+    ensures written { WritesLine result line.now (K.told sink.old).holds (K.told sink.new).holds }
+    ensures cause { IsCaused result (Rose (K.told sink.old).faults (K.told sink.new).faults) ⊥ }
+    ensures never_falls { (K.told sink.old).faults ≤ (K.told sink.new).faults }
 {
     match write_all(sink, line.as_bytes()) {
         Ok(()) => Ok(()),
@@ -236,9 +209,9 @@ fn write_line<K: Sink>(sink: &mut K, line: &str) -> Result<(), Fault>
 
 /// Writes the line that says that a server listens.
 fn write_serving<K: Sink>(alloc: Global, sink: &mut K, port: u16) -> Result<(), Fault>
-    ensures written { WritesLine result (serving_line port) (K.holds sink.old) (K.holds sink.new) }
-    ensures cause { IsCaused result (Rose (K.faults sink.old) (K.faults sink.new)) ⊥ }
-    ensures never_falls { K.faults sink.old ≤ K.faults sink.new }
+    ensures written { WritesLine result (serving_line port) (K.told sink.old).holds (K.told sink.new).holds }
+    ensures cause { IsCaused result (Rose (K.told sink.old).faults (K.told sink.new).faults) ⊥ }
+    ensures never_falls { (K.told sink.old).faults ≤ (K.told sink.new).faults }
 {
     let line = serving_line(alloc, port)?;
     write_line(sink, line.as_str())
@@ -252,9 +225,9 @@ fn write_served<K: Sink>(
     counts: Counts,
 ) -> Result<(), Fault>
     ensures written { WritesLine result (served_line requests (record { accepted = counts.accepted; refused = counts.refused; memory = counts.memory }))
-        (K.holds sink.old) (K.holds sink.new) }
-    ensures cause { IsCaused result (Rose (K.faults sink.old) (K.faults sink.new)) ⊥ }
-    ensures never_falls { K.faults sink.old ≤ K.faults sink.new }
+        (K.told sink.old).holds (K.told sink.new).holds }
+    ensures cause { IsCaused result (Rose (K.told sink.old).faults (K.told sink.new).faults) ⊥ }
+    ensures never_falls { (K.told sink.old).faults ≤ (K.told sink.new).faults }
 {
     let line = served_line(alloc, requests, counts)?;
     write_line(sink, line.as_str())

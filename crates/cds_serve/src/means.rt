@@ -1,19 +1,20 @@
-//! What the jobs of a server take of the outside, and the boot words.
+//! What the jobs of a server take from the outside, and the boot words.
 
 ghost use Rattle.std.specs.Prelude.{◌≡◌, ◌≤◌, ◌<◌, [], ◌∷◌, length, take, drop, Ok, Err, IfErr, IfOk, IsFalse, IsTrue};
 ghost use Rattle.std.specs.List.{AllByRecursion};
 ghost use Rattle.cds_base.specs.Asked.{ForClock, ForDoor, ForFolder, ForLink, ForSpawner};
 ghost use Rattle.cds_base.specs.Outside.{Rose};
-ghost use Rattle.cds_serve.specs.Life.{AreBootWords, AreFirstWords, Asks, IsCaused, IsFresh, OfFirst, Takes, fault_of, first_word, life_asks, second_word, worker_asks};
+ghost use Rattle.cds_base.specs.Told.{IsFresh, unasked_door, unasked_spawner};
+ghost use Rattle.cds_serve.specs.Life.{AreBootWords, AreFirstWords, Asks, IsCaused, OfFirst, Takes, fault_of, first_word, life_asks, second_word, worker_asks};
 
 use crate::fault::Fault;
 use cds_base::{Clock, Door, Failed, Outside, OutsideFault};
 use std::alloc::Global;
 
-/// How many workers there are.
+/// The number of workers.
 pub(crate) const WORKERS: usize = 4;
 
-/// What a worker takes of the outside.
+/// What a worker takes from the outside.
 #[derive(Drop)]
 pub(crate) struct Ends<D, T, L> {
     pub(crate) door: D,
@@ -21,7 +22,7 @@ pub(crate) struct Ends<D, T, L> {
     pub(crate) link: L,
 }
 
-/// What all jobs take of the outside.
+/// What all jobs take from the outside.
 #[derive(Drop)]
 pub(crate) struct Means<D, T, L, F> {
     /// The boot words, by the clock of the first worker.
@@ -33,13 +34,11 @@ pub(crate) struct Means<D, T, L, F> {
     pub(crate) link: L,
 }
 
-/// The boot words of a server at a port, of which its names are made: of the moment that the clock gives, or of 0 where it
-/// fails, and of the port. `serve` takes them of a clock of which nothing was asked yet.
+/// Returns the boot words of a server at a port. Its names are made of them. They hold the port and the moment that the clock
+/// gives, or 0 if the clock fails. `serve` takes them from a clock of which nothing was asked yet.
 pub fn boot_words<T: Clock>(clock: &mut T, port: u16) -> [u64; 2]
-    ensures words { AreBootWords port
-        (record { last = T.last clock.old; gave = T.gave clock.old; faults = T.faults clock.old })
-        (record { last = T.last clock.new; gave = T.gave clock.new; faults = T.faults clock.new }) result }
-    ensures never_falls { T.faults clock.old ≤ T.faults clock.new }
+    ensures words { AreBootWords port (T.told clock.old) (T.told clock.new) result }
+    ensures never_falls { (T.told clock.old).faults ≤ (T.told clock.new).faults }
 {
     match clock.now() {
         Ok(moment) => words_of(moment, port),
@@ -47,28 +46,28 @@ pub fn boot_words<T: Clock>(clock: &mut T, port: u16) -> [u64; 2]
     }
 }
 
-/// The boot words of a moment and a port.
+/// Returns the boot words of a moment and a port.
 fn words_of(moment: u64, port: u16) -> [u64; 2]
     ensures { result ≡ first_word moment ∷ second_word port ∷ [] }
 {
     [first_word(moment), second_word(port)]
 }
 
-/// The first boot word: a moment modulo 2^48, in the bits above the lowest 16.
+/// Returns the first boot word: a moment modulo 2^48, in the bits above the lowest 16.
 fn first_word(moment: u64) -> u64
     ensures { result ≡ first_word moment }
 {
     (moment % (1 << 48)) * (1 << 16)
 }
 
-/// The second boot word: a port, in the bits above the lowest 32.
+/// Returns the second boot word: a port, in the bits above the lowest 32.
 fn second_word(port: u16) -> u64
     ensures { result ≡ second_word port }
 {
     u64::from(port) * (1 << 32)
 }
 
-/// What the outside gave, or its fault as one of the server.
+/// Returns what the outside gave, or its fault as one of the server.
 fn given<A: Drop>(answer: Result<A, OutsideFault>) -> Result<A, Fault>
     ensures ok { IfOk answer (λ object. result ≡ Ok object) }
     ensures err { IfErr answer (λ fault. result ≡ Err (fault_of fault)) }
@@ -82,58 +81,48 @@ fn given<A: Drop>(answer: Result<A, OutsideFault>) -> Result<A, Fault>
 
 /// Asks the outside for a clock.
 fn ask_clock<O: Outside>(alloc: Global, outside: &mut O) -> Result<O::C, Fault>
-    ensures asks { Asks result (ForClock ∷ [])
-        (record { faults = O.faults outside.old; asked = O.asked outside.old; ended = O.ended outside.old; ended_links = O.ended_links outside.old; connections = O.connections outside.old; started = O.started outside.old })
-        (record { faults = O.faults outside.new; asked = O.asked outside.new; ended = O.ended outside.new; ended_links = O.ended_links outside.new; connections = O.connections outside.new; started = O.started outside.new }) }
-    ensures fresh { IfOk result (λ clock. IsFresh (record { last = O.C.last clock; gave = O.C.gave clock; faults = O.C.faults clock })) }
+    ensures asks { Asks result (ForClock ∷ []) (O.told outside.old) (O.told outside.new) }
+    ensures fresh { IfOk result (λ clock. IsFresh (O.C.told clock)) }
 {
     given(outside.clock(alloc))
 }
 
 /// Asks the outside for a link.
 fn ask_link<O: Outside>(alloc: Global, outside: &mut O) -> Result<O::L, Fault>
-    ensures { Asks result (ForLink ∷ [])
-        (record { faults = O.faults outside.old; asked = O.asked outside.old; ended = O.ended outside.old; ended_links = O.ended_links outside.old; connections = O.connections outside.old; started = O.started outside.old })
-        (record { faults = O.faults outside.new; asked = O.asked outside.new; ended = O.ended outside.new; ended_links = O.ended_links outside.new; connections = O.connections outside.new; started = O.started outside.new }) }
+    ensures { Asks result (ForLink ∷ []) (O.told outside.old) (O.told outside.new) }
 {
     given(outside.link(alloc))
 }
 
 /// Asks the outside for the folder at a path.
 fn ask_folder<O: Outside>(alloc: Global, path: &str, outside: &mut O) -> Result<O::F, Fault>
-    ensures { Asks result (ForFolder path.now ∷ [])
-        (record { faults = O.faults outside.old; asked = O.asked outside.old; ended = O.ended outside.old; ended_links = O.ended_links outside.old; connections = O.connections outside.old; started = O.started outside.old })
-        (record { faults = O.faults outside.new; asked = O.asked outside.new; ended = O.ended outside.new; ended_links = O.ended_links outside.new; connections = O.connections outside.new; started = O.started outside.new }) }
+    ensures { Asks result (ForFolder path.now ∷ []) (O.told outside.old) (O.told outside.new) }
 {
     given(outside.folder(alloc, path))
 }
 
 /// Asks the outside for the door at a port.
 pub(crate) fn ask_door<O: Outside>(alloc: Global, port: u16, outside: &mut O) -> Result<O::D, Fault>
-    ensures asks { Asks result (ForDoor port ∷ [])
-        (record { faults = O.faults outside.old; asked = O.asked outside.old; ended = O.ended outside.old; ended_links = O.ended_links outside.old; connections = O.connections outside.old; started = O.started outside.old })
-        (record { faults = O.faults outside.new; asked = O.asked outside.new; ended = O.ended outside.new; ended_links = O.ended_links outside.new; connections = O.connections outside.new; started = O.started outside.new }) }
-    ensures fresh { IfOk result (λ door. (O.D.connections door ≡ 0) × (O.D.faults door ≡ 0)) }
+    ensures asks { Asks result (ForDoor port ∷ []) (O.told outside.old) (O.told outside.new) }
+    ensures fresh { IfOk result (λ door. O.D.told door ≡ unasked_door) }
 {
     given(outside.door(alloc, port))
 }
 
 /// Asks the outside for a spawner.
 pub(crate) fn ask_spawner<O: Outside>(alloc: Global, outside: &mut O) -> Result<O::W, Fault>
-    ensures asks { Asks result (ForSpawner ∷ [])
-        (record { faults = O.faults outside.old; asked = O.asked outside.old; ended = O.ended outside.old; ended_links = O.ended_links outside.old; connections = O.connections outside.old; started = O.started outside.old })
-        (record { faults = O.faults outside.new; asked = O.asked outside.new; ended = O.ended outside.new; ended_links = O.ended_links outside.new; connections = O.connections outside.new; started = O.started outside.new }) }
-    ensures fresh { IfOk result (λ spawner. (O.W.started spawner ≡ 0) × (O.W.faults spawner ≡ 0)) }
+    ensures asks { Asks result (ForSpawner ∷ []) (O.told outside.old) (O.told outside.new) }
+    ensures fresh { IfOk result (λ spawner. O.W.told spawner ≡ unasked_spawner) }
 {
     given(outside.spawner(alloc))
 }
 
 /// Asks a door for another handle of it.
 fn ask_handle<D: Door>(door: &mut D) -> Result<D, Fault>
-    ensures fresh { IfOk result (λ handle. (D.connections handle ≡ 0) × (D.faults handle ≡ 0)) }
-    ensures cause { IsCaused result ⊥ (Rose (D.faults door.old) (D.faults door.new)) }
-    ensures connections_stay { D.connections door.new ≡ D.connections door.old }
-    ensures never_falls { D.faults door.old ≤ D.faults door.new }
+    ensures fresh { IfOk result (λ handle. D.told handle ≡ unasked_door) }
+    ensures cause { IsCaused result ⊥ (Rose (D.told door.old).faults (D.told door.new).faults) }
+    ensures connections_stay { (D.told door.new).connections ≡ (D.told door.old).connections }
+    ensures never_falls { (D.told door.old).faults ≤ (D.told door.new).faults }
 {
     match door.again() {
         Ok(handle) => Ok(handle),
@@ -147,13 +136,9 @@ fn ask_ends<O: Outside>(
     outside: &mut O,
     door: &mut O::D,
 ) -> Result<Ends<O::D, O::C, O::L>, Fault>
-    ensures takes { Takes result (ForClock ∷ ForLink ∷ [])
-        (record { faults = O.faults outside.old; asked = O.asked outside.old; ended = O.ended outside.old; ended_links = O.ended_links outside.old; connections = O.connections outside.old; started = O.started outside.old })
-        (record { faults = O.faults outside.new; asked = O.asked outside.new; ended = O.ended outside.new; ended_links = O.ended_links outside.new; connections = O.connections outside.new; started = O.started outside.new })
-        (record { connections = O.D.connections door.old; faults = O.D.faults door.old })
-        (record { connections = O.D.connections door.new; faults = O.D.faults door.new }) }
-    ensures fresh { IfOk result (λ ends. (O.D.connections ends.door ≡ 0) × (O.D.faults ends.door ≡ 0)) }
-    ensures fresh_clock { IfOk result (λ ends. IsFresh (record { last = O.C.last ends.clock; gave = O.C.gave ends.clock; faults = O.C.faults ends.clock })) }
+    ensures takes { Takes result (ForClock ∷ ForLink ∷ []) (O.told outside.old) (O.told outside.new) (O.D.told door.old) (O.D.told door.new) }
+    ensures fresh { IfOk result (λ ends. O.D.told ends.door ≡ unasked_door) }
+    ensures fresh_clock { IfOk result (λ ends. IsFresh (O.C.told ends.clock)) }
 {
     let clock = ask_clock(alloc, outside)?;
     let link = ask_link(alloc, outside)?;
@@ -161,7 +146,7 @@ fn ask_ends<O: Outside>(
     Ok(Ends { door, clock, link })
 }
 
-/// Has the clock of the first worker give the boot words of a server at a port. The others leave them.
+/// Has the clock of the first worker give the boot words of a server at a port. The other workers leave them.
 fn with_boot<D, T: Clock, L>(
     mut ends: Ends<D, T, L>,
     is_first: bool,
@@ -169,9 +154,7 @@ fn with_boot<D, T: Clock, L>(
     boot: &mut [u64; 2],
 ) -> Ends<D, T, L>
     ensures door { result.door ≡ ends.door }
-    ensures first { IsTrue is_first → AreBootWords port
-        (record { last = T.last ends.clock; gave = T.gave ends.clock; faults = T.faults ends.clock })
-        (record { last = T.last result.clock; gave = T.gave result.clock; faults = T.faults result.clock }) boot.new }
+    ensures first { IsTrue is_first → AreBootWords port (T.told ends.clock) (T.told result.clock) boot.new }
     ensures others { IsFalse is_first → boot.new ≡ boot.old }
 {
     if is_first {
@@ -188,15 +171,10 @@ fn ask_workers<O: Outside>(
     door: &mut O::D,
     boot: &mut [u64; 2],
 ) -> Result<Vec<Ends<O::D, O::C, O::L>>, Fault>
-    ensures takes { Takes result (worker_asks 4)
-        (record { faults = O.faults outside.old; asked = O.asked outside.old; ended = O.ended outside.old; ended_links = O.ended_links outside.old; connections = O.connections outside.old; started = O.started outside.old })
-        (record { faults = O.faults outside.new; asked = O.asked outside.new; ended = O.ended outside.new; ended_links = O.ended_links outside.new; connections = O.connections outside.new; started = O.started outside.new })
-        (record { connections = O.D.connections door.old; faults = O.D.faults door.old })
-        (record { connections = O.D.connections door.new; faults = O.D.faults door.new }) }
-    ensures fresh { IfOk result (λ all. AllByRecursion (λ ends. (O.D.connections ends.door ≡ 0) × (O.D.faults ends.door ≡ 0)) all.items) }
+    ensures takes { Takes result (worker_asks 4) (O.told outside.old) (O.told outside.new) (O.D.told door.old) (O.D.told door.new) }
+    ensures fresh { IfOk result (λ all. AllByRecursion (λ ends. O.D.told ends.door ≡ unasked_door) all.items) }
     ensures few { IfOk result (λ all. length all.items ≡ 4) }
-    ensures boot { IfOk result (λ all. OfFirst (λ ends. AreFirstWords port
-        (record { last = O.C.last ends.clock; gave = O.C.gave ends.clock; faults = O.C.faults ends.clock }) boot.new) all.items) }
+    ensures boot { IfOk result (λ all. OfFirst (λ ends. AreFirstWords port (O.C.told ends.clock) boot.new) all.items) }
 {
     let mut all = Vec::with_capacity(alloc, WORKERS)?;
     'workers: while all.len() < WORKERS {
@@ -215,15 +193,10 @@ pub(crate) fn ask_means<O: Outside>(
     outside: &mut O,
     door: &mut O::D,
 ) -> Result<Means<O::D, O::C, O::L, O::F>, Fault>
-    ensures takes { Takes result (drop 2 (life_asks port path.now))
-        (record { faults = O.faults outside.old; asked = O.asked outside.old; ended = O.ended outside.old; ended_links = O.ended_links outside.old; connections = O.connections outside.old; started = O.started outside.old })
-        (record { faults = O.faults outside.new; asked = O.asked outside.new; ended = O.ended outside.new; ended_links = O.ended_links outside.new; connections = O.connections outside.new; started = O.started outside.new })
-        (record { connections = O.D.connections door.old; faults = O.D.faults door.old })
-        (record { connections = O.D.connections door.new; faults = O.D.faults door.new }) }
-    ensures fresh { IfOk result (λ means. AllByRecursion (λ ends. (O.D.connections ends.door ≡ 0) × (O.D.faults ends.door ≡ 0)) means.workers.items) }
+    ensures takes { Takes result (drop 2 (life_asks port path.now)) (O.told outside.old) (O.told outside.new) (O.D.told door.old) (O.D.told door.new) }
+    ensures fresh { IfOk result (λ means. AllByRecursion (λ ends. O.D.told ends.door ≡ unasked_door) means.workers.items) }
     ensures few { IfOk result (λ means. length means.workers.items ≡ 4) }
-    ensures boot { IfOk result (λ means. OfFirst (λ ends. AreFirstWords port
-        (record { last = O.C.last ends.clock; gave = O.C.gave ends.clock; faults = O.C.faults ends.clock }) means.boot) means.workers.items) }
+    ensures boot { IfOk result (λ means. OfFirst (λ ends. AreFirstWords port (O.C.told ends.clock) means.boot) means.workers.items) }
 {
     let folder = ask_folder(alloc, path, outside)?;
     let mut boot = [0, 0];

@@ -1,4 +1,4 @@
-//! The job of the notifier.
+//! The job of the notifier, which sends the notes of changes.
 
 ghost use Rattle.std.specs.Prelude.{◌≡◌, true, IsTrue, Ok};
 ghost use Rattle.std.specs.Arc.{arc_value};
@@ -13,7 +13,7 @@ use std::alloc::Global;
 use std::marker::Send;
 use std::sync::{Arc, Wait};
 
-/// Sends the notes of a server that others share: it looks every 50 ms, and ends where the server was stopped.
+/// Sends the notes of a server that others share. It looks every 50 ms, and ends once the server was stopped.
 #[derive(Drop)]
 pub struct Notifier<R, T, L, G> {
     pub rt: R,
@@ -38,15 +38,13 @@ impl<
     L: Link + Send + Drop + 'static,
     G: Gate + Send + Drop + 'static,
 > Job for Notifier<R, T, L, G> {
-    ghost use Rattle.std.specs.Prelude.{◌≡◌};
-    ghost use Rattle.cds_turn.specs.Turn.{passes_of, seats_of, seen_by};
+    ghost use Rattle.cds_turn.specs.Turn.{seat_told};
     ghost use Rattle.cds_serve.specs.Jobs.{EndsNotifying};
 
     type Out = Notified;
 
     ghost answers = { λ notifier notified. IsSeatOf (arc_value notifier.turn) notified.seat
-        × (passes_of notified.seat ≡ passes_of notifier.seat)
-        × EndsNotifying (passes_of notifier.seat) (seats_of (arc_value notifier.turn)) (seen_by notifier.seat) (seen_by notified.seat) };
+        × EndsNotifying (seat_told (arc_value notifier.turn) notifier.seat) (seat_told (arc_value notifier.turn) notified.seat) };
 
     fn run(self) -> Notified {
         let Notifier {
@@ -72,7 +70,7 @@ impl<
     }
 }
 
-/// Whether a look found the server stopped.
+/// Returns whether a look found the server stopped.
 fn saw_stop(looked: &Result<bool, Mem>) -> bool
     ensures { IsTrue result → looked.now ≡ Ok true }
 {

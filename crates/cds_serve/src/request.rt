@@ -1,4 +1,4 @@
-//! Requests as they come over a connection.
+//! Requests as they come over a connection: reading one, and the statuses that need no server.
 
 ghost use Rattle.std.specs.Prelude.{◌≡◌, ◌≤◌, ◌<◌, ℕ, true, List, length, Option, Some, IfOk, OnErr};
 ghost use Rattle.cds_base.specs.Outside.{Told};
@@ -15,19 +15,19 @@ use cds_base::{Conn, Failed, Mem};
 use cds_http::{Fed, HttpError, Message, MessageReader, Side, Start};
 use std::alloc::Global;
 
-/// How many bytes are read at once.
+/// The number of bytes that are read at once.
 const PIECE: usize = 8_192;
 
 /// What came over a connection.
 #[derive(Drop)]
 pub(crate) enum Request {
-    /// A message, which needs a turn.
+    /// A message that needs a turn.
     Needing(Message),
-    /// What is answered with a status and no turn: bytes that are no message, or one that the server has no part in.
+    /// Bytes that are answered with a status and no turn: they are no message, or one that the server has no part in.
     Free(u16),
     /// Nothing, since the connection failed.
     Broken,
-    /// Nothing, since there was no memory.
+    /// Nothing, since memory ran out.
     Starved,
 }
 
@@ -42,14 +42,13 @@ pub(crate) enum Filled {
     Broken,
 }
 
-/// The request of a connection, of which nothing was read yet.
+/// Reads the request of a connection of which nothing was read yet.
 pub(crate) fn read_request<C: Conn>(alloc: Global, conn: &mut C) -> Request
-    ensures request { Told (C.left conn.old) (λ bytes. (known : Known Message) → Decides true side.Request bytes known → IsRequest known result) }
-    ensures read { Told (C.left conn.old) (λ bytes. ReadsFrom bytes (C.left conn.new) (IsLastIn result)) }
-    ensures rose { BrokenRose result (C.Source.faults conn.old) (C.Source.faults conn.new) }
-    ensures never_falls { C.Source.faults conn.old ≤ C.Source.faults conn.new }
-    ensures taken_stay { C.holds conn.new ≡ C.holds conn.old }
-    ensures write_faults_stay { C.Sink.faults conn.new ≡ C.Sink.faults conn.old }
+    ensures request { Told (C.Source.told conn.old).left (λ bytes. (known : Known Message) → Decides true side.Request bytes known → IsRequest known result) }
+    ensures read { Told (C.Source.told conn.old).left (λ bytes. ReadsFrom bytes (C.Source.told conn.new).left (IsLastIn result)) }
+    ensures rose { BrokenRose result (C.Source.told conn.old).faults (C.Source.told conn.new).faults }
+    ensures never_falls { (C.Source.told conn.old).faults ≤ (C.Source.told conn.new).faults }
+    ensures sink_stays { C.Sink.told conn.new ≡ C.Sink.told conn.old }
 {
     match read_message(alloc, conn) {
         Ok(request) => request,
@@ -57,15 +56,14 @@ pub(crate) fn read_request<C: Conn>(alloc: Global, conn: &mut C) -> Request
     }
 }
 
-/// The request, where there is memory for a piece of it.
+/// Reads the request, if there is memory for a piece of it.
 fn read_message<C: Conn>(alloc: Global, conn: &mut C) -> Result<Request, Mem>
-    ensures request { IfOk result (λ request. Told (C.left conn.old) (λ bytes. (known : Known Message) → Decides true side.Request bytes known → IsRequest known request)) }
-    ensures read { IfOk result (λ request. Told (C.left conn.old) (λ bytes. ReadsFrom bytes (C.left conn.new) (IsLastIn request))) }
-    ensures unread { OnErr result (C.left conn.new ≡ C.left conn.old) }
-    ensures rose { IfOk result (λ request. BrokenRose request (C.Source.faults conn.old) (C.Source.faults conn.new)) }
-    ensures never_falls { C.Source.faults conn.old ≤ C.Source.faults conn.new }
-    ensures taken_stay { C.holds conn.new ≡ C.holds conn.old }
-    ensures write_faults_stay { C.Sink.faults conn.new ≡ C.Sink.faults conn.old }
+    ensures request { IfOk result (λ request. Told (C.Source.told conn.old).left (λ bytes. (known : Known Message) → Decides true side.Request bytes known → IsRequest known request)) }
+    ensures read { IfOk result (λ request. Told (C.Source.told conn.old).left (λ bytes. ReadsFrom bytes (C.Source.told conn.new).left (IsLastIn request))) }
+    ensures unread { OnErr result ((C.Source.told conn.new).left ≡ (C.Source.told conn.old).left) }
+    ensures rose { IfOk result (λ request. BrokenRose request (C.Source.told conn.old).faults (C.Source.told conn.new).faults) }
+    ensures never_falls { (C.Source.told conn.old).faults ≤ (C.Source.told conn.new).faults }
+    ensures sink_stays { C.Sink.told conn.new ≡ C.Sink.told conn.old }
 {
     let mut piece = empty_piece(alloc)?;
     let mut reader = MessageReader::new(alloc, Side::Request)?;
@@ -74,7 +72,7 @@ fn read_message<C: Conn>(alloc: Global, conn: &mut C) -> Result<Request, Mem>
     Ok(request_of(filled, reader))
 }
 
-/// Room for a piece, which is not empty.
+/// Makes room for a piece, which is not empty.
 fn empty_piece(alloc: Global) -> Result<Vec<u8>, Mem>
     ensures some { IfOk result (λ piece. 0 < length piece.items) }
     ensures short { IfOk result (λ piece. length piece.items ≤ piece_limit) }
@@ -92,12 +90,11 @@ fn fill<C: Conn>(
 ) -> Filled
     requires some { 0 < length piece.old }
     requires short { length piece.old ≤ piece_limit }
-    ensures filled { (bytes : List ℕ) → ComesTo bytes (C.left conn.old) reader.old → IsFilled result bytes reader.new }
-    ensures read { (bytes : List ℕ) → ComesTo bytes (C.left conn.old) reader.old → ReadsFrom bytes (C.left conn.new) (IsLastBy result) }
-    ensures rose { FilledRose (Some result) (C.Source.faults conn.old) (C.Source.faults conn.new) }
-    ensures never_falls { C.Source.faults conn.old ≤ C.Source.faults conn.new }
-    ensures taken_stay { C.holds conn.new ≡ C.holds conn.old }
-    ensures write_faults_stay { C.Sink.faults conn.new ≡ C.Sink.faults conn.old }
+    ensures filled { (bytes : List ℕ) → ComesTo bytes (C.Source.told conn.old).left reader.old → IsFilled result bytes reader.new }
+    ensures read { (bytes : List ℕ) → ComesTo bytes (C.Source.told conn.old).left reader.old → ReadsFrom bytes (C.Source.told conn.new).left (IsLastBy result) }
+    ensures rose { FilledRose (Some result) (C.Source.told conn.old).faults (C.Source.told conn.new).faults }
+    ensures never_falls { (C.Source.told conn.old).faults ≤ (C.Source.told conn.new).faults }
+    ensures sink_stays { C.Sink.told conn.new ≡ C.Sink.told conn.old }
 {
     'pieces: for _ in 0..u64::MAX {
         match fill_once(alloc, conn, reader, piece) {
@@ -108,7 +105,7 @@ fn fill<C: Conn>(
     Filled::Refused(HttpError::Mem)
 }
 
-/// Reads a piece. `None` where more is needed.
+/// Reads a piece. Returns `None` if more is needed.
 fn fill_once<C: Conn>(
     alloc: Global,
     conn: &mut C,
@@ -117,11 +114,10 @@ fn fill_once<C: Conn>(
 ) -> Option<Filled>
     requires some { 0 < length piece.old }
     requires short { length piece.old ≤ piece_limit }
-    ensures goes { (bytes : List ℕ) → ComesTo bytes (C.left conn.old) reader.old → GoesOn result bytes (C.left conn.new) reader.new }
-    ensures rose { FilledRose result (C.Source.faults conn.old) (C.Source.faults conn.new) }
-    ensures never_falls { C.Source.faults conn.old ≤ C.Source.faults conn.new }
-    ensures taken_stay { C.holds conn.new ≡ C.holds conn.old }
-    ensures write_faults_stay { C.Sink.faults conn.new ≡ C.Sink.faults conn.old }
+    ensures goes { (bytes : List ℕ) → ComesTo bytes (C.Source.told conn.old).left reader.old → GoesOn result bytes (C.Source.told conn.new).left reader.new }
+    ensures rose { FilledRose result (C.Source.told conn.old).faults (C.Source.told conn.new).faults }
+    ensures never_falls { (C.Source.told conn.old).faults ≤ (C.Source.told conn.new).faults }
+    ensures sink_stays { C.Sink.told conn.new ≡ C.Sink.told conn.old }
 {
     match conn.receive(piece) {
         Ok(0) => Some(Filled::Done),
@@ -137,7 +133,7 @@ fn fill_once<C: Conn>(
     }
 }
 
-/// What came, by how the reading of it ended.
+/// Returns what came, by how the reading of it ended.
 fn request_of(filled: Filled, reader: MessageReader) -> Request
     ensures request { (bytes : List ℕ) → IsFilled filled bytes reader → (known : Known Message) → Decides true side.Request bytes known → IsRequest known result }
     ensures read { (bytes : List ℕ) (left : Option (List ℕ)) → ReadsFrom bytes left (IsLastBy filled) → ReadsFrom bytes left (IsLastIn result) }
@@ -156,7 +152,7 @@ fn request_of(filled: Filled, reader: MessageReader) -> Request
     }
 }
 
-/// What came, at the end of the message or of the connection.
+/// Returns what came, at the end of the message or of the connection.
 fn finish(reader: MessageReader) -> Request
     ensures request { (bytes : List ℕ) → HasAll bytes reader → (known : Known Message) → Decides true side.Request bytes known → IsRequest known result }
     ensures rose { (old new : ℕ) → BrokenRose result old new }
@@ -167,7 +163,7 @@ fn finish(reader: MessageReader) -> Request
     }
 }
 
-/// What a message makes of a request.
+/// Returns the request that a message is.
 fn judged(message: Message) -> Request
     ensures request { (rest : List ℕ) → IsRequest (Whole message rest) result }
     ensures rose { (old new : ℕ) → BrokenRose result old new }
@@ -181,7 +177,7 @@ fn judged(message: Message) -> Request
     }
 }
 
-/// What a refusal makes of it.
+/// Returns the request that a refusal is.
 fn refused(refusal: HttpError) -> Request
     ensures refused { IsRequest (Refused refusal) result }
     ensures cut { refusal ≡ cause.Truncated → IsRequest Needs result }
@@ -195,8 +191,8 @@ fn refused(refusal: HttpError) -> Request
     }
 }
 
-/// The status of a request that the server has no part in: 404 for another target than `/control` and `/event`, and 405 for
-/// another method than POST to the first, or than SUBSCRIBE and UNSUBSCRIBE to the second.
+/// Returns the status of a request that the server has no part in. It is 404 if the target is neither `/control` nor `/event`. It
+/// is 405 if `/control` gets another method than POST, or `/event` another than SUBSCRIBE and UNSUBSCRIBE.
 fn request_status(start: &Start) -> Option<u16>
     ensures { result ≡ request_status start.now }
 {
@@ -206,7 +202,7 @@ fn request_status(start: &Start) -> Option<u16>
     }
 }
 
-/// The status of a target and a method.
+/// Returns the status of a target and a method, if the server has no part in them.
 fn status_at(target: &str, method: &str) -> Option<u16>
     ensures { result ≡ status_at target.now method.now }
 {
@@ -219,14 +215,14 @@ fn status_at(target: &str, method: &str) -> Option<u16>
     }
 }
 
-/// The status of a method that a target does not take.
+/// Returns the status of a method, if the target does not take it.
 fn status_unless(is_taken: bool) -> Option<u16>
     ensures { result ≡ status_unless is_taken }
 {
     if is_taken { None } else { Some(405) }
 }
 
-/// Whether it is SUBSCRIBE or UNSUBSCRIBE.
+/// Returns whether the method is SUBSCRIBE or UNSUBSCRIBE.
 fn is_event_method(method: &str) -> bool
     ensures { result ≡ is_event_method method.now }
 {

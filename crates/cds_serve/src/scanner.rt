@@ -1,4 +1,4 @@
-//! The job of the scanner.
+//! The job of the scanner, which scans the folder again and again.
 
 ghost use Rattle.std.specs.Prelude.{◌≡◌, ◌+◌, ◌≤◌, List, IfErr, IsTrue, OnOk};
 ghost use Rattle.std.specs.Arc.{arc_value};
@@ -6,9 +6,9 @@ ghost use Rattle.cds_base.specs.Entries.{FolderTold};
 ghost use Rattle.cds_base.specs.Outside.{raised};
 ghost use Rattle.cds_commands.specs.Commands.{Command, is_stopped};
 ghost use Rattle.cds_turn.specs.Line.{Extends};
-ghost use Rattle.cds_turn.specs.Turn.{IsSeatOf, passes_of, seats_of, seen_by, start_of};
+ghost use Rattle.cds_turn.specs.Turn.{IsSeatOf, own_by, passes_of, seats_of, seen_by, start_of};
 ghost use Rattle.cds_serve.specs.Counted.{counted};
-ghost use Rattle.cds_serve.specs.Jobs.{EndsScanning, ScansSoFar};
+ghost use Rattle.cds_serve.specs.Jobs.{AddsScans, EndsScanning, ScansSoFar};
 
 use crate::acts::IsStopped;
 use crate::moment::ask_moment;
@@ -20,14 +20,14 @@ use std::alloc::Global;
 use std::marker::Send;
 use std::sync::{Arc, Wait};
 
-/// How many milliseconds after the end of a scan the next one begins.
+/// The time, in milliseconds, from the end of a scan to the next one.
 const PAUSE: u64 = 10_000;
 
-/// How many milliseconds lie between two looks.
+/// The time, in milliseconds, between two looks.
 pub(crate) const REST: u32 = 50;
 
 /// Scans a folder again and again for a server that others share: at the start, and then 10,000 ms after the last scan ended.
-/// Between two scans it looks every 50 ms whether the server was stopped, and then ends.
+/// Between two scans it looks every 50 ms whether the server was stopped. If so, it ends.
 #[derive(Drop)]
 pub struct Scanner<R, F, T, G> {
     pub rt: R,
@@ -40,16 +40,16 @@ pub struct Scanner<R, F, T, G> {
     ghost own: { IsSeatOf (arc_value turn) seat },
 }
 
-/// What the scanner answers. Each count stays at its last value.
+/// What the scanner answers. Each count stops at its last value.
 #[derive(Drop)]
 pub struct Scanned<F> {
     pub folder: F,
     pub seat: Seat<Served>,
     /// How many scans were accepted.
     pub accepted: u64,
-    /// How many were refused for another cause than want of memory.
+    /// How many were refused for another cause than `memory` counts.
     pub refused: u64,
-    /// How many were refused for want of memory.
+    /// How many were refused because memory ran out.
     pub memory: u64,
 }
 
@@ -85,28 +85,9 @@ impl<
 
     ghost answers = { λ scanner scanned. IsSeatOf (arc_value scanner.turn) scanned.seat
         × (passes_of scanned.seat ≡ passes_of scanner.seat)
-        × EndsScanning (start_of (arc_value scanner.turn) scanner.seat) (passes_of scanner.seat) (seats_of (arc_value scanner.turn))
-        (record {
-          tree = F.tree scanner.folder;
-          contents = F.contents scanner.folder;
-          given = F.given scanner.folder;
-          entries = F.entries scanner.folder;
-          opened = F.opened scanner.folder;
-          returned = F.returned scanner.folder;
-          entry_faults = F.entry_faults scanner.folder;
-          file_faults = F.file_faults scanner.folder;
-        })
-        (record {
-          tree = F.tree scanned.folder;
-          contents = F.contents scanned.folder;
-          given = F.given scanned.folder;
-          entries = F.entries scanned.folder;
-          opened = F.opened scanned.folder;
-          returned = F.returned scanned.folder;
-          entry_faults = F.entry_faults scanned.folder;
-          file_faults = F.file_faults scanned.folder;
-        })
-        (seen_by scanner.seat) (seen_by scanned.seat) scanned.accepted scanned.refused scanned.memory };
+        × EndsScanning (start_of (arc_value scanner.turn) scanner.seat) (passes_of scanner.seat) (seats_of (arc_value scanner.turn)) (F.told scanner.folder) (F.told scanned.folder)
+        (seen_by scanner.seat) (seen_by scanned.seat) scanned.accepted scanned.refused scanned.memory
+        × AddsScans (own_by scanner.seat) (own_by scanned.seat) };
 
     fn run(self) -> Scanned<F> {
         let Scanner {
@@ -126,7 +107,7 @@ impl<
     }
 }
 
-/// Scans again and again, until the server was stopped. How the scans ended.
+/// Scans again and again until the server was stopped, and returns how the scans ended.
 fn scan_until_stopped<R: Wait, F: Folder, T: Clock>(
     rt: &R,
     alloc: Global,
@@ -138,28 +119,9 @@ fn scan_until_stopped<R: Wait, F: Folder, T: Clock>(
     requires { IsSeatOf turn.now seat.old }
     ensures seat { IsSeatOf turn.now seat.new }
     ensures passes { passes_of seat.new ≡ passes_of seat.old }
-    ensures ends { EndsScanning (start_of turn.now seat.old) (passes_of seat.old) (seats_of turn.now)
-        (record {
-          tree = F.tree folder.old;
-          contents = F.contents folder.old;
-          given = F.given folder.old;
-          entries = F.entries folder.old;
-          opened = F.opened folder.old;
-          returned = F.returned folder.old;
-          entry_faults = F.entry_faults folder.old;
-          file_faults = F.file_faults folder.old;
-        })
-        (record {
-          tree = F.tree folder.new;
-          contents = F.contents folder.new;
-          given = F.given folder.new;
-          entries = F.entries folder.new;
-          opened = F.opened folder.new;
-          returned = F.returned folder.new;
-          entry_faults = F.entry_faults folder.new;
-          file_faults = F.file_faults folder.new;
-        })
+    ensures ends { EndsScanning (start_of turn.now seat.old) (passes_of seat.old) (seats_of turn.now) (F.told folder.old) (F.told folder.new)
         (seen_by seat.old) (seen_by seat.new) result.accepted result.refused result.memory }
+    ensures own { AddsScans (own_by seat.old) (own_by seat.new) }
 {
     let mut last = 0;
     let mut counts = Counts {
@@ -191,37 +153,18 @@ fn scan_and_count<R: Wait, F: Folder, T: Clock>(
     ensures seat { IsSeatOf turn.now seat.new }
     ensures passes { passes_of seat.new ≡ passes_of seat.old }
     ensures so_far { (told : FolderTold) (before : List Command)
-        → ScansSoFar (start_of turn.now seat.old) (passes_of seat.old) (seats_of turn.now) told
-        (record {
-          tree = F.tree folder.old;
-          contents = F.contents folder.old;
-          given = F.given folder.old;
-          entries = F.entries folder.old;
-          opened = F.opened folder.old;
-          returned = F.returned folder.old;
-          entry_faults = F.entry_faults folder.old;
-          file_faults = F.file_faults folder.old;
-        })
+        → ScansSoFar (start_of turn.now seat.old) (passes_of seat.old) (seats_of turn.now) told (F.told folder.old)
         before (seen_by seat.old) counts.old.accepted counts.old.refused
-        → ScansSoFar (start_of turn.now seat.old) (passes_of seat.old) (seats_of turn.now) told
-        (record {
-          tree = F.tree folder.new;
-          contents = F.contents folder.new;
-          given = F.given folder.new;
-          entries = F.entries folder.new;
-          opened = F.opened folder.new;
-          returned = F.returned folder.new;
-          entry_faults = F.entry_faults folder.new;
-          file_faults = F.file_faults folder.new;
-        })
+        → ScansSoFar (start_of turn.now seat.old) (passes_of seat.old) (seats_of turn.now) told (F.told folder.new)
         before (seen_by seat.new) counts.new.accepted counts.new.refused }
+    ensures own { (before : List Command) → AddsScans before (own_by seat.old) → AddsScans before (own_by seat.new) }
     ensures some { 1 ≤ counts.new.accepted + counts.new.refused + counts.new.memory }
 {
     let scanned = scan_once(rt, alloc, turn, seat, folder, clock, last);
     counts.count(scanned);
 }
 
-/// What is answered at the end.
+/// Returns what is answered at the end.
 fn ended<F>(folder: F, seat: Seat<Served>, counts: Counts) -> Scanned<F>
     ensures { result ≡ record {
       folder = folder;
@@ -240,7 +183,7 @@ fn ended<F>(folder: F, seat: Seat<Served>, counts: Counts) -> Scanned<F>
     }
 }
 
-/// Waits until the next scan is due, and looks at the server in the meantime. Whether it was stopped.
+/// Waits until the next scan is due, and looks at the server in the meantime. Returns whether the server was stopped.
 fn wait_for_scan<R: Wait, T: Clock>(
     rt: &R,
     turn: &Turn<Served>,
@@ -252,6 +195,7 @@ fn wait_for_scan<R: Wait, T: Clock>(
     ensures seat { IsSeatOf turn.now seat.new }
     ensures passes { passes_of seat.new ≡ passes_of seat.old }
     ensures begun { Extends (seen_by seat.new) (seen_by seat.old) }
+    ensures own { own_by seat.new ≡ own_by seat.old }
     ensures alone { passes_of seat.old ≡ seats_of turn.now → seen_by seat.new ≡ seen_by seat.old }
     ensures stopped { IsTrue result → IsTrue (is_stopped (seen_by seat.new)) }
 {

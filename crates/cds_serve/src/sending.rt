@@ -16,14 +16,14 @@ use cds_notify::write_notify;
 use cds_server::{FirstNote, Notes};
 use std::alloc::Global;
 
-/// How many bytes of a subscriber's reply to a note are taken.
+/// The limit, in bytes, of what is taken of a subscriber's reply to a note.
 const NOTE_LIMIT: usize = 16_384;
 
-/// Sends a note with this body. One that the link refuses is lost; for want of memory it is not sent.
+/// Sends a note with this body. A note that the link refuses is lost. If memory runs out, it is not sent.
 fn send_note<L: Link>(alloc: Global, link: &mut L, to: &Address, body: &[u8]) -> Result<(), Mem>
     requires delivered { IsDelivered to.now }
-    ensures given { GivesAll result (note_request body.now to.now ∷ []) (L.requests link.old) (L.requests link.new) }
-    ensures never_falls { L.faults link.old ≤ L.faults link.new }
+    ensures given { GivesAll result (note_request body.now to.now ∷ []) (L.told link.old).requests (L.told link.new).requests }
+    ensures never_falls { (L.told link.old).faults ≤ (L.told link.new).faults }
 {
     let mut request = Vec::new(alloc);
     write_notify(alloc, to, body, &mut request)?;
@@ -31,7 +31,7 @@ fn send_note<L: Link>(alloc: Global, link: &mut L, to: &Address, body: &[u8]) ->
     sent(&exchanged)
 }
 
-/// Whether a request went out, by what came of it.
+/// Returns `Ok` if a request went out, by what came of it.
 fn sent(exchanged: &Result<Vec<u8>, LinkFault>) -> Result<(), Mem>
     ensures { (request : LinkRequest) (before after : Option (List LinkRequest))
         → Told before (λ list. after ≡ Some (requests_after exchanged.now request list)) → GivesAll result (request ∷ []) before after }
@@ -42,7 +42,7 @@ fn sent(exchanged: &Result<Vec<u8>, LinkFault>) -> Result<(), Mem>
     }
 }
 
-/// Whether one went out where the link failed: for want of memory it did not.
+/// Returns `Ok` if a request counts as sent although the link failed. It does, except when memory ran out.
 fn lost(fault: LinkFault) -> Result<(), Mem>
     ensures { (request : LinkRequest) (before after : Option (List LinkRequest))
         → GivesEach (sent_despite fault request) before after → GivesAll result (request ∷ []) before after }
@@ -54,16 +54,16 @@ fn lost(fault: LinkFault) -> Result<(), Mem>
     }
 }
 
-/// Sends the first note of a subscription, where there is one.
+/// Sends the first note of a subscription, if there is one.
 pub(crate) fn send_first<L: Link>(
     alloc: Global,
     link: &mut L,
     note: &Option<FirstNote>,
 ) -> Result<(), Mem>
     requires delivered { GoesOut note.now }
-    ensures given { GivesAll result (first_requests note.now) (L.requests link.old) (L.requests link.new) }
+    ensures given { GivesAll result (first_requests note.now) (L.told link.old).requests (L.told link.new).requests }
     ensures noted { IsErr result → IsSome note.now }
-    ensures never_falls { L.faults link.old ≤ L.faults link.new }
+    ensures never_falls { (L.told link.old).faults ≤ (L.told link.new).faults }
 {
     match note {
         Some(note) => send_note(alloc, link, &note.to, note.body.as_slice()),
@@ -71,16 +71,16 @@ pub(crate) fn send_first<L: Link>(
     }
 }
 
-/// Sends the notes of a release, where there is one, in their order. For want of memory a front of them is sent, not all.
+/// Sends the notes of a release, if there is one, in their order. If memory runs out, a prefix of them is sent, never all.
 pub(crate) fn send_notes<L: Link>(
     alloc: Global,
     link: &mut L,
     notes: &Option<Notes>,
 ) -> Result<(), Mem>
     requires delivered { IfSome notes.now AllGoOut }
-    ensures given { IfOk result (λ _. GivesEach (release_requests notes.now) (L.requests link.old) (L.requests link.new)) }
-    ensures front { OnErr result (GivesFront (release_requests notes.now) (L.requests link.old) (L.requests link.new)) }
-    ensures never_falls { L.faults link.old ≤ L.faults link.new }
+    ensures given { IfOk result (λ _. GivesEach (release_requests notes.now) (L.told link.old).requests (L.told link.new).requests) }
+    ensures front { OnErr result (GivesFront (release_requests notes.now) (L.told link.old).requests (L.told link.new).requests) }
+    ensures never_falls { (L.told link.old).faults ≤ (L.told link.new).faults }
 {
     match notes {
         Some(notes) => send_each(alloc, link, notes.to.as_slice(), notes.body.as_slice()),
@@ -91,9 +91,9 @@ pub(crate) fn send_notes<L: Link>(
 /// Sends a note with this body to each address, in their order.
 fn send_each<L: Link>(alloc: Global, link: &mut L, to: &[Address], body: &[u8]) -> Result<(), Mem>
     requires delivered { AllByRecursion IsDelivered to.now }
-    ensures given { IfOk result (λ _. GivesEach (map (note_request body.now) to.now) (L.requests link.old) (L.requests link.new)) }
-    ensures front { OnErr result (GivesFront (map (note_request body.now) to.now) (L.requests link.old) (L.requests link.new)) }
-    ensures never_falls { L.faults link.old ≤ L.faults link.new }
+    ensures given { IfOk result (λ _. GivesEach (map (note_request body.now) to.now) (L.told link.old).requests (L.told link.new).requests) }
+    ensures front { OnErr result (GivesFront (map (note_request body.now) to.now) (L.told link.old).requests (L.told link.new).requests) }
+    ensures never_falls { (L.told link.old).faults ≤ (L.told link.new).faults }
 {
     'notes: for address in to {
         send_note(alloc, link, address, body)?;

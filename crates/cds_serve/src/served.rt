@@ -18,8 +18,8 @@ use std::alloc::Global;
 use std::marker::Model;
 use std::snapshot::Snapshot;
 
-/// What a server is opened with, which no command changes: two boot words, of which its names are made, and its first
-/// number.
+/// What a server is opened with; no command changes it. It has two boot words, of which the server's names are made, and the
+/// first number.
 #[derive(Drop)]
 pub struct Opening {
     pub boot: [u64; 2],
@@ -35,7 +35,7 @@ impl Model for Opening {
     ghost view = { λ o. record { high = slice_index o.boot 0; low = slice_index o.boot 1; first = o.first } };
 }
 
-/// One command that a server accepted. No value of it is made: contracts alone speak of commands.
+/// One command that a server accepted. No value of it is made: only contracts speak of commands.
 pub struct ServerCommand {}
 
 impl Model for ServerCommand {
@@ -75,7 +75,7 @@ impl StandsFor for Served {
 }
 
 impl Served {
-    /// A server before any command, opened with two boot words and its first number.
+    /// Makes a server before any command, opened with two boot words and its first number.
     pub fn new(alloc: Global, boot: [u64; 2], first: u32) -> Result<Served, Mem>
         ensures start { IfOk result (λ served. served.start ≡ record { high = slice_index boot 0; low = slice_index boot 1; first = first }) }
         ensures stands { IfOk result (λ served. Stands served served.start []) }
@@ -88,7 +88,7 @@ impl Served {
         })
     }
 
-    /// The server.
+    /// Returns the server.
     pub fn server(&self) -> &Server
         ensures { result.now ≡ self.now.server }
     {
@@ -116,7 +116,7 @@ impl Served {
         self.server.handle(alloc, now, message, out)
     }
 
-    /// Has it take what a scan found, as `Server::accept_scan` says.
+    /// Has the server take what a scan found, as `Server::accept_scan` says.
     pub(crate) fn accept_scan(
         &mut self,
         alloc: Global,
@@ -132,7 +132,7 @@ impl Served {
         self.server.accept_scan(alloc, now, scan)
     }
 
-    /// Has it tick, as `Server::tick` says.
+    /// Has the server tick, as `Server::tick` says.
     pub(crate) fn tick(&mut self, alloc: Global, now: u64) -> Result<Option<Notes>, Mem>
         ensures stands { (start : Start) (found : List Command) → Stands self.old start found
             → OnOk result (Stands self.new start (Ticks now ∷ found)) }
@@ -144,14 +144,14 @@ impl Served {
         self.server.tick(alloc, now)
     }
 
-    /// Tells it to stop.
+    /// Tells the server to stop.
     pub(crate) fn stop(&mut self)
         ensures { (start : Start) (found : List Command) → Stands self.old start found → Stands self.new start (Stops ∷ found) }
     {
         self.server.stop();
     }
 
-    /// Whether it was told to stop.
+    /// Returns whether the server was told to stop.
     pub fn stopped(&self) -> bool
         ensures { (start : Start) (found : List Command) → Stands self.now start found → result ≡ is_stopped found }
     {

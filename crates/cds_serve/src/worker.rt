@@ -1,8 +1,9 @@
-//! The job of a worker.
+//! The job of a worker, which serves connections.
 
+ghost use Rattle.std.specs.Prelude.{◌≡◌};
 ghost use Rattle.std.specs.Arc.{arc_value};
-ghost use Rattle.cds_turn.specs.Turn.{IsSeatOf};
-ghost use Rattle.cds_serve.specs.Jobs.{EndsWorking};
+ghost use Rattle.cds_turn.specs.Turn.{IsSeatOf, own_by, passes_of};
+ghost use Rattle.cds_serve.specs.Jobs.{AddsAnswers, EndsWorking};
 
 use crate::connection::serve_one;
 use crate::served::Served;
@@ -12,8 +13,8 @@ use std::alloc::Global;
 use std::marker::Send;
 use std::sync::{Arc, Wait};
 
-/// Serves a share of the connections of a door, one after another, over a server that others share. It ends before its share
-/// is served where the door fails.
+/// Serves a share of the connections of a door, one after another, over a server that others share. If the door fails, it ends
+/// before its share is served.
 #[derive(Drop)]
 pub struct Worker<R, D, T, L, G> {
     pub rt: R,
@@ -33,8 +34,8 @@ pub struct Worker<R, D, T, L, G> {
 #[derive(Drop)]
 pub struct Worked<D> {
     pub door: D,
-    /// How many connections its door gave, each of which it was to serve. They are fewer than its share only where the door
-    /// failed.
+    pub seat: Seat<Served>,
+    /// How many connections its door gave; it was to serve each of them. They are fewer than its share only if the door failed.
     pub served: u32,
 }
 
@@ -47,9 +48,10 @@ impl<
 > Job for Worker<R, D, T, L, G> {
     type Out = Worked<D>;
 
-    ghost answers = { λ worker worked. EndsWorking worker.share worked.served
-        (record { connections = D.connections worker.door; faults = D.faults worker.door })
-        (record { connections = D.connections worked.door; faults = D.faults worked.door }) };
+    ghost answers = { λ worker worked. IsSeatOf (arc_value worker.turn) worked.seat
+        × (passes_of worked.seat ≡ passes_of worker.seat)
+        × AddsAnswers (own_by worker.seat) (own_by worked.seat)
+        × EndsWorking worker.share worked.served (D.told worker.door) (D.told worked.door) };
 
     fn run(self) -> Worked<D> {
         let Worker {
@@ -69,14 +71,13 @@ impl<
         drop(gate);
         drop(link);
         drop(clock);
-        drop(seat);
         drop(turn);
         drop(rt);
-        Worked { door, served }
+        Worked { door, seat, served }
     }
 }
 
-/// Serves so many connections of a door, or fewer where it fails. How many it served.
+/// Serves this many connections of a door, or fewer if it fails. Returns how many it served.
 fn serve_share<R: Wait, D: Door, T: Clock, L: Link, G: Gate>(
     rt: &R,
     alloc: Global,
@@ -89,9 +90,10 @@ fn serve_share<R: Wait, D: Door, T: Clock, L: Link, G: Gate>(
     share: u32,
 ) -> u32
     requires { IsSeatOf turn.now seat.old }
-    ensures { EndsWorking share result
-        (record { connections = D.connections door.old; faults = D.faults door.old })
-        (record { connections = D.connections door.new; faults = D.faults door.new }) }
+    ensures seat { IsSeatOf turn.now seat.new }
+    ensures passes { passes_of seat.new ≡ passes_of seat.old }
+    ensures own { AddsAnswers (own_by seat.old) (own_by seat.new) }
+    ensures ends { EndsWorking share result (D.told door.old) (D.told door.new) }
 {
     let mut last = 0;
     let mut served = 0;

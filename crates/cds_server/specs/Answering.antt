@@ -17,7 +17,7 @@ use Rattle.cds_browse.specs.declared.error.BrowseError.TheVariants.{InvalidArgs,
 use Rattle.cds_browse.specs.declared.page.Page.{Page}
 use Rattle.cds_server.specs.Published.{Published}
 
--- where the bytes of tracks are, for whoever asks at a host
+-- the base of the URLs of tracks, for a client that asks at this host
 abbrev pub base_of : List ℕ → List ℕ
 base_of host = codes "http://" ++ host
 
@@ -25,7 +25,7 @@ base_of host = codes "http://" ++ host
 abbrev pub rows_with : List ℕ → List ObjectRow → List ObjectRow
 rows_with ids rows = filter_map (λ id. row_of id rows) ids
 
--- the code of a refusal of Browse; want of memory is none that is owed
+-- the code of a refusal of Browse; `Mem` is never an answer that is owed
 abbrev pub code_of : BrowseError → ℕ
 code_of InvalidArgs = 402
 code_of NoObject = 701
@@ -33,8 +33,8 @@ code_of NoContainer = 710
 code_of (BadSort at) = 709
 code_of Mem = 603
 
--- Browse: a DIDL-Lite document of the page's rows with what the filter lets through, how many they are, how many match, and the
--- update number
+-- Browse: a DIDL-Lite document of the page's rows with what the filter lets through, how many rows it has, how many match, and
+-- the update number
 abbrev pub page_answer : List ℕ → List ℕ → List ObjectRow → Result Page BrowseError → Answer
 page_answer filter host rows (Ok page) =
     answer.Page (didl_text (filter_of filter) (base_of host) (rows_with page.ids rows)) (length page.ids) page.total page.update
@@ -43,7 +43,7 @@ page_answer filter host rows (Err refusal) = answer.Fault (code_of refusal)
 abbrev pub browsed : Published → List ℕ → BrowseRequest → Answer
 browsed published host asked = page_answer asked.filter host published.rows (browse_answer published.number published.rows asked)
 
--- Search and the capabilities, which are not built yet, are no actions
+-- Search and the two requests for capabilities are not built yet, so they are no actions.
 abbrev pub answer_to : Published → List ℕ → Action → Answer
 answer_to published host (action.Browse asked) = browsed published host asked
 answer_to published host (action.Search asked) = answer.Fault 401

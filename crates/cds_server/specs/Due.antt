@@ -14,7 +14,7 @@ use Rattle.cds_moderator.specs.Moderating.{span_of}
 use Rattle.cds_notify.specs.Propertyset.{propertyset_text}
 use Rattle.cds_server.specs.declared.notes.Notes.{Notes}
 
--- where a note goes: to the callback of its subscription, under its name and its SEQ
+-- the address of a note: the callback of its subscription, its name and its SEQ
 abbrev pub address_to : Start → List Command → Note → Address
 address_to start commands note = record {
   sid = record { 0 = name_of start note.name };
@@ -28,7 +28,7 @@ body_of start commands release =
     propertyset_text release.to (released_containers (scans_of start.first commands) release)
     (events_between (scans_of start.first commands) release.from release.to)
 
--- the notes of a release: its span, their body, and where each note goes that the tick sends, in order
+-- the notes of a release: its span, their body, and the address of each note that the tick sends, in order
 abbrev pub notes_at : Start → List Command → ℕ → Release → Notes
 notes_at start commands now release = record {
   span = span_of release;
@@ -36,11 +36,11 @@ notes_at start commands now release = record {
   to = map (address_to start commands) (sent_by start.first commands (notes_of start.first commands) (Ticks now));
 }
 
--- none exactly where no release comes
+-- none exactly if no release comes
 abbrev pub due : Start → List Command → ℕ → Option Notes
 due start commands now =
     option_map (notes_at start commands now) (release_at now (scans_of start.first commands) (releases_of start.first commands))
 
--- each note can be delivered where it goes
+-- each note can be delivered to its address
 abbrev pub AllGoOut : Notes → Type 0
 AllGoOut notes = AllByRecursion IsDelivered notes.to

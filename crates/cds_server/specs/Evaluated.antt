@@ -1,4 +1,4 @@
--- Where small messages go, and what actions are answered over a small library, evaluated from the definitions.
+-- Small messages and their routes, and actions and their answers over a small library, evaluated from the definitions.
 use Rattle.std.specs.Prelude.{◌≡◌, ℕ, List, [], ◌∷◌, ◌++◌, false, codes, length, Some, None, Result, Ok, Err}
 use Rattle.http_header.specs.FieldValue.{FieldValue, plain_value}
 use Rattle.http_header.specs.HeaderMap.{Entries}
@@ -35,8 +35,8 @@ at_host host = field_named (codes "host") host
 abbrev posted : List ℕ → Start
 posted target = Request (codes "POST") target
 
--- the target comes first, then the method, then HOST, of which the first one counts; a target with a query, or with another host's
--- form round it, is another one
+-- The target comes first, then the method, then HOST, of which the first value counts. A target is another one if it has a query
+-- or another host's form round it.
 abbrev pub RequestsAreRouted : Type 0
 RequestsAreRouted =
     (route_by (posted (codes "/control")) (at_host (codes "10.0.0.1:49152")) ≡ Goes (Controls (codes "10.0.0.1:49152")))
@@ -79,7 +79,7 @@ asked object flag start count sort = answer_to scanned (codes "h") (action.Brows
   sort = sort;
 }))
 
--- the rows of a page, how many match, and the update number
+-- the number of rows of a page, how many match, and the update number
 abbrev numbers : Answer → List ℕ
 numbers (answer.Page result returned total update) = returned ∷ total ∷ update ∷ []
 numbers (answer.Number number) = number ∷ []
@@ -92,7 +92,7 @@ children = codes "BrowseDirectChildren"
 abbrev itself : List ℕ
 itself = codes "BrowseMetadata"
 
--- the document of that track, with where its bytes are for who asks at `h`
+-- the document of that track, with the URL of its bytes for a client that asks at `h`
 abbrev pub track_document : List ℕ
 track_document =
     codes "<DIDL-Lite xmlns=\"urn:schemas-upnp-org:metadata-1-0/DIDL-Lite/\""
@@ -130,7 +130,7 @@ ActionsAreAnswered =
 
 -- ---- subscriptions
 
--- one that was granted, and the same behind a scan with one track
+-- one subscription that was granted, and the same after a scan with one track
 abbrev subscribed : List Command
 subscribed = Grants 0 (codes "http://h/") 1800 ∷ []
 
@@ -146,7 +146,7 @@ renewal number = Ok (Renew (record { 0 = name_of beginning number }) 1800)
 abbrev giving_up : ℕ → Result Gena GenaError
 giving_up number = Ok (Unsubscribe (record { 0 = name_of beginning number }))
 
--- refusals; a subscription lives until its end, and then another one has its room; and what a release sends
+-- refusals; a subscription that lives until its end, and one that then takes its room; and what a release sends
 abbrev pub SubscriptionsAreAnswered : Type 0
 SubscriptionsAreAnswered =
     (comes 0 [] (Err Incompatible) ≡ Refused 400)

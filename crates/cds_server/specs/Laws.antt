@@ -38,24 +38,25 @@ use Rattle.cds_server.specs.Due.{body_of}
 use Rattle.cds_server.specs.Outcome.{empty_reply}
 use Rattle.cds_server.specs.Replies.{fault_reply, IsReply, command_at}
 
--- a text is a reply of a status
+-- A text is a reply of a status.
 pub record HasStatus (status : ℕ) (text : List ℕ) : Type 0 where
   pub fields : List Field
   pub body : List ℕ
   pub written : text ≡ written_reply status fields body
 
--- a message has one reply, at each moment and after each list of commands
+-- A message has one reply, at each moment and after each list of commands.
 abbrev pub one_reply : Type 0
 one_reply = (start : Start) (commands : List Command) (now : ℕ) (m : Message) (one other : List ℕ) →
     IsReply start commands now m one → IsReply start commands now m other → one ≡ other
 
--- a control request that asks for an action is answered with the answer to it, in the version that was asked, and with nothing else
+-- A control request that asks for an action gets the answer to it, in the version that was asked, and nothing else.
 abbrev pub what_is_asked_is_answered : Type 0
 what_is_asked_is_answered = (start : Start) (commands : List Command) (now : ℕ) (m : Message) (host : List ℕ) (asked : Asked) (text : List ℕ) →
     route m ≡ Goes (Controls host) → AnswersAsk m (Ok asked) →
     IsReply start commands now m text ↔ (text ≡ written_answer asked.action asked.version (answer_to (published_by start commands) host asked.action) None)
 
--- the checks of an action that is built pass: those of Browse, and there are none of the two others
+-- The checks of an action pass. Browse has checks, and the two other actions that are built have none. Actions that are not built
+-- never pass.
 abbrev pub Passes : Published → Action → Type 0
 Passes published (action.Browse asked) = IsOk (browse_answer published.number published.rows asked)
 Passes published (action.Search asked) = ⊥
@@ -64,7 +65,7 @@ Passes published action.GetServiceResetToken = ⊤
 Passes published action.GetSearchCapabilities = ⊥
 Passes published action.GetSortCapabilities = ⊥
 
--- a control request whose checks all pass is answered with status 200
+-- A control request whose checks all pass is answered with status 200.
 abbrev pub passed_checks_get_200 : Type 0
 passed_checks_get_200 = (start : Start) (commands : List Command) (now : ℕ) (m : Message) (host : List ℕ) (asked : Action) (version : ℕ) (text : List ℕ) →
     route m ≡ Goes (Controls host) → Control m asked version → Passes (published_by start commands) asked → IsReply start commands now m text →
@@ -72,14 +73,14 @@ passed_checks_get_200 = (start : Start) (commands : List Command) (now : ℕ) (m
 
 -- ---- why a message gets a status
 
--- it asks for control; its HOST is in its form
+-- The message asks for control; its HOST is in its form.
 abbrev pub AsksControl : Message → Type 0
 AsksControl m = m.start ≡ Request (codes "POST") (codes "/control")
 
 abbrev pub IsAt : Message → List ℕ → Type 0
 IsAt m host = (field_of (codes "host") m.fields ≡ Some host) × IsTrue (is_host host)
 
--- 404: it goes to another target. 405: to that of control, or of events, by another method
+-- 404: the message goes to another target. 405: it goes to the target of control or of events, by another method.
 abbrev pub GoesElsewhere : Message → Type 0
 GoesElsewhere m =
     (method : List ℕ) × (target : List ℕ) × (m.start ≡ Request method target) × (target ≢ codes "/control") × (target ≢ codes "/event")
@@ -88,14 +89,14 @@ abbrev pub GoesOtherwise : Message → Type 0
 GoesOtherwise m = (method : List ℕ) × (((m.start ≡ Request method (codes "/control")) × (method ≢ codes "POST"))
     ⊎ ((m.start ≡ Request method (codes "/event")) × (method ≢ codes "SUBSCRIBE") × (method ≢ codes "UNSUBSCRIBE")))
 
--- 400: it is no request; or it asks for control without a HOST in its form, or with a body that is no document
+-- 400: the message is no request. Or it asks for control without a HOST in its form, or with a body that is no document.
 abbrev pub IsNoRequest : Message → Type 0
 IsNoRequest m = (status : ℕ) × (m.start ≡ Reply status)
 
 abbrev pub IsBad : Message → Type 0
 IsBad m = IsNoRequest m ⊎ (AsksControl m × (((host : List ℕ) → ¬ (IsAt m host)) ⊎ ((refusal : MarkupError) × IsRefused m.body refusal)))
 
--- 401: it names no action, or one that is not built
+-- 401: the message names no action, or one that is not built.
 abbrev pub IsNotBuilt : Action → Type 0
 IsNotBuilt (action.Browse asked) = ⊥
 IsNotBuilt (action.Search asked) = ⊤
@@ -107,17 +108,17 @@ IsNotBuilt action.GetSortCapabilities = ⊤
 abbrev pub NamesNoAction : Message → Type 0
 NamesNoAction m = NamesNone m ⊎ ((asked : Action) × (version : ℕ) × Control m asked version × IsNotBuilt asked)
 
--- a code of Browse: it asks what is refused so
+-- a code of Browse: the message asks for what Browse refuses in this way
 abbrev pub IsRefusedBy : Published → Message → BrowseError → Type 0
 IsRefusedBy published m refusal =
     (asked : BrowseRequest) × (version : ℕ) × Control m (action.Browse asked) version
     × (browse_answer published.number published.rows asked ≡ Err refusal)
 
--- 200: it asks for an action whose checks pass
+-- 200: the message asks for an action whose checks pass.
 abbrev pub IsAnswered : Published → Message → Type 0
 IsAnswered published m = (asked : Action) × (version : ℕ) × Control m asked version × Passes published asked
 
--- what comes of a control request, once its HOST was looked at
+-- what comes of a control request whose HOST is in its form
 abbrev pub HasCause : Published → Message → List ℕ → Type 0
 HasCause published m text =
     ((text ≡ fault_reply 401) × NamesNoAction m) ⊎ ((text ≡ fault_reply 402) × GivesNone m)
@@ -126,12 +127,12 @@ HasCause published m text =
 
 -- ---- why a request about a subscription gets its status
 
--- it asks of a subscription, at the target of events
+-- The message asks about a subscription, at the target of events.
 abbrev pub AsksOfSubscription : Message → Type 0
 AsksOfSubscription m =
     (method : List ℕ) × (m.start ≡ Request method (codes "/event")) × ((method ≡ codes "SUBSCRIBE") ⊎ (method ≡ codes "UNSUBSCRIBE"))
 
--- 412: a field is missing or not in its form, or no subscription of the name lives; a name is that of a number
+-- 412: a field is missing or not in its form, or no subscription of the name lives. A name is that of a number.
 abbrev pub LivesNone : Start → List Command → ℕ → ℕ → Type 0
 LivesNone start commands now name =
     (number : ℕ) → number ≤ last_number → name ≡ name_of start number → lives_at start.first now commands number ≡ true → ⊥
@@ -140,12 +141,12 @@ abbrev pub NamesNoneLiving : Start → List Command → ℕ → Message → Type
 NamesNoneLiving start commands now m = (sid : Sid) × LivesNone start commands now sid.0
     × (((seconds : ℕ) × (gena_of m ≡ Ok (Renew sid seconds))) ⊎ (gena_of m ≡ Ok (Unsubscribe sid)))
 
--- 503: it asks for a new subscription, and no number is left, or as many live as may
+-- 503: the message asks for a new subscription, and no number is left, or as many live as may.
 abbrev pub FindsNoRoom : Start → List Command → ℕ → Message → Type 0
 FindsNoRoom start commands now m = ((url : Parts) × (seconds : ℕ) × (gena_of m ≡ Ok (Subscribe url seconds)))
     × ((granted commands ≡ last_number) ⊎ (subscription_limit ≤ length (alive_names now commands (notes_of start.first commands))))
 
--- 200: it is accepted
+-- 200: the request is accepted.
 abbrev pub IsAccepted : Start → List Command → ℕ → Message → Type 0
 IsAccepted start commands now m = IsSome (command_at start commands now m)
 
@@ -156,13 +157,13 @@ HasEventCause start commands now m text =
     ⊎ ((text ≡ empty_reply 503) × FindsNoRoom start commands now m)
     ⊎ (HasStatus 200 text × IsAccepted start commands now m)
 
--- where moments never fall, what is accepted is served: a subscription is granted where there is room, and renewed where it lives, so
--- that at most 64 live
+-- If moments never fall, what is accepted is served: a subscription is granted if there is room, and renewed if it lives. So at
+-- most 64 live.
 abbrev pub accepted_are_served : Type 0
 accepted_are_served = (start : Start) (older : List Command) (before now : ℕ) (m : Message) (command : Command) →
     Served start.first before older → before ≤ now → command_at start older now m ≡ Some command → Served start.first now (command ∷ older)
 
--- each reply has its status for its cause, and no message is answered otherwise
+-- Each reply has its status for its cause, and no message is answered otherwise.
 abbrev pub replies_have_causes : Type 0
 replies_have_causes = (start : Start) (commands : List Command) (now : ℕ) (m : Message) (text : List ℕ) → IsReply start commands now m text →
     ((text ≡ empty_reply 404) × GoesElsewhere m) ⊎ ((text ≡ empty_reply 405) × GoesOtherwise m) ⊎ ((text ≡ empty_reply 400) × IsBad m)
@@ -171,15 +172,15 @@ replies_have_causes = (start : Start) (commands : List Command) (now : ℕ) (m :
 
 -- ---- what is told
 
--- each note that a tick sends has the number and the changes that the one body of its notes tells
+-- Each note that a tick sends has the number and the changes that the one body of its notes tells.
 abbrev pub notes_are_sent : Type 0
 notes_are_sent = (start : Start) (commands : List Command) (now : ℕ) (release : Release) →
     release_at now (scans_of start.first commands) (releases_of start.first commands) ≡ Some release →
     AllByRecursion (λ (note : Note). (note.number ≡ release.to) × (note.events ≡ events_between (scans_of start.first commands) release.from release.to))
     (sent_by start.first commands (notes_of start.first commands) (Ticks now))
 
--- the body of the notes of a release has fewer than 66,000,000 bytes: at most 188 for each change, 76 for each end of a subtree
--- update, of which there is at most one for two changes, and 22 for each container that stands
+-- The body of the notes of a release has fewer than 66,000,000 bytes. Each change takes at most 188, each end of a subtree update
+-- 76, and each container that stands 22. Two changes have at most one end of a subtree update.
 abbrev pub bodies_are_short : Type 0
 bodies_are_short = (start : Start) (commands : List Command) (now : ℕ) (release : Release) → AreAccepted start.first commands →
     release_at now (scans_of start.first commands) (releases_of start.first commands) ≡ Some release →
@@ -187,7 +188,8 @@ bodies_are_short = (start : Start) (commands : List Command) (now : ℕ) (releas
 
 -- ---- the rows of a page
 
--- among rows in ascending order of ids, those that are written of the ids of a slice of those that match are the slice
+-- The rows are in ascending order of ids, and a slice of those that match is taken. The rows written for the ids of the slice are
+-- the slice.
 abbrev pub pages_have_their_rows : Type 0
 pages_have_their_rows = (rows : List ObjectRow) (matches : ObjectRow → Bool) (start count : ℕ) → IdsAscend rows →
     rows_with (map (λ (r : ObjectRow). r.id) (take count (drop start (filter matches rows)))) rows ≡ take count (drop start (filter matches rows))

@@ -1,5 +1,5 @@
--- What comes of a request about a subscription, by the commands that a server accepted (UPnP Device Architecture 2.0 on SUBSCRIBE and
--- UNSUBSCRIBE; which statuses come first is this project's profile).
+-- What comes of a request about a subscription, by the commands that a server accepted (UPnP Device Architecture 2.0 on SUBSCRIBE
+-- and UNSUBSCRIBE). The order of the statuses is this project's profile.
 use Rattle.std.specs.Prelude.{◌≡◌, ◌+◌, ◌++◌, ℕ, cond, nat_eq, List, [], ◌∷◌, length, codes, Option, Some, None, Result, Ok, Err, ⊤}
 use Rattle.std.specs.Fmt.{decimal}
 use Rattle.url.specs.Parts.{serialize}
@@ -22,8 +22,11 @@ use Rattle.cds_gena.specs.declared.gena.Gena.TheVariants.{Subscribe, Renew, Unsu
 use Rattle.cds_notify.specs.Propertyset.{propertyset_text}
 use Rattle.cds_server.specs.declared.notes.FirstNote.{FirstNote}
 
--- a status with which it is refused; or a subscription that is granted, with its callback and its seconds, one that is renewed, by its
--- number and for so many seconds, or one that ends
+-- What comes of a request:
+-- - `Refused`: the status of a refusal;
+-- - `Granted`: a new subscription, with its callback and its seconds;
+-- - `Renewed`: a renewed subscription, by its number, and its seconds;
+-- - `Ended`: an ended subscription, by its number
 pub data Outcome : Type 0 where
   Refused : ℕ → Outcome
   Granted : List ℕ → ℕ → Outcome
@@ -32,7 +35,7 @@ pub data Outcome : Type 0 where
 
 -- ---- what comes of it
 
--- the status of a refusal; want of memory is none that is owed
+-- the status of a refusal; `Mem` is never an answer that is owed
 abbrev pub status_of : GenaError → ℕ
 status_of Incompatible = 400
 status_of Precondition = 412
@@ -52,14 +55,15 @@ abbrev pub ending : Option ℕ → Outcome
 ending None = Refused 412
 ending (Some number) = Ended number
 
--- by what the request asks for, why no subscription is granted, where none is, and the number of each name whose subscription lives
+-- What comes of a request, by three things: why no subscription is granted (if so), the number of each name whose subscription
+-- lives, and what is asked.
 abbrev pub outcome_of : Option GenaError → (ℕ → Option ℕ) → Result Gena GenaError → Outcome
 outcome_of refusal number (Ok (Subscribe url seconds)) = granting refusal (serialize url) seconds
 outcome_of refusal number (Ok (Renew sid seconds)) = renewing (number sid.0) seconds
 outcome_of refusal number (Ok (Unsubscribe sid)) = ending (number sid.0)
 outcome_of refusal number (Err cause) = Refused (status_of cause)
 
--- none is granted where the last number was given, and then where as many live as may
+-- No subscription is granted if the last number was given. Otherwise none is granted if as many live as may.
 abbrev pub refusal_of : ℕ → ℕ → List Command → Option GenaError
 refusal_of first now commands =
     cond (nat_eq (granted commands) last_number) (Some Spent) (if_full (length (alive_names now commands (notes_of first commands))))
@@ -92,7 +96,7 @@ and_command (Some command) commands = command ∷ commands
 abbrev pub empty_reply : ℕ → List ℕ
 empty_reply status = written_reply status [] []
 
--- the reply to a SUBSCRIBE that is accepted: the name, and the seconds that are granted
+-- the reply to an accepted SUBSCRIBE: the name, and the seconds that are granted
 abbrev pub field : List ℕ → List ℕ → Field
 field name value = record { name = name; value = value }
 
@@ -102,7 +106,7 @@ lease_fields name seconds = field (codes "SID") (sid_text name) ∷ field (codes
 abbrev pub lease_reply : ℕ → ℕ → List ℕ
 lease_reply name seconds = written_reply 200 (lease_fields name seconds) []
 
--- by the name of number 0, and how many were granted before
+-- the reply, by the name of number 0 and by how many were granted before
 abbrev pub outcome_reply : ℕ → ℕ → Outcome → List ℕ
 outcome_reply names granted (Refused status) = empty_reply status
 outcome_reply names granted (Granted callback seconds) = lease_reply (names + (granted + 1)) seconds
@@ -121,7 +125,8 @@ noted name callback note = record {
   body = propertyset_text note.number [] note.events;
 }
 
--- that of a subscription that is granted, by the name of number 0, how many were granted before, and the number of the last change
+-- the first note of a granted subscription, by the name of number 0, by how many were granted before, and by the number of the
+-- last change
 abbrev pub outcome_note : ℕ → ℕ → ℕ → Outcome → Option FirstNote
 outcome_note names granted number (Refused status) = None
 outcome_note names granted number (Granted callback seconds) = Some (noted (names + (granted + 1)) callback (first_note (granted + 1) number))
@@ -148,13 +153,13 @@ done now (Granted callback seconds) book = with_subscribed book (with_grant now 
 done now (Renewed number seconds) book = with_subscribed book (renewed number (end_after now seconds) book.subscribed)
 done now (Ended number) book = with_subscribed book (without number book.subscribed)
 
--- a request is answered: by the subscriptions before it, this is appended, kept and answered
+-- A request is answered, by the subscriptions before it: this is appended, kept and answered.
 pub record IsDone (book : Booked) (number now : ℕ) (come : Outcome) (old new : List ℕ) (note : Option FirstNote) (after : Booked) : Type 0 where
   pub replied : new ≡ old ++ outcome_reply book.names book.subscribed.granted come
   pub kept : after ≡ done now come book
   pub noted : note ≡ outcome_note book.names book.subscribed.granted number come
 
--- the notes of a first note can be delivered
+-- A first note can be delivered, if there is one.
 abbrev pub GoesOut : Option FirstNote → Type 0
 GoesOut None = ⊤
 GoesOut (Some note) = IsDelivered note.to

@@ -8,7 +8,8 @@ use Rattle.cds_catalog.specs.Catalog.{catalog}
 use Rattle.cds_commands.specs.Commands.{Command, Start, scans_of}
 use Rattle.cds_commands.specs.Names.{names_of}
 
--- the reset token (UPnP ContentDirectory:4 on ServiceResetToken): name number 0 of the server, in the text of a UUID in lower case
+-- the reset token (UPnP ContentDirectory:4 on ServiceResetToken): name number 0 of the server, in the text of a UUID in lower
+-- case
 abbrev pub token_of : ℕ → List ℕ
 token_of names = hyphenated_text lower (to_be_bytes w128 names)
 
@@ -19,7 +20,7 @@ pub record Published : Type 0 where
   pub number : ℕ
   pub rows : List ObjectRow
 
--- the catalog is counted afresh over the scans
+-- The catalog is counted afresh over the scans.
 abbrev pub published_after : Start → History → Published
 published_after start history = record { token = token_of (names_of start); number = end_of history; rows = catalog history }
 

@@ -1,5 +1,5 @@
--- The one reply that a server writes to a message, by the commands that it accepted (UPnP Device Architecture 2.0 on control and on
--- eventing; UPnP ContentDirectory:4).
+-- The one reply that a server writes to a message, by the commands that it accepted (UPnP Device Architecture 2.0 on control and
+-- on eventing; UPnP ContentDirectory:4).
 use Rattle.std.specs.Prelude.{◌≡◌, ℕ, List, ◌++◌, Option, None, Result, Ok, Err}
 use Rattle.cds_http.specs.declared.message.Message.{Message}
 use Rattle.cds_http.specs.Written.{written_reply}
@@ -15,12 +15,12 @@ use Rattle.cds_server.specs.Answering.{answer_to}
 use Rattle.cds_server.specs.Outcome.{Outcome, command_of, empty_reply, event_reply, first_of, outcome}
 use Rattle.cds_server.specs.declared.notes.FirstNote.{FirstNote}
 
--- a reply with a fault, which is the same for every action and version
+-- a reply with a fault, the same for every action and version
 abbrev pub fault_reply : ℕ → List ℕ
 fault_reply code = written_reply 500 (answer_fields None) (enveloped (fault_text code))
 
--- a text replies to what was read of a control request: an action is answered in the version that was asked; a body that is no
--- document is a bad request, and what names no action, or has other arguments, is answered by a fault
+-- A text replies to what was read of a control request. An action is answered in the version that was asked. If the body is no
+-- document, the request is bad. If it names no action or has other arguments, the answer is a fault.
 abbrev pub IsReplyTo : Published → List ℕ → Result Asked SoapError → List ℕ → Type 0
 IsReplyTo published host (Ok asked) text =
     text ≡ written_answer asked.action asked.version (answer_to published host asked.action) None
@@ -30,17 +30,17 @@ IsReplyTo published host (Err InvalidArgs) text = text ≡ fault_reply 402
 IsReplyTo published host (Err NotAnswer) text = ⊥
 IsReplyTo published host (Err Mem) text = ⊥
 
--- it replies to a control request: to what the message asks
+-- The text replies to a control request: to what the message asks.
 abbrev pub IsControlReply : Published → List ℕ → Message → List ℕ → Type 0
 IsControlReply published host m text = (read : Result Asked SoapError) × AnswersAsk m read × IsReplyTo published host read text
 
--- it replies to a message that goes this way
+-- The text replies to a message that goes this way.
 abbrev pub IsReplyBy : Published → Message → Way → List ℕ → Type 0
 IsReplyBy published m (Answers status) text = text ≡ empty_reply status
 IsReplyBy published m (Controls host) text = IsControlReply published host m text
 
--- the reply to a message at a moment: to a request about a subscription what comes of it, and to any other by its way, whatever the
--- moment is
+-- The reply to a message at a moment. A request about a subscription gets what comes of it. Any other message is answered by its
+-- way, at every moment alike.
 abbrev pub IsReplyOf : Start → List Command → ℕ → Message → Route → List ℕ → Type 0
 IsReplyOf start commands now m Subscribes text = text ≡ event_reply start commands now m
 IsReplyOf start commands now m (Goes way) text = IsReplyBy (published_by start commands) m way text
@@ -48,7 +48,7 @@ IsReplyOf start commands now m (Goes way) text = IsReplyBy (published_by start c
 abbrev pub IsReply : Start → List Command → ℕ → Message → List ℕ → Type 0
 IsReply start commands now m text = IsReplyOf start commands now m (route m) text
 
--- a reply was appended
+-- A reply was appended.
 abbrev pub RepliesBy : Published → Message → Way → List ℕ → List ℕ → Type 0
 RepliesBy published m way old new = (text : List ℕ) × IsReplyBy published m way text × (new ≡ old ++ text)
 
@@ -57,7 +57,7 @@ Replied start commands now m old new = (text : List ℕ) × IsReply start comman
 
 -- ---- what is done
 
--- the command that is accepted of a message: of a request about a subscription what comes of it, and of any other none
+-- the command that is accepted of a message: what comes of a request about a subscription, none for any other message
 abbrev pub command_by : Route → ℕ → Outcome → Option Command
 command_by Subscribes now come = command_of now come
 command_by (Goes way) now come = None
@@ -65,7 +65,7 @@ command_by (Goes way) now come = None
 abbrev pub command_at : Start → List Command → ℕ → Message → Option Command
 command_at start commands now m = command_by (route m) now (outcome start commands now m)
 
--- the first note, which goes with a subscription that is granted alone
+-- the first note; only a request about a subscription can have one
 abbrev pub note_by : Route → Option FirstNote → Option FirstNote
 note_by Subscribes first = first
 note_by (Goes way) first = None

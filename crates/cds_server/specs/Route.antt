@@ -1,5 +1,5 @@
--- Where a message goes, by its target, its method and its HOST, in this order; and with which status it is answered where it goes
--- nowhere (RFC 9110 on the statuses 400, 404 and 405; UPnP Device Architecture 2.0 on the URLs of control and of eventing).
+-- The way of a message, by its target, its method and its HOST, in this order. A message that goes nowhere is answered with a
+-- status (RFC 9110 on the statuses 400, 404 and 405; UPnP Device Architecture 2.0 on the URLs of control and of eventing).
 use Rattle.std.specs.Prelude.{ℕ, Bool, false, ◌&&◌, List, codes, bytes_eq, Option, Some, None, if◌then◌else◌}
 use Rattle.http_header.specs.HeaderMap.{Entries}
 use Rattle.http_header.specs.FieldValue.{FieldValue}
@@ -9,35 +9,35 @@ use Rattle.cds_http.specs.declared.message.Message.{Message}
 use Rattle.cds_gena.specs.Asked.{asks_of_subscription, field_of}
 use Rattle.cds_soap.specs.Laws.{is_host}
 
--- an answer of a status without a body; or control, at a host
+-- an answer of a status without a body, or control at a host
 pub data Way : Type 0 where
   Answers : ℕ → Way
   Controls : List ℕ → Way
 
--- a message asks of a subscription, or goes one of these ways
+-- A message asks about a subscription, or goes one of these ways.
 pub data Route : Type 0 where
   Subscribes : Route
   Goes : Way → Route
 
--- control needs a HOST in its form: the first one counts
+-- Control needs a HOST in its form; the first one counts.
 abbrev pub control_at : Option (List ℕ) → Way
 control_at None = Answers 400
 control_at (Some host) = if is_host host then Controls host else Answers 400
 
--- control is asked for by POST
+-- Control is asked for by POST.
 abbrev pub control_by : List ℕ → Entries FieldValue → Way
 control_by method fields = if bytes_eq method (codes "POST") then control_at (field_of (codes "host") fields) else Answers 405
 
--- the target of events takes no other method than those of subscriptions, and there is no other target
+-- The target of events takes no other method than those of subscriptions. There is no other target.
 abbrev pub status_elsewhere : List ℕ → ℕ
 status_elsewhere target = if bytes_eq target (codes "/event") then 405 else 404
 
--- the target is compared whole, with what stands behind a `?`
+-- The target is compared whole, with a `?` and all that follows it.
 abbrev pub request_to : List ℕ → List ℕ → Entries FieldValue → Way
 request_to method target fields =
     if bytes_eq target (codes "/control") then control_by method fields else Answers (status_elsewhere target)
 
--- a message that is no request is a bad one
+-- A message that is no request is a bad one.
 abbrev pub way_by : Start → Entries FieldValue → Way
 way_by (Request method target) fields = request_to method target fields
 way_by (Reply status) fields = Answers 400
@@ -47,7 +47,7 @@ abbrev pub goes_to : List ℕ → Start → Bool
 goes_to name (Request method target) = bytes_eq target name
 goes_to name (Reply status) = false
 
--- subscriptions are asked for at the target of events, by SUBSCRIBE and UNSUBSCRIBE
+-- Subscriptions are asked for at the target of events, by SUBSCRIBE and UNSUBSCRIBE.
 abbrev pub asks_events : Start → Bool
 asks_events start = goes_to (codes "/event") start && asks_of_subscription start
 

@@ -16,17 +16,17 @@ use Rattle.cds_gena.specs.Subscribed.{Booked, StandsFor as BookStandsFor}
 use Rattle.cds_moderator.specs.Moderating.{Moderated, moderated_by, scan_size}
 use Rattle.cds_server.specs.Published.{Published, token_of}
 
--- the catalog with the changes that are not released yet, the subscriptions with the name of number 0, what waits for its release, and
--- whether it was told to stop
+-- What a server keeps: the catalog with the changes that are not released yet; the subscriptions, with the name of number 0; what
+-- waits for its release; and whether the server was told to stop.
 pub record Serving : Type 0 where
   pub store : Stored
   pub book : Booked
   pub moderated : Moderated
   pub stopped : Bool
 
--- a server stands for the commands that it accepted from its start on, the newest of which stands first: its store stands for the
--- history of the scans, and has forgotten the changes up to the end of the last release and no others; its names, its subscriptions,
--- what waits for its release and whether it was told to stop are what the commands say
+-- A server stands for the commands that it accepted since its start; the newest stands first. Its store stands for the history of
+-- the scans. The store has forgotten the changes up to the end of the last release, and no others. The names, the subscriptions,
+-- what waits for its release, and whether the server was told to stop are as the commands say.
 pub record StandsFor (serving : Serving) (start : Start) (commands : List Command) : Type 0 where
   pub store : StoreStandsFor serving.store (scans_of start.first commands)
   pub kept : serving.store.forgotten ≡ released_to start.first (releases_of start.first commands)
@@ -34,7 +34,7 @@ pub record StandsFor (serving : Serving) (start : Start) (commands : List Comman
   pub moderated : serving.moderated ≡ moderated_by start.first commands
   pub stopped : serving.stopped ≡ is_stopped commands
 
--- what every server keeps: it stands for some commands, whose scans were accepted, and all its names have 128 bits
+-- What every server keeps: it stands for some commands, the scans in them were accepted, and all its names have 128 bits.
 pub record IsServing (serving : Serving) : Type 0 where
   pub start : Start
   pub commands : List Command
@@ -50,8 +50,8 @@ published_of serving = record {
   rows = rows_of serving.store.standing.rows;
 }
 
--- what comes of a scan: the server stands for it too, and the span is that of its changes; or it is refused exactly as the store
--- refuses it, and the server stays as it was
+-- What comes of a scan. Either the server stands for it too, and the span is that of its changes. Or it is refused exactly as the
+-- store refuses it, and the server stays as it was.
 abbrev pub Scanned : Start → List Command → List Record → Result Span ApplyError → Serving → Serving → Type 0
 Scanned start commands records (Ok span) before now =
     (scan_answer (scans_of start.first commands) records ≡ Accepted)
@@ -59,13 +59,13 @@ Scanned start commands records (Ok span) before now =
     × (span ≡ record { from = end_of (scans_of start.first commands); to = end_of (with_scan (scans_of start.first commands) (map_of records)) })
 Scanned start commands records (Err refusal) before now = IsRefusal (scans_of start.first commands) records refusal × (now ≡ before)
 
--- a refusal of records that can all stand, as those of a scan of a folder can
+-- a refusal of records that can all stand, as those of a folder's scan can
 abbrev pub IsOfWhole : ApplyError → Type 0
 IsOfWhole (BadRecords line) = ⊥
 IsOfWhole (Full objects) = ⊤
 IsOfWhole (Spent needed) = ⊤
 IsOfWhole Mem = ⊤
 
--- a span with changes can be told to a moderator: it has no more than one scan, and begins where the last one ended
+-- A span with changes can be told to a moderator: it has no more than one scan, and begins at the end of the last one.
 abbrev pub CanFollow : Span → Moderated → Type 0
 CanFollow span m = span.from < span.to → (span.to ≤ span.from + scan_size) × ((end : ℕ) → m.end ≡ Some end → span.from ≡ end)

@@ -1,9 +1,9 @@
-//! What actions are answered with.
+//! The answers to actions.
 
 ghost use Rattle.std.specs.Prelude.{◌≡◌, ◌≤◌, [], ◌∷◌, ◌++◌, length, Ok, IfOk, OnOk, string_bytes};
 ghost use Rattle.cds_store.specs.Rows.{rows_of};
 ghost use Rattle.cds_didl.specs.Fragment.{didl_text, fragments};
-ghost use Rattle.cds_browse.specs.declared.page.TheConstants.{PAGE_LIMIT};
+ghost use Rattle.cds_browse.specs.Browsing.{longest_page};
 ghost use Rattle.cds_server.specs.Published.{token_of};
 ghost use Rattle.cds_server.specs.Serving.{published_of};
 ghost use Rattle.cds_server.specs.Answering.{base_of, rows_with, code_of, page_answer, browsed, answer_to};
@@ -17,7 +17,7 @@ use cds_store::{Keeping, Store};
 use std::alloc::Global;
 use uuid::Uuid;
 
-/// What an action is answered with, where HOST was this.
+/// Returns what an action is answered with, for a request with this HOST.
 pub fn answer_to(alloc: Global, server: &Server, host: &str, action: &Action) -> Result<Answer, Mem>
     ensures { IfOk result (λ answer. answer ≡ answer_to (published_of server.now) host.now action.now) }
 {
@@ -31,7 +31,7 @@ pub fn answer_to(alloc: Global, server: &Server, host: &str, action: &Action) ->
     }
 }
 
-/// The text of the name of number 0.
+/// Returns the text of the name of number 0.
 fn token_of(alloc: Global, names: u128) -> Result<Text, Mem>
     ensures { IfOk result (λ token. token ≡ token_of names) }
 {
@@ -40,7 +40,7 @@ fn token_of(alloc: Global, names: u128) -> Result<Text, Mem>
     Text::read(alloc, id.hyphenated().encode_lower(&mut buffer))
 }
 
-/// The reset token, as an answer.
+/// Returns the reset token, as an answer.
 fn token_answer(alloc: Global, names: u128) -> Result<Answer, Mem>
     ensures { IfOk result (λ answer. answer ≡ Answer.Text (token_of names)) }
 {
@@ -48,7 +48,7 @@ fn token_answer(alloc: Global, names: u128) -> Result<Answer, Mem>
     Ok(Answer::Text(token))
 }
 
-/// The code of a refusal of Browse.
+/// Returns the code of a refusal of Browse.
 fn code_of(refusal: BrowseError) -> u16
     ensures { result ≡ code_of refusal }
 {
@@ -61,7 +61,7 @@ fn code_of(refusal: BrowseError) -> u16
     }
 }
 
-/// What Browse is answered with.
+/// Returns what Browse is answered with.
 fn browsed(alloc: Global, server: &Server, host: &str, asked: &BrowseRequest) -> Result<Answer, Mem>
     ensures { IfOk result (λ answer. answer ≡ browsed (published_of server.now) host.now asked.now) }
 {
@@ -74,7 +74,7 @@ fn browsed(alloc: Global, server: &Server, host: &str, asked: &BrowseRequest) ->
     }
 }
 
-/// A page, as an answer.
+/// Returns a page, as an answer.
 fn page_answer(
     alloc: Global,
     store: &Store,
@@ -82,7 +82,7 @@ fn page_answer(
     filter: &str,
     page: &Page,
 ) -> Result<Answer, Mem>
-    requires few { length page.now.ids ≤ PAGE_LIMIT }
+    requires few { length page.now.ids ≤ longest_page }
     ensures { IfOk result (λ answer. answer ≡ page_answer filter.now host.now (rows_of store.now.standing.rows) (Ok page.now)) }
 {
     let filter = Filter::read(alloc, filter)?;
@@ -96,7 +96,7 @@ fn page_answer(
     })
 }
 
-/// Where the bytes of tracks are.
+/// Returns the base of the URLs of tracks.
 fn base_of(alloc: Global, host: &str) -> Result<String, Mem>
     ensures { IfOk result (λ base. string_bytes base ≡ base_of host.now) }
 {
@@ -105,7 +105,7 @@ fn base_of(alloc: Global, host: &str) -> Result<String, Mem>
     Ok(base)
 }
 
-/// The document of a page's rows.
+/// Returns the document of a page's rows.
 #[tactic(auto, unfolding(cds_didl::specs::Fragment::didl_text))]
 fn page_text(
     alloc: Global,
@@ -123,7 +123,7 @@ fn page_text(
     Ok(text)
 }
 
-/// Puts the texts of a page's rows.
+/// Appends the texts of a page's rows.
 fn put_rows(
     out: &mut String,
     store: &Store,
@@ -139,7 +139,7 @@ fn put_rows(
     Ok(())
 }
 
-/// Puts the text of the row of an id.
+/// Appends the text of the row of an id.
 fn put_row_of(
     out: &mut String,
     store: &Store,

@@ -1,4 +1,4 @@
-//! Requests about subscriptions.
+//! Requests about subscriptions: what is done, replied and noted.
 
 ghost use Rattle.std.specs.Prelude.{◌≡◌, ◌≢◌, ◌+◌, ◌≤◌, ◌<◌, ◌^◌, ◌++◌, ℕ, length, take, codes, Some, None, IsTrue, IfOk, OnOk, OnErr, MatchOption, string_bytes};
 ghost use Rattle.std.specs.Fmt.{decimal};
@@ -20,7 +20,7 @@ use cds_object::Events;
 use std::alloc::Global;
 use url::Url;
 
-/// Whether a message is a request to a target.
+/// Returns whether a message is a request to a target.
 fn goes_to(message: &Message, name: &str) -> bool
     ensures { result ≡ goes_to name.now message.now.start }
 {
@@ -30,14 +30,14 @@ fn goes_to(message: &Message, name: &str) -> bool
     }
 }
 
-/// Whether a message asks of a subscription at the target of events.
+/// Returns whether a message asks about a subscription at the target of events.
 pub fn asks_events(message: &Message) -> bool
     ensures { result ≡ asks_events message.now.start }
 {
     goes_to(message, "/event") && asks_of_subscription(message)
 }
 
-/// The name that the next subscription gets, where a number is left.
+/// Returns the name that the next subscription gets, if a number is left.
 fn next_sid(book: &Book) -> Option<Sid>
     requires room { book.now.names + 2 ^ 32 ≤ 2 ^ 128 }
     ensures { MatchOption result (book.now.subscribed.granted ≡ last_number)
@@ -50,7 +50,7 @@ fn next_sid(book: &Book) -> Option<Sid>
     Some(Sid(book.names() + (u128::from(granted) + 1)))
 }
 
-/// The first note to a name at a callback, which tells the number of the last change.
+/// Returns the first note to a name at a callback, which tells the number of the last change.
 fn first_note(alloc: Global, sid: Sid, callback: &Url, number: u32) -> Result<FirstNote, Mem>
     requires delivered { IsTrue (is_deliverable callback.now) }
     ensures note { IfOk result (λ note. note ≡ noted sid.0 (serialize callback.now) (first_note sid.0 number)) }
@@ -77,7 +77,7 @@ fn first_note(alloc: Global, sid: Sid, callback: &Url, number: u32) -> Result<Fi
     })
 }
 
-/// The text of TIMEOUT.
+/// Returns the text of TIMEOUT.
 fn timeout_text(alloc: Global, seconds: u32) -> Result<String, Mem>
     ensures { IfOk result (λ text. string_bytes text ≡ codes "Second-" ++ decimal seconds) }
 {
@@ -87,7 +87,7 @@ fn timeout_text(alloc: Global, seconds: u32) -> Result<String, Mem>
     Ok(text)
 }
 
-/// The given fields of the reply to a SUBSCRIBE that is accepted.
+/// Returns the given fields of the reply to an accepted SUBSCRIBE.
 fn lease_fields(alloc: Global, sid: Sid, seconds: u32) -> Result<Fields, Mem>
     ensures fields { IfOk result (λ fields. fields ≡ lease_fields sid.0 seconds) }
     ensures few { seconds < 2 ^ 32 }
@@ -100,7 +100,7 @@ fn lease_fields(alloc: Global, sid: Sid, seconds: u32) -> Result<Fields, Mem>
     Ok(fields)
 }
 
-/// Appends the reply to a SUBSCRIBE that is accepted.
+/// Appends the reply to an accepted SUBSCRIBE.
 fn put_lease(alloc: Global, sid: Sid, seconds: u32, out: &mut Vec<u8>) -> Result<(), Mem>
     ensures ok { OnOk result (out.new.items ≡ out.old.items ++ lease_reply sid.0 seconds) }
     ensures err { OnErr result (out.new.items ≡ out.old.items) }
@@ -109,7 +109,7 @@ fn put_lease(alloc: Global, sid: Sid, seconds: u32, out: &mut Vec<u8>) -> Result
     write_reply(200, &fields, b"", out)
 }
 
-/// Appends the reply to a request that is refused; where memory ran out, nothing.
+/// Appends the reply to a refused request. If memory ran out, nothing is appended.
 fn refuse(alloc: Global, refusal: GenaError, out: &mut Vec<u8>) -> Result<(), Mem>
     ensures ok { OnOk result (out.new.items ≡ out.old.items ++ empty_reply (status_of refusal)) }
     ensures cause { OnOk result (refusal ≢ gena_error.Mem) }
@@ -124,7 +124,7 @@ fn refuse(alloc: Global, refusal: GenaError, out: &mut Vec<u8>) -> Result<(), Me
     }
 }
 
-/// Appends the reply to a request that is refused, which has no first note.
+/// Appends the reply to a refused request, which has no first note.
 fn refused(alloc: Global, refusal: GenaError, out: &mut Vec<u8>) -> Result<Option<FirstNote>, Mem>
     ensures ok { OnOk result (out.new.items ≡ out.old.items ++ empty_reply (status_of refusal)) }
     ensures cause { OnOk result (refusal ≢ gena_error.Mem) }
@@ -135,7 +135,7 @@ fn refused(alloc: Global, refusal: GenaError, out: &mut Vec<u8>) -> Result<Optio
     Ok(None)
 }
 
-/// Takes back what was appended behind a place, and refuses the request in its stead.
+/// Drops what was appended after a place, and refuses the request instead.
 fn refused_instead(
     alloc: Global,
     before: usize,
@@ -152,7 +152,7 @@ fn refused_instead(
     refused(alloc, refusal, out)
 }
 
-/// Grants a subscription, where one more is granted, and answers its first note.
+/// Grants a subscription, if one more is granted, and returns its first note.
 fn grant(
     alloc: Global,
     book: &mut Book,
@@ -176,7 +176,7 @@ fn grant(
     }
 }
 
-/// Grants a subscription under the next name, where one more is granted.
+/// Grants a subscription under the next name, if one more is granted.
 fn grant_named(
     alloc: Global,
     book: &mut Book,
@@ -204,7 +204,7 @@ fn grant_named(
     }
 }
 
-/// Renews the subscription of a name, where it lives.
+/// Renews the subscription of a name, if it lives.
 fn renew(
     alloc: Global,
     book: &mut Book,
@@ -227,7 +227,7 @@ fn renew(
     }
 }
 
-/// Ends the subscription of a name, where it lives.
+/// Ends the subscription of a name, if it lives.
 fn end(
     alloc: Global,
     book: &mut Book,
@@ -249,8 +249,8 @@ fn end(
     }
 }
 
-/// Does what a request about a subscription asks for at a moment, appends the reply, and answers the first note of a
-/// subscription that was granted. Where there is no memory, nothing is done.
+/// Does what a request about a subscription asks for at a moment, and appends the reply. Returns the first note of a subscription
+/// that was granted. If memory runs out, nothing is done.
 pub fn answer_event(
     alloc: Global,
     book: &mut Book,

@@ -2,17 +2,17 @@
 
 ghost use Rattle.cds_server.specs.Evaluated.{RequestsAreRouted, ActionsAreAnswered, SubscriptionsAreAnswered};
 
-/// Where requests go.
+/// Shows the routes of requests.
 pub fn requests_are_routed()
     ensures { RequestsAreRouted }
 {}
 
-/// What actions are answered over a folder with one track.
+/// Shows what actions are answered over a folder with one track.
 pub fn actions_are_answered()
     ensures { ActionsAreAnswered }
 {}
 
-/// What comes of requests about subscriptions, and what a release sends.
+/// Shows what comes of requests about subscriptions, and what a release sends.
 pub fn subscriptions_are_answered()
     ensures { SubscriptionsAreAnswered }
 {}

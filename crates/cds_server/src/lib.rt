@@ -1,4 +1,4 @@
-//! A media server: it takes what scans of a library found, answers control requests and requests about subscriptions, and gives
+//! A media server. It takes what scans of a library found, answers control requests and requests about subscriptions, and gives
 //! the notes of its changes (UPnP ContentDirectory:4; UPnP Device Architecture 2.0 on control and on eventing).
 #![tactic(auto)]
 

@@ -1,4 +1,4 @@
-//! Replies to messages.
+//! Replies to messages that do not ask about a subscription.
 
 ghost use Rattle.std.specs.Prelude.{◌≡◌, ◌++◌, None, IsTrue, OnOk, OnErr, option_map};
 ghost use Rattle.cds_soap.specs.Written.{is_known_code, written_answer};
@@ -17,7 +17,7 @@ use cds_http::{Fields, Message, Start, write_reply};
 use cds_soap::{Action, Answer, Asked, SoapError, read_action, write_answer};
 use std::alloc::Global;
 
-/// Appends the reply to a message that asks of no subscription.
+/// Appends the reply to a message that does not ask about a subscription.
 pub fn reply(
     alloc: Global,
     server: &Server,
@@ -63,7 +63,7 @@ fn request_to(
     }
 }
 
-/// The status of a target that is not that of control, for a request that asks of no subscription.
+/// Returns the status of a request to another target than that of control. The request does not ask about a subscription.
 fn status_elsewhere(target: &str) -> u16
     ensures { result ≡ status_elsewhere target.now }
 {

@@ -1,4 +1,4 @@
-//! The server.
+//! The server: what it keeps, and its calls.
 
 ghost use Rattle.std.specs.Prelude.{◌≡◌, ◌<◌, ◌^◌, ◌∷◌, List, [], length, false, true, slice_index, Some, None, IfOk, IfErr, IfSome, OnOk, OnErr};
 ghost use Rattle.cds_catalog.specs.History.{end_of};
@@ -25,16 +25,16 @@ use cds_store::{ApplyError, Keeping, Span, Store};
 use std::alloc::Global;
 use std::marker::Model;
 
-/// A server that has accepted some commands: scans, subscriptions, their renewals and ends, and ticks. It keeps no list of
-/// them, but always stands for one.
+/// A server that has accepted some commands: scans, subscriptions, their renewals and ends, and ticks. It keeps no list of them,
+/// but always stands for one.
 #[derive(Drop)]
 pub struct Server {
     pub(crate) store: Store,
-    /// The subscriptions, and the name of number 0, of which the reset token is the text.
+    /// The subscriptions, and the name of number 0. The reset token is the text of that name.
     pub(crate) book: Book,
     /// The changes that are not released yet.
     moderator: Moderator,
-    /// Whether it was told to stop.
+    /// Whether the server was told to stop.
     stopped: bool,
 }
 
@@ -49,7 +49,7 @@ impl Model for Server {
 }
 
 impl Server {
-    /// A server before any command: its library is empty. It begins with two boot words, of which its names are made, and
+    /// Makes a server before any command: its library is empty. It begins with two boot words, of which its names are made, and
     /// with its first number.
     pub fn new(alloc: Global, boot: [u64; 2], first: u32) -> Result<Server, Mem>
         ensures { IfOk result (λ server. StandsFor server (record { high = slice_index boot 0; low = slice_index boot 1; first = first }) []) }
@@ -64,13 +64,18 @@ impl Server {
         })
     }
 
-    /// Appends the reply to a message that came at a moment in milliseconds. A message to another target than `/control` and
-    /// `/event` is answered 404, one of another method than POST to the first, or than SUBSCRIBE and UNSUBSCRIBE to the second,
-    /// 405. A control request without a HOST of 1 to 255 ASCII letters, digits, `.`, `-`, `:`, `[` and `]` is answered 400, and
-    /// then its body decides. A request about a subscription is answered 400 where SID stands beside CALLBACK or NT, then 412
-    /// where a field is missing or not in its form or no subscription of the name lives, then 503 where none can be granted; else
-    /// it is accepted, and where it grants one, the answer is its first note. All other messages leave the server as it was.
-    /// Where there is no memory, nothing is appended, and the server is as it was.
+    /// Appends the reply to a message that came at a moment in milliseconds. The status is decided in this order:
+    ///
+    /// - 404 if the target is neither `/control` nor `/event`.
+    /// - 405 if the method is not POST for `/control`, or neither SUBSCRIBE nor UNSUBSCRIBE for `/event`.
+    /// - A control request gets 400 if it has no HOST of 1 to 255 ASCII letters, digits, `.`, `-`, `:`, `[` and `]`. Then its
+    ///   body decides.
+    /// - A request about a subscription gets 400 if SID stands beside CALLBACK or NT.
+    /// - It gets 412 if a field is missing or not in its form, or if no subscription of the name lives.
+    /// - It gets 503 if no subscription can be granted.
+    ///
+    /// Any other request about a subscription is accepted. If it grants one, the answer is its first note. All other messages
+    /// leave the server as it was. If memory runs out, nothing is appended, and the server is as it was.
     pub fn handle(
         &mut self,
         alloc: Global,
@@ -125,9 +130,9 @@ impl Server {
         answer_event(alloc, &mut self.book, number, now, message, out)
     }
 
-    /// Takes what a scan found as the whole library, at a moment in milliseconds, and answers the numbers of its changes. The
-    /// refusals are the store's: `BadRecords` comes only where a record cannot stand. A refusal, or want of memory, leaves the
-    /// server as it was.
+    /// Takes what a scan found as the whole library, at a moment in milliseconds, and returns the numbers of its changes. The
+    /// refusals are the store's: `BadRecords` comes only if a record cannot stand. If the scan is refused or memory runs out, the
+    /// server is as it was.
     pub fn accept_records(
         &mut self,
         alloc: Global,
@@ -147,9 +152,9 @@ impl Server {
         Ok(span)
     }
 
-    /// Takes what a scan of a folder found as the whole library, at a moment in milliseconds, and answers the numbers of its
-    /// changes. The refusals are the store's; a scan that `cds_scan` gave has no record that cannot stand, so `BadRecords` does
-    /// not come of it. A refusal, or want of memory, leaves the server as it was.
+    /// Takes what a scan of a folder found as the whole library, at a moment in milliseconds, and returns the numbers of its
+    /// changes. The refusals are the store's. In a scan that `cds_scan` gave every record can stand, so `BadRecords` does not
+    /// come of it. If the scan is refused or memory runs out, the server is as it was.
     pub fn accept_scan(&mut self, alloc: Global, now: u64, scan: &Scan) -> Result<Span, ApplyError>
         requires { length scan.now.records < 2 ^ 32 }
         ensures scanned { (start : Start) (commands : List Command) → StandsFor self.old start commands
@@ -160,10 +165,10 @@ impl Server {
         self.accept_records(alloc, now, &scan.records)
     }
 
-    /// A tick at a moment in milliseconds: the subscriptions that have run out end, and where a release is due, the answer is
-    /// its notes: one to each of the others, in the order in which they were granted. One whose note has the last SEQ ends, and
-    /// the changes that were released are forgotten. `None` exactly where no release is due. The body of the notes has fewer than
-    /// 66,000,000 bytes. Where there is no memory, the server is as it was.
+    /// Ticks at a moment in milliseconds. The subscriptions that have run out end. If a release is due, the answer is its notes:
+    /// one to each of the others, in the order in which they were granted. A subscription whose note has the last SEQ ends, and
+    /// the released changes are forgotten. `None` comes exactly if no release is due. The body of the notes has fewer than
+    /// 66,000,000 bytes. If memory runs out, the server is as it was.
     pub fn tick(&mut self, alloc: Global, now: u64) -> Result<Option<Notes>, Mem>
         ensures stands { (start : Start) (commands : List Command) → StandsFor self.old start commands
             → OnOk result (StandsFor self.new start (Ticks now ∷ commands)) }
@@ -185,7 +190,7 @@ impl Server {
         }
     }
 
-    /// The notes of a release that is due.
+    /// Returns the notes of a release that is due.
     fn release(&mut self, alloc: Global, now: u64, span: Span) -> Result<Notes, Mem>
         requires due { next_span now self.old.moderated ≡ Some span }
         ensures stands { (start : Start) (commands : List Command) → StandsFor self.old start commands
@@ -204,7 +209,7 @@ impl Server {
         Ok(Notes { span, body, to })
     }
 
-    /// The number of the last change, or the first number (UPnP ContentDirectory:4 on SystemUpdateID).
+    /// Returns the number of the last change, or the first number (UPnP ContentDirectory:4 on SystemUpdateID).
     pub fn system_update_id(&self) -> u32
         ensures kept { result ≡ self.now.store.standing.number }
         ensures counted { (start : Start) (commands : List Command) → StandsFor self.now start commands
@@ -213,7 +218,7 @@ impl Server {
         self.store.system_update_id()
     }
 
-    /// Tells the server to stop. It keeps what it has, and goes on to do whatever it is called for. It takes no memory.
+    /// Tells the server to stop. It keeps what it has, and goes on to do whatever it is called for. This takes no memory.
     pub fn stop(&mut self)
         ensures stands { (start : Start) (commands : List Command) → StandsFor self.old start commands
             → StandsFor self.new start (Stops ∷ commands) }
@@ -222,7 +227,7 @@ impl Server {
         self.stopped = true;
     }
 
-    /// Whether it was told to stop.
+    /// Returns whether the server was told to stop.
     pub fn stopped(&self) -> bool
         ensures kept { result ≡ self.now.stopped }
         ensures counted { (start : Start) (commands : List Command) → StandsFor self.now start commands

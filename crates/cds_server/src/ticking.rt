@@ -1,4 +1,4 @@
-//! What scans and ticks do beside the store.
+//! What scans and ticks do, beside the work of the store.
 
 ghost use Rattle.std.specs.Prelude.{◌≡◌, ◌≤◌, ◌∷◌, ℕ, nat_le, List, IfOk};
 ghost use Rattle.cds_catalog.specs.Library.{FolderMap};
@@ -18,14 +18,14 @@ use cds_object::Events;
 use cds_store::{Keeping, Span, Store};
 use std::alloc::Global;
 
-/// Whether a span has no change.
+/// Returns whether a span has no change.
 fn is_empty(span: Span) -> bool
     ensures { result ≡ nat_le span.to span.from }
 {
     span.to <= span.from
 }
 
-/// Tells a moderator, which has room for one more span, of a scan's changes; of a scan without changes, nothing.
+/// Tells a moderator a scan's changes; it must have room for one more span. If the scan has no changes, nothing is told.
 pub fn tell(moderator: &mut Moderator, span: Span)
     requires spare { 1 ≤ moderator.old.spare }
     requires follows { CanFollow span moderator.old.moderated }
@@ -38,7 +38,8 @@ pub fn tell(moderator: &mut Moderator, span: Span)
     moderator.changed(span);
 }
 
-/// The body of the notes of a release: the number of its last change, the containers that changed in its span, and the changes.
+/// Returns the body of the notes of a release: the number of its last change, the containers that changed in its span, and the
+/// changes.
 pub fn note_body(alloc: Global, store: &Store, span: Span) -> Result<Bytes, Mem>
     requires kept { store.now.forgotten ≤ span.from }
     ensures { IfOk result (λ body. (history : History) → StoreStandsFor store.now history → body

@@ -1,15 +1,16 @@
-//! A server that is shared, with one seat of it.
+//! `Desk`: a server that is shared, with one seat of it.
 
-ghost use Rattle.std.specs.Prelude.{◌≡◌, ◌≤◌, IfOk};
+ghost use Rattle.std.specs.Prelude.{◌≡◌, ◌≤◌};
 ghost use Rattle.std.specs.Arc.{arc_value};
 ghost use Rattle.cds_turn.specs.Turn.{IsSeatOf, passes_of};
 
-use crate::made::{clock, link};
-use cds_base::{Mem, NoGate};
+use crate::made::{MEMORY, clock, link};
+use cds_base::NoGate;
 use cds_memory::{MemClock, MemConn, MemFolder, MemLink};
-use cds_serve::{ScanRefused, Served, notify_once, scan_once, serve_one};
+use cds_serve::{Served, notify_once, scan_once, serve_one};
 use cds_turn::{Seat, Turn};
 use std::alloc::Global;
+use std::process::Abort;
 use std::sync::{Arc, Wait};
 
 /// A server with its only seat, and a clock and a link for it.
@@ -23,52 +24,46 @@ pub struct Desk {
     ghost own: { IsSeatOf (arc_value turn) seat },
 }
 
-/// A server that has done nothing yet, and all of its seats in one.
-pub fn server(alloc: Global, seats: u32) -> Result<(Arc<Turn<Served>>, Seat<Served>), Mem>
+/// Makes a server that has done nothing yet, and one seat with all of its passes.
+pub fn server<R: Abort>(rt: &R, alloc: Global, seats: u32) -> (Arc<Turn<Served>>, Seat<Served>)
     requires { 1 ≤ seats }
-    ensures seat { IfOk result (λ r. IsSeatOf (arc_value r.0) r.1) }
-    ensures passes { IfOk result (λ r. passes_of r.1 ≡ seats) }
+    ensures seat { IsSeatOf (arc_value result.0) result.1 }
+    ensures passes { passes_of result.1 ≡ seats }
 {
-    let served = Served::new(alloc, [0, 0], 0)?;
-    let (turn, seat) = Turn::new(alloc, served, seats)?;
-    Ok((Arc::new(alloc, turn)?, seat))
-}
-
-/// A clock of these moments, of which one call fails, and a link.
-fn ends(alloc: Global, moments: &[u64], fails: u32) -> Result<(MemClock, MemLink), Mem> {
-    let clock = clock(alloc, moments, fails)?;
-    Ok((clock, link(alloc, 0)?))
+    let served = Served::new(alloc, [0, 0], 0).expect(rt, MEMORY);
+    let (turn, seat) = Turn::new(alloc, served, seats).expect(rt, MEMORY);
+    (Arc::new(alloc, turn).expect(rt, MEMORY), seat)
 }
 
 impl Desk {
-    /// A server that has done nothing yet, with a clock of these moments, of which one call fails.
-    pub fn new(alloc: Global, moments: &[u64], fails: u32) -> Result<Self, Mem> {
-        let (turn, seat) = server(alloc, 1)?;
-        Desk::of(alloc, turn, seat, moments, fails)
+    /// Makes a server that has done nothing yet, with a clock of these moments, of which one call fails.
+    pub fn new<R: Abort>(rt: &R, alloc: Global, moments: &[u64], fails: u32) -> Self {
+        let (turn, seat) = server(rt, alloc, 1);
+        Desk::of(rt, alloc, turn, seat, moments, fails)
     }
 
-    /// The same of a server that others may share.
-    pub fn of(
+    /// Makes the same for a server that others may share.
+    pub fn of<R: Abort>(
+        rt: &R,
         alloc: Global,
         turn: Arc<Turn<Served>>,
         seat: Seat<Served>,
         moments: &[u64],
         fails: u32,
-    ) -> Result<Self, Mem>
+    ) -> Self
         requires { IsSeatOf (arc_value turn) seat }
     {
-        let (clock, link) = ends(alloc, moments, fails)?;
-        Ok(Desk {
+        Desk {
             turn,
             seat,
-            clock,
-            link,
+            clock: clock(rt, alloc, moments, fails),
+            link: link(rt, alloc, 0),
             last: 0,
-        })
+        }
     }
 
     /// Serves a connection.
-    pub fn serve<R: Wait>(&mut self, rt: &R, alloc: Global, conn: &mut MemConn) -> Result<(), Mem> {
+    pub fn serve<R: Wait + Abort>(&mut self, rt: &R, alloc: Global, conn: &mut MemConn) {
         serve_one(
             rt,
             alloc,
@@ -80,15 +75,11 @@ impl Desk {
             &mut self.link,
             &mut NoGate,
         )
+        .expect(rt, MEMORY);
     }
 
-    /// Scans a folder.
-    pub fn scan<R: Wait>(
-        &mut self,
-        rt: &R,
-        alloc: Global,
-        folder: &mut MemFolder,
-    ) -> Result<(), ScanRefused> {
+    /// Scans a folder. The test ends if the scan is refused.
+    pub fn scan<R: Wait + Abort>(&mut self, rt: &R, alloc: Global, folder: &mut MemFolder) {
         scan_once(
             rt,
             alloc,
@@ -98,10 +89,11 @@ impl Desk {
             &mut self.clock,
             &mut self.last,
         )
+        .expect(rt, "a scan");
     }
 
-    /// Looks once. Whether the server was stopped.
-    pub fn look<R: Wait>(&mut self, rt: &R, alloc: Global) -> Result<bool, Mem> {
+    /// Looks once. Returns whether the server was stopped.
+    pub fn look<R: Wait + Abort>(&mut self, rt: &R, alloc: Global) -> bool {
         notify_once(
             rt,
             alloc,
@@ -111,5 +103,6 @@ impl Desk {
             &mut self.last,
             &mut self.link,
         )
+        .expect(rt, MEMORY)
     }
 }

@@ -1,5 +1,5 @@
-//! Tests alone, of what a server keeps and gives: both bodies of the store, scans whose folders fail, and servers that listen
-//! over objects in memory, whole with their threads.
+//! Tests alone, of what a server keeps and gives: both bodies of the store, scans whose folders fail, and servers that
+//! listen over objects in memory. Some tests run a whole server with its threads.
 #![tactic(auto)]
 
 #[cfg(test)]

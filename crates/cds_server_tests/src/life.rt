@@ -1,13 +1,13 @@
-//! Whole lives of a server, in which one call fails.
+//! Tests of whole lives of a server in which one call fails.
 
-use crate::made::{asking, clock, folder, link, only, sink, subscribing};
-use cds_base::{Gate, Mem, NoGate, Numbers, Sequence};
-use cds_memory::{MemConn, MemDoor, MemObjects, MemOutside, MemSink, MemSpawner};
+use crate::made::{MEMORY, asking, clock, folder, link, only, sink, subscribing};
+use cds_base::{Gate, NoGate, Numbers, Runtime, Sequence};
+use cds_memory::{MemDoor, MemObjects, MemOutside, MemSink, MemSpawner};
 use cds_serve::serve;
 use std::alloc::Global;
 use std::marker::{Send, Sync};
+use std::process::Abort;
 use std::sync::Wait;
-use std::test::Fail;
 use std::thread::Threads;
 
 /// A part of what a server works with.
@@ -21,109 +21,75 @@ pub enum Part {
     Link,
 }
 
-/// A call of a part that fails, counted from 1. Of call 0 none does.
+/// A call of a part that fails, counted from 1. If it is 0, no call fails.
 #[derive(Clone, Copy)]
 pub struct Fault {
     pub part: Part,
     pub call: u32,
 }
 
-/// The calls of a part that fail.
-pub fn calls_of(alloc: Global, fault: Fault, part: Part) -> Result<Numbers, Mem> {
-    only(alloc, call_of(fault, part))
+/// Returns the calls of a part that fail.
+pub fn calls_of<R: Abort>(rt: &R, alloc: Global, fault: Fault, part: Part) -> Numbers {
+    only(rt, alloc, call_of(fault, part))
 }
 
-/// The call of this part that fails; 0 where none does.
+/// Returns the call of this part that fails, or 0 if none does.
 fn call_of(fault: Fault, part: Part) -> u32 {
     if fault.part == part { fault.call } else { 0 }
 }
 
-/// Puts a connection that subscribes and one that asks for a page.
-fn put_conns(alloc: Global, conns: &mut Sequence<MemConn>) -> Result<(), Fail> {
-    conns.push(subscribing(alloc)?)?;
-    Ok(conns.push(asking(alloc, 0, 0)?)?)
-}
-
-/// They alone.
-fn two_conns(alloc: Global) -> Result<Sequence<MemConn>, Fail> {
-    let mut conns = Sequence::new(alloc);
-    put_conns(alloc, &mut conns)?;
-    Ok(conns)
-}
-
-/// A door with them.
-pub fn door<R: Wait + Clone + Drop>(
+/// Makes a door with a connection that subscribes and one that asks for a page.
+pub fn door<R: Wait + Clone + Copy + Drop + Abort>(
     rt: R,
     alloc: Global,
     fault: Fault,
-) -> Result<MemDoor<R>, Fail> {
-    let fails = calls_of(alloc, fault, Part::Door)?;
-    let conns = two_conns(alloc)?;
-    Ok(MemDoor::new(rt, alloc, conns, fails)?)
+) -> MemDoor<R> {
+    let mut conns = Sequence::new(alloc);
+    conns.push(subscribing(&rt, alloc)).expect(&rt, MEMORY);
+    conns.push(asking(&rt, alloc, 0, 0)).expect(&rt, MEMORY);
+    let fails = calls_of(&rt, alloc, fault, Part::Door);
+    MemDoor::new(rt, alloc, conns, fails).expect(&rt, MEMORY)
 }
 
-/// A clock and a link for a job.
-fn put_end<R: Drop>(alloc: Global, fault: Fault, objects: &mut MemObjects<R>) -> Result<(), Mem> {
-    objects
-        .clocks
-        .push(clock(alloc, &[], call_of(fault, Part::Clock))?)?;
-    objects.links.push(link(alloc, call_of(fault, Part::Link))?)
-}
-
-/// They for each of six jobs.
-fn put_ends<R: Drop>(alloc: Global, fault: Fault, objects: &mut MemObjects<R>) -> Result<(), Mem> {
+/// Puts a clock and a link for each of six jobs.
+fn put_ends<R: Drop + Abort>(rt: &R, alloc: Global, fault: Fault, objects: &mut MemObjects<R>) {
     for _ in 0..6 {
-        put_end(alloc, fault, objects)?;
+        let clock = clock(rt, alloc, &[], call_of(fault, Part::Clock));
+        objects.clocks.push(clock).expect(rt, MEMORY);
+        let link = link(rt, alloc, call_of(fault, Part::Link));
+        objects.links.push(link).expect(rt, MEMORY);
     }
-    Ok(())
 }
 
-/// A folder and what starts jobs.
-fn put_others<R: Drop>(
-    alloc: Global,
-    fault: Fault,
-    objects: &mut MemObjects<R>,
-) -> Result<(), Fail> {
-    objects.folders.push(folder(alloc, "Rock")?)?;
-    let fails = calls_of(alloc, fault, Part::Spawner)?;
-    Ok(objects.spawners.push(MemSpawner::new(fails))?)
-}
-
-/// All that a server asks for, with this door.
-fn put_all<R: Wait + Clone + Drop>(
+/// Makes all that a server asks for, with this door.
+fn objects_of<R: Wait + Clone + Drop + Abort>(
+    rt: &R,
     alloc: Global,
     fault: Fault,
     door: MemDoor<R>,
-    objects: &mut MemObjects<R>,
-) -> Result<(), Fail> {
-    objects.doors.push(door)?;
-    put_ends(alloc, fault, objects)?;
-    put_others(alloc, fault, objects)
-}
-
-/// The same of no objects before.
-fn objects_of<R: Wait + Clone + Drop>(
-    alloc: Global,
-    fault: Fault,
-    door: MemDoor<R>,
-) -> Result<MemObjects<R>, Fail> {
+) -> MemObjects<R> {
     let mut objects = MemObjects::new(alloc);
-    put_all(alloc, fault, door, &mut objects)?;
-    Ok(objects)
+    put_ends(rt, alloc, fault, &mut objects);
+    objects.doors.push(door).expect(rt, MEMORY);
+    let folder = folder(rt, alloc, "Rock");
+    objects.folders.push(folder).expect(rt, MEMORY);
+    let spawner = MemSpawner::new(calls_of(rt, alloc, fault, Part::Spawner));
+    objects.spawners.push(spawner).expect(rt, MEMORY);
+    objects
 }
 
-/// An outside that gives them, where these calls for an object fail.
-pub fn outside_of<R: Wait + Clone + Drop>(
+/// Makes an outside that gives these objects, and in which the calls for an object that the fault names fail.
+pub fn outside_of<R: Wait + Clone + Drop + Abort>(
+    rt: &R,
     alloc: Global,
     fault: Fault,
     door: MemDoor<R>,
-) -> Result<MemOutside<R>, Fail> {
-    let fails = calls_of(alloc, fault, Part::Outside)?;
-    let objects = objects_of(alloc, fault, door)?;
-    Ok(MemOutside::new(objects, fails))
+) -> MemOutside<R> {
+    let fails = calls_of(rt, alloc, fault, Part::Outside);
+    MemOutside::new(objects_of(rt, alloc, fault, door), fails)
 }
 
-/// What became of a server: its status, and how many connections were given, jobs started and calls of the outside failed.
+/// What became of a server: its status, the connections given, the jobs started and the failed calls of the outside.
 #[derive(Clone, Copy, PartialEq, Eq)]
 pub struct End {
     pub status: u8,
@@ -132,7 +98,7 @@ pub struct End {
     pub faults: u64,
 }
 
-/// What an outside counted, where a server ended with this status.
+/// Returns what an outside counted, with the status that the server ended with.
 fn end_with<R: Wait + Drop>(status: u8, outside: &MemOutside<R>) -> End {
     End {
         status,
@@ -142,11 +108,8 @@ fn end_with<R: Wait + Drop>(status: u8, outside: &MemOutside<R>) -> End {
     }
 }
 
-/// Has a server serve so many connections at the port 49152, with what this outside gives.
-pub fn lived<
-    R: Threads + Wait + Clone + Drop + Send + Sync + 'static,
-    G: Gate + Send + Drop + 'static,
->(
+/// Lets a server serve `requests` connections at the port 49152, with what this outside gives.
+pub fn lived<R: Runtime, G: Gate + Send + Drop + 'static>(
     rt: &R,
     alloc: Global,
     requests: u32,
@@ -164,64 +127,52 @@ pub const NONE: Fault = Fault {
     call: 0,
 };
 
-/// What becomes of a server that serves so many connections where a call fails.
-fn ended<R: Threads + Wait + Clone + Copy + Drop + Send + Sync + 'static>(
-    rt: R,
-    alloc: Global,
-    requests: u32,
-    fault: Fault,
-    sink: &mut MemSink,
-) -> Result<End, Fail> {
-    let door = door(rt, alloc, fault)?;
-    let mut outside = outside_of(alloc, fault, door)?;
-    Ok(lived(&rt, alloc, requests, &mut outside, sink, &mut NoGate))
-}
-
-/// The same, and whether it writes exactly this.
-fn end_of<R: Threads + Wait + Clone + Copy + Drop + Send + Sync + 'static>(
+/// Returns what becomes of a server that serves `requests` connections if a call fails, and whether it writes exactly
+/// this.
+fn end_of<R: Threads + Wait + Clone + Copy + Drop + Abort + Send + Sync + 'static>(
     rt: R,
     alloc: Global,
     requests: u32,
     fault: Fault,
     text: &str,
-) -> Result<(End, bool), Fail> {
-    let mut sink = sink(alloc, call_of(fault, Part::Sink))?;
-    let end = ended(rt, alloc, requests, fault, &mut sink)?;
-    Ok((end, sink.as_slice() == text.as_bytes()))
+) -> (End, bool) {
+    let mut sink = sink(&rt, alloc, call_of(fault, Part::Sink));
+    let mut outside = outside_of(&rt, alloc, fault, door(rt, alloc, fault));
+    let end = lived(&rt, alloc, requests, &mut outside, &mut sink, &mut NoGate);
+    (end, sink.as_slice() == text.as_bytes())
 }
 
-/// So many connections, and what a server writes that serves them.
+/// A number of connections, and what a server writes that serves them.
 const LIVES: [(u32, &str); 3] = [
     (0, "serving 49152\nserved 0 scans 1 refused 0 memory 0\n"),
     (1, "serving 49152\nserved 1 scans 1 refused 0 memory 0\n"),
     (2, "serving 49152\nserved 2 scans 1 refused 0 memory 0\n"),
 ];
 
-/// Whether a server serves so many connections, and writes this.
-fn is_served<R: Threads + Wait + Clone + Copy + Drop + Send + Sync + 'static>(
+/// Returns whether a server serves `requests` connections and writes this.
+fn is_served<R: Threads + Wait + Clone + Copy + Drop + Abort + Send + Sync + 'static>(
     rt: R,
     alloc: Global,
     requests: u32,
     text: &str,
-) -> Result<bool, Fail> {
+) -> bool {
     let want = End {
         status: 0,
         connections: u64::from(requests),
         started: 6,
         faults: 0,
     };
-    Ok(end_of(rt, alloc, requests, NONE, text)? == (want, true))
+    end_of(rt, alloc, requests, NONE, text) == (want, true)
 }
 
 #[test]
-fn a_server_serves_to_its_end(rt: HostRuntime) -> Result<(), Fail> {
+fn a_server_serves_to_its_end(rt: HostRuntime) {
     for (requests, text) in &LIVES {
-        assert!(rt; is_served(rt, rt.alloc(), *requests, text)?, "{requests}");
+        assert!(rt; is_served(rt, rt.alloc(), *requests, text), "{requests}");
     }
-    Ok(())
 }
 
-/// Each part, how many of its calls end a server where they fail, and the status that it ends with then.
+/// Each part, how many of its calls end a server if they fail, and the status that it then ends with.
 const FAULTS: [(Part, u32, u8); 6] = [
     (Part::Door, 6, 7),
     (Part::Spawner, 6, 7),
@@ -231,29 +182,28 @@ const FAULTS: [(Part, u32, u8); 6] = [
     (Part::Link, 0, 0),
 ];
 
-/// Whether a life of two connections in which this call fails ends with a status, and the outside counts a fault exactly
-/// with status 7.
-fn ends_with<R: Threads + Wait + Clone + Copy + Drop + Send + Sync + 'static>(
+/// Returns whether a life of two connections in which this call fails ends with a status. The outside must count a
+/// fault exactly with status 7.
+fn ends_with<R: Threads + Wait + Clone + Copy + Drop + Abort + Send + Sync + 'static>(
     rt: R,
     alloc: Global,
     part: Part,
     call: u32,
     status: u8,
-) -> Result<bool, Fail> {
-    let (end, _) = end_of(rt, alloc, 2, Fault { part, call }, "")?;
-    Ok(end.status == status && (status == 7) == (end.faults > 0))
+) -> bool {
+    let (end, _) = end_of(rt, alloc, 2, Fault { part, call }, "");
+    end.status == status && (status == 7) == (end.faults > 0)
 }
 
 #[test]
-fn each_fault_ends_a_server_with_its_status(rt: HostRuntime) -> Result<(), Fail> {
+fn each_fault_ends_a_server_with_its_status(rt: HostRuntime) {
     for (part, calls, status) in &FAULTS {
         for call in 1..=*calls + 2 {
             let owed = if call <= *calls { *status } else { 0 };
             assert!(rt;
-                ends_with(rt, rt.alloc(), *part, call, owed)?,
+                ends_with(rt, rt.alloc(), *part, call, owed),
                 "{status} at {call}"
             );
         }
     }
-    Ok(())
 }

@@ -1,49 +1,35 @@
 //! Records, connections and objects in memory, as the tests take them.
 
-ghost use Rattle.std.specs.Prelude.{◌<◌, ◌^◌, length, IfOk};
+ghost use Rattle.std.specs.Prelude.{◌<◌, ◌^◌, length};
 
-use cds_base::{Bytes, Mem, Moments, Numbers, Sequence, Text};
+use cds_base::{Bytes, Moments, Numbers, Sequence, Text};
 use cds_exchange::{ask_bytes, read_reply};
 use cds_load::{Ask, Shown};
 use cds_memory::{MemClock, MemConn, MemFolder, MemItem, MemLink, MemSink, MemSource, are_tree};
 use cds_object::{Comments, Content, FlacInfo, Path, Record, Records, content_of};
 use std::alloc::Global;
-use std::test::Fail;
+use std::process::Abort;
 use url::Url;
 
-/// The name of a word without `/` at its end, whether it is a folder's, and the size behind `=`.
-fn parts_of(word: &str) -> Result<(&str, bool, u64), Fail> {
-    let (name, size) = word.split_once("=").unwrap_or((word, "1"));
-    let size: u64 = size.parse()?;
-    match name.strip_suffix("/") {
-        Some(text) => Ok((text, true, size)),
-        None => Ok((name, false, size)),
+/// What a test says that ends because no memory is left.
+pub const MEMORY: &str = "out of memory";
+
+/// Makes a text.
+pub fn text_of<R: Abort>(rt: &R, alloc: Global, text: &str) -> Text {
+    Text::read(alloc, text).expect(rt, MEMORY)
+}
+
+/// Makes the record of a folder.
+fn folder_record<R: Abort>(rt: &R, alloc: Global, name: &str) -> Record {
+    let title = text_of(rt, alloc, name);
+    Record {
+        path: Path::read(alloc, name).expect(rt, "a path"),
+        content: Content::Folder { title },
     }
 }
 
-/// What a folder or a track has.
-fn content_at(alloc: Global, name: &str, is_folder: bool, size: u64) -> Result<Content, Mem> {
-    if is_folder {
-        folder_content(alloc, name)
-    } else {
-        track_content(alloc, name, size)
-    }
-}
-
-/// A folder, whose word ends in `/`, or a track of one channel of 8 bits, of the size behind `=`.
-fn record_of(alloc: Global, word: &str) -> Result<Record, Fail> {
-    let (name, is_folder, size) = parts_of(word)?;
-    let path = Path::read(alloc, name)?;
-    let content = content_at(alloc, name, is_folder, size)?;
-    Ok(Record { path, content })
-}
-
-fn folder_content(alloc: Global, name: &str) -> Result<Content, Mem> {
-    let title = Text::read(alloc, name)?;
-    Ok(Content::Folder { title })
-}
-
-fn track_content(alloc: Global, name: &str, size: u64) -> Result<Content, Mem> {
+/// Makes the record of a track of one channel of 8 bits.
+fn track_record<R: Abort>(rt: &R, alloc: Global, name: &str, size: u64) -> Record {
     let info = FlacInfo {
         rate: 0,
         channels: 1,
@@ -51,138 +37,140 @@ fn track_content(alloc: Global, name: &str, size: u64) -> Result<Content, Mem> {
         samples: 0,
         comments: Comments::new(alloc),
     };
-    content_of(alloc, &info, name, size)
+    Record {
+        path: Path::read(alloc, name).expect(rt, "a path"),
+        content: content_of(alloc, &info, name, size).expect(rt, MEMORY),
+    }
 }
 
-/// The records of a few words.
-pub fn records_of(alloc: Global, words: &str) -> Result<Records, Fail>
-    ensures { IfOk result (λ records. length records < 2 ^ 32) }
+/// Reads a record: a folder if its word ends in `/`, otherwise a track. Its size stands after `=`, and is 1 otherwise.
+fn record_of<R: Abort>(rt: &R, alloc: Global, word: &str) -> Record {
+    let (name, size) = word.split_once("=").unwrap_or((word, "1"));
+    let size: u64 = size.parse().expect(rt, "a size");
+    match name.strip_suffix("/") {
+        Some(folder) => folder_record(rt, alloc, folder),
+        None => track_record(rt, alloc, name, size),
+    }
+}
+
+/// Reads the records of a few words.
+pub fn records_of<R: Abort>(rt: &R, alloc: Global, words: &str) -> Records
+    ensures { length result < 2 ^ 32 }
 {
     let mut records = Records::new(alloc);
     for word in words.split_whitespace() {
-        records.push(record_of(alloc, word)?)?;
+        records.push(record_of(rt, alloc, word)).expect(rt, MEMORY);
     }
-    if records.len() > 100 {
-        return Err(Fail::new("too many words"));
+    if records.len() <= 100 {
+        records
+    } else {
+        panic!(rt; "too many words")
     }
-    Ok(records)
 }
 
-/// The numbers of the calls that are to fail, counted from 1. Of call 0 it is that none is.
-pub fn only(alloc: Global, call: u32) -> Result<Numbers, Mem> {
+/// Returns the numbers of the calls that are to fail, counted from 1: this one alone, or none if it is 0.
+pub fn only<R: Abort>(rt: &R, alloc: Global, call: u32) -> Numbers {
     let mut calls = Numbers::new(alloc);
-    calls.push(call)?;
-    Ok(calls)
+    calls.push(call).expect(rt, MEMORY);
+    calls
 }
 
-/// A sink that is empty, of which one write fails.
-pub fn sink(alloc: Global, fails: u32) -> Result<MemSink, Mem> {
-    let fails = only(alloc, fails)?;
-    Ok(MemSink::new(Bytes::new(alloc), fails))
+/// How many bytes a sink takes.
+const ROOM: usize = 1 << 20;
+
+/// Makes a sink that is empty, of which one write fails.
+pub fn sink<R: Abort>(rt: &R, alloc: Global, fails: u32) -> MemSink {
+    let fails = only(rt, alloc, fails);
+    MemSink::new(Bytes::new(alloc), ROOM, fails).expect(rt, MEMORY)
 }
 
-/// A source of these bytes, of which one read fails.
-fn source(alloc: Global, text: &[u8], fails: u32) -> Result<MemSource, Mem> {
-    let fails = only(alloc, fails)?;
-    let bytes = Vec::from_slice(alloc, text)?;
-    Ok(MemSource::new(Bytes::from(bytes), fails))
+/// Makes a source of these bytes, of which one read fails.
+fn source<R: Abort>(rt: &R, alloc: Global, text: &[u8], fails: u32) -> MemSource {
+    let bytes = Vec::from_slice(alloc, text).expect(rt, MEMORY);
+    MemSource::new(Bytes::from(bytes), only(rt, alloc, fails))
 }
 
-/// A connection that gives these bytes, of which one read and one write fail.
-pub fn conn(alloc: Global, text: &[u8], read: u32, write: u32) -> Result<MemConn, Mem> {
-    let sink = sink(alloc, write)?;
-    Ok(MemConn::new(source(alloc, text, read)?, sink))
+/// Makes a connection that gives these bytes, of which one read and one write fail.
+pub fn conn<R: Abort>(rt: &R, alloc: Global, text: &[u8], read: u32, write: u32) -> MemConn {
+    MemConn::new(source(rt, alloc, text, read), sink(rt, alloc, write))
 }
 
-/// A clock of these moments, of which one call fails.
-pub fn clock(alloc: Global, moments: &[u64], fails: u32) -> Result<MemClock, Mem> {
-    let fails = only(alloc, fails)?;
-    let moments = Vec::from_slice(alloc, moments)?;
-    Ok(MemClock::new(Moments::from(moments), fails))
+/// Makes a clock of these moments, of which one call fails.
+pub fn clock<R: Abort>(rt: &R, alloc: Global, moments: &[u64], fails: u32) -> MemClock {
+    let moments = Vec::from_slice(alloc, moments).expect(rt, MEMORY);
+    MemClock::new(Moments::from(moments), only(rt, alloc, fails))
 }
 
-/// Three empty replies.
-fn three_replies(alloc: Global) -> Result<Sequence<Bytes>, Mem> {
+/// Makes a link that gives three empty replies, of which one call fails.
+pub fn link<R: Abort>(rt: &R, alloc: Global, fails: u32) -> MemLink {
     let mut replies = Sequence::new(alloc);
     for _ in 0..3 {
-        replies.push(Bytes::new(alloc))?;
+        replies.push(Bytes::new(alloc)).expect(rt, MEMORY);
     }
-    Ok(replies)
+    MemLink::new(alloc, replies, only(rt, alloc, fails))
 }
 
-/// A link that gives them, of which one call fails.
-pub fn link(alloc: Global, fails: u32) -> Result<MemLink, Mem> {
-    let fails = only(alloc, fails)?;
-    Ok(MemLink::new(alloc, three_replies(alloc)?, fails))
-}
-
-/// Items of a folder, which are to be a tree, and its calls that fail.
-pub fn tree(items: Sequence<MemItem>, fails: Numbers) -> Result<MemFolder, Fail> {
+/// Makes a folder of these items, of which these calls fail. The test ends if the items are no tree.
+pub fn tree<R: Abort>(rt: &R, items: Sequence<MemItem>, fails: Numbers) -> MemFolder {
     let is_whole = are_tree(items.as_slice());
     if is_whole {
-        Ok(MemFolder::new(items, fails))
+        MemFolder::new(items, fails)
     } else {
-        Err(Fail::new("no tree"))
+        panic!(rt; "no tree")
     }
 }
 
-/// Puts a folder of this name.
-fn put_folder(alloc: Global, name: &str, items: &mut Sequence<MemItem>) -> Result<(), Mem> {
-    let path = Text::read(alloc, name)?;
-    items.push(MemItem::FolderItem { path })
+/// Makes the item of a folder of this name.
+pub fn folder_item<R: Abort>(rt: &R, alloc: Global, name: &str) -> MemItem {
+    let path = text_of(rt, alloc, name);
+    MemItem::FolderItem { path }
 }
 
-/// Folders of these names, which are parted by spaces.
-fn folders(alloc: Global, names: &str) -> Result<Sequence<MemItem>, Mem> {
+/// Makes a folder with folders of these names, which are parted by spaces.
+pub fn folder<R: Abort>(rt: &R, alloc: Global, names: &str) -> MemFolder {
     let mut items = Sequence::new(alloc);
     for name in names.split(' ') {
-        put_folder(alloc, name, &mut items)?;
+        items.push(folder_item(rt, alloc, name)).expect(rt, MEMORY);
     }
-    Ok(items)
+    tree(rt, items, Numbers::new(alloc))
 }
 
-/// A folder with them.
-pub fn folder(alloc: Global, names: &str) -> Result<MemFolder, Fail> {
-    tree(folders(alloc, names)?, Numbers::new(alloc))
-}
-
-/// A subscription at a callback of the private range.
+/// The subscription of a callback in the private range.
 const SUBSCRIBE: &str =
     "SUBSCRIBE /event HTTP/1.1\r\nHOST: h\r\nCALLBACK: <http://10.0.0.9:80/n?x>\r\nNT: upnp:event\r\n\r\n";
 
-/// A connection that subscribes.
-pub fn subscribing(alloc: Global) -> Result<MemConn, Mem> {
-    conn(alloc, SUBSCRIBE.as_bytes(), 0, 0)
+/// Makes a connection that subscribes.
+pub fn subscribing<R: Abort>(rt: &R, alloc: Global) -> MemConn {
+    conn(rt, alloc, SUBSCRIBE.as_bytes(), 0, 0)
 }
 
-/// Whether a reply has the status 200.
+/// Returns whether a reply has the status 200.
 pub fn is_good(reply: &[u8]) -> bool {
     reply.starts_with(b"HTTP/1.1 200 OK\r\n")
 }
 
-/// What asks for the children of the root.
+/// The ask for the children of the root.
 const PAGE: Ask = Ask::Children { id: 0, start: 0 };
 
-/// Writes what asks for them.
-fn write_ask(alloc: Global, text: &mut Vec<u8>) -> Result<(), Fail> {
-    let url = Url::parse(alloc, "http://127.0.0.1/control")?;
+/// Writes the request for them.
+fn write_ask<R: Abort>(rt: &R, alloc: Global, text: &mut Vec<u8>) {
+    let url = Url::parse(alloc, "http://127.0.0.1/control").expect(rt, "an address");
     if url.scheme() == "http" {
-        ask_bytes(&PAGE, &url, text)?;
+        ask_bytes(&PAGE, &url, text).expect(rt, MEMORY);
     }
-    Ok(())
 }
 
-/// A connection that asks for the children of the root, of which one read and one write fail.
-pub fn asking(alloc: Global, read: u32, write: u32) -> Result<MemConn, Fail> {
+/// Makes a connection that asks for the children of the root, of which one read and one write fail.
+pub fn asking<R: Abort>(rt: &R, alloc: Global, read: u32, write: u32) -> MemConn {
     let mut text = Vec::new(alloc);
-    write_ask(alloc, &mut text)?;
-    Ok(conn(alloc, text.as_slice(), read, write)?)
+    write_ask(rt, alloc, &mut text);
+    conn(rt, alloc, text.as_slice(), read, write)
 }
 
-/// How many children of the root a reply shows. `None` where it is no page of them.
-pub fn rows_in(alloc: Global, reply: &[u8]) -> Result<Option<usize>, Fail> {
-    match read_reply(alloc, &PAGE, reply)? {
-        Some(Shown::Page { rows, .. }) => Ok(Some(rows.len())),
-        _ => Ok(None),
+/// Returns how many children of the root a reply shows, or `None` if it is no page of them.
+pub fn rows_in<R: Abort>(rt: &R, alloc: Global, reply: &[u8]) -> Option<usize> {
+    match read_reply(alloc, &PAGE, reply).expect(rt, MEMORY) {
+        Some(Shown::Page { rows, .. }) => Some(rows.len()),
+        _ => None,
     }
 }

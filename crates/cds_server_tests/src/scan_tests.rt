@@ -1,15 +1,15 @@
-//! Scans of folders whose calls or files fail. What a scan finds otherwise, the examples show.
+//! Tests of scans of folders whose calls or files fail. The examples show what a scan finds otherwise.
 
-use crate::made::{only, tree};
-use cds_base::{Bytes, Mem, Sequence, Text};
+use crate::made::{MEMORY, folder_item, only, text_of, tree};
+use cds_base::{Bytes, Sequence};
 use cds_flac::FlacError;
 use cds_memory::{MemFolder, MemItem};
 use cds_object::{Content, Record};
 use cds_scan::{RefusedFile, Scan, ScanError, scan};
 use std::alloc::Global;
-use std::test::Fail;
+use std::process::Abort;
 
-/// 44,100 Hz, 2 channels, 16 bits, 441,000 samples, and the comment `TITLE=Z`.
+/// A file of 44,100 Hz, 2 channels, 16 bits and 441,000 samples, with the comment `TITLE=Z`.
 const FILE: [u8; 65] = [
     0x66, 0x4C, 0x61, 0x43, 0x00, 0x00, 0x00, 0x22, 0x03, 0xE8, 0x03, 0xE8, 0x00, 0x00, 0x00, 0x00,
     0x00, 0x00, 0x0A, 0xC4, 0x42, 0xF0, 0x00, 0x06, 0xBA, 0xA8, 0x00, 0x00, 0x00, 0x00, 0x00, 0x00,
@@ -18,17 +18,17 @@ const FILE: [u8; 65] = [
     0x5A,
 ];
 
-/// A path, where `/` at its end is a folder's; how many bytes of `FILE` its file has, more than there are where it cannot be
-/// opened; and the read of it that fails, 0 for none.
+/// A path, which ends in `/` if it is a folder's; how many bytes of `FILE` its file has; and the read of it that fails,
+/// 0 for none. A file that has more bytes than `FILE` cannot be opened.
 type Item = (&'static str, usize, u32);
 
-/// Titles of records and paths and errors of files that are refused, in their orders.
+/// The titles of records, and the paths and errors of refused files, each in its order.
 type Found = (
     &'static [&'static str],
     &'static [(&'static str, FlacError)],
 );
 
-/// A name, items, the call of the folder that fails, 0 for none, and what a scan answers.
+/// A name; items; the call of the folder that fails, 0 for none; and what a scan answers.
 type Case = (&'static str, &'static [Item], u32, Result<Found, ScanError>);
 
 /// A folder and a track.
@@ -78,62 +78,45 @@ const CASES: [Case; 9] = [
     ("none of the calls", &TWO, 5, Ok((&["a", "Z"], &[]))),
 ];
 
-/// What a file holds.
-fn bytes_of(alloc: Global, length: usize) -> Result<Option<Bytes>, Mem> {
+/// Returns what a file holds, or `None` if it cannot be opened.
+fn bytes_of<R: Abort>(rt: &R, alloc: Global, length: usize) -> Option<Bytes> {
     match FILE.get(..length) {
-        None => Ok(None),
-        Some(bytes) => Ok(Some(Bytes::from(Vec::from_slice(alloc, bytes)?))),
+        None => None,
+        Some(bytes) => {
+            let bytes = Vec::from_slice(alloc, bytes).expect(rt, MEMORY);
+            Some(Bytes::from(bytes))
+        }
     }
 }
 
-/// A folder.
-fn folder_item(alloc: Global, name: &str) -> Result<MemItem, Mem> {
-    let path = Text::read(alloc, name)?;
-    Ok(MemItem::FolderItem { path })
-}
-
-/// A file.
-fn file_item(alloc: Global, item: &Item) -> Result<MemItem, Mem> {
-    let path = Text::read(alloc, item.0)?;
-    let bytes = bytes_of(alloc, item.1)?;
-    let fails = only(alloc, item.2)?;
-    Ok(MemItem::FileItem {
-        path,
+/// Makes a file.
+fn file_item<R: Abort>(rt: &R, alloc: Global, item: &Item) -> MemItem {
+    MemItem::FileItem {
+        path: text_of(rt, alloc, item.0),
         size: 65,
-        bytes,
-        fails,
-    })
-}
-
-/// A file or a folder.
-fn item_of(alloc: Global, item: &Item) -> Result<MemItem, Mem> {
-    match item.0.strip_suffix('/') {
-        Some(folder) => folder_item(alloc, folder),
-        None => file_item(alloc, item),
+        bytes: bytes_of(rt, alloc, item.1),
+        fails: only(rt, alloc, item.2),
     }
 }
 
-/// Puts an item.
-fn put_item(alloc: Global, item: &Item, list: &mut Sequence<MemItem>) -> Result<(), Mem> {
-    list.push(item_of(alloc, item)?)
+/// Makes a file or a folder.
+fn item_of<R: Abort>(rt: &R, alloc: Global, item: &Item) -> MemItem {
+    match item.0.strip_suffix('/') {
+        Some(folder) => folder_item(rt, alloc, folder),
+        None => file_item(rt, alloc, item),
+    }
 }
 
-/// Items of a folder.
-fn items_of(alloc: Global, items: &[Item]) -> Result<Sequence<MemItem>, Mem> {
+/// Makes a folder of items, of which one call fails.
+fn folder_of<R: Abort>(rt: &R, alloc: Global, items: &[Item], fails: u32) -> MemFolder {
     let mut list = Sequence::new(alloc);
     for item in items {
-        put_item(alloc, item, &mut list)?;
+        list.push(item_of(rt, alloc, item)).expect(rt, MEMORY);
     }
-    Ok(list)
+    tree(rt, list, only(rt, alloc, fails))
 }
 
-/// A folder of items, of which one call fails.
-fn folder_of(alloc: Global, items: &[Item], fails: u32) -> Result<MemFolder, Fail> {
-    let fails = only(alloc, fails)?;
-    tree(items_of(alloc, items)?, fails)
-}
-
-/// The title that a content has.
+/// Returns the title that a content has.
 fn title_of(content: &Content) -> &str {
     match content {
         Content::Folder { title } => title.as_str(),
@@ -141,7 +124,7 @@ fn title_of(content: &Content) -> &str {
     }
 }
 
-/// Whether records have these titles.
+/// Returns whether records have these titles.
 fn have_titles(records: &[Record], titles: &[&str]) -> bool {
     for (found, title) in records.iter().zip(titles) {
         if title_of(&found.content) != *title {
@@ -151,7 +134,7 @@ fn have_titles(records: &[Record], titles: &[&str]) -> bool {
     records.len() == titles.len()
 }
 
-/// Whether these files are refused.
+/// Returns whether exactly these files are refused.
 fn are_refused(files: &[RefusedFile], want: &[(&str, FlacError)]) -> bool {
     for (file, (path, error)) in files.iter().zip(want) {
         if file.path.as_str() != *path || file.error != *error {
@@ -161,7 +144,7 @@ fn are_refused(files: &[RefusedFile], want: &[(&str, FlacError)]) -> bool {
     files.len() == want.len()
 }
 
-/// Whether a scan answers this.
+/// Returns whether a scan answers this.
 fn is_found(answer: &Result<Scan, ScanError>, want: &Result<Found, ScanError>) -> bool {
     match (answer, want) {
         (Ok(found), Ok((titles, refused))) => {
@@ -173,22 +156,21 @@ fn is_found(answer: &Result<Scan, ScanError>, want: &Result<Found, ScanError>) -
     }
 }
 
-/// Whether the scan of a folder answers so.
+/// Returns whether the scan of a folder answers this.
 fn answers(alloc: Global, folder: &mut MemFolder, want: &Result<Found, ScanError>) -> bool {
     let answer = scan(alloc, folder);
     is_found(&answer, want)
 }
 
-/// The same, and whether the folder has each file back that it opened.
-fn is_scanned(alloc: Global, case: &Case) -> Result<bool, Fail> {
-    let mut folder = folder_of(alloc, case.1, case.2)?;
-    Ok(answers(alloc, &mut folder, &case.3) && folder.opened() == folder.returned())
+/// Returns whether a case is answered so, and the folder got back each file that it opened.
+fn is_scanned<R: Abort>(rt: &R, alloc: Global, case: &Case) -> bool {
+    let mut folder = folder_of(rt, alloc, case.1, case.2);
+    answers(alloc, &mut folder, &case.3) && folder.opened() == folder.returned()
 }
 
 #[test]
-fn scans_of_folders_that_fail(rt: HostRuntime) -> Result<(), Fail> {
+fn scans_of_folders_that_fail(rt: HostRuntime) {
     for case in &CASES {
-        assert!(rt; is_scanned(rt.alloc(), case)?, "{}", case.0);
+        assert!(rt; is_scanned(&rt, rt.alloc(), case), "{}", case.0);
     }
-    Ok(())
 }

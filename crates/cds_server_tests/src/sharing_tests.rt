@@ -1,19 +1,19 @@
-//! A thread that browses what another one scanned.
+//! A test of a thread that browses what another one scanned.
 
-ghost use Rattle.std.specs.Prelude.{◌≡◌, IfOk, IfSome};
+ghost use Rattle.std.specs.Prelude.{◌≡◌, IfSome};
 ghost use Rattle.std.specs.Arc.{arc_value};
 ghost use Rattle.cds_turn.specs.Turn.{IsSeatOf, passes_of};
 
 use crate::desk::{Desk, server};
-use crate::made::{asking, clock, folder, rows_in};
+use crate::made::{MEMORY, asking, clock, folder, rows_in};
 use cds_base::{Job, NoGate, Numbers, Spawner};
 use cds_memory::{MemClock, MemFolder, MemSpawner};
 use cds_serve::{Scanned, Scanner, Served, scan_once};
 use cds_turn::{Seat, Turn};
 use std::alloc::Global;
 use std::marker::Send;
+use std::process::Abort;
 use std::sync::{Arc, Wait};
-use std::test::Fail;
 use std::thread::Threads;
 
 /// What a scanner has, for one scan alone.
@@ -51,7 +51,7 @@ impl<R: Wait + Send + Drop + 'static> Job for Once<R> {
     }
 }
 
-/// Scans once. How many scans were accepted.
+/// Scans once. Returns how many scans were accepted.
 fn scan_over<R: Wait>(
     rt: &R,
     alloc: Global,
@@ -68,7 +68,7 @@ fn scan_over<R: Wait>(
     u64::from(scanned.is_ok())
 }
 
-/// The seat of a job, where its scan was accepted.
+/// Returns the seat of a job if its scan was accepted.
 fn accepted_seat(scanned: Scanned<MemFolder>) -> Option<Seat<Served>>
     ensures { IfSome result (λ seat. seat ≡ scanned.seat) }
 {
@@ -79,7 +79,7 @@ fn accepted_seat(scanned: Scanned<MemFolder>) -> Option<Seat<Served>>
     }
 }
 
-/// Has another thread scan once and end. Its seat, where the scan was accepted.
+/// Lets another thread scan once and end. Returns its seat if the scan was accepted.
 fn start_once<R: Threads + Wait + Send + Drop + 'static>(
     rt: &R,
     spawner: &mut MemSpawner,
@@ -93,24 +93,19 @@ fn start_once<R: Threads + Wait + Send + Drop + 'static>(
     }
 }
 
-/// What else a scan takes.
-fn ends(alloc: Global) -> Result<(MemFolder, MemClock), Fail> {
-    let folder = folder(alloc, "Jazz Rock")?;
-    Ok((folder, clock(alloc, &[], 0)?))
-}
-
-/// Has another thread scan a folder once and end. Its seat, where the scan was accepted.
-fn scan_apart<R: Threads + Wait + Send + Drop + 'static>(
+/// Lets another thread scan a folder once and end. Returns its seat if the scan was accepted.
+fn scan_apart<R: Threads + Wait + Abort + Send + Drop + 'static>(
     rt: &R,
     theirs: R,
     alloc: Global,
     turn: Arc<Turn<Served>>,
     seat: Seat<Served>,
-) -> Result<Option<Seat<Served>>, Fail>
+) -> Option<Seat<Served>>
     requires { IsSeatOf (arc_value turn) seat }
-    ensures { IfOk result (λ found. IfSome found (λ seat. IsSeatOf (arc_value turn) seat)) }
+    ensures { IfSome result (λ seat. IsSeatOf (arc_value turn) seat) }
 {
-    let (folder, clock) = ends(alloc)?;
+    let folder = folder(rt, alloc, "Jazz Rock");
+    let clock = clock(rt, alloc, &[], 0);
     let scanner = Scanner {
         rt: theirs,
         alloc,
@@ -121,10 +116,10 @@ fn scan_apart<R: Threads + Wait + Send + Drop + 'static>(
         gate: NoGate,
     };
     let mut spawner = MemSpawner::new(Numbers::new(alloc));
-    Ok(start_once(rt, &mut spawner, scanner))
+    start_once(rt, &mut spawner, scanner)
 }
 
-/// Takes in another seat, where there is one. Whether there is.
+/// Takes in another seat if there is one. Returns whether there is.
 fn join(turn: &Turn<Served>, seat: &mut Seat<Served>, other: Option<Seat<Served>>) -> bool
     requires seat { IsSeatOf turn.now seat.old }
     requires other { IfSome other (λ theirs. IsSeatOf turn.now theirs) }
@@ -139,56 +134,42 @@ fn join(turn: &Turn<Served>, seat: &mut Seat<Served>, other: Option<Seat<Served>
     }
 }
 
-/// Has another thread scan with a seat of its own. Whether the scan was accepted.
-fn is_scanned<R: Threads + Wait + Copy + Send + Drop + 'static>(
+/// Lets another thread scan with a seat of its own. Returns whether the scan was accepted.
+fn is_scanned<R: Threads + Wait + Abort + Copy + Send + Drop + 'static>(
     rt: R,
     alloc: Global,
     turn: &Arc<Turn<Served>>,
     seat: &mut Seat<Served>,
-) -> Result<bool, Fail>
+) -> bool
     requires seat { IsSeatOf (arc_value turn.now) seat.old }
     requires passes { passes_of seat.old ≡ 2 }
     ensures { IsSeatOf (arc_value turn.now) seat.new }
 {
-    let shared = Arc::try_clone(turn)?;
+    let shared = Arc::try_clone(turn).expect(&rt, MEMORY);
     let theirs = turn.split(seat);
-    let found = scan_apart(&rt, rt, alloc, shared, theirs)?;
-    Ok(join(turn, seat, found))
+    let found = scan_apart(&rt, rt, alloc, shared, theirs);
+    join(turn, seat, found)
 }
 
-/// How many rows a server shows.
-fn rows_shown<R: Wait>(rt: &R, alloc: Global, desk: &mut Desk) -> Result<Option<usize>, Fail> {
-    let mut conn = asking(alloc, 0, 0)?;
-    desk.serve(rt, alloc, &mut conn)?;
-    rows_in(alloc, conn.written())
+/// Returns how many rows a server shows.
+fn rows_shown<R: Wait + Abort>(rt: &R, alloc: Global, desk: &mut Desk) -> Option<usize> {
+    let mut conn = asking(rt, alloc, 0, 0);
+    desk.serve(rt, alloc, &mut conn);
+    rows_in(rt, alloc, conn.written())
 }
 
-/// A desk for a server that another thread scanned for.
-fn desk_after<R: Threads + Wait + Copy + Send + Drop + 'static>(
+/// Returns whether the scan of another thread was accepted, and how many rows the server then shows.
+fn rows_found<R: Threads + Wait + Abort + Copy + Send + Drop + 'static>(
     rt: R,
     alloc: Global,
-) -> Result<Option<Desk>, Fail> {
-    let (turn, mut seat) = server(alloc, 2)?;
-    if is_scanned(rt, alloc, &turn, &mut seat)? {
-        Ok(Some(Desk::of(alloc, turn, seat, &[], 0)?))
-    } else {
-        Ok(None)
-    }
-}
-
-/// How many rows it shows.
-fn rows_found<R: Threads + Wait + Copy + Send + Drop + 'static>(
-    rt: R,
-    alloc: Global,
-) -> Result<Option<usize>, Fail> {
-    match desk_after(rt, alloc)? {
-        Some(mut desk) => rows_shown(&rt, alloc, &mut desk),
-        None => Ok(None),
-    }
+) -> (bool, Option<usize>) {
+    let (turn, mut seat) = server(&rt, alloc, 2);
+    let is_accepted = is_scanned(rt, alloc, &turn, &mut seat);
+    let mut desk = Desk::of(&rt, alloc, turn, seat, &[], 0);
+    (is_accepted, rows_shown(&rt, alloc, &mut desk))
 }
 
 #[test]
-fn a_scan_of_another_thread_is_browsed(rt: HostRuntime) -> Result<(), Fail> {
-    assert!(rt; rows_found(rt, rt.alloc())? == Some(2));
-    Ok(())
+fn a_scan_of_another_thread_is_browsed(rt: HostRuntime) {
+    assert!(rt; rows_found(rt, rt.alloc()) == (true, Some(2)));
 }

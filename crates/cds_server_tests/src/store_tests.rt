@@ -1,19 +1,18 @@
-//! Both bodies of the store, by the calls that they have in common: what the plain one keeps, which no program runs, is what
-//! the other one keeps.
+//! Tests of both bodies of the store, by the calls that they have in common. No program runs the plain one. What it
+//! keeps, the other one keeps.
 
-ghost use Rattle.std.specs.Prelude.{◌<◌, ◌^◌, length, IfOk};
+ghost use Rattle.std.specs.Prelude.{◌<◌, ◌^◌, length};
 ghost use Rattle.std.specs.List.{AllByRecursion};
 
-use crate::made::records_of;
-use cds_base::{Mem, Text};
+use crate::made::{MEMORY, records_of, text_of};
 use cds_browse::{browse, run_scans};
 use cds_object::{Class, Event, Events, Records, Row, Trackers};
 use cds_soap::BrowseRequest;
 use cds_store::{ApplyError, Keeping, PlainStore, Span, Store};
 use std::alloc::Global;
-use std::test::Fail;
+use std::process::Abort;
 
-/// What is answered to a scan.
+/// What a scan is answered.
 #[derive(Clone, Copy)]
 enum Answer {
     Took(u32, u32),
@@ -21,12 +20,13 @@ enum Answer {
     Spent(u32),
 }
 
-/// An id, its parent's (0 of the root), the objectUpdateID, and the containerUpdateID, childCount and
+/// An id; its parent's, 0 for the root; the objectUpdateID; and the containerUpdateID, childCount and
 /// totalDeletedChildCount of a folder.
 type Line = (u32, u32, u32, Option<(u32, u32, u32)>);
 
-/// Scans from a first number, parted by `|`, and what is answered to each; the rows after all; the number up to which
-/// changes are then forgotten; and the events, the containers and the ids of the root's children that are told then.
+/// Scans from a first number, parted by `|`, and what is answered to each. Then the rows after all, and the number up
+/// to which changes are then forgotten. Last the events, the containers and the ids of the root's children that are
+/// told then.
 #[derive(Drop)]
 struct Case {
     first: u32,
@@ -181,7 +181,7 @@ const CASES: [Case; 5] = [
     },
 ];
 
-/// Whether this is answered.
+/// Returns whether this is answered.
 fn is_answer(answer: &Result<Span, ApplyError>, want: &Answer) -> bool {
     match (answer, want) {
         (Ok(span), Answer::Took(from, to)) => span.from == *from && span.to == *to,
@@ -191,34 +191,35 @@ fn is_answer(answer: &Result<Span, ApplyError>, want: &Answer) -> bool {
     }
 }
 
-/// Whether a scan is answered so.
-fn takes<K: Keeping>(
+/// Returns whether a scan is answered so.
+fn takes<R: Abort, K: Keeping>(
+    rt: &R,
     alloc: Global,
     store: &mut K,
     scan: &str,
     want: &Answer,
-) -> Result<bool, Fail> {
-    let records = records_of(alloc, scan)?;
+) -> bool {
+    let records = records_of(rt, alloc, scan);
     let answer = store.apply(alloc, &records);
-    Ok(is_answer(&answer, want))
+    is_answer(&answer, want)
 }
 
-/// Whether the scans of a case are answered so.
-fn takes_all<K: Keeping>(alloc: Global, store: &mut K, case: &Case) -> Result<bool, Fail> {
+/// Returns whether the scans of a case are answered so.
+fn takes_all<R: Abort, K: Keeping>(rt: &R, alloc: Global, store: &mut K, case: &Case) -> bool {
     let mut at = 0usize;
     for scan in case.scans.split("|") {
         let Some(want) = case.answers.get(at) else {
-            return Ok(false);
+            return false;
         };
-        if !takes(alloc, store, scan, want)? {
-            return Ok(false);
+        if !takes(rt, alloc, store, scan, want) {
+            return false;
         }
         at = at.saturating_add(1);
     }
-    Ok(at == case.answers.len())
+    at == case.answers.len()
 }
 
-/// The trackers that are wanted.
+/// Returns the trackers that are wanted.
 fn trackers_of(line: &Line) -> Option<Trackers> {
     match line.3 {
         Some((container_update, child_count, deleted)) => Some(Trackers {
@@ -230,7 +231,7 @@ fn trackers_of(line: &Line) -> Option<Trackers> {
     }
 }
 
-/// Whether there is a row, and it is this one.
+/// Returns whether there is a row, and it is this one.
 fn is_line(row: Option<&Row>, line: &Line) -> bool {
     let Some(row) = row else {
         return false;
@@ -245,7 +246,7 @@ fn is_line(row: Option<&Row>, line: &Line) -> bool {
         && row.trackers == trackers_of(line)
 }
 
-/// Whether there are exactly these rows, at their places and by their ids.
+/// Returns whether there are exactly these rows, at their places and by their ids.
 fn has_rows<K: Keeping>(store: &K, lines: &[Line]) -> bool {
     for (at, line) in lines.iter().enumerate() {
         if !is_line(store.row(at), line) || !is_line(store.get(line.0), line) {
@@ -255,7 +256,7 @@ fn has_rows<K: Keeping>(store: &K, lines: &[Line]) -> bool {
     store.len() == lines.len()
 }
 
-/// Forgets what a case forgets. The span of the changes behind it.
+/// Forgets what a case forgets. Returns the span of the changes after it.
 fn forget<K: Keeping>(store: &mut K, to: u32) -> Span {
     if to <= store.system_update_id() {
         store.forget(to);
@@ -266,169 +267,146 @@ fn forget<K: Keeping>(store: &mut K, to: u32) -> Span {
     }
 }
 
-/// Whether exactly these events are told of a span.
-fn tells_events<K: Keeping>(
+/// Returns whether exactly these events are told of a span.
+fn tells_events<R: Abort, K: Keeping>(
+    rt: &R,
     alloc: Global,
     store: &K,
     span: Span,
     want: &[Event],
-) -> Result<bool, Fail> {
+) -> bool {
     if span.from < store.forgotten() {
-        return Ok(false);
+        return false;
     }
     let mut events = Events::new(alloc);
-    store.changes_after(alloc, span, &mut events)?;
-    Ok(events.as_slice() == want)
+    store
+        .changes_after(alloc, span, &mut events)
+        .expect(rt, MEMORY);
+    events.as_slice() == want
 }
 
-/// Whether exactly these containers are told of a span, with their numbers.
-fn tells_containers<K: Keeping>(
+/// Returns whether exactly these containers are told of a span, with their numbers.
+fn tells_containers<R: Abort, K: Keeping>(
+    rt: &R,
     alloc: Global,
     store: &K,
     span: Span,
     want: &[(u32, u32)],
-) -> Result<bool, Fail> {
+) -> bool {
     if span.from < store.forgotten() {
-        return Ok(false);
+        return false;
     }
     let mut containers = Vec::new(alloc);
-    store.containers_after(alloc, span, &mut containers)?;
-    Ok(containers.as_slice() == want)
+    store
+        .containers_after(alloc, span, &mut containers)
+        .expect(rt, MEMORY);
+    containers.as_slice() == want
 }
 
-/// What asks for this object's children, sorted by nothing.
-fn asked_for(object: Text, flag: Text, filter: Text, sort: Text) -> BrowseRequest {
+/// Makes the Browse request for all of the root's children.
+fn root_asked<R: Abort>(rt: &R, alloc: Global) -> BrowseRequest {
     BrowseRequest {
-        object,
-        flag,
-        filter,
+        object: text_of(rt, alloc, "0"),
+        flag: text_of(rt, alloc, "BrowseDirectChildren"),
+        filter: text_of(rt, alloc, "*"),
         start: 0,
         count: 0,
-        sort,
+        sort: text_of(rt, alloc, ""),
     }
 }
 
-/// Two texts.
-fn two_texts(alloc: Global, first: &str, second: &str) -> Result<(Text, Text), Mem> {
-    let first = Text::read(alloc, first)?;
-    Ok((first, Text::read(alloc, second)?))
+/// Returns whether the root has exactly these children, and the page says the store's number.
+fn has_children<R: Abort, K: Keeping>(rt: &R, alloc: Global, store: &K, want: &[u32]) -> bool {
+    let asked = root_asked(rt, alloc);
+    let page = browse(alloc, store, &asked).expect(rt, "a page");
+    page.ids.as_slice() == want && page.update == store.system_update_id()
 }
 
-/// What asks for the root's children.
-fn root_asked(alloc: Global) -> Result<BrowseRequest, Mem> {
-    let (object, flag) = two_texts(alloc, "0", "BrowseDirectChildren")?;
-    let (filter, sort) = two_texts(alloc, "*", "")?;
-    Ok(asked_for(object, flag, filter, sort))
-}
-
-/// Whether the answer to this has exactly these ids, and says its number.
-fn gives_children<K: Keeping>(
-    alloc: Global,
-    store: &K,
-    asked: &BrowseRequest,
-    want: &[u32],
-) -> Result<bool, Fail> {
-    let page = browse(alloc, store, asked)?;
-    Ok(page.ids.as_slice() == want && page.update == store.system_update_id())
-}
-
-/// Whether the root has exactly these children, and the page says so.
-fn has_children<K: Keeping>(alloc: Global, store: &K, want: &[u32]) -> Result<bool, Fail> {
-    let asked = root_asked(alloc)?;
-    gives_children(alloc, store, &asked, want)
-}
-
-/// Whether a new store keeps a case.
-fn keeps<K: Keeping>(alloc: Global, store: &mut K, case: &Case) -> Result<bool, Fail> {
-    if !takes_all(alloc, store, case)? || !has_rows(store, case.rows) {
-        return Ok(false);
+/// Returns whether a new store keeps a case.
+fn keeps<R: Abort, K: Keeping>(rt: &R, alloc: Global, store: &mut K, case: &Case) -> bool {
+    if !takes_all(rt, alloc, store, case) || !has_rows(store, case.rows) {
+        return false;
     }
     let span = forget(store, case.forget);
-    Ok(
-        store.forgotten() == case.forget
-            && tells_events(alloc, store, span, case.events)?
-            && tells_containers(alloc, store, span, case.containers)?
-            && has_children(alloc, store, case.children)?,
-    )
+    store.forgotten() == case.forget
+        && tells_events(rt, alloc, store, span, case.events)
+        && tells_containers(rt, alloc, store, span, case.containers)
+        && has_children(rt, alloc, store, case.children)
 }
 
-/// Whether the plain body keeps a case.
-fn plain_keeps(alloc: Global, case: &Case) -> Result<bool, Fail> {
-    let mut store = PlainStore::new(alloc, case.first)?;
-    keeps(alloc, &mut store, case)
+/// Returns whether the plain body keeps a case.
+fn plain_keeps<R: Abort>(rt: &R, alloc: Global, case: &Case) -> bool {
+    let mut store = PlainStore::new(alloc, case.first).expect(rt, MEMORY);
+    keeps(rt, alloc, &mut store, case)
 }
 
-/// Whether the other body keeps it.
-fn is_kept(alloc: Global, case: &Case) -> Result<bool, Fail> {
-    let mut store = Store::new(alloc, case.first)?;
-    keeps(alloc, &mut store, case)
+/// Returns whether the other body keeps it.
+fn is_kept<R: Abort>(rt: &R, alloc: Global, case: &Case) -> bool {
+    let mut store = Store::new(alloc, case.first).expect(rt, MEMORY);
+    keeps(rt, alloc, &mut store, case)
 }
 
 #[test]
-fn both_bodies_keep_the_same(rt: HostRuntime) -> Result<(), Fail> {
+fn both_bodies_keep_the_same(rt: HostRuntime) {
     for case in &CASES {
-        assert!(rt; plain_keeps(rt.alloc(), case)?, "plain: {}", case.scans);
-        assert!(rt; is_kept(rt.alloc(), case)?, "{}", case.scans);
+        assert!(rt; plain_keeps(&rt, rt.alloc(), case), "plain: {}", case.scans);
+        assert!(rt; is_kept(&rt, rt.alloc(), case), "{}", case.scans);
     }
-    Ok(())
 }
 
-/// Two tracks, then a folder in the place of one of them.
+/// The rows after two tracks, and then a folder in the place of one of them.
 const ROWS: &str =
     "<container id=\"0\" parentID=\"-1\" restricted=\"1\" searchable=\"1\" childCount=\"2\"><dc:title>root</dc:title><upnp:class>object.container</upnp:class><upnp:objectUpdateID>0</upnp:objectUpdateID><upnp:containerUpdateID>4</upnp:containerUpdateID><upnp:totalDeletedChildCount>1</upnp:totalDeletedChildCount></container>\n<item id=\"2\" parentID=\"0\" restricted=\"1\"><dc:title>y</dc:title><upnp:class>object.item.audioItem.musicTrack</upnp:class><upnp:objectUpdateID>2</upnp:objectUpdateID><res protocolInfo=\"http-get:*:audio/flac:*\" size=\"1\" bitsPerSample=\"8\" nrAudioChannels=\"1\">/media/2</res></item>\n<container id=\"3\" parentID=\"0\" restricted=\"1\" searchable=\"1\" childCount=\"0\"><dc:title>x.flac</dc:title><upnp:class>object.container</upnp:class><upnp:objectUpdateID>4</upnp:objectUpdateID><upnp:containerUpdateID>4</upnp:containerUpdateID><upnp:totalDeletedChildCount>0</upnp:totalDeletedChildCount></container>\n";
 
-/// Both scans.
-fn both_scans(alloc: Global) -> Result<Vec<Records>, Fail>
-    ensures { IfOk result (λ scans. AllByRecursion (λ records. length records < 2 ^ 32) scans.items) }
+/// Makes both scans.
+fn both_scans<R: Abort>(rt: &R, alloc: Global) -> Vec<Records>
+    ensures { AllByRecursion (λ records. length records < 2 ^ 32) result.items }
 {
-    let first = records_of(alloc, "x.flac y.flac")?;
-    let second = records_of(alloc, "x.flac/ y.flac")?;
+    let first = records_of(rt, alloc, "x.flac y.flac");
+    let second = records_of(rt, alloc, "x.flac/ y.flac");
     let mut scans = Vec::new(alloc);
-    scans.push(first)?;
-    scans.push(second)?;
-    Ok(scans)
+    scans.push(first).expect(rt, MEMORY);
+    scans.push(second).expect(rt, MEMORY);
+    scans
 }
 
-/// Whether these scans append those rows.
-fn append_rows<K: Keeping>(alloc: Global, store: &mut K, scans: &[Records]) -> Result<bool, Fail>
+/// Returns whether these scans append those rows.
+fn append_rows<R: Abort, K: Keeping>(
+    rt: &R,
+    alloc: Global,
+    store: &mut K,
+    scans: &[Records],
+) -> bool
     requires { AllByRecursion (λ records. length records < 2 ^ 32) scans.now }
 {
     let mut out = Vec::new(alloc);
-    run_scans(alloc, store, scans, &mut out)?;
-    Ok(out.as_slice() == ROWS.as_bytes())
+    run_scans(alloc, store, scans, &mut out).expect(rt, "both scans");
+    out.as_slice() == ROWS.as_bytes()
 }
 
-/// Whether the plain body appends them.
-fn plain_appends(alloc: Global, scans: &[Records]) -> Result<bool, Fail>
+/// Returns whether the plain body appends them.
+fn plain_appends<R: Abort>(rt: &R, alloc: Global, scans: &[Records]) -> bool
     requires { AllByRecursion (λ records. length records < 2 ^ 32) scans.now }
 {
-    let mut store = PlainStore::new(alloc, 0)?;
-    append_rows(alloc, &mut store, scans)
+    let mut store = PlainStore::new(alloc, 0).expect(rt, MEMORY);
+    append_rows(rt, alloc, &mut store, scans)
 }
 
-/// Whether the other body does.
-fn is_appended(alloc: Global, scans: &[Records]) -> Result<bool, Fail>
+/// Returns whether the other body appends them.
+fn is_appended<R: Abort>(rt: &R, alloc: Global, scans: &[Records]) -> bool
     requires { AllByRecursion (λ records. length records < 2 ^ 32) scans.now }
 {
-    let mut store = Store::new(alloc, 0)?;
-    append_rows(alloc, &mut store, scans)
+    let mut store = Store::new(alloc, 0).expect(rt, MEMORY);
+    append_rows(rt, alloc, &mut store, scans)
 }
 
-/// Whether both bodies append them.
-fn both_append(alloc: Global, scans: &[Records]) -> Result<bool, Fail>
-    requires { AllByRecursion (λ records. length records < 2 ^ 32) scans.now }
-{
-    Ok(plain_appends(alloc, scans)? && is_appended(alloc, scans)?)
-}
-
-/// The same of both scans.
-fn both_lead_to_rows(alloc: Global) -> Result<bool, Fail> {
-    let scans = both_scans(alloc)?;
-    both_append(alloc, scans.as_slice())
+/// Returns whether both bodies append those rows for both scans.
+fn both_lead_to_rows<R: Abort>(rt: &R, alloc: Global) -> bool {
+    let scans = both_scans(rt, alloc);
+    plain_appends(rt, alloc, scans.as_slice()) && is_appended(rt, alloc, scans.as_slice())
 }
 
 #[test]
-fn both_bodies_append_the_same(rt: HostRuntime) -> Result<(), Fail> {
-    assert!(rt; both_lead_to_rows(rt.alloc())?);
-    Ok(())
+fn both_bodies_append_the_same(rt: HostRuntime) {
+    assert!(rt; both_lead_to_rows(&rt, rt.alloc()));
 }

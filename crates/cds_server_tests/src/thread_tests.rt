@@ -1,17 +1,17 @@
-//! Workers beside one another.
+//! A test of workers that serve side by side.
 
 use crate::life::{NONE, door, lived, outside_of};
-use crate::made::is_good;
+use crate::made::{MEMORY, is_good};
 use cds_base::{Bytes, Door, Gate, Mem, Numbers};
-use cds_memory::{MemDoor, MemOutside, MemSink};
+use cds_memory::{MemDoor, MemSink};
 use std::alloc::Global;
 use std::marker::{Send, Sync};
+use std::process::Abort;
 use std::sync::atomic::{AtomicU64, Ordering};
 use std::sync::{Arc, Wait};
-use std::test::Fail;
 use std::thread::{Threads, yield_now};
 
-/// How often a gate looks at most, which is far more often than it has to.
+/// How many times a gate looks at most. That is far more often than it has to.
 const LOOKS: u64 = 100_000_000;
 
 /// Holds worker 0 before its reply until worker 1 has written its own.
@@ -50,75 +50,66 @@ impl Gate for Turnstile {
     }
 }
 
-/// Whether the connection of this number of a door was answered.
-fn is_answered<R: Wait + Clone + Drop>(
-    door: &MemDoor<R>,
+/// Returns whether the connection of this number of a door was answered.
+fn is_answered<R: Wait + Clone + Drop + Abort>(
+    rt: &R,
     alloc: Global,
+    door: &MemDoor<R>,
     at: usize,
-) -> Result<bool, Mem> {
-    match door.written(alloc, at)? {
-        Some(reply) => Ok(is_good(reply.as_slice())),
-        None => Ok(false),
+) -> bool {
+    match door.written(alloc, at).expect(rt, MEMORY) {
+        Some(reply) => is_good(reply.as_slice()),
+        None => false,
     }
 }
 
-/// Whether a server that serves two connections over this outside ends well.
-fn is_well<R: Threads + Wait + Clone + Copy + Drop + Send + Sync + 'static>(
-    rt: R,
+/// Returns whether both connections of a door were answered.
+fn are_both_answered<R: Wait + Clone + Drop + Abort>(
+    rt: &R,
     alloc: Global,
-    outside: &mut MemOutside<R>,
-    gate: &mut Turnstile,
+    door: &MemDoor<R>,
 ) -> bool {
-    let mut sink = MemSink::new(Bytes::new(alloc), Numbers::new(alloc));
-    lived(&rt, alloc, 2, outside, &mut sink, gate).status == 0
+    is_answered(rt, alloc, door, 0) && is_answered(rt, alloc, door, 1)
 }
 
-/// Whether one that serves those of a door does.
-fn serves_well<R: Threads + Wait + Clone + Copy + Drop + Send + Sync + 'static>(
+/// Returns whether a server that serves the two connections of this door ends well.
+fn serves_well<R: Threads + Wait + Clone + Copy + Drop + Abort + Send + Sync + 'static>(
     rt: R,
     alloc: Global,
     door: MemDoor<R>,
     gate: &mut Turnstile,
-) -> Result<bool, Fail> {
-    let mut outside = outside_of(alloc, NONE, door)?;
-    Ok(is_well(rt, alloc, &mut outside, gate))
+) -> bool {
+    let mut sink = MemSink::new(Bytes::new(alloc), 256, Numbers::new(alloc)).expect(&rt, MEMORY);
+    let mut outside = outside_of(&rt, alloc, NONE, door);
+    lived(&rt, alloc, 2, &mut outside, &mut sink, gate).status == 0
 }
 
-/// Whether both connections of a door were answered.
-fn are_both_answered<R: Wait + Clone + Drop>(
-    door: &MemDoor<R>,
-    alloc: Global,
-) -> Result<bool, Mem> {
-    Ok(is_answered(door, alloc, 0)? && is_answered(door, alloc, 1)?)
-}
-
-/// Whether a server that serves two connections answers both of a door.
-fn are_answered<R: Threads + Wait + Clone + Copy + Drop + Send + Sync + 'static>(
+/// Returns whether a server that serves two connections answers both of a door.
+fn are_answered<R: Threads + Wait + Clone + Copy + Drop + Abort + Send + Sync + 'static>(
     rt: R,
     alloc: Global,
     gate: &mut Turnstile,
-) -> Result<bool, Fail> {
-    let mut shown = door(rt, alloc, NONE)?;
-    let is_well = serves_well(rt, alloc, shown.again()?, gate)?;
-    Ok(is_well && are_both_answered(&shown, alloc)?)
+) -> bool {
+    let mut shown = door(rt, alloc, NONE);
+    let theirs = shown.again().expect(&rt, "another handle of the door");
+    serves_well(rt, alloc, theirs, gate) && are_both_answered(&rt, alloc, &shown)
 }
 
-/// Whether they are answered while worker 0 is held.
-fn are_side_by_side<R: Threads + Wait + Clone + Copy + Drop + Send + Sync + 'static>(
+/// Returns whether both are answered while worker 0 is held.
+fn are_side_by_side<R: Threads + Wait + Clone + Copy + Drop + Abort + Send + Sync + 'static>(
     rt: R,
     alloc: Global,
-) -> Result<bool, Fail> {
-    let passed = Arc::new(alloc, AtomicU64::new(0))?;
+) -> bool {
+    let passed = Arc::new(alloc, AtomicU64::new(0)).expect(&rt, MEMORY);
     let mut gate = Turnstile {
         worker: 9,
-        passed: Arc::try_clone(&passed)?,
+        passed: Arc::try_clone(&passed).expect(&rt, MEMORY),
     };
-    let answered = are_answered(rt, alloc, &mut gate)?;
-    Ok(answered && passed.load(Ordering::SeqCst) == 2)
+    let answered = are_answered(rt, alloc, &mut gate);
+    answered && passed.load(Ordering::SeqCst) == 2
 }
 
 #[test]
-fn workers_serve_side_by_side(rt: HostRuntime) -> Result<(), Fail> {
-    assert!(rt; are_side_by_side(rt, rt.alloc())?);
-    Ok(())
+fn workers_serve_side_by_side(rt: HostRuntime) {
+    assert!(rt; are_side_by_side(rt, rt.alloc()));
 }

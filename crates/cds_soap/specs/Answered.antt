@@ -21,7 +21,8 @@ use Rattle.cds_soap.specs.Given.{own_text, number_in, results_given}
 unfoldable pub control_space : List ℕ
 control_space = codes "urn:schemas-upnp-org:control-1-0"
 
--- The code of an error in its Fault: `detail` is in no namespace, what stands in it in that of control.
+-- The code of an error in its Fault: `detail` is in no namespace, and the elements in it are in the namespace of
+-- control.
 unfoldable pub code_in : Meaning → Option ℕ
 code_in fault = do
   detail ← only_of (named [] (codes "detail") (nodes_in fault))
@@ -57,11 +58,11 @@ Says (of_reply status) element action_name (answer.Fault code) = (status ≡ 500
 abbrev pub Answered : Message → Action → Answer → Type 0
 Answered m action answer = (element : Meaning) × Doc m.body element × Says m.start element (name_of_action action) answer
 
--- The bytes are a reply, and behind it anything, that answers the action.
+-- The bytes are a reply that answers the action, and after it anything.
 abbrev pub AnsweredIn : List ℕ → Action → Answer → Type 0
 AnsweredIn bytes action answer = (m : Message) × (n : ℕ) × IsMessage Reply bytes m n × Answered m action answer
 
--- What is made of the bytes of a reply. Want of memory says nothing of them.
+-- What is made of the bytes of a reply. If memory runs out, that says nothing of them.
 abbrev pub AnswersReply : List ℕ → Action → Result Answer SoapError → Type 0
 AnswersReply bytes action (Ok answer) = AnsweredIn bytes action answer
 AnswersReply bytes action (Err NotAnswer) = (answer : Answer) → ¬ (AnsweredIn bytes action answer)

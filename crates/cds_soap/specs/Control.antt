@@ -26,14 +26,14 @@ pub record Calls (element : Meaning) (action_name : ActionName) (version : ℕ) 
   pub inside : in_envelope element ≡ Some call
   pub named : IsTrue (is_named (service_type version) (named_as action_name) call)
 
--- The fields of a message, whose body is a document of this element, name that action in that version too.
+-- The fields of a message name that action in that version, too. The body of the message is a document of this element.
 pub record Names (fields : Entries FieldValue) (element : Meaning) (action_name : ActionName) (version : ℕ) (call : Meaning) : Type 0 where
   pub calls : Calls element action_name version call
   pub field : List ℕ
   pub field_is : soap_action_in fields ≡ Some field
   pub field_names : IsSoapAction field version action_name
 
--- It asks for the action with its arguments.
+-- A message asks for the action with its arguments.
 pub record Asks (m : Message) (element : Meaning) (action : Action) (version : ℕ) : Type 0 where
   pub action_name : ActionName
   pub call : Meaning
@@ -44,13 +44,13 @@ pub record Asks (m : Message) (element : Meaning) (action : Action) (version : �
 abbrev pub Control : Message → Action → ℕ → Type 0
 Control m action version = (element : Meaning) × Doc m.body element × Asks m element action version
 
--- Its body is a document, and it names no action.
+-- The body of the message is a document, and the message names no action.
 abbrev pub NamesNone : Message → Type 0
 NamesNone m =
     (element : Meaning) × Doc m.body element
     × ((action_name : ActionName) (version : ℕ) (call : Meaning) → ¬ (Names m.fields element action_name version call))
 
--- Its body is a document, it names an action, and the arguments are not those of this action.
+-- The body of the message is a document, and the message names an action. The arguments are not those of this action.
 pub record GivesNone (m : Message) : Type 0 where
   pub element : Meaning
   pub document : Doc m.body element
@@ -60,7 +60,7 @@ pub record GivesNone (m : Message) : Type 0 where
   pub names : Names m.fields element action_name version call
   pub arguments : action_given action_name call ≡ None
 
--- What is answered to a message. Want of memory says nothing of it.
+-- What is answered to a message. If memory runs out, that says nothing of it.
 abbrev pub AnswersAsk : Message → Result Asked SoapError → Type 0
 AnswersAsk m (Ok asked) = Control m asked.action asked.version
 AnswersAsk m (Err (Markup refusal)) = IsRefused m.body refusal × (refusal ≢ NoMemory)

@@ -4,7 +4,7 @@ use Rattle.std.specs.Option.{option_and_then}
 use Rattle.cds_markup.specs.Document.{Meaning}
 use Rattle.cds_markup.specs.Children.{nodes_in, elements_in, is_named, only_of, where_it}
 
--- One thing that may be missing behind another.
+-- One thing that may be missing after another.
 infixl 10 ◌>>=◌
 abbrev pub ◌>>=◌ : {A B : Type 0} → Option A → (A → Option B) → Option B
 o >>= f = option_and_then f o
@@ -12,11 +12,11 @@ o >>= f = option_and_then f o
 unfoldable pub envelope_space : List ℕ
 envelope_space = codes "http://schemas.xmlsoap.org/soap/envelope/"
 
--- An element, where it has this name in the namespace of envelopes.
+-- An element, if it has this name in the namespace of envelopes.
 abbrev pub where_of_envelope : List ℕ → Meaning → Option Meaning
 where_of_envelope local element = where_it (is_named envelope_space local) (Some element)
 
--- The Body among the child elements of an envelope: it stands alone, or behind a Header.
+-- The Body among the child elements of an envelope: it stands alone, or after a Header.
 abbrev pub behind_header : Meaning → Meaning → Option Meaning
 behind_header header body = if is_named envelope_space (codes "Header") header then where_of_envelope (codes "Body") body else None
 
@@ -34,6 +34,6 @@ body_of element =
 abbrev pub only_inside : Meaning → Option Meaning
 only_inside element = only_of (elements_in (nodes_in element))
 
--- The one element in the Body of the envelope that a document's element is.
+-- The one element in the Body of an envelope. The envelope is the element of a document.
 unfoldable pub in_envelope : Meaning → Option Meaning
 in_envelope element = option_and_then only_inside (body_of element)

@@ -61,8 +61,9 @@ with_body inside = in_space (codes "Body") inside
 abbrev in_whole : List Meaning → Meaning
 in_whole inside = in_space (codes "Envelope") inside
 
--- An envelope with and without Header; with the Header behind, twice, with another element, with no Body or an empty one,
--- with two elements in it; and a root of another name and of another namespace. Text beside elements is passed over.
+-- An envelope with and without Header. Then with no Body, with the Header after the Body, with the Body or the Header
+-- twice, with two elements in the Body, and with none. Then a root of another name, and one of another namespace. Text
+-- beside elements is passed over.
 abbrev pub EnvelopesAreOpened : Type 0
 EnvelopesAreOpened =
     (in_envelope (in_whole (with_body (some_call ∷ []) ∷ [])) ≡ Some some_call)
@@ -90,7 +91,8 @@ browse_asked =
 abbrev sorted : List ℕ → Meaning
 sorted text = element_of [] (codes "SortCriteria") (TextThen text End)
 
--- In any order and namespace; one missing, one twice, one of another action; an argument where there is none; an empty one.
+-- Arguments in any order and namespace. One missing, one twice, one of another action. An argument for an action
+-- without any. An empty argument.
 abbrev pub ArgumentsAreTaken : Type 0
 ArgumentsAreTaken =
     (action_given name.Browse (call_of (codes "Browse") (element_of [] (codes "SortCriteria") End ∷ browse_asked))
@@ -120,8 +122,8 @@ fault_with inside =
 abbrev code_with : List ℕ → Meaning
 code_with text = element_of control_space (codes "errorCode") (TextThen text End)
 
--- Results in any order with another element beside them; one missing and one twice; a fault with its code alone, without it,
--- with it twice and past the end.
+-- Results in any order with another element beside them. One missing and one twice. A fault with its code alone,
+-- without its code, with it twice, and with a code above the limit.
 abbrev pub AnswersAreTaken : Type 0
 AnswersAreTaken =
     (results_given name.Browse (call_of (codes "BrowseResponse")
@@ -150,7 +152,7 @@ number_answered =
     ++ codes "s:encodingStyle=\"http://schemas.xmlsoap.org/soap/encoding/\"><s:Body><u:GetSystemUpdateIDResponse "
     ++ codes "xmlns:u=\"urn:schemas-upnp-org:service:ContentDirectory:4\"><Id>2</Id></u:GetSystemUpdateIDResponse></s:Body></s:Envelope>"
 
--- The answer to GetSystemUpdateID in version 4; a page in version 1, whose result is escaped once; a fault; a request.
+-- The answer to GetSystemUpdateID in version 4. A page in version 1, whose result is escaped once. A fault. A request.
 abbrev pub BodiesAreWritten : Type 0
 BodiesAreWritten =
     (answer_body name.GetSystemUpdateId 4 (answer.Number 2) ≡ number_answered)

@@ -1,4 +1,4 @@
--- What is found in a message, as functions: what the relations say, step by step.
+-- What is found in a message, as functions. They say step by step what the relations say.
 use Rattle.std.specs.Prelude.{◌≡◌, ◌==◌, ℕ, Bool, false, not, ◌||◌, ◌&&◌, is_some, if◌then◌else◌, Option, Some, None, option_map, List, codes}
 use Rattle.std.specs.Str.{bytes_eq}
 use Rattle.http_header.specs.HeaderMap.{Entries}
@@ -97,7 +97,7 @@ said_by action_name status element = do
   inside ← in_envelope element
   inside_by action_name status inside
 
--- The reply that was found at the front of bytes, and the answer that was found in a reply.
+-- The reply that was found at the start of bytes, and the answer that was found in a reply.
 abbrev pub IsReplyIn : List ℕ → Option Message → Type 0
 IsReplyIn bytes (Some m) = (n : ℕ) × IsMessage Reply bytes m n
 IsReplyIn bytes None = (m : Message) (n : ℕ) → ¬ (IsMessage Reply bytes m n)

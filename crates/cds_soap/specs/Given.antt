@@ -1,6 +1,6 @@
 -- What stands in the element of an action or of an answer: child elements by their local names, in any order and
--- namespace (UPnP ContentDirectory:4 on the arguments of actions; that a request has no others, and an answer may, is this
--- project's profile).
+-- namespace (UPnP ContentDirectory:4 on the arguments of actions). This project's profile: a request has no other
+-- elements, and an answer may have some.
 use Rattle.std.specs.Prelude.{◌==◌, ◌^◌, ◌-◌, ℕ, Bool, ◌||◌, if◌then◌else◌, Option, Some, None, List, [], ◌∷◌, codes, length, take, drop}
 use Rattle.std.specs.Option.{option_and_then, option_map}
 use Rattle.std.specs.List.{list_all, list_any, prefix_len, suffix_len}
@@ -17,7 +17,7 @@ use Rattle.cds_soap.specs.declared.action.Action.TheVariants as action
 use Rattle.cds_soap.specs.declared.answer.Answer.{Answer}
 use Rattle.cds_soap.specs.declared.answer.Answer.TheVariants as answer
 
--- A text without the white space of XML 1.0 before and behind it.
+-- A text without the white space of XML 1.0 before and after it.
 abbrev pub is_space : ℕ → Bool
 is_space b = b == 32 || b == 9 || b == 10 || b == 13
 
@@ -30,7 +30,7 @@ without_back text = take (length text - suffix_len is_space text) text
 abbrev pub trimmed : List ℕ → List ℕ
 trimmed text = without_back (without_front text)
 
--- The text of the child element that comes once, and the number of 32 bits that one is.
+-- The text of the child element that comes once, and the number of 32 bits in such a text.
 abbrev pub own_text : Meaning → List ℕ
 own_text element = texts_in (nodes_in element)
 
@@ -53,7 +53,7 @@ arguments_of name.Search =
     codes "ContainerID" ∷ codes "SearchCriteria" ∷ codes "Filter" ∷ codes "StartingIndex" ∷ codes "RequestedCount" ∷ codes "SortCriteria" ∷ []
 arguments_of other = []
 
--- No child element has another name than these.
+-- All child elements have one of these names.
 abbrev pub is_argument : ActionName → Meaning → Bool
 is_argument action_name child = list_any (λ local. is_called local child) (arguments_of action_name)
 
@@ -88,7 +88,8 @@ arguments_given name.GetServiceResetToken element = Some action.GetServiceResetT
 arguments_given name.GetSearchCapabilities element = Some action.GetSearchCapabilities
 arguments_given name.GetSortCapabilities element = Some action.GetSortCapabilities
 
--- The action with its arguments: each of them comes once, no other element stands beside them, and numbers are numbers.
+-- The action with its arguments: each of them comes once, no other element stands beside them, and numbers are well
+-- formed.
 unfoldable pub action_given : ActionName → Meaning → Option Action
 action_given action_name element =
     if has_only action_name element then arguments_given action_name element else None
@@ -103,7 +104,7 @@ page_given element = do
   update ← number_given (codes "UpdateID") element
   Some (answer.Page result returned total update)
 
--- What answers an action: each of its results comes once, and numbers are numbers. Other elements are passed over.
+-- What answers an action: each of its results comes once, and numbers are well formed. Other elements are passed over.
 abbrev pub results_given : ActionName → Meaning → Option Answer
 results_given name.Browse element = page_given element
 results_given name.Search element = page_given element

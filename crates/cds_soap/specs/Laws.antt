@@ -80,7 +80,7 @@ IsAllowedAnswer (answer.Fault code) = ⊤
 abbrev pub value_of : List ℕ → Message → Option (List ℕ)
 value_of name m = option_map (λ value. value.bytes) (get m.fields name)
 
--- Bytes, at the end of the connection or before it, are a control request to an address and then more: it asks for the
+-- Bytes, at the end of the connection or before it, are a control request to an address and then more. It asks for the
 -- action in version 4.
 pub record AreRequest (ended : Bool) (bytes : List ℕ) (asked : Action) (url : Parts) (more : List ℕ) : Type 0 where
   pub message : Message
@@ -89,17 +89,17 @@ pub record AreRequest (ended : Bool) (bytes : List ℕ) (asked : Action) (url : 
   pub host : value_of (codes "host") message ≡ Some (host_in url)
   pub asks : AnswersAsk message (Ok record { action = asked; version = 4 })
 
--- What is written of an action is such a request, whatever comes behind it, where texts and numbers are allowed, the body
--- is no longer than a document may be, and the address has the path `/control`, no query, and a host and port in the form
--- of HOST.
+-- What is written of an action is such a request, whatever comes after it. Texts and numbers must be allowed, and the
+-- body no longer than a document may be. The address must have the path `/control`, no query, and a host and port in
+-- the form of HOST.
 abbrev pub RequestsAreRead : Type 0
 RequestsAreRead =
     (asked : Action) (url : Parts) (more : List ℕ) (ended : Bool) → IsAllowedAction asked → url.path ≡ codes "/control" → url.query ≡ None
     → IsTrue (is_host (host_in url)) → length (request_body 4 asked) ≤ INPUT_LIMIT
     → AreRequest ended (written_action asked url ++ more) asked url more
 
--- Bytes, at the end of the connection or before it, are a reply and then more: it answers the action so, with this token
--- or none, and so do the bytes where they are all.
+-- Bytes, at the end of the connection or before it, are a reply and then more. The reply answers the action so, with
+-- this token or none. All the bytes together answer it so, too.
 pub record AreReply (ended : Bool) (bytes : List ℕ) (asked : Action) (given : Answer) (token : Option (List ℕ)) (more : List ℕ) : Type 0 where
   pub message : Message
   pub whole : Decides ended Reply bytes (Whole message more)
@@ -107,8 +107,8 @@ pub record AreReply (ended : Bool) (bytes : List ℕ) (asked : Action) (given : 
   pub answered : Answered message asked given
   pub answers : AnswersReply bytes asked (Ok given)
 
--- What is written of an answer is such a reply, in each version of the service, whatever comes behind it, where texts and
--- numbers are allowed and the body is no longer than a document may be.
+-- What is written of an answer is such a reply, in each version of the service, whatever comes after it. Texts and
+-- numbers must be allowed, and the body no longer than a document may be.
 abbrev pub AnswersAreRead : Type 0
 AnswersAreRead =
     (asked : Action) (version : ℕ) (given : Answer) (token : Option (List ℕ)) (more : List ℕ) (ended : Bool) → IsVersion version
@@ -118,7 +118,7 @@ AnswersAreRead =
 
 -- ---- how long bodies are
 
--- The texts that stand in a body, one behind the other.
+-- The texts that stand in a body, one after the other.
 abbrev pub action_texts : Action → List ℕ
 action_texts (action.Browse request) = request.object ++ request.flag ++ request.filter ++ request.sort
 action_texts (action.Search request) = request.container ++ request.criteria ++ request.filter ++ request.sort
@@ -129,7 +129,7 @@ answer_texts (answer.Page result returned total update) = result
 answer_texts (answer.Text text) = text
 answer_texts other = []
 
--- A body has at most 1,024 bytes round its texts, which are escaped.
+-- A body has at most 1,024 bytes around its texts, which are escaped.
 pub record BodiesAreShort : Type 0 where
   pub request : (version : ℕ) (asked : Action) → IsVersion version → IsAllowedAction asked
       → length (request_body version asked) ≤ length (escaped (action_texts asked)) + 1024

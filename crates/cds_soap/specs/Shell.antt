@@ -1,4 +1,4 @@
--- The body of an answer round its page.
+-- The body of an answer around its page.
 use Rattle.std.specs.Prelude.{ℕ, List, [], ◌++◌, codes}
 use Rattle.cds_object.specs.Writing.{text_element, number_element}
 use Rattle.cds_soap.specs.declared.action.ActionName.{ActionName}
@@ -7,12 +7,12 @@ use Rattle.cds_soap.specs.declared.answer.Answer.TheVariants as answer
 use Rattle.cds_soap.specs.Names.{response_to}
 use Rattle.cds_soap.specs.Written.{envelope_start, envelope_end, service_start, service_end, fault_text, text_result}
 
--- The page of an answer, nothing where it has none.
+-- The page of an answer, or nothing if it has none.
 abbrev pub page_of : Answer → List ℕ
 page_of (answer.Page result returned total update) = result
 page_of other = []
 
--- What stands before it, and behind it.
+-- What stands before the page, and after it.
 unfoldable pub page_front : ActionName → ℕ → List ℕ
 page_front action_name version = service_start version (response_to action_name) ++ codes "<Result>"
 

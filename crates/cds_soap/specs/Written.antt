@@ -70,8 +70,8 @@ request_body version asked = enveloped (in_service version (named_as (name_of_ac
 abbrev pub content_type : Field
 content_type = record { name = codes "CONTENT-TYPE"; value = codes "text/xml; charset=\"utf-8\"" }
 
--- The host of an address with its port, and its path with its query. The port of an `http` address is kept where it is not
--- 80, so that stands behind the host exactly there.
+-- The host of an address with its port, and its path with its query. The port of an `http` address is kept unless it is
+-- 80. So a port stands after the host exactly then.
 abbrev pub host_in : Parts → List ℕ
 host_in url = text_between url BeforeHost AfterPort
 
@@ -143,7 +143,7 @@ answer_status (answer.Number number) = 200
 answer_status (answer.Text text) = 200
 answer_status (answer.Fault code) = 500
 
--- The token stands behind the other given fields, where there is one.
+-- The token stands after the other given fields, if there is one.
 abbrev pub answer_fields : Option (List ℕ) → List Field
 answer_fields None = content_type ∷ []
 answer_fields (Some token) = content_type ∷ record { name = codes "CDS-RESET-TOKEN"; value = token } ∷ []

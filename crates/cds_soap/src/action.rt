@@ -1,8 +1,8 @@
-//! Actions and what they ask with (UPnP ContentDirectory:4 on Browse, Search and the actions without arguments).
+//! The actions and their arguments (UPnP ContentDirectory:4 on Browse, Search and the actions without arguments).
 
 use cds_base::Text;
 
-/// Which action a request names.
+/// The action that a request names.
 #[derive(Clone, Copy, Debug, PartialEq, Eq)]
 pub enum ActionName {
     Browse,
@@ -13,8 +13,14 @@ pub enum ActionName {
     GetSortCapabilities,
 }
 
-/// What Browse asks with: an object, the flag for the object itself or its children, a filter, the place of the first row
-/// counted from 0, how many rows at most (0 for all), and the sort criteria. The texts are as they were sent.
+/// The arguments of Browse. The texts are as they were sent.
+///
+/// - `object`: the object that is browsed.
+/// - `flag`: the flag for the object itself or its children.
+/// - `filter`: the filter.
+/// - `start`: the place of the first row, counted from 0.
+/// - `count`: the most rows, 0 for all.
+/// - `sort`: the sort criteria.
 #[derive(Drop, Debug)]
 pub struct BrowseRequest {
     pub object: Text,
@@ -25,7 +31,8 @@ pub struct BrowseRequest {
     pub sort: Text,
 }
 
-/// What Search asks with: a container, the search criteria, and the rest as in Browse. The texts are as they were sent.
+/// The arguments of Search: a container, the search criteria, and the rest as in Browse. The texts are as they were
+/// sent.
 #[derive(Drop, Debug)]
 pub struct SearchRequest {
     pub container: Text,
@@ -47,7 +54,7 @@ pub enum Action {
     GetSortCapabilities,
 }
 
-/// An action that was asked for in a version of the service, 1 to 4.
+/// An action that was asked for, and the version of the service in which it was, 1 to 4.
 #[derive(Drop, Debug)]
 pub struct Asked {
     pub action: Action,

@@ -1,11 +1,11 @@
-//! What an action is answered with.
+//! The answers to actions.
 
 use cds_base::{Bytes, Text};
 
-/// What an action is answered with (UPnP ContentDirectory:4; UPnP Device Architecture 2.0 on errors of control).
+/// The answer to an action (UPnP ContentDirectory:4; UPnP Device Architecture 2.0 on errors of control).
 #[derive(Drop, Debug)]
 pub enum Answer {
-    /// Browse and Search: a DIDL-Lite document with so many rows, how many there are in all, and an update number.
+    /// Browse and Search: a DIDL-Lite document with `returned` rows, the number of rows in all, and an update number.
     Page {
         result: Bytes,
         returned: u32,
@@ -14,9 +14,9 @@ pub enum Answer {
     },
     /// GetSystemUpdateID: the number of the last change.
     Number(u32),
-    /// GetServiceResetToken, GetSearchCapabilities and GetSortCapabilities: a token, or names parted by commas.
+    /// GetServiceResetToken, GetSearchCapabilities and GetSortCapabilities: a token, or names separated by commas.
     Text(Text),
-    /// Any action: why it was refused.
+    /// Any action: the code of the refusal.
     Fault {
         code: u16,
     },

@@ -1,4 +1,4 @@
-//! Writing answers.
+//! Writes answers.
 
 ghost use Rattle.std.specs.Prelude.{◌≡◌, ◌++◌, ℕ, List, IfOk, OnOk, OnErr, codes, length, string_bytes, option_copied};
 ghost use Rattle.cds_base.specs.Escape.{escaped};
@@ -17,10 +17,10 @@ use cds_http::{Fields, write_reply_head};
 use cds_object::put_text_element;
 use std::alloc::Global;
 
-/// Appends the reply that answers an action in a version of the service: with status 200 and its results, or with 500 and a
-/// fault of control. The answer is to be of the action's kind or a fault of a known code, and a token 1 to 255 visible
-/// bytes of ASCII, which stands in `CDS-RESET-TOKEN` behind the other fields. A page is escaped where it stands in the
-/// reply. A refusal leaves `out` as it was.
+/// Appends the reply that answers an action in a version of the service. The status is 200 with the results, or 500
+/// with a fault of control. The answer must be of the kind of the action or a fault of a known code. A token must be 1
+/// to 255 visible bytes of ASCII. It is written in `CDS-RESET-TOKEN` after the other given fields. A page is escaped in
+/// the reply. A refusal leaves `out` as it was.
 pub fn write_answer(
     action: &Action,
     version: u8,
@@ -52,14 +52,14 @@ pub fn write_answer(
     )
 }
 
-/// Whether the code of a fault is known.
+/// Returns whether the code of a fault is known.
 fn is_known_code(code: u16) -> bool
     ensures { result ≡ is_known_code code }
 {
     1 <= description(code).len()
 }
 
-/// Whether an answer is a page, or a fault of a known code.
+/// Returns whether an answer is a page, or a fault of a known code.
 fn fits_page(answer: &Answer) -> bool
     ensures browse { result ≡ fits ActionName.Browse answer.now }
     ensures search { result ≡ fits ActionName.Search answer.now }
@@ -72,7 +72,7 @@ fn fits_page(answer: &Answer) -> bool
     }
 }
 
-/// Whether an answer is a number, or a fault of a known code.
+/// Returns whether an answer is a number, or a fault of a known code.
 fn fits_number(answer: &Answer) -> bool
     ensures { result ≡ fits ActionName.GetSystemUpdateId answer.now }
 {
@@ -84,7 +84,7 @@ fn fits_number(answer: &Answer) -> bool
     }
 }
 
-/// Whether an answer is a text, or a fault of a known code.
+/// Returns whether an answer is a text, or a fault of a known code.
 fn fits_text(answer: &Answer) -> bool
     ensures token { result ≡ fits ActionName.GetServiceResetToken answer.now }
     ensures search { result ≡ fits ActionName.GetSearchCapabilities answer.now }
@@ -98,7 +98,7 @@ fn fits_text(answer: &Answer) -> bool
     }
 }
 
-/// Whether an answer is of the kind of an action, or a fault of a known code: what `write_answer` asks for.
+/// Returns whether an answer is of the kind of an action, or a fault of a known code. `write_answer` requires this.
 pub fn fits(name: ActionName, answer: &Answer) -> bool
     ensures { result ≡ fits name answer.now }
 {
@@ -112,7 +112,7 @@ pub fn fits(name: ActionName, answer: &Answer) -> bool
     }
 }
 
-/// The page of an answer, nothing where it has none.
+/// Returns the page of an answer, or nothing if it has none.
 fn page_of(answer: &Answer) -> &[u8]
     ensures { result.now ≡ page_of answer.now }
 {
@@ -122,7 +122,7 @@ fn page_of(answer: &Answer) -> &[u8]
     }
 }
 
-/// The status of an answer.
+/// Returns the status of an answer.
 fn status_of(answer: &Answer) -> u16
     ensures { result ≡ answer_status answer.now }
 {
@@ -132,7 +132,7 @@ fn status_of(answer: &Answer) -> u16
     }
 }
 
-/// The given fields of an answer.
+/// Returns the given fields of an answer.
 fn answer_fields(alloc: Global, token: Option<&str>) -> Result<Fields, Mem>
     ensures { IfOk result (λ fields. fields ≡ answer_fields (option_copied token.entry)) }
 {
@@ -145,7 +145,7 @@ fn answer_fields(alloc: Global, token: Option<&str>) -> Result<Fields, Mem>
     Ok(fields)
 }
 
-/// Puts what stands before a page in its response at the end.
+/// Appends what is before the page in its response.
 #[tactic(auto, unfolding(crate::specs::Shell::page_front))]
 fn put_page_front(out: &mut String, name: ActionName, version: u8) -> Result<(), Mem>
     ensures { OnOk result (string_bytes out.new ≡ string_bytes out.old ++ page_front name version) }
@@ -155,7 +155,7 @@ fn put_page_front(out: &mut String, name: ActionName, version: u8) -> Result<(),
     Ok(())
 }
 
-/// Puts what stands behind a page in its response at the end.
+/// Appends what is after the page in its response.
 #[tactic(auto, unfolding(crate::specs::Shell::page_back))]
 fn put_page_back(
     out: &mut String,
@@ -174,7 +174,7 @@ fn put_page_back(
     Ok(())
 }
 
-/// Puts a response with one number at the end.
+/// Appends a response with one number.
 #[tactic(auto, unfolding(crate::specs::Shell::in_response))]
 fn put_number_response(
     out: &mut String,
@@ -190,7 +190,7 @@ fn put_number_response(
     Ok(())
 }
 
-/// Puts a response with one text at the end.
+/// Appends a response with one text.
 #[tactic(auto, unfolding(crate::specs::Shell::in_response))]
 fn put_text_response(out: &mut String, name: ActionName, version: u8, text: &str) -> Result<(), Mem>
     ensures { OnOk result (string_bytes out.new ≡ string_bytes out.old ++ in_response name version (text_element (text_result name) text.now)) }
@@ -201,7 +201,7 @@ fn put_text_response(out: &mut String, name: ActionName, version: u8, text: &str
     Ok(())
 }
 
-/// Puts what stands in an envelope before the page at the end.
+/// Appends what is before the page in an envelope.
 fn put_front_inside(
     out: &mut String,
     name: ActionName,
@@ -218,7 +218,7 @@ fn put_front_inside(
     }
 }
 
-/// Puts what stands in an envelope behind the page at the end.
+/// Appends what is after the page in an envelope.
 fn put_back_inside(out: &mut String, name: ActionName, answer: &Answer) -> Result<(), Mem>
     ensures { OnOk result (string_bytes out.new ≡ string_bytes out.old ++ back_inside name answer.now) }
 {
@@ -233,7 +233,7 @@ fn put_back_inside(out: &mut String, name: ActionName, answer: &Answer) -> Resul
     }
 }
 
-/// What stands in the body before the page; all of it but its end where there is no page.
+/// Returns what is before the page in the body. If there is no page, this is all of the body except its end.
 fn front_of(alloc: Global, name: ActionName, version: u8, answer: &Answer) -> Result<String, Mem>
     ensures { IfOk result (λ front. string_bytes front ≡ front_of name version answer.now) }
 {
@@ -243,7 +243,7 @@ fn front_of(alloc: Global, name: ActionName, version: u8, answer: &Answer) -> Re
     Ok(front)
 }
 
-/// What stands in the body behind the page.
+/// Returns what is after the page in the body.
 fn back_of(alloc: Global, name: ActionName, answer: &Answer) -> Result<String, Mem>
     ensures { IfOk result (λ back. string_bytes back ≡ back_of name answer.now) }
 {
@@ -253,7 +253,7 @@ fn back_of(alloc: Global, name: ActionName, answer: &Answer) -> Result<String, M
     Ok(back)
 }
 
-/// The name of the result that is a text.
+/// Returns the name of the result that is a text.
 fn text_result(name: ActionName) -> &'static str
     ensures { result.now ≡ text_result name }
 {
@@ -265,7 +265,7 @@ fn text_result(name: ActionName) -> &'static str
     }
 }
 
-/// What the code of a fault means.
+/// Returns what the code of a fault means.
 fn description(code: u16) -> &'static str
     ensures { result.now ≡ description code }
 {
@@ -281,7 +281,7 @@ fn description(code: u16) -> &'static str
     }
 }
 
-/// Puts what stands before the code of a fault at the end.
+/// Appends what is before the code of a fault.
 #[tactic(auto, unfolding(crate::specs::Written::fault_front))]
 fn put_fault_front(out: &mut String) -> Result<(), Mem>
     ensures { OnOk result (string_bytes out.new ≡ string_bytes out.old ++ fault_front) }
@@ -292,7 +292,7 @@ fn put_fault_front(out: &mut String) -> Result<(), Mem>
     )
 }
 
-/// Puts what stands behind the description of a fault at the end.
+/// Appends what is after the description of a fault.
 #[tactic(auto, unfolding(crate::specs::Written::fault_end))]
 fn put_fault_end(out: &mut String) -> Result<(), Mem>
     ensures { OnOk result (string_bytes out.new ≡ string_bytes out.old ++ fault_end) }
@@ -300,21 +300,21 @@ fn put_fault_end(out: &mut String) -> Result<(), Mem>
     put(out, "</UPnPError></detail></s:Fault>")
 }
 
-/// Puts the code of a fault at the end.
+/// Appends the code of a fault.
 fn put_code(out: &mut String, code: u16) -> Result<(), Mem>
     ensures { OnOk result (string_bytes out.new ≡ string_bytes out.old ++ number_element (codes "errorCode") code) }
 {
     put_u32_element(out, "errorCode", u32::from(code))
 }
 
-/// Puts what the code of a fault means at the end.
+/// Appends what the code of a fault means.
 fn put_description(out: &mut String, code: u16) -> Result<(), Mem>
     ensures { OnOk result (string_bytes out.new ≡ string_bytes out.old ++ text_element (codes "errorDescription") (description code)) }
 {
     put_text_element(out, "errorDescription", description(code))
 }
 
-/// Puts a fault at the end.
+/// Appends a fault.
 #[tactic(auto, unfolding(crate::specs::Written::fault_text))]
 fn put_fault(out: &mut String, code: u16) -> Result<(), Mem>
     ensures { OnOk result (string_bytes out.new ≡ string_bytes out.old ++ fault_text code) }
@@ -326,7 +326,7 @@ fn put_fault(out: &mut String, code: u16) -> Result<(), Mem>
     Ok(())
 }
 
-/// How many bytes the body has with a page that is escaped to so many.
+/// Returns the number of bytes of a body whose page has `size` bytes after it is escaped.
 fn body_length(front: &str, page: &[u8], size: usize, back: &str) -> Result<usize, Mem>
     requires { size ≡ length (escaped page.now) }
     ensures { IfOk result (λ count. count ≡ length (front.now ++ (escaped page.now ++ back.now))) }
@@ -337,7 +337,7 @@ fn body_length(front: &str, page: &[u8], size: usize, back: &str) -> Result<usiz
     }
 }
 
-/// Appends a head and a body, or nothing. The page is escaped to so many bytes.
+/// Appends a head and a body, or nothing. The escaped page has `size` bytes.
 fn append_reply(
     head: &[u8],
     front: &[u8],
@@ -360,7 +360,7 @@ fn append_reply(
     }
 }
 
-/// Puts a head and a body at the end. The page is escaped to so many bytes. A refusal may leave some of them.
+/// Appends a head and a body. The escaped page has `size` bytes. A refusal may leave some of the bytes.
 fn put_reply(
     head: &[u8],
     front: &[u8],

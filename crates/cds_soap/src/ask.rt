@@ -1,4 +1,4 @@
-//! Reading control requests.
+//! Reads control requests.
 
 ghost use Rattle.std.specs.Prelude.{◌≡◌, IfOk, option_copied, option_map};
 ghost use Rattle.std.specs.List.{list_all};
@@ -18,11 +18,14 @@ use cds_markup::{Element, MarkupError, Node, read_document};
 use http_header::HeaderMap;
 use std::alloc::Global;
 
-/// What a control request asks for, by its field SOAPACTION and its body alone: its method, its target and its host are
-/// not looked at. `Markup` comes where the body is no document; then `InvalidAction` where SOAPACTION does not name one of
-/// the actions in a version from 1 to 4, or the envelope does not hold the one element of this action in the namespace
-/// of this version; then `InvalidArgs` where the arguments are not exactly those of the action, each once, or a number is
-/// none of 32 bits (UPnP Device Architecture 2.0 on control; UPnP ContentDirectory:4 on the arguments).
+/// Returns what a control request asks for. Only its field SOAPACTION and its body are looked at, not its method, its
+/// target or its host (UPnP Device Architecture 2.0 on control; UPnP ContentDirectory:4 on the arguments). The
+/// refusals, in this order:
+///
+/// - `Markup`: the body is no document.
+/// - `InvalidAction`: SOAPACTION does not name one of the actions in a version from 1 to 4.
+/// - `InvalidAction`: the envelope does not hold the one element of this action in the namespace of this version.
+/// - `InvalidArgs`: the arguments are not exactly those of the action, each once, or a number is not one of 32 bits.
 pub fn read_action(alloc: Global, message: &Message) -> Result<Asked, SoapError>
     ensures { AnswersAsk message.now result }
 {
@@ -33,7 +36,7 @@ pub fn read_action(alloc: Global, message: &Message) -> Result<Asked, SoapError>
     asked_in(alloc, message, &element)
 }
 
-/// The refusal of a body that is no document.
+/// Returns the refusal of a body that is no document.
 fn refusal_of(refusal: MarkupError) -> SoapError
     ensures { result ≡ refusal_of refusal }
 {
@@ -46,7 +49,7 @@ fn refusal_of(refusal: MarkupError) -> SoapError
     }
 }
 
-/// What a message asks for whose body is a document of this element.
+/// Returns what a message asks for, if its body is a document of this element.
 fn asked_in(alloc: Global, message: &Message, element: &Element) -> Result<Asked, SoapError>
     requires document { Doc message.now.body element.now }
     ensures { AnswersAsk message.now result }
@@ -72,7 +75,7 @@ struct Found<'a> {
     call: &'a Element,
 }
 
-/// The action that the name and the namespace of the element in the envelope are those of.
+/// Returns the action whose name and namespace the element in the envelope has.
 #[tactic(auto, unfolding(crate::specs::Found::called_by))]
 fn called_in(element: &Element) -> Option<Found<'_>>
     ensures { option_map (λ f. found_as f.name f.version f.call.now) result ≡ called_by element.now }
@@ -96,7 +99,7 @@ fn called_in(element: &Element) -> Option<Found<'_>>
     })
 }
 
-/// What was found, where SOAPACTION says it too.
+/// Returns what was found, if SOAPACTION says it too.
 fn where_said<'a>(alloc: Global, field: &[u8], found: Found<'a>) -> Result<Option<Found<'a>>, Mem>
     ensures { IfOk result (λ said. option_map (λ f. found_as f.name f.version f.call.now) said
         ≡ where_said field.now (found_as found.entry.name found.entry.version found.entry.call.now)) }
@@ -108,7 +111,7 @@ fn where_said<'a>(alloc: Global, field: &[u8], found: Found<'a>) -> Result<Optio
     }
 }
 
-/// The first value of SOAPACTION.
+/// Returns the first value of SOAPACTION.
 fn soap_action_in(fields: &HeaderMap) -> Option<&[u8]>
     ensures { option_copied result ≡ soap_action_in fields.now }
 {
@@ -118,7 +121,7 @@ fn soap_action_in(fields: &HeaderMap) -> Option<&[u8]>
     }
 }
 
-/// The action that SOAPACTION and the element in the envelope name.
+/// Returns the action that SOAPACTION and the element in the envelope name.
 #[tactic(auto, unfolding(crate::specs::Found::named_by))]
 fn named_in<'a>(
     alloc: Global,
@@ -138,7 +141,7 @@ fn named_in<'a>(
     where_said(alloc, field, found)
 }
 
-/// Whether an argument of an action has this name.
+/// Returns whether an argument of an action has this name.
 fn is_argument(name: ActionName, element: &Element) -> bool
     ensures { result ≡ is_argument name element.now }
 {
@@ -163,7 +166,7 @@ fn is_argument(name: ActionName, element: &Element) -> bool
     }
 }
 
-/// Whether a node is an element that is no argument of an action.
+/// Returns whether a node is an element that is no argument of an action.
 fn is_other(name: ActionName, node: &Node) -> bool
     ensures { result ≡ is_other name node.now }
 {
@@ -173,7 +176,7 @@ fn is_other(name: ActionName, node: &Node) -> bool
     }
 }
 
-/// Whether no element stands among nodes but arguments of an action.
+/// Returns whether all elements among the nodes are arguments of an action.
 fn has_only(name: ActionName, nodes: &[Node]) -> bool
     ensures { result ≡ list_all (λ child. is_argument name child) (elements_in nodes.now) }
 {
@@ -185,7 +188,7 @@ fn has_only(name: ActionName, nodes: &[Node]) -> bool
     true
 }
 
-/// What Browse asks with.
+/// Returns the arguments of Browse.
 #[tactic(auto, unfolding(crate::specs::Given::browse_given))]
 fn browse_given(alloc: Global, element: &Element) -> Result<Option<BrowseRequest>, Mem>
     ensures { IfOk result (λ request. request ≡ browse_given element.now) }
@@ -224,7 +227,7 @@ fn browse_given(alloc: Global, element: &Element) -> Result<Option<BrowseRequest
     }))
 }
 
-/// What Search asks with.
+/// Returns the arguments of Search.
 #[tactic(auto, unfolding(crate::specs::Given::search_given))]
 fn search_given(alloc: Global, element: &Element) -> Result<Option<SearchRequest>, Mem>
     ensures { IfOk result (λ request. request ≡ search_given element.now) }
@@ -263,7 +266,7 @@ fn search_given(alloc: Global, element: &Element) -> Result<Option<SearchRequest
     }))
 }
 
-/// An action with the arguments in its element, which may have others beside them.
+/// Returns an action with the arguments in its element. The element may have other children, too.
 fn arguments_given(
     alloc: Global,
     name: ActionName,
@@ -287,7 +290,7 @@ fn arguments_given(
     }
 }
 
-/// An action with its arguments, where they are exactly those of its element.
+/// Returns an action with its arguments, if they are exactly those of its element.
 #[tactic(auto, unfolding(crate::specs::Given::action_given))]
 fn action_given(alloc: Global, name: ActionName, element: &Element) -> Result<Option<Action>, Mem>
     ensures { IfOk result (λ action. action ≡ action_given name element.now) }

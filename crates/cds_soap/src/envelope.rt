@@ -1,4 +1,4 @@
-//! Envelopes.
+//! Finds the element in an envelope.
 
 ghost use Rattle.std.specs.Prelude.{◌≡◌, ◌∷◌, [], MatchOption, option_copied};
 ghost use Rattle.std.specs.Option.{option_and_then};
@@ -7,7 +7,7 @@ ghost use Rattle.cds_soap.specs.Envelope.{envelope_space, where_of_envelope, beh
 
 use cds_markup::{Element, Node};
 
-/// The first element among nodes, and what is behind it.
+/// Returns the first element among nodes, and the nodes after it.
 fn first_element(nodes: &[Node]) -> Option<(&Element, &[Node])>
     ensures { MatchOption result (elements_in nodes.now ≡ []) (λ found. elements_in nodes.now ≡ found.0.now ∷ elements_in found.1.now) }
 {
@@ -21,7 +21,7 @@ fn first_element(nodes: &[Node]) -> Option<(&Element, &[Node])>
     None
 }
 
-/// The one element among nodes.
+/// Returns the one element among nodes.
 fn only_element(nodes: &[Node]) -> Option<&Element>
     ensures { option_copied result ≡ only_of (elements_in nodes.now) }
 {
@@ -34,7 +34,7 @@ fn only_element(nodes: &[Node]) -> Option<&Element>
     }
 }
 
-/// Whether it has this name in the namespace of envelopes.
+/// Returns whether an element has this name in the namespace of envelopes.
 #[tactic(auto, unfolding(crate::specs::Envelope::envelope_space))]
 pub fn is_of_envelope(element: &Element, local: &str) -> bool
     ensures { result ≡ is_named envelope_space local.now element.now }
@@ -42,7 +42,7 @@ pub fn is_of_envelope(element: &Element, local: &str) -> bool
     element.is_named("http://schemas.xmlsoap.org/soap/envelope/", local)
 }
 
-/// The element, where it has this name in the namespace of envelopes.
+/// Returns the element, if it has this name in the namespace of envelopes.
 pub fn where_of_envelope<'a>(element: &'a Element, local: &str) -> Option<&'a Element>
     ensures { option_copied result ≡ where_of_envelope local.now element.now }
 {
@@ -53,7 +53,7 @@ pub fn where_of_envelope<'a>(element: &'a Element, local: &str) -> Option<&'a El
     }
 }
 
-/// The Body, where it stands behind a Header.
+/// Returns the Body, if it comes after a Header.
 fn header_and_body<'a>(header: &Element, body: &'a Element) -> Option<&'a Element>
     ensures { option_copied result ≡ behind_header header.now body.now }
 {
@@ -64,7 +64,7 @@ fn header_and_body<'a>(header: &Element, body: &'a Element) -> Option<&'a Elemen
     }
 }
 
-/// The Body behind a Header, where it is the one element there.
+/// Returns the Body after a Header, if it is the one element there.
 fn behind_header<'a>(header: &Element, rest: &'a [Node]) -> Option<&'a Element>
     ensures { option_copied result ≡ option_and_then (behind_header header.now) (only_of (elements_in rest.now)) }
 {
@@ -74,7 +74,7 @@ fn behind_header<'a>(header: &Element, rest: &'a [Node]) -> Option<&'a Element>
     }
 }
 
-/// The Body among the nodes of an envelope.
+/// Returns the Body among the nodes of an envelope.
 fn body_among(nodes: &[Node]) -> Option<&Element>
     ensures { option_copied result ≡ body_among (elements_in nodes.now) }
 {
@@ -87,7 +87,7 @@ fn body_among(nodes: &[Node]) -> Option<&Element>
     }
 }
 
-/// The Body of an envelope.
+/// Returns the Body of an envelope.
 fn body_of(element: &Element) -> Option<&Element>
     ensures { option_copied result ≡ body_of element.now }
 {
@@ -98,8 +98,8 @@ fn body_of(element: &Element) -> Option<&Element>
     }
 }
 
-/// The one element in the Body of the envelope that an element is. `None` where it is no envelope, and where there is none
-/// in it, or more.
+/// Returns the one element in the Body of an envelope. `None` comes if the given element is no envelope, or if its Body
+/// does not have exactly one element.
 #[tactic(auto, unfolding(crate::specs::Envelope::in_envelope))]
 pub fn in_envelope(element: &Element) -> Option<&Element>
     ensures { option_copied result ≡ in_envelope element.now }

@@ -1,3 +1,5 @@
+//! Why messages are refused.
+
 ghost use Rattle.cds_soap.specs.declared.error.SoapError.TheVariants.{Mem};
 ghost use Rattle.std.specs.Prelude.{◌≡◌};
 
@@ -10,10 +12,10 @@ pub enum SoapError {
     /// The body of a request is no document, for this reason.
     #[error("no document")]
     Markup(MarkupError),
-    /// A request names no action that is spoken, or its field, its envelope and its element do not agree.
+    /// A request names no action of those served here, or its field, its envelope and its element do not agree.
     #[error("no known action")]
     InvalidAction,
-    /// The arguments of a request are not exactly those of its action, or a number is none.
+    /// The arguments of a request are not exactly those of its action, or a number is malformed or too large.
     #[error("arguments of another form")]
     InvalidArgs,
     /// The bytes are no reply that answers the action.

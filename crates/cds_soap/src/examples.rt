@@ -2,32 +2,32 @@
 
 ghost use Rattle.cds_soap.specs.Evaluated.{NamesAreSaid, NumbersAreRead, EnvelopesAreOpened, ArgumentsAreTaken, AnswersAreTaken, BodiesAreWritten};
 
-/// What SOAPACTION says.
+/// Evaluates what SOAPACTION says.
 pub fn names_are_said()
     ensures { NamesAreSaid }
 {}
 
-/// Numbers with white space round them, and past their end.
+/// Reads numbers with white space around them, and numbers above the limit.
 pub fn numbers_are_read()
     ensures { NumbersAreRead }
 {}
 
-/// Envelopes with and without a Header, and what are none.
+/// Opens envelopes with and without a Header, and elements that are no envelopes.
 pub fn envelopes_are_opened()
     ensures { EnvelopesAreOpened }
 {}
 
-/// Arguments in any order, missing, twice, and of another action.
+/// Takes arguments in any order, missing, twice, and of another action.
 pub fn arguments_are_taken()
     ensures { ArgumentsAreTaken }
 {}
 
-/// Results and faults.
+/// Takes results and faults.
 pub fn answers_are_taken()
     ensures { AnswersAreTaken }
 {}
 
-/// Bodies as they are written.
+/// Evaluates bodies as they are written.
 pub fn bodies_are_written()
     ensures { BodiesAreWritten }
 {}

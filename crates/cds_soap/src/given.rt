@@ -1,4 +1,4 @@
-//! Arguments and results by their names.
+//! Finds arguments and results by their names.
 
 ghost use Rattle.std.specs.Prelude.{◌≡◌, ◌≤◌, ◌^◌, ◌++◌, IfOk, OnOk, length};
 ghost use Rattle.std.specs.List.{prefix_len, suffix_len};
@@ -9,14 +9,14 @@ use cds_base::{Bytes, Mem, Text, read_u32};
 use cds_markup::{Element, Node};
 use std::alloc::Global;
 
-/// Whether it is white space of XML 1.0.
+/// Returns whether a byte is white space of XML 1.0.
 fn is_space(byte: u8) -> bool
     ensures { result ≡ is_space byte }
 {
     byte == b' ' || byte == b'\t' || byte == b'\n' || byte == b'\r'
 }
 
-/// How much white space stands at the front.
+/// Returns the number of bytes of white space at the start.
 fn spaces_before(text: &[u8]) -> usize
     ensures exact { result ≡ prefix_len is_space text.now }
     ensures within { result ≤ length text.now }
@@ -24,7 +24,7 @@ fn spaces_before(text: &[u8]) -> usize
     text.iter().take_while(|byte| is_space(**byte)).count()
 }
 
-/// How much white space stands at the end.
+/// Returns the number of bytes of white space at the end.
 fn spaces_behind(text: &[u8]) -> usize
     ensures exact { result ≡ suffix_len is_space text.now }
     ensures within { result ≤ length text.now }
@@ -35,7 +35,7 @@ fn spaces_behind(text: &[u8]) -> usize
         .count()
 }
 
-/// The text without the white space before and behind it.
+/// Returns the text without the white space before and after it.
 fn trimmed(text: &[u8]) -> &[u8]
     ensures { result.now ≡ trimmed text.now }
 {
@@ -43,14 +43,14 @@ fn trimmed(text: &[u8]) -> &[u8]
     rest.split_at(rest.len() - spaces_behind(rest)).0
 }
 
-/// The number of 32 bits that a text is, with white space round it.
+/// Returns the number of 32 bits that a text is, with white space around it allowed.
 pub fn number_in(text: &str) -> Option<u32>
     ensures { result ≡ number_in (2 ^ 32) text.now }
 {
     read_u32(trimmed(text.as_bytes()))
 }
 
-/// The text of the child element of this name, which must come once.
+/// Returns the text of the child element with this name, which must come once.
 pub fn text_given(alloc: Global, element: &Element, local: &str) -> Result<Option<Text>, Mem>
     ensures { IfOk result (λ text. text ≡ text_given local.now element.now) }
 {
@@ -60,7 +60,7 @@ pub fn text_given(alloc: Global, element: &Element, local: &str) -> Result<Optio
     }
 }
 
-/// The number of the child element of this name, which must come once.
+/// Returns the number of the child element with this name, which must come once.
 pub fn number_given(alloc: Global, element: &Element, local: &str) -> Result<Option<u32>, Mem>
     ensures { IfOk result (λ number. number ≡ number_given local.now element.now) }
 {
@@ -70,7 +70,7 @@ pub fn number_given(alloc: Global, element: &Element, local: &str) -> Result<Opt
     }
 }
 
-/// Puts the text that a node is at the end, nothing for an element.
+/// Appends the text that a node is, or nothing for an element.
 fn put_text(bytes: &mut Bytes, node: &Node) -> Result<(), Mem>
     ensures { OnOk result (bytes.new ≡ bytes.old ++ text_in node.now) }
 {
@@ -80,7 +80,7 @@ fn put_text(bytes: &mut Bytes, node: &Node) -> Result<(), Mem>
     }
 }
 
-/// The texts among nodes as one, as bytes.
+/// Returns the texts among nodes as one, in bytes.
 fn texts_in(alloc: Global, nodes: &[Node]) -> Result<Bytes, Mem>
     ensures { IfOk result (λ bytes. bytes ≡ texts_in nodes.now) }
 {
@@ -91,7 +91,7 @@ fn texts_in(alloc: Global, nodes: &[Node]) -> Result<Bytes, Mem>
     Ok(bytes)
 }
 
-/// The bytes of the child element of this name, which must come once.
+/// Returns the bytes of the child element with this name, which must come once.
 pub fn bytes_given(alloc: Global, element: &Element, local: &str) -> Result<Option<Bytes>, Mem>
     ensures { IfOk result (λ bytes. bytes ≡ text_given local.now element.now) }
 {

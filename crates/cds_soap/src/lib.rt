@@ -1,5 +1,5 @@
-//! Control of a ContentDirectory service by SOAP: requests and their answers, both ways (UPnP Device Architecture 2.0 on
-//! control; UPnP ContentDirectory:4 on actions and their arguments).
+//! Control of a ContentDirectory service by SOAP: reads and writes requests and their answers (UPnP Device Architecture
+//! 2.0 on control; UPnP ContentDirectory:4 on actions and their arguments).
 #![tactic(auto)]
 
 mod action;

@@ -9,7 +9,7 @@ use cds_base::{Mem, put, put_number};
 use std::alloc::Global;
 
 impl Action {
-    /// Which action it is.
+    /// Returns which action it is.
     pub fn name(&self) -> ActionName
         ensures { result ≡ name_of_action self.now }
     {
@@ -25,7 +25,7 @@ impl Action {
 }
 
 impl ActionName {
-    /// How it is named in requests.
+    /// Returns its name in requests.
     pub fn as_str(self) -> &'static str
         ensures { result.now ≡ named_as self }
     {
@@ -39,7 +39,7 @@ impl ActionName {
         }
     }
 
-    /// The name of the element that answers it.
+    /// Returns the name of the element that answers it.
     pub fn response(self) -> &'static str
         ensures { result.now ≡ response_to self }
     {
@@ -54,7 +54,7 @@ impl ActionName {
     }
 }
 
-/// The action of a name.
+/// Returns the action with a name.
 #[tactic(auto, unfolding(crate::specs::Found::name_in))]
 pub fn name_in(local: &str) -> Option<ActionName>
     ensures { result ≡ name_in local.now }
@@ -76,7 +76,7 @@ pub fn name_in(local: &str) -> Option<ActionName>
     }
 }
 
-/// The version of the service whose type a namespace is, 1 to 4.
+/// Returns the version of the service, 1 to 4, whose type a namespace is.
 #[tactic(auto, unfolding(crate::specs::Found::version_in))]
 pub fn version_in(space: &str) -> Option<u8>
     ensures { result ≡ version_in space.now }
@@ -94,7 +94,7 @@ pub fn version_in(space: &str) -> Option<u8>
     }
 }
 
-/// Puts the type of the service without its version at the end.
+/// Appends the type of the service without its version.
 #[tactic(auto, unfolding(crate::specs::Names::service_front))]
 fn put_service_front(out: &mut String) -> Result<(), Mem>
     ensures { OnOk result (string_bytes out.new ≡ string_bytes out.old ++ service_front) }
@@ -102,7 +102,7 @@ fn put_service_front(out: &mut String) -> Result<(), Mem>
     put(out, "urn:schemas-upnp-org:service:ContentDirectory:")
 }
 
-/// Puts the type of the service in a version at the end.
+/// Appends the type of the service in a version.
 #[tactic(auto, unfolding(crate::specs::Names::service_type))]
 pub fn put_service_type(out: &mut String, version: u8) -> Result<(), Mem>
     ensures { OnOk result (string_bytes out.new ≡ string_bytes out.old ++ service_type version) }
@@ -112,7 +112,7 @@ pub fn put_service_type(out: &mut String, version: u8) -> Result<(), Mem>
     Ok(())
 }
 
-/// What SOAPACTION says of an action in a version, without quotes.
+/// Returns what SOAPACTION says of an action in a version, without quotes.
 #[tactic(auto, unfolding(crate::specs::Names::soap_action))]
 fn soap_action(alloc: Global, version: u8, name: ActionName) -> Result<String, Mem>
     ensures { IfOk result (λ text. string_bytes text ≡ soap_action version name) }
@@ -124,7 +124,7 @@ fn soap_action(alloc: Global, version: u8, name: ActionName) -> Result<String, M
     Ok(text)
 }
 
-/// The text in quotes.
+/// Returns the text in quotes.
 fn in_quotes(alloc: Global, text: &str) -> Result<String, Mem>
     ensures { IfOk result (λ quoted. string_bytes quoted ≡ in_quotes text.now) }
 {
@@ -135,7 +135,7 @@ fn in_quotes(alloc: Global, text: &str) -> Result<String, Mem>
     Ok(quoted)
 }
 
-/// What SOAPACTION says of an action in a version, with its quotes.
+/// Returns what SOAPACTION says of an action in a version, with its quotes.
 pub fn quoted_soap_action(alloc: Global, version: u8, name: ActionName) -> Result<String, Mem>
     ensures { IfOk result (λ text. string_bytes text ≡ in_quotes (soap_action version name)) }
 {
@@ -143,7 +143,7 @@ pub fn quoted_soap_action(alloc: Global, version: u8, name: ActionName) -> Resul
     in_quotes(alloc, action.as_str())
 }
 
-/// Whether a text says this action in this version, with or without quotes.
+/// Returns whether a text says this action in this version, with or without quotes.
 pub fn says_action(alloc: Global, text: &[u8], version: u8, name: ActionName) -> Result<bool, Mem>
     ensures { IfOk result (λ says. says ≡ says_action text.now version name) }
 {

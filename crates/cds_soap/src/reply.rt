@@ -1,4 +1,4 @@
-//! Reading answers.
+//! Reads answers.
 
 ghost use Rattle.std.specs.Prelude.{◌≡◌, ◌≢◌, ◌&&◌, ℕ, List, IfOk, None, is_some};
 ghost use Rattle.cds_http.specs.declared.error.HttpError.{HttpError};
@@ -19,10 +19,13 @@ use cds_http::{HttpError, Message, MessageReader, Side, Start};
 use cds_markup::{Element, MarkupError, read_document};
 use std::alloc::Global;
 
-/// What the bytes of a reply answer to an action. What is behind the reply is passed over. `NotAnswer` comes where the bytes
-/// are no reply of HTTP, or the reply is no answer to this action: one of status 200 whose envelope holds the response to
-/// it in a version from 1 to 4 with its results, each once, or one of status 500 whose envelope holds a Fault with an
-/// error code below 65,536 (UPnP Device Architecture 2.0 on the responses and errors of control).
+/// Returns what the bytes of a reply answer to an action (UPnP Device Architecture 2.0 on the responses and errors of
+/// control). Bytes after the reply are passed over. `NotAnswer` comes if the bytes are no reply of HTTP, or if the reply
+/// is no answer to this action. The answers are:
+///
+/// - A reply of status 200. Its envelope holds the response to the action in a version from 1 to 4. The response has the
+///   results of the action, each once.
+/// - A reply of status 500. Its envelope holds a Fault with an error code below 65,536.
 pub fn read_answer(alloc: Global, action: &Action, bytes: &[u8]) -> Result<Answer, SoapError>
     ensures { AnswersReply bytes.now action.now result }
 {
@@ -36,7 +39,7 @@ pub fn read_answer(alloc: Global, action: &Action, bytes: &[u8]) -> Result<Answe
     }
 }
 
-/// Reads a reply, where the connection ends behind the bytes.
+/// Reads a reply, if the connection ends after the bytes.
 fn read_reply(alloc: Global, bytes: &[u8]) -> Result<Message, HttpError>
     ensures { (behind : List ℕ) × IsAnswer Side.Reply bytes.now behind result }
 {
@@ -47,7 +50,7 @@ fn read_reply(alloc: Global, bytes: &[u8]) -> Result<Message, HttpError>
     }
 }
 
-/// The reply at the front of some bytes.
+/// Returns the reply that some bytes begin with.
 fn reply_in(alloc: Global, bytes: &[u8]) -> Result<Option<Message>, Mem>
     ensures { IfOk result (λ found. IsReplyIn bytes.now found) }
 {
@@ -57,7 +60,7 @@ fn reply_in(alloc: Global, bytes: &[u8]) -> Result<Option<Message>, Mem>
     }
 }
 
-/// No reply, where it is not memory that was missing.
+/// Returns no reply, unless memory ran out.
 fn no_reply(refusal: HttpError) -> Result<Option<Message>, Mem>
     ensures { IfOk result (λ found. (found ≡ None) × (refusal ≢ HttpError.Mem)) }
 {
@@ -73,7 +76,7 @@ fn no_reply(refusal: HttpError) -> Result<Option<Message>, Mem>
     }
 }
 
-/// No answer, where it is not memory that was missing.
+/// Returns no answer, unless memory ran out.
 fn no_document(refusal: MarkupError) -> Result<Option<Answer>, Mem>
     ensures { IfOk result (λ found. (found ≡ None) × (refusal ≢ MarkupError.Mem)) }
 {
@@ -86,7 +89,7 @@ fn no_document(refusal: MarkupError) -> Result<Option<Answer>, Mem>
     }
 }
 
-/// What a reply answers to an action.
+/// Returns what a reply answers to an action.
 fn answer_in(alloc: Global, action: &Action, message: &Message) -> Result<Option<Answer>, Mem>
     ensures { IfOk result (λ answer. IsAnswerIn message.now action.now answer) }
 {
@@ -100,7 +103,7 @@ fn answer_in(alloc: Global, action: &Action, message: &Message) -> Result<Option
     }
 }
 
-/// What a reply of a status says whose body is a document of this element.
+/// Returns what a reply of a status says, if its body is a document of this element.
 #[tactic(auto, unfolding(crate::specs::Found::said_by))]
 fn said(
     alloc: Global,
@@ -116,7 +119,7 @@ fn said(
     }
 }
 
-/// What the element in an envelope says in a reply of a status.
+/// Returns what the element in an envelope says in a reply of a status.
 fn inside_said(
     alloc: Global,
     name: ActionName,
@@ -134,14 +137,14 @@ fn inside_said(
     }
 }
 
-/// Whether it has the name of the response to an action in a version of the service.
+/// Returns whether an element has the name of the response to an action in a version of the service.
 fn is_response(name: ActionName, element: &Element) -> bool
     ensures { result ≡ (is_called (response_to name) element.now && is_some (version_in (name_of element.now).space)) }
 {
     element.is_called(name.response()) && version_in(element.name.space.as_str()).is_some()
 }
 
-/// What an element says as the response to an action.
+/// Returns what an element says as the response to an action.
 fn response_said(alloc: Global, name: ActionName, element: &Element) -> Result<Option<Answer>, Mem>
     ensures { IfOk result (λ answer. answer ≡ response_by name element.now) }
 {
@@ -152,7 +155,7 @@ fn response_said(alloc: Global, name: ActionName, element: &Element) -> Result<O
     }
 }
 
-/// What an element says as a Fault.
+/// Returns what an element says as a Fault.
 #[tactic(auto, unfolding(crate::specs::Found::fault_by))]
 fn fault_said(alloc: Global, element: &Element) -> Result<Option<Answer>, Mem>
     ensures { IfOk result (λ answer. answer ≡ fault_by element.now) }

@@ -1,4 +1,4 @@
-//! Writing control requests.
+//! Writes control requests.
 
 ghost use Rattle.std.specs.Prelude.{◌≡◌, ◌++◌, IfOk, OnOk, OnErr, codes, string_bytes};
 ghost use Rattle.cds_object.specs.Writing.{number_element, text_element};
@@ -12,9 +12,9 @@ use cds_object::{put_number_element, put_text_element};
 use std::alloc::Global;
 use url::{Position, Url};
 
-/// Appends the control request for an action in version 4 of the service, to an `http` address: its target is the path and
-/// the query of the address, and HOST its host and, where that is not 80, its port (UPnP Device Architecture 2.0 on control).
-/// A refusal leaves `out` as it was.
+/// Appends the control request for an action in version 4 of the service, to an `http` address. Its target is the path
+/// and the query of the address. Its HOST is the host and, unless that is 80, the port (UPnP Device Architecture 2.0 on
+/// control). A refusal leaves `out` as it was.
 pub fn write_action(action: &Action, url: &Url, out: &mut Vec<u8>) -> Result<(), Mem>
     requires http { url.now.scheme ≡ codes "http" }
     ensures ok { OnOk result (out.new.items ≡ out.old.items ++ written_action action.now url.now) }
@@ -27,7 +27,7 @@ pub fn write_action(action: &Action, url: &Url, out: &mut Vec<u8>) -> Result<(),
     write_request("POST", target, &fields, body.as_bytes(), out)
 }
 
-/// The fields of a request.
+/// Returns the fields of a request.
 fn request_fields(alloc: Global, name: ActionName, url: &Url) -> Result<Fields, Mem>
     ensures { IfOk result (λ fields. fields ≡ request_fields 4 name url.now) }
 {
@@ -40,7 +40,7 @@ fn request_fields(alloc: Global, name: ActionName, url: &Url) -> Result<Fields, 
     Ok(fields)
 }
 
-/// The body of a request in version 4.
+/// Returns the body of a request in version 4.
 fn request_body(alloc: Global, action: &Action) -> Result<String, Mem>
     ensures { IfOk result (λ body. string_bytes body ≡ request_body 4 action.now) }
 {
@@ -54,7 +54,7 @@ fn request_body(alloc: Global, action: &Action) -> Result<String, Mem>
     Ok(body)
 }
 
-/// Puts the front of an envelope at the end.
+/// Appends the start of an envelope.
 #[tactic(auto, unfolding(crate::specs::Written::envelope_start))]
 pub fn put_envelope_start(out: &mut String) -> Result<(), Mem>
     ensures { OnOk result (string_bytes out.new ≡ string_bytes out.old ++ envelope_start) }
@@ -65,7 +65,7 @@ pub fn put_envelope_start(out: &mut String) -> Result<(), Mem>
     )
 }
 
-/// Puts the back of an envelope at the end.
+/// Appends the end of an envelope.
 #[tactic(auto, unfolding(crate::specs::Written::envelope_end))]
 pub fn put_envelope_end(out: &mut String) -> Result<(), Mem>
     ensures { OnOk result (string_bytes out.new ≡ string_bytes out.old ++ envelope_end) }
@@ -73,7 +73,7 @@ pub fn put_envelope_end(out: &mut String) -> Result<(), Mem>
     put(out, "</s:Body></s:Envelope>")
 }
 
-/// Puts the start tag of an element of the service at the end.
+/// Appends the start tag of an element of the service.
 #[tactic(auto, unfolding(crate::specs::Written::service_start))]
 pub fn put_service_start(out: &mut String, version: u8, local: &str) -> Result<(), Mem>
     ensures { OnOk result (string_bytes out.new ≡ string_bytes out.old ++ service_start version local.now) }
@@ -86,7 +86,7 @@ pub fn put_service_start(out: &mut String, version: u8, local: &str) -> Result<(
     Ok(())
 }
 
-/// Puts the end tag of an element of the service at the end.
+/// Appends the end tag of an element of the service.
 #[tactic(auto, unfolding(crate::specs::Written::service_end))]
 pub fn put_service_end(out: &mut String, local: &str) -> Result<(), Mem>
     ensures { OnOk result (string_bytes out.new ≡ string_bytes out.old ++ service_end local.now) }
@@ -97,21 +97,21 @@ pub fn put_service_end(out: &mut String, local: &str) -> Result<(), Mem>
     Ok(())
 }
 
-/// Puts an element without attributes round a number of 32 bits at the end.
+/// Appends an element without attributes around a number of 32 bits.
 pub fn put_u32_element(out: &mut String, name: &str, number: u32) -> Result<(), Mem>
     ensures { OnOk result (string_bytes out.new ≡ string_bytes out.old ++ number_element name.now number) }
 {
     put_number_element(out, name, u64::from(number))
 }
 
-/// Puts an element without attributes round a text at the end.
+/// Appends an element without attributes around a text.
 fn put_text(out: &mut String, name: &str, text: &Text) -> Result<(), Mem>
     ensures { OnOk result (string_bytes out.new ≡ string_bytes out.old ++ text_element name.now text.now) }
 {
     put_text_element(out, name, text.as_str())
 }
 
-/// Puts the arguments that Browse and Search have in common at the end.
+/// Appends the arguments that Browse and Search have in common.
 #[tactic(auto, unfolding(crate::specs::Written::slice_text))]
 fn put_slice(
     out: &mut String,
@@ -129,7 +129,7 @@ fn put_slice(
     Ok(())
 }
 
-/// Puts the arguments of Browse at the end.
+/// Appends the arguments of Browse.
 #[tactic(auto, unfolding(crate::specs::Written::browse_text))]
 fn put_browse(out: &mut String, request: &BrowseRequest) -> Result<(), Mem>
     ensures { OnOk result (string_bytes out.new ≡ string_bytes out.old ++ browse_text request.now) }
@@ -146,7 +146,7 @@ fn put_browse(out: &mut String, request: &BrowseRequest) -> Result<(), Mem>
     Ok(())
 }
 
-/// Puts the arguments of Search at the end.
+/// Appends the arguments of Search.
 #[tactic(auto, unfolding(crate::specs::Written::search_text))]
 fn put_search(out: &mut String, request: &SearchRequest) -> Result<(), Mem>
     ensures { OnOk result (string_bytes out.new ≡ string_bytes out.old ++ search_text request.now) }
@@ -163,7 +163,7 @@ fn put_search(out: &mut String, request: &SearchRequest) -> Result<(), Mem>
     Ok(())
 }
 
-/// Puts the arguments of an action at the end.
+/// Appends the arguments of an action.
 fn put_arguments(out: &mut String, action: &Action) -> Result<(), Mem>
     ensures { OnOk result (string_bytes out.new ≡ string_bytes out.old ++ arguments_text action.now) }
 {

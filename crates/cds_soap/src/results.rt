@@ -1,4 +1,4 @@
-//! Results and faults as elements say them.
+//! Reads results and faults from elements.
 
 ghost use Rattle.std.specs.Prelude.{◌≡◌, ◌^◌, IfOk, [], codes, option_copied, option_map};
 ghost use Rattle.cds_markup.specs.Children.{only_of, named, nodes_in};
@@ -12,7 +12,7 @@ use cds_base::Mem;
 use cds_markup::Element;
 use std::alloc::Global;
 
-/// A page.
+/// Returns the page that an element gives.
 #[tactic(auto, unfolding(crate::specs::Given::page_given))]
 fn page_given(alloc: Global, element: &Element) -> Result<Option<Answer>, Mem>
     ensures { IfOk result (λ page. page ≡ page_given element.now) }
@@ -41,7 +41,7 @@ fn page_given(alloc: Global, element: &Element) -> Result<Option<Answer>, Mem>
     }))
 }
 
-/// An answer that is one number.
+/// Returns an answer that is one number.
 fn number_result(alloc: Global, element: &Element, local: &str) -> Result<Option<Answer>, Mem>
     ensures { IfOk result (λ answer. answer ≡ option_map Answer.Number (number_given local.now element.now)) }
 {
@@ -51,7 +51,7 @@ fn number_result(alloc: Global, element: &Element, local: &str) -> Result<Option
     }
 }
 
-/// An answer that is one text.
+/// Returns an answer that is one text.
 fn text_result(alloc: Global, element: &Element, local: &str) -> Result<Option<Answer>, Mem>
     ensures { IfOk result (λ answer. answer ≡ option_map Answer.Text (text_given local.now element.now)) }
 {
@@ -61,7 +61,7 @@ fn text_result(alloc: Global, element: &Element, local: &str) -> Result<Option<A
     }
 }
 
-/// What an element says in answer to an action.
+/// Returns what an element says in answer to an action.
 pub fn results_given(
     alloc: Global,
     name: ActionName,
@@ -79,7 +79,7 @@ pub fn results_given(
     }
 }
 
-/// The one child of this name in the namespace of control.
+/// Returns the one child of this name in the namespace of control.
 #[tactic(auto, unfolding(crate::specs::Answered::control_space))]
 fn only_of_control<'a>(element: &'a Element, local: &str) -> Option<&'a Element>
     ensures { option_copied result ≡ only_of (named control_space local.now (nodes_in element.now)) }
@@ -87,7 +87,7 @@ fn only_of_control<'a>(element: &'a Element, local: &str) -> Option<&'a Element>
     element.only_child("urn:schemas-upnp-org:control-1-0", local)
 }
 
-/// The number of 16 bits that a text is, with white space round it.
+/// Returns the number of 16 bits that a text is, with white space around it allowed.
 fn code_of(text: &str) -> Option<u16>
     ensures { result ≡ number_in (2 ^ 16) text.now }
 {
@@ -97,7 +97,7 @@ fn code_of(text: &str) -> Option<u16>
     }
 }
 
-/// The code of an error in its Fault.
+/// Returns the code of an error in its Fault.
 #[tactic(auto, unfolding(crate::specs::Answered::code_in))]
 pub fn code_in(alloc: Global, fault: &Element) -> Result<Option<u16>, Mem>
     ensures { IfOk result (λ code. code ≡ code_in fault.now) }

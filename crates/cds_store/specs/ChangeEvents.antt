@@ -1,4 +1,4 @@
--- The events of a scan's changes, by the rows that stand before each.
+-- The events of the changes of a scan, by the rows that stand before each.
 use Rattle.std.specs.Prelude.{◌+◌, ℕ, Bool, List, [], ◌∷◌, ◌++◌, map, Option, Some, None}
 use Rattle.cds_object.specs.Path.{parent_of}
 use Rattle.cds_object.specs.declared.event.Event.{Event}
@@ -27,7 +27,7 @@ event_by s (Deletion path) st = ObjDel (id_at path s.rows) (s.number + 1) st
 event_by s (Addition path content) st = ObjAdd (s.drawn + 1) (s.number + 1) st (id_at (parent_of path) s.rows) (class_of content)
 event_by s (Modification path content) st = ObjMod (id_at path s.rows) (s.number + 1) st
 
--- that the subtree update of a head is done with it
+-- the event that the subtree update of a head is done with a change
 abbrev pub done_by : Standing → Option (List (List ℕ)) → List EventWithParent
 done_by s None = []
 done_by s (Some head) = record { event = StDone (id_at head s.rows) (s.number + 1); parent = None } ∷ []
@@ -48,7 +48,7 @@ events_with ids number drawn p =
       parent = Some (ids (parent_of (place_of p.change)));
     } ∷ done_with ids number p.done
 
--- those of changes that come one after the other, the newest of which is the first in the list
+-- the events of changes that come one after the other, in a list with the newest first
 abbrev pub all_events_by : Standing → List MarkedChange → List EventWithParent
 all_events_by s [] = []
 all_events_by s (p ∷ older) = all_events_by s older ++ events_by (stepped s (changes_in older)) p

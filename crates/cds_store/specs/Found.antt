@@ -16,7 +16,7 @@ use Rattle.cds_store.specs.Rows.{rows_of}
 abbrev pub HasNone : ℕ → List PlacedRow → Type 0
 HasNone id rows = AllByRecursion (λ placed. nat_eq placed.1.id id ≡ false) rows
 
--- the row of the id, and no other, stands so many rows from the first
+-- the only row of the id stands this many rows from the first
 pub record IsPlaceOf (id : ℕ) (rows : List PlacedRow) (at : ℕ) : Type 0 where
   pub front : List PlacedRow
   pub here : PlacedRow
@@ -37,12 +37,12 @@ abbrev pub id_found : List (List ℕ) → List PlacedRow → Option ℕ
 id_found path [] = None
 id_found path (placed ∷ others) = cond (same_path path placed.0) (Some placed.1.id) (id_found path others)
 
--- an id that was looked up; 0 where there is none
+-- an id that was looked up, or 0 if there is none
 abbrev pub id_or_none : Option ℕ → ℕ
 id_or_none None = 0
 id_or_none (Some id) = id
 
--- whether a map from places to ids is that of some rows
+-- whether a map from places to ids is the map of some rows
 abbrev pub KnowsPlaces : (List (List ℕ) → Option ℕ) → List PlacedRow → Type 0
 KnowsPlaces ids rows = (path : List (List ℕ)) → ids path ≡ id_found path rows
 
@@ -50,7 +50,8 @@ KnowsPlaces ids rows = (path : List (List ℕ)) → ids path ≡ id_found path r
 abbrev pub IsOnlyAt : List (List ℕ) → ℕ → List PlacedRow → Type 0
 IsOnlyAt path id rows = AllByRecursion (λ placed. same_path path placed.0 ≡ nat_eq placed.1.id id) rows
 
--- what a change finds: a deletion and a modification their own row by its id, and an addition none at its place
+-- what a change finds: a deletion and a modification find their own row by its id, an addition finds no row at its
+-- place
 abbrev pub OwnIsFound : Change → List PlacedRow → Type 0
 OwnIsFound (Deletion path) rows = IsOnlyAt path (id_at path rows) rows
 OwnIsFound (Addition path content) rows = id_found path rows ≡ None
@@ -63,7 +64,7 @@ pub record CanFind (s : Standing) (change : Change) : Type 0 where
   pub own : OwnIsFound change s.rows
   pub drawn : AllByRecursion (λ placed. placed.1.id ≤ s.drawn) s.rows
 
--- what stands under an id is of the kind of a content
+-- the object with an id is of the kind of a content
 abbrev pub KeepsKindById : ℕ → Content → PlacedRow → Type 0
 KeepsKindById id content placed = nat_eq placed.1.id id ≡ true → is_folder placed.1.content ≡ is_folder content
 
@@ -71,7 +72,7 @@ KeepsKindById id content placed = nat_eq placed.1.id id ≡ true → is_folder p
 abbrev pub Puts : (List (List ℕ) → Option ℕ) → (List (List ℕ) → Option ℕ) → PlacedRow → Type 0
 Puts before now placed = (path : List (List ℕ)) → now path ≡ cond (same_path path placed.0) (Some placed.1.id) (before path)
 
--- what a change does to the ids of places, where the next addition draws an id
+-- what a change does to the ids of places, if the next addition draws this id
 abbrev pub Learns : (List (List ℕ) → Option ℕ) → (List (List ℕ) → Option ℕ) → Change → ℕ → Type 0
 Learns before now (Deletion path) next = (at : List (List ℕ)) → now at ≡ cond (same_path at path) None (before at)
 Learns before now (Addition path content) next = (at : List (List ℕ)) → now at ≡ cond (same_path at path) (Some next) (before at)

@@ -1,4 +1,4 @@
--- The children of each object, by rows: those of one parent stand together, in ascending order of ids.
+-- The children of each object, by rows. Children of one parent stand together, in ascending order of ids.
 use Rattle.std.specs.Prelude.{◌≡◌, ℕ, Bool, nat_eq, filter, map, List, Option}
 use Rattle.std.specs.List.Sorted.{IsNonDecreasingBy}
 use Rattle.std.specs.Option.{option_map}
@@ -13,7 +13,7 @@ use Rattle.cds_store.specs.declared.offspring.Child.{Child}
 abbrev pub ids_in : List Child → List ℕ
 ids_in children = map (λ (c : Child). c.id) children
 
--- whether a child is that of an object
+-- whether a child is a child of an object
 abbrev pub of_parent : ℕ → Child → Bool
 of_parent parent child = nat_eq child.parent parent
 

@@ -1,4 +1,4 @@
--- What is known of a scan's changes once they are resolved, while nothing is changed yet.
+-- What is known of the changes of a scan after they are resolved, while nothing is changed yet.
 use Rattle.std.specs.Prelude.{◌≡◌, ◌+◌, ◌≤◌, ℕ, true, false, List, [], ◌∷◌, ◌++◌, reverse, Option}
 use Rattle.std.specs.List.{AllByRecursion, filter_map}
 use Rattle.std.specs.Ordering.{nat_cmp}
@@ -14,12 +14,12 @@ use Rattle.cds_store.specs.Stands.{IsScan}
 use Rattle.cds_store.specs.declared.resolving.Resolution.{Resolution}
 use Rattle.cds_store.specs.declared.subtrees.MarkedChange.{MarkedChange}
 
--- whether these are the ids of a change's object and of its parent
+-- whether these are the ids of the object of a change and of its parent
 abbrev pub Notes : (List (List ℕ) → Option ℕ) → MarkedChange → ℕ × ℕ → Type 0
 Notes ids p own_and_parent =
     (own_and_parent.0 ≡ ids_by ids (place_of p.change)) × (own_and_parent.1 ≡ ids_by ids (parent_of (place_of p.change)))
 
--- what comes of one more change beside its place among those that are resolved, by the ids of what it names
+-- what follows from one more change, by the ids of what it names; it is not put among the resolved changes yet
 pub record Comes (ids_before ids_now : List (List ℕ) → Option ℕ) (before now : Resolution) (p : MarkedChange) (ids : ℕ × ℕ) : Type 0 where
   pub names : Notes ids_before p ids
   pub number : now.number ≡ before.number + 1
@@ -41,7 +41,7 @@ pub record Takes (ids_before ids_now : List (List ℕ) → Option ℕ) (before n
   pub come : now.come.items ≡ come_after p.change (before.drawn + 1) (ids_by ids_before (parent_of (place_of p.change))) before.come.items
   pub learns : Learns ids_before ids_now p.change (before.drawn + 1)
 
--- what is known once changes, the newest first, are resolved, from what stands before any is made
+-- what is known after changes, the newest first, are resolved, from what stands before any is made
 pub record IsResolutionOf (s : Standing) (made : List MarkedChange) (r : Resolution) : Type 0 where
   pub number : r.number ≡ (stepped s (changes_in made)).number
   pub drawn : r.drawn ≡ (stepped s (changes_in made)).drawn
@@ -53,7 +53,7 @@ pub record IsResolutionOf (s : Standing) (made : List MarkedChange) (r : Resolut
   pub left : AllByRecursion (λ placed. contains nat_cmp r.gone placed.1.id ≡ false) (stepped s (changes_in made)).rows
   pub children : children_staying (contains nat_cmp r.gone) (filter_map child_of s.rows ++ r.come.items) ≡ filter_map child_of (stepped s (changes_in made)).rows
 
--- whether it is what is known of some scan's changes
+-- whether it is what is known of the changes of some scan
 pub record IsResolution (s : Standing) (r : Resolution) : Type 0 where
   pub plan : List MarkedChange
   pub scan : IsScan s (changes_in plan)

@@ -1,4 +1,4 @@
--- What the parts of the store do to rows with their places, in words that their contracts share.
+-- What the parts of the store do to rows with their places. Their contracts share these words.
 use Rattle.std.specs.Prelude.{◌≡◌, ◌+◌, ◌-◌, ◌<◌, ◌^◌, ℕ, true, cond, List, [], ◌∷◌, ◌++◌, map, take, drop, MatchOption}
 use Rattle.std.specs.List.{AllByRecursion}
 use Rattle.std.specs.BTreeMap.{insert_entry}
@@ -19,7 +19,7 @@ use Rattle.cds_store.specs.declared.touch.ChildEvent.TheVariants.{Added, Modifie
 abbrev pub rows_of : List PlacedRow → List ObjectRow
 rows_of rows = map (λ placed. placed.1) rows
 
--- at most so many ids of an object's children from a place on, counted from 0, added to others
+-- at most `count` ids of the children of an object from a place on, counted from 0, added to others
 abbrev pub AddsPage : ℕ → ℕ → ℕ → List PlacedRow → List ℕ → List ℕ → Type 0
 AddsPage id start count rows out now = now ≡ out ++ map (λ (r : ObjectRow). r.id) (take count (drop start (children_of id (rows_of rows))))
 
@@ -31,13 +31,13 @@ abbrev pub put_places : FolderMap → List PlacedRow → FolderMap
 put_places library [] = library
 put_places library (placed ∷ others) = put_places (put_place library placed) others
 
--- a parent's row after something befell a child at a number
+-- the row of a parent after an event of a child, by the change with this number
 abbrev pub child_event : ChildEvent → ℕ → ObjectRow → ObjectRow
 child_event Added number row = child_added number row
 child_event Modified number row = child_modified number row
 child_event Deleted number row = child_deleted number row
 
--- what it does to the trackers
+-- what such an event does to the trackers
 abbrev pub tracked_event : ChildEvent → ℕ → Trackers → Trackers
 tracked_event Added number t = record t { container_update = number; child_count = t.child_count + 1 }
 tracked_event Modified number t = record t { container_update = number }
@@ -51,7 +51,7 @@ HasRoom row = MatchOption row.trackers (Unit {0}) (λ t. (t.child_count + 1 < 2 
 abbrev pub KeepsKind : List (List ℕ) → Content → PlacedRow → Type 0
 KeepsKind path content placed = same_path path placed.0 ≡ true → is_folder placed.1.content ≡ is_folder content
 
--- whether what stands at a change's place is of the kind that a modification gives it
+-- whether the object at the place of a change is of the kind that a modification gives it
 abbrev pub KeepsKinds : Change → List PlacedRow → Type 0
 KeepsKinds (Deletion path) rows = Unit {0}
 KeepsKinds (Addition path content) rows = Unit {0}

@@ -23,12 +23,12 @@ pub record Stored : Type 0 where
 abbrev pub IsCatalogOf : Standing → History → Type 0
 IsCatalogOf standing history = AreLibraries history.maps × (standing ≡ standing_of history)
 
--- whether it is that of some history
+-- whether it is the catalog of some history
 pub record IsCatalog (standing : Standing) : Type 0 where
   pub history : History
   pub stands : IsCatalogOf standing history
 
--- whether a store stands for a history: its rows, and its numbers, are those of the catalog after all scans; it has
+-- whether a store stands for a history: its rows and its numbers are those of the catalog after all scans; it has
 -- forgotten nothing that is still to come, and keeps every change that it has not forgotten
 abbrev pub StandsFor : Stored → History → Type 0
 StandsFor store history =
@@ -48,7 +48,8 @@ no_scans first = record { first = first; maps = [] }
 abbrev pub beginning : ℕ → Standing
 beginning first = standing_of (no_scans first)
 
--- whether changes, the newest first, are those of a scan of what a standing stands for, and their numbers stay below 2^32
+-- whether changes, the newest first, are the changes of one more scan after the history that a standing stands for;
+-- their numbers stay below 2^32
 pub record IsScan (s : Standing) (changes : List Change) : Type 0 where
   pub history : History
   pub library : FolderMap

@@ -1,5 +1,4 @@
--- What is known of the changes of one kind in a scan, the additions or the deletions, while the scan's changes are looked
--- at from the newest on.
+-- What is known of the additions, or of the deletions, of a scan while its changes are looked at, the newest first.
 use Rattle.std.specs.Prelude.{◌≡◌, ◌++◌, ℕ, Bool, true, false, List, [], ◌∷◌, Option, Some, None}
 use Rattle.std.specs.BTreeSet.{contains}
 use Rattle.cds_object.specs.Path.{path_cmp, same_path, parent_of}
@@ -17,41 +16,41 @@ abbrev pub is_kind : Kind → Change → Bool
 is_kind Added change = is_addition change
 is_kind Deleted change = is_deletion change
 
--- whether a place is the outermost one at or above another, where some places are there
+-- whether a place is the outermost one at or above another, among some places
 pub record IsOutermost (there : List (List ℕ) → Bool) (path top : List (List ℕ)) : Type 0 where
   pub over : is_over top path ≡ true
   pub member : there path ≡ true → there top ≡ true
   pub outer : there (parent_of top) ≡ false
 
--- the places of a scan's changes of a kind, those of the folders that hold one, and the heads of the subtree updates that
--- the later changes belong to
+-- the places of the changes of a kind in a scan; the places of the folders that hold one; and the heads of the subtree
+-- updates to which the later changes belong
 pub record Indexes (kind : Change → Bool) (scan later : List Change) (index : SubtreeIndex) : Type 0 where
   pub places : (path : List (List ℕ)) → contains path_cmp index.places path ≡ some_of kind (same_path path) scan
   pub folders : (path : List (List ℕ)) → contains path_cmp index.folders path ≡ some_of kind (λ place. same_path path (parent_of place)) scan
   pub seen : (top : List (List ℕ)) → IsTop kind scan top → some_of kind (is_below top) scan ≡ true →
       contains path_cmp index.seen top ≡ some_of kind (is_over top) later
 
--- the outermost place over a change's, and whether it has some other below it
+-- the outermost place over the place of a change, and whether it has some other place below it
 pub record HasTop (kind : Change → Bool) (scan : List Change) (path : List (List ℕ)) (gathers : Bool) (top : List (List ℕ)) : Type 0 where
   pub is_top : IsTop kind scan top
   pub over : is_over top path ≡ true
   pub has_below : some_of kind (is_below top) scan ≡ gathers
 
--- the head of the subtree update that a change belongs to, or that its outermost place has none below it
+-- the head of the subtree update to which a change belongs, or none if its outermost place has no other below it
 abbrev pub IsHeadOf : (Change → Bool) → List Change → List (List ℕ) → Option (List (List ℕ)) → Type 0
 IsHeadOf kind scan path None = (top : List (List ℕ)) × HasTop kind scan path false top
 IsHeadOf kind scan path (Some head) = HasTop kind scan path true head
 
--- what is said of the changes of a plan, the newest of which is the first, where others were made before
+-- what is said of the changes of a plan, the newest first, if others were made before
 abbrev pub AreMarked : List Change → List MarkedChange → List Change → Type 0
 AreMarked scan [] before = Unit {0}
 AreMarked scan (p ∷ older) before = AreMarked scan older before × IsMarked scan p.change (changes_in older ++ before) p.st p.done
 
--- whether a change of a kind has a folder as the parent of its place
+-- whether some change of a kind has this folder as the parent of its place
 abbrev pub holds_one : (Change → Bool) → List Change → List (List ℕ) → Bool
 holds_one kind scan folder = some_of kind (λ place. same_path folder (parent_of place)) scan
 
--- what is found at a change's place: the head of its subtree update
+-- what is found at the place of a change: the head of its subtree update
 abbrev pub FindsHead : SubtreeIndex → List (List ℕ) → Option (List (List ℕ)) → Type 0
 FindsHead index path head = (kind : Kind) (scan later : List Change) → Indexes (is_kind kind) scan later index → IsClosed (is_kind kind) scan →
     some_of (is_kind kind) (same_path path) scan ≡ true → IsHeadOf (is_kind kind) scan path head

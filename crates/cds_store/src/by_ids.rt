@@ -1,5 +1,5 @@
-//! The resolved changes of a scan made one by one by ids, where no memory is taken: rows are found by halving, and what is
-//! deleted goes in one pass over them.
+//! Makes the resolved changes of a scan one by one by ids. No memory is taken here. Rows are found by binary search,
+//! and deleted rows go in one pass over all rows.
 
 ghost use Rattle.std.specs.Prelude.{◌≡◌, ◌+◌, ◌≤◌, ◌<◌, ◌^◌, ◌∷◌, [], ◌++◌, ℕ, true, false, reverse, map, vec_len, vec_capacity, OnOk, OnErr};
 ghost use Rattle.std.specs.List.{AllByRecursion};
@@ -53,7 +53,7 @@ fn touch_by_id(rows: &mut Vec<Placed>, id: u32, event: ChildEvent, number: u32)
     }
 }
 
-/// Gives the object of an id another content, and keeps every other row.
+/// Gives another content to the object of an id, and keeps every other row.
 fn modify_by_id(rows: &mut Vec<Placed>, id: u32, content: Content, number: u32)
     requires ascending { IdsAscend (rows_of rows.old.items) }
     requires kinds { AllByRecursion (KeepsKindById id content) rows.old.items }
@@ -66,7 +66,7 @@ fn modify_by_id(rows: &mut Vec<Placed>, id: u32, content: Content, number: u32)
     }
 }
 
-/// Puts a row behind all others where there is room for it.
+/// Appends a row. There must be room for it.
 fn push_reserved(rows: &mut Vec<Placed>, placed: Placed)
     requires { vec_len rows.old < vec_capacity rows.old }
     ensures rows { rows.new.items ≡ rows.old.items ++ placed ∷ [] }
@@ -85,7 +85,7 @@ fn remove_gone(rows: &mut Vec<Placed>, gone: &BTreeSet<u32>)
     rows.retain(|placed| !gone.contains(&placed.row.id.0));
 }
 
-/// Makes the change of that number by ids; what it adds is given an id.
+/// Makes the change with this number by ids. An object that it adds gets the id `id`.
 fn make_by_ids(rows: &mut Vec<Placed>, number: u32, id: u32, next: Resolved)
     requires ascending { IdsAscend (rows_of rows.old.items) }
     requires room { AllByRecursion (λ placed. HasRoom placed.1) rows.old.items }
@@ -112,7 +112,7 @@ fn make_by_ids(rows: &mut Vec<Placed>, number: u32, id: u32, next: Resolved)
 }
 
 impl Catalog {
-    /// Makes the changes of a scan and keeps their events. Want of memory leaves all as it was.
+    /// Makes the changes of a scan and keeps their events. If memory runs out, all stays as it was.
     pub(crate) fn commit(
         &mut self,
         scan: Resolution,

@@ -1,4 +1,4 @@
-//! The rows as they stand, with the numbers drawn so far, and the changes made to them one by one.
+//! Keeps the rows as they stand, with the numbers drawn so far, and makes changes to them one by one.
 
 ghost use Rattle.std.specs.Prelude.{◌≡◌, ◌+◌, ◌<◌, ◌^◌, [], ◌∷◌, ◌++◌, reverse, filter, not, IfOk};
 ghost use Rattle.std.specs.List.{AllByRecursion};
@@ -108,7 +108,7 @@ fn new_trackers(number: u32, content: &Content) -> Option<Trackers>
     }
 }
 
-/// The row of what was just added; an id that was drawn is above 0.
+/// Returns the row of an object that was just added. An id that was drawn is above 0.
 pub(crate) fn new_row(id: u32, parent: ObjectId, number: u32, content: Content) -> Row
     requires { 0 < id }
     ensures { result ≡ new_row id parent.0 number content }
@@ -124,7 +124,7 @@ pub(crate) fn new_row(id: u32, parent: ObjectId, number: u32, content: Content) 
 }
 
 impl Catalog {
-    /// The root alone, before any change.
+    /// Returns the root alone, before any change.
     pub(crate) fn new(alloc: Global, first: u32) -> Result<Self, Mem>
         ensures { IfOk result (λ catalog. catalog ≡ beginning first) }
     {
@@ -153,28 +153,28 @@ impl Catalog {
         })
     }
 
-    /// The number of the newest change, or the first number.
+    /// Returns the number of the newest change, or the first number.
     pub(crate) fn number(&self) -> u32
         ensures { result ≡ self.now.number }
     {
         self.number
     }
 
-    /// How many ids were drawn.
+    /// Returns how many ids were drawn.
     pub(crate) fn drawn(&self) -> u32
         ensures { result ≡ self.now.drawn }
     {
         self.drawn
     }
 
-    /// The rows in ascending order of ids.
+    /// Returns the rows in ascending order of ids.
     pub(crate) fn rows(&self) -> &[Placed]
         ensures { result.now ≡ self.now.rows }
     {
         self.rows.as_slice()
     }
 
-    /// An equal catalog.
+    /// Returns an equal catalog.
     pub(crate) fn copy(&self, alloc: Global) -> Result<Self, Mem>
         ensures { IfOk result (λ copy. copy ≡ self.now) }
     {
@@ -236,7 +236,7 @@ impl Catalog {
         }
     }
 
-    /// The id of the parent that a change names.
+    /// Returns the id of the parent that a change names.
     fn parent_id(&self, alloc: Global, change: &Change) -> Result<u32, Mem>
         ensures { IfOk result (λ id. id ≡ id_at (parent_of (place_of change.now)) self.now.rows) }
     {
@@ -244,7 +244,7 @@ impl Catalog {
         Ok(id_at(self.rows.as_slice(), &parent).0)
     }
 
-    /// The event of a change that is to be made under the parent of that id.
+    /// Returns the event of the next change, under the parent with this id.
     fn event(&self, change: &Change, st: bool, parent: u32) -> Event
         requires number { self.now.number + 1 < 2 ^ 32 }
         requires drawn { self.now.drawn + 1 < 2 ^ 32 }
@@ -273,7 +273,7 @@ impl Catalog {
         }
     }
 
-    /// Notes the events of a change that is to be made.
+    /// Appends the events of the next change.
     fn note(
         &self,
         alloc: Global,
@@ -301,8 +301,8 @@ impl Catalog {
         Ok(())
     }
 
-    /// Makes the changes of a scan, the oldest of which comes first, and answers their events. Where memory runs out,
-    /// some are made.
+    /// Makes the changes of a scan, the oldest first, and returns their events. If memory runs out, some changes are
+    /// made.
     pub(crate) fn make_all(
         &mut self,
         alloc: Global,

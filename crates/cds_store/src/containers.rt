@@ -1,4 +1,4 @@
-//! The containers that the changes of a span touch (UPnP ContentDirectory:4 on ContainerUpdateIDs).
+//! Finds the containers that the changes of a span touch (UPnP ContentDirectory:4 on ContainerUpdateIDs).
 
 ghost use Rattle.std.specs.Prelude.{◌≡◌, ◌||◌, ℕ, not, filter, IfOk};
 ghost use Rattle.std.specs.Ordering.{nat_cmp};
@@ -15,10 +15,10 @@ use cds_object::Event;
 use std::alloc::Global;
 use std::collections::{BTreeMap, BTreeSet};
 
-/// The last number of a change that adds each container or names it as parent.
+/// For each container, the number of the last change that adds it or names it as parent.
 type Touched = BTreeMap<u32, u32>;
 
-/// Takes the containers that the change of an event adds and names.
+/// Adds the containers that the change of an event adds or names as parent.
 fn touch(touched: &mut Touched, item: &EventWithParent) -> Result<(), Mem>
     ensures { IfOk result (λ _. TakesTouch (get nat_cmp touched.old) (get nat_cmp touched.new) item.now) }
 {
@@ -34,7 +34,7 @@ fn touch(touched: &mut Touched, item: &EventWithParent) -> Result<(), Mem>
     Ok(())
 }
 
-/// Takes the object that the change of an event deletes.
+/// Adds the object that the change of an event deletes.
 fn strike(deleted: &mut BTreeSet<u32>, item: &EventWithParent) -> Result<(), Mem>
     ensures { IfOk result (λ _. (id : ℕ) → contains nat_cmp deleted.new id ≡ (deletes id item.now.event || contains nat_cmp deleted.old id)) }
 {
@@ -44,7 +44,7 @@ fn strike(deleted: &mut BTreeSet<u32>, item: &EventWithParent) -> Result<(), Mem
     Ok(())
 }
 
-/// The last number of each container that the changes of a span touch.
+/// Returns, for each container that the changes of a span touch, the number of the last such change.
 fn touched_within(alloc: Global, kept: &[EventWithParent], span: Span) -> Result<Touched, Mem>
     ensures { IfOk result (λ touched. (id : ℕ) → get nat_cmp touched id ≡ last_touch_in span.from span.to id kept.now) }
 {
@@ -57,7 +57,7 @@ fn touched_within(alloc: Global, kept: &[EventWithParent], span: Span) -> Result
     Ok(touched)
 }
 
-/// The objects that the changes of a span delete.
+/// Returns the objects that the changes of a span delete.
 fn deleted_within(alloc: Global, kept: &[EventWithParent], span: Span) -> Result<BTreeSet<u32>, Mem>
     ensures { IfOk result (λ deleted. (id : ℕ) → contains nat_cmp deleted id ≡ was_deleted_in span.from span.to id kept.now) }
 {
@@ -70,7 +70,7 @@ fn deleted_within(alloc: Global, kept: &[EventWithParent], span: Span) -> Result
     Ok(deleted)
 }
 
-/// The entries of the containers that were not deleted, in ascending order of ids.
+/// Returns the entries of the containers that were not deleted, in ascending order of ids.
 fn not_deleted(
     alloc: Global,
     touched: &Touched,
@@ -88,7 +88,8 @@ fn not_deleted(
     Ok(containers)
 }
 
-/// The containers that a span touches and does not delete, with the last such numbers, in ascending order of ids.
+/// Returns the containers that a span touches and does not delete, with the last such numbers, in ascending order of
+/// ids.
 pub(crate) fn containers_within(
     alloc: Global,
     kept: &[EventWithParent],

@@ -1,3 +1,5 @@
+//! Why scans are refused.
+
 ghost use Rattle.std.specs.Prelude.{◌≡◌};
 
 use cds_base::Mem;
@@ -7,14 +9,14 @@ use thiserror::Error;
 /// Why a scan was refused.
 #[derive(Debug, Drop, Error)]
 pub enum ApplyError {
-    /// The first record that cannot stand, counted from 1: no folder holds it, its place came
-    /// before, or it is the root's own.
+    /// The first record that cannot stand, counted from 1: no folder holds it, its place came before, or its place is
+    /// the root.
     #[error("record {line} cannot stand where it says")]
     BadRecords { line: u32 },
-    /// How many objects were found, where they are more than 65,535.
+    /// This many objects were found, more than the 65,535 that a library can have.
     #[error("{objects} objects are more than a library can have")]
     Full { objects: u32 },
-    /// How many numbers the scan needs, where they lead above 4,294,967,295.
+    /// The scan needs this many numbers, and they lead above 4,294,967,295.
     #[error("there are no numbers left for {needed} changes")]
     Spent { needed: u32 },
     #[error("out of memory")]

@@ -1,4 +1,4 @@
-//! Rows found by halving, since they stand in ascending order of ids.
+//! Finds rows by binary search. They stand in ascending order of ids.
 
 ghost use Rattle.std.specs.Prelude.{◌≡◌, MatchOption, option_copied};
 ghost use Rattle.cds_object.specs.Tree.{IdsAscend, row_of};
@@ -8,7 +8,7 @@ ghost use Rattle.cds_store.specs.Found.{HasNone, IsPlaceOf};
 use crate::placed::Placed;
 use cds_object::Row;
 
-/// Where the row of an id stands, counted from 0.
+/// Returns the place of the row of an id, counted from 0.
 pub(crate) fn place_of_id(rows: &[Placed], id: u32) -> Option<usize>
     requires { IdsAscend (rows_of rows.now) }
     ensures { MatchOption result (HasNone id rows.now) (IsPlaceOf id rows.now) }
@@ -30,7 +30,7 @@ pub(crate) fn place_of_id(rows: &[Placed], id: u32) -> Option<usize>
     None
 }
 
-/// The row of an id.
+/// Returns the row of an id.
 pub(crate) fn row_by_id(rows: &[Placed], id: u32) -> Option<&Row>
     requires { IdsAscend (rows_of rows.now) }
     ensures { option_copied result ≡ row_of id (rows_of rows.now) }

@@ -1,4 +1,4 @@
-//! The events of changes that are not forgotten, and those of a span among them.
+//! Keeps the events of changes that are not forgotten, and finds the events of a span.
 
 ghost use Rattle.std.specs.Prelude.{◌≡◌, ◌++◌, filter, IfOk, OnOk, OnErr};
 ghost use Rattle.cds_changes.specs.EventsWithParents.{lies_in, events_in, is_after};
@@ -9,7 +9,7 @@ use cds_changes::EventWithParent;
 use cds_object::Event;
 use std::alloc::Global;
 
-/// Whether an event lies in a span.
+/// Returns whether an event lies in a span.
 pub(crate) fn lies_in(event: Event, span: Span) -> bool
     ensures { result ≡ lies_in span.from span.to event }
 {
@@ -17,7 +17,7 @@ pub(crate) fn lies_in(event: Event, span: Span) -> bool
     span.from < update && update <= span.to
 }
 
-/// The events of a span.
+/// Returns the events of a span.
 pub(crate) fn events_within(
     alloc: Global,
     kept: &[EventWithParent],
@@ -34,7 +34,7 @@ pub(crate) fn events_within(
     Ok(events)
 }
 
-/// Keeps more events. Want of memory leaves all as it was.
+/// Keeps more events. If memory runs out, all stays as it was.
 pub(crate) fn keep(kept: &mut Vec<EventWithParent>, more: &[EventWithParent]) -> Result<(), Mem>
     ensures ok { OnOk result (kept.new.items ≡ kept.old.items ++ more.now) }
     ensures err { OnErr result (kept.new.items ≡ kept.old.items) }
@@ -43,7 +43,7 @@ pub(crate) fn keep(kept: &mut Vec<EventWithParent>, more: &[EventWithParent]) ->
     Ok(())
 }
 
-/// Whether an event is above a number.
+/// Returns whether an event is above a number.
 fn is_after(item: &EventWithParent, to: u32) -> bool
     ensures { result ≡ is_after to item.now }
 {

@@ -1,5 +1,5 @@
-//! The store of a server: the catalog after all scans, kept as one list of rows that each change of a scan brings up
-//! to date, and the events of the changes that are not forgotten.
+//! The store of a server: the catalog after all scans, and the events of the changes that are not forgotten. The
+//! catalog is one list of rows, and each change of a scan brings it up to date.
 #![tactic(auto)]
 
 mod by_ids;

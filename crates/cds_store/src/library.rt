@@ -1,4 +1,4 @@
-//! The folder map of a scan, the one that the rows show, and the changes from one to the other.
+//! Makes the folder map of a scan, the folder map that the rows show, and the changes from one to the other.
 
 ghost use Rattle.std.specs.Prelude.{◌≡◌, [], ◌++◌, reverse, option_copied, IfOk};
 ghost use Rattle.std.specs.List.{filter_map};
@@ -15,11 +15,11 @@ use cds_object::{Content, Path, Record};
 use std::alloc::Global;
 use std::collections::BTreeMap;
 
-/// What stands at each place, in ascending order of places; the root is not in it. Places and contents are lent by the
-/// records or rows that have them.
+/// What stands at each place, in ascending order of places. The root is not in it. Places and contents are borrowed
+/// from the records or rows that have them.
 pub(crate) type Library<'a> = BTreeMap<&'a Path, &'a Content>;
 
-/// Puts what stands at a place into a folder map, in place of what stood there.
+/// Puts what stands at a place into a folder map. It replaces what stood there.
 fn put<'a>(library: &mut Library<'a>, path: &'a Path, content: &'a Content) -> Result<(), Mem>
     ensures { IfOk result (λ _. shown library.new.entries ≡ insert_entry path_cmp (shown library.old.entries) path.now content.now) }
 {
@@ -27,7 +27,7 @@ fn put<'a>(library: &mut Library<'a>, path: &'a Path, content: &'a Content) -> R
     Ok(())
 }
 
-/// The folder map of what a scan found.
+/// Returns the folder map of what a scan found.
 pub(crate) fn library_of(alloc: Global, records: &[Record]) -> Result<Library<'_>, Mem>
     ensures { IfOk result (λ library. shown library.entries ≡ map_of records.now) }
 {
@@ -38,7 +38,7 @@ pub(crate) fn library_of(alloc: Global, records: &[Record]) -> Result<Library<'_
     Ok(library)
 }
 
-/// The folder map that rows show.
+/// Returns the folder map that rows show.
 pub(crate) fn library_shown(alloc: Global, rows: &[Placed]) -> Result<Library<'_>, Mem>
     ensures { IfOk result (λ library. shown library.entries ≡ put_places [] rows.now) }
 {
@@ -51,7 +51,7 @@ pub(crate) fn library_shown(alloc: Global, rows: &[Placed]) -> Result<Library<'_
     Ok(library)
 }
 
-/// The deletion of what stood at a place, by what stands there now.
+/// Returns the deletion of what stood at a place, if there is one, by what stands there now.
 fn departure(
     alloc: Global,
     path: &Path,
@@ -69,7 +69,7 @@ fn departure(
     Ok(Some(Change::Deletion { path }))
 }
 
-/// The addition or modification of what stands at a place, by what stood there before.
+/// Returns the addition or modification of what stands at a place, if there is one, by what stood there before.
 fn arrival(
     alloc: Global,
     path: &Path,
@@ -98,14 +98,14 @@ fn arrival(
     Ok(Some(change))
 }
 
-/// What stands at a place.
+/// Returns what stands at a place.
 fn content_at<'a>(library: &Library<'a>, path: &'a Path) -> Option<&'a Content>
     ensures { option_copied result ≡ content_at (shown library.now.entries) path.now }
 {
     library.get(&path).copied()
 }
 
-/// The deletions, in ascending order of places.
+/// Returns the deletions, in ascending order of places.
 fn departures<'a>(alloc: Global, old: &Library<'a>, new: &Library<'a>) -> Result<Vec<Change>, Mem>
     ensures { IfOk result (λ changes. changes.items ≡ filter_map (departure (shown new.now.entries)) (shown old.now.entries)) }
 {
@@ -119,7 +119,7 @@ fn departures<'a>(alloc: Global, old: &Library<'a>, new: &Library<'a>) -> Result
     Ok(changes)
 }
 
-/// Adds the additions and modifications, in ascending order of places.
+/// Appends the additions and modifications, in ascending order of places.
 fn arrivals<'a>(
     alloc: Global,
     old: &Library<'a>,
@@ -137,8 +137,8 @@ fn arrivals<'a>(
     Ok(())
 }
 
-/// The changes from one folder map to the next, the oldest first: the deletions in descending order of places, then the
-/// additions and modifications in ascending order.
+/// Returns the changes from one folder map to the next, the oldest first. The deletions come in descending order of
+/// places, then the additions and modifications in ascending order.
 pub(crate) fn changes_between<'a>(
     alloc: Global,
     old: &Library<'a>,

@@ -1,4 +1,4 @@
-//! The children of each object, found by halving (UPnP ContentDirectory:4 on browsing direct children).
+//! Finds the children of each object by binary search (UPnP ContentDirectory:4 on browsing direct children).
 
 ghost use Rattle.std.specs.Prelude.{◌≡◌, ◌++◌, filter, map, take, drop, IfOk};
 ghost use Rattle.std.specs.List.{filter_map};
@@ -19,7 +19,8 @@ pub(crate) struct Child {
     pub(crate) id: u32,
 }
 
-/// All objects but the root, each under its parent: those of one parent stand together, in ascending order of ids.
+/// Returns all objects except the root, each under its parent. Children of one parent stand together, in ascending
+/// order of ids.
 pub(crate) fn offspring_of(alloc: Global, rows: &[Placed]) -> Result<Vec<Child>, Mem>
     ensures { IfOk result (λ offspring. AreChildren rows.now offspring.items) }
 {
@@ -28,7 +29,7 @@ pub(crate) fn offspring_of(alloc: Global, rows: &[Placed]) -> Result<Vec<Child>,
     Ok(offspring)
 }
 
-/// All children after the changes of a scan: those that go are left out, and those that come are put in.
+/// Returns all children after the changes of a scan: those that go are left out, and those that come are put in.
 pub(crate) fn offspring_after(
     alloc: Global,
     offspring: &[Child],
@@ -45,7 +46,7 @@ pub(crate) fn offspring_after(
     Ok(mended)
 }
 
-/// The objects of rows that have a parent, in the order of the rows.
+/// Returns the objects of rows that have a parent, in the order of the rows.
 fn children_among(alloc: Global, rows: &[Placed]) -> Result<Vec<Child>, Mem>
     ensures { IfOk result (λ children. children.items ≡ filter_map child_of rows.now) }
 {
@@ -62,7 +63,7 @@ fn children_among(alloc: Global, rows: &[Placed]) -> Result<Vec<Child>, Mem>
     Ok(children)
 }
 
-/// The children of an object, where those of one parent stand together.
+/// Returns the children of an object. Children of one parent must stand together.
 pub(crate) fn children_in(offspring: &[Child], parent: u32) -> &[Child]
     requires { Rises offspring.now }
     ensures { result.now ≡ filter (of_parent parent) offspring.now }
@@ -74,7 +75,7 @@ pub(crate) fn children_in(offspring: &[Child], parent: u32) -> &[Child]
     found
 }
 
-/// At most `count` of the children from the place `start` on.
+/// Returns at most `count` of the children, from the place `start` on.
 pub(crate) fn page_of(children: &[Child], start: u32, count: u32) -> &[Child]
     ensures { result.now ≡ take count (drop start children.now) }
 {
@@ -83,7 +84,7 @@ pub(crate) fn page_of(children: &[Child], start: u32, count: u32) -> &[Child]
     page
 }
 
-/// Their ids.
+/// Returns the ids of children.
 pub(crate) fn ids_of(alloc: Global, children: &[Child]) -> Result<Vec<u32>, Mem>
     ensures { IfOk result (λ ids. ids.items ≡ ids_in children.now) }
 {

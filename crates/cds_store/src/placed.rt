@@ -1,3 +1,5 @@
+//! Rows with their places.
+
 ghost use Rattle.std.specs.Prelude.{◌≡◌, IfOk};
 
 use cds_base::Mem;
@@ -21,21 +23,21 @@ impl Model for Placed {
 }
 
 impl Placed {
-    /// The row without its place.
+    /// Returns the row without its place.
     pub(crate) fn row(&self) -> &Row
         ensures { result.now ≡ self.now.1 }
     {
         &self.row
     }
 
-    /// The id of the object.
+    /// Returns the id of the object.
     pub(crate) fn id(&self) -> u32
         ensures { result ≡ self.now.1.id }
     {
         self.row.id.0
     }
 
-    /// An equal row at an equal place.
+    /// Returns an equal row at an equal place.
     pub(crate) fn copy(&self, alloc: Global) -> Result<Self, Mem>
         ensures { IfOk result (λ copy. copy ≡ self.now) }
     {

@@ -1,3 +1,5 @@
+//! The plain implementation of the store.
+
 ghost use Rattle.std.specs.Prelude.{◌≡◌, IfOk};
 ghost use Rattle.cds_store.specs.Stands.{StandsFor, no_scans};
 
@@ -15,10 +17,14 @@ use std::fmt::{Debug, Formatter};
 use std::marker::Model;
 use std::{fmt, mem};
 
-/// The catalog of a server after all its scans, with the changes that are not forgotten. Contracts see what stands (the
-/// number of the newest change, how many ids were drawn, and the rows with their places), the number up to which changes
-/// are forgotten, and the events of those above it. It stands for a history of scans where all this is that history's.
-/// The plain body: each change walks over all rows.
+/// The catalog of a server after all its scans, with the changes that are not forgotten. This is the plain
+/// implementation: each change walks over all rows. Contracts see:
+///
+/// - What stands: the number of the newest change, how many ids were drawn, and the rows with their places.
+/// - The number up to which changes are forgotten.
+/// - The events of the changes above that number.
+///
+/// The store stands for a history of scans if all this is what the history gives.
 #[derive(Drop)]
 pub struct PlainStore {
     catalog: Catalog,
@@ -36,7 +42,7 @@ impl Model for PlainStore {
     ghost invariant = { λ s. IsStore (record { standing = s.catalog; forgotten = s.forgotten; kept = s.kept.items }) };
 }
 
-/// Its name alone: deriving it for all that it holds would be dear to prove, and nothing prints it.
+/// Prints the name alone. To derive this for all that it holds would be costly to prove, and nothing prints it.
 impl Debug for PlainStore {
     fn fmt<W: fmt::Write>(&self, f: &mut Formatter<W>) -> fmt::Result {
         f.debug_struct("PlainStore").finish_non_exhaustive()
@@ -44,7 +50,7 @@ impl Debug for PlainStore {
 }
 
 impl PlainStore {
-    /// A store before any scan: the root alone, at the first number.
+    /// Returns a store before any scan: the root alone, at the first number.
     pub fn new(alloc: Global, first: u32) -> Result<PlainStore, Mem>
         ensures stands { IfOk result (λ store. StandsFor store (no_scans first)) }
         ensures forgotten { IfOk result (λ store. store.forgotten ≡ first) }

@@ -1,4 +1,4 @@
-//! What a scan would change, and parts of rows: what both bodies of the store have in common.
+//! Finds what a scan would change, and parts of rows. Both implementations of the store use this.
 
 ghost use Rattle.std.specs.Prelude.{◌≡◌, ◌+◌, ◌≤◌, ◌<◌, ◌^◌, [], map, reverse, take, drop, length, nat_lt, IfOk, IfErr};
 ghost use Rattle.cds_object.specs.Tree.{children_of, is_child_of};
@@ -18,10 +18,10 @@ use cds_catalog::Change;
 use cds_object::{Record, Records};
 use std::alloc::Global;
 
-/// How many objects a library can have beside the root.
+/// The most objects that a library can have beside the root.
 const MAX_OBJECTS: usize = 65_535;
 
-/// Whether the parent of the object of a row is this one.
+/// Returns whether this is the parent of the object of a row.
 fn is_child(placed: &Placed, parent: u32) -> bool
     ensures { result ≡ is_child_of parent placed.now.1 }
 {
@@ -31,7 +31,7 @@ fn is_child(placed: &Placed, parent: u32) -> bool
     }
 }
 
-/// The ids of the children of an object, in ascending order.
+/// Returns the ids of the children of an object, in ascending order.
 pub(crate) fn child_ids(alloc: Global, rows: &[Placed], id: u32) -> Result<Vec<u32>, Mem>
     ensures { IfOk result (λ ids. ids.items ≡ map (λ r. r.id) (children_of id (rows_of rows.now))) }
 {
@@ -44,7 +44,7 @@ pub(crate) fn child_ids(alloc: Global, rows: &[Placed], id: u32) -> Result<Vec<u
     Ok(ids)
 }
 
-/// At most `count` of the ids from the place `start` on.
+/// Returns at most `count` of the ids, from the place `start` on.
 pub(crate) fn page(ids: &[u32], start: u32, count: u32) -> &[u32]
     ensures { result.now ≡ take count (drop start ids.now) }
 {
@@ -53,7 +53,7 @@ pub(crate) fn page(ids: &[u32], start: u32, count: u32) -> &[u32]
     page
 }
 
-/// The changes from what rows show to what a scan found, the oldest first.
+/// Returns the changes from what rows show to what a scan found, the oldest first.
 fn changes_found<'a>(
     alloc: Global,
     rows: &'a [Placed],
@@ -66,14 +66,14 @@ fn changes_found<'a>(
     changes_between(alloc, &old, &new)
 }
 
-/// Whether changes from a number on lead above the last number.
+/// Returns whether changes from a number on lead above the last number.
 fn is_spent(number: u32, needed: u32) -> bool
     ensures { result ≡ nat_lt 4294967295 (number + needed) }
 {
     number.checked_add(needed).is_none()
 }
 
-/// The changes that a scan makes, the oldest first, or why it is refused.
+/// Returns the changes that a scan makes, the oldest first, or why it is refused.
 pub(crate) fn plan(
     alloc: Global,
     catalog: &Catalog,

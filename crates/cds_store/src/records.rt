@@ -1,4 +1,4 @@
-//! Which records of a scan can stand.
+//! Finds which records of a scan can stand.
 
 ghost use Rattle.std.specs.Prelude.{◌≡◌, ◌<◌, ◌^◌, ℕ, List, length, IfOk};
 ghost use Rattle.std.specs.List.{list_any};
@@ -14,7 +14,7 @@ use std::collections::BTreeSet;
 
 type Places = BTreeSet<Path>;
 
-/// The places of the folders.
+/// Returns the places of the folders.
 fn folders_among(alloc: Global, records: &[Record]) -> Result<Places, Mem>
     ensures { IfOk result (λ folders. (path : List (List ℕ)) → contains path_cmp folders path ≡ list_any (is_folder_at path) records.now) }
 {
@@ -28,14 +28,14 @@ fn folders_among(alloc: Global, records: &[Record]) -> Result<Places, Mem>
     Ok(folders)
 }
 
-/// Whether what stands at a place can hold others.
+/// Returns whether what stands at a place can hold others.
 fn can_hold(folders: &Places, path: &Path) -> bool
     ensures { result ≡ holds_place (contains path_cmp folders.now) path.now }
 {
     path.is_root() || folders.contains(path)
 }
 
-/// Whether nothing can stand at a place, where some folders stand and some places came before.
+/// Returns whether nothing can stand at a place, given the places of the folders and the places that came before.
 fn is_bad(alloc: Global, folders: &Places, before: &Places, path: &Path) -> Result<bool, Mem>
     ensures { IfOk result (λ bad. bad ≡ cannot_stand (contains path_cmp folders.now) (contains path_cmp before.now) path.now) }
 {
@@ -44,7 +44,7 @@ fn is_bad(alloc: Global, folders: &Places, before: &Places, path: &Path) -> Resu
     Ok(bad)
 }
 
-/// The first record that cannot stand, counted from 1.
+/// Returns the first record that cannot stand, counted from 1.
 pub(crate) fn bad_record(alloc: Global, records: &[Record]) -> Result<Option<u32>, Mem>
     requires { length records.now < 2 ^ 32 }
     ensures { IfOk result (λ line. line ≡ bad_record records.now) }

@@ -1,5 +1,5 @@
-//! The changes of a scan with the ids of what they name, before anything is changed: all memory that they need is taken
-//! here.
+//! Resolves the changes of a scan to the ids of what they name, before anything is changed. All memory that they need
+//! is taken here.
 
 ghost use Rattle.std.specs.Prelude.{◌≡◌, ◌+◌, ◌<◌, ◌^◌, ◌++◌, ℕ, reverse, map, IfOk};
 ghost use Rattle.std.specs.Ordering.{nat_cmp};
@@ -31,13 +31,13 @@ type Places = BTreeMap<Path, u32>;
 #[derive(Drop)]
 pub(crate) struct Resolved {
     pub(crate) change: Change,
-    /// The id of its object; 0 where it adds it.
+    /// The id of its object, or 0 if the change adds it.
     pub(crate) own: u32,
     /// The id of its parent.
     pub(crate) parent: u32,
 }
 
-/// The changes of a scan, resolved, and what comes of them.
+/// The changes of a scan, resolved, and what follows from them.
 #[derive(Drop)]
 pub(crate) struct Resolution {
     /// The number of the newest change.
@@ -53,7 +53,7 @@ pub(crate) struct Resolution {
     pub(crate) come: Vec<Child>,
 }
 
-/// The ids of rows by their places, that of the first where several have one.
+/// Returns the ids of rows by their places. If several rows have one place, the first counts.
 fn places_in(alloc: Global, rows: &[Placed]) -> Result<Places, Mem>
     ensures { IfOk result (λ places. KnowsPlaces (get path_cmp places) rows.now) }
 {
@@ -75,7 +75,7 @@ fn put_id(alloc: Global, places: &mut Places, placed: &Placed) -> Result<(), Mem
     Ok(())
 }
 
-/// The id at a place; 0 where none is there.
+/// Returns the id at a place, or 0 if there is none.
 fn id_in(places: &Places, path: &Path) -> u32
     ensures { result ≡ ids_by (get path_cmp places.now) path.now }
 {
@@ -85,7 +85,7 @@ fn id_in(places: &Places, path: &Path) -> u32
     }
 }
 
-/// Takes what a change does to the ids of places, where the next addition draws an id.
+/// Brings the ids of places up to date with a change. An object that it adds gets the id `next`.
 fn learn(alloc: Global, places: &mut Places, change: &Change, next: u32) -> Result<(), Mem>
     ensures { IfOk result (λ _. Learns (get path_cmp places.old) (get path_cmp places.new) change.now next) }
 {
@@ -102,7 +102,7 @@ fn learn(alloc: Global, places: &mut Places, change: &Change, next: u32) -> Resu
     Ok(())
 }
 
-/// The event of a change by its number, the next id that is drawn, and the ids of its object and of its parent.
+/// Returns the event of a change by its number, the next id that is drawn, and the ids of its object and of its parent.
 fn event_with(number: u32, next: u32, own: u32, parent: u32, change: &Change, st: bool) -> Event
     ensures { result ≡ event_with number next own parent change.now st }
 {
@@ -127,7 +127,7 @@ fn event_with(number: u32, next: u32, own: u32, parent: u32, change: &Change, st
     }
 }
 
-/// How many ids are drawn after a change.
+/// Returns how many ids are drawn after a change.
 pub(crate) fn drawn_after(drawn: u32, change: &Change) -> u32
     requires { drawn + 1 < 2 ^ 32 }
     ensures { result ≡ drawn_after drawn change.now }
@@ -138,7 +138,7 @@ pub(crate) fn drawn_after(drawn: u32, change: &Change) -> u32
     }
 }
 
-/// Takes the id of what a change deletes.
+/// Adds the id of what a change deletes.
 fn take_gone(gone: &mut BTreeSet<u32>, change: &Change, own: u32) -> Result<(), Mem>
     ensures { IfOk result (λ _. (id : ℕ) → contains nat_cmp gone.new id ≡ goes_after change.now own (contains nat_cmp gone.old) id) }
 {
@@ -148,7 +148,7 @@ fn take_gone(gone: &mut BTreeSet<u32>, change: &Change, own: u32) -> Result<(), 
     Ok(())
 }
 
-/// Takes what a change adds.
+/// Adds what a change adds.
 fn take_come(come: &mut Vec<Child>, change: &Change, id: u32, parent: u32) -> Result<(), Mem>
     ensures { IfOk result (λ _. come.new.items ≡ come_after change.now id parent come.old.items) }
 {
@@ -158,7 +158,7 @@ fn take_come(come: &mut Vec<Child>, change: &Change, id: u32, parent: u32) -> Re
     Ok(())
 }
 
-/// Notes the events of a change that comes after a number and so many ids drawn.
+/// Appends the events of a change that comes after this number and after this many drawn ids.
 fn note(
     places: &Places,
     number: u32,
@@ -189,7 +189,7 @@ fn note(
     Ok(())
 }
 
-/// The ids of what a change names: of its object, 0 where it adds it, and of its parent.
+/// Returns the ids of what a change names: of its object, or 0 if the change adds it, and of its parent.
 fn ids_of(alloc: Global, places: &Places, marked: &MarkedChange) -> Result<(u32, u32), Mem>
     ensures { IfOk result (Notes (get path_cmp places.now) marked.now) }
 {
@@ -199,7 +199,7 @@ fn ids_of(alloc: Global, places: &Places, marked: &MarkedChange) -> Result<(u32,
     Ok((own, parent))
 }
 
-/// Takes what comes of the next change of a scan, and answers the ids of what it names.
+/// Takes in what follows from the next change of a scan. Returns the ids of what it names.
 fn take_next(
     alloc: Global,
     places: &mut Places,
@@ -248,7 +248,7 @@ fn resolve_next(
     Ok(())
 }
 
-/// Resolves the changes of a scan, the oldest of which comes first.
+/// Resolves the changes of a scan, which come the oldest first.
 pub(crate) fn resolve(
     alloc: Global,
     catalog: &Catalog,

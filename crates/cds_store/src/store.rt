@@ -1,3 +1,5 @@
+//! The store of a server, with children and rows found by binary search.
+
 ghost use Rattle.std.specs.Prelude.{◌≡◌, IfOk};
 ghost use Rattle.cds_store.specs.Stands.{StandsFor, no_scans};
 
@@ -18,11 +20,15 @@ use std::fmt::{Debug, Formatter};
 use std::marker::Model;
 use std::{fmt, mem};
 
-/// The catalog of a server after all its scans, with the changes that are not forgotten. Contracts see what stands (the
-/// number of the newest change, how many ids were drawn, and the rows with their places), the number up to which changes
-/// are forgotten, and the events of those above it. It stands for a history of scans where all this is that history's.
-/// Rows and children are found by halving. All changes of a scan are resolved to ids, and all memory is taken, before any is
-/// made.
+/// The catalog of a server after all its scans, with the changes that are not forgotten. Rows and children are found by
+/// binary search. Before any change of a scan is made, all of them are resolved to ids and all memory is taken.
+/// Contracts see:
+///
+/// - What stands: the number of the newest change, how many ids were drawn, and the rows with their places.
+/// - The number up to which changes are forgotten.
+/// - The events of the changes above that number.
+///
+/// The store stands for a history of scans if all this is what the history gives.
 #[derive(Drop)]
 pub struct Store {
     catalog: Catalog,
@@ -42,7 +48,7 @@ impl Model for Store {
     ghost invariant = { λ s. IsIndexed (record { standing = s.catalog; forgotten = s.forgotten; kept = s.kept.items }) s.offspring.items };
 }
 
-/// Its name alone: deriving it for all that it holds would be dear to prove, and nothing prints it.
+/// Prints the name alone. To derive this for all that it holds would be costly to prove, and nothing prints it.
 impl Debug for Store {
     fn fmt<W: fmt::Write>(&self, f: &mut Formatter<W>) -> fmt::Result {
         f.debug_struct("Store").finish_non_exhaustive()
@@ -50,7 +56,7 @@ impl Debug for Store {
 }
 
 impl Store {
-    /// A store before any scan: the root alone, at the first number.
+    /// Returns a store before any scan: the root alone, at the first number.
     pub fn new(alloc: Global, first: u32) -> Result<Store, Mem>
         ensures stands { IfOk result (λ store. StandsFor store (no_scans first)) }
         ensures forgotten { IfOk result (λ store. store.forgotten ≡ first) }

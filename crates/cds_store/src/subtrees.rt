@@ -1,5 +1,5 @@
-//! Which changes of a scan belong to subtree updates, and with which of them each is done (this project's profile of UPnP
-//! ContentDirectory:4 on LastChange).
+//! Finds which changes of a scan belong to subtree updates, and with which change each of these is done (this project's
+//! profile of UPnP ContentDirectory:4 on LastChange).
 
 ghost use Rattle.std.specs.Prelude.{◌≡◌, ◌++◌, ℕ, true, false, List, [], ◌∷◌, reverse, IfOk};
 ghost use Rattle.std.specs.BTreeSet.{contains};
@@ -25,14 +25,14 @@ pub(crate) struct MarkedChange {
     pub(crate) done: Option<Path>,
 }
 
-/// Which changes: the additions of a scan, or its deletions.
+/// A kind of changes: the additions of a scan, or its deletions.
 #[derive(Clone, Copy)]
 enum Kind {
     Added,
     Deleted,
 }
 
-/// The changes of one kind, by which their subtree updates are told apart.
+/// The changes of one kind, to tell their subtree updates apart.
 #[derive(Drop)]
 struct SubtreeIndex {
     /// Their places.
@@ -43,7 +43,7 @@ struct SubtreeIndex {
     seen: BTreeSet<Path>,
 }
 
-/// The place that a change names.
+/// Returns the place that a change names.
 pub(crate) fn place_of(change: &Change) -> &Path
     ensures { result.now ≡ place_of change.now }
 {
@@ -54,7 +54,7 @@ pub(crate) fn place_of(change: &Change) -> &Path
     }
 }
 
-/// Whether a change is of a kind.
+/// Returns whether a change is of a kind.
 fn is_of(kind: Kind, change: &Change) -> bool
     ensures { result ≡ is_kind kind change.now }
 {
@@ -65,7 +65,7 @@ fn is_of(kind: Kind, change: &Change) -> bool
     }
 }
 
-/// The places of the changes of a kind.
+/// Returns the places of the changes of a kind.
 fn places_of(alloc: Global, kind: Kind, changes: &[Change]) -> Result<BTreeSet<Path>, Mem>
     ensures { IfOk result (λ places. (path : List (List ℕ)) → contains path_cmp places path ≡ some_of (is_kind kind) (same_path path) changes.now) }
 {
@@ -79,7 +79,7 @@ fn places_of(alloc: Global, kind: Kind, changes: &[Change]) -> Result<BTreeSet<P
     Ok(places)
 }
 
-/// The places of the folders that hold a change of a kind.
+/// Returns the places of the folders that hold a change of a kind.
 fn folders_of(alloc: Global, kind: Kind, changes: &[Change]) -> Result<BTreeSet<Path>, Mem>
     ensures { IfOk result (λ folders. (path : List (List ℕ)) → contains path_cmp folders path ≡ holds_one (is_kind kind) changes.now path) }
 {
@@ -93,7 +93,8 @@ fn folders_of(alloc: Global, kind: Kind, changes: &[Change]) -> Result<BTreeSet<
     Ok(folders)
 }
 
-/// The outermost of some places at or above a place, as far as each one's folder is among them too.
+/// Returns the outermost of some places at or above a place. It goes up as long as the folder of each is among them,
+/// too.
 fn outermost(alloc: Global, places: &BTreeSet<Path>, path: &Path) -> Result<Path, Mem>
     requires { contains path_cmp places.now [] ≡ false }
     ensures { IfOk result (λ top. IsOutermost (contains path_cmp places.now) path.now top) }
@@ -109,7 +110,7 @@ fn outermost(alloc: Global, places: &BTreeSet<Path>, path: &Path) -> Result<Path
 }
 
 impl SubtreeIndex {
-    /// The changes of a kind, before any is looked at.
+    /// Returns the index of the changes of a kind, before any is looked at.
     fn new(alloc: Global, kind: Kind, changes: &[Change]) -> Result<SubtreeIndex, Mem>
         ensures { IfOk result (λ index. Indexes (is_kind kind) (reverse changes.now) [] index) }
     {
@@ -123,7 +124,7 @@ impl SubtreeIndex {
         })
     }
 
-    /// The place of the head of the subtree update that the change at a place belongs to.
+    /// Returns the place of the head of the subtree update to which the change at a place belongs.
     fn head(&self, alloc: Global, path: &Path) -> Result<Option<Path>, Mem>
         requires { contains path_cmp self.now.places [] ≡ false }
         ensures { IfOk result (FindsHead self.now path.now) }
@@ -135,8 +136,8 @@ impl SubtreeIndex {
         Ok(None)
     }
 
-    /// Looks at the change at a place after all newer ones: whether it belongs to a subtree update, and the place of the
-    /// head of it where none of the newer ones does.
+    /// Looks at the change at a place after all newer ones. Returns whether it belongs to a subtree update. If none of
+    /// the newer changes belongs to the same one, it also returns the place of its head.
     fn look(&mut self, alloc: Global, path: &Path) -> Result<(bool, Option<Path>), Mem>
         requires { contains path_cmp self.old.places [] ≡ false }
         ensures { IfOk result (Marks self.old self.new path.now) }
@@ -152,7 +153,7 @@ impl SubtreeIndex {
     }
 }
 
-/// What the events of a change say of subtree updates, after all newer ones were looked at.
+/// Returns what the events of a change say of subtree updates, after all newer ones were looked at.
 fn said_of(
     alloc: Global,
     gone: &mut SubtreeIndex,
@@ -170,7 +171,7 @@ fn said_of(
     }
 }
 
-/// A change with what its events say of subtree updates, after all newer ones were looked at.
+/// Returns a change with what its events say of subtree updates, after all newer ones were looked at.
 fn look_at(
     alloc: Global,
     gone: &mut SubtreeIndex,
@@ -186,7 +187,7 @@ fn look_at(
     Ok(MarkedChange { change, st, done })
 }
 
-/// The changes of a scan, the oldest first, with what their events say of subtree updates.
+/// Returns the changes of a scan, the oldest first, with what their events say of subtree updates.
 pub(crate) fn mark_all(alloc: Global, changes: Vec<Change>) -> Result<Vec<MarkedChange>, Mem>
     requires { IsOrderly (reverse changes.items) }
     ensures changes { IfOk result (λ plan. changes_in (reverse plan.items) ≡ reverse changes.items) }

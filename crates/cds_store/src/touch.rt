@@ -1,4 +1,4 @@
-//! What a change does to the row of the parent (UPnP ContentDirectory:4 on containerUpdateID and
+//! Makes what a change does to the row of the parent (UPnP ContentDirectory:4 on containerUpdateID and
 //! totalDeletedChildCount).
 
 ghost use Rattle.std.specs.Prelude.{◌≡◌, ◌+◌, ◌<◌, ◌^◌, MatchOption};
@@ -10,7 +10,7 @@ ghost use Rattle.cds_store.specs.Rows.{HasRoom, child_event, tracked_event};
 use crate::placed::Placed;
 use cds_object::{Path, Row, Trackers};
 
-/// What befell a child.
+/// What happened to a child.
 #[derive(Clone, Copy)]
 pub(crate) enum ChildEvent {
     Added,
@@ -52,7 +52,7 @@ fn touch_placed(placed: &mut Placed, parent: &Path, event: ChildEvent, number: u
     }
 }
 
-/// Brings the row at the parent's place up to date, and keeps every other row.
+/// Brings the row at the place of the parent up to date, and keeps every other row.
 pub(crate) fn touch_parent(rows: &mut Vec<Placed>, parent: &Path, event: ChildEvent, number: u32)
     requires { AllByRecursion (λ placed. HasRoom placed.1) rows.old.items }
     ensures { rows.new.items ≡ touch parent.now (child_event event number) rows.old.items }

@@ -37,7 +37,7 @@ WritesFound (Err TooMany) status before after = Writes status limit_ending.text 
 abbrev pub ReturnsDone : Option (List FolderTold) → Option (List FolderTold) → Type 0
 ReturnsDone before after = (folder : FolderTold) × Returns before after folder × IsDone folder
 
--- the line of a row, where there is one
+-- the line of a row, if there is one
 abbrev pub line_of : Option ObjectRow → List ℕ
 line_of None = []
 line_of (Some row) = fragment row ++ 10 ∷ []

@@ -1,8 +1,8 @@
 -- The statuses that the program ends with, and what it leaves written (this project's profile).
 use Rattle.std.specs.Prelude.{◌≡◌, ◌⊎◌, ℕ, List, ◌++◌, Option, Some}
 
--- a status that may stand in place of any other: the input could not be read, the output could not be written, or memory
--- ran out. The first two come only with a count that rose, which clauses of their own say
+-- a status that may come instead of any other: the input could not be read, the output could not be written, or memory ran out.
+-- The first two come only with a count that rose, which clauses of their own say
 abbrev pub IsFault : ℕ → Type 0
 IsFault status = (status ≡ 2) ⊎ ((status ≡ 3) ⊎ (status ≡ 4))
 

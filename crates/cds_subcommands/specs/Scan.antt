@@ -29,7 +29,7 @@ refused_line file = codes "refused " ++ encoded file.path ++ codes "\n"
 abbrev pub scan_ending : Scan → Ending
 scan_ending scan = record { status = 0; text = full_text (catalog (one_scan scan.records)) ++ flat_map refused_line scan.refused }
 
--- a folder was scanned to its end: what is owed is what the scan found. No more files count as not read than the folder
+-- a folder was scanned to its end: what is owed is what the scan found. At most as many files count as not read as the folder
 -- counted faults of files
 pub record IsWhole (folder : FolderTold) (ending : Ending) : Type 0 where
   pub scan : Scan
@@ -37,8 +37,8 @@ pub record IsWhole (folder : FolderTold) (ending : Ending) : Type 0 where
   pub unread : Covers (count_by (λ (file : RefusedFile). is_read_fault file.error) scan.refused) 0 folder.file_faults
   pub owed : ending ≡ scan_ending scan
 
--- a scan stopped at an entry: a path that no object may have, an object or an entry too many. No more files count as not read until there than
--- the folder counted faults of files
+-- a scan stopped at an entry: a path that no object may have, an object or an entry too many. At most as many files count as not
+-- read until there as the folder counted faults of files
 pub record IsStopped (folder : FolderTold) (ending : Ending) : Type 0 where
   pub error : ScanError
   pub stop : IsStop folder.tree folder.contents 0 folder.file_faults error

@@ -1,4 +1,4 @@
-//! A StateEvent from a source, and its one written form into a sink.
+//! Reads a StateEvent from a source, and writes its one written form into a sink.
 
 ghost use Rattle.std.specs.Prelude.{◌≡◌, ◌≢◌, ◌⊎◌, ℕ, ◌+◌, ◌<◌, ◌≤◌, ◌++◌, [], Some, List, length, IfOk, IfErr, OnOk, OnErr, string_bytes};
 ghost use Rattle.cds_base.specs.declared.limits.TheConstants.{INPUT_LIMIT};
@@ -19,7 +19,7 @@ use std::convert::From;
 /// Why no events were read.
 #[derive(Clone, Copy)]
 pub enum CheckError {
-    /// The input is no StateEvent: its first fault stands at this place, in bytes from 0.
+    /// The input is no StateEvent. Its first fault stands at this place, in bytes from 0.
     Refused { at: usize },
     /// More than 67,108,864 bytes came without a fault before.
     Limit,
@@ -39,18 +39,18 @@ impl From<Mem> for CheckError {
     }
 }
 
-/// Reads the StateEvent that the source gives, and writes its one written form and LF to the sink (status 0); where it is
-/// none, `refused AT` with the place of the first fault (8); where it is too long, `error limit` (6). A source that could
-/// not be read is 2, a sink that could not be written 3, and 4 is that memory ran out.
+/// Reads the StateEvent that the source gives, and writes its one written form and LF to the sink (status 0). If it is none,
+/// writes `refused AT` with the place of the first fault (8). If it is too long, writes `error limit` (6). If the source could
+/// not be read the status is 2, if the sink could not be written 3, and if memory ran out 4.
 pub fn check<S: Source, K: Sink>(alloc: Global, source: &mut S, sink: &mut K) -> u8
-    ensures ends { Told (S.left source.old) (λ bytes. EndsCheck bytes result) }
-    ensures writes { Told (S.left source.old) (λ bytes. Told (K.holds sink.old) (λ before. WritesCheck bytes result before (K.holds sink.new))) }
-    ensures whole { Told (S.left source.old) (λ bytes. result ≡ 0 → S.left source.new ≡ Some []) }
-    ensures within { result ≡ 0 → S.moved source.new ≤ raised (S.moved source.old) INPUT_LIMIT }
-    ensures taken { S.moved source.new ≤ S.moved source.old + (INPUT_LIMIT + 1) }
-    ensures long { result ≡ 6 → raised (S.moved source.old) (INPUT_LIMIT + 1) ≤ S.moved source.new }
-    ensures read_fault { result ≡ 2 → Rose (S.faults source.old) (S.faults source.new) }
-    ensures write_fault { result ≡ 3 → Rose (K.faults sink.old) (K.faults sink.new) }
+    ensures ends { Told (S.told source.old).left (λ bytes. EndsCheck bytes result) }
+    ensures writes { Told (S.told source.old).left (λ bytes. Told (K.told sink.old).holds (λ before. WritesCheck bytes result before (K.told sink.new).holds)) }
+    ensures whole { Told (S.told source.old).left (λ bytes. result ≡ 0 → (S.told source.new).left ≡ Some []) }
+    ensures within { result ≡ 0 → (S.told source.new).moved ≤ raised (S.told source.old).moved INPUT_LIMIT }
+    ensures taken { (S.told source.new).moved ≤ (S.told source.old).moved + (INPUT_LIMIT + 1) }
+    ensures long { result ≡ 6 → raised (S.told source.old).moved (INPUT_LIMIT + 1) ≤ (S.told source.new).moved }
+    ensures read_fault { result ≡ 2 → Rose (S.told source.old).faults (S.told source.new).faults }
+    ensures write_fault { result ≡ 3 → Rose (K.told sink.old).faults (K.told sink.new).faults }
     ensures known { (result ≡ 0) ⊎ ((result ≡ 8) ⊎ ((result ≡ 6) ⊎ ((result ≡ 2) ⊎ ((result ≡ 3) ⊎ (result ≡ 4))))) }
 {
     match read_events(alloc, source) {
@@ -62,15 +62,15 @@ pub fn check<S: Source, K: Sink>(alloc: Global, source: &mut S, sink: &mut K) ->
     }
 }
 
-/// The events that the source gives, or why there are none.
+/// Returns the events that the source gives, or why there are none.
 fn read_events<S: Source>(alloc: Global, source: &mut S) -> Result<Events, CheckError>
-    ensures events { IfOk result (λ events. Told (S.left source.old) (λ bytes. IsStateEvent bytes events)) }
-    ensures cause { IfErr result (λ e. Told (S.left source.old) (λ bytes. IsCause bytes e)) }
-    ensures whole { OnOk result (Told (S.left source.old) (λ bytes. S.left source.new ≡ Some [])) }
-    ensures within { OnOk result (S.moved source.new ≤ raised (S.moved source.old) INPUT_LIMIT) }
-    ensures taken { S.moved source.new ≤ S.moved source.old + (INPUT_LIMIT + 1) }
-    ensures long { IfErr result (λ e. OnLimit e (raised (S.moved source.old) (INPUT_LIMIT + 1) ≤ S.moved source.new)) }
-    ensures read_fault { IfErr result (λ e. OnReadFault e (Rose (S.faults source.old) (S.faults source.new))) }
+    ensures events { IfOk result (λ events. Told (S.told source.old).left (λ bytes. IsStateEvent bytes events)) }
+    ensures cause { IfErr result (λ e. Told (S.told source.old).left (λ bytes. IsCause bytes e)) }
+    ensures whole { OnOk result (Told (S.told source.old).left (λ bytes. (S.told source.new).left ≡ Some [])) }
+    ensures within { OnOk result ((S.told source.new).moved ≤ raised (S.told source.old).moved INPUT_LIMIT) }
+    ensures taken { (S.told source.new).moved ≤ (S.told source.old).moved + (INPUT_LIMIT + 1) }
+    ensures long { IfErr result (λ e. OnLimit e (raised (S.told source.old).moved (INPUT_LIMIT + 1) ≤ (S.told source.new).moved)) }
+    ensures read_fault { IfErr result (λ e. OnReadFault e (Rose (S.told source.old).faults (S.told source.new).faults)) }
 {
     let mut buffer = empty_piece(alloc)?;
     let mut reader = StateReader::new(alloc)?;
@@ -90,14 +90,14 @@ fn feed_all<S: Source>(
 ) -> Result<(), CheckError>
     requires some { 0 < length buffer.old }
     requires fresh { IsRead [] reader.old }
-    ensures fed { OnOk result (Told (S.left source.old) (λ bytes. IsRead bytes reader.new)) }
-    ensures cause { IfErr result (λ e. Told (S.left source.old) (λ bytes. IsCause bytes e)) }
-    ensures whole { OnOk result (Told (S.left source.old) (λ bytes. S.left source.new ≡ Some [])) }
+    ensures fed { OnOk result (Told (S.told source.old).left (λ bytes. IsRead bytes reader.new)) }
+    ensures cause { IfErr result (λ e. Told (S.told source.old).left (λ bytes. IsCause bytes e)) }
+    ensures whole { OnOk result (Told (S.told source.old).left (λ bytes. (S.told source.new).left ≡ Some [])) }
     ensures stays { OnOk result ((bytes : List ℕ) × IsRead bytes reader.new) }
-    ensures within { OnOk result (S.moved source.new ≤ raised (S.moved source.old) INPUT_LIMIT) }
-    ensures taken { S.moved source.new ≤ S.moved source.old + (INPUT_LIMIT + 1) }
-    ensures long { IfErr result (λ e. OnLimit e (raised (S.moved source.old) (INPUT_LIMIT + 1) ≤ S.moved source.new)) }
-    ensures read_fault { IfErr result (λ e. OnReadFault e (Rose (S.faults source.old) (S.faults source.new))) }
+    ensures within { OnOk result ((S.told source.new).moved ≤ raised (S.told source.old).moved INPUT_LIMIT) }
+    ensures taken { (S.told source.new).moved ≤ (S.told source.old).moved + (INPUT_LIMIT + 1) }
+    ensures long { IfErr result (λ e. OnLimit e (raised (S.told source.old).moved (INPUT_LIMIT + 1) ≤ (S.told source.new).moved)) }
+    ensures read_fault { IfErr result (λ e. OnReadFault e (Rose (S.told source.old).faults (S.told source.new).faults)) }
 {
     let mut left = INPUT_LIMIT;
     loop {
@@ -128,7 +128,7 @@ fn feed(alloc: Global, reader: &mut StateReader, piece: &[u8]) -> Result<(), Che
     }
 }
 
-/// What a refusal of the reader is to `check`.
+/// Returns what a refusal of the reader is to `check`.
 fn cause_of(error: StateError) -> CheckError
     requires { error ≢ IsFailed }
     ensures { result ≡ cause_of error }
@@ -145,8 +145,8 @@ fn cause_of(error: StateError) -> CheckError
 /// Writes the one written form of events and LF, and answers 0.
 fn write_events<K: Sink>(alloc: Global, events: &Events, sink: &mut K) -> u8
     ensures ends { Ends result 0 }
-    ensures writes { Told (K.holds sink.old) (λ before. Writes result (events_ending events.now).text before (K.holds sink.new)) }
-    ensures write_fault { result ≡ 3 → Rose (K.faults sink.old) (K.faults sink.new) }
+    ensures writes { Told (K.told sink.old).holds (λ before. Writes result (events_ending events.now).text before (K.told sink.new).holds) }
+    ensures write_fault { result ≡ 3 → Rose (K.told sink.old).faults (K.told sink.new).faults }
     ensures no_read { result ≢ 2 }
 {
     let mut out = Vec::new(alloc);
@@ -169,8 +169,8 @@ fn events_text(alloc: Global, events: &Events, out: &mut Vec<u8>) -> Result<(), 
 /// Writes the place of the first fault, and answers 8.
 fn write_refusal<K: Sink>(alloc: Global, at: usize, sink: &mut K) -> u8
     ensures ends { Ends result 8 }
-    ensures writes { Told (K.holds sink.old) (λ before. Writes result (refused_ending at).text before (K.holds sink.new)) }
-    ensures write_fault { result ≡ 3 → Rose (K.faults sink.old) (K.faults sink.new) }
+    ensures writes { Told (K.told sink.old).holds (λ before. Writes result (refused_ending at).text before (K.told sink.new).holds) }
+    ensures write_fault { result ≡ 3 → Rose (K.told sink.old).faults (K.told sink.new).faults }
     ensures no_read { result ≢ 2 }
 {
     let mut out = String::new(alloc);

@@ -1,7 +1,8 @@
-//! A scan of a folder, and what is written of it.
+//! Scans a folder, and writes what was found in it.
 
 ghost use Rattle.std.specs.Prelude.{◌≡◌, ◌⊎◌, ◌≤◌, ◌++◌, ◌∷◌, [], None, Err, IfOk, OnOk, length, slice_get};
 ghost use Rattle.std.specs.List.{flat_map};
+ghost use Rattle.cds_base.specs.Entries.{IsUnasked};
 ghost use Rattle.cds_base.specs.Outside.{Rose, Told};
 ghost use Rattle.cds_object.specs.Fragment.{fragment, full_text};
 ghost use Rattle.cds_catalog.specs.Catalog.{catalog};
@@ -22,22 +23,22 @@ use cds_scan::{Refused, RefusedFile, Scan, ScanError, scan};
 use cds_store::{ApplyError, Keeping, Store};
 use std::alloc::Global;
 
-/// Scans the folder at a path once, and writes each row of its catalog and LF, and then `refused PATH` for each file that
-/// was refused (status 0); or `error limit` where the scan stopped at an entry (6). A folder that could not be read is 2, a
-/// sink that could not be written 3, and 4 is that memory ran out.
+/// Scans the folder at a path once. Writes each row of its catalog and LF, and then `refused PATH` for each file that was refused
+/// (status 0). If the scan stopped at an entry, writes `error limit` (6). If the folder could not be read the status is 2, if the
+/// sink could not be written 3, and if memory ran out 4.
 pub fn scan_folder<O: Outside, K: Sink>(
     alloc: Global,
     path: &str,
     outside: &mut O,
     sink: &mut K,
 ) -> u8
-    ensures ends { EndsScan (O.ended outside.old) (O.ended outside.new) result }
-    ensures writes { Told (K.holds sink.old) (λ before. WritesScan (O.ended outside.old) (O.ended outside.new) result before (K.holds sink.new)) }
-    ensures asks { AsksFor path.now (O.asked outside.old) (O.asked outside.new) }
-    ensures back { GivesBack (O.ended outside.old) (O.ended outside.new) }
-    ensures ended_links_stay { O.ended_links outside.new ≡ O.ended_links outside.old }
-    ensures outside_fault { result ≡ 2 → Rose (O.faults outside.old) (O.faults outside.new) }
-    ensures write_fault { result ≡ 3 → Rose (K.faults sink.old) (K.faults sink.new) }
+    ensures ends { EndsScan (O.told outside.old).ended (O.told outside.new).ended result }
+    ensures writes { Told (K.told sink.old).holds (λ before. WritesScan (O.told outside.old).ended (O.told outside.new).ended result before (K.told sink.new).holds) }
+    ensures asks { AsksFor path.now (O.told outside.old).asked (O.told outside.new).asked }
+    ensures back { GivesBack (O.told outside.old).ended (O.told outside.new).ended }
+    ensures ended_links_stay { (O.told outside.new).ended_links ≡ (O.told outside.old).ended_links }
+    ensures outside_fault { result ≡ 2 → Rose (O.told outside.old).faults (O.told outside.new).faults }
+    ensures write_fault { result ≡ 3 → Rose (K.told sink.old).faults (K.told sink.new).faults }
     ensures known { (result ≡ 0) ⊎ ((result ≡ 6) ⊎ ((result ≡ 2) ⊎ ((result ≡ 3) ⊎ (result ≡ 4)))) }
 {
     match outside.folder(alloc, path) {
@@ -49,18 +50,13 @@ pub fn scan_folder<O: Outside, K: Sink>(
 
 /// Scans a folder that the outside gave, hands it back, and writes what was found.
 fn scan_given<O: Outside, K: Sink>(alloc: Global, given: O::F, outside: &mut O, sink: &mut K) -> u8
-    requires no_entries { O.F.entries given ≡ 0 }
-    requires no_opened { O.F.opened given ≡ 0 }
-    requires no_returned { O.F.returned given ≡ 0 }
-    requires no_entry_faults { O.F.entry_faults given ≡ 0 }
-    requires no_file_faults { O.F.file_faults given ≡ 0 }
-    ensures ends { EndsScan (O.ended outside.old) (O.ended outside.new) result }
-    ensures writes { Told (K.holds sink.old) (λ before. WritesScan (O.ended outside.old) (O.ended outside.new) result before (K.holds sink.new)) }
-    ensures asked_stay { O.asked outside.new ≡ O.asked outside.old }
-    ensures ended_links_stay { O.ended_links outside.new ≡ O.ended_links outside.old }
-    ensures back { ReturnsDone (O.ended outside.old) (O.ended outside.new) }
-    ensures outside_fault { result ≡ 2 → Rose (O.faults outside.old) (O.faults outside.new) }
-    ensures write_fault { result ≡ 3 → Rose (K.faults sink.old) (K.faults sink.new) }
+    requires unasked { IsUnasked (O.F.told given) }
+    ensures ends { EndsScan (O.told outside.old).ended (O.told outside.new).ended result }
+    ensures writes { Told (K.told sink.old).holds (λ before. WritesScan (O.told outside.old).ended (O.told outside.new).ended result before (K.told sink.new).holds) }
+    ensures others_stay { O.told outside.new ≡ record (O.told outside.old) { faults = (O.told outside.new).faults; ended = (O.told outside.new).ended } }
+    ensures back { ReturnsDone (O.told outside.old).ended (O.told outside.new).ended }
+    ensures outside_fault { result ≡ 2 → Rose (O.told outside.old).faults (O.told outside.new).faults }
+    ensures write_fault { result ≡ 3 → Rose (K.told sink.old).faults (K.told sink.new).faults }
     ensures known { (result ≡ 0) ⊎ ((result ≡ 6) ⊎ ((result ≡ 2) ⊎ ((result ≡ 3) ⊎ (result ≡ 4)))) }
 {
     let mut folder = given;
@@ -73,8 +69,8 @@ fn scan_given<O: Outside, K: Sink>(alloc: Global, given: O::F, outside: &mut O, 
 fn write_found<K: Sink>(alloc: Global, found: Result<Scan, ScanError>, sink: &mut K) -> u8
     requires { IfOk found CanStand }
     ensures ends { EndsFound found result }
-    ensures writes { Told (K.holds sink.old) (λ before. WritesFound found result before (K.holds sink.new)) }
-    ensures write_fault { result ≡ 3 → Rose (K.faults sink.old) (K.faults sink.new) }
+    ensures writes { Told (K.told sink.old).holds (λ before. WritesFound found result before (K.told sink.new).holds) }
+    ensures write_fault { result ≡ 3 → Rose (K.told sink.old).faults (K.told sink.new).faults }
     ensures folder_fault { result ≡ 2 → found ≡ Err FolderFault }
     ensures known { (result ≡ 0) ⊎ ((result ≡ 6) ⊎ ((result ≡ 2) ⊎ ((result ≡ 3) ⊎ (result ≡ 4)))) }
 {
@@ -91,8 +87,8 @@ fn write_found<K: Sink>(alloc: Global, found: Result<Scan, ScanError>, sink: &mu
 /// Writes that a limit was passed, and answers 6.
 fn write_limit<K: Sink>(sink: &mut K) -> u8
     ensures ends { Ends result 6 }
-    ensures writes { Told (K.holds sink.old) (λ before. Writes result limit_ending.text before (K.holds sink.new)) }
-    ensures write_fault { result ≡ 3 → Rose (K.faults sink.old) (K.faults sink.new) }
+    ensures writes { Told (K.told sink.old).holds (λ before. Writes result limit_ending.text before (K.told sink.new).holds) }
+    ensures write_fault { result ≡ 3 → Rose (K.told sink.old).faults (K.told sink.new).faults }
     ensures text { (result ≡ 6) ⊎ (result ≡ 3) }
 {
     write_text(sink, b"error limit\n", 6)
@@ -102,8 +98,8 @@ fn write_limit<K: Sink>(sink: &mut K) -> u8
 fn write_scan<K: Sink>(alloc: Global, scan: &Scan, sink: &mut K) -> u8
     requires { CanStand scan.now }
     ensures ends { Ends result 0 }
-    ensures writes { Told (K.holds sink.old) (λ before. Writes result (scan_ending scan.now).text before (K.holds sink.new)) }
-    ensures write_fault { result ≡ 3 → Rose (K.faults sink.old) (K.faults sink.new) }
+    ensures writes { Told (K.told sink.old).holds (λ before. Writes result (scan_ending scan.now).text before (K.told sink.new).holds) }
+    ensures write_fault { result ≡ 3 → Rose (K.told sink.old).faults (K.told sink.new).faults }
     ensures known { (result ≡ 0) ⊎ ((result ≡ 3) ⊎ (result ≡ 4)) }
 {
     let mut out = Vec::new(alloc);
@@ -134,7 +130,7 @@ fn put_catalog(alloc: Global, out: &mut Vec<u8>, records: &Records) -> Result<()
     put_rows(alloc, out, &store)
 }
 
-/// A store that begins at the number 0, after one scan of records that can all stand.
+/// Returns a store that begins at the number 0, after one scan of records that can all stand.
 fn store_of(alloc: Global, records: &Records) -> Result<Store, Mem>
     requires stands { bad_record records.now ≡ None }
     requires few { length records.now ≤ 65535 }
@@ -161,7 +157,7 @@ fn put_rows(alloc: Global, out: &mut Vec<u8>, store: &Store) -> Result<(), Mem>
     Ok(())
 }
 
-/// Puts the row at a place, ended by LF; nothing where there is none.
+/// Puts the row at a place, ended by LF, or nothing if there is none.
 fn put_row_at(alloc: Global, out: &mut Vec<u8>, store: &Store, at: usize) -> Result<(), Mem>
     ensures { OnOk result (out.new.items ≡ out.old.items ++ line_of (slice_get (rows_of store.now.standing.rows) at)) }
 {
@@ -209,7 +205,7 @@ fn put_refused(out: &mut Vec<u8>, file: &RefusedFile) -> Result<(), Mem>
     Ok(())
 }
 
-/// Puts bytes as a word: visible ASCII but `%` as it is, and every other byte as `%` and two upper-case digits.
+/// Puts bytes as a word: visible ASCII except `%` as it is, and every other byte as `%` and two upper-case digits.
 #[tactic(auto, using(crate::proofs::Scanned::encoded_each))]
 fn put_word(out: &mut Vec<u8>, bytes: &[u8]) -> Result<(), Mem>
     ensures { OnOk result (out.new.items ≡ out.old.items ++ encoded bytes.now) }
@@ -241,14 +237,14 @@ fn put_byte(out: &mut Vec<u8>, byte: u8) -> Result<(), Mem>
     Ok(())
 }
 
-/// Whether a byte stands for itself in a word.
+/// Returns whether a byte stands for itself in a word.
 fn is_plain(byte: u8) -> bool
     ensures { result ≡ is_plain_byte byte }
 {
     0x21 <= byte && byte <= 0x7E && byte != b'%'
 }
 
-/// The upper-case hexadecimal digit of a value below 16.
+/// Returns the upper-case hexadecimal digit of a value below 16.
 fn digit(value: u8) -> u8
     requires { value ≤ 15 }
     ensures { result ≡ hex_digit value }

@@ -6,12 +6,12 @@ ghost use Rattle.cds_subcommands.specs.Run.{EndsText, WritesText};
 
 use cds_base::{Sink, write_all};
 
-/// Writes a text, and answers the status, or 3 where it could not be written.
+/// Writes a text, and answers the status, or 3 if the text could not be written.
 pub fn write_text<K: Sink>(sink: &mut K, text: &[u8], status: u8) -> u8
     requires { status ≢ 3 }
     ensures ends { EndsText result status }
-    ensures writes { Told (K.holds sink.old) (λ before. WritesText result text.now before (K.holds sink.new)) }
-    ensures write_fault { result ≡ 3 → Rose (K.faults sink.old) (K.faults sink.new) }
+    ensures writes { Told (K.told sink.old).holds (λ before. WritesText result text.now before (K.told sink.new).holds) }
+    ensures write_fault { result ≡ 3 → Rose (K.told sink.old).faults (K.told sink.new).faults }
 {
     match write_all(sink, text) {
         Ok(()) => status,

@@ -1,5 +1,5 @@
--- The addresses that a link goes to: those of the loopback, link-local and private ranges (RFC 1122, RFC 1918, RFC 3927,
--- RFC 4193, RFC 4291).
+-- The addresses that a link goes to: those of the loopback, link-local and private ranges (RFC 1122, RFC 1918, RFC 3927, RFC
+-- 4193, RFC 4291).
 use Rattle.std.specs.Prelude.{◌⊎◌, [], ◌∷◌}
 use Rattle.std.specs.declared.net.ip_addr.IpAddr.{IpAddr}
 use Rattle.std.specs.declared.net.ipv4_addr.Ipv4Addr.{Ipv4Addr}

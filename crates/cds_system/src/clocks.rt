@@ -1,4 +1,4 @@
-//! The clock of the system. That what it gives is the time is trusted; that it never falls is proved.
+//! The clock of the system. It is proved that its moments never fall. It is trusted that they are the time.
 
 ghost use Rattle.std.specs.Prelude.{◌≡◌};
 
@@ -6,8 +6,8 @@ use cds_base::{Clock, Failed};
 use std::thread::sleep;
 use std::time::{Clock as SystemClock, Duration};
 
-/// The system's clock. It goes on by the clock of the system that nobody sets, so a change of the system's time changes
-/// no moment.
+/// The system's clock. It goes on by the clock of the system that nobody sets. So a change of the system's time changes no
+/// moment.
 #[derive(Drop)]
 pub struct RealClock<R: SystemClock + Drop> {
     rt: R,
@@ -17,7 +17,7 @@ pub struct RealClock<R: SystemClock + Drop> {
 }
 
 impl<R: SystemClock + Drop> RealClock<R> {
-    /// A clock that gave no moment yet. Its moments are the milliseconds that the system counts, and `ahead` more.
+    /// Makes a clock that gave no moment yet. Its moments are the milliseconds that the system counts, and `ahead` more.
     pub fn new(rt: R, ahead: u64) -> Self
         ensures last { result.last ≡ 0 }
         ensures faults { result.faults ≡ 0 }
@@ -34,11 +34,7 @@ impl<R: SystemClock + Drop> RealClock<R> {
 impl<R: SystemClock + Drop> Clock for RealClock<R> {
     ghost use Rattle.std.specs.Prelude.{None};
 
-    ghost last = { λ s. s.last };
-
-    ghost gave = { λ _. None };
-
-    ghost faults = { λ s. s.faults };
+    ghost told = { λ s. record { last = s.last; gave = None; faults = s.faults } };
 
     fn now(&mut self) -> Result<u64, Failed> {
         match self.rt.monotonic() {
@@ -59,13 +55,13 @@ impl<R: SystemClock + Drop> Clock for RealClock<R> {
     }
 }
 
-/// Whole milliseconds, at most the last number of 64 bits.
+/// Returns whole milliseconds, at most the last value of a u64.
 fn in_milliseconds(time: Duration) -> u64 {
     u64::try_from(time.as_millis()).unwrap_or(u64::MAX)
 }
 
-/// How many milliseconds the time since 1970 is ahead of what the system's clock counts; 0 where that cannot be had. So
-/// clocks that are made with it begin with the time since 1970, and two runs of a program with other moments.
+/// Returns by how many milliseconds the time since 1970 is ahead of what the system's clock counts, or 0 if that cannot be had.
+/// So the clocks made with it begin with the time since 1970, and two runs of a program begin with other moments.
 pub fn ahead<R: SystemClock>(rt: &R) -> u64 {
     match (rt.since_1970(), rt.monotonic()) {
         (Ok(time), Ok(counted)) => in_milliseconds(time.saturating_sub(counted)),

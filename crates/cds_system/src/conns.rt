@@ -13,11 +13,11 @@ use std::time::{Clock, Duration};
 /// How many seconds a read or a write waits.
 const PATIENCE: u64 = 10;
 
-/// For how many seconds it is read.
+/// For how many seconds a connection is read.
 const READING: u64 = 30;
 
-/// A connection of the system. A read or a write that gets nowhere for 10 seconds is a fault, and so is a read that begins
-/// more than 30 seconds after the connection was given, so that a peer that sends a byte now and then keeps nobody busy.
+/// A connection of the system. A read or a write that gets nowhere for 10 seconds is a fault. So is a read that begins more than
+/// 30 seconds after the connection was given. So a peer that sends a byte now and then keeps nobody busy.
 #[derive(Drop)]
 pub struct RealConn<R: Clock + Drop> {
     rt: R,
@@ -28,7 +28,7 @@ pub struct RealConn<R: Clock + Drop> {
     write_faults: u64,
 }
 
-/// Has the reads and writes of a stream wait, and no longer than a connection's.
+/// Has the reads and writes of a stream wait, at most as long as those of a connection.
 fn set_patience(stream: &TcpStream) -> io::Result<()> {
     let patience = Duration::from_secs(PATIENCE);
     stream.set_nonblocking(false)?;
@@ -36,7 +36,7 @@ fn set_patience(stream: &TcpStream) -> io::Result<()> {
     stream.set_write_timeout(Some(patience))
 }
 
-/// Has the reads and writes of a stream wait, and tells the time up to which it is read.
+/// Has the reads and writes of a stream wait, and returns the time up to which it is read.
 fn end_of_reading<R: Clock>(rt: &R, stream: &TcpStream) -> Option<Duration> {
     set_patience(stream).ok()?;
     let now = rt.monotonic().ok()?;
@@ -44,8 +44,8 @@ fn end_of_reading<R: Clock>(rt: &R, stream: &TcpStream) -> Option<Duration> {
 }
 
 impl<R: Clock + Drop> RealConn<R> {
-    /// A connection of which nothing was read and to which nothing was written yet. `None` where the system does not tell
-    /// the time, or set how long reads and writes wait.
+    /// Makes a connection; nothing was read from it or written to it yet. Returns `None` if the system does not tell the time, or
+    /// does not set how long reads and writes wait.
     pub fn new(rt: R, stream: TcpStream) -> Option<Self>
         ensures moved { IfSome result (λ conn. conn.moved ≡ 0) }
         ensures read_faults { IfSome result (λ conn. conn.read_faults ≡ 0) }
@@ -62,7 +62,7 @@ impl<R: Clock + Drop> RealConn<R> {
         })
     }
 
-    /// Whether it is not read any more, since the time is up or cannot be had.
+    /// Returns whether the time for reading is up, or cannot be had.
     fn is_late(&self) -> bool {
         match self.rt.monotonic() {
             Ok(now) => now >= self.end,
@@ -71,7 +71,7 @@ impl<R: Clock + Drop> RealConn<R> {
     }
 }
 
-/// Reads, where it is not too late.
+/// Reads, if it is not too late.
 fn read_in_time(stream: &mut TcpStream, is_late: bool, into: &mut [u8]) -> io::Result<usize>
     ensures { IfOk result (λ n. n ≤ length into.old) }
 {
@@ -84,11 +84,7 @@ fn read_in_time(stream: &mut TcpStream, is_late: bool, into: &mut [u8]) -> io::R
 impl<R: Clock + Drop> Source for RealConn<R> {
     ghost use Rattle.std.specs.Prelude.{None};
 
-    ghost left = { λ _. None };
-
-    ghost moved = { λ s. s.moved };
-
-    ghost faults = { λ s. s.read_faults };
+    ghost told = { λ s. record { left = None; moved = s.moved; faults = s.read_faults } };
 
     fn read(&mut self, into: &mut [u8]) -> Result<usize, Failed>
         ensures room { IfOk result (λ n. n ≤ length into.old) }
@@ -115,9 +111,7 @@ impl<R: Clock + Drop> Source for RealConn<R> {
 impl<R: Clock + Drop> Sink for RealConn<R> {
     ghost use Rattle.std.specs.Prelude.{None};
 
-    ghost holds = { λ _. None };
-
-    ghost faults = { λ s. s.write_faults };
+    ghost told = { λ s. record { holds = None; faults = s.write_faults } };
 
     fn write(&mut self, piece: &[u8]) -> Result<usize, Failed>
         ensures room { IfOk result (λ n. n ≤ length piece.now) }

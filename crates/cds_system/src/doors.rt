@@ -1,5 +1,4 @@
-//! The door at a port of the system. Its connections tell nothing of what they hold. That they come from the port is
-//! trusted.
+//! The door at a port of the system. Its connections tell nothing of what they hold. That they come from the port is trusted.
 
 ghost use Rattle.std.specs.Prelude.{◌≡◌, IfOk, IfSome};
 
@@ -13,7 +12,7 @@ use std::net::{Net, TcpStream};
 use std::sync::{Arc, Mutex, Wait};
 use std::time::Clock;
 
-/// A handle of the door at a port, at all addresses of IPv4. It gives a connection only once bytes of it have come; those
+/// A handle of the door at a port, at all addresses of IPv4. It gives a connection only once bytes of it have come. Connections
 /// that sent nothing yet wait in a lobby, which all handles share.
 #[derive(Drop)]
 pub struct RealDoor<R: Wait + Clock + Clone + Drop> {
@@ -24,7 +23,7 @@ pub struct RealDoor<R: Wait + Clock + Clone + Drop> {
 }
 
 impl<R: Wait + Clock + Clone + Drop> RealDoor<R> {
-    /// The door at a port, of which nothing was asked yet.
+    /// Opens the door at a port; nothing was asked of it yet.
     pub fn open(rt: R, alloc: Global, port: u16) -> Result<Self, OutsideFault>
     where
         R: Net,
@@ -40,26 +39,26 @@ impl<R: Wait + Clock + Clone + Drop> RealDoor<R> {
         })
     }
 
-    /// The port, as the system tells it. The error is the system's.
+    /// Returns the port, as the system tells it. The error is the system's.
     pub fn port(&self) -> io::Result<u16> {
         self.lobby.lock(&self.rt).port()
     }
 
-    /// How many connections this handle gave.
+    /// Returns how many connections this handle gave.
     pub fn connections(&self) -> u64
         ensures { result ≡ self.now.connections }
     {
         self.connections
     }
 
-    /// How many calls of this handle failed.
+    /// Returns how many calls of this handle failed.
     pub fn faults(&self) -> u64
         ensures { result ≡ self.now.faults }
     {
         self.faults
     }
 
-    /// Another handle, which gave nothing yet.
+    /// Returns another handle, which gave nothing yet.
     fn another(&self) -> Option<Self>
         ensures connections { IfSome result (λ door. door.connections ≡ 0) }
         ensures faults { IfSome result (λ door. door.faults ≡ 0) }
@@ -75,7 +74,7 @@ impl<R: Wait + Clock + Clone + Drop> RealDoor<R> {
     }
 }
 
-/// A lobby that was opened, which many can own.
+/// Makes a lobby that was opened one that many can own.
 fn share(alloc: Global, opened: io::Result<Lobby>) -> Result<Arc<Mutex<Lobby>>, OutsideFault> {
     match opened {
         Ok(lobby) => match Arc::new(alloc, Mutex::new(lobby)) {
@@ -87,12 +86,12 @@ fn share(alloc: Global, opened: io::Result<Lobby>) -> Result<Arc<Mutex<Lobby>>, 
     }
 }
 
-/// The next connection of which bytes have come.
+/// Returns the next connection of which bytes have come.
 fn next_stream<R: Wait + Clock>(rt: &R, lobby: &Mutex<Lobby>) -> Option<TcpStream> {
     lobby.lock(rt).next(rt).ok()
 }
 
-/// The next connection whose waits can be bounded.
+/// Returns the next connection whose waits can be bounded.
 fn next_conn<R: Wait + Clock + Clone + Drop>(rt: &R, lobby: &Mutex<Lobby>) -> Option<RealConn<R>>
     ensures moved { IfSome result (λ conn. conn.moved ≡ 0) }
     ensures read_faults { IfSome result (λ conn. conn.read_faults ≡ 0) }
@@ -111,9 +110,7 @@ fn next_conn<R: Wait + Clock + Clone + Drop>(rt: &R, lobby: &Mutex<Lobby>) -> Op
 impl<R: Wait + Clock + Clone + Drop> Door for RealDoor<R> {
     type Conn = RealConn<R>;
 
-    ghost connections = { λ s. s.connections };
-
-    ghost faults = { λ s. s.faults };
+    ghost told = { λ s. record { connections = s.connections; faults = s.faults } };
 
     fn accept(&mut self) -> Result<RealConn<R>, Failed> {
         match next_conn(&self.rt, &self.lobby) {

@@ -1,5 +1,4 @@
-//! What gives the objects of the system: folders, links, clocks, doors and what starts threads. It tells nothing of what
-//! it was asked.
+//! The outside of the system: it gives folders, links, clocks, doors and spawners. It tells nothing of what it was asked.
 
 ghost use Rattle.std.specs.Prelude.{◌≡◌};
 
@@ -16,7 +15,7 @@ use std::rt::Files;
 use std::sync::Wait;
 use std::time::Clock;
 
-/// What gives the objects of the system.
+/// Gives the objects of the system.
 #[derive(Drop)]
 pub struct RealOutside<R: Files + AllocGlobal + Net + Clock + Wait + Clone + Drop> {
     rt: R,
@@ -27,7 +26,7 @@ pub struct RealOutside<R: Files + AllocGlobal + Net + Clock + Wait + Clone + Dro
 }
 
 impl<R: Files + AllocGlobal + Net + Clock + Wait + Clone + Drop> RealOutside<R> {
-    /// No call has failed. Its clocks begin with the milliseconds since 1970, where the system tells them.
+    /// Makes an outside of which no call has failed. If the system tells the milliseconds since 1970, its clocks begin with them.
     pub fn new(rt: R) -> Self
         ensures connections { result.connections ≡ 0 }
         ensures started { result.started ≡ 0 }
@@ -44,7 +43,7 @@ impl<R: Files + AllocGlobal + Net + Clock + Wait + Clone + Drop> RealOutside<R> 
     }
 }
 
-/// Another owner of the runtime.
+/// Returns another owner of the runtime.
 fn another<R: Clone>(rt: &R) -> Result<R, Mem> {
     Ok(rt.clone()?)
 }
@@ -67,17 +66,15 @@ where
 
     type W = RealSpawner;
 
-    ghost faults = { λ s. s.faults };
-
-    ghost asked = { λ _. None };
-
-    ghost ended = { λ _. None };
-
-    ghost ended_links = { λ _. None };
-
-    ghost connections = { λ s. s.connections };
-
-    ghost started = { λ s. s.started };
+    ghost told = { λ s.
+        record {
+          faults = s.faults;
+          asked = None;
+          ended = None;
+          ended_links = None;
+          connections = s.connections;
+          started = s.started;
+        } };
 
     fn folder(&mut self, alloc: Global, path: &str) -> Result<RealFolder<R>, OutsideFault> {
         Ok(real_folder(&self.rt, alloc, path)?)

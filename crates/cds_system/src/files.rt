@@ -1,5 +1,5 @@
-//! The folders of the real file system. They tell nothing of what they hold beside the paths and kinds that they gave, and
-//! count their faults. What the file system gives is trusted.
+//! The folders of the real file system. They tell only the paths and kinds that they gave, and count their faults. What the file
+//! system gives is trusted.
 
 ghost use Rattle.std.specs.Prelude.{◌≡◌, ◌∷◌, ◌++◌, [], IfOk, OnErr, None};
 ghost use Rattle.cds_system.specs.Given.{GivesEntry, IsPathOf};
@@ -13,7 +13,7 @@ use std::fs;
 use std::io::{BufReader, ErrorKind};
 use std::rt::Files;
 
-/// How many bytes of a file are read at once.
+/// The number of bytes of a file that are read at once.
 const PIECE: usize = 4096;
 
 /// A folder of the real file system, whose whole tree is listed.
@@ -31,14 +31,14 @@ pub struct RealFolder<R: Files + AllocGlobal + Clone + Drop> {
 }
 
 impl<R: Files + AllocGlobal + Clone + Drop> RealFolder<R> {
-    /// How many calls of `entry` failed.
+    /// Returns how many calls of `entry` failed.
     pub fn entry_faults(&self) -> u64
         ensures { result ≡ self.now.entry_faults }
     {
         self.entry_faults
     }
 
-    /// The next entry of the walk, where there is room for it.
+    /// Returns the next entry of the walk, if there is room for it.
     #[tactic(auto, using(crate::proofs::Guarded::gives_entry))]
     fn give(&mut self, alloc: Global) -> Result<Entry, FolderFault>
         ensures given { IfOk result (λ e. GivesEntry self.old.given e self.new.given) }
@@ -78,7 +78,7 @@ impl<R: Files + AllocGlobal + Clone + Drop> RealFolder<R> {
     }
 }
 
-/// The path of an entry; the end has none.
+/// Returns the path of an entry; the end has none.
 fn entry_path(alloc: Global, entry: &Entry) -> Result<Option<Text>, Mem>
     ensures { IfOk result (λ path. IsPathOf path entry.now) }
 {
@@ -94,21 +94,17 @@ impl<R: Files + AllocGlobal + Clone + Drop> Folder for RealFolder<R> {
 
     type File = Input<BufReader<R::File>>;
 
-    ghost tree = { λ _. None };
-
-    ghost contents = { λ _. None };
-
-    ghost given = { λ s. s.given };
-
-    ghost entries = { λ s. s.entries };
-
-    ghost opened = { λ s. s.opened };
-
-    ghost returned = { λ s. s.returned };
-
-    ghost entry_faults = { λ s. s.entry_faults };
-
-    ghost file_faults = { λ s. s.file_faults };
+    ghost told = { λ s.
+        record {
+          tree = None;
+          contents = None;
+          given = s.given;
+          entries = s.entries;
+          opened = s.opened;
+          returned = s.returned;
+          entry_faults = s.entry_faults;
+          file_faults = s.file_faults;
+        } };
 
     fn entry(&mut self, alloc: Global) -> Result<Entry, FolderFault> {
         match self.give(alloc) {
@@ -184,7 +180,7 @@ fn open_file<R: Files + AllocGlobal + Clone + Drop>(
     }
 }
 
-/// The folder at a path, of which nothing was asked yet.
+/// Returns the folder at a path; nothing was asked of it yet.
 pub fn real_folder<R: Files + AllocGlobal + Clone + Drop>(
     rt: &R,
     alloc: Global,

@@ -11,8 +11,8 @@ use std::collections::BTreeMap;
 use std::marker::Model;
 use std::mem;
 
-/// The entries that were given since a tree began, which contracts see; and each place that was given, with whether it is
-/// a folder's. No path comes twice, and the parent of each is the root or came as a folder.
+/// The entries that were given since a tree began, as contracts see them. It also has each path that was given, and whether a
+/// folder was given there. No path comes twice, and the parent of each is the root or came as a folder.
 #[derive(Drop)]
 pub struct Given {
     entries: Trace<Entry>,
@@ -33,7 +33,7 @@ impl Model for Given {
 }
 
 impl Given {
-    /// Nothing yet.
+    /// Makes a record of nothing yet.
     pub fn new(alloc: Global) -> Self
         ensures { result ≡ [] }
     {
@@ -51,29 +51,29 @@ impl Given {
         drop(mem::replace(&mut self.entries, Trace::new()));
     }
 
-    /// Whether an entry can stand at the path: nothing was given there, and it is right in the root, or in the folder at
-    /// `holder`, which was given.
+    /// Returns whether an entry can stand at the path. Nothing must have been given there. The path must be right in the root, or
+    /// in the folder at `holder`, which was given.
     pub fn has_room(&self, holder: &Option<Text>, path: &Text) -> bool
         ensures { IsTrue result → Fits self.now path.now }
     {
         self.is_new(path) && self.is_held(holder, path)
     }
 
-    /// What holds of the entries given, which this makes known where a proof needs it.
+    /// Makes known what holds of the entries given. Only a proof needs it.
     pub fn facts(&self)
         ensures { IsTrue (is_tree self.now) }
     {
         let _ = &self.entries;
     }
 
-    /// Whether nothing was given at the path.
+    /// Returns whether nothing was given at the path.
     fn is_new(&self, path: &Text) -> bool
         ensures { IsTrue result → list_any (is_at path.now) self.now ≡ false }
     {
         !self.places.contains_key(path)
     }
 
-    /// Whether the path stands right in the root, where there is no holder, or in the folder at `holder`, which was given.
+    /// Returns whether the path stands right in the root if there is no holder, or in the folder at `holder`, which was given.
     fn is_held(&self, holder: &Option<Text>, path: &Text) -> bool
         ensures { IsTrue result → IsTrue (is_path_held self.now path.now) }
     {
@@ -83,14 +83,14 @@ impl Given {
         }
     }
 
-    /// Whether the path stands in the folder at `holder`, which was given.
+    /// Returns whether the path stands in the folder at `holder`, which was given.
     fn is_held_by(&self, holder: &Text, path: &Text) -> bool
         ensures { IsTrue result → IsTrue (is_path_held self.now path.now) }
     {
         is_in(holder, path) && self.is_folder(holder)
     }
 
-    /// Whether a folder was given at the path.
+    /// Returns whether a folder was given at the path.
     fn is_folder(&self, path: &Text) -> bool
         ensures { IsTrue result → list_any (is_folder_at path.now) self.now ≡ true }
     {
@@ -100,7 +100,7 @@ impl Given {
         }
     }
 
-    /// Adds the entry at a path where there is room, and gives it back. A refusal leaves all as it was.
+    /// Adds the entry at a path that has room, and gives it back. A refusal leaves all as it was.
     pub fn add(&mut self, path: Text, entry: Entry) -> Result<Entry, Mem>
         requires room { Fits self.old path }
         requires at { IsEntryAt path entry }
@@ -114,14 +114,14 @@ impl Given {
     }
 }
 
-/// Whether the entry is a folder.
+/// Returns whether the entry is a folder.
 fn is_folder_entry(entry: &Entry) -> bool
     ensures { result ≡ is_folder_entry entry.now }
 {
     matches!(entry, Entry::Folder { .. })
 }
 
-/// Whether the path is the folder's path, a `/` and a name.
+/// Returns whether the path is the folder's path, a `/` and a name.
 fn is_in(folder: &Text, path: &Text) -> bool
     ensures { result ≡ is_in folder.now path.now }
 {
@@ -146,7 +146,7 @@ fn is_slash_then_name(rest: &[u8]) -> bool
     }
 }
 
-/// Whether the text has no `/`.
+/// Returns whether the text has no `/`.
 fn is_one_name(text: &[u8]) -> bool
     ensures { result ≡ is_name text.now }
 {

@@ -1,4 +1,4 @@
-//! The adapters over the system: its streams, folders, clock, network and threads, as the sources, sinks and objects that
+//! The adapters over the system. Its streams, folders, clock, network and threads become the sources, sinks and objects that
 //! `cds_base` names. `Input` and `Output` are streams of the system, `RealOutside` gives its objects, and `read_words` the words
 //! of the command line.
 #![tactic(auto)]

@@ -1,5 +1,5 @@
-//! Links over the system's connections. What a real peer gets and answers is trusted to be what the system says. That the
-//! address is near is the condition of `connect`, the one private call that connects; no clause of `exchange` says it.
+//! Links over the system's connections. What a real peer gets and answers is trusted to be what the system says. Only the private
+//! call `connect` connects, and its condition is that the address is near. No clause of `exchange` says so.
 
 ghost use Rattle.std.specs.Prelude.{◌≡◌, ◌<◌, ◌≤◌, length, IfOk};
 ghost use Rattle.std.specs.Net.Socket.{socket_ip};
@@ -15,7 +15,7 @@ use std::time::{Clock, Duration};
 /// How many seconds connecting, sending and reading may take, each of the three as a whole.
 const PATIENCE: u64 = 5;
 
-/// How many bytes are read at once.
+/// The number of bytes that are read at once.
 const PIECE: usize = 2_048;
 
 /// A link over the system's connections, one for each request. It tells no requests and no replies.
@@ -26,14 +26,14 @@ pub struct RealLink<R: Net + Clock + Drop> {
 }
 
 impl<R: Net + Clock + Drop> RealLink<R> {
-    /// No call has failed.
+    /// Makes a link of which no call has failed.
     pub fn new(rt: R) -> Self
         ensures { result.faults ≡ 0 }
     {
         RealLink { rt, faults: 0 }
     }
 
-    /// How many calls failed, and how many replies were too long.
+    /// Returns how many calls failed, and how many replies were too long.
     pub fn faults(&self) -> u64
         ensures { result ≡ self.now.faults }
     {
@@ -44,13 +44,9 @@ impl<R: Net + Clock + Drop> RealLink<R> {
 impl<R: Net + Clock + Drop> Link for RealLink<R> {
     ghost use Rattle.std.specs.Prelude.{None};
 
-    ghost requests = { λ _. None };
+    ghost told = { λ s. record { requests = None; replies = None; faults = s.faults } };
 
-    ghost replies = { λ _. None };
-
-    ghost faults = { λ s. s.faults };
-
-    /// The reply ends where the peer ends the connection.
+    /// Does as `Link::exchange` says. The reply ends when the peer ends the connection.
     fn exchange(
         &mut self,
         alloc: Global,
@@ -73,7 +69,7 @@ impl<R: Net + Clock + Drop> Link for RealLink<R> {
     }
 }
 
-/// Sends the request to the address by a connection of its own, and gives the reply's bytes.
+/// Sends the request to the address by a connection of its own, and returns the reply's bytes.
 fn exchange_once<R: Net + Clock>(
     rt: &R,
     alloc: Global,
@@ -89,7 +85,7 @@ fn exchange_once<R: Net + Clock>(
     within(gather(rt, alloc, &mut stream, limit)?, limit)
 }
 
-/// The reply, where it is not too long.
+/// Returns the reply, if it is not too long.
 fn within(reply: Vec<u8>, limit: usize) -> Result<Vec<u8>, LinkFault>
     ensures { IfOk result (λ reply. length reply.items ≤ limit) }
 {
@@ -109,7 +105,7 @@ fn connect<R: Net>(rt: &R, address: SocketAddr) -> Result<R::Stream, LinkFault>
     }
 }
 
-/// The time at which what begins now is to have ended.
+/// Returns the time at which what begins now is to have ended.
 fn deadline<R: Clock>(rt: &R) -> Result<Duration, LinkFault> {
     match rt.monotonic() {
         Ok(now) => Ok(now.saturating_add(Duration::from_secs(PATIENCE))),
@@ -117,7 +113,7 @@ fn deadline<R: Clock>(rt: &R) -> Result<Duration, LinkFault> {
     }
 }
 
-/// What is left of the time up to the end, which is not 0.
+/// Returns what is left of the time up to the end, which is above 0.
 fn time_left<R: Clock>(rt: &R, end: Duration) -> Result<Duration, LinkFault> {
     match rt.monotonic() {
         Ok(now) if now < end => Ok(end.saturating_sub(now)),
@@ -141,7 +137,7 @@ fn send<R: Clock, S: Write + OpenStream>(
     Ok(())
 }
 
-/// Sends a front part of a piece, which is not empty, and answers how many bytes that are: at least one.
+/// Sends a prefix of a piece that is not empty, and returns its length, at least 1.
 fn send_piece<S: Write + OpenStream>(
     stream: &mut S,
     patience: Duration,
@@ -159,7 +155,7 @@ fn send_piece<S: Write + OpenStream>(
     }
 }
 
-/// All bytes up to the end, or more than the limit where more come.
+/// Returns all bytes up to the end. If more come than the limit, it returns more than the limit.
 fn gather<R: Clock, S: Read + OpenStream>(
     rt: &R,
     alloc: Global,
@@ -183,7 +179,7 @@ fn gather<R: Clock, S: Read + OpenStream>(
     Err(LinkFault::Failed)
 }
 
-/// Puts the front of a piece at the end.
+/// Appends the first `count` bytes of a piece.
 fn put_front(bytes: &mut Vec<u8>, piece: &[u8], count: usize) -> Result<(), Mem>
     requires within { count ≤ length piece.now }
 {
@@ -192,7 +188,7 @@ fn put_front(bytes: &mut Vec<u8>, piece: &[u8], count: usize) -> Result<(), Mem>
     Ok(())
 }
 
-/// Reads into the front of the buffer, and answers how many bytes came: 0 at the end.
+/// Reads into the beginning of the buffer, and returns how many bytes came: 0 at the end.
 fn read_piece<S: Read + OpenStream>(
     stream: &mut S,
     patience: Duration,

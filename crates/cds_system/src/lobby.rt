@@ -1,5 +1,4 @@
-//! Connections that came in and wait until bytes of theirs come. What the system says of them is trusted, and no clause
-//! speaks of it.
+//! Connections that came in and wait until their bytes come. What the system says of them is trusted, and no clause speaks of it.
 
 use mio::net::{TcpListener, TcpStream};
 use mio::{Events, Interest, Poll, Token};
@@ -10,19 +9,19 @@ use std::sync::Wait;
 use std::time::{Clock, Duration};
 use std::{io, net};
 
-/// How many connections wait at most.
+/// The largest number of connections that wait.
 const MOST: usize = 256;
 
-/// How many seconds one waits without a byte.
+/// How many seconds a connection waits without a byte.
 const PATIENCE: u64 = 30;
 
-/// How many milliseconds it is until the next look where connections could not be taken in.
+/// How many milliseconds pass until the next look if connections could not be taken in.
 const PAUSE: u64 = 100;
 
-/// How many events are taken at once.
+/// The number of events that are taken at once.
 const EVENTS: usize = 64;
 
-/// The token of the port itself. Those of connections come after it.
+/// The token of the port itself. The tokens of connections come after it.
 const PORT: Token = Token(0);
 
 /// A connection that waits.
@@ -43,7 +42,7 @@ enum Heard {
 }
 
 impl Waiting {
-    /// What came of it. Bytes are left where they are.
+    /// Returns what came of it. Bytes are left for the reader.
     fn heard(&self) -> Heard {
         let mut byte = [0u8; 1];
         match self.stream.peek(&mut byte) {
@@ -54,9 +53,8 @@ impl Waiting {
     }
 }
 
-/// The connections at a port that wait until bytes of theirs come, at most 256 of them, the oldest first. One that waits
-/// longer than 30 seconds without a byte is let go, and so is the oldest of these where another comes in and there is no
-/// room.
+/// The connections at a port that wait until their bytes come, at most 256 of them, the oldest first. One that waits longer than
+/// 30 seconds without a byte is let go. If another comes in and there is no room, the oldest of those without a byte is let go.
 #[derive(Drop)]
 pub struct Lobby {
     poll: Poll,
@@ -67,7 +65,7 @@ pub struct Lobby {
 }
 
 impl Lobby {
-    /// The lobby of a port, at all addresses of IPv4.
+    /// Opens the lobby of a port, at all addresses of IPv4.
     pub fn open<R: Net>(rt: &R, alloc: Global, port: u16) -> io::Result<Lobby> {
         let events = Events::with_capacity(alloc, EVENTS)?;
         let waiting = Vec::with_capacity(alloc, MOST)?;
@@ -81,12 +79,12 @@ impl Lobby {
         })
     }
 
-    /// The port of the lobby.
+    /// Returns the port of the lobby.
     pub fn port(&self) -> io::Result<u16> {
         Ok(self.listener.local_addr()?.port())
     }
 
-    /// Waits until bytes of a connection have come, and gives it.
+    /// Waits until bytes of a connection have come, and returns it.
     pub fn next<R: Wait + Clock>(&mut self, rt: &R) -> io::Result<net::TcpStream> {
         for _ in rt.forever() {
             let now = rt.monotonic()?;
@@ -105,7 +103,7 @@ impl Lobby {
         unreachable!()
     }
 
-    /// Takes in the connections that came. Answers whether these are all.
+    /// Takes in the connections that came, and returns whether these are all.
     fn take_in(&mut self, now: Duration) -> bool {
         for _ in 0..MOST {
             match self.listener.accept() {
@@ -116,7 +114,7 @@ impl Lobby {
         false
     }
 
-    /// Has a connection wait. It is let go where the system does not watch it.
+    /// Has a connection wait. If the system does not watch it, it is let go.
     fn add(&mut self, mut stream: TcpStream, now: Duration) {
         if self.waiting.len() >= MOST {
             self.let_one_go();
@@ -137,13 +135,13 @@ impl Lobby {
         }
     }
 
-    /// Lets the oldest go of which no bytes have come, or the oldest of all.
+    /// Lets the oldest connection go of which no bytes have come, or the oldest of all.
     fn let_one_go(&mut self) {
         let silent = first_of(self.waiting.as_slice(), false);
         let _ = self.take(silent.unwrap_or(0));
     }
 
-    /// Takes the connection at a place out, where there is one.
+    /// Takes the connection at a place out, if there is one.
     fn take(&mut self, at: usize) -> Option<Waiting> {
         if at < self.waiting.len() {
             Some(self.waiting.remove(at))
@@ -152,20 +150,20 @@ impl Lobby {
         }
     }
 
-    /// Lets go those that waited too long without a byte.
+    /// Lets those go that waited too long without a byte.
     fn let_go(&mut self, now: Duration) {
         let patience = Duration::from_secs(PATIENCE);
         self.waiting
             .retain(|w| w.is_ready || now.saturating_sub(w.since) < patience);
     }
 
-    /// How long the oldest may still wait. `None` where none waits.
+    /// Returns how long the oldest may still wait. `None` if none waits.
     fn patience_left(&self, now: Duration) -> Option<Duration> {
         let oldest = self.waiting.first()?;
         Some(Duration::from_secs(PATIENCE).saturating_sub(now.saturating_sub(oldest.since)))
     }
 
-    /// Waits until something happens, at most so long, and marks the connections where it did.
+    /// Waits until something happens, at most this long, and marks the connections that it happened to.
     fn look(&mut self, rest: Option<Duration>) -> io::Result<()> {
         self.poll.poll(&mut self.events, rest)?;
         for event in self.events.iter() {
@@ -174,7 +172,7 @@ impl Lobby {
         Ok(())
     }
 
-    /// The first connection of which bytes have come. It does not wait here any longer.
+    /// Returns the first connection of which bytes have come. It does not wait here any longer.
     fn first_ready(&mut self) -> Option<net::TcpStream> {
         for _ in 0..=MOST {
             let at = first_of(self.waiting.as_slice(), true)?;
@@ -185,8 +183,8 @@ impl Lobby {
         None
     }
 
-    /// Takes the connection at a place out where bytes of it have come, lets it go where it has ended, and has it wait on
-    /// where nothing happened.
+    /// Takes the connection at a place out if bytes of it have come. If it has ended, it is let go. If nothing happened, it waits
+    /// on.
     fn take_ready(&mut self, at: usize) -> Option<net::TcpStream> {
         let waiting = self.waiting.get_mut(at)?;
         match waiting.heard() {
@@ -210,7 +208,7 @@ impl Lobby {
     }
 }
 
-/// The port at all addresses of IPv4, and what watches it.
+/// Opens the port at all addresses of IPv4, with a poll that watches it.
 fn listen<R: Net>(rt: &R, port: u16) -> io::Result<(Poll, TcpListener)> {
     let everywhere = Ipv4Addr::new(0, 0, 0, 0);
     let address = SocketAddr::V4(SocketAddrV4::new(everywhere, port));
@@ -221,7 +219,7 @@ fn listen<R: Net>(rt: &R, port: u16) -> io::Result<(Poll, TcpListener)> {
     Ok((poll, listener))
 }
 
-/// The place of the first connection of which bytes have come, or of which none have.
+/// Returns the place of the first connection of which bytes have come, or of which none have, as `is_ready` says.
 fn first_of(waiting: &[Waiting], is_ready: bool) -> Option<usize> {
     waiting.iter().position(|one| one.is_ready == is_ready)
 }

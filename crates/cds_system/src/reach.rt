@@ -1,5 +1,5 @@
 //! Which addresses a link goes to. A callback of a stranger's choosing is a known way to turn media servers on others
-//! (CVE-2020-12695), so it goes to no address beyond the local networks.
+//! (CVE-2020-12695). So a link goes to no address beyond the local networks.
 
 ghost use Rattle.std.specs.Prelude.{◌↔◌, IfOk, IsTrue};
 ghost use Rattle.std.specs.Net.Socket.{socket_ip};
@@ -10,7 +10,7 @@ use std::alloc::Global;
 use std::net::{IpAddr, SocketAddr};
 use url::{Host, ParseError, Url};
 
-/// Whether an address is of a loopback, link-local or private range.
+/// Returns whether an address is of a loopback, link-local or private range.
 pub fn is_near(ip: IpAddr) -> bool
     ensures { IsTrue result ↔ IsNear ip }
 {
@@ -20,8 +20,8 @@ pub fn is_near(ip: IpAddr) -> bool
     }
 }
 
-/// The address that an `http` URL names, which is near. `Failed` where the text is none, where its host is a name, and
-/// where the address is not near.
+/// Returns the address that an `http` URL names, which is near. `Failed` comes if the text is no such URL, if its host is a name,
+/// or if the address is not near.
 pub fn near_address(alloc: Global, url: &str) -> Result<SocketAddr, LinkFault>
     ensures { IfOk result (λ address. IsNear (socket_ip address)) }
 {
@@ -31,7 +31,7 @@ pub fn near_address(alloc: Global, url: &str) -> Result<SocketAddr, LinkFault>
     }
 }
 
-/// The address that an `http` URL names. `None` where the text is no such URL, or its host is a name.
+/// Returns the address that an `http` URL names. `None` if the text is no such URL, or its host is a name.
 fn address_in(alloc: Global, url: &str) -> Result<Option<SocketAddr>, LinkFault> {
     match Url::parse(alloc, url) {
         Ok(url) => Ok(address_of(&url)),
@@ -41,7 +41,7 @@ fn address_in(alloc: Global, url: &str) -> Result<Option<SocketAddr>, LinkFault>
     }
 }
 
-/// The address that a URL names. `None` where its scheme is not `http`, or its host is a name.
+/// Returns the address that a URL names. `None` if its scheme is not `http`, or its host is a name.
 fn address_of(url: &Url) -> Option<SocketAddr> {
     if url.scheme() != "http" {
         return None;

@@ -1,10 +1,10 @@
-//! What starts threads of the system. That a thread runs what it was given is trusted.
+//! The spawner of the system, which starts threads. That a thread runs what it was given is trusted.
 
 ghost use Rattle.std.specs.Prelude.{◌≡◌};
 
 use cds_base::{Attempt, Failed, Spawner};
 
-/// What starts threads of the system, and counts how often none could be made.
+/// Starts threads of the system, and counts how often none could be made.
 #[derive(Drop)]
 pub struct RealSpawner {
     started: u64,
@@ -12,7 +12,7 @@ pub struct RealSpawner {
 }
 
 impl RealSpawner {
-    /// Nothing was started yet, and no call has failed.
+    /// Makes a spawner that started nothing yet, and of which no call has failed.
     pub fn new() -> Self
         ensures started { result.started ≡ 0 }
         ensures faults { result.faults ≡ 0 }
@@ -23,14 +23,14 @@ impl RealSpawner {
         }
     }
 
-    /// How many jobs it started.
+    /// Returns how many jobs it started.
     pub fn started(&self) -> u64
         ensures { result ≡ self.now.started }
     {
         self.started
     }
 
-    /// How many calls failed.
+    /// Returns how many calls failed.
     pub fn faults(&self) -> u64
         ensures { result ≡ self.now.faults }
     {
@@ -39,9 +39,7 @@ impl RealSpawner {
 }
 
 impl Spawner for RealSpawner {
-    ghost started = { λ s. s.started };
-
-    ghost faults = { λ s. s.faults };
+    ghost told = { λ s. record { started = s.started; faults = s.faults } };
 
     fn may_start(&mut self) -> Result<(), Failed> {
         Ok(())

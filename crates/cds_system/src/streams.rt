@@ -15,7 +15,7 @@ pub struct Input<R: Read + Drop> {
 }
 
 impl<R: Read + Drop> Input<R> {
-    /// Nothing has been moved, and no call has failed.
+    /// Makes a source; nothing has been moved, and no call has failed.
     pub fn new(reader: R) -> Self
         ensures moved { result.moved ≡ 0 }
         ensures faults { result.faults ≡ 0 }
@@ -27,7 +27,7 @@ impl<R: Read + Drop> Input<R> {
         }
     }
 
-    /// How many calls failed.
+    /// Returns how many calls failed.
     pub fn faults(&self) -> u64
         ensures { result ≡ self.now.faults }
     {
@@ -36,11 +36,7 @@ impl<R: Read + Drop> Input<R> {
 }
 
 impl<R: Read + Drop> Source for Input<R> {
-    ghost left = { λ _. None };
-
-    ghost moved = { λ s. s.moved };
-
-    ghost faults = { λ s. s.faults };
+    ghost told = { λ s. record { left = None; moved = s.moved; faults = s.faults } };
 
     fn read(&mut self, into: &mut [u8]) -> Result<usize, Failed> {
         match self.reader.read(into) {
@@ -64,7 +60,7 @@ pub struct Output<W: Write + Drop> {
 }
 
 impl<W: Write + Drop> Output<W> {
-    /// No call has failed.
+    /// Makes a sink of which no call has failed.
     pub fn new(writer: W) -> Self
         ensures { result.faults ≡ 0 }
     {
@@ -73,9 +69,7 @@ impl<W: Write + Drop> Output<W> {
 }
 
 impl<W: Write + Drop> Sink for Output<W> {
-    ghost holds = { λ _. None };
-
-    ghost faults = { λ s. s.faults };
+    ghost told = { λ s. record { holds = None; faults = s.faults } };
 
     fn write(&mut self, piece: &[u8]) -> Result<usize, Failed> {
         if piece.is_empty() {

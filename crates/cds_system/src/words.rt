@@ -6,7 +6,8 @@ use std::env;
 use std::env::{Args, Env};
 use std::io::ErrorKind;
 
-/// The words after the program's name. Words that cannot be had as text count as none. The error is that memory ran out.
+/// Returns the words after the program's name. If the words cannot be had as text, there are none. The error is that memory ran
+/// out.
 pub fn read_words<R: Env + AllocGlobal>(rt: &R, alloc: Global) -> Result<Words, Mem> {
     match env::args(rt) {
         Ok(args) => words_of(alloc, args),
@@ -15,7 +16,7 @@ pub fn read_words<R: Env + AllocGlobal>(rt: &R, alloc: Global) -> Result<Words, 
     }
 }
 
-/// The words behind the first.
+/// Returns the words after the first.
 fn words_of(alloc: Global, args: Args<Global>) -> Result<Words, Mem> {
     let mut words = Words::new(alloc);
     for word in args.skip(1) {

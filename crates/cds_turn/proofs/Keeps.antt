@@ -1,21 +1,22 @@
 -- Each kind of step keeps the rule, and tells what it says that it tells.
-use Rattle.std.proofs.Common.{◌≡◌, ◌≢◌, ℕ, zero, suc, ◌+◌, ◌-◌, ◌%◌, ◌^◌, ◌<◌, ◌≤◌, List, [], ◌∷◌, ◌++◌, length, length-append, get_or, set, sym, refl, ap, ◌∙◌, subst, ⊎_elim, inl, inr, arith, rules, Option, Some, None, IsSome, IfSome}
+use Rattle.std.proofs.Common.{◌≡◌, ◌≢◌, ℕ, zero, suc, ◌+◌, ◌-◌, ◌%◌, ◌^◌, ◌<◌, ◌≤◌, Bool, List, [], ◌∷◌, ◌++◌, length, length-append, get_or, set, sym, refl, ap, ◌∙◌, subst, ⊎_elim, inl, inr, arith, rules, Option, Some, None, IsSome, IfSome}
 use mathlib.Core.Logic.{dite}
 use mathlib.Core.Option.{none, some, some-injective, some-ne-none}
 use mathlib.Core.Option as maybe
 use native.Mathlib.Decide.{ℕ_discrete}
 use lib.ListN.{get_elem?}
 use lib.Seq.{set-get_or}
+use Rattle.std.specs.List.{count_by}
 use Rattle.std.proofs.Math.Nat.{mod-add-mod}
 use Rattle.atomic_table.specs.Table.{State, Me, step, keeps, takes, gives, put_back, rest, stepped, Allows, Splits, Joins, opening, Final, Seen}
 use Rattle.atomic_table.proofs.Lists.{set_else, set_again, one_turn}
 use Rattle.cds_turn.specs.declared.view.View.{View}
-use Rattle.cds_turn.specs.Line.{Extends, IsKnown, StandsBeyond, Ended, EndsHome, EndsOpen, one_if, tickets, passes, newcomer, spent, Fits, InLine, Kept}
+use Rattle.cds_turn.specs.Line.{Extends, IsKnown, StandsBeyond, Ended, EndsHome, EndsOpen, one_if, tickets, passes, own_count, newcomer, spent, Fits, InLine, Kept}
 use Rattle.atomic_table.specs.declared.shared.Seat.{Seat}
-use Rattle.cds_turn.specs.Moves.{at_rest, waiting, having, served, stays, parts, both, settled, Draws, Adds, Passes, Settles, Looks}
+use Rattle.cds_turn.specs.Moves.{at_rest, waiting, having, adding, served, stays, parts, both, settled, Draws, Adds, Passes, Settles, Looks}
 use Rattle.cds_turn.proofs.Lists.{extends_more, extends_nothing, begins, longer_is, longer_whole, whole}
-use Rattle.cds_turn.proofs.Sums.{total_at, total_set, total_le, each_set, set_at_own, one_there}
-use Rattle.cds_turn.proofs.Standing.{none_of, ticket_le, has_pass, own_or, widened, known_set, known_left, placed_set, moved, arrived, few_out}
+use Rattle.cds_turn.proofs.Sums.{total_at, total_set, total_le, total_none, count_append, each_set, set_at_own, one_there}
+use Rattle.cds_turn.proofs.Standing.{none_of, ticket_le, has_pass, own_or, widened, apart_set, held_set, known_set, known_left, placed_set, moved, arrived, few_out}
 
 module _ {C T : Type 0} where
   -- both lists of two seats that were joined are no longer than what the one seat has seen
@@ -54,7 +55,7 @@ module _ {V C T : Type 0} (stands : V → T → List C → Type 0) (start : T) (
           k.0,
           moved stands start seats seats s r id v w at (set s.words 0 ((get_or s.words 0 0 + 1) % 2 ^ 64)) s.homes r.served (r.drawn + 1) r.list
               (ap (λ (ws : List ℕ). set ws 0 ((get_or ws 0 0 + 1) % 2 ^ 64)) r.words ∙ ap (λ (n : ℕ). n ∷ r.served % 2 ^ 64 ∷ length r.list % 2 ^ 64 ∷ []) (mod-add-mod r.drawn (2 ^ 64) 1))
-              (omega arith) refl
+              (omega arith) refl (λ test. refl)
               (record {
                 alive = inr some_pass;
                 starts = f.starts;
@@ -89,15 +90,27 @@ module _ {V C T : Type 0} (stands : V → T → List C → Type 0) (start : T) (
       let h : None ≡ Some r.list = sym no_turn ∙ (ap (λ (z : View C T). z.found) one ∙ p.1.3) in absurd (cc))
       r.placed
 
-  -- a seat with all passes has seen the whole list, since every other one was joined into another
+  -- where a seat has all passes, every other one was joined into another
+  others_spent : (s : S) (r : InLine stands start seats s) (id : ℕ) (v : View C T) → get_elem? s.views id ≡ some v → v.passes ≡ seats
+      → (j : ℕ) (u : View C T) → j ≢ id → get_elem? s.views j ≡ some u → u ≡ spent
+  others_spent s r id v at all j u away there = let others = total_set passes s.views id v spent at in let shares = r.shares in
+      let one = total_at passes (set s.views id spent) j u (set_else s.views id j spent away ∙ there) in
+      ⊎_elim (λ e. e) (λ (more : 0 < u.passes). absurd (omega arith)) (r.each j u there).alive
+
+  -- a seat with all passes has seen the whole list
   lone : (s : S) (r : InLine stands start seats s) (id : ℕ) (v : View C T) → get_elem? s.views id ≡ some v → v.passes ≡ seats → IsKnown r.list s.views → r.list ≡ v.seen
   lone s r id v at all k = dite (ℕ_discrete k.0 id)
       (λ same. let one = one_there s.views id k.1 v (subst (λ n. get_elem? s.views n ≡ some k.1) same k.2) at in sym k.3 ∙ ap (λ (z : View C T). z.seen) one)
-      (λ away. let others = total_set passes s.views id v spent at in let shares = r.shares in
-      let one = total_at passes (set s.views id spent) k.0 k.1 (set_else s.views id k.0 spent away ∙ k.2) in
-      let gone : k.1 ≡ spent = ⊎_elim (λ e. e) (λ (more : 0 < k.1.passes). absurd (omega arith)) (r.each k.0 k.1 k.2).alive in
+      (λ away. let gone = others_spent s r id v at all k.0 k.1 away k.2 in
       let none_seen : length r.list ≡ 0 = ap length (sym k.3 ∙ ap (λ (z : View C T). z.seen) gone) in
       whole r.list v.seen (r.each id v at).begun (omega arith))
+
+  -- and each command of the list is its own
+  all_own : (s : S) (r : InLine stands start seats s) (id : ℕ) (v : View C T) → get_elem? s.views id ≡ some v → v.passes ≡ seats → (test : C → Bool) → count_by test r.list ≡ own_count test v
+  all_own s r id v at all test = let others = total_set (own_count test) s.views id v spent at in let owned = r.owned test in
+      let zeros = total_none (own_count test) (set s.views id spent)
+      (each_set (λ _ u. own_count test u ≡ 0) s.views id spent refl (λ j u away there. ap (own_count test) (others_spent s r id v at all j u away there))) in
+      omega arith
 
   pub looks : (slots id : ℕ) (me : M) (all t : ℕ) → all ≡ seats → me.0.ticket ≡ Some t → me.0.found ≡ None → me.1 ≡ [] → Allows Rule slots id me 1 (λ n. n) (Looks stands all (step slots 1 0 0 none) me)
   looks slots id me all t is_all mine no_turn empty s k _ at _ = let r = k.1 in let v : View C T = me.0 in let f = r.each id v at in dite (ℕ_discrete (get_or s.words 1 0) (t % 2 ^ 64))
@@ -108,7 +121,7 @@ module _ {V C T : Type 0} (stands : V → T → List C → Type 0) (start : T) (
         ap (λ (hs : List (maybe.Option (Option V))). get_elem? hs 0) home.1,
         (
           k.0,
-          moved stands start seats seats s r id v w at (set s.words 1 (get_or s.words 1 0)) (set s.homes 0 none) r.served r.drawn r.list (still ∙ r.words) (omega arith) refl
+          moved stands start seats seats s r id v w at (set s.words 1 (get_or s.words 1 0)) (set s.homes 0 none) r.served r.drawn r.list (still ∙ r.words) (omega arith) refl (λ test. refl)
               (record {
                 alive = inr (has_pass start r.served r.drawn r.list v f t mine);
                 starts = f.starts;
@@ -137,7 +150,7 @@ module _ {V C T : Type 0} (stands : V → T → List C → Type 0) (start : T) (
   pub adds : (slots id : ℕ) (me : M) (added : List C → List C) (n : ℕ) (l : List C) → me.0.found ≡ Some l → n ≡ length (added l)
       → Allows Rule slots id me 2 (λ k. (k + n) % 2 ^ 64) (Adds added (step slots 2 n 0 none) me)
   adds slots id me added n l has many s k _ at _ = let r = k.1 in let v : View C T = me.0 in let f = r.each id v at in let own = f.turn l has in let longer' : List C = added l ++ l in
-      let w : View C T = having v longer' in let sum : length r.list + n ≡ length longer' = let a = length-append (added l) l in let b = ap length own.1 in omega arith in (
+      let w : View C T = adding v (added l) l in let sum : length r.list + n ≡ length longer' = let a = length-append (added l) l in let b = ap length own.1 in omega arith in (
         w,
         keeps,
         tt,
@@ -146,6 +159,7 @@ module _ {V C T : Type 0} (stands : V → T → List C → Type 0) (start : T) (
           moved stands start seats seats s r id v w at (set s.words 2 ((get_or s.words 2 0 + n) % 2 ^ 64)) s.homes r.served r.drawn longer'
               (ap (λ (ws : List ℕ). set ws 2 ((get_or ws 2 0 + n) % 2 ^ 64)) r.words ∙ ap (λ (z : ℕ). r.drawn % 2 ^ 64 ∷ r.served % 2 ^ 64 ∷ z ∷ []) (mod-add-mod (length r.list) (2 ^ 64) n ∙ ap (λ (z : ℕ). z % 2 ^ 64) sum))
               (omega arith) refl
+              (λ test. let a = count_append test (added l) l in let b = count_append test (added l) v.own in let same = ap (count_by test) own.1 in omega arith)
               (record {
                 alive = inr (has_pass start r.served r.drawn r.list v f r.served own.0);
                 starts = f.starts;
@@ -165,7 +179,7 @@ module _ {V C T : Type 0} (stands : V → T → List C → Type 0) (start : T) (
               (λ t e. inl e) (own_or r.served r.drawn v)
               (⊎_elim (λ p. let h : None ≡ Some l = sym (p.3 id v at) ∙ has in absurd (cc)) (λ p. inr (p.0, (id, w, set_at_own s.views id v w at, refl))) r.placed),
         ),
-        λ m e. let same : l ≡ m = cc in ap (λ (z : List C). (having v (added z ++ z), me.1)) same,
+        λ m e. let same : l ≡ m = cc in ap (λ (z : List C). (adding v (added z) z, me.1)) same,
       )
     where
       longer_begins : (seen : List C) → Extends k.1.list seen → Extends (added l ++ l) seen
@@ -182,7 +196,7 @@ module _ {V C T : Type 0} (stands : V → T → List C → Type 0) (start : T) (
           k.0,
           moved stands start seats seats s r id v w at (set s.words 1 ((get_or s.words 1 0 + 1) % 2 ^ 64)) (put_back s.homes me.1) (r.served + 1) r.drawn r.list
               (ap (λ (ws : List ℕ). set ws 1 ((get_or ws 1 0 + 1) % 2 ^ 64)) r.words ∙ ap (λ (n : ℕ). r.drawn % 2 ^ 64 ∷ n ∷ length r.list % 2 ^ 64 ∷ []) (mod-add-mod r.served (2 ^ 64) 1))
-              (omega arith) refl
+              (omega arith) refl (λ test. refl)
               (record {
                 alive = inr (has_pass start r.served r.drawn r.list v f r.served own.0);
                 starts = f.starts;
@@ -219,7 +233,7 @@ module _ {V C T : Type 0} (stands : V → T → List C → Type 0) (start : T) (
         tt,
         (
           k.0,
-          moved stands start seats seats s r id v w at (set s.words 0 (get_or s.words 0 0)) s.homes r.served r.drawn r.list (still ∙ r.words) (omega arith) refl
+          moved stands start seats seats s r id v w at (set s.words 0 (get_or s.words 0 0)) s.homes r.served r.drawn r.list (still ∙ r.words) (omega arith) refl (λ test. refl)
               (record { alive = inr some_pass; starts = f.starts; in_line = f.in_line; begun = f.begun; older = λ i e there. absurd (some-ne-none e (sym there)); turn = f.turn })
               (λ j u _ there. r.each j u there) (λ t e. inl e) (own_or r.served r.drawn v) (placed_set stands start r.list s (set s.words 0 (get_or s.words 0 0)) id v w at no_turn no_turn (known_set r.list s.views id v w at (λ e. e)) r.placed),
         ),
@@ -228,11 +242,11 @@ module _ {V C T : Type 0} (stands : V → T → List C → Type 0) (start : T) (
 
   pub splits : (id : ℕ) (v : View C T) → v.start ≡ Some start → v.ticket ≡ None → v.found ≡ None → 2 ≤ v.passes → Splits Rule id v (stays v) (parts v)
   splits id v begun no_ticket no_turn two s k at = let r = k.1 in let f = r.each id v at in let all = total_at passes s.views id v at in let shares = r.shares in let w : View C T = stays v in
-      let first = moved stands start seats (seats - 1) s r id v w at s.words s.homes r.served r.drawn r.list r.words (omega arith) (omega arith)
+      let first = moved stands start seats (seats - 1) s r id v w at s.words s.homes r.served r.drawn r.list r.words (omega arith) (omega arith) (λ test. refl)
       (record { alive = inr (omega arith); starts = f.starts; in_line = f.in_line; begun = f.begun; older = f.older; turn = f.turn })
       (λ j u _ there. r.each j u there) (λ t e. inl e) (own_or r.served r.drawn v) (placed_set stands start r.list s s.words id v w at no_turn no_turn (known_set r.list s.views id v w at (λ e. e)) r.placed) in
       let now : S = record { words = s.words; homes = s.homes; views = set s.views id w } in let g = first.each id w (set_at_own s.views id v w at) in
-      let second = arrived stands start (seats - 1) now first (parts v) no_ticket no_turn (record {
+      let second = arrived stands start (seats - 1) now first (parts v) no_ticket no_turn refl (record {
         alive = inr (omega arith);
         starts = g.starts;
         in_line = g.in_line;
@@ -245,34 +259,46 @@ module _ {V C T : Type 0} (stands : V → T → List C → Type 0) (start : T) (
   -- the rule says nothing of turns
   pub joins : (id : ℕ) (v : View C T) (other : ℕ) (w : View C T) (turns : ℕ) → v.start ≡ Some start → v.ticket ≡ None → v.found ≡ None → w.ticket ≡ None → w.found ≡ None
       → Joins Rule id v other w (record (both v w) { turns = turns }) spent
-  joins id v other w turns begun no_ticket no_turn no_ticket' no_turn' s k at apart there = let r = k.1 in let f = r.each id v at in let some_pass = not_spent s r id v at begun in
-      let there' : get_elem? s.views other ≡ some w = let z : View C T = record (both v w) { turns = turns } in sym (set_else s.views id other z apart) ∙ there in let g = r.each other w there' in let z : View C T = record (both v w) { turns = turns } in
-      let first = moved stands start seats (seats + w.passes) s r id v z at s.words s.homes r.served r.drawn r.list r.words (omega arith) (omega arith)
-      (record {
+  joins id v other w turns begun no_ticket no_turn no_ticket' no_turn' s k at apart there = let r = k.1 in let f = r.each id v at in let some_pass = not_spent s r id v at begun in let z : View C T = record (both v w) { turns = turns } in
+      let there' : get_elem? s.views other ≡ some w = sym (set_else s.views id other z apart) ∙ there in let g = r.each other w there' in
+      let now : S = record { words = s.words; homes = s.homes; views = set s.views id z } in let none_out : one_if w.ticket ≡ 0 = ap one_if no_ticket' in
+      let mine : Fits start r.served r.drawn r.list z = record {
         alive = inr (omega arith);
         starts = f.starts;
         in_line = f.in_line;
         begun = ⊎_elim (λ e. subst (λ (m : List C). Extends r.list m) (sym e) f.begun) (λ e. subst (λ (m : List C). Extends r.list m) (sym e) g.begun) (longer_is v.seen w.seen).2;
         older = one_of r.list v.seen w.seen f.begun g.begun;
         turn = f.turn;
-      })
-      (λ j u _ at'. r.each j u at') (λ t e. inl e) (own_or r.served r.drawn v) (placed_set stands start r.list s s.words id v z at no_turn no_turn (known_set r.list s.views id v z at (λ e. longer_whole r.list v.seen w.seen f.begun g.begun (inl e))) r.placed) in
-      let now : S = record { words = s.words; homes = s.homes; views = set s.views id z } in let none_out : one_if w.ticket ≡ 0 = ap one_if no_ticket' in
-      let taken = known_left first.list now.views id other z w (set_at_own s.views id v z at) there apart
-      (λ e. let n = ap length e in let long = (longer_is v.seen w.seen).1 in sym (whole first.list z.seen (first.each id z (set_at_own s.views id v z at)).begun (omega arith))) in
-      let second = moved stands start (seats + w.passes) seats now first other w spent there s.words s.homes first.served first.drawn first.list first.words (omega arith) (omega arith)
-      (record {
-        alive = inl refl;
-        starts = λ t e. absurd (cc);
-        in_line = λ t e. absurd (cc);
-        begun = extends_nothing first.list;
-        older = λ i e at'. absurd (some-ne-none e (sym at'));
-        turn = λ l e. absurd (cc);
-      })
-      (λ j u _ at'. first.each j u at') (λ t e. absurd (cc))
-      (λ t from below. inr (from, below, λ e. let h : None ≡ Some t = sym no_ticket' ∙ e in absurd (cc)))
-      (placed_set stands start first.list now s.words other w spent there no_turn' refl taken first.placed) in
-      (k.0, second)
+      } in
+      let first : (j : ℕ) (u : View C T) → get_elem? now.views j ≡ some u → Fits start r.served r.drawn r.list u = each_set (λ _ u. Fits start r.served r.drawn r.list u) s.views id z mine (λ j u _ at'. r.each j u at') in
+      let known = known_left r.list now.views id other z w (set_at_own s.views id v z at) there apart
+      (λ e. let n = ap length e in let long = (longer_is v.seen w.seen).1 in sym (whole r.list z.seen mine.begun (omega arith))) in (
+        k.0,
+        record {
+          served = r.served;
+          drawn = r.drawn;
+          list = r.list;
+          words = r.words;
+          count = let a = total_set tickets s.views id v z at in let b = total_set tickets now.views other w spent there in let counted = r.count in omega arith;
+          shares = let a = total_set passes s.views id v z at in let b = total_set passes now.views other w spent there in let shares = r.shares in omega arith;
+          owned = λ test. let a = total_set (own_count test) s.views id v z at in let b = total_set (own_count test) now.views other w spent there in let sum = count_append test v.own w.own in let owned = r.owned test in omega arith;
+          each = each_set (λ _ u. Fits start r.served r.drawn r.list u) now.views other spent
+              (record {
+                alive = inl refl;
+                starts = λ t e. absurd (cc);
+                in_line = λ t e. absurd (cc);
+                begun = extends_nothing r.list;
+                older = λ i e at'. absurd (some-ne-none e (sym at'));
+                turn = λ l e. absurd (cc);
+              })
+              (λ j u _ at'. first j u at');
+          apart = apart_set now.views other w spent there (apart_set s.views id v z at r.apart (λ t e. inl e)) (λ t e. absurd (cc));
+          held = held_set r.served r.drawn r.served r.drawn now.views other w spent there (held_set r.served r.drawn r.served r.drawn s.views id v z at r.held (own_or r.served r.drawn v))
+              (λ t from below. inr (from, below, λ e. let h : None ≡ Some t = sym no_ticket' ∙ e in absurd (cc)));
+          placed = placed_set stands start r.list now s.words other w spent there no_turn' refl known
+              (placed_set stands start r.list s s.words id v z at no_turn no_turn (known_set r.list s.views id v z at (λ e. longer_whole r.list v.seen w.seen f.begun g.begun (inl e))) r.placed);
+        },
+      )
     where
       one_of : (list a b : List C) → Extends list a → Extends list b → (i : ℕ) (e : List C) → get_elem? (a ∷ b ∷ []) i ≡ some e → Extends list e
       one_of list a b ea eb zero e at = subst (λ (m : List C). Extends list m) (some-injective a e at) ea
@@ -289,6 +315,7 @@ module _ {V C T : Type 0} (stands : V → T → List C → Type 0) (start : T) (
       words = refl;
       count = refl;
       shares = omega arith;
+      owned = λ test. refl;
       each = λ j v e. subst (Fits start 0 0 []) (first_alone j v e).1 (record {
         alive = inr some_seat;
         starts = λ t e. let same : start ≡ t = cc in sym same;
@@ -357,6 +384,10 @@ module _ {V C T : Type 0} (stands : V → T → List C → Type 0) (start : T) (
     pub ends_home : a ≡ b → (value : V) → slot ≡ Some value → EndsHome stands start seats id v value
     ends_home same value is = let e = ends words slots id v a b slot final no_ticket drawn_is served_is there in let h = (e.5 same).1 in
         let both_are : Some h.0 ≡ Some value = sym h.1 ∙ is in record { last = e.0; over = (e.5 same).0; home = h.2 ∙ ap (λ o. some o ∷ []) both_are }
+
+    pub ends_own : v.passes ≡ seats → (test : C → Bool) → count_by test v.own ≡ count_by test v.seen
+    ends_own all test = let e = ends words slots id v a b slot final no_ticket drawn_is served_is there in let h = (e.5 (ends_equal all)).1 in
+        sym (all_own e.0.state e.0.rule id v e.0.has_seat all test) ∙ ap (count_by test) (lone e.0.state e.0.rule id v e.0.has_seat all h.4)
 
     -- where they differ, tickets are out
     pub ends_open : a ≢ b → EndsOpen stands start seats id v a b

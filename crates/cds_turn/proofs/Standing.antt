@@ -1,14 +1,15 @@
 -- The rule after a step that changes one view, or that brings one more.
-use Rattle.std.proofs.Common.{◌≡◌, ◌≢◌, ℕ, ◌+◌, ◌%◌, ◌^◌, ◌<◌, ◌≤◌, List, [], ◌∷◌, ◌++◌, length, set, sym, refl, ap, ◌∙◌, subst, ⊎_elim, ◌⊎◌, inl, inr, arith, Option, Some, None}
+use Rattle.std.proofs.Common.{◌≡◌, ◌≢◌, ℕ, ◌+◌, ◌%◌, ◌^◌, ◌<◌, ◌≤◌, Bool, List, [], ◌∷◌, ◌++◌, length, set, sym, refl, ap, ◌∙◌, subst, ⊎_elim, ◌⊎◌, inl, inr, arith, Option, Some, None}
 use mathlib.Core.Logic.{dite}
 use mathlib.Core.Option.{none, some}
 use mathlib.Core.Option as maybe
 use native.Mathlib.Decide.{ℕ_discrete}
 use lib.ListN.{get_elem?}
+use Rattle.std.specs.List.{count_by}
 use Rattle.atomic_table.specs.Table.{State}
 use Rattle.atomic_table.proofs.Lists.{at_set, set_else, at_snoc, at_longer}
 use Rattle.cds_turn.specs.declared.view.View.{View}
-use Rattle.cds_turn.specs.Line.{one_if, tickets, passes, spent, Fits, AreApart, IsKnown, Placed, InLine}
+use Rattle.cds_turn.specs.Line.{one_if, tickets, passes, own_count, spent, Fits, AreApart, AreHeld, IsKnown, Placed, InLine}
 use Rattle.cds_turn.proofs.Sums.{total_set, total_snoc, total_le, each_set, set_at_own, one_there}
 
 abbrev pub some_of : {A : Type 0} → A → Option A → A
@@ -70,6 +71,15 @@ module _ {C T : Type 0} where
       other : (k : ℕ) (u : View C T) (n : ℕ) → get_elem? views k ≡ some u → w.ticket ≡ Some n → u.ticket ≡ Some n → id ≡ k
       other k u n e tw tu = ⊎_elim (λ (h : v.ticket ≡ Some n). apart id k v u n at e h tu) (λ h. absurd (h k u e tu)) (own n tw)
 
+  -- a ticket that is out is the new view's, or it was out and not the old one's
+  pub held_set : (served drawn served' drawn' : ℕ) (views : List (View C T)) (id : ℕ) (v w : View C T) → get_elem? views id ≡ some v → AreHeld served drawn views
+      → ((t : ℕ) → served' ≤ t → t < drawn' → (w.ticket ≡ Some t) ⊎ ((served ≤ t) × (t < drawn) × (v.ticket ≢ Some t))) → AreHeld served' drawn' (set views id w)
+  held_set served drawn served' drawn' views id v w at was held t from below = ⊎_elim
+      (λ (e : w.ticket ≡ Some t). (id, w, set_at_own views id v w at, e))
+      (λ h. let k = was t h.0 h.1 in let away : k.0 ≢ id = λ e. h.2 (ap (λ (z : View C T). z.ticket) (sym (one_there views id k.1 v (subst (λ n. get_elem? views n ≡ some k.1) e k.2) at)) ∙ k.3) in
+      (k.0, k.1, set_else views id k.0 w away ∙ k.2, k.3))
+      (held t from below)
+
   -- another view is changed, or this one still has seen the whole list
   pub known_set : (list : List C) (views : List (View C T)) (id : ℕ) (v w : View C T) → get_elem? views id ≡ some v → (v.seen ≡ list → w.seen ≡ list) → IsKnown list views → IsKnown list (set views id w)
   known_set list views id v w at still k = dite (ℕ_discrete k.0 id)
@@ -107,39 +117,38 @@ module _ {V C T : Type 0} (stands : V → T → List C → Type 0) (start : T) w
       → words ≡ drawn % 2 ^ 64 ∷ served % 2 ^ 64 ∷ length list % 2 ^ 64 ∷ []
       → served + one_if w.ticket + r.drawn ≡ drawn + one_if v.ticket + r.served
       → seats' + v.passes ≡ seats + w.passes
+      → ((test : C → Bool) → count_by test list + own_count test v ≡ count_by test r.list + own_count test w)
       → Fits start served drawn list w
       → ((j : ℕ) (u : View C T) → j ≢ id → get_elem? s.views j ≡ some u → Fits start served drawn list u)
       → ((t : ℕ) → w.ticket ≡ Some t → (v.ticket ≡ Some t) ⊎ (r.drawn ≤ t))
       → ((t : ℕ) → served ≤ t → t < drawn → (w.ticket ≡ Some t) ⊎ ((r.served ≤ t) × (t < r.drawn) × (v.ticket ≢ Some t)))
       → Placed stands start list record { words = words; homes = homes; views = set s.views id w }
       → InLine stands start seats' record { words = words; homes = homes; views = set s.views id w }
-  moved seats seats' s r id v w at words homes served drawn list is_words counts shares mine others own held placed = record {
+  moved seats seats' s r id v w at words homes served drawn list is_words counts shares owns mine others own held placed = record {
     served = served;
     drawn = drawn;
     list = list;
     words = is_words;
     count = let a = total_set tickets s.views id v w at in let b = r.count in omega arith;
     shares = let a = total_set passes s.views id v w at in let b = r.shares in omega arith;
+    owned = λ test. let a = total_set (own_count test) s.views id v w at in let b = r.owned test in let c = owns test in omega arith;
     each = each_set (λ _ u. Fits start served drawn list u) s.views id w mine others;
     apart = apart_set s.views id v w at r.apart (λ t e. ⊎_elim inl (λ (h : r.drawn ≤ t). inr (λ j u there tu. let p = (r.each j u there).in_line t tu in absurd (omega arith))) (own t e));
-    held = λ t from below. ⊎_elim
-        (λ (e : w.ticket ≡ Some t). (id, w, set_at_own s.views id v w at, e))
-        (λ h. let k = r.held t h.0 h.1 in let away : k.0 ≢ id = λ e. h.2 (ap (λ (z : View C T). z.ticket) (sym (one_there s.views id k.1 v (subst (λ n. get_elem? s.views n ≡ some k.1) e k.2) at)) ∙ k.3) in
-        (k.0, k.1, set_else s.views id k.0 w away ∙ k.2, k.3))
-        (held t from below);
+    held = held_set r.served r.drawn served drawn s.views id v w at r.held held;
     placed = placed;
   }
 
-  -- one more seat, with no ticket
-  pub arrived : (seats : ℕ) (s : St) (r : InLine stands start seats s) (w : View C T) → w.ticket ≡ None → w.found ≡ None → Fits start r.served r.drawn r.list w
+  -- one more seat, with no ticket and no commands of its own
+  pub arrived : (seats : ℕ) (s : St) (r : InLine stands start seats s) (w : View C T) → w.ticket ≡ None → w.found ≡ None → w.own ≡ [] → Fits start r.served r.drawn r.list w
       → InLine stands start (seats + w.passes) record { words = s.words; homes = s.homes; views = s.views ++ w ∷ [] }
-  arrived seats s r w no_ticket no_turn mine = record {
+  arrived seats s r w no_ticket no_turn no_own mine = record {
     served = r.served;
     drawn = r.drawn;
     list = r.list;
     words = r.words;
     count = let a = total_snoc tickets s.views w in let n : tickets w ≡ 0 = ap one_if no_ticket in let b = r.count in omega arith;
     shares = let a = total_snoc passes s.views w in let b = r.shares in omega arith;
+    owned = λ test. let a = total_snoc (own_count test) s.views w in let n : own_count test w ≡ 0 = ap (count_by test) no_own in let b = r.owned test in omega arith;
     each = λ j u e. ⊎_elim (r.each j u) (λ (same : w ≡ u). subst (Fits start r.served r.drawn r.list) same mine) (at_snoc s.views w u j e);
     apart = λ i j a b t ei ej ta tb. ⊎_elim
         (λ p. ⊎_elim (λ q. r.apart i j a b t p q ta tb) (λ (same : w ≡ b). let h : None ≡ Some t = sym no_ticket ∙ (ap (λ (z : View C T). z.ticket) same ∙ tb) in absurd (cc)) (at_snoc s.views w b j ej))

@@ -1,7 +1,9 @@
 -- Sums over lists of views, and lists in which one element is changed.
-use Rattle.std.proofs.Common.{◌≡◌, ◌≢◌, ℕ, zero, suc, ◌+◌, ◌<◌, ◌≤◌, List, [], ◌∷◌, ◌++◌, length, set, sym, ap, ◌∙◌, refl, subst, ⊎_elim, arith}
+use Rattle.std.proofs.Common.{◌≡◌, ◌≢◌, ℕ, zero, suc, ◌+◌, ◌<◌, ◌≤◌, Bool, cond, List, [], ◌∷◌, ◌++◌, length, set, sym, ap, ◌∙◌, refl, subst, ⊎_elim, arith}
 use mathlib.Core.Option.{some, some-injective, some-ne-none}
 use lib.ListN.{get_elem?}
+use Rattle.std.specs.List.{count_by}
+use Rattle.std.proofs.lemmas.List.Sums.{sum_by-append}
 use Rattle.atomic_table.proofs.Lists.{at_set, set_here}
 use Rattle.cds_turn.specs.Line.{total}
 
@@ -28,6 +30,13 @@ module _ {A : Type 0} where
   pub total_le : (f g : A → ℕ) (views : List A) → ((j : ℕ) (v : A) → get_elem? views j ≡ some v → f v ≤ g v) → total f views ≤ total g views
   total_le f g [] each = omega arith
   total_le f g (x ∷ xs) each = let first = each zero x refl in let rest = total_le f g xs (λ j v e. each (suc j) v e) in omega arith
+
+  pub total_none : (f : A → ℕ) (views : List A) → ((j : ℕ) (v : A) → get_elem? views j ≡ some v → f v ≡ 0) → total f views ≡ 0
+  total_none f [] each = refl
+  total_none f (x ∷ xs) each = let first = each zero x refl in let rest = total_none f xs (λ j v e. each (suc j) v e) in omega arith
+
+  pub count_append : (test : A → Bool) (xs ys : List A) → count_by test (xs ++ ys) ≡ count_by test xs + count_by test ys
+  count_append test xs ys = sum_by-append (λ x. cond (test x) 1 0) xs ys
 
   -- what holds of the new element and of all others holds of each
   pub each_set : (P : ℕ → A → Type 0) (views : List A) (i : ℕ) (w : A) → P i w → ((j : ℕ) (v : A) → j ≢ i → get_elem? views j ≡ some v → P j v)

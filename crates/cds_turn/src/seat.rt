@@ -1,4 +1,4 @@
-//! What one caller holds.
+//! `Seat`: what one caller holds.
 ghost use Rattle.std.specs.Prelude.{◌≡◌};
 ghost use Rattle.cds_turn.specs.Moves.{at_rest};
 

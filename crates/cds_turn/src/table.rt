@@ -1,5 +1,6 @@
 //! The single steps of a turn, each on one word or on the slot.
-ghost use Rattle.std.specs.Prelude.{◌≡◌, ◌≢◌, ◌≤◌, ℕ, ◌+◌, ◌%◌, ◌^◌, List, [], ◌∷◌, ◌++◌, length, Some, None, IsSome, IfSome, true, false};
+ghost use Rattle.std.specs.Prelude.{◌≡◌, ◌≢◌, ◌≤◌, ℕ, ◌+◌, ◌%◌, ◌^◌, List, [], ◌∷◌, ◌++◌, length, Some, None, IsSome, IfSome, Bool, true, false};
+ghost use Rattle.std.specs.List.{count_by};
 ghost use Rattle.cds_turn.specs.Line.{Extends, StandsBeyond, EndsHome, EndsOpen};
 ghost use Rattle.cds_turn.specs.Moves.{IsAt, Continues, at_rest, found_of, stays, parts, both, settled, Turns};
 
@@ -45,19 +46,21 @@ impl Sharing for Brand {
     ghost seats = { 0 };
 }
 
-/// Draws a ticket: the number found is it, modulo 2^64.
+/// Draws a ticket. The number returned is the ticket modulo 2^64.
 fn draw<V: StandsFor>(lane: &Lane<V>, place: &mut Place<V>) -> u64
     requires table { IsAt lane.now.table_id place.old }
     requires rests { place.old ≡ at_rest place.old }
     requires starts { place.old.me.0.start ≡ Some (V.start lane.now.key.value.value) }
     ensures same { Continues place.old place.new }
     ensures ticket { (t : ℕ) × (result ≡ t % 2 ^ 64) × (place.new.me.0.ticket ≡ Some t) }
+    ensures own { place.new.me.0.own ≡ place.old.me.0.own }
     ensures waits { (place.new.me.0.found ≡ None) × (place.new.me.1 ≡ []) }
 {
     lane.fetch_add::<Draw>(place, 0, 1)
 }
 
-/// Looks at the number that is served, again and again for a moment. The seat has the turn exactly where it is the ticket.
+/// Looks at the number that is served, again and again for a moment. Returns true once it is the ticket: the seat then
+/// has the turn. Otherwise the seat is as before.
 fn is_served<V: StandsFor, G: Sharing>(lane: &Lane<V>, place: &mut Place<V>, ticket: u64) -> bool
     requires table { IsAt lane.now.table_id place.old }
     requires seats { G.seats ≡ lane.now.key.seats }
@@ -98,8 +101,8 @@ fn await_turn<V: StandsFor, R: Wait, G: Sharing>(
     unreachable!()
 }
 
-/// Draws a ticket, waits for its turn and takes the value, which stands for a list that begins with all that the seat
-/// had seen.
+/// Draws a ticket, waits for its turn and takes the value. The value stands for a list that begins with all that the
+/// seat had seen.
 pub(crate) fn enter<V: StandsFor, R: Wait, G: Sharing>(
     rt: &R,
     lane: &Lane<V>,
@@ -110,6 +113,7 @@ pub(crate) fn enter<V: StandsFor, R: Wait, G: Sharing>(
     requires rests { place.old ≡ at_rest place.old }
     requires starts { place.old.me.0.start ≡ Some (V.start lane.now.key.value.value) }
     ensures same { Continues place.old place.new }
+    ensures own { place.new.me.0.own ≡ place.old.me.0.own }
     ensures turn { place.new.me.0.found ≡ Some (found_of place.new) }
     ensures out { place.new.me.1 ≡ (0, None) ∷ [] }
     ensures stands { V.stands result (V.start lane.now.key.value.value) (found_of place.new) }
@@ -135,6 +139,7 @@ pub(crate) fn add<V: StandsFor, A: Act<V>, G: Adding<V::Command>>(
     requires out { place.old.me.1 ≡ (0, None) ∷ [] }
     ensures same { Continues place.old place.new }
     ensures added { place.new.me.0.found ≡ Some (G.added (found_of place.old) ++ found_of place.old) }
+    ensures own { place.new.me.0.own ≡ G.added (found_of place.old) ++ place.old.me.0.own }
     ensures out { place.new.me.1 ≡ (0, None) ∷ [] }
 {
     let _ = act;
@@ -163,6 +168,7 @@ fn pass_on<V: StandsFor>(lane: &Lane<V>, place: &mut Place<V>)
     ensures rests { place.old.me.0.older ≡ [] → place.new ≡ at_rest place.new }
     ensures start { place.new.me.0.start ≡ place.old.me.0.start }
     ensures seen { place.new.me.0.seen ≡ found_of place.old }
+    ensures own { place.new.me.0.own ≡ place.old.me.0.own }
     ensures passes { place.new.me.0.passes ≡ place.old.me.0.passes }
     ensures turns { place.new.me.0.turns ≡ place.old.me.0.turns + 1 }
 {
@@ -180,6 +186,7 @@ pub(crate) fn leave<V: StandsFor + Drop>(lane: &Lane<V>, place: &mut Place<V>, v
     ensures rests { place.old.me.0.older ≡ [] → place.new ≡ at_rest place.new }
     ensures start { place.new.me.0.start ≡ place.old.me.0.start }
     ensures seen { place.new.me.0.seen ≡ found_of place.old }
+    ensures own { place.new.me.0.own ≡ place.old.me.0.own }
     ensures passes { place.new.me.0.passes ≡ place.old.me.0.passes }
     ensures turns { place.new.me.0.turns ≡ place.old.me.0.turns + 1 }
 {
@@ -201,7 +208,7 @@ pub(crate) fn part<V: StandsFor>(lane: &Lane<V>, place: &mut Place<V>) -> Place<
     lane.split_seat::<Part>(place)
 }
 
-/// Takes in another seat, and learns that what was seen begins with what both had seen.
+/// Takes in another seat. What the seat has seen then begins with what each of the two had seen.
 pub(crate) fn merge<V: StandsFor>(lane: &Lane<V>, place: &mut Place<V>, other: Place<V>)
     requires table { IsAt lane.now.table_id place.old × IsAt lane.now.table_id other }
     requires rests { (place.old ≡ at_rest place.old) × (other ≡ at_rest other) }
@@ -215,8 +222,8 @@ pub(crate) fn merge<V: StandsFor>(lane: &Lane<V>, place: &mut Place<V>, other: P
     lane.load::<Settle>(place, 0);
 }
 
-/// Ends the table: both numbers and what is in the slot. With all passes in the seat the numbers are equal, and where
-/// they are the value is there.
+/// Ends the table and returns both numbers and what is in the slot. If the seat has all passes, the numbers are equal.
+/// If the numbers are equal, the value is in the slot.
 pub(crate) fn end<V: StandsFor + Drop>(board: Board<V>, place: Place<V>) -> (Open, Option<V>)
     requires table { IsAt board.shared.table_id place }
     requires rests { place ≡ at_rest place }
@@ -229,6 +236,7 @@ pub(crate) fn end<V: StandsFor + Drop>(board: Board<V>, place: Place<V>) -> (Ope
         → (value : V) → result.1 ≡ Some value → EndsHome V.stands (V.start board.shared.key.value.value) board.shared.key.seats place.id place.me.0 value }
     ensures open { result.0.ticket ≢ result.0.serving
         → EndsOpen V.stands (V.start board.shared.key.value.value) board.shared.key.seats place.id place.me.0 result.0.ticket result.0.serving }
+    ensures own { place.me.0.passes ≡ board.shared.key.seats → (test : V.Command → Bool) → count_by test place.me.0.own ≡ count_by test place.me.0.seen }
 {
     let mut closed = board.close_with(place);
     let open = Open {

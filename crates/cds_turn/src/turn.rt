@@ -1,4 +1,4 @@
-//! The value and the line before it.
+//! `Turn`: the value and the line before it.
 ghost use Rattle.std.specs.Prelude.{◌≡◌};
 ghost use Rattle.cds_turn.specs.Moves.{IsTurnTable};
 

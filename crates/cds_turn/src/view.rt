@@ -5,15 +5,17 @@ use std::collections::LinkedList;
 use std::marker::PhantomData;
 use std::snapshot::Snapshot;
 
-/// What a seat knows. No value of it is made: it stands in proofs alone, and its numbers have no greatest value.
+/// What a seat knows. It stands in proofs alone: no value of it is made. So its numbers have no greatest value.
 pub(crate) struct View<C, T> {
     /// The start of the turn's value. The view of a seat that was joined into another has none.
     pub start: Option<T>,
     /// The commands that the seat has seen, newest first.
     pub seen: LinkedList<C>,
-    /// What two seats had seen that were joined into this one.
+    /// The commands that this seat appended, newest first.
+    pub own: LinkedList<C>,
+    /// What each of two seats had seen before they were joined into this one.
     pub older: LinkedList<LinkedList<C>>,
-    /// How many seats may be made of it, itself counted.
+    /// How many seats may be made of it, itself included.
     pub passes: u64,
     /// How many turns were taken with it.
     pub turns: u64,
@@ -65,7 +67,7 @@ pub(crate) trait Sharing {
     ghost seats: { ℕ };
 }
 
-/// Looks at the number that is served, and takes the slot where it is the own ticket.
+/// Looks at the number that is served, and takes the slot if the number is that of the seat's own ticket.
 pub(crate) struct Look<G> {
     of: PhantomData<G>,
 }
@@ -83,7 +85,7 @@ pub(crate) trait Adding<C> {
     ghost added: { List C → List C };
 }
 
-/// Adds the commands to the count, which is the moment when they join the list.
+/// Adds the commands to the count. At that moment they join the list.
 pub(crate) struct Add<G> {
     of: PhantomData<G>,
 }
@@ -114,7 +116,7 @@ impl<C, T> Split<View<C, T>> for Part {
     ghost right = { parts };
 }
 
-/// Takes in what another seat has seen, its passes and its turns.
+/// Takes in what another seat has seen, its own commands, its passes and its turns.
 pub(crate) struct Both;
 
 impl<C, T> Join<View<C, T>> for Both {
@@ -126,7 +128,7 @@ impl<C, T> Join<View<C, T>> for Both {
     ghost spent = { spent };
 }
 
-/// Shows that what was seen begins with what both seats had seen.
+/// Shows that what was seen begins with what each of the two seats had seen.
 pub(crate) struct Settle;
 
 impl<S, C, T> Play<S, View<C, T>> for Settle {

@@ -1,33 +1,27 @@
-ghost use Rattle.std.specs.Prelude.{◌≡◌, ℕ, ◌≤◌, List, [], ◌∷◌, ◌++◌, Option, Some, IfOk, OnErr};
-ghost use Rattle.cds_base.specs.Outside.{Told, Rose};
+//! The clock of the outside.
+
+ghost use Rattle.std.specs.Prelude.{◌≡◌, ◌≤◌, IfOk, OnErr};
+ghost use Rattle.cds_base.specs.Outside.{Rose};
+ghost use Rattle.cds_base.specs.Told.{ClockTold, and_moment};
 
 use crate::Failed;
 
-/// What gives moments in milliseconds, which never fall.
+/// A source of moments in milliseconds, which never fall.
 pub trait Clock {
-    // The last moment that it gave, 0 before the first.
-    ghost last: { Self → ℕ };
+    // What it tells of itself.
+    ghost told: { Self → ClockTold };
 
-    // The moments that it gave so far, in order, where the clock tells them.
-    ghost gave: { Self → Option (List ℕ) };
-
-    // How many calls failed so far.
-    ghost faults: { Self → ℕ };
-
-    /// The moment now. It is not below any moment that the clock gave before. `Failed` comes only where the count of
-    /// faults rises.
+    /// Returns the moment now. It is not below any moment that the clock gave before. `Failed` comes only if the count of faults
+    /// rises.
     fn now(&mut self) -> Result<u64, Failed>
-        ensures later { IfOk result (λ moment. last self.old ≤ moment) }
-        ensures last { IfOk result (λ moment. last self.new ≡ moment) }
-        ensures gave { IfOk result (λ moment. Told (gave self.old) (λ list. gave self.new ≡ Some (list ++ moment ∷ []))) }
-        ensures last_stays { OnErr result (last self.new ≡ last self.old) }
-        ensures gave_stay { OnErr result (gave self.new ≡ gave self.old) }
-        ensures rose { OnErr result (Rose (faults self.old) (faults self.new)) }
-        ensures never_falls { faults self.old ≤ faults self.new };
+        ensures later { IfOk result (λ moment. (told self.old).last ≤ moment) }
+        ensures gave { IfOk result (λ moment. told self.new ≡ record (told self.old) { last = moment; gave = and_moment moment (told self.old).gave; faults = (told self.new).faults }) }
+        ensures others_stay { OnErr result (told self.new ≡ record (told self.old) { faults = (told self.new).faults }) }
+        ensures rose { OnErr result (Rose (told self.old).faults (told self.new).faults) }
+        ensures never_falls { (told self.old).faults ≤ (told self.new).faults };
 
-    /// Waits for about so many milliseconds. Nothing is promised of the time that passes.
+    /// Waits for about this many milliseconds. Nothing is promised of the time that passes.
     fn rest(&mut self, ms: u32)
-        ensures last_stays { last self.new ≡ last self.old }
-        ensures gave_stay { gave self.new ≡ gave self.old }
-        ensures never_falls { faults self.old ≤ faults self.new };
+        ensures others_stay { told self.new ≡ record (told self.old) { faults = (told self.new).faults } }
+        ensures never_falls { (told self.old).faults ≤ (told self.new).faults };
 }

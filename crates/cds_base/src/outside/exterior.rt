@@ -1,3 +1,5 @@
+//! The outside as a whole: what gives the objects and takes them back.
+
 use crate::{Clock, Door, Folder, Link, Mem, Spawner};
 use std::alloc::Global;
 use std::convert::From;
@@ -36,14 +38,14 @@ impl From<Mem> for OutsideFault {
     }
 }
 
-/// What gives a program the objects of the outside, and takes them back. Of each object that it gives nothing was asked
-/// yet. `Failed` comes only where the count of faults rises.
+/// Gives a program the objects of the outside, and takes them back. Nothing was asked yet of an object that it gives. `Failed`
+/// comes only if the count of faults rises.
 pub trait Outside {
-    ghost use Rattle.std.specs.Prelude.{◌≡◌, ℕ, ◌≤◌, min, List, [], ◌∷◌, ◌++◌, Option, Some, IfOk};
+    ghost use Rattle.std.specs.Prelude.{◌≡◌, ◌≤◌, min, [], ◌∷◌, ◌++◌, Some, IfOk};
     ghost use Rattle.cds_base.specs.Outside.{raised, Told};
-    ghost use Rattle.cds_base.specs.Entries.{FolderTold};
-    ghost use Rattle.cds_base.specs.Links.{LinkTold};
-    ghost use Rattle.cds_base.specs.Asked.{Asked, ForClock, ForDoor, ForFolder, ForLink, ForSpawner, OutsideRose};
+    ghost use Rattle.cds_base.specs.Entries.{IsUnasked};
+    ghost use Rattle.cds_base.specs.Asked.{ForClock, ForDoor, ForFolder, ForLink, ForSpawner, OutsideRose};
+    ghost use Rattle.cds_base.specs.Told.{IsFresh, IsUnsent, OutsideTold, asked_then, unasked_door, unasked_spawner};
 
     type F: Folder + Send + Drop + 'static;
 
@@ -55,142 +57,77 @@ pub trait Outside {
 
     type W: Spawner + Send + Drop + 'static;
 
-    // How many calls failed so far, and how many objects with faults came back.
-    ghost faults: { Self → ℕ };
+    // What it tells of itself.
+    ghost told: { Self → OutsideTold };
 
-    // What it was asked for, in order, where it tells that.
-    ghost asked: { Self → Option (List Asked) };
-
-    // What the folders that came back had told, in order, where it tells that.
-    ghost ended: { Self → Option (List FolderTold) };
-
-    // What the links that came back had told, in order, where it tells that.
-    ghost ended_links: { Self → Option (List LinkTold) };
-
-    // How many connections the doors that came back gave.
-    ghost connections: { Self → ℕ };
-
-    // How many jobs the spawners that came back started.
-    ghost started: { Self → ℕ };
-
-    /// The folder at a path.
+    /// Returns the folder at a path.
     fn folder(&mut self, alloc: Global, path: &str) -> Result<Self::F, OutsideFault>
-        ensures given { IfOk result (λ folder. Self.F.given folder ≡ []) }
-        ensures entries { IfOk result (λ folder. Self.F.entries folder ≡ 0) }
-        ensures opened { IfOk result (λ folder. Self.F.opened folder ≡ 0) }
-        ensures returned { IfOk result (λ folder. Self.F.returned folder ≡ 0) }
-        ensures entry_faults { IfOk result (λ folder. Self.F.entry_faults folder ≡ 0) }
-        ensures file_faults { IfOk result (λ folder. Self.F.file_faults folder ≡ 0) }
-        ensures asked { Told (asked self.old) (λ list. asked self.new ≡ Some (list ++ ForFolder path.now ∷ [])) }
-        ensures ended_stay { ended self.new ≡ ended self.old }
-        ensures ended_links_stay { ended_links self.new ≡ ended_links self.old }
-        ensures connections_stay { connections self.new ≡ connections self.old }
-        ensures started_stay { started self.new ≡ started self.old }
-        ensures rose { OutsideRose result (faults self.old) (faults self.new) }
-        ensures never_falls { faults self.old ≤ faults self.new };
+        ensures unasked { IfOk result (λ folder. IsUnasked (Self.F.told folder)) }
+        ensures asked { Told (told self.old).asked (λ list. (told self.new).asked ≡ Some (list ++ ForFolder path.now ∷ [])) }
+        ensures others_stay { told self.new ≡ asked_then (told self.old) (told self.new) }
+        ensures rose { OutsideRose result (told self.old).faults (told self.new).faults }
+        ensures never_falls { (told self.old).faults ≤ (told self.new).faults };
 
-    /// A link.
+    /// Returns a link.
     fn link(&mut self, alloc: Global) -> Result<Self::L, OutsideFault>
-        ensures no_requests { IfOk result (λ link. Told (Self.L.requests link) (λ list. list ≡ [])) }
-        ensures no_faults { IfOk result (λ link. Self.L.faults link ≡ 0) }
-        ensures asked { Told (asked self.old) (λ list. asked self.new ≡ Some (list ++ ForLink ∷ [])) }
-        ensures ended_stay { ended self.new ≡ ended self.old }
-        ensures ended_links_stay { ended_links self.new ≡ ended_links self.old }
-        ensures connections_stay { connections self.new ≡ connections self.old }
-        ensures started_stay { started self.new ≡ started self.old }
-        ensures rose { OutsideRose result (faults self.old) (faults self.new) }
-        ensures never_falls { faults self.old ≤ faults self.new };
+        ensures unsent { IfOk result (λ link. IsUnsent (Self.L.told link)) }
+        ensures asked { Told (told self.old).asked (λ list. (told self.new).asked ≡ Some (list ++ ForLink ∷ [])) }
+        ensures others_stay { told self.new ≡ asked_then (told self.old) (told self.new) }
+        ensures rose { OutsideRose result (told self.old).faults (told self.new).faults }
+        ensures never_falls { (told self.old).faults ≤ (told self.new).faults };
 
-    /// A clock.
+    /// Returns a clock.
     fn clock(&mut self, alloc: Global) -> Result<Self::C, OutsideFault>
-        ensures no_moments { IfOk result (λ clock. Told (Self.C.gave clock) (λ list. list ≡ [])) }
-        ensures last { IfOk result (λ clock. Self.C.last clock ≡ 0) }
-        ensures no_faults { IfOk result (λ clock. Self.C.faults clock ≡ 0) }
-        ensures asked { Told (asked self.old) (λ list. asked self.new ≡ Some (list ++ ForClock ∷ [])) }
-        ensures ended_stay { ended self.new ≡ ended self.old }
-        ensures ended_links_stay { ended_links self.new ≡ ended_links self.old }
-        ensures connections_stay { connections self.new ≡ connections self.old }
-        ensures started_stay { started self.new ≡ started self.old }
-        ensures rose { OutsideRose result (faults self.old) (faults self.new) }
-        ensures never_falls { faults self.old ≤ faults self.new };
+        ensures fresh { IfOk result (λ clock. IsFresh (Self.C.told clock)) }
+        ensures asked { Told (told self.old).asked (λ list. (told self.new).asked ≡ Some (list ++ ForClock ∷ [])) }
+        ensures others_stay { told self.new ≡ asked_then (told self.old) (told self.new) }
+        ensures rose { OutsideRose result (told self.old).faults (told self.new).faults }
+        ensures never_falls { (told self.old).faults ≤ (told self.new).faults };
 
-    /// The door at a port.
+    /// Returns the door at a port.
     fn door(&mut self, alloc: Global, port: u16) -> Result<Self::D, OutsideFault>
-        ensures none_given { IfOk result (λ door. Self.D.connections door ≡ 0) }
-        ensures no_faults { IfOk result (λ door. Self.D.faults door ≡ 0) }
-        ensures asked { Told (asked self.old) (λ list. asked self.new ≡ Some (list ++ ForDoor port ∷ [])) }
-        ensures ended_stay { ended self.new ≡ ended self.old }
-        ensures ended_links_stay { ended_links self.new ≡ ended_links self.old }
-        ensures connections_stay { connections self.new ≡ connections self.old }
-        ensures started_stay { started self.new ≡ started self.old }
-        ensures rose { OutsideRose result (faults self.old) (faults self.new) }
-        ensures never_falls { faults self.old ≤ faults self.new };
+        ensures unasked { IfOk result (λ door. Self.D.told door ≡ unasked_door) }
+        ensures asked { Told (told self.old).asked (λ list. (told self.new).asked ≡ Some (list ++ ForDoor port ∷ [])) }
+        ensures others_stay { told self.new ≡ asked_then (told self.old) (told self.new) }
+        ensures rose { OutsideRose result (told self.old).faults (told self.new).faults }
+        ensures never_falls { (told self.old).faults ≤ (told self.new).faults };
 
-    /// A spawner.
+    /// Returns a spawner.
     fn spawner(&mut self, alloc: Global) -> Result<Self::W, OutsideFault>
-        ensures none_started { IfOk result (λ spawner. Self.W.started spawner ≡ 0) }
-        ensures no_faults { IfOk result (λ spawner. Self.W.faults spawner ≡ 0) }
-        ensures asked { Told (asked self.old) (λ list. asked self.new ≡ Some (list ++ ForSpawner ∷ [])) }
-        ensures ended_stay { ended self.new ≡ ended self.old }
-        ensures ended_links_stay { ended_links self.new ≡ ended_links self.old }
-        ensures connections_stay { connections self.new ≡ connections self.old }
-        ensures started_stay { started self.new ≡ started self.old }
-        ensures rose { OutsideRose result (faults self.old) (faults self.new) }
-        ensures never_falls { faults self.old ≤ faults self.new };
+        ensures unasked { IfOk result (λ spawner. Self.W.told spawner ≡ unasked_spawner) }
+        ensures asked { Told (told self.old).asked (λ list. (told self.new).asked ≡ Some (list ++ ForSpawner ∷ [])) }
+        ensures others_stay { told self.new ≡ asked_then (told self.old) (told self.new) }
+        ensures rose { OutsideRose result (told self.old).faults (told self.new).faults }
+        ensures never_falls { (told self.old).faults ≤ (told self.new).faults };
 
-    /// Takes a folder back. It takes no memory. The count of faults rises exactly where the folder's count of faults of
-    /// entries is above 0.
+    /// Takes a folder back. It takes no memory. The count of faults rises exactly if the folder's count of faults of entries is
+    /// above 0.
     fn end_folder(&mut self, folder: Self::F)
-        ensures faults { faults self.new ≡ raised (faults self.old) (min 1 (Self.F.entry_faults folder)) }
-        ensures ended { Told (ended self.old) (λ list. ended self.new ≡ Some (list ++ record {
-          tree = Self.F.tree folder;
-          contents = Self.F.contents folder;
-          given = Self.F.given folder;
-          entries = Self.F.entries folder;
-          opened = Self.F.opened folder;
-          returned = Self.F.returned folder;
-          entry_faults = Self.F.entry_faults folder;
-          file_faults = Self.F.file_faults folder;
-        } ∷ [])) }
-        ensures asked_stay { asked self.new ≡ asked self.old }
-        ensures ended_links_stay { ended_links self.new ≡ ended_links self.old }
-        ensures connections_stay { connections self.new ≡ connections self.old }
-        ensures started_stay { started self.new ≡ started self.old }
-        ensures never_falls { faults self.old ≤ faults self.new };
+        ensures faults { (told self.new).faults ≡ raised (told self.old).faults (min 1 (Self.F.told folder).entry_faults) }
+        ensures ended { Told (told self.old).ended (λ list. (told self.new).ended ≡ Some (list ++ Self.F.told folder ∷ [])) }
+        ensures others_stay { told self.new ≡ record (told self.old) { faults = (told self.new).faults; ended = (told self.new).ended } }
+        ensures never_falls { (told self.old).faults ≤ (told self.new).faults };
 
-    /// Takes a link back. It takes no memory. The count of faults rises exactly where the link's is above 0.
+    /// Takes a link back. It takes no memory. The count of faults rises exactly if the link's count of faults is above 0.
     fn end_link(&mut self, link: Self::L)
-        ensures faults { faults self.new ≡ raised (faults self.old) (min 1 (Self.L.faults link)) }
-        ensures ended_links { Told (ended_links self.old) (λ list. ended_links self.new ≡ Some (list ++ record {
-          requests = Self.L.requests link;
-          replies = Self.L.replies link;
-          faults = Self.L.faults link;
-        } ∷ [])) }
-        ensures asked_stay { asked self.new ≡ asked self.old }
-        ensures ended_stay { ended self.new ≡ ended self.old }
-        ensures connections_stay { connections self.new ≡ connections self.old }
-        ensures started_stay { started self.new ≡ started self.old }
-        ensures never_falls { faults self.old ≤ faults self.new };
+        ensures faults { (told self.new).faults ≡ raised (told self.old).faults (min 1 (Self.L.told link).faults) }
+        ensures ended_links { Told (told self.old).ended_links (λ list. (told self.new).ended_links ≡ Some (list ++ Self.L.told link ∷ [])) }
+        ensures others_stay { told self.new ≡ record (told self.old) { faults = (told self.new).faults; ended_links = (told self.new).ended_links } }
+        ensures never_falls { (told self.old).faults ≤ (told self.new).faults };
 
-    /// Takes a handle of a door back, and adds the number of connections that it gave. It takes no memory. The count of
-    /// faults rises exactly where the handle's is above 0.
+    /// Takes a handle of a door back, and adds the number of connections that it gave. It takes no memory. The count of faults
+    /// rises exactly if the handle's count of faults is above 0.
     fn end_door(&mut self, door: Self::D)
-        ensures faults { faults self.new ≡ raised (faults self.old) (min 1 (Self.D.faults door)) }
-        ensures connections { connections self.new ≡ raised (connections self.old) (Self.D.connections door) }
-        ensures asked_stay { asked self.new ≡ asked self.old }
-        ensures ended_stay { ended self.new ≡ ended self.old }
-        ensures ended_links_stay { ended_links self.new ≡ ended_links self.old }
-        ensures started_stay { started self.new ≡ started self.old }
-        ensures never_falls { faults self.old ≤ faults self.new };
+        ensures faults { (told self.new).faults ≡ raised (told self.old).faults (min 1 (Self.D.told door).faults) }
+        ensures connections { (told self.new).connections ≡ raised (told self.old).connections (Self.D.told door).connections }
+        ensures others_stay { told self.new ≡ record (told self.old) { faults = (told self.new).faults; connections = (told self.new).connections } }
+        ensures never_falls { (told self.old).faults ≤ (told self.new).faults };
 
-    /// Takes a spawner back, and adds the number of jobs that it started. It takes no memory. The count of faults rises
-    /// exactly where the spawner's is above 0.
+    /// Takes a spawner back, and adds the number of jobs that it started. It takes no memory. The count of faults rises exactly
+    /// if the spawner's count of faults is above 0.
     fn end_spawner(&mut self, spawner: Self::W)
-        ensures faults { faults self.new ≡ raised (faults self.old) (min 1 (Self.W.faults spawner)) }
-        ensures started { started self.new ≡ raised (started self.old) (Self.W.started spawner) }
-        ensures asked_stay { asked self.new ≡ asked self.old }
-        ensures ended_stay { ended self.new ≡ ended self.old }
-        ensures ended_links_stay { ended_links self.new ≡ ended_links self.old }
-        ensures connections_stay { connections self.new ≡ connections self.old }
-        ensures never_falls { faults self.old ≤ faults self.new };
+        ensures faults { (told self.new).faults ≡ raised (told self.old).faults (min 1 (Self.W.told spawner).faults) }
+        ensures started { (told self.new).started ≡ raised (told self.old).started (Self.W.told spawner).started }
+        ensures others_stay { told self.new ≡ record (told self.old) { faults = (told self.new).faults; started = (told self.new).started } }
+        ensures never_falls { (told self.old).faults ≤ (told self.new).faults };
 }

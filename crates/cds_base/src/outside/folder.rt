@@ -1,3 +1,5 @@
+//! The folder of the outside, and the entries of its tree.
+
 use crate::{Source, Text};
 use std::alloc::{AllocError, Global};
 use std::convert::From;
@@ -46,93 +48,49 @@ impl From<crate::Mem> for FolderFault {
     }
 }
 
-/// A folder whose whole tree is listed one entry at a time, in any order, and whose files are opened.
+/// A folder. Its whole tree is listed one entry at a time, in any order, and its files can be opened.
 pub trait Folder {
-    ghost use Rattle.std.specs.Prelude.{◌≡◌, ℕ, ◌≤◌, List, [], ◌∷◌, ◌++◌, Option, IsTrue, IfOk, OnErr};
+    ghost use Rattle.std.specs.Prelude.{◌≡◌, ◌≤◌, [], ◌∷◌, ◌++◌, IsTrue, IfOk, OnErr};
     ghost use Rattle.std.specs.List.{list_any};
-    ghost use Rattle.cds_base.specs.declared.outside.folder.Entry.{Entry};
     ghost use Rattle.cds_base.specs.Outside.{raised, Told};
-    ghost use Rattle.cds_base.specs.Entries.{Contents, OnEntry, IsNext, HasBytes, FailedRose, is_new, is_tree, is_file_at};
+    ghost use Rattle.cds_base.specs.Entries.{FolderTold, OnEntry, IsNext, HasBytes, FailedRose, is_new, is_tree, is_file_at};
 
     type File: Source;
 
-    // The entries of the whole tree in the order in which they are given, where the folder tells them.
-    ghost tree: { Self → Option (List Entry) };
+    // What it tells of itself.
+    ghost told: { Self → FolderTold };
 
-    // What its files hold, where the folder tells it.
-    ghost contents: { Self → Option Contents };
-
-    // The entries given since the tree began.
-    ghost given: { Self → List Entry };
-
-    // How many entries it gave so far, how many files it opened and how many came back.
-    ghost entries: { Self → ℕ };
-
-    ghost opened: { Self → ℕ };
-
-    ghost returned: { Self → ℕ };
-
-    // How many calls of `entry` failed so far.
-    ghost entry_faults: { Self → ℕ };
-
-    // How many opens and reads of files failed so far, the reads counted once the file is back.
-    ghost file_faults: { Self → ℕ };
-
-    /// The next entry of the tree. After its end or a refusal the tree begins anew. No path comes twice in a tree, and
-    /// at its end the parent of each is the root or came as a folder. `Failed` comes only where the count of faults
-    /// of entries rises.
+    /// Returns the next entry of the tree. After its end or a refusal the tree begins anew. No path comes twice in a tree. At the
+    /// end, the parent of each entry is the root or came as a folder. `Failed` comes only if the count of faults of entries
+    /// rises.
     fn entry(&mut self, alloc: Global) -> Result<Entry, FolderFault>
-        ensures next { IfOk result (λ e. Told (tree self.old) (λ t. IsNext t (given self.old) e)) }
-        ensures new { IfOk result (λ e. OnEntry e (IsTrue (is_new (given self.old) e)) (IsTrue (is_tree (given self.old)))) }
-        ensures given { IfOk result (λ e. OnEntry e (given self.new ≡ given self.old ++ e ∷ []) (given self.new ≡ [])) }
-        ensures anew { OnErr result (given self.new ≡ []) }
-        ensures count { IfOk result (λ e. OnEntry e (entries self.new ≡ raised (entries self.old) 1) (entries self.new ≡ entries self.old)) }
-        ensures count_stays { OnErr result (entries self.new ≡ entries self.old) }
-        ensures rose { FailedRose result (entry_faults self.old) (entry_faults self.new) }
-        ensures never_falls { entry_faults self.old ≤ entry_faults self.new }
-        ensures tree_stays { tree self.new ≡ tree self.old }
-        ensures contents_stay { contents self.new ≡ contents self.old }
-        ensures opened_stays { opened self.new ≡ opened self.old }
-        ensures returned_stays { returned self.new ≡ returned self.old }
-        ensures file_faults_stay { file_faults self.new ≡ file_faults self.old };
+        ensures next { IfOk result (λ e. Told (told self.old).tree (λ t. IsNext t (told self.old).given e)) }
+        ensures new { IfOk result (λ e. OnEntry e (IsTrue (is_new (told self.old).given e)) (IsTrue (is_tree (told self.old).given))) }
+        ensures given { IfOk result (λ e. OnEntry e ((told self.new).given ≡ (told self.old).given ++ e ∷ []) ((told self.new).given ≡ [])) }
+        ensures anew { OnErr result ((told self.new).given ≡ []) }
+        ensures count { IfOk result (λ e. OnEntry e ((told self.new).entries ≡ raised (told self.old).entries 1) ((told self.new).entries ≡ (told self.old).entries)) }
+        ensures count_stays { OnErr result ((told self.new).entries ≡ (told self.old).entries) }
+        ensures rose { FailedRose result (told self.old).entry_faults (told self.new).entry_faults }
+        ensures never_falls { (told self.old).entry_faults ≤ (told self.new).entry_faults }
+        ensures others_stay { told self.new ≡ record (told self.old) { given = (told self.new).given; entries = (told self.new).entries; entry_faults = (told self.new).entry_faults } };
 
-    /// Opens a file that was given since the tree began. `Failed` comes only where the count of faults of files rises.
+    /// Opens a file that was given since the tree began. `Failed` comes only if the count of faults of files rises.
     fn open(&mut self, alloc: Global, path: &str) -> Result<Self::File, FolderFault>
-        requires { IsTrue (list_any (is_file_at path.now) (given self.old)) }
-        ensures bytes { IfOk result (λ file. Told (contents self.old) (λ c. HasBytes (c path.now) (Self.File.left file))) }
-        ensures no_faults { IfOk result (λ file. Self.File.faults file ≡ 0) }
-        ensures unread { IfOk result (λ file. Self.File.moved file ≡ 0) }
-        ensures opened { IfOk result (λ _. opened self.new ≡ raised (opened self.old) 1) }
-        ensures opened_stays { OnErr result (opened self.new ≡ opened self.old) }
-        ensures rose { FailedRose result (file_faults self.old) (file_faults self.new) }
-        ensures never_falls { file_faults self.old ≤ file_faults self.new }
-        ensures tree_stays { tree self.new ≡ tree self.old }
-        ensures contents_stay { contents self.new ≡ contents self.old }
-        ensures given_stay { given self.new ≡ given self.old }
-        ensures entries_stay { entries self.new ≡ entries self.old }
-        ensures returned_stays { returned self.new ≡ returned self.old }
-        ensures entry_faults_stay { entry_faults self.new ≡ entry_faults self.old };
+        requires { IsTrue (list_any (is_file_at path.now) (told self.old).given) }
+        ensures bytes { IfOk result (λ file. Told (told self.old).contents (λ c. HasBytes (c path.now) (Self.File.told file).left)) }
+        ensures no_faults { IfOk result (λ file. (Self.File.told file).faults ≡ 0) }
+        ensures unread { IfOk result (λ file. (Self.File.told file).moved ≡ 0) }
+        ensures opened { IfOk result (λ _. told self.new ≡ record (told self.old) { opened = raised (told self.old).opened 1 }) }
+        ensures others_stay { OnErr result (told self.new ≡ record (told self.old) { file_faults = (told self.new).file_faults }) }
+        ensures rose { FailedRose result (told self.old).file_faults (told self.new).file_faults }
+        ensures never_falls { (told self.old).file_faults ≤ (told self.new).file_faults };
 
     /// Takes a file back, and adds its count of faults to that of the folder's files.
     fn done(&mut self, file: Self::File)
-        ensures returned { returned self.new ≡ raised (returned self.old) 1 }
-        ensures faults { file_faults self.new ≡ raised (file_faults self.old) (Self.File.faults file) }
-        ensures never_falls { file_faults self.old ≤ file_faults self.new }
-        ensures tree_stays { tree self.new ≡ tree self.old }
-        ensures contents_stay { contents self.new ≡ contents self.old }
-        ensures given_stay { given self.new ≡ given self.old }
-        ensures entries_stay { entries self.new ≡ entries self.old }
-        ensures opened_stays { opened self.new ≡ opened self.old }
-        ensures entry_faults_stay { entry_faults self.new ≡ entry_faults self.old };
+        ensures returned { told self.new ≡ record (told self.old) { returned = raised (told self.old).returned 1; file_faults = raised (told self.old).file_faults (Self.File.told file).faults } }
+        ensures never_falls { (told self.old).file_faults ≤ (told self.new).file_faults };
 
     /// Begins the tree anew. It takes no memory and has no fault.
     fn restart(&mut self)
-        ensures given { given self.new ≡ [] }
-        ensures tree_stays { tree self.new ≡ tree self.old }
-        ensures contents_stay { contents self.new ≡ contents self.old }
-        ensures entries_stay { entries self.new ≡ entries self.old }
-        ensures opened_stays { opened self.new ≡ opened self.old }
-        ensures returned_stays { returned self.new ≡ returned self.old }
-        ensures entry_faults_stay { entry_faults self.new ≡ entry_faults self.old }
-        ensures file_faults_stay { file_faults self.new ≡ file_faults self.old };
+        ensures { told self.new ≡ record (told self.old) { given = [] } };
 }

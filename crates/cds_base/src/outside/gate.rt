@@ -1,12 +1,14 @@
+//! Gates, at which a test can hold a worker.
+
 use crate::Mem;
 use std::alloc::Global;
 
-/// Where a worker may be held between two steps, so that a test can choose the order of threads.
+/// A point between two steps at which a worker may be held. A test can so choose the order of threads.
 pub trait Gate {
-    /// The worker comes to a point of its work. A gate of a test may hold it there for as long as it likes.
+    /// Tells that the worker comes to a point of its work. A gate of a test may hold it there for as long as it likes.
     fn pass(&mut self, point: u32);
 
-    /// The gate of the worker of this number, counted from 0.
+    /// Returns the gate of the worker of this number, counted from 0.
     fn again(&mut self, alloc: Global, worker: u32) -> Result<Self, Mem>;
 }
 

@@ -1,3 +1,5 @@
+//! The link of the outside, which sends requests and brings replies.
+
 use crate::{Bytes, Mem, Text};
 use std::alloc::Global;
 use std::convert::From;
@@ -38,8 +40,7 @@ impl From<Mem> for LinkFault {
     }
 }
 
-/// What a link sent: the bytes of a request, the address that they went to, and how many bytes of a reply were taken
-/// at most.
+/// What a link sent: the address, the bytes of the request, and the limit, in bytes, of its reply.
 #[derive(Drop, Debug)]
 pub struct LinkRequest {
     pub url: Text,
@@ -47,24 +48,17 @@ pub struct LinkRequest {
     pub limit: usize,
 }
 
-/// What sends a request to an address and brings the reply.
+/// Sends a request to an address and brings the reply.
 pub trait Link {
-    ghost use Rattle.std.specs.Prelude.{◌≡◌, ℕ, ◌≤◌, length, List, Option, Some, IfOk};
-    ghost use Rattle.cds_base.specs.declared.outside.link.LinkRequest.{LinkRequest};
+    ghost use Rattle.std.specs.Prelude.{◌≡◌, ◌≤◌, length, Some, IfOk};
     ghost use Rattle.cds_base.specs.Outside.{Told};
-    ghost use Rattle.cds_base.specs.Links.{IsFirstReply, LinkRose, PassesFirst, WhereOver, requests_after};
+    ghost use Rattle.cds_base.specs.Links.{IsFirstReply, LinkRose, LinkTold, PassesFirst, WhereOver, requests_after};
 
-    // The requests that it sent, in order, where the link tells them.
-    ghost requests: { Self → Option (List LinkRequest) };
+    // What it tells of itself.
+    ghost told: { Self → LinkTold };
 
-    // The replies that are left, the next one first, where the link tells them.
-    ghost replies: { Self → Option (List (List ℕ)) };
-
-    // How many calls failed so far, and how many replies were too long.
-    ghost faults: { Self → ℕ };
-
-    /// Sends the request to the address, and gives the reply's bytes, at most `limit`. `Over` comes exactly where so
-    /// many bytes came and one more. `Failed` and `Over` come only where the count of faults rises.
+    /// Sends the request to the address, and returns the reply's bytes, at most `limit`. `Over` comes exactly if `limit` bytes
+    /// came and one more. `Failed` and `Over` come only if the count of faults rises.
     fn exchange(
         &mut self,
         alloc: Global,
@@ -73,9 +67,9 @@ pub trait Link {
         limit: usize,
     ) -> Result<Vec<u8>, LinkFault>
         ensures within { IfOk result (λ reply. length reply.items ≤ limit) }
-        ensures reply { IfOk result (λ reply. Told (replies self.old) (λ list. IsFirstReply reply.items list (replies self.new))) }
-        ensures over { WhereOver result (Told (replies self.old) (λ list. PassesFirst limit list (replies self.new))) }
-        ensures requests { Told (requests self.old) (λ list. requests self.new ≡ Some (requests_after result (record { url = url.now; bytes = request.now; limit = limit }) list)) }
-        ensures rose { LinkRose result (faults self.old) (faults self.new) }
-        ensures never_falls { faults self.old ≤ faults self.new };
+        ensures reply { IfOk result (λ reply. Told (told self.old).replies (λ list. IsFirstReply reply.items list (told self.new).replies)) }
+        ensures over { WhereOver result (Told (told self.old).replies (λ list. PassesFirst limit list (told self.new).replies)) }
+        ensures requests { Told (told self.old).requests (λ list. (told self.new).requests ≡ Some (requests_after result (record { url = url.now; bytes = request.now; limit = limit }) list)) }
+        ensures rose { LinkRose result (told self.old).faults (told self.new).faults }
+        ensures never_falls { (told self.old).faults ≤ (told self.new).faults };
 }

@@ -1,9 +1,17 @@
+//! Jobs, and the spawner of the outside, which starts them.
+
 ghost use Rattle.std.specs.Prelude.{◌≡◌, IfSome};
 
 use crate::Failed;
-use std::marker::{Model, Send};
+use std::marker::{Model, Send, Sync};
 use std::snapshot::Snapshot;
+use std::sync::Wait;
 use std::thread::{Promise, PromisedHandle, SpawnError, Threads, spawn_with};
+
+/// What a program that starts threads asks of its runtime.
+pub trait Runtime: Threads + Wait + Clone + Drop + Send + Sync + 'static {}
+
+impl<R: Threads + Wait + Clone + Drop + Send + Sync + 'static> Runtime for R {}
 
 /// Work that is done once, in a thread of its own.
 pub trait Job: Send + Drop + 'static {
@@ -12,12 +20,12 @@ pub trait Job: Send + Drop + 'static {
     // What its answer may be.
     ghost answers: { Self → Self.Out → Type 0 };
 
-    /// Does the work, and gives its answer.
+    /// Does the work, and returns its answer.
     fn run(self) -> Self::Out
         ensures { answers self result };
 }
 
-/// What the answer of a started job keeps.
+/// The promise that the answer of a started job keeps.
 #[derive(Drop)]
 struct AnswerOf<J> {
     job: Snapshot<J>,
@@ -40,7 +48,7 @@ impl<J: Job> Model for Running<J> {
 }
 
 impl<J: Job> Running<J> {
-    /// The job's answer, once it has ended. It may wait for that.
+    /// Returns the job's answer, once it has ended. It may wait for that.
     pub fn join<R: Threads>(self, rt: &R) -> J::Out
         ensures { J.answers self result }
     {
@@ -48,8 +56,7 @@ impl<J: Job> Running<J> {
     }
 }
 
-/// Starts the job in a thread of its own. `None` comes where no thread can be made; the job is dropped then, and was
-/// not run.
+/// Starts the job in a thread of its own. If no thread can be made, `None` comes; the job is then dropped, and was not run.
 fn start_job<J: Job, R: Threads>(rt: &R, job: J) -> Option<Running<J>>
     ensures { IfSome result (λ running. running ≡ job) }
 {
@@ -62,7 +69,7 @@ fn start_job<J: Job, R: Threads>(rt: &R, job: J) -> Option<Running<J>>
     }
 }
 
-/// How an attempt to make a thread ended. Nothing but `Spawner::start` makes one.
+/// How an attempt to make a thread ended. Only `Spawner::start` makes one.
 #[derive(Drop, Debug)]
 pub struct Attempt {
     is_made: bool,
@@ -77,7 +84,7 @@ impl Model for Attempt {
 }
 
 impl Attempt {
-    /// Whether there is a thread, which runs the job.
+    /// Returns whether there is a thread, which runs the job.
     pub fn is_made(&self) -> bool
         ensures { result ≡ self.now }
     {
@@ -85,38 +92,36 @@ impl Attempt {
     }
 }
 
-/// What starts jobs. A spawner says whether the next job may be started, and counts how that ended; `start` is the
-/// same for all of them.
+/// Starts jobs. A spawner says whether the next job may be started, and counts how that ended. `start` is the same for all
+/// spawners.
 pub trait Spawner {
-    ghost use Rattle.std.specs.Prelude.{◌≡◌, ℕ, ◌≤◌, if◌then◌else◌, IfOk, IsFalse, OnErr};
+    ghost use Rattle.std.specs.Prelude.{◌≡◌, ◌≤◌, if◌then◌else◌, IfOk, IsFalse, OnErr};
     ghost use Rattle.cds_base.specs.Outside.{raised, Rose};
+    ghost use Rattle.cds_base.specs.Told.{SpawnerTold};
 
-    // How many jobs it started so far.
-    ghost started: { Self → ℕ };
+    // What it tells of itself.
+    ghost told: { Self → SpawnerTold };
 
-    // How many calls failed so far.
-    ghost faults: { Self → ℕ };
-
-    /// Whether the next job may be started. `Failed` comes only where the count of faults rises.
+    /// Returns `Ok` if the next job may be started. `Failed` comes only if the count of faults rises.
     fn may_start(&mut self) -> Result<(), Failed>
-        ensures started_stays { started self.new ≡ started self.old }
-        ensures rose { OnErr result (Rose (faults self.old) (faults self.new)) }
-        ensures never_falls { faults self.old ≤ faults self.new };
+        ensures started_stays { (told self.new).started ≡ (told self.old).started }
+        ensures rose { OnErr result (Rose (told self.old).faults (told self.new).faults) }
+        ensures never_falls { (told self.old).faults ≤ (told self.new).faults };
 
-    /// Counts a job that was started, or a fault where no thread could be made for it.
+    /// Counts a job that was started, or a fault if no thread could be made for it.
     fn count(&mut self, attempt: Attempt)
-        ensures started { started self.new ≡ (if attempt then raised (started self.old) 1 else started self.old) }
-        ensures rose { IsFalse attempt → Rose (faults self.old) (faults self.new) }
-        ensures never_falls { faults self.old ≤ faults self.new };
+        ensures started { (told self.new).started ≡ (if attempt then raised (told self.old).started 1 else (told self.old).started) }
+        ensures rose { IsFalse attempt → Rose (told self.old).faults (told self.new).faults }
+        ensures never_falls { (told self.old).faults ≤ (told self.new).faults };
 
-    /// Starts the job in a thread of its own. A refused job is dropped and was not run. `Failed` comes only where the
-    /// count of faults rises.
+    /// Starts the job in a thread of its own. A refused job is dropped and was not run. `Failed` comes only if the count of
+    /// faults rises.
     final fn start<J: Job, R: Threads>(&mut self, rt: &R, job: J) -> Result<Running<J>, Failed>
         ensures job { IfOk result (λ running. running ≡ job) }
-        ensures started { IfOk result (λ _. started self.new ≡ raised (started self.old) 1) }
-        ensures started_stays { OnErr result (started self.new ≡ started self.old) }
-        ensures rose { OnErr result (Rose (faults self.old) (faults self.new)) }
-        ensures never_falls { faults self.old ≤ faults self.new }
+        ensures started { IfOk result (λ _. (told self.new).started ≡ raised (told self.old).started 1) }
+        ensures started_stays { OnErr result ((told self.new).started ≡ (told self.old).started) }
+        ensures rose { OnErr result (Rose (told self.old).faults (told self.new).faults) }
+        ensures never_falls { (told self.old).faults ≤ (told self.new).faults }
     {
         self.may_start()?;
         match start_job(rt, job) {

@@ -1,9 +1,11 @@
+//! Lists that only contracts see.
+
 ghost use Rattle.std.specs.Prelude.{◌≡◌, [], ◌∷◌, ◌++◌};
 
 use std::marker::Model;
 use std::snapshot::Snapshot;
 
-/// A list that only contracts see: it takes no memory, whatever is added.
+/// A list that only contracts see. It takes no memory, whatever is added.
 #[derive(Drop)]
 pub struct Trace<T> {
     steps: Option<Snapshot<Step<T>>>,
@@ -40,7 +42,7 @@ impl<T> Model for Step<T> {
 }
 
 impl<T> Trace<T> {
-    /// The empty list.
+    /// Makes the empty list.
     pub fn new() -> Self
         ensures { result ≡ [] }
     {

@@ -1,11 +1,11 @@
-//! Bytes that are escaped where they are put, with no copy of them between.
+//! Bytes that are escaped while they are appended, without a copy between.
 
 ghost use Rattle.std.specs.Prelude.{◌≡◌, ◌+◌, ◌++◌, ◌≤◌, ◌∷◌, [], length, vec_len, vec_capacity, IfOk, MatchOption};
 ghost use Rattle.cds_base.specs.Escape.{escaped, escaped_byte};
 
 use crate::Mem;
 
-/// What stands for a byte that cannot stand for itself.
+/// Returns what stands for a byte that cannot stand for itself.
 fn replacement(byte: u8) -> Option<&'static [u8]>
     ensures { MatchOption result (escaped_byte byte ≡ byte ∷ []) (λ text. text.now ≡ escaped_byte byte) }
 {
@@ -22,7 +22,7 @@ fn replacement(byte: u8) -> Option<&'static [u8]>
     }
 }
 
-/// How many more bytes than one stand for a byte.
+/// Returns the length of what stands for a byte, less 1.
 fn escaped_more(byte: u8) -> usize
     ensures size { 1 + result ≡ length (escaped_byte byte) }
     ensures most { result ≤ 5 }
@@ -35,7 +35,8 @@ fn escaped_more(byte: u8) -> usize
     }
 }
 
-/// How many bytes a text is escaped (XML 1.0). `Mem` where it is longer than a sixth of what memory can hold.
+/// Returns how many bytes a text has when it is escaped (XML 1.0). `Mem` comes if the text is longer than a sixth of
+/// `usize::MAX`.
 pub fn escaped_length(text: &[u8]) -> Result<usize, Mem>
     ensures { IfOk result (λ size. size ≡ length (escaped text.now)) }
 {
@@ -51,7 +52,7 @@ pub fn escaped_length(text: &[u8]) -> Result<usize, Mem>
     Ok(text.len() + more)
 }
 
-/// Puts some bytes at the end, where there is room for them.
+/// Appends some bytes. There must be room for them.
 fn put_reserved(bytes: &[u8], out: &mut Vec<u8>)
     requires room { vec_len out.old + length bytes.now ≤ vec_capacity out.old }
     ensures items { out.new.items ≡ out.old.items ++ bytes.now }
@@ -62,7 +63,7 @@ fn put_reserved(bytes: &[u8], out: &mut Vec<u8>)
     }
 }
 
-/// Puts what stands for a byte at the end, where there is room for it.
+/// Appends what stands for a byte. There must be room for it.
 fn put_byte(byte: u8, out: &mut Vec<u8>)
     requires room { vec_len out.old + length (escaped_byte byte) ≤ vec_capacity out.old }
     ensures items { out.new.items ≡ out.old.items ++ escaped_byte byte }
@@ -74,7 +75,7 @@ fn put_byte(byte: u8, out: &mut Vec<u8>)
     }
 }
 
-/// Puts a text at the end, escaped (XML 1.0), where there is room for it.
+/// Appends a text, escaped (XML 1.0). There must be room for it.
 pub fn put_escaped(text: &[u8], out: &mut Vec<u8>)
     requires room { vec_len out.old + length (escaped text.now) ≤ vec_capacity out.old }
     ensures items { out.new.items ≡ out.old.items ++ escaped text.now }

@@ -1,3 +1,5 @@
+//! Escaping of texts.
+
 ghost use Rattle.std.specs.Prelude.{◌≡◌, ◌++◌, ◌<◌, MatchOption, OnOk, OnErr, string_bytes, encode_utf8};
 ghost use Rattle.cds_base.specs.Escape.{escaped, escaped_byte};
 
@@ -27,7 +29,7 @@ fn push_escaped(built: &mut String, c: char) -> Result<(), Mem>
     Ok(())
 }
 
-/// What stands for a character that cannot stand for itself.
+/// Returns what stands for a character that cannot stand for itself.
 fn replacement(c: char) -> Option<&'static str>
     ensures { MatchOption result (escaped (encode_utf8 c) ≡ encode_utf8 c) (λ text. text.now ≡ escaped (encode_utf8 c)) }
 {

@@ -1,8 +1,10 @@
+//! Reading of numbers in digits.
+
 ghost use Rattle.std.specs.Prelude.{◌≡◌, ◌≤◌, ◌^◌};
 ghost use Rattle.cds_base.specs.Number.{number_in_below, number_below, plain_below, has_leading_zero};
 
-/// The value of a run of ASCII digits, leading zeros accepted. `None` exactly where a byte is no digit, there is none,
-/// or the value passes `u32::MAX`.
+/// Returns the value of a run of ASCII digits; leading zeros are accepted. `None` comes exactly if there is no byte, if a byte is
+/// no digit, or if the value is above `u32::MAX`.
 pub fn read_u32(digits: &[u8]) -> Option<u32>
     ensures { result ≡ number_below (2 ^ 32) digits.now }
 {
@@ -12,15 +14,15 @@ pub fn read_u32(digits: &[u8]) -> Option<u32>
     }
 }
 
-/// The value of a run of ASCII digits, leading zeros accepted. `None` exactly where a byte is no digit, there is none,
-/// or the value passes `u64::MAX`.
+/// Returns the value of a run of ASCII digits; leading zeros are accepted. `None` comes exactly if there is no byte, if a byte is
+/// no digit, or if the value is above `u64::MAX`.
 pub fn read_u64(digits: &[u8]) -> Option<u64>
     ensures { result ≡ number_below (2 ^ 64) digits.now }
 {
     read_digits(10, digits)
 }
 
-/// The value of a number in plain decimal: ASCII digits without a sign or a leading zero, below 2^64.
+/// Returns the value of a number in plain decimal: ASCII digits without a sign or a leading zero, below 2^64.
 pub fn read_plain(digits: &[u8]) -> Option<u64>
     ensures { result ≡ plain_below (2 ^ 64) digits.now }
 {
@@ -37,7 +39,7 @@ fn begins_with_zero(digits: &[u8]) -> bool
     digits.len() > 1 && digits[0] == b'0'
 }
 
-/// The value of a run of ASCII digits to a base, leading zeros accepted, below 2^64. Letters may be of either case.
+/// Returns the value of a run of ASCII digits to a base, below 2^64; leading zeros are accepted. Letters may be of either case.
 pub(crate) fn read_digits(base: u32, digits: &[u8]) -> Option<u64>
     requires low { 2 ≤ base }
     requires high { base ≤ 36 }

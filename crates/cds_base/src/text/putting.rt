@@ -1,11 +1,11 @@
-//! Pieces put at the end of a text that is written. A refusal leaves the text as it was.
+//! Appending pieces to a text. A refusal leaves the text as it was.
 
 ghost use Rattle.std.specs.Prelude.{◌≡◌, ◌++◌, OnErr, OnOk, string_bytes};
 ghost use Rattle.std.specs.Fmt.{decimal};
 
 use crate::Mem;
 
-/// Puts a text at the end. A refusal leaves `out` as it was.
+/// Appends a text. A refusal leaves `out` as it was.
 pub fn put(out: &mut String, text: &str) -> Result<(), Mem>
     ensures ok { OnOk result (string_bytes out.new ≡ string_bytes out.old ++ text.now) }
     ensures err { OnErr result (string_bytes out.new ≡ string_bytes out.old) }
@@ -14,7 +14,7 @@ pub fn put(out: &mut String, text: &str) -> Result<(), Mem>
     Ok(())
 }
 
-/// Puts a number at the end in decimal. A refusal leaves `out` as it was.
+/// Appends a number in decimal. A refusal leaves `out` as it was.
 pub fn put_number(out: &mut String, number: u64) -> Result<(), Mem>
     ensures ok { OnOk result (string_bytes out.new ≡ string_bytes out.old ++ decimal number) }
     ensures err { OnErr result (string_bytes out.new ≡ string_bytes out.old) }

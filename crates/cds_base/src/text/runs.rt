@@ -8,27 +8,27 @@ ghost use Rattle.cds_base.specs.Runs.{stands_for_itself, letters_run_of, first_s
 
 use std::simd::prelude::*;
 
-/// How many bytes are looked at at once.
+/// The number of bytes that are looked at together.
 const LANES: usize = 32;
 
-/// The length of the longest front part without a byte that `escape` replaces.
+/// Returns the length of the longest prefix without a byte that `escape` replaces.
 pub fn plain_run(bytes: &[u8]) -> usize
     ensures { result ≡ plain_run_of bytes.now }
 {
     run::<Plain>(bytes)
 }
 
-/// The length of the longest front part of bytes that stand for themselves wherever letters stand in a document: ASCII
-/// from the space on without the characters of markup, `&`, `<`, `>`, the quotes, `]` and `-` (XML 1.0 on character
-/// data, attribute values, comments and sections).
+/// Returns the length of the longest prefix of bytes that stand for themselves wherever letters stand in a document. They are
+/// ASCII from the space on without the characters of markup, `&`, `<`, `>`, the quotes, `]` and `-` (XML 1.0 on character data,
+/// attribute values, comments and sections).
 pub fn letters_run(bytes: &[u8]) -> usize
     ensures { result ≡ letters_run_of bytes.now }
 {
     run::<Letters>(bytes)
 }
 
-/// The place of the first byte below 0x20 other than a tab, line feed or carriage return, `None` exactly where there
-/// is none. No document may have such a byte (XML 1.0 on characters).
+/// Returns the place of the first byte below 0x20 other than a tab, line feed or carriage return, and `None` exactly if there is
+/// none. No document may have such a byte (XML 1.0 on characters).
 pub fn first_forbidden(bytes: &[u8]) -> Option<usize>
     ensures { result ≡ position is_forbidden bytes.now }
 {
@@ -43,12 +43,12 @@ trait Class {
     fn has(byte: u8) -> bool
         ensures { result ≡ is_in byte };
 
-    /// How many of these bytes stand before the first that is not in it.
+    /// Returns how many of these bytes stand before the first that is not in the class.
     fn front(lanes: u8x32) -> usize
         ensures { result ≡ prefix_len is_in lanes };
 }
 
-/// The length of the longest front part of bytes of a class.
+/// Returns the length of the longest prefix of bytes of a class.
 #[tactic(auto, using(crate::proofs::Lanes::loaded))]
 fn run<C: Class>(bytes: &[u8]) -> usize
     ensures { result ≡ prefix_len C.is_in bytes.now }
@@ -65,7 +65,7 @@ fn run<C: Class>(bytes: &[u8]) -> usize
     at + short_run::<C>(left)
 }
 
-/// The same, a byte at a time.
+/// Returns the same, looking at one byte at a time.
 fn short_run<C: Class>(bytes: &[u8]) -> usize
     ensures value { result ≡ prefix_len C.is_in bytes.now }
     ensures bound { result ≤ length bytes.now }
@@ -123,7 +123,7 @@ impl Class for Letters {
     }
 }
 
-/// The place of the lowest bit that is set, `LANES` where none is.
+/// Returns the place of the lowest bit that is set, and `LANES` if none is.
 fn first_set(bits: u64) -> usize
     ensures { result ≡ first_set bits }
 {

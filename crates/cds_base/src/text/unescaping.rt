@@ -1,3 +1,5 @@
+//! Reading of texts with references.
+
 ghost use Rattle.std.specs.Prelude.{◌≡◌, ◌++◌, ◌∷◌, ◌<◌, ◌≤◌, ⊤, length, List, ℕ, IfOk, IfErr, MatchOption, MatchResult, string_bytes};
 ghost use Rattle.std.specs.Option.{option_and_then};
 ghost use Rattle.cds_base.specs.Escape.{escaped};
@@ -18,7 +20,7 @@ use std::fmt;
 pub enum TextError {
     /// The `&` at the place begins no reference to an allowed character.
     BadReference { at: usize },
-    /// The character at the place is `<`, or none that a document may have.
+    /// The character at the place is `<`, or one that a document may not have.
     BadCharacter { at: usize },
     /// Memory ran out.
     Mem,
@@ -46,10 +48,10 @@ impl From<AllocError> for TextError {
     }
 }
 
-/// The text with each reference replaced by the character that it names: `&amp;`, `&lt;`, `&gt;`, `&quot;`, `&apos;`,
-/// `&#` decimal digits `;` and `&#x` hexadecimal digits `;`, all to characters that a document may have (XML 1.0).
-/// The first `&` that begins no such reference is a `BadReference`, the first `<` or other character that no document
-/// may have a `BadCharacter`; the earlier of them decides.
+/// Returns the text with each reference replaced by the character that it names. References are `&amp;`, `&lt;`, `&gt;`,
+/// `&quot;`, `&apos;`, `&#` decimal digits `;` and `&#x` hexadecimal digits `;`. All name characters that a document may have
+/// (XML 1.0). The first `&` that begins no such reference is a `BadReference`. The first `<`, or other character that no document
+/// may have, is a `BadCharacter`. The earlier of the two decides.
 pub fn unescape(alloc: Global, text: &str) -> Result<String, TextError>
     ensures read { IfOk result (λ value. Says text.now (string_bytes value)) }
     ensures refused { IfErr result (IsFault text.now) }
@@ -73,7 +75,7 @@ pub fn unescape(alloc: Global, text: &str) -> Result<String, TextError>
     Ok(read)
 }
 
-/// What the first piece of the text says, and what follows it. The text stands at the place `at`.
+/// Returns what the first piece of the text says, and what follows it. The text stands at the place `at`.
 fn first_piece(text: &str, at: usize) -> Result<(char, &str), TextError>
     requires { 0 < length text.now }
     ensures ok { IfOk result (λ read. (written : List ℕ) × (text.now ≡ written ++ read.1.now) × IsPiece (record { written = written; says = read.0 })) }
@@ -90,7 +92,7 @@ fn first_piece(text: &str, at: usize) -> Result<(char, &str), TextError>
     }
 }
 
-/// What the reference says whose `&` is before the text, and what follows its `;`.
+/// Returns what a reference says, and what follows its `;`. Its `&` is before the text.
 fn reference(text: &str) -> Option<(char, &str)>
     ensures { MatchOption result (BeginsNoReference (38 ∷ text.now))
         (λ read. (written : List ℕ) × (38 ∷ text.now ≡ written ++ read.1.now) × IsReference written read.0) }
@@ -100,7 +102,7 @@ fn reference(text: &str) -> Option<(char, &str)>
     Some((says, after))
 }
 
-/// The allowed character that stands between `&` and `;`.
+/// Returns the allowed character that stands between `&` and `;`.
 fn named(name: &str) -> Option<char>
     ensures { result ≡ named name.now }
 {
@@ -114,7 +116,7 @@ fn named(name: &str) -> Option<char>
     }
 }
 
-/// The allowed character whose number stands behind a `#`.
+/// Returns the allowed character whose number stands after a `#`.
 fn numbered(name: &[u8]) -> Option<char>
     ensures { result ≡ option_and_then where_allowed (numbered name.now) }
 {
@@ -125,7 +127,7 @@ fn numbered(name: &[u8]) -> Option<char>
     }
 }
 
-/// The allowed character whose number the digits are, to this base.
+/// Returns the allowed character whose number the digits are, to this base.
 #[tactic(auto, using(crate::proofs::References::allowed_below))]
 fn allowed_in(base: u32, digits: &[u8]) -> Option<char>
     requires low { 2 ≤ base }
@@ -138,7 +140,7 @@ fn allowed_in(base: u32, digits: &[u8]) -> Option<char>
     }
 }
 
-/// The allowed character with this number.
+/// Returns the allowed character with this number.
 fn allowed(number: u64) -> Option<char>
     ensures { result ≡ where_allowed number }
 {
@@ -147,7 +149,7 @@ fn allowed(number: u64) -> Option<char>
     if is_allowed(c) { Some(c) } else { None }
 }
 
-/// Whether a document may have the character (XML 1.0 on characters).
+/// Returns whether a document may have the character (XML 1.0 on characters).
 pub fn is_allowed(c: char) -> bool
     ensures { result ≡ is_allowed c }
 {

@@ -6,8 +6,8 @@ use Rattle.cds_base.proofs.outside.write_all.Given as goal
 abbrev pub invariant-loop-at : goal.invariant-loop-at
 invariant-loop-at g l =
     (l.at ≤ length l.piece)
-    × Told (g.K.Sink.holds l.initial.sink) (λ bytes. g.K.Sink.holds l.sink ≡ Some (bytes ++ take l.at l.piece))
-    × (g.K.Sink.faults l.initial.sink ≤ g.K.Sink.faults l.sink)
+    × Told (g.K.Sink.told l.initial.sink).holds (λ bytes. (g.K.Sink.told l.sink).holds ≡ Some (bytes ++ take l.at l.piece))
+    × ((g.K.Sink.told l.initial.sink).faults ≤ (g.K.Sink.told l.sink).faults)
 
 abbrev pub decreases-loop-at : goal.decreases-loop-at
 decreases-loop-at g l = length l.piece - l.at

@@ -8,13 +8,13 @@ abbrev pub invariant-loop-found : goal.invariant-loop-found
 invariant-loop-found g l =
     (l.place ≤ 67108868)
     × (42 ≤ l.place)
-    × (g.S.Source.moved l.source ≤ g.S.Source.moved l.initial.source + (l.place - 42))
-    × Told (g.S.Source.left l.initial.source) (λ bytes.
+    × ((g.S.Source.told l.source).moved ≤ (g.S.Source.told l.initial.source).moved + (l.place - 42))
+    × Told (g.S.Source.told l.initial.source).left (λ bytes.
     (fewer : ℕ) × (rest : List ℕ)
-    × (g.S.Source.left l.source ≡ Some rest)
+    × ((g.S.Source.told l.source).left ≡ Some rest)
     × (67108868 < fewer + l.place)
     × (further_blocks false 42 bytes ≡ blocks_from fewer l.found l.place rest))
-    × (g.S.Source.faults l.initial.source ≤ g.S.Source.faults l.source)
+    × ((g.S.Source.told l.initial.source).faults ≤ (g.S.Source.told l.source).faults)
 
 abbrev pub decreases-loop-found : goal.decreases-loop-found
 decreases-loop-found g l = 67108868 - l.place

@@ -9,12 +9,12 @@ abbrev pub invariant-loop-more : goal.invariant-loop-more
 invariant-loop-more g l =
     (l.place ≤ l.end)
     × (l.at ≤ l.place)
-    × (g.S.Source.moved l.source ≤ g.S.Source.moved l.initial.source + (l.place - l.at))
-    × Told (g.S.Source.left l.initial.source) (λ bytes.
+    × ((g.S.Source.told l.source).moved ≤ (g.S.Source.told l.initial.source).moved + (l.place - l.at))
+    × Told (g.S.Source.told l.initial.source).left (λ bytes.
     (rest : List ℕ)
-    × (g.S.Source.left l.source ≡ Some rest)
+    × ((g.S.Source.told l.source).left ≡ Some rest)
     × (comments_from l.count l.at l.end bytes ≡ with_front l.comments (comments_from l.more l.place l.end rest)))
-    × (g.S.Source.faults l.initial.source ≤ g.S.Source.faults l.source)
+    × ((g.S.Source.told l.initial.source).faults ≤ (g.S.Source.told l.source).faults)
 
 abbrev pub decreases-loop-more : goal.decreases-loop-more
 decreases-loop-more g l = l.more

@@ -6,12 +6,12 @@ use Rattle.cds_flac.proofs.input.read_text.Given as goal
 abbrev pub invariant-loop-piece : goal.invariant-loop-piece
 invariant-loop-piece g l =
     (length l.text ≤ l.n)
-    × Told (g.S.Source.left l.initial.source) (λ bytes.
+    × Told (g.S.Source.told l.initial.source).left (λ bytes.
     (length l.text ≤ length bytes)
     × (l.text ≡ take (length l.text) bytes)
-    × (g.S.Source.left l.source ≡ Some (drop (length l.text) bytes)))
-    × (g.S.Source.faults l.initial.source ≤ g.S.Source.faults l.source)
-    × (g.S.Source.moved l.source ≤ g.S.Source.moved l.initial.source + length l.text)
+    × ((g.S.Source.told l.source).left ≡ Some (drop (length l.text) bytes)))
+    × ((g.S.Source.told l.initial.source).faults ≤ (g.S.Source.told l.source).faults)
+    × ((g.S.Source.told l.source).moved ≤ (g.S.Source.told l.initial.source).moved + length l.text)
 
 abbrev pub decreases-loop-piece : goal.decreases-loop-piece
 decreases-loop-piece g l = l.n - length l.text

@@ -12,7 +12,7 @@ loop-script-init g c = (
   omega arith,
   λ n.
       let none : n ≡ (left_in c.args.script.now - left_in c.args.script.now) + n = omega arith in
-      ap (raised (g.S.Source.moved c.args.source.now)) none,
+      ap (raised (g.S.Source.told c.args.source.now).moved) none,
   λ bytes goes told. under-begin (g.W.Wire.carried c.args.wire.now) c.args.script.now _ _ bytes goes told,
   omega arith,
   omega arith,
@@ -31,9 +31,9 @@ loop-script-preserved g c =
           let more : (left_in c.args.script.now - left_in c.loop-script.script) + (c.in-Ok.count + n) ≡ (left_in c.args.script.now - left_in c.take_piece.new.script) + n =
           omega (arith, kept.1, left, size) in
           ap (λ m. raised m n) c.in-Ok.ensures.count
-          ∙ raised-twice (g.S.Source.moved c.loop-script.source) c.in-Ok.count n
+          ∙ raised-twice (g.S.Source.told c.loop-script.source).moved c.in-Ok.count n
           ∙ kept.2 (c.in-Ok.count + n)
-          ∙ ap (raised (g.S.Source.moved c.args.source.now)) more,
+          ∙ ap (raised (g.S.Source.told c.args.source.now).moved) more,
       λ bytes goes told.
           let under = kept.3 bytes goes told in
           under-piece (g.W.Wire.carried c.args.wire.now) bytes _ _ _ _ _ c.loop-script.script c.take_piece.new.script c.split_at.result.0.now c.in-Ok.count under

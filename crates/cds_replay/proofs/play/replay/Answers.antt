@@ -6,37 +6,37 @@ use Rattle.cds_replay.proofs.play.replay.Goals as goal
 
 pub returns-clause-ok_status : goal.returns-clause-ok_status
 returns-clause-ok_status g c =
-    ok-status c.straight_reports_are_the_scripts.ensures (λ bytes. bytes) (λ bytes. refl) (g.S.Source.left c.args.source.now) (g.K.Sink.holds c.args.sink.now) (g.K.Sink.holds c.replay_by.new.sink)
+    ok-status c.straight_reports_are_the_scripts.ensures (λ bytes. bytes) (λ bytes. refl) (g.S.Source.told c.args.source.now).left (g.K.Sink.told c.args.sink.now).holds (g.K.Sink.told c.replay_by.new.sink).holds
     c.replay_by.result c.replay_by.ensures.ok
 
 pub returns-clause-ok_report : goal.returns-clause-ok_report
 returns-clause-ok_report g c =
-    ok-report c.straight_reports_are_the_scripts.ensures (λ bytes. bytes) (λ bytes. refl) (g.S.Source.left c.args.source.now) (g.K.Sink.holds c.args.sink.now) (g.K.Sink.holds c.replay_by.new.sink)
+    ok-report c.straight_reports_are_the_scripts.ensures (λ bytes. bytes) (λ bytes. refl) (g.S.Source.told c.args.source.now).left (g.K.Sink.told c.args.sink.now).holds (g.K.Sink.told c.replay_by.new.sink).holds
     c.replay_by.result c.replay_by.ensures.ok
 
 pub returns-clause-line_status : goal.returns-clause-line_status
 returns-clause-line_status g c =
-    line-status c.straight_reports_are_the_scripts.ensures (λ bytes. bytes) (λ bytes. refl) (g.S.Source.left c.args.source.now) (g.K.Sink.holds c.args.sink.now) (g.K.Sink.holds c.replay_by.new.sink)
+    line-status c.straight_reports_are_the_scripts.ensures (λ bytes. bytes) (λ bytes. refl) (g.S.Source.told c.args.source.now).left (g.K.Sink.told c.args.sink.now).holds (g.K.Sink.told c.replay_by.new.sink).holds
     c.replay_by.result c.replay_by.ensures.line_report
 
 pub returns-clause-line_report : goal.returns-clause-line_report
 returns-clause-line_report g c =
-    line-report c.straight_reports_are_the_scripts.ensures (λ bytes. bytes) (λ bytes. refl) (g.S.Source.left c.args.source.now) (g.K.Sink.holds c.args.sink.now) (g.K.Sink.holds c.replay_by.new.sink)
+    line-report c.straight_reports_are_the_scripts.ensures (λ bytes. bytes) (λ bytes. refl) (g.S.Source.told c.args.source.now).left (g.K.Sink.told c.args.sink.now).holds (g.K.Sink.told c.replay_by.new.sink).holds
     c.replay_by.result c.replay_by.ensures.line_report
 
 pub returns-clause-line_number : goal.returns-clause-line_number
 returns-clause-line_number g c =
-    line-number c.straight_reports_are_the_scripts.ensures (λ bytes. bytes) (λ bytes. refl) (g.S.Source.left c.args.source.now) (g.K.Sink.holds c.args.sink.now) (g.K.Sink.holds c.replay_by.new.sink)
+    line-number c.straight_reports_are_the_scripts.ensures (λ bytes. bytes) (λ bytes. refl) (g.S.Source.told c.args.source.now).left (g.K.Sink.told c.args.sink.now).holds (g.K.Sink.told c.replay_by.new.sink).holds
     c.replay_by.result c.replay_by.ensures.line_number
 
 pub returns-clause-limit_status : goal.returns-clause-limit_status
 returns-clause-limit_status g c =
-    limit-status c.straight_reports_are_the_scripts.ensures (λ bytes. bytes) (λ bytes. refl) (g.S.Source.left c.args.source.now) (g.K.Sink.holds c.args.sink.now) (g.K.Sink.holds c.replay_by.new.sink)
+    limit-status c.straight_reports_are_the_scripts.ensures (λ bytes. bytes) (λ bytes. refl) (g.S.Source.told c.args.source.now).left (g.K.Sink.told c.args.sink.now).holds (g.K.Sink.told c.replay_by.new.sink).holds
     c.replay_by.result c.replay_by.ensures.limit_report
 
 pub returns-clause-limit_report : goal.returns-clause-limit_report
 returns-clause-limit_report g c =
-    limit-report c.straight_reports_are_the_scripts.ensures (λ bytes. bytes) (λ bytes. refl) (g.S.Source.left c.args.source.now) (g.K.Sink.holds c.args.sink.now) (g.K.Sink.holds c.replay_by.new.sink)
+    limit-report c.straight_reports_are_the_scripts.ensures (λ bytes. bytes) (λ bytes. refl) (g.S.Source.told c.args.source.now).left (g.K.Sink.told c.args.sink.now).holds (g.K.Sink.told c.replay_by.new.sink).holds
     c.replay_by.result c.replay_by.ensures.limit_report
 
 pub returns-clause-never_refused : goal.returns-clause-never_refused

@@ -16,7 +16,7 @@ pub returns-clause-ok : goal.returns-clause-ok
 returns-clause-ok g c =
     ok-told c.play_on.result _ _
     (λ bytes told.
-    on_ok_weaker c.play_on.result (reported (g.W.Wire.carried c.args.wire.now) bytes None 0 [] (g.K.Sink.holds c.args.sink.now) (g.K.Sink.holds c.play_on.new.sink))
+    on_ok_weaker c.play_on.result (reported (g.W.Wire.carried c.args.wire.now) bytes None 0 [] (g.K.Sink.told c.args.sink.now).holds (g.K.Sink.told c.play_on.new.sink).holds)
     (c.play_on.ensures.well bytes (c.in_ok-script.ensures.goes (g.W.Wire.carried c.args.wire.now)) told))
 
 pub returns-clause-ok_end : goal.returns-clause-ok_end
@@ -28,29 +28,29 @@ pub returns-clause-line_report : goal.returns-clause-line_report
 returns-clause-line_report g c =
     line-told (g.W.Wire.carried c.args.wire.now) c.play_on.result _ _ _ _
     (λ bytes told. c.play_on.ensures.stops bytes (c.in_ok-script.ensures.goes (g.W.Wire.carried c.args.wire.now)) told)
-    (λ line bytes stops. reported (g.W.Wire.carried c.args.wire.now) bytes None 1 (stop_text (Outside line)) (g.K.Sink.holds c.args.sink.now) (g.K.Sink.holds c.play_on.new.sink) stops)
+    (λ line bytes stops. reported (g.W.Wire.carried c.args.wire.now) bytes None 1 (stop_text (Outside line)) (g.K.Sink.told c.args.sink.now).holds (g.K.Sink.told c.play_on.new.sink).holds stops)
 
 pub returns-clause-line_number : goal.returns-clause-line_number
 returns-clause-line_number g c =
     line-told (g.W.Wire.carried c.args.wire.now) c.play_on.result _ _ _ _
     (λ bytes told. c.play_on.ensures.stops bytes (c.in_ok-script.ensures.goes (g.W.Wire.carried c.args.wire.now)) told)
-    (λ line bytes stops. ends-with (g.W.Wire.carried c.args.wire.now) bytes None 1 (stop_text (Outside line)) (g.K.Sink.holds c.args.sink.now) (g.K.Sink.holds c.play_on.new.sink) stops)
+    (λ line bytes stops. ends-with (g.W.Wire.carried c.args.wire.now) bytes None 1 (stop_text (Outside line)) (g.K.Sink.told c.args.sink.now).holds (g.K.Sink.told c.play_on.new.sink).holds stops)
 
 pub returns-clause-limit_report : goal.returns-clause-limit_report
 returns-clause-limit_report g c =
     limit-told (g.W.Wire.carried c.args.wire.now) c.play_on.result _ _ _ _
     (λ bytes told. c.play_on.ensures.stops bytes (c.in_ok-script.ensures.goes (g.W.Wire.carried c.args.wire.now)) told)
-    (λ bytes stops. reported (g.W.Wire.carried c.args.wire.now) bytes None 6 (stop_text PastLimit) (g.K.Sink.holds c.args.sink.now) (g.K.Sink.holds c.play_on.new.sink) stops)
+    (λ bytes stops. reported (g.W.Wire.carried c.args.wire.now) bytes None 6 (stop_text PastLimit) (g.K.Sink.told c.args.sink.now).holds (g.K.Sink.told c.play_on.new.sink).holds stops)
 
 pub returns-clause-refused_report : goal.returns-clause-refused_report
 returns-clause-refused_report g c =
     refused-told (g.W.Wire.carried c.args.wire.now) c.play_on.result _ _ _ _
     (λ bytes told. c.play_on.ensures.stops bytes (c.in_ok-script.ensures.goes (g.W.Wire.carried c.args.wire.now)) told)
-    (λ line bytes stops. reported (g.W.Wire.carried c.args.wire.now) bytes (Some line) 0 (stop_text (RefusedAt line)) (g.K.Sink.holds c.args.sink.now) (g.K.Sink.holds c.play_on.new.sink) stops)
+    (λ line bytes stops. reported (g.W.Wire.carried c.args.wire.now) bytes (Some line) 0 (stop_text (RefusedAt line)) (g.K.Sink.told c.args.sink.now).holds (g.K.Sink.told c.play_on.new.sink).holds stops)
 
 pub returns-clause-limit_moved : goal.returns-clause-limit_moved
 returns-clause-limit_moved g c =
-    subst (λ n. IfErr c.play_on.result (λ e. OnLimit e (raised (g.S.Source.moved c.args.source.now) (n + line_limit + 1 - script_limit) ≤ g.S.Source.moved c.play_on.new.source)))
+    subst (λ n. IfErr c.play_on.result (λ e. OnLimit e (raised (g.S.Source.told c.args.source.now).moved (n + line_limit + 1 - script_limit) ≤ (g.S.Source.told c.play_on.new.source).moved)))
     c.in_ok-script.ensures.left c.play_on.ensures.limit
 
 pub returns-clause-asks : goal.returns-clause-asks

@@ -15,7 +15,7 @@ returns-clause-goes g c = λ before written goes.
     record {
       added = went.added;
       goes = went.goes;
-      holds = subst (λ text. Holds (g.K.Sink.holds c.args.sink.now) text (g.K.Sink.holds c.write_out.new.sink))
+      holds = subst (λ text. Holds (g.K.Sink.told c.args.sink.now).holds text (g.K.Sink.told c.write_out.new.sink).holds)
           (c.as_bytes.ensures.value ∙ went.out ∙ ap (λ text. text ++ went.added) c.new-out.ensures.bytes)
           (c.write_out.ensures.held is);
     })

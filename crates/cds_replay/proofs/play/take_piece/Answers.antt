@@ -52,7 +52,7 @@ returns-in_err-take_line-clause-stops g c = λ before written more goes.
     rw (error.1, error.2)
     (played-stops c.in_err-take_line.field-0.0 (g.W.Wire.carried c.args.wire.now) before written front ((line ++ 10 ∷ []) ++ (after ++ more)) ((before ++ c.args.piece.now) ++ more) _ _ _ c.loop-line.script
     (sym (append_assoc (before ++ front) (line ++ 10 ∷ []) (after ++ more)) ∙ cut) played
-    (subst (λ bytes. Stopped (g.W.Wire.carried c.args.wire.now) c.in_err-take_line.field-0.0 bytes (written ++ played.added) (g.K.Sink.holds c.loop-line.sink) (g.K.Sink.holds c.take_line.new.sink))
+    (subst (λ bytes. Stopped (g.W.Wire.carried c.args.wire.now) c.in_err-take_line.field-0.0 bytes (written ++ played.added) (g.K.Sink.told c.loop-line.sink).holds (g.K.Sink.told c.take_line.new.sink).holds)
     (append_assoc (before ++ front) (line ++ 10 ∷ []) (after ++ more))
     (c.in_err-take_line.ensures.stops (before ++ front) (written ++ played.added) (after ++ more) played.goes)))
 
@@ -74,6 +74,6 @@ returns-clause-stops g c = λ before written more goes.
     IfErr-weaker c.keep_rest.result
     _ _
     (λ e stops. played-stops e (g.W.Wire.carried c.args.wire.now) before written kept.2.0 (rest ++ more) ((before ++ c.args.piece.now) ++ more) _ _ _ c.loop-line.script cut played
-    (subst (λ bytes. Stopped (g.W.Wire.carried c.args.wire.now) e bytes (written ++ played.added) (g.K.Sink.holds c.loop-line.sink) (g.K.Sink.holds c.keep_rest.new.sink))
+    (subst (λ bytes. Stopped (g.W.Wire.carried c.args.wire.now) e bytes (written ++ played.added) (g.K.Sink.told c.loop-line.sink).holds (g.K.Sink.told c.keep_rest.new.sink).holds)
     (append_assoc (before ++ kept.2.0) rest more) stops))
     (c.keep_rest.ensures.stops (before ++ kept.2.0) (written ++ played.added) more played.goes)

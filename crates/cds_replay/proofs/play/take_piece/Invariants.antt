@@ -9,8 +9,8 @@ invariant-loop-line g l =
     Sound (g.W.Wire.carried l.wire) l.script
     × (left_in l.script + length l.piece ≡ left_in l.initial.script + length l.rest)
     × ((front : List ℕ) × (l.piece ≡ front ++ l.rest)
-    × ((before written : List ℕ) → GoesOn (g.W.Wire.carried l.wire) l.initial.script before written → Played (g.W.Wire.carried l.wire) before written front (g.K.Sink.holds l.initial.sink) (g.K.Sink.holds l.sink) l.script))
-    × (g.K.Sink.faults l.initial.sink ≤ g.K.Sink.faults l.sink)
+    × ((before written : List ℕ) → GoesOn (g.W.Wire.carried l.wire) l.initial.script before written → Played (g.W.Wire.carried l.wire) before written front (g.K.Sink.told l.initial.sink).holds (g.K.Sink.told l.sink).holds l.script))
+    × ((g.K.Sink.told l.initial.sink).faults ≤ (g.K.Sink.told l.sink).faults)
 
 abbrev pub decreases-loop-line : goal.decreases-loop-line
 decreases-loop-line g l = length l.rest

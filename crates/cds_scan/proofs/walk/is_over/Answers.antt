@@ -5,7 +5,7 @@ use Rattle.cds_scan.proofs.walk.is_over.Goals as goal
 
 pub returns-clause-ok : goal.returns-clause-ok
 returns-clause-ok g c =
-    let tree = g.F.Folder.tree c.args.folder.now in
-    let given = g.F.Folder.given c.args.folder.now in
+    let tree = (g.F.Folder.told c.args.folder.now).tree in
+    let given = (g.F.Folder.told c.args.folder.now).given in
     let Over : Bool → Type 0 = λ b. IsOver b tree given in
     subst Over (sym c.is_end.ensures) (over tree given c.in_ok-entry.entry _ c.in_ok-entry.ensures.next c.in_ok-entry.ensures.new)

@@ -6,15 +6,15 @@ use Rattle.cds_scan.proofs.walk.walk.Given as goal
 
 abbrev pub invariant-entries : goal.invariant-entries
 invariant-entries g l = record {
-  counted : length (g.F.Folder.given l.folder) ≡ l.count;
+  counted : length (g.F.Folder.told l.folder).given ≡ l.count;
   few : l.count ≤ 1048576;
-  reached : Reached (g.F.Folder.contents l.initial.folder) (g.F.Folder.given l.folder) l.found (g.F.Folder.file_faults l.initial.folder) (g.F.Folder.file_faults l.folder);
-  never_falls : g.F.Folder.file_faults l.initial.folder ≤ g.F.Folder.file_faults l.folder;
-  ends : g.F.Folder.entries l.folder ≤ g.F.Folder.entries l.initial.folder + l.count;
-  back : CameBack (g.F.Folder.opened l.initial.folder) (g.F.Folder.opened l.folder) (g.F.Folder.returned l.initial.folder) (g.F.Folder.returned l.folder);
-  tree_stays : g.F.Folder.tree l.folder ≡ g.F.Folder.tree l.initial.folder;
-  contents_stay : g.F.Folder.contents l.folder ≡ g.F.Folder.contents l.initial.folder;
-  entry_faults_stay : g.F.Folder.entry_faults l.folder ≡ g.F.Folder.entry_faults l.initial.folder;
+  reached : Reached (g.F.Folder.told l.initial.folder).contents (g.F.Folder.told l.folder).given l.found (g.F.Folder.told l.initial.folder).file_faults (g.F.Folder.told l.folder).file_faults;
+  never_falls : (g.F.Folder.told l.initial.folder).file_faults ≤ (g.F.Folder.told l.folder).file_faults;
+  ends : (g.F.Folder.told l.folder).entries ≤ (g.F.Folder.told l.initial.folder).entries + l.count;
+  back : CameBack (g.F.Folder.told l.initial.folder).opened (g.F.Folder.told l.folder).opened (g.F.Folder.told l.initial.folder).returned (g.F.Folder.told l.folder).returned;
+  tree_stays : (g.F.Folder.told l.folder).tree ≡ (g.F.Folder.told l.initial.folder).tree;
+  contents_stay : (g.F.Folder.told l.folder).contents ≡ (g.F.Folder.told l.initial.folder).contents;
+  entry_faults_stay : (g.F.Folder.told l.folder).entry_faults ≡ (g.F.Folder.told l.initial.folder).entry_faults;
 }
 
 abbrev pub decreases-entries : goal.decreases-entries

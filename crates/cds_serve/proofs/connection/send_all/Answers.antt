@@ -12,6 +12,5 @@ pieces-preserved g c =
       within = omega (arith, c.in_ok-at.ensures.room);
       taken = λ held told. rw c.split_at.ensures.back at (c.in_ok-at.ensures.content _ (c.pieces.invariant.taken held told)) ∙ ap Some (append_on held text at n);
       never_falls = omega (arith, c.in_ok-at.ensures.never_falls, c.pieces.invariant.never_falls);
-      left_stays = c.in_ok-at.ensures.left_stays ∙ c.pieces.invariant.left_stays;
-      read_faults_stay = c.in_ok-at.ensures.read_faults_stay ∙ c.pieces.invariant.read_faults_stay;
+      source_stays = c.in_ok-at.ensures.source_stays ∙ c.pieces.invariant.source_stays;
     }

@@ -6,10 +6,9 @@ use Rattle.cds_serve.proofs.connection.send_all.Given as goal
 abbrev pub invariant-pieces : goal.invariant-pieces
 invariant-pieces g l = record {
   within : l.at ≤ length l.text;
-  taken : Told (g.C.Sink.holds l.initial.conn) (λ held. g.C.Sink.holds l.conn ≡ Some (held ++ take l.at l.text));
-  never_falls : g.C.Sink.faults l.initial.conn ≤ g.C.Sink.faults l.conn;
-  left_stays : g.C.Source.left l.conn ≡ g.C.Source.left l.initial.conn;
-  read_faults_stay : g.C.Source.faults l.conn ≡ g.C.Source.faults l.initial.conn;
+  taken : Told (g.C.Sink.told l.initial.conn).holds (λ held. (g.C.Sink.told l.conn).holds ≡ Some (held ++ take l.at l.text));
+  never_falls : (g.C.Sink.told l.initial.conn).faults ≤ (g.C.Sink.told l.conn).faults;
+  source_stays : g.C.Source.told l.conn ≡ g.C.Source.told l.initial.conn;
 }
 
 abbrev pub decreases-pieces : goal.decreases-pieces

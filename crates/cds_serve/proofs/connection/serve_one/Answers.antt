@@ -1,5 +1,6 @@
 -- One connection is served by one of its courses.
-use Rattle.std.proofs.Common.{refl}
+use Rattle.std.proofs.Common.{ap, refl}
+use Rattle.cds_base.specs.Outside.{SourceTold}
 use Rattle.cds_turn.specs.Turn.{start_of}
 use Rattle.cds_serve.proofs.Courses.{broken, freed, reads-on, starved, turned-at, writes-from, writes-nothing}
 use Rattle.cds_serve.proofs.connection.serve_one.Goals as goal
@@ -8,23 +9,23 @@ pub returns-in-Needing-clause-served : goal.returns-in-Needing-clause-served
 returns-in-Needing-clause-served g c =
     let took = c.with-reply.ensures.found in
     turned-at (start_of c.args.turn.now c.args.seat.now) _ _ _ _ _ took.0 c.in-Needing.message c.with-reply.result _ c.ask_moment-now.ensures.kept
-    (λ bytes told known d. c.in-Needing.ensures.request bytes told known d) (reads-on _ _ _ _ _ (λ piece p. tt) c.answer.ensures.left_stays c.in-Needing.ensures.read)
-    took.1 took.2 took.3 took.4 c.with-reply.ensures.passes c.with-reply.ensures.turns refl
+    (λ bytes told known d. c.in-Needing.ensures.request bytes told known d) (reads-on _ _ _ _ _ (λ piece p. tt) (ap (λ (t : SourceTold). t.left) c.answer.ensures.source_stays) c.in-Needing.ensures.read)
+    took.1 took.2 took.3 took.4 took.5 c.with-reply.ensures.passes c.with-reply.ensures.turns refl
     c.ask_moment-now.ensures.moment
-    (writes-from _ _ _ _ _ _ _ c.read_request.ensures.taken_stay c.read_request.ensures.write_faults_stay c.answer.ensures.written)
+    (writes-from _ _ _ _ c.read_request.ensures.sink_stays c.answer.ensures.written)
     c.answer.ensures.given c.answer.ensures.starved c.answer.ensures.noted
 
 pub returns-in-Free-clause-served : goal.returns-in-Free-clause-served
 returns-in-Free-clause-served g c =
     freed _ _ _ _ _ _ refl refl refl refl c.in-Free.status (λ bytes told known d. c.in-Free.ensures.request bytes told known d)
-    (reads-on _ _ _ _ _ (λ piece p. tt) c.answer_free.ensures.left_stays c.in-Free.ensures.read)
-    (writes-from _ _ _ _ _ _ _ c.read_request.ensures.taken_stay c.read_request.ensures.write_faults_stay c.answer_free.ensures.written)
+    (reads-on _ _ _ _ _ (λ piece p. tt) (ap (λ (t : SourceTold). t.left) c.answer_free.ensures.source_stays) c.in-Free.ensures.read)
+    (writes-from _ _ _ _ c.read_request.ensures.sink_stays c.answer_free.ensures.written)
 
 pub returns-in-Broken-clause-served : goal.returns-in-Broken-clause-served
 returns-in-Broken-clause-served g c =
-    broken _ _ _ _ _ _ refl refl refl refl refl c.in-Broken.ensures.read c.in-Broken.ensures.rose (writes-nothing _ _ _ _ c.read_request.ensures.taken_stay)
+    broken _ _ _ _ _ _ refl refl refl refl refl c.in-Broken.ensures.read c.in-Broken.ensures.rose (writes-nothing _ _ c.read_request.ensures.sink_stays)
 
 pub returns-in-Starved-clause-served : goal.returns-in-Starved-clause-served
 returns-in-Starved-clause-served g c =
-    starved _ _ _ _ _ _ refl refl refl refl (reads-on _ _ _ _ _ (λ piece p. tt) c.starve.ensures.left_stays c.in-Starved.ensures.read) c.starve.ensures.starved
-    (writes-from _ _ _ _ _ _ _ c.read_request.ensures.taken_stay c.read_request.ensures.write_faults_stay c.starve.ensures.written)
+    starved _ _ _ _ _ _ refl refl refl refl (reads-on _ _ _ _ _ (λ piece p. tt) (ap (λ (t : SourceTold). t.left) c.starve.ensures.source_stays) c.in-Starved.ensures.read) c.starve.ensures.starved
+    (writes-from _ _ _ _ c.read_request.ensures.sink_stays c.starve.ensures.written)

@@ -1,6 +1,7 @@
 -- One worker more has its share, until there are four.
-use Rattle.std.proofs.Common.{◌≡◌, ◌+◌, [], ◌∷◌, ap, sym, subst, ◌∙◌, arith, length, length-append, refl, sum_by}
+use Rattle.std.proofs.Common.{◌≡◌, [], ◌∷◌, ap, sym, subst, ◌∙◌, arith, length, length-append, refl, sum_by}
 use Rattle.std.proofs.lemmas.List.Sums.{sum_by_push}
+use Rattle.cds_base.specs.Told.{unasked_door}
 use Rattle.cds_serve.proofs.Lives.{all-first, all-more, all-shares, shares-next, shares_below}
 use Rattle.cds_serve.proofs.crew.hire_workers.Goals as goal
 
@@ -36,7 +37,7 @@ workers-preserved g c =
       left = omega (arith, shorter, so.left);
       iterator = omega (arith, step.1, so.iterator, shorter);
       shares = omega (arith, sums, so.shares, c.in_ok-worker.ensures.share, shares-next c.args.requests c.workers.number);
-      fresh = rw c.in_ok-push.ensures.items (all-more _ c.workers.workers.items worker so.fresh (subst (λ door. (g.D.Door.connections door ≡ 0) × (g.D.Door.faults door ≡ 0)) (sym c.in_ok-worker.ensures.door) both.0));
+      fresh = rw c.in_ok-push.ensures.items (all-more _ c.workers.workers.items worker so.fresh (subst (λ door. g.D.Door.told door ≡ unasked_door) (sym c.in_ok-worker.ensures.door) both.0));
       others = both.1;
       turns = rw c.in_ok-push.ensures.items (all-more _ c.workers.workers.items worker so.turns c.in_ok-worker.ensures.turn);
     }

@@ -3,6 +3,7 @@ use Rattle.std.proofs.Common.{◌≡◌, ◌+◌, length, sum_by}
 use Rattle.std.specs.Arc.{arc_value}
 use Rattle.std.specs.List.{AllByRecursion}
 use Rattle.std.specs.Vec.Iter.{into_iter_items, into_iter_len}
+use Rattle.cds_base.specs.Told.{unasked_door}
 use Rattle.cds_turn.specs.Turn.{IsSeatOf, passes_of}
 use Rattle.cds_serve.proofs.Lives.{shares_below}
 use Rattle.cds_serve.proofs.crew.hire_workers.Given as goal
@@ -15,7 +16,7 @@ invariant-workers g l = record {
   left : l.number + length (into_iter_items l.ends-iterator) ≡ 4;
   iterator : into_iter_len l.ends-iterator ≡ length (into_iter_items l.ends-iterator);
   shares : sum_by (λ worker. worker.share) l.workers.items ≡ shares_below l.requests l.number;
-  fresh : AllByRecursion (λ worker. (g.D.Door.connections worker.door ≡ 0) × (g.D.Door.faults worker.door ≡ 0)) l.workers.items;
-  others : AllByRecursion (λ ends. (g.D.Door.connections ends.door ≡ 0) × (g.D.Door.faults ends.door ≡ 0)) (into_iter_items l.ends-iterator);
+  fresh : AllByRecursion (λ worker. g.D.Door.told worker.door ≡ unasked_door) l.workers.items;
+  others : AllByRecursion (λ ends. g.D.Door.told ends.door ≡ unasked_door) (into_iter_items l.ends-iterator);
   turns : AllByRecursion (λ worker. arc_value worker.turn ≡ arc_value l.turn) l.workers.items;
 }

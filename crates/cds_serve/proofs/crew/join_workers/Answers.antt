@@ -1,15 +1,18 @@
 -- One worker more was joined, and its door came back.
-use Rattle.std.proofs.Common.{◌≡◌, ◌+◌, ◌++◌, [], ◌∷◌, ap, sym, ◌∙◌, append_assoc, arith, le_trans, length, sum_by}
+use Rattle.std.proofs.Common.{◌++◌, [], ◌∷◌, ap, sym, ◌∙◌, append_assoc, arith, le_trans, length}
 use Rattle.std.proofs.lemmas.List.Sums.{sum_by_push}
 use denote.Param.Send.{sendable}
 use Rattle.std.specs.Vec.Iter.{into_iter_items}
-use Rattle.cds_base.specs.Outside.{raised}
-use Rattle.cds_serve.proofs.Crossing.{worker-send}
+use Rattle.cds_base.specs.Told.{DoorTold, OutsideTold}
+use Rattle.cds_serve.proofs.Crossing.{worked-send, worker-send}
 use Rattle.cds_serve.proofs.Lives.{all-from, gave-more, joined-more}
 use Rattle.cds_serve.proofs.crew.join_workers.Goals as goal
 
 pub join-door-requires-send-J : goal.join-door-requires-send-J
 join-door-requires-send-J g c κs within = search (worker-send, sendable) depth 20
+
+pub join-door-requires-send-J-Out : goal.join-door-requires-send-J-Out
+join-door-requires-send-J-Out g c κs within = search (worked-send, sendable) depth 20
 
 pub joined-preserved : goal.joined-preserved
 joined-preserved g c =
@@ -19,18 +22,16 @@ joined-preserved g c =
     let next = into_iter_items c.next.new.self in
     let order = ap (λ l. c.joined.yielded ++ l) (sym step.0) ∙ so.order in
     let fresh = all-from _ _ c.joined.yielded next worker order c.requires.fresh in
-    let gave = c.join-door.ensures in
+    let gave = c.join-door.ensures.3 in
     let back = c.end_door.ensures in
+    let new : OutsideTold = g.O.Outside.told c.end_door.new.self in
     let sums = sum_by_push (λ worker. worker.share) c.joined.yielded worker in
     record {
       order = append_assoc c.joined.yielded (worker ∷ []) next ∙ order;
       iterator = omega (arith, step.1, so.iterator, ap length step.0);
       no_more = omega (arith, so.no_more, gave.no_more, c.from-total.ensures, sums);
-      all = rw c.from-total.ensures (joined-more c.joined.total c.join-door.result.served _ worker.share _ _ _ _ _ _ so.all gave.all fresh.1 back.faults so.never_falls back.never_falls sums);
-      connections = rw c.from-total.ensures (gave-more _ _ _ c.joined.total c.join-door.result.served _ _ so.connections fresh.0 gave.gave back.connections);
+      all = rw c.from-total.ensures (joined-more c.joined.total c.join-door.result.served _ worker.share _ _ _ _ _ _ so.all gave.all (ap (λ (t : DoorTold). t.faults) fresh) back.faults so.never_falls back.never_falls sums);
+      connections = rw c.from-total.ensures (gave-more _ _ _ c.joined.total c.join-door.result.served _ _ so.connections (ap (λ (t : DoorTold). t.connections) fresh) gave.gave back.connections);
       never_falls = le_trans so.never_falls back.never_falls;
-      asked_stay = back.asked_stay ∙ so.asked_stay;
-      ended_stay = back.ended_stay ∙ so.ended_stay;
-      ended_links_stay = back.ended_links_stay ∙ so.ended_links_stay;
-      started_stay = back.started_stay ∙ so.started_stay;
+      others_stay = back.others_stay ∙ ap (λ (t : OutsideTold). record t { faults = new.faults; connections = new.connections }) so.others_stay;
     }

@@ -1,9 +1,9 @@
 -- All jobs are started, and joined.
-use Rattle.std.proofs.Common.{◌≡◌, ◌≤◌, ◌<◌, ◌+◌, ap, subst, sym, ◌∙◌, sum_by, take, true≢false, arith}
+use Rattle.std.proofs.Common.{◌≡◌, ◌+◌, ap, sym, ◌∙◌, sum_by, true≢false, arith}
 use denote.Param.Send.{sendable}
 use Rattle.std.specs.Arc.{arc_value}
-use Rattle.cds_base.specs.Outside.{Rose, raised}
-use Rattle.cds_serve.proofs.Crossing.{notified-send, notifier-send, scanned-send, scanner-send, worker-send}
+use Rattle.cds_base.specs.Outside.{raised}
+use Rattle.cds_serve.proofs.Crossing.{notified-send, notifier-send, scanned-send, scanner-send, worked-send, worker-send}
 use Rattle.cds_serve.proofs.Lives.{all-front, counts-given, crew-cause, front-sum, none-then, served-cut, six-jobs, some-as, well-given}
 use Rattle.cds_serve.proofs.crew.run_crew.Goals as goal
 
@@ -15,6 +15,9 @@ start_crew-workers-requires-send-S g c κs within = search (scanner-send, sendab
 
 pub start_crew-workers-requires-send-N : goal.start_crew-workers-requires-send-N
 start_crew-workers-requires-send-N g c κs within = search (notifier-send, sendable) depth 20
+
+pub start_crew-workers-requires-send-W-Out : goal.start_crew-workers-requires-send-W-Out
+start_crew-workers-requires-send-W-Out g c κs within = search (worked-send, sendable) depth 20
 
 pub start_crew-workers-requires-send-S-Out : goal.start_crew-workers-requires-send-S-Out
 start_crew-workers-requires-send-S-Out g c κs within = search (scanned-send, sendable) depth 20
@@ -52,14 +55,14 @@ pub returns-clause-connections : goal.returns-clause-connections
 returns-clause-connections g c =
     well-given c.is_some-started.result c.join_workers-served.result c.args.requests c.join_scanner-counts.result c.outcome_of.result _
     c.outcome_of.ensures.ok
-    (λ started all n. c.join_workers-served.ensures.connections n ∙ ap (λ k. raised (g.O.Outside.connections c.args.outside.now) (k + n)) all)
+    (λ started all n. c.join_workers-served.ensures.connections n ∙ ap (λ k. raised (g.O.Outside.told c.args.outside.now).connections (k + n)) all)
 
 pub returns-clause-started : goal.returns-clause-started
 returns-clause-started g c =
     well-given c.is_some-started.result c.join_workers-served.result c.args.requests c.join_scanner-counts.result c.outcome_of.result _
     c.outcome_of.ensures.ok
     (λ started all n. c.start_crew-workers.ensures.started (sym c.is_some-started.ensures ∙ started) n
-    ∙ ap (raised (g.O.W.Spawner.started c.args.spawner.now)) (six-jobs _ n (c.args.crew.workers.ok.0 ∙ c.requires.few)))
+    ∙ ap (raised (g.O.W.Spawner.told c.args.spawner.now).started) (six-jobs _ n (c.args.crew.workers.ok.0 ∙ c.requires.few)))
 
 pub returns-clause-cause : goal.returns-clause-cause
 returns-clause-cause g c =

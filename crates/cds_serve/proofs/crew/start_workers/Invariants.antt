@@ -10,6 +10,6 @@ invariant-jobs g l = record {
   iterator : into_iter_len l.job-iterator ≡ length (into_iter_items l.job-iterator);
   running : l.running.items ≡ l.yielded;
   room : length l.fn.jobs.items ≤ vec_capacity l.running;
-  started : (n : ℕ) → raised (g.W.Spawner.started l.spawner) n ≡ raised (g.W.Spawner.started l.initial.spawner) (length l.yielded + n);
-  never_falls : g.W.Spawner.faults l.initial.spawner ≤ g.W.Spawner.faults l.spawner;
+  started : (n : ℕ) → raised (g.W.Spawner.told l.spawner).started n ≡ raised (g.W.Spawner.told l.initial.spawner).started (length l.yielded + n);
+  never_falls : (g.W.Spawner.told l.initial.spawner).faults ≤ (g.W.Spawner.told l.spawner).faults;
 }

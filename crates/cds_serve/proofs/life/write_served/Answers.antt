@@ -8,13 +8,13 @@ use Rattle.cds_serve.proofs.life.write_served.Goals as goal
 
 pub returns-in_err-line-clause-written : goal.returns-in_err-line-clause-written
 returns-in_err-line-clause-written g c =
-    exit (λ r. WritesLine r (served_line c.args.requests (record { accepted = c.args.counts.accepted; refused = c.args.counts.refused; memory = c.args.counts.memory })) (g.K.Sink.holds c.args.sink.now) (g.K.Sink.holds c.args.sink.now)) c.from_residual.result fault.Mem c.from_residual.ensures.1
-    (line-none fault.Mem (served_line c.args.requests (record { accepted = c.args.counts.accepted; refused = c.args.counts.refused; memory = c.args.counts.memory })) (g.K.Sink.holds c.args.sink.now))
+    exit (λ r. WritesLine r (served_line c.args.requests (record { accepted = c.args.counts.accepted; refused = c.args.counts.refused; memory = c.args.counts.memory })) (g.K.Sink.told c.args.sink.now).holds (g.K.Sink.told c.args.sink.now).holds) c.from_residual.result fault.Mem c.from_residual.ensures.1
+    (line-none fault.Mem (served_line c.args.requests (record { accepted = c.args.counts.accepted; refused = c.args.counts.refused; memory = c.args.counts.memory })) (g.K.Sink.told c.args.sink.now).holds)
 
 pub returns-in_err-line-clause-cause : goal.returns-in_err-line-clause-cause
-returns-in_err-line-clause-cause g c = exit (λ r. IsCaused r (Rose (g.K.Sink.faults c.args.sink.now) (g.K.Sink.faults c.args.sink.now)) ⊥) c.from_residual.result fault.Mem c.from_residual.ensures.1 tt
+returns-in_err-line-clause-cause g c = exit (λ r. IsCaused r (Rose (g.K.Sink.told c.args.sink.now).faults (g.K.Sink.told c.args.sink.now).faults) ⊥) c.from_residual.result fault.Mem c.from_residual.ensures.1 tt
 
 pub returns-clause-written : goal.returns-clause-written
 returns-clause-written g c =
-    line-as c.write_line.result _ _ (g.K.Sink.holds c.args.sink.now) (g.K.Sink.holds c.write_line.new.sink)
+    line-as c.write_line.result _ _ (g.K.Sink.told c.args.sink.now).holds (g.K.Sink.told c.write_line.new.sink).holds
     (c.as_str.ensures.value ∙ c.in_ok-line.ensures) c.write_line.ensures.written

@@ -1,18 +1,17 @@
 -- One call of the outside.
 use Rattle.cds_base.specs.Asked.{ForDoor}
-use Rattle.cds_serve.specs.Life.{OutsideTold}
-use Rattle.cds_serve.proofs.Lives.{asks-one, both-facts, same-fact}
+use Rattle.cds_base.specs.Told.{OutsideTold}
+use Rattle.cds_serve.proofs.Lives.{asks-one, same-fact}
 use Rattle.cds_serve.proofs.means.ask_door.Goals as goal
 
 pub returns-clause-asks : goal.returns-clause-asks
 returns-clause-asks g c =
-    let old : OutsideTold = record { faults = g.O.Outside.faults c.args.outside.now; asked = g.O.Outside.asked c.args.outside.now; ended = g.O.Outside.ended c.args.outside.now; ended_links = g.O.Outside.ended_links c.args.outside.now; connections = g.O.Outside.connections c.args.outside.now; started = g.O.Outside.started c.args.outside.now } in
-    let new : OutsideTold = record { faults = g.O.Outside.faults c.door.new.self; asked = g.O.Outside.asked c.door.new.self; ended = g.O.Outside.ended c.door.new.self; ended_links = g.O.Outside.ended_links c.door.new.self; connections = g.O.Outside.connections c.door.new.self; started = g.O.Outside.started c.door.new.self } in
+    let old : OutsideTold = g.O.Outside.told c.args.outside.now in
+    let new : OutsideTold = g.O.Outside.told c.door.new.self in
     let one = c.door.ensures in
-    asks-one (ForDoor c.args.port) old new one.asked one.never_falls one.ended_stay one.ended_links_stay one.connections_stay one.started_stay c.door.result c.given.result
+    asks-one (ForDoor c.args.port) old new one.asked one.never_falls one.others_stay c.door.result c.given.result
     c.given.ensures.ok c.given.ensures.err one.rose
 
 pub returns-clause-fresh : goal.returns-clause-fresh
 returns-clause-fresh g c =
-    same-fact c.door.result c.given.result _ c.given.ensures.ok c.given.ensures.err
-    (both-facts c.door.result _ _ c.door.ensures.none_given c.door.ensures.no_faults)
+    same-fact c.door.result c.given.result _ c.given.ensures.ok c.given.ensures.err c.door.ensures.unasked

@@ -2,26 +2,25 @@
 use Rattle.std.proofs.Common.{[], ◌∷◌, Ok, Err}
 use Rattle.std.specs.Prelude.{⊤}
 use Rattle.cds_base.specs.Asked.{ForClock, ForLink}
-use Rattle.cds_serve.specs.Jobs.{DoorTold}
-use Rattle.cds_serve.specs.Life.{OutsideTold}
+use Rattle.cds_base.specs.Told.{DoorTold, OutsideTold}
 use Rattle.cds_serve.proofs.Lives.{beside-door, takes-exit, takes-handle, takes-then}
 use Rattle.cds_serve.proofs.means.ask_ends.Goals as goal
 
 pub returns-in_err-clock-clause-takes : goal.returns-in_err-clock-clause-takes
 returns-in_err-clock-clause-takes g c =
-    let old : OutsideTold = record { faults = g.O.Outside.faults c.args.outside.now; asked = g.O.Outside.asked c.args.outside.now; ended = g.O.Outside.ended c.args.outside.now; ended_links = g.O.Outside.ended_links c.args.outside.now; connections = g.O.Outside.connections c.args.outside.now; started = g.O.Outside.started c.args.outside.now } in
-    let new : OutsideTold = record { faults = g.O.Outside.faults c.ask_clock.new.outside; asked = g.O.Outside.asked c.ask_clock.new.outside; ended = g.O.Outside.ended c.ask_clock.new.outside; ended_links = g.O.Outside.ended_links c.ask_clock.new.outside; connections = g.O.Outside.connections c.ask_clock.new.outside; started = g.O.Outside.started c.ask_clock.new.outside } in
-    let door : DoorTold = record { connections = g.O.D.Door.connections c.args.door.now; faults = g.O.D.Door.faults c.args.door.now } in
+    let old : OutsideTold = g.O.Outside.told c.args.outside.now in
+    let new : OutsideTold = g.O.Outside.told c.ask_clock.new.outside in
+    let door : DoorTold = g.O.D.Door.told c.args.door.now in
     let e = c.in_err-clock.field-0.0 in
     takes-exit c.from_residual.result e (ForClock ∷ []) (ForLink ∷ []) old new door door c.from_residual.ensures.1
     (beside-door (Err e) (ForClock ∷ []) old new door c.in_err-clock.ensures.asks)
 
 pub returns-in_err-link-clause-takes : goal.returns-in_err-link-clause-takes
 returns-in_err-link-clause-takes g c =
-    let old : OutsideTold = record { faults = g.O.Outside.faults c.args.outside.now; asked = g.O.Outside.asked c.args.outside.now; ended = g.O.Outside.ended c.args.outside.now; ended_links = g.O.Outside.ended_links c.args.outside.now; connections = g.O.Outside.connections c.args.outside.now; started = g.O.Outside.started c.args.outside.now } in
-    let mid : OutsideTold = record { faults = g.O.Outside.faults c.ask_clock.new.outside; asked = g.O.Outside.asked c.ask_clock.new.outside; ended = g.O.Outside.ended c.ask_clock.new.outside; ended_links = g.O.Outside.ended_links c.ask_clock.new.outside; connections = g.O.Outside.connections c.ask_clock.new.outside; started = g.O.Outside.started c.ask_clock.new.outside } in
-    let new : OutsideTold = record { faults = g.O.Outside.faults c.ask_link.new.outside; asked = g.O.Outside.asked c.ask_link.new.outside; ended = g.O.Outside.ended c.ask_link.new.outside; ended_links = g.O.Outside.ended_links c.ask_link.new.outside; connections = g.O.Outside.connections c.ask_link.new.outside; started = g.O.Outside.started c.ask_link.new.outside } in
-    let door : DoorTold = record { connections = g.O.D.Door.connections c.args.door.now; faults = g.O.D.Door.faults c.args.door.now } in
+    let old : OutsideTold = g.O.Outside.told c.args.outside.now in
+    let mid : OutsideTold = g.O.Outside.told c.ask_clock.new.outside in
+    let new : OutsideTold = g.O.Outside.told c.ask_link.new.outside in
+    let door : DoorTold = g.O.D.Door.told c.args.door.now in
     let e = c.in_err-link.field-0.0 in
     takes-exit c.from_residual-in_err-link.result e (ForClock ∷ ForLink ∷ []) [] old new door door c.from_residual-in_err-link.ensures.1
     (takes-then (Err e) c.in_ok-clock.clock (ForClock ∷ []) (ForLink ∷ []) old mid new door door door
@@ -30,11 +29,11 @@ returns-in_err-link-clause-takes g c =
 
 pub returns-in_err-door-clause-takes : goal.returns-in_err-door-clause-takes
 returns-in_err-door-clause-takes g c =
-    let old : OutsideTold = record { faults = g.O.Outside.faults c.args.outside.now; asked = g.O.Outside.asked c.args.outside.now; ended = g.O.Outside.ended c.args.outside.now; ended_links = g.O.Outside.ended_links c.args.outside.now; connections = g.O.Outside.connections c.args.outside.now; started = g.O.Outside.started c.args.outside.now } in
-    let mid : OutsideTold = record { faults = g.O.Outside.faults c.ask_clock.new.outside; asked = g.O.Outside.asked c.ask_clock.new.outside; ended = g.O.Outside.ended c.ask_clock.new.outside; ended_links = g.O.Outside.ended_links c.ask_clock.new.outside; connections = g.O.Outside.connections c.ask_clock.new.outside; started = g.O.Outside.started c.ask_clock.new.outside } in
-    let new : OutsideTold = record { faults = g.O.Outside.faults c.ask_link.new.outside; asked = g.O.Outside.asked c.ask_link.new.outside; ended = g.O.Outside.ended c.ask_link.new.outside; ended_links = g.O.Outside.ended_links c.ask_link.new.outside; connections = g.O.Outside.connections c.ask_link.new.outside; started = g.O.Outside.started c.ask_link.new.outside } in
-    let door : DoorTold = record { connections = g.O.D.Door.connections c.args.door.now; faults = g.O.D.Door.faults c.args.door.now } in
-    let after : DoorTold = record { connections = g.O.D.Door.connections c.ask_handle.new.door; faults = g.O.D.Door.faults c.ask_handle.new.door } in
+    let old : OutsideTold = g.O.Outside.told c.args.outside.now in
+    let mid : OutsideTold = g.O.Outside.told c.ask_clock.new.outside in
+    let new : OutsideTold = g.O.Outside.told c.ask_link.new.outside in
+    let door : DoorTold = g.O.D.Door.told c.args.door.now in
+    let after : DoorTold = g.O.D.Door.told c.ask_handle.new.door in
     let e = c.in_err-door.field-0.0 in
     let failed = c.in_err-door.ensures in
     takes-exit {A = ⊤} c.from_residual-in_err-door.result e (ForClock ∷ ForLink ∷ []) [] old new door after c.from_residual-in_err-door.ensures.1
@@ -46,11 +45,11 @@ returns-in_err-door-clause-takes g c =
 
 pub returns-clause-takes : goal.returns-clause-takes
 returns-clause-takes g c =
-    let old : OutsideTold = record { faults = g.O.Outside.faults c.args.outside.now; asked = g.O.Outside.asked c.args.outside.now; ended = g.O.Outside.ended c.args.outside.now; ended_links = g.O.Outside.ended_links c.args.outside.now; connections = g.O.Outside.connections c.args.outside.now; started = g.O.Outside.started c.args.outside.now } in
-    let mid : OutsideTold = record { faults = g.O.Outside.faults c.ask_clock.new.outside; asked = g.O.Outside.asked c.ask_clock.new.outside; ended = g.O.Outside.ended c.ask_clock.new.outside; ended_links = g.O.Outside.ended_links c.ask_clock.new.outside; connections = g.O.Outside.connections c.ask_clock.new.outside; started = g.O.Outside.started c.ask_clock.new.outside } in
-    let new : OutsideTold = record { faults = g.O.Outside.faults c.ask_link.new.outside; asked = g.O.Outside.asked c.ask_link.new.outside; ended = g.O.Outside.ended c.ask_link.new.outside; ended_links = g.O.Outside.ended_links c.ask_link.new.outside; connections = g.O.Outside.connections c.ask_link.new.outside; started = g.O.Outside.started c.ask_link.new.outside } in
-    let door : DoorTold = record { connections = g.O.D.Door.connections c.args.door.now; faults = g.O.D.Door.faults c.args.door.now } in
-    let after : DoorTold = record { connections = g.O.D.Door.connections c.ask_handle.new.door; faults = g.O.D.Door.faults c.ask_handle.new.door } in
+    let old : OutsideTold = g.O.Outside.told c.args.outside.now in
+    let mid : OutsideTold = g.O.Outside.told c.ask_clock.new.outside in
+    let new : OutsideTold = g.O.Outside.told c.ask_link.new.outside in
+    let door : DoorTold = g.O.D.Door.told c.args.door.now in
+    let after : DoorTold = g.O.D.Door.told c.ask_handle.new.door in
     takes-handle (Ok _) c.in_ok-link.link (ForClock ∷ ForLink ∷ []) old new door after
     (takes-then (Ok c.in_ok-link.link) c.in_ok-clock.clock (ForClock ∷ []) (ForLink ∷ []) old mid new door door door
     (beside-door (Ok c.in_ok-clock.clock) (ForClock ∷ []) old mid door c.in_ok-clock.ensures.asks)

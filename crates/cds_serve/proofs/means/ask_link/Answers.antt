@@ -1,13 +1,13 @@
 -- One call of the outside.
 use Rattle.cds_base.specs.Asked.{ForLink}
-use Rattle.cds_serve.specs.Life.{OutsideTold}
+use Rattle.cds_base.specs.Told.{OutsideTold}
 use Rattle.cds_serve.proofs.Lives.{asks-one}
 use Rattle.cds_serve.proofs.means.ask_link.Goals as goal
 
 pub returns : goal.returns
 returns g c =
-    let old : OutsideTold = record { faults = g.O.Outside.faults c.args.outside.now; asked = g.O.Outside.asked c.args.outside.now; ended = g.O.Outside.ended c.args.outside.now; ended_links = g.O.Outside.ended_links c.args.outside.now; connections = g.O.Outside.connections c.args.outside.now; started = g.O.Outside.started c.args.outside.now } in
-    let new : OutsideTold = record { faults = g.O.Outside.faults c.link.new.self; asked = g.O.Outside.asked c.link.new.self; ended = g.O.Outside.ended c.link.new.self; ended_links = g.O.Outside.ended_links c.link.new.self; connections = g.O.Outside.connections c.link.new.self; started = g.O.Outside.started c.link.new.self } in
+    let old : OutsideTold = g.O.Outside.told c.args.outside.now in
+    let new : OutsideTold = g.O.Outside.told c.link.new.self in
     let one = c.link.ensures in
-    asks-one (ForLink) old new one.asked one.never_falls one.ended_stay one.ended_links_stay one.connections_stay one.started_stay c.link.result c.given.result
+    asks-one (ForLink) old new one.asked one.never_falls one.others_stay c.link.result c.given.result
     c.given.ensures.ok c.given.ensures.err one.rose

@@ -1,27 +1,27 @@
 -- What the jobs take, one after the other.
 use Rattle.std.proofs.Common.{[], ◌∷◌, ◌++◌, Ok, Err}
 use Rattle.cds_base.specs.Asked.{ForClock, ForFolder, ForLink}
-use Rattle.cds_serve.specs.Jobs.{DoorTold}
-use Rattle.cds_serve.specs.Life.{OutsideTold, worker_asks}
+use Rattle.cds_base.specs.Told.{DoorTold, OutsideTold}
+use Rattle.cds_serve.specs.Life.{worker_asks}
 use Rattle.cds_serve.proofs.Lives.{beside-door, takes-exit, takes-ok, takes-then}
 use Rattle.cds_serve.proofs.means.ask_means.Goals as goal
 
 pub returns-in_err-folder-clause-takes : goal.returns-in_err-folder-clause-takes
 returns-in_err-folder-clause-takes g c =
-    let o0 : OutsideTold = record { faults = g.O.Outside.faults c.args.outside.now; asked = g.O.Outside.asked c.args.outside.now; ended = g.O.Outside.ended c.args.outside.now; ended_links = g.O.Outside.ended_links c.args.outside.now; connections = g.O.Outside.connections c.args.outside.now; started = g.O.Outside.started c.args.outside.now } in
-    let o1 : OutsideTold = record { faults = g.O.Outside.faults c.ask_folder.new.outside; asked = g.O.Outside.asked c.ask_folder.new.outside; ended = g.O.Outside.ended c.ask_folder.new.outside; ended_links = g.O.Outside.ended_links c.ask_folder.new.outside; connections = g.O.Outside.connections c.ask_folder.new.outside; started = g.O.Outside.started c.ask_folder.new.outside } in
-    let d0 : DoorTold = record { connections = g.O.D.Door.connections c.args.door.now; faults = g.O.D.Door.faults c.args.door.now } in
+    let o0 : OutsideTold = g.O.Outside.told c.args.outside.now in
+    let o1 : OutsideTold = g.O.Outside.told c.ask_folder.new.outside in
+    let d0 : DoorTold = g.O.D.Door.told c.args.door.now in
     let e = c.in_err-folder.field-0.0 in
     takes-exit c.from_residual.result e (ForFolder c.args.path.now ∷ []) ((worker_asks 4) ++ ((ForClock ∷ []) ++ ((ForClock ∷ []) ++ (ForLink ∷ [])))) o0 o1 d0 d0 c.from_residual.ensures.1
     (beside-door (Err e) (ForFolder c.args.path.now ∷ []) o0 o1 d0 c.in_err-folder.ensures)
 
 pub returns-in_err-workers-clause-takes : goal.returns-in_err-workers-clause-takes
 returns-in_err-workers-clause-takes g c =
-    let o0 : OutsideTold = record { faults = g.O.Outside.faults c.args.outside.now; asked = g.O.Outside.asked c.args.outside.now; ended = g.O.Outside.ended c.args.outside.now; ended_links = g.O.Outside.ended_links c.args.outside.now; connections = g.O.Outside.connections c.args.outside.now; started = g.O.Outside.started c.args.outside.now } in
-    let o1 : OutsideTold = record { faults = g.O.Outside.faults c.ask_folder.new.outside; asked = g.O.Outside.asked c.ask_folder.new.outside; ended = g.O.Outside.ended c.ask_folder.new.outside; ended_links = g.O.Outside.ended_links c.ask_folder.new.outside; connections = g.O.Outside.connections c.ask_folder.new.outside; started = g.O.Outside.started c.ask_folder.new.outside } in
-    let o2 : OutsideTold = record { faults = g.O.Outside.faults c.ask_workers.new.outside; asked = g.O.Outside.asked c.ask_workers.new.outside; ended = g.O.Outside.ended c.ask_workers.new.outside; ended_links = g.O.Outside.ended_links c.ask_workers.new.outside; connections = g.O.Outside.connections c.ask_workers.new.outside; started = g.O.Outside.started c.ask_workers.new.outside } in
-    let d0 : DoorTold = record { connections = g.O.D.Door.connections c.args.door.now; faults = g.O.D.Door.faults c.args.door.now } in
-    let d1 : DoorTold = record { connections = g.O.D.Door.connections c.ask_workers.new.door; faults = g.O.D.Door.faults c.ask_workers.new.door } in
+    let o0 : OutsideTold = g.O.Outside.told c.args.outside.now in
+    let o1 : OutsideTold = g.O.Outside.told c.ask_folder.new.outside in
+    let o2 : OutsideTold = g.O.Outside.told c.ask_workers.new.outside in
+    let d0 : DoorTold = g.O.D.Door.told c.args.door.now in
+    let d1 : DoorTold = g.O.D.Door.told c.ask_workers.new.door in
     let e = c.in_err-workers.field-0.0 in
     takes-exit c.from_residual-in_err-workers.result e ((ForFolder c.args.path.now ∷ []) ++ (worker_asks 4)) ((ForClock ∷ []) ++ ((ForClock ∷ []) ++ (ForLink ∷ []))) o0 o2 d0 d1 c.from_residual-in_err-workers.ensures.1
     (takes-then (Err e) c.in_ok-folder.folder (ForFolder c.args.path.now ∷ []) (worker_asks 4) o0 o1 o2 d0 d0 d1
@@ -30,12 +30,12 @@ returns-in_err-workers-clause-takes g c =
 
 pub returns-in_err-scanner-clause-takes : goal.returns-in_err-scanner-clause-takes
 returns-in_err-scanner-clause-takes g c =
-    let o0 : OutsideTold = record { faults = g.O.Outside.faults c.args.outside.now; asked = g.O.Outside.asked c.args.outside.now; ended = g.O.Outside.ended c.args.outside.now; ended_links = g.O.Outside.ended_links c.args.outside.now; connections = g.O.Outside.connections c.args.outside.now; started = g.O.Outside.started c.args.outside.now } in
-    let o1 : OutsideTold = record { faults = g.O.Outside.faults c.ask_folder.new.outside; asked = g.O.Outside.asked c.ask_folder.new.outside; ended = g.O.Outside.ended c.ask_folder.new.outside; ended_links = g.O.Outside.ended_links c.ask_folder.new.outside; connections = g.O.Outside.connections c.ask_folder.new.outside; started = g.O.Outside.started c.ask_folder.new.outside } in
-    let o2 : OutsideTold = record { faults = g.O.Outside.faults c.ask_workers.new.outside; asked = g.O.Outside.asked c.ask_workers.new.outside; ended = g.O.Outside.ended c.ask_workers.new.outside; ended_links = g.O.Outside.ended_links c.ask_workers.new.outside; connections = g.O.Outside.connections c.ask_workers.new.outside; started = g.O.Outside.started c.ask_workers.new.outside } in
-    let o3 : OutsideTold = record { faults = g.O.Outside.faults c.ask_clock.new.outside; asked = g.O.Outside.asked c.ask_clock.new.outside; ended = g.O.Outside.ended c.ask_clock.new.outside; ended_links = g.O.Outside.ended_links c.ask_clock.new.outside; connections = g.O.Outside.connections c.ask_clock.new.outside; started = g.O.Outside.started c.ask_clock.new.outside } in
-    let d0 : DoorTold = record { connections = g.O.D.Door.connections c.args.door.now; faults = g.O.D.Door.faults c.args.door.now } in
-    let d1 : DoorTold = record { connections = g.O.D.Door.connections c.ask_workers.new.door; faults = g.O.D.Door.faults c.ask_workers.new.door } in
+    let o0 : OutsideTold = g.O.Outside.told c.args.outside.now in
+    let o1 : OutsideTold = g.O.Outside.told c.ask_folder.new.outside in
+    let o2 : OutsideTold = g.O.Outside.told c.ask_workers.new.outside in
+    let o3 : OutsideTold = g.O.Outside.told c.ask_clock.new.outside in
+    let d0 : DoorTold = g.O.D.Door.told c.args.door.now in
+    let d1 : DoorTold = g.O.D.Door.told c.ask_workers.new.door in
     let e = c.in_err-scanner.field-0.0 in
     takes-exit c.from_residual-in_err-scanner.result e (((ForFolder c.args.path.now ∷ []) ++ (worker_asks 4)) ++ (ForClock ∷ [])) ((ForClock ∷ []) ++ (ForLink ∷ [])) o0 o3 d0 d1 c.from_residual-in_err-scanner.ensures.1
     (takes-then (Err e) c.in_ok-workers.workers ((ForFolder c.args.path.now ∷ []) ++ (worker_asks 4)) (ForClock ∷ []) o0 o2 o3 d0 d1 d1
@@ -46,13 +46,13 @@ returns-in_err-scanner-clause-takes g c =
 
 pub returns-in_err-notifier-clause-takes : goal.returns-in_err-notifier-clause-takes
 returns-in_err-notifier-clause-takes g c =
-    let o0 : OutsideTold = record { faults = g.O.Outside.faults c.args.outside.now; asked = g.O.Outside.asked c.args.outside.now; ended = g.O.Outside.ended c.args.outside.now; ended_links = g.O.Outside.ended_links c.args.outside.now; connections = g.O.Outside.connections c.args.outside.now; started = g.O.Outside.started c.args.outside.now } in
-    let o1 : OutsideTold = record { faults = g.O.Outside.faults c.ask_folder.new.outside; asked = g.O.Outside.asked c.ask_folder.new.outside; ended = g.O.Outside.ended c.ask_folder.new.outside; ended_links = g.O.Outside.ended_links c.ask_folder.new.outside; connections = g.O.Outside.connections c.ask_folder.new.outside; started = g.O.Outside.started c.ask_folder.new.outside } in
-    let o2 : OutsideTold = record { faults = g.O.Outside.faults c.ask_workers.new.outside; asked = g.O.Outside.asked c.ask_workers.new.outside; ended = g.O.Outside.ended c.ask_workers.new.outside; ended_links = g.O.Outside.ended_links c.ask_workers.new.outside; connections = g.O.Outside.connections c.ask_workers.new.outside; started = g.O.Outside.started c.ask_workers.new.outside } in
-    let o3 : OutsideTold = record { faults = g.O.Outside.faults c.ask_clock.new.outside; asked = g.O.Outside.asked c.ask_clock.new.outside; ended = g.O.Outside.ended c.ask_clock.new.outside; ended_links = g.O.Outside.ended_links c.ask_clock.new.outside; connections = g.O.Outside.connections c.ask_clock.new.outside; started = g.O.Outside.started c.ask_clock.new.outside } in
-    let o4 : OutsideTold = record { faults = g.O.Outside.faults c.ask_clock-2.new.outside; asked = g.O.Outside.asked c.ask_clock-2.new.outside; ended = g.O.Outside.ended c.ask_clock-2.new.outside; ended_links = g.O.Outside.ended_links c.ask_clock-2.new.outside; connections = g.O.Outside.connections c.ask_clock-2.new.outside; started = g.O.Outside.started c.ask_clock-2.new.outside } in
-    let d0 : DoorTold = record { connections = g.O.D.Door.connections c.args.door.now; faults = g.O.D.Door.faults c.args.door.now } in
-    let d1 : DoorTold = record { connections = g.O.D.Door.connections c.ask_workers.new.door; faults = g.O.D.Door.faults c.ask_workers.new.door } in
+    let o0 : OutsideTold = g.O.Outside.told c.args.outside.now in
+    let o1 : OutsideTold = g.O.Outside.told c.ask_folder.new.outside in
+    let o2 : OutsideTold = g.O.Outside.told c.ask_workers.new.outside in
+    let o3 : OutsideTold = g.O.Outside.told c.ask_clock.new.outside in
+    let o4 : OutsideTold = g.O.Outside.told c.ask_clock-2.new.outside in
+    let d0 : DoorTold = g.O.D.Door.told c.args.door.now in
+    let d1 : DoorTold = g.O.D.Door.told c.ask_workers.new.door in
     let e = c.in_err-notifier.field-0.0 in
     takes-exit c.from_residual-in_err-notifier.result e ((((ForFolder c.args.path.now ∷ []) ++ (worker_asks 4)) ++ (ForClock ∷ [])) ++ (ForClock ∷ [])) (ForLink ∷ []) o0 o4 d0 d1 c.from_residual-in_err-notifier.ensures.1
     (takes-then (Err e) c.in_ok-scanner.scanner (((ForFolder c.args.path.now ∷ []) ++ (worker_asks 4)) ++ (ForClock ∷ [])) (ForClock ∷ []) o0 o3 o4 d0 d1 d1
@@ -65,14 +65,14 @@ returns-in_err-notifier-clause-takes g c =
 
 pub returns-in_err-link-clause-takes : goal.returns-in_err-link-clause-takes
 returns-in_err-link-clause-takes g c =
-    let o0 : OutsideTold = record { faults = g.O.Outside.faults c.args.outside.now; asked = g.O.Outside.asked c.args.outside.now; ended = g.O.Outside.ended c.args.outside.now; ended_links = g.O.Outside.ended_links c.args.outside.now; connections = g.O.Outside.connections c.args.outside.now; started = g.O.Outside.started c.args.outside.now } in
-    let o1 : OutsideTold = record { faults = g.O.Outside.faults c.ask_folder.new.outside; asked = g.O.Outside.asked c.ask_folder.new.outside; ended = g.O.Outside.ended c.ask_folder.new.outside; ended_links = g.O.Outside.ended_links c.ask_folder.new.outside; connections = g.O.Outside.connections c.ask_folder.new.outside; started = g.O.Outside.started c.ask_folder.new.outside } in
-    let o2 : OutsideTold = record { faults = g.O.Outside.faults c.ask_workers.new.outside; asked = g.O.Outside.asked c.ask_workers.new.outside; ended = g.O.Outside.ended c.ask_workers.new.outside; ended_links = g.O.Outside.ended_links c.ask_workers.new.outside; connections = g.O.Outside.connections c.ask_workers.new.outside; started = g.O.Outside.started c.ask_workers.new.outside } in
-    let o3 : OutsideTold = record { faults = g.O.Outside.faults c.ask_clock.new.outside; asked = g.O.Outside.asked c.ask_clock.new.outside; ended = g.O.Outside.ended c.ask_clock.new.outside; ended_links = g.O.Outside.ended_links c.ask_clock.new.outside; connections = g.O.Outside.connections c.ask_clock.new.outside; started = g.O.Outside.started c.ask_clock.new.outside } in
-    let o4 : OutsideTold = record { faults = g.O.Outside.faults c.ask_clock-2.new.outside; asked = g.O.Outside.asked c.ask_clock-2.new.outside; ended = g.O.Outside.ended c.ask_clock-2.new.outside; ended_links = g.O.Outside.ended_links c.ask_clock-2.new.outside; connections = g.O.Outside.connections c.ask_clock-2.new.outside; started = g.O.Outside.started c.ask_clock-2.new.outside } in
-    let o5 : OutsideTold = record { faults = g.O.Outside.faults c.ask_link.new.outside; asked = g.O.Outside.asked c.ask_link.new.outside; ended = g.O.Outside.ended c.ask_link.new.outside; ended_links = g.O.Outside.ended_links c.ask_link.new.outside; connections = g.O.Outside.connections c.ask_link.new.outside; started = g.O.Outside.started c.ask_link.new.outside } in
-    let d0 : DoorTold = record { connections = g.O.D.Door.connections c.args.door.now; faults = g.O.D.Door.faults c.args.door.now } in
-    let d1 : DoorTold = record { connections = g.O.D.Door.connections c.ask_workers.new.door; faults = g.O.D.Door.faults c.ask_workers.new.door } in
+    let o0 : OutsideTold = g.O.Outside.told c.args.outside.now in
+    let o1 : OutsideTold = g.O.Outside.told c.ask_folder.new.outside in
+    let o2 : OutsideTold = g.O.Outside.told c.ask_workers.new.outside in
+    let o3 : OutsideTold = g.O.Outside.told c.ask_clock.new.outside in
+    let o4 : OutsideTold = g.O.Outside.told c.ask_clock-2.new.outside in
+    let o5 : OutsideTold = g.O.Outside.told c.ask_link.new.outside in
+    let d0 : DoorTold = g.O.D.Door.told c.args.door.now in
+    let d1 : DoorTold = g.O.D.Door.told c.ask_workers.new.door in
     let e = c.in_err-link.field-0.0 in
     takes-exit c.from_residual-in_err-link.result e (((((ForFolder c.args.path.now ∷ []) ++ (worker_asks 4)) ++ (ForClock ∷ [])) ++ (ForClock ∷ [])) ++ (ForLink ∷ [])) [] o0 o5 d0 d1 c.from_residual-in_err-link.ensures.1
     (takes-then (Err e) c.in_ok-notifier.notifier ((((ForFolder c.args.path.now ∷ []) ++ (worker_asks 4)) ++ (ForClock ∷ [])) ++ (ForClock ∷ [])) (ForLink ∷ []) o0 o4 o5 d0 d1 d1
@@ -87,14 +87,14 @@ returns-in_err-link-clause-takes g c =
 
 pub returns-clause-takes : goal.returns-clause-takes
 returns-clause-takes g c =
-    let o0 : OutsideTold = record { faults = g.O.Outside.faults c.args.outside.now; asked = g.O.Outside.asked c.args.outside.now; ended = g.O.Outside.ended c.args.outside.now; ended_links = g.O.Outside.ended_links c.args.outside.now; connections = g.O.Outside.connections c.args.outside.now; started = g.O.Outside.started c.args.outside.now } in
-    let o1 : OutsideTold = record { faults = g.O.Outside.faults c.ask_folder.new.outside; asked = g.O.Outside.asked c.ask_folder.new.outside; ended = g.O.Outside.ended c.ask_folder.new.outside; ended_links = g.O.Outside.ended_links c.ask_folder.new.outside; connections = g.O.Outside.connections c.ask_folder.new.outside; started = g.O.Outside.started c.ask_folder.new.outside } in
-    let o2 : OutsideTold = record { faults = g.O.Outside.faults c.ask_workers.new.outside; asked = g.O.Outside.asked c.ask_workers.new.outside; ended = g.O.Outside.ended c.ask_workers.new.outside; ended_links = g.O.Outside.ended_links c.ask_workers.new.outside; connections = g.O.Outside.connections c.ask_workers.new.outside; started = g.O.Outside.started c.ask_workers.new.outside } in
-    let o3 : OutsideTold = record { faults = g.O.Outside.faults c.ask_clock.new.outside; asked = g.O.Outside.asked c.ask_clock.new.outside; ended = g.O.Outside.ended c.ask_clock.new.outside; ended_links = g.O.Outside.ended_links c.ask_clock.new.outside; connections = g.O.Outside.connections c.ask_clock.new.outside; started = g.O.Outside.started c.ask_clock.new.outside } in
-    let o4 : OutsideTold = record { faults = g.O.Outside.faults c.ask_clock-2.new.outside; asked = g.O.Outside.asked c.ask_clock-2.new.outside; ended = g.O.Outside.ended c.ask_clock-2.new.outside; ended_links = g.O.Outside.ended_links c.ask_clock-2.new.outside; connections = g.O.Outside.connections c.ask_clock-2.new.outside; started = g.O.Outside.started c.ask_clock-2.new.outside } in
-    let o5 : OutsideTold = record { faults = g.O.Outside.faults c.ask_link.new.outside; asked = g.O.Outside.asked c.ask_link.new.outside; ended = g.O.Outside.ended c.ask_link.new.outside; ended_links = g.O.Outside.ended_links c.ask_link.new.outside; connections = g.O.Outside.connections c.ask_link.new.outside; started = g.O.Outside.started c.ask_link.new.outside } in
-    let d0 : DoorTold = record { connections = g.O.D.Door.connections c.args.door.now; faults = g.O.D.Door.faults c.args.door.now } in
-    let d1 : DoorTold = record { connections = g.O.D.Door.connections c.ask_workers.new.door; faults = g.O.D.Door.faults c.ask_workers.new.door } in
+    let o0 : OutsideTold = g.O.Outside.told c.args.outside.now in
+    let o1 : OutsideTold = g.O.Outside.told c.ask_folder.new.outside in
+    let o2 : OutsideTold = g.O.Outside.told c.ask_workers.new.outside in
+    let o3 : OutsideTold = g.O.Outside.told c.ask_clock.new.outside in
+    let o4 : OutsideTold = g.O.Outside.told c.ask_clock-2.new.outside in
+    let o5 : OutsideTold = g.O.Outside.told c.ask_link.new.outside in
+    let d0 : DoorTold = g.O.D.Door.told c.args.door.now in
+    let d1 : DoorTold = g.O.D.Door.told c.ask_workers.new.door in
     takes-ok c.in_ok-link.link _ (((((ForFolder c.args.path.now ∷ []) ++ (worker_asks 4)) ++ (ForClock ∷ [])) ++ (ForClock ∷ [])) ++ (ForLink ∷ [])) o0 o5 d0 d1
     (takes-then (Ok c.in_ok-link.link) c.in_ok-notifier.notifier ((((ForFolder c.args.path.now ∷ []) ++ (worker_asks 4)) ++ (ForClock ∷ [])) ++ (ForClock ∷ [])) (ForLink ∷ []) o0 o4 o5 d0 d1 d1
     (takes-then (Ok c.in_ok-notifier.notifier) c.in_ok-scanner.scanner (((ForFolder c.args.path.now ∷ []) ++ (worker_asks 4)) ++ (ForClock ∷ [])) (ForClock ∷ []) o0 o3 o4 d0 d1 d1

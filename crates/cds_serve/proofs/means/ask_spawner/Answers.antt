@@ -1,18 +1,17 @@
 -- One call of the outside.
 use Rattle.cds_base.specs.Asked.{ForSpawner}
-use Rattle.cds_serve.specs.Life.{OutsideTold}
-use Rattle.cds_serve.proofs.Lives.{asks-one, both-facts, same-fact}
+use Rattle.cds_base.specs.Told.{OutsideTold}
+use Rattle.cds_serve.proofs.Lives.{asks-one, same-fact}
 use Rattle.cds_serve.proofs.means.ask_spawner.Goals as goal
 
 pub returns-clause-asks : goal.returns-clause-asks
 returns-clause-asks g c =
-    let old : OutsideTold = record { faults = g.O.Outside.faults c.args.outside.now; asked = g.O.Outside.asked c.args.outside.now; ended = g.O.Outside.ended c.args.outside.now; ended_links = g.O.Outside.ended_links c.args.outside.now; connections = g.O.Outside.connections c.args.outside.now; started = g.O.Outside.started c.args.outside.now } in
-    let new : OutsideTold = record { faults = g.O.Outside.faults c.spawner.new.self; asked = g.O.Outside.asked c.spawner.new.self; ended = g.O.Outside.ended c.spawner.new.self; ended_links = g.O.Outside.ended_links c.spawner.new.self; connections = g.O.Outside.connections c.spawner.new.self; started = g.O.Outside.started c.spawner.new.self } in
+    let old : OutsideTold = g.O.Outside.told c.args.outside.now in
+    let new : OutsideTold = g.O.Outside.told c.spawner.new.self in
     let one = c.spawner.ensures in
-    asks-one (ForSpawner) old new one.asked one.never_falls one.ended_stay one.ended_links_stay one.connections_stay one.started_stay c.spawner.result c.given.result
+    asks-one (ForSpawner) old new one.asked one.never_falls one.others_stay c.spawner.result c.given.result
     c.given.ensures.ok c.given.ensures.err one.rose
 
 pub returns-clause-fresh : goal.returns-clause-fresh
 returns-clause-fresh g c =
-    same-fact c.spawner.result c.given.result _ c.given.ensures.ok c.given.ensures.err
-    (both-facts c.spawner.result _ _ c.spawner.ensures.none_started c.spawner.ensures.no_faults)
+    same-fact c.spawner.result c.given.result _ c.given.ensures.ok c.given.ensures.err c.spawner.ensures.unasked

@@ -1,25 +1,25 @@
 -- One worker more, until there are four.
-use Rattle.std.proofs.Common.{[], ◌∷◌, ◌≡◌, ◌==◌, ◌+◌, ◌-◌, length, Ok, Err, inr, ap, sym, subst, ◌∙◌, arith, length-append}
+use Rattle.std.proofs.Common.{[], ◌∷◌, ◌≡◌, ◌==◌, ◌-◌, length, Ok, Err, inr, ap, sym, subst, ◌∙◌, arith, length-append}
 use Rattle.cds_base.specs.Asked.{ForClock, ForLink}
-use Rattle.cds_serve.specs.Jobs.{DoorTold}
-use Rattle.cds_serve.specs.Life.{AreFirstWords, OutsideTold, worker_asks}
-use Rattle.cds_serve.proofs.Lives.{all-more, first-more, first-there, takes-as, takes-exit, takes-next, takes-no-memory, takes-none, takes-ok, takes-then, worker-next, workers-more}
+use Rattle.cds_base.specs.Told.{DoorTold, OutsideTold}
+use Rattle.cds_serve.specs.Life.{AreFirstWords, worker_asks}
+use Rattle.cds_serve.proofs.Lives.{all-more, first-more, first-there, first-words, takes-as, takes-exit, takes-next, takes-no-memory, takes-none, takes-ok, takes-then, worker-next}
 use Rattle.cds_serve.proofs.means.ask_workers.Goals as goal
 
 pub returns-in_err-all-clause-takes : goal.returns-in_err-all-clause-takes
 returns-in_err-all-clause-takes g c =
-    let old : OutsideTold = record { faults = g.O.Outside.faults c.args.outside.now; asked = g.O.Outside.asked c.args.outside.now; ended = g.O.Outside.ended c.args.outside.now; ended_links = g.O.Outside.ended_links c.args.outside.now; connections = g.O.Outside.connections c.args.outside.now; started = g.O.Outside.started c.args.outside.now } in
-    let door : DoorTold = record { connections = g.O.D.Door.connections c.args.door.now; faults = g.O.D.Door.faults c.args.door.now } in
+    let old : OutsideTold = g.O.Outside.told c.args.outside.now in
+    let door : DoorTold = g.O.D.Door.told c.args.door.now in
     takes-no-memory c.from_residual.result tt [] (worker_asks 4) old old door door c.from_residual.ensures.1 (takes-none old door)
 
 pub returns-in_err-ends-clause-takes : goal.returns-in_err-ends-clause-takes
 returns-in_err-ends-clause-takes g c =
-    let old : OutsideTold = record { faults = g.O.Outside.faults c.args.outside.now; asked = g.O.Outside.asked c.args.outside.now; ended = g.O.Outside.ended c.args.outside.now; ended_links = g.O.Outside.ended_links c.args.outside.now; connections = g.O.Outside.connections c.args.outside.now; started = g.O.Outside.started c.args.outside.now } in
-    let mid : OutsideTold = record { faults = g.O.Outside.faults c.workers.outside; asked = g.O.Outside.asked c.workers.outside; ended = g.O.Outside.ended c.workers.outside; ended_links = g.O.Outside.ended_links c.workers.outside; connections = g.O.Outside.connections c.workers.outside; started = g.O.Outside.started c.workers.outside } in
-    let new : OutsideTold = record { faults = g.O.Outside.faults c.ask_ends.new.outside; asked = g.O.Outside.asked c.ask_ends.new.outside; ended = g.O.Outside.ended c.ask_ends.new.outside; ended_links = g.O.Outside.ended_links c.ask_ends.new.outside; connections = g.O.Outside.connections c.ask_ends.new.outside; started = g.O.Outside.started c.ask_ends.new.outside } in
-    let door : DoorTold = record { connections = g.O.D.Door.connections c.args.door.now; faults = g.O.D.Door.faults c.args.door.now } in
-    let between : DoorTold = record { connections = g.O.D.Door.connections c.workers.door; faults = g.O.D.Door.faults c.workers.door } in
-    let after : DoorTold = record { connections = g.O.D.Door.connections c.ask_ends.new.door; faults = g.O.D.Door.faults c.ask_ends.new.door } in
+    let old : OutsideTold = g.O.Outside.told c.args.outside.now in
+    let mid : OutsideTold = g.O.Outside.told c.workers.outside in
+    let new : OutsideTold = g.O.Outside.told c.ask_ends.new.outside in
+    let door : DoorTold = g.O.D.Door.told c.args.door.now in
+    let between : DoorTold = g.O.D.Door.told c.workers.door in
+    let after : DoorTold = g.O.D.Door.told c.ask_ends.new.door in
     let k = length c.workers.all.items in
     let e = c.in_err-ends.field-0.0 in
     takes-as c.from_residual-in_err-ends.result _ _ old new door after (worker-next k (omega (arith, c.workers-test.true)))
@@ -28,12 +28,12 @@ returns-in_err-ends-clause-takes g c =
 
 pub returns-in_err-push-clause-takes : goal.returns-in_err-push-clause-takes
 returns-in_err-push-clause-takes g c =
-    let old : OutsideTold = record { faults = g.O.Outside.faults c.args.outside.now; asked = g.O.Outside.asked c.args.outside.now; ended = g.O.Outside.ended c.args.outside.now; ended_links = g.O.Outside.ended_links c.args.outside.now; connections = g.O.Outside.connections c.args.outside.now; started = g.O.Outside.started c.args.outside.now } in
-    let mid : OutsideTold = record { faults = g.O.Outside.faults c.workers.outside; asked = g.O.Outside.asked c.workers.outside; ended = g.O.Outside.ended c.workers.outside; ended_links = g.O.Outside.ended_links c.workers.outside; connections = g.O.Outside.connections c.workers.outside; started = g.O.Outside.started c.workers.outside } in
-    let new : OutsideTold = record { faults = g.O.Outside.faults c.ask_ends.new.outside; asked = g.O.Outside.asked c.ask_ends.new.outside; ended = g.O.Outside.ended c.ask_ends.new.outside; ended_links = g.O.Outside.ended_links c.ask_ends.new.outside; connections = g.O.Outside.connections c.ask_ends.new.outside; started = g.O.Outside.started c.ask_ends.new.outside } in
-    let door : DoorTold = record { connections = g.O.D.Door.connections c.args.door.now; faults = g.O.D.Door.faults c.args.door.now } in
-    let between : DoorTold = record { connections = g.O.D.Door.connections c.workers.door; faults = g.O.D.Door.faults c.workers.door } in
-    let after : DoorTold = record { connections = g.O.D.Door.connections c.ask_ends.new.door; faults = g.O.D.Door.faults c.ask_ends.new.door } in
+    let old : OutsideTold = g.O.Outside.told c.args.outside.now in
+    let mid : OutsideTold = g.O.Outside.told c.workers.outside in
+    let new : OutsideTold = g.O.Outside.told c.ask_ends.new.outside in
+    let door : DoorTold = g.O.D.Door.told c.args.door.now in
+    let between : DoorTold = g.O.D.Door.told c.workers.door in
+    let after : DoorTold = g.O.D.Door.told c.ask_ends.new.door in
     let k = length c.workers.all.items in
     takes-as c.from_residual-in_err-push.result _ _ old new door after (worker-next k (omega (arith, c.workers-test.true)))
     (takes-no-memory c.from_residual-in_err-push.result c.in_ok-ends.ends _ (worker_asks (3 - k)) old new door after c.from_residual-in_err-push.ensures.1
@@ -41,12 +41,12 @@ returns-in_err-push-clause-takes g c =
 
 pub workers-preserved : goal.workers-preserved
 workers-preserved g c =
-    let old : OutsideTold = record { faults = g.O.Outside.faults c.args.outside.now; asked = g.O.Outside.asked c.args.outside.now; ended = g.O.Outside.ended c.args.outside.now; ended_links = g.O.Outside.ended_links c.args.outside.now; connections = g.O.Outside.connections c.args.outside.now; started = g.O.Outside.started c.args.outside.now } in
-    let mid : OutsideTold = record { faults = g.O.Outside.faults c.workers.outside; asked = g.O.Outside.asked c.workers.outside; ended = g.O.Outside.ended c.workers.outside; ended_links = g.O.Outside.ended_links c.workers.outside; connections = g.O.Outside.connections c.workers.outside; started = g.O.Outside.started c.workers.outside } in
-    let new : OutsideTold = record { faults = g.O.Outside.faults c.ask_ends.new.outside; asked = g.O.Outside.asked c.ask_ends.new.outside; ended = g.O.Outside.ended c.ask_ends.new.outside; ended_links = g.O.Outside.ended_links c.ask_ends.new.outside; connections = g.O.Outside.connections c.ask_ends.new.outside; started = g.O.Outside.started c.ask_ends.new.outside } in
-    let door : DoorTold = record { connections = g.O.D.Door.connections c.args.door.now; faults = g.O.D.Door.faults c.args.door.now } in
-    let between : DoorTold = record { connections = g.O.D.Door.connections c.workers.door; faults = g.O.D.Door.faults c.workers.door } in
-    let after : DoorTold = record { connections = g.O.D.Door.connections c.ask_ends.new.door; faults = g.O.D.Door.faults c.ask_ends.new.door } in
+    let old : OutsideTold = g.O.Outside.told c.args.outside.now in
+    let mid : OutsideTold = g.O.Outside.told c.workers.outside in
+    let new : OutsideTold = g.O.Outside.told c.ask_ends.new.outside in
+    let door : DoorTold = g.O.D.Door.told c.args.door.now in
+    let between : DoorTold = g.O.D.Door.told c.workers.door in
+    let after : DoorTold = g.O.D.Door.told c.ask_ends.new.door in
     let k = length c.workers.all.items in
     let longer = ap length c.in_ok-push.ensures.items ∙ length-append c.workers.all.items (c.with_boot-first.result ∷ []) in
     record {
@@ -55,21 +55,18 @@ workers-preserved g c =
       fresh = rw c.in_ok-push.ensures.items (all-more _ c.workers.all.items c.with_boot-first.result c.workers.invariant.fresh
           (rw c.with_boot-first.ensures.door c.in_ok-ends.ensures.fresh));
       boot = inr (rw c.in_ok-push.ensures.items (first-more _ _ c.workers.all.items c.with_boot-first.result c.is_empty.result (c.is_empty.ensures ∙ ap (λ n. n == 0) c.workers.all.ok.0) c.workers.invariant.boot
-          (λ yes. record {
-            before = record { last = g.O.C.Clock.last c.in_ok-ends.ends.clock; gave = g.O.C.Clock.gave c.in_ok-ends.ends.clock; faults = g.O.C.Clock.faults c.in_ok-ends.ends.clock };
-            fresh = c.in_ok-ends.ensures.fresh_clock;
-            words = c.with_boot-first.ensures.first yes;
-          })
-          (λ no ends so. subst (λ b. AreFirstWords c.args.port (record { last = g.O.C.Clock.last ends.clock; gave = g.O.C.Clock.gave ends.clock; faults = g.O.C.Clock.faults ends.clock }) b)
+          (λ yes. first-words c.args.port (g.O.C.Clock.told c.in_ok-ends.ends.clock) (g.O.C.Clock.told c.with_boot-first.result.clock) _
+          c.in_ok-ends.ensures.fresh_clock (c.with_boot-first.ensures.first yes))
+          (λ no ends so. subst (λ b. AreFirstWords c.args.port (g.O.C.Clock.told ends.clock) b)
           (sym (c.with_boot-first.ensures.others no)) so)));
     }
 
 pub returns-clause-takes : goal.returns-clause-takes
 returns-clause-takes g c =
-    let old : OutsideTold = record { faults = g.O.Outside.faults c.args.outside.now; asked = g.O.Outside.asked c.args.outside.now; ended = g.O.Outside.ended c.args.outside.now; ended_links = g.O.Outside.ended_links c.args.outside.now; connections = g.O.Outside.connections c.args.outside.now; started = g.O.Outside.started c.args.outside.now } in
-    let new : OutsideTold = record { faults = g.O.Outside.faults c.workers.outside; asked = g.O.Outside.asked c.workers.outside; ended = g.O.Outside.ended c.workers.outside; ended_links = g.O.Outside.ended_links c.workers.outside; connections = g.O.Outside.connections c.workers.outside; started = g.O.Outside.started c.workers.outside } in
-    let door : DoorTold = record { connections = g.O.D.Door.connections c.args.door.now; faults = g.O.D.Door.faults c.args.door.now } in
-    let after : DoorTold = record { connections = g.O.D.Door.connections c.workers.door; faults = g.O.D.Door.faults c.workers.door } in
+    let old : OutsideTold = g.O.Outside.told c.args.outside.now in
+    let new : OutsideTold = g.O.Outside.told c.workers.outside in
+    let door : DoorTold = g.O.D.Door.told c.args.door.now in
+    let after : DoorTold = g.O.D.Door.told c.workers.door in
     let four : length c.workers.all.items ≡ 4 = omega (arith, c.workers.invariant.few, c.workers-test.false) in
     takes-as (Ok c.workers.all) _ _ old new door after (ap worker_asks four) (takes-ok tt c.workers.all _ old new door after c.workers.invariant.takes)
 

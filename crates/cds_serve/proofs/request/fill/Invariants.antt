@@ -5,8 +5,7 @@ use Rattle.cds_serve.proofs.request.fill.Given as goal
 
 abbrev pub invariant-pieces : goal.invariant-pieces
 invariant-pieces g l = record {
-  comes : (bytes : List ℕ) → ComesTo bytes (g.C.Source.left l.initial.conn) l.initial.reader → ComesTo bytes (g.C.Source.left l.conn) l.reader;
-  never_falls : g.C.Source.faults l.initial.conn ≤ g.C.Source.faults l.conn;
-  taken_stay : g.C.Sink.holds l.conn ≡ g.C.Sink.holds l.initial.conn;
-  write_faults_stay : g.C.Sink.faults l.conn ≡ g.C.Sink.faults l.initial.conn;
+  comes : (bytes : List ℕ) → ComesTo bytes (g.C.Source.told l.initial.conn).left l.initial.reader → ComesTo bytes (g.C.Source.told l.conn).left l.reader;
+  never_falls : (g.C.Source.told l.initial.conn).faults ≤ (g.C.Source.told l.conn).faults;
+  sink_stays : g.C.Sink.told l.conn ≡ g.C.Sink.told l.initial.conn;
 }

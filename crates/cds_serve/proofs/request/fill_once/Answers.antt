@@ -1,6 +1,5 @@
 -- What a piece makes of a reader.
-use Rattle.std.proofs.Common.{◌≡◌, Some, Ok, Err, length, arith, ap, ◌∙◌, subst}
-use Rattle.cds_http.specs.declared.message.Fed.TheVariants.{More, Whole}
+use Rattle.std.proofs.Common.{◌≡◌, Some, Ok, length, arith, ap, ◌∙◌, subst}
 use Rattle.cds_http.specs.declared.message.Side.TheVariants as side
 use Rattle.cds_http.specs.Reading.{Takes}
 use Rattle.cds_serve.proofs.Coming.{end-read, more-needed, piece-read, refused-now, whole-now}

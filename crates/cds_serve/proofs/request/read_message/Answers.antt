@@ -5,7 +5,7 @@ use Rattle.cds_serve.proofs.request.read_message.Goals as goal
 
 pub returns-clause-request : goal.returns-clause-request
 returns-clause-request g c = λ bytes told known d.
-    let comes : ComesTo bytes (g.C.Source.left c.args.conn.now) c.in_ok-reader.reader = record {
+    let comes : ComesTo bytes (g.C.Source.told c.args.conn.now).left c.in_ok-reader.reader = record {
       came = [];
       rest = bytes;
       all = refl;
@@ -17,7 +17,7 @@ returns-clause-request g c = λ bytes told known d.
 
 pub returns-clause-read : goal.returns-clause-read
 returns-clause-read g c = λ bytes told.
-    let comes : ComesTo bytes (g.C.Source.left c.args.conn.now) c.in_ok-reader.reader = record {
+    let comes : ComesTo bytes (g.C.Source.told c.args.conn.now).left c.in_ok-reader.reader = record {
       came = [];
       rest = bytes;
       all = refl;
@@ -25,4 +25,4 @@ returns-clause-read g c = λ bytes told.
       stands = c.in_ok-reader.ensures;
       needed = nothing-said;
     } in
-    c.request_of.ensures.read bytes (g.C.Source.left c.fill-filled.new.conn) (c.fill-filled.ensures.read bytes comes)
+    c.request_of.ensures.read bytes (g.C.Source.told c.fill-filled.new.conn).left (c.fill-filled.ensures.read bytes comes)

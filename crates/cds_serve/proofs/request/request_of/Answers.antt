@@ -1,4 +1,4 @@
-use Rattle.std.proofs.Common.{List, ℕ, sym, subst}
+use Rattle.std.proofs.Common.{sym, subst}
 use Rattle.cds_serve.specs.Requested.{IsFilled, IsLastBy}
 use Rattle.cds_serve.proofs.Coming.{caused, no-failure, reads-as}
 use Rattle.cds_serve.proofs.request.request_of.Goals as goal

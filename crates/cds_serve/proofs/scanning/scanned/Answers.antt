@@ -6,4 +6,4 @@ returns-in-Ok-clause-given g c = record { found = c.in-Ok.ensures.found; unread 
 
 pub returns-in-Ok-clause-few : goal.returns-in-Ok-clause-few
 returns-in-Ok-clause-few g c =
-    few-records (g.F.Folder.tree c.args.folder.now) (g.F.Folder.contents c.args.folder.now) c.in-Ok.found c.in-Ok.ensures.found
+    few-records (g.F.Folder.told c.args.folder.now).tree (g.F.Folder.told c.args.folder.now).contents c.in-Ok.found c.in-Ok.ensures.found

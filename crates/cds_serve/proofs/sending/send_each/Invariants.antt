@@ -5,6 +5,6 @@ use Rattle.cds_serve.proofs.sending.send_each.Given as goal
 
 abbrev pub invariant-notes : goal.invariant-notes
 invariant-notes g l = record {
-  given : GivesEach (map (note_request l.body) (take l.address-index l.to)) (g.L.Link.requests l.initial.link) (g.L.Link.requests l.link);
-  never_falls : g.L.Link.faults l.initial.link ≤ g.L.Link.faults l.link;
+  given : GivesEach (map (note_request l.body) (take l.address-index l.to)) (g.L.Link.told l.initial.link).requests (g.L.Link.told l.link).requests;
+  never_falls : (g.L.Link.told l.initial.link).faults ≤ (g.L.Link.told l.link).faults;
 }

@@ -38,7 +38,7 @@ returns-in_err-feed-in-Ok-clause-long g c =
     let fed = c.loop-count.invariant.0 in
     rw (error.1, error.2)
     (on-limit _ _ _
-    (λ long. moved-past (g.S.Source.moved c.args.source.now) ((INPUT_LIMIT - c.loop-count.left) + c.in-Ok.count) _
+    (λ long. moved-past (g.S.Source.told c.args.source.now).moved ((INPUT_LIMIT - c.loop-count.left) + c.in-Ok.count) _
     (piece-past fed.bytes c.split_at.result.0.now c.loop-count.left c.in-Ok.count fed.within c.split_at.ensures.front_len long)
     (c.in-Ok.ensures.count ∙ c.loop-count.invariant.2 c.in-Ok.count))
     (c.in_err-feed-in-Ok.ensures.long fed.bytes fed.is))
@@ -67,9 +67,9 @@ loop-count-preserved g c =
       λ n.
           let more : (INPUT_LIMIT - c.loop-count.left) + (c.in-Ok.count + n) ≡ (INPUT_LIMIT - (c.loop-count.left - c.in-Ok.count)) + n = omega (arith, few, fed.within) in
           ap (λ m. raised m n) c.in-Ok.ensures.count
-          ∙ raised-twice (g.S.Source.moved c.loop-count.source) c.in-Ok.count n
+          ∙ raised-twice (g.S.Source.told c.loop-count.source).moved c.in-Ok.count n
           ∙ c.loop-count.invariant.2 (c.in-Ok.count + n)
-          ∙ ap (raised (g.S.Source.moved c.args.source.now)) more,
+          ∙ ap (raised (g.S.Source.told c.args.source.now).moved) more,
       omega (arith, c.loop-count.invariant.3, c.in-Ok.ensures.never_falls),
       omega (arith, c.loop-count.invariant.4, moved, few, fed.within),
     )

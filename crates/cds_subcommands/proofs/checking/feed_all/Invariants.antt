@@ -8,10 +8,10 @@ use Rattle.cds_subcommands.proofs.checking.feed_all.Given as goal
 abbrev pub invariant-loop-count : goal.invariant-loop-count
 invariant-loop-count g l =
     SoFar l.left l.reader
-    × ((bytes : List ℕ) → g.S.Source.left l.initial.source ≡ Some bytes → Coming l.reader (g.S.Source.left l.source) bytes)
-    × ((n : ℕ) → raised (g.S.Source.moved l.source) n ≡ raised (g.S.Source.moved l.initial.source) ((INPUT_LIMIT - l.left) + n))
-    × (g.S.Source.faults l.initial.source ≤ g.S.Source.faults l.source)
-    × (g.S.Source.moved l.source ≤ g.S.Source.moved l.initial.source + (INPUT_LIMIT - l.left))
+    × ((bytes : List ℕ) → (g.S.Source.told l.initial.source).left ≡ Some bytes → Coming l.reader (g.S.Source.told l.source).left bytes)
+    × ((n : ℕ) → raised (g.S.Source.told l.source).moved n ≡ raised (g.S.Source.told l.initial.source).moved ((INPUT_LIMIT - l.left) + n))
+    × ((g.S.Source.told l.initial.source).faults ≤ (g.S.Source.told l.source).faults)
+    × ((g.S.Source.told l.source).moved ≤ (g.S.Source.told l.initial.source).moved + (INPUT_LIMIT - l.left))
 
 abbrev pub decreases-loop-count : goal.decreases-loop-count
 decreases-loop-count g l = l.left

@@ -2,7 +2,7 @@
 use Rattle.std.proofs.Common.{◌≡◌}
 use Rattle.std.specs.Arc.{arc_value}
 use Rattle.cds_turn.specs.Line.{Extends}
-use Rattle.cds_turn.specs.Turn.{IsSeatOf, passes_of, seats_of, seen_by}
+use Rattle.cds_turn.specs.Turn.{IsSeatOf, own_by, passes_of, seats_of, seen_by}
 use Rattle.cds_serve.specs.Jobs.{AddsTicks}
 use Rattle.cds_serve.proofs.notifier.NotifierJob.run.Given as goal
 
@@ -11,5 +11,6 @@ invariant-looks g l = record {
   seat : IsSeatOf (arc_value l.turn) l.seat;
   passes : passes_of l.seat ≡ passes_of l.initial.seat;
   begun : Extends (seen_by l.seat) (seen_by l.initial.seat);
+  own : AddsTicks (own_by l.initial.seat) (own_by l.seat);
   alone : passes_of l.seat ≡ seats_of (arc_value l.turn) → AddsTicks (seen_by l.initial.seat) (seen_by l.seat);
 }
