@@ -76,6 +76,8 @@ impl Act<Newest> for Set {
 
     ghost answers = { λ _ _ _ _. ⊤ };
 
+    ghost does = { λ _ _ _ _. ⊤ };
+
     fn act(self, value: &mut Newest) -> ((), u64) {
         value.mixed = mix(value.mixed, self.rounds);
         value.number = self.number;

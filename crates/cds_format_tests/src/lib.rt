@@ -7,6 +7,8 @@ mod door_tests;
 #[cfg(test)]
 mod flac_tests;
 #[cfg(test)]
+mod folder_tests;
+#[cfg(test)]
 mod made;
 #[cfg(test)]
 mod memory_tests;
