@@ -5,6 +5,7 @@
 #   of 5,000 (goal: at most 1.3 times), and the last of 50,000 against the first (goal: at most 1.2 times);
 # - a page of 256 of 50,000 tracks that are all at the root, against one of 5,000 (goal: at most 1.3 times), and the last
 #   page against the first (goal: at most 1.2 times); the same of the folders of the other library;
+# - the part of the time of such a page in which `cds serve` has the turn of the server (goal: at most a quarter);
 # - the first page of tracks against the C program of bench/didl.sh, which writes a page of 256 tracks as DIDL-Lite and
 #   neither finds its rows nor escapes the page into an envelope (goal: at most 3 times its time).
 # With the word `count`, valgrind counts instructions in place of the times, which takes some minutes more: so the ratios
@@ -32,7 +33,7 @@ cat >"$work/crates/browse_pace/src/main.rt" <<'RT'
 use cds_base::{Mem, Text, put};
 use cds_http::{HttpError, Message, MessageReader, Side};
 use cds_object::{Content, Path, PathError, Record, Records, TrackContent};
-use cds_server::Server;
+use cds_server::{Server, read_asked, write_made};
 use std::alloc::{AllocError, Global};
 use std::env;
 use std::io::{Write, writer};
@@ -193,12 +194,39 @@ fn replied(alloc: Global, server: &mut Server, message: &Message) -> Result<Vec<
     Ok(out)
 }
 
-/// The lengths in all of the replies to a message that comes so many times.
-fn replies(alloc: Global, server: &mut Server, message: &Message, times: u32) -> Result<u64, Mem> {
-    let mut all: u64 = 0;
+/// What replies took: their lengths in all, and the nanoseconds in which the server was needed.
+#[derive(Clone, Copy)]
+struct Taken {
+    bytes: u64,
+    turn: u64,
+}
+
+/// The reply to a message in the three parts that `cds serve` runs, of which only the second one has the turn.
+fn parts(rt: &HostRuntime, server: &mut Server, message: &Message) -> Result<Taken, anyhow::Error> {
+    let alloc = rt.alloc();
+    let asking = read_asked(alloc, message)?;
+    let start = Instant::now(rt)?;
+    let answered = server.answer(alloc, 0, &asking)?;
+    let turn = start.elapsed(rt)?.as_nanos() as u64;
+    let text = write_made(alloc, asking, answered.made)?;
+    Ok(Taken {
+        bytes: text.len() as u64,
+        turn,
+    })
+}
+
+/// What the replies to a message that comes so many times take.
+fn replies(
+    rt: &HostRuntime,
+    server: &mut Server,
+    message: &Message,
+    times: u32,
+) -> Result<Taken, anyhow::Error> {
+    let mut all = Taken { bytes: 0, turn: 0 };
     for _ in 0..times {
-        let reply = replied(alloc, server, message)?;
-        all = all.wrapping_add(reply.len() as u64);
+        let one = parts(rt, server, message)?;
+        all.bytes = all.bytes.wrapping_add(one.bytes);
+        all.turn = all.turn.wrapping_add(one.turn);
     }
     Ok(all)
 }
@@ -226,7 +254,7 @@ fn words_of(rt: &HostRuntime) -> Words {
     }
 }
 
-/// Writes the reply, or prints the lengths in all and the nanoseconds of so many replies.
+/// Writes the reply, or prints of so many replies the lengths in all, the nanoseconds, and those in which the server was needed.
 fn told(
     rt: &HostRuntime,
     server: &mut Server,
@@ -239,9 +267,11 @@ fn told(
         return Ok(());
     }
     let start = Instant::now(rt)?;
-    let all = replies(rt.alloc(), server, message, times)?;
+    let all = replies(rt, server, message, times)?;
     let taken = start.elapsed(rt)?.as_nanos();
-    println!(rt; "{all} {taken}")?;
+    let bytes = all.bytes;
+    let turn = all.turn;
+    println!(rt; "{bytes} {taken} {turn}")?;
     Ok(())
 }
 
@@ -283,6 +313,11 @@ def once(command, times):
     if how == "count":
         return (counted(command, 2 + times) - counted(command, 2)) / times / 1000
     return int(run([*command, str(times)]).split()[1]) / times / 1000
+
+def turn_share(command, times):
+    """The part of the time in which the server was needed."""
+    taken, turn = map(int, run([*command, str(times)]).split()[1:])
+    return turn / taken
 
 # A library, the container whose children are asked, from which place on, how many, and how many there are in all.
 # Ids go up with places, so the folder at a place n from 0 has the id 1 + 13 n.
@@ -328,6 +363,9 @@ def told(what, name):
 told("an album of 12 of 50,000 tracks", "album")
 told("a page of 256 of 50,000 tracks at the root", "page")
 told("a page of 256 of 4,167 folders", "folders")
+if how != "count":
+    share = min(turn_share(command["page"], times["page"]) for _ in range(rounds))
+    print(f"of the page of tracks, {share:.0%} of the time needs the server's turn (goal: at most 25 %)")
 ours = least["page"]
 rates = "" if how == "count" else f" ({sizes['page'] / ours:.0f} MB/s of reply, and {document / c:.0f} of document)"
 print(f"the page of tracks against the C program's, {document} bytes: {ours:.1f} and {c:.1f} {unit}, {ours / c:.2f} times its time{rates} (goal: at most 3)")

@@ -16,7 +16,7 @@ trap 'rm -rf "$work"' EXIT
 # A program over the crate, in a repository of its own. It reads a page on its standard input. With 0 as its word it
 # writes the answer with this page, and with another number it writes and reads as often and prints the nanoseconds.
 mkdir -p "$work/crates/soap_pace/src"
-libraries='cds_base cds_object cds_markup cds_http cds_soap'
+libraries='cds_base cds_escape cds_object cds_markup cds_http cds_soap'
 for name in $libraries; do
     tar -C "$top/crates" --exclude=out --exclude=must-fail -cf - "$name" | tar -C "$work/crates" -xf -
     grep "^$name:" "$top/crates.txt" >>"$work/crates.txt"

@@ -1,10 +1,6 @@
 pub mod Parts
 pub mod Escapes
-pub mod Given
 pub mod Lanes
 pub mod Numbers
-pub mod Pieces
-pub mod References
-pub mod Semicolons
 pub mod Plain
 pub mod Wide

@@ -8,10 +8,9 @@ use Rattle.std.proofs.lemmas.Bool.Decides.{nat_tests}
 use Rattle.std.proofs.lemmas.Fmt.{decimal_by_steps}
 use Rattle.std.proofs.lemmas.Grind.{flat_map-append}
 use Rattle.std.proofs.lemmas.Str.{encode_ascii, digit_value_digit}
-use Rattle.cds_base.specs.Characters.{is_allowed}
+use Rattle.cds_base.specs.Characters.{is_allowed, AreAllowed}
 use Rattle.cds_base.specs.Escape.{escaped, escaped_byte}
 use Rattle.cds_base.specs.Number.{value_in, is_number_in, number_below}
-use Rattle.cds_base.specs.Unescape.{AreAllowed}
 use Rattle.cds_base.proofs.Numbers.{value_in-push}
 
 pub and-both : (s t : Bool) → s ≡ true → t ≡ true → (s && t) ≡ true

@@ -1,12 +1,6 @@
-pub mod Asked
 pub mod Characters
-pub mod Entries
 pub mod Escape
 pub mod Limits
-pub mod Links
 pub mod Number
-pub mod Outside
 pub mod Reference
 pub mod Runs
-pub mod Told
-pub mod Unescape

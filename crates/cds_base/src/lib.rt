@@ -1,25 +1,19 @@
-//! What every crate of Faroash stands on: texts and lists of the project's own, small functions on text, and the outside
-//! (streams, folders, clocks, doors, links, threads).
+//! What every crate of Faroash stands on: texts and lists of the project's own, and small functions on text.
 #![tactic(auto)]
 
+pub mod laws;
 mod limits;
 mod mem;
 mod order;
-mod outside;
 mod sequence;
 mod text;
 
-pub use limits::{INPUT_LIMIT, input_limit_is_64_mib};
+pub use limits::INPUT_LIMIT;
 pub use mem::Mem;
-pub use outside::{
-    Attempt, Clock, Conn, Door, Entry, Failed, Folder, FolderFault, Gate, Job, Link, LinkFault,
-    LinkRequest, NoGate, Outside, OutsideFault, Running, Runtime, Sink, Source, Spawner, Trace,
-    empty_piece, read_piece, write_all,
-};
 pub use sequence::Sequence;
 pub use text::{
-    Text, TextError, escape, escaped_length, first_forbidden, is_allowed, letters_run, plain_run,
-    put, put_escaped, put_number, read_plain, read_u32, read_u64, unescape,
+    Text, escape, first_forbidden, is_allowed, letters_run, plain_run, put, put_number,
+    read_digits, read_plain, read_u32, read_u64,
 };
 
 /// A list of bytes.

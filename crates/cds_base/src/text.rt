@@ -2,23 +2,21 @@
 
 ghost use Rattle.std.specs.Prelude.{◌≡◌, ℕ, List, length, IfOk, string_bytes};
 
-mod escaped;
+mod characters;
 mod escaping;
 mod number;
 mod putting;
 mod runs;
-mod unescaping;
 
 use crate::Mem;
-pub use escaped::{escaped_length, put_escaped};
+pub use characters::is_allowed;
 pub use escaping::escape;
-pub use number::{read_plain, read_u32, read_u64};
+pub use number::{read_digits, read_plain, read_u32, read_u64};
 pub use putting::{put, put_number};
 pub use runs::{first_forbidden, letters_run, plain_run};
 use std::alloc::Global;
 use std::convert::From;
 use std::marker::Model;
-pub use unescaping::{TextError, is_allowed, unescape};
 
 /// A text in UTF-8. Contracts see the list of its bytes.
 #[derive(Drop, Debug)]

@@ -1,5 +1,5 @@
 pub mod Browsing
-pub mod Evaluated
+pub mod Examples
 pub mod Kept
 pub mod Laws
 pub mod Runs

@@ -3,16 +3,14 @@
 
 mod browsing;
 mod error;
-mod examples;
-mod laws;
+pub mod examples;
+pub mod laws;
 mod page;
 mod runs;
 mod sort;
 
 pub use browsing::browse;
 pub use error::BrowseError;
-pub use examples::pages_are_counted;
-pub use laws::{an_object_is_one_row, pages_are_bounded, pages_show_each_child_once};
 pub use page::{PAGE_LIMIT, Page};
 pub use runs::run_scans;
 pub use sort::SortKeys;

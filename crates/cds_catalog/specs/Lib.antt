@@ -1,5 +1,5 @@
 pub mod Catalog
-pub mod Evaluated
+pub mod Examples
 pub mod FoundLaws
 pub mod History
 pub mod Library

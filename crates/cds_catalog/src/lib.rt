@@ -3,7 +3,7 @@
 #![tactic(auto)]
 
 mod change;
-pub mod evaluated;
+pub mod examples;
 pub mod laws;
 
 pub use change::Change;

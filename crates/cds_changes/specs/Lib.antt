@@ -1,6 +1,6 @@
 pub mod ContainerLaws
 pub mod Containers
-pub mod Evaluated
+pub mod Examples
 pub mod Events
 pub mod Laws
 pub mod MarkLaws

@@ -1,5 +1,5 @@
 pub mod Commands
-pub mod Evaluated
+pub mod Examples
 pub mod Names
 pub mod NoteLaws
 pub mod Notes

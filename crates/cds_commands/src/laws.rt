@@ -38,11 +38,6 @@ pub fn names_are_short()
     ensures { names.names_are_short }
 {}
 
-/// States names that are evaluated from their definition.
-pub fn names_evaluated()
-    ensures { names.names_evaluated }
-{}
-
 /// States that a subscription lives at a moment if and only if all of this holds: it was granted; it was not given up; no tick
 /// came at or past its end; the moment is before its end; and it has a SEQ left. Its end is that of its grant or its last
 /// renewal.

@@ -2,5 +2,5 @@
 //! the notes that it sends. The crate has definitions and laws alone, so that a server and a replica stand on one text.
 #![tactic(auto)]
 
-pub mod evaluated;
+pub mod examples;
 pub mod laws;

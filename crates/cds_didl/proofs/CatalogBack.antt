@@ -20,7 +20,7 @@ use Rattle.cds_catalog.specs.Catalog.{catalog}
 use Rattle.cds_catalog.proofs.Accepted.{accepted_map}
 use Rattle.cds_catalog.proofs.StepsTree.{catalogs_are_trees-proof}
 use Rattle.cds_catalog.proofs.StepsWithin.{rows_are_within-proof}
-use Rattle.cds_base.specs.Unescape.{AreAllowed}
+use Rattle.cds_base.specs.Characters.{AreAllowed}
 use Rattle.cds_didl.specs.ReadBack.{HasAllowedTexts, AreCounts, HasRanges, IsWritable}
 use Rattle.cds_didl.specs.Plain.{IsPlainText, HasPlainTexts, IsPlain, history_of, ArePlainRecords, CatalogsAreReadBack}
 use Rattle.cds_didl.proofs.Plain.{rows-are-plain}

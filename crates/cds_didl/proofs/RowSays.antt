@@ -3,7 +3,7 @@ use Rattle.std.proofs.Common.{◌≡◌, ℕ, ◌^◌, ◌<◌, ◌≤◌, suc, 
 use Rattle.std.specs.Prelude.{IfSome}
 use Rattle.std.specs.List.{AllByRecursion}
 use Rattle.std.specs.Fmt.{decimal}
-use Rattle.cds_base.specs.Unescape.{AreAllowed}
+use Rattle.cds_base.specs.Characters.{AreAllowed}
 use Rattle.cds_markup.specs.declared.name.Name.{Name}
 use Rattle.cds_markup.specs.declared.name.Attr.{Attr}
 use Rattle.cds_markup.specs.declared.tag.Declaration.{Declaration}

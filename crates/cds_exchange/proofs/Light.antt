@@ -8,9 +8,8 @@ use Rattle.std.proofs.lemmas.Fmt.{length-decimal-le}
 use Rattle.std.proofs.lemmas.Grind.{flat_map-append}
 use Rattle.std.proofs.lemmas.List.{append-nil}
 use Rattle.std.proofs.lemmas.Str.{encode_ascii}
-use Rattle.cds_base.specs.Characters.{is_allowed}
+use Rattle.cds_base.specs.Characters.{is_allowed, AreAllowed}
 use Rattle.cds_base.specs.Escape.{escaped, escaped_byte}
-use Rattle.cds_base.specs.Unescape.{AreAllowed}
 use Rattle.cds_object.specs.Writing.{number_attribute, text_element, number_element}
 use Rattle.cds_base.proofs.Escapes.{kept_char}
 use Rattle.cds_object.specs.Fragment.{if_there}

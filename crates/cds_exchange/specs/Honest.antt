@@ -2,7 +2,7 @@
 -- DIDL-Lite).
 use Rattle.std.specs.Prelude.{◌<◌, ◌≤◌, ◌^◌, ℕ, IsTrue, None, List, length}
 use Rattle.std.specs.List.{AllByRecursion}
-use Rattle.cds_base.specs.Unescape.{AreAllowed}
+use Rattle.cds_base.specs.Characters.{AreAllowed}
 use Rattle.cds_object.specs.Object.{ObjectRow}
 use Rattle.cds_object.specs.Tree.{IsTree}
 use Rattle.cds_didl.specs.Fragment.{didl_text}

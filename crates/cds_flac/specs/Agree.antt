@@ -1,6 +1,6 @@
 -- What a reading call answers, compared with the definition over the bytes that its source had left.
 use Rattle.std.specs.Prelude.{◌≡◌, ℕ, ◌+◌, ◌-◌, ◌≤◌, ⊤, Option, Some, Result, Ok, Err, List}
-use Rattle.cds_base.specs.Outside.{Rose}
+use Rattle.cds_outside.specs.Outside.{Rose}
 use Rattle.cds_flac.specs.declared.error.FlacError.{FlacError}
 use Rattle.cds_flac.specs.declared.error.FlacError.TheVariants.{NotFlac, NoStreamInfo, BadStreamInfo, Forbidden, Truncated, BadComment, TooLong, ReadFault, Mem}
 use Rattle.cds_flac.specs.Step.{Step}

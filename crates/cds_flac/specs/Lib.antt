@@ -4,5 +4,5 @@ pub mod Step
 pub mod Reading
 pub mod Form
 pub mod Agree
-pub mod Vector
+pub mod Examples
 pub mod Refused

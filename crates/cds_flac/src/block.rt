@@ -2,14 +2,15 @@
 
 ghost use Rattle.std.specs.Prelude.{◌≡◌, ◌==◌, ◌+◌, ◌%◌, ◌<◌, ◌≤◌, ◌^◌, nat_le, false, IfOk};
 ghost use Rattle.cds_base.specs.declared.limits.TheConstants.{INPUT_LIMIT};
-ghost use Rattle.cds_base.specs.Outside.{Told};
+ghost use Rattle.cds_outside.specs.Outside.{Told};
 ghost use Rattle.cds_flac.specs.Agree.{Agrees, FaultRose, Took};
 ghost use Rattle.cds_flac.specs.Reading.{header_at, block_body, further_blocks, is_first_comment, is_last, kind_of};
 
 use crate::comments::read_comment_block;
 use crate::input::{pass_over, read_byte, read_length};
 use crate::{Comments, FlacError};
-use cds_base::{INPUT_LIMIT, Source};
+use cds_base::INPUT_LIMIT;
+use cds_outside::Source;
 use std::alloc::Global;
 
 /// The type that a file may not have (RFC 9639 on metadata block types).

@@ -3,14 +3,15 @@
 ghost use Rattle.std.specs.Prelude.{◌≡◌, ◌==◌, position, ◌+◌, ◌-◌, ◌≤◌, length, IfOk};
 ghost use Rattle.std.specs.Str.{is_utf8};
 ghost use Rattle.std.specs.List.{list_all};
-ghost use Rattle.cds_base.specs.Outside.{Told};
+ghost use Rattle.cds_outside.specs.Outside.{Told};
 ghost use Rattle.cds_flac.specs.Agree.{Agrees, FaultRose, Took};
 ghost use Rattle.cds_flac.specs.Comment.{comment_of, is_name, is_name_byte, named};
 ghost use Rattle.cds_flac.specs.Reading.{comment_block, counted_comments, comments_from, text_at};
 
 use crate::input::{pass_over, read_count, read_text};
 use crate::{Comment, Comments, FlacError};
-use cds_base::{Bytes, Mem, Source, Text};
+use cds_base::{Bytes, Mem, Text};
+use cds_outside::Source;
 use std::alloc::Global;
 
 /// Reads the comments of a VORBIS_COMMENT block's body, from its place to its end.

@@ -3,7 +3,7 @@
 ghost use Rattle.cds_flac.specs.declared.error.FlacError.TheVariants.{ReadFault, Mem};
 ghost use Rattle.std.specs.Prelude.{◌≡◌};
 
-use cds_base::Failed;
+use cds_outside::Failed;
 use std::alloc::AllocError;
 use thiserror::Error;
 

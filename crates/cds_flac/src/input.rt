@@ -1,12 +1,13 @@
 //! Bytes and numbers of a source, read at their places.
 
 ghost use Rattle.std.specs.Prelude.{◌≡◌, ◌+◌, ◌*◌, ◌<◌, ◌≤◌, ◌^◌, length, IfOk};
-ghost use Rattle.cds_base.specs.Outside.{Told};
+ghost use Rattle.cds_outside.specs.Outside.{Told};
 ghost use Rattle.cds_flac.specs.Step.{taken, big_number, little_number};
 ghost use Rattle.cds_flac.specs.Agree.{Agrees, Fills, Passes, FaultRose, Took};
 
 use crate::FlacError;
-use cds_base::{Bytes, Source};
+use cds_base::Bytes;
+use cds_outside::Source;
 use std::alloc::Global;
 use std::convert::From;
 

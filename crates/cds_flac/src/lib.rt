@@ -4,7 +4,7 @@
 mod block;
 mod comments;
 mod error;
-pub mod evaluated;
+pub mod examples;
 mod input;
 mod read;
 

@@ -1,7 +1,7 @@
 //! The reader of the metadata: the marker, STREAMINFO and the blocks after it (RFC 9639).
 
 ghost use Rattle.std.specs.Prelude.{◌≡◌, ◌<◌, ◌≤◌, ◌^◌, IfOk};
-ghost use Rattle.cds_base.specs.Outside.{Told};
+ghost use Rattle.cds_outside.specs.Outside.{Told};
 ghost use Rattle.cds_flac.specs.Agree.{Agrees, FaultRose, Took};
 ghost use Rattle.cds_flac.specs.Form.{BeginsWith, ReadsWhatBegins};
 ghost use Rattle.cds_flac.specs.Numbers.{sound_bits};
@@ -12,7 +12,7 @@ ghost use Rattle.cds_flac.specs.Reading.{info_of, metadata, stream_head, sound_a
 use crate::block::{is_last_head, kind_of_head, read_further_blocks};
 use crate::input::{fill, read_byte, read_length};
 use crate::{Comments, FlacError, FlacInfo};
-use cds_base::Source;
+use cds_outside::Source;
 use std::alloc::Global;
 
 /// Reads the metadata at the beginning of a FLAC file (RFC 9639): the marker and the metadata blocks, and nothing after the last

@@ -3,8 +3,8 @@ use Rattle.std.proofs.Common.{◌∷◌, refl, arith}
 use Rattle.cds_catalog.specs.Laws.{IsLibrary}
 use Rattle.cds_follow.specs.Given.{Asks, Gets, IsGiven}
 use Rattle.cds_commands.specs.Commands.{AreAccepted}
-use Rattle.cds_commands.specs.Evaluated.{one, two, added, added_other}
-use Rattle.cds_follow.specs.Evaluated.{prepared, tracks_come, a_token}
+use Rattle.cds_commands.specs.Examples.{one, two, added, added_other}
+use Rattle.cds_follow.specs.Examples.{prepared, tracks_come, a_token}
 
 one-is : IsLibrary one
 one-is = record { ascending = tt; rootless = (refl, tt); held = (refl, tt) }

@@ -1,5 +1,5 @@
 pub mod Copy
-pub mod Evaluated
+pub mod Examples
 pub mod Follow
 pub mod Given
 pub mod HonestLaws

@@ -1,8 +1,9 @@
 //! Tests of doors in memory, which share their connections under a lock, and of jobs in threads of their own.
 
 use crate::made::{MEMORY, answer, answer_next, numbers, source};
-use cds_base::{Bytes, Door, Failed, Gate, Job, NoGate, Sequence, Sink, Source, Spawner};
+use cds_base::{Bytes, Sequence};
 use cds_memory::{MemConn, MemDoor, MemSink, MemSpawner};
+use cds_outside::{Door, Failed, Gate, Job, NoGate, Sink, Source, Spawner};
 use std::alloc::Global;
 use std::marker::Send;
 use std::process::Abort;
@@ -34,14 +35,33 @@ fn door<R: Wait + Clone + Copy + Drop + Abort>(
     MemDoor::new(rt, alloc, conns, fails).expect(&rt, MEMORY)
 }
 
-/// Accepts once. Returns whether a connection came.
-fn accepts<D: Door>(door: &mut D) -> bool {
-    door.accept().is_ok()
+/// Accepts by a handle, and checks whether a connection comes.
+fn check_accept<R: Abort, D: Door>(rt: &R, door: &mut D, comes: bool, call: &str) {
+    assert!(rt; door.accept().is_ok() == comes, "{call}");
 }
 
-/// Returns whether a handle of a door has accepted `connections` connections and has `faults` faults.
-fn has_accepted<R: Wait + Clone + Drop>(door: &MemDoor<R>, connections: u64, faults: u64) -> bool {
-    door.connections() == connections && door.faults() == faults
+/// Checks that a handle has accepted `connections` connections, and has `faults` faults.
+fn check_counts<R: Wait + Clone + Drop + Abort>(
+    rt: &R,
+    door: &MemDoor<R>,
+    connections: u64,
+    faults: u64,
+    handle: &str,
+) {
+    assert!(rt;
+        door.connections() == connections,
+        "{handle}: its connections"
+    );
+    assert!(rt; door.faults() == faults, "{handle}: its faults");
+}
+
+/// Accepts by two handles in turn. Both connections come, the second one at the second try.
+fn check_both<R: Abort, D: Door>(rt: &R, first: &mut D, second: &mut D) {
+    check_accept(rt, second, true, "the second handle's connection");
+    check_accept(rt, first, false, "the call that is to fail");
+    check_accept(rt, first, true, "the first handle's connection");
+    check_accept(rt, first, false, "the first handle, with nothing left");
+    check_accept(rt, second, false, "the second handle, with nothing left");
 }
 
 #[test]
@@ -49,33 +69,32 @@ fn handles_of_a_door_share_its_connections(rt: HostRuntime) {
     let mut first = door(rt, rt.alloc(), "a bc", &[1, 4]);
     assert!(rt; first.again().is_err());
     let mut second = first.again().expect(&rt, HANDLE);
-    let came = [
-        accepts(&mut second),
-        accepts(&mut first),
-        accepts(&mut first),
-    ];
-    let more = [accepts(&mut first), accepts(&mut second)];
-    assert!(rt; came == [true, false, true] && more == [false, false]);
-    assert!(rt; has_accepted(&first, 1, 3) && has_accepted(&second, 1, 1));
+    check_both(&rt, &mut first, &mut second);
+    check_counts(&rt, &first, 1, 3, "the first handle");
+    check_counts(&rt, &second, 1, 1, "the second handle");
 }
 
-/// Returns whether `want` bytes were written at a connection of a door; `None` says that there is no such connection.
-fn has_written<R: Wait + Clone + Drop + Abort>(
+/// Checks that `want` bytes were written at a connection of a door; `None` says that there is no such connection.
+fn check_written<R: Wait + Clone + Drop + Abort>(
     rt: &R,
     alloc: Global,
     door: &MemDoor<R>,
     at: usize,
     want: Option<usize>,
-) -> bool {
+) {
     let written = door.written(alloc, at).expect(rt, MEMORY);
-    written.map(|bytes| bytes.len()) == want
+    let length = written.map(|bytes| bytes.len());
+    assert!(rt; length == want, "what was written at connection {at}");
 }
 
-/// Returns whether two connections are read and written, the second one first, and the first one then fails.
-fn both_are_used<C: Source + Sink>(first: &mut C, second: &mut C) -> bool {
-    let both = [answer(second, b"ok"), answer(first, b"ok")];
-    let again = answer(first, b"ok");
-    both == [Ok((2, 2)), Ok((1, 2))] && again == Err(Failed)
+/// Reads and writes at a connection, and checks how many bytes were read and written.
+fn check_answer<R: Abort, C: Source + Sink>(
+    rt: &R,
+    conn: &mut C,
+    want: Result<(usize, usize), Failed>,
+    call: &str,
+) {
+    assert!(rt; answer(conn, b"ok") == want, "{call}");
 }
 
 #[test]
@@ -84,10 +103,12 @@ fn a_door_shows_what_was_written(rt: HostRuntime) {
     let mut door = door(rt, alloc, "a bc", &[]);
     let mut first = door.accept().expect(&rt, "no first connection");
     let mut second = door.accept().expect(&rt, "no second connection");
-    assert!(rt; both_are_used(&mut first, &mut second));
-    assert!(rt; has_written(&rt, alloc, &door, 0, Some(2)));
-    assert!(rt; has_written(&rt, alloc, &door, 1, Some(2)));
-    assert!(rt; has_written(&rt, alloc, &door, 2, None));
+    check_answer(&rt, &mut second, Ok((2, 2)), "the second connection");
+    check_answer(&rt, &mut first, Ok((1, 2)), "the first connection");
+    check_answer(&rt, &mut first, Err(Failed), "its next read, which fails");
+    check_written(&rt, alloc, &door, 0, Some(2));
+    check_written(&rt, alloc, &door, 1, Some(2));
+    check_written(&rt, alloc, &door, 2, None);
 }
 
 /// A job that takes a connection of its door and answers how many bytes it read.
@@ -123,6 +144,12 @@ fn job_at<R: Wait + Clone + Drop + Abort>(
     Reading { door, gate }
 }
 
+/// Checks what a job answered: its handle, which accepted one connection, and the two bytes that it read.
+fn check_job<R: Wait + Clone + Drop + Abort>(rt: &R, answer: &(MemDoor<R>, usize), job: &str) {
+    check_counts(rt, &answer.0, 1, 0, job);
+    assert!(rt; answer.1 == 2, "{job}: what it read");
+}
+
 #[test]
 fn jobs_run_in_threads_of_their_own(rt: HostRuntime) {
     let alloc = rt.alloc();
@@ -133,9 +160,8 @@ fn jobs_run_in_threads_of_their_own(rt: HostRuntime) {
     assert!(rt; spawner.start(&rt, job_at(&rt, alloc, &mut door)).is_err());
     let other = spawner.start(&rt, job_at(&rt, alloc, &mut door));
     let other = other.expect(&rt, "the third job");
-    assert!(rt; spawner.started() == 2 && spawner.faults() == 1);
-    for job in [one, other] {
-        let (theirs, read) = job.join(&rt);
-        assert!(rt; theirs.connections() == 1 && theirs.faults() == 0 && read == 2);
-    }
+    assert!(rt; spawner.started() == 2);
+    assert!(rt; spawner.faults() == 1);
+    check_job(&rt, &one.join(&rt), "the first job");
+    check_job(&rt, &other.join(&rt), "the third job");
 }

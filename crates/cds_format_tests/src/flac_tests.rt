@@ -3,8 +3,8 @@
 ghost use Rattle.std.specs.Prelude.{◌≡◌, ◌≤◌, length, None};
 
 use crate::made::source;
-use cds_base::{Failed, Source};
 use cds_flac::{FlacError, read_flac};
+use cds_outside::{Failed, Source};
 use std::alloc::Global;
 use std::process::Abort;
 
@@ -26,7 +26,7 @@ fn is_read_fault<R: Abort>(rt: &R, alloc: Global, call: u32) -> bool {
 #[test]
 fn a_failed_read_is_a_read_fault(rt: HostRuntime) {
     for call in 1..8 {
-        assert!(rt; is_read_fault(&rt, rt.alloc(), call), "{call}");
+        assert!(rt; is_read_fault(&rt, rt.alloc(), call), "read {call}");
     }
 }
 
@@ -99,15 +99,17 @@ fn with_picture() -> Slow {
     }
 }
 
-/// Returns whether that file is read.
-fn is_read<R: Abort>(rt: &R, alloc: Global, slow: &mut Slow) -> bool {
+/// Reads that file, and checks what it says of itself.
+fn check_read<R: Abort>(rt: &R, alloc: Global, slow: &mut Slow) {
     let info = read_flac(alloc, slow).expect(rt, "the file is not read");
-    info.samples == 441000 && info.comments.len() == 1
+    assert!(rt; info.samples == 441000);
+    assert!(rt; info.comments.len() == 1);
 }
 
 #[test]
 fn a_picture_is_read_over_and_nobody_holds_it(rt: HostRuntime) {
     let mut slow = with_picture();
-    assert!(rt; is_read(&rt, rt.alloc(), &mut slow));
-    assert!(rt; slow.moved == 16_000_069 && slow.most <= 65536);
+    check_read(&rt, rt.alloc(), &mut slow);
+    assert!(rt; slow.moved == 16_000_069);
+    assert!(rt; slow.most <= 65536);
 }

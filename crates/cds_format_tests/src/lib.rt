@@ -1,5 +1,6 @@
 //! Tests alone, of what rows of data cannot say of texts, files, documents and the lock: memory that runs out, reads
-//! that fail, a slow source, doors and threads. Also tests of messages about events, and of the objects of the system.
+//! that fail, a slow source, doors and threads. Also tests of messages about events, and of the adapters over the system:
+//! its streams, words, folders, clock, network and threads.
 #![tactic(auto)]
 
 #[cfg(test)]
@@ -15,6 +16,12 @@ mod memory_tests;
 #[cfg(test)]
 mod message_tests;
 #[cfg(test)]
+mod neighbour_tests;
+#[cfg(test)]
+mod streams_tests;
+#[cfg(test)]
 mod system_tests;
 #[cfg(test)]
 mod turn_tests;
+#[cfg(test)]
+mod words_tests;

@@ -1,7 +1,8 @@
 //! What several tests take: numbers, sources, and the use of connections.
 
-use cds_base::{Bytes, Door, Failed, Numbers, Sink, Source};
+use cds_base::{Bytes, Numbers};
 use cds_memory::MemSource;
+use cds_outside::{Door, Failed, Sink, Source};
 use std::alloc::Global;
 use std::process::Abort;
 

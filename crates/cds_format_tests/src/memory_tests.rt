@@ -36,29 +36,25 @@ fn read_again(alloc: Global) -> Result<Element, MarkupError> {
 }
 
 /// Adds the element to an empty text. If one allocation fails, whichever it is, nothing may be added, and the next try
-/// must add it. Returns whether that is so.
-fn is_added(element: &Element, out: &mut Vec<u8>) -> bool {
-    if write_document(element, out).is_ok() {
-        return true;
+/// must add it.
+fn add<R: Abort>(rt: &R, element: &Element, out: &mut Vec<u8>) {
+    if write_document(element, out).is_err() {
+        assert!(rt; out.is_empty(), "a failed try added something");
+        write_document(element, out).expect(rt, "the second try");
     }
-    out.is_empty() && write_document(element, out).is_ok()
 }
 
-/// Returns whether the element is written as it has to be.
-fn is_written(alloc: Global, element: &Element) -> bool {
+/// Checks that the element is written as it has to be.
+fn check_written<R: Abort>(rt: &R, alloc: Global, element: &Element) {
     let mut out = Vec::new(alloc);
-    is_added(element, &mut out) && out.as_slice() == WRITTEN
-}
-
-/// Returns whether what is read is written.
-fn is_written_again<R: Abort>(rt: &R, alloc: Global) -> bool {
-    let element = read_again(alloc).expect(rt, "no element");
-    is_written(alloc, &element)
+    add(rt, element, &mut out);
+    assert!(rt; out.as_slice() == WRITTEN);
 }
 
 #[test]
 fn a_document_is_written_where_memory_ran_out(rt: HostRuntime) {
-    assert!(rt; is_written_again(&rt, rt.alloc()));
+    let element = read_again(rt.alloc()).expect(&rt, "no element");
+    check_written(&rt, rt.alloc(), &element);
 }
 
 /// Events. `STATE_EVENT` is their StateEvent.
@@ -94,26 +90,28 @@ fn events_again(alloc: Global) -> Result<Events, StateError> {
 }
 
 /// Adds events to an empty text. The rule for a failed allocation is that of an element.
-fn are_added(alloc: Global, events: &[Event], out: &mut Vec<u8>) -> bool {
-    if write_state_event(alloc, events, out).is_ok() {
-        return true;
+fn add_events<R: Abort>(rt: &R, alloc: Global, events: &[Event], out: &mut Vec<u8>) {
+    if write_state_event(alloc, events, out).is_err() {
+        assert!(rt; out.is_empty(), "a failed try added something");
+        write_state_event(alloc, events, out).expect(rt, "the second try");
     }
-    out.is_empty() && write_state_event(alloc, events, out).is_ok()
 }
 
-/// Returns whether the events are written as they have to be.
-fn are_written(alloc: Global, events: &[Event]) -> bool {
+/// Checks that the events are written as they have to be.
+fn check_events_written<R: Abort>(rt: &R, alloc: Global, events: &[Event]) {
     let mut out = Vec::new(alloc);
-    are_added(alloc, events, &mut out) && out.as_slice() == STATE_EVENT
+    add_events(rt, alloc, events, &mut out);
+    assert!(rt; out.as_slice() == STATE_EVENT);
 }
 
-/// Returns whether the events are read.
-fn are_read<R: Abort>(rt: &R, alloc: Global) -> bool {
+/// Checks that the events are read.
+fn check_events_read<R: Abort>(rt: &R, alloc: Global) {
     let events = events_again(alloc).expect(rt, "no events");
-    events.as_slice() == EVENTS.as_slice()
+    assert!(rt; events.as_slice() == EVENTS.as_slice());
 }
 
 #[test]
 fn events_are_read_and_written_where_memory_ran_out(rt: HostRuntime) {
-    assert!(rt; are_written(rt.alloc(), &EVENTS) && are_read(&rt, rt.alloc()));
+    check_events_written(&rt, rt.alloc(), &EVENTS);
+    check_events_read(&rt, rt.alloc());
 }

@@ -163,19 +163,19 @@ fn is_in_order(numbers: &[u64], first: u64) -> bool {
     next == first.wrapping_add(EACH)
 }
 
-/// Returns whether these are the numbers of all four threads, and no others.
-fn are_all(numbers: &[u64]) -> bool {
-    numbers.len() as u64 == 4 * EACH
-        && is_in_order(numbers, 0)
-        && is_in_order(numbers, EACH)
-        && is_in_order(numbers, 2 * EACH)
-        && is_in_order(numbers, 3 * EACH)
+/// Checks that these are the numbers of all four threads, and no others.
+fn check_numbers<R: Abort>(rt: &R, numbers: &[u64]) {
+    assert!(rt; numbers.len() as u64 == 4 * EACH, "how many numbers");
+    for thread in 0..4u64 {
+        let first = thread.wrapping_mul(EACH);
+        assert!(rt; is_in_order(numbers, first), "the numbers from {first} on");
+    }
 }
 
-/// Returns whether a list has them.
-fn has_all<R: Abort>(rt: &R, alloc: Global, log: &Log) -> bool {
+/// Checks that a list has them.
+fn check_log<R: Abort>(rt: &R, alloc: Global, log: &Log) {
     let numbers = oldest_first(rt, alloc, log);
-    are_all(numbers.as_slice())
+    check_numbers(rt, numbers.as_slice());
 }
 
 #[test]
@@ -183,6 +183,7 @@ fn four_threads_lose_nothing(rt: HostRuntime) -> Result<(), Fail> {
     let (turn, seat) = Turn::new(rt.alloc(), empty_log(rt.alloc(), 7), 4)?;
     let (seat, all) = by_four(&rt, &turn, seat);
     let log = turn.close(seat).expect(&rt, "no ticket is out");
-    assert!(rt; all && has_all(&rt, rt.alloc(), &log));
+    assert!(rt; all, "memory ran out");
+    check_log(&rt, rt.alloc(), &log);
     Ok(())
 }

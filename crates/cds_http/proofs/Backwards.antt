@@ -9,7 +9,7 @@ use Rattle.cds_http.specs.declared.error.HttpError.{HttpError}
 use Rattle.cds_http.specs.declared.error.HttpError.TheVariants.{BadChunk, TooLong}
 use Rattle.cds_http.specs.declared.message.Side.{Side}
 use Rattle.cds_http.specs.declared.message.Side.TheVariants.{Request, Reply}
-use Rattle.cds_http.specs.declared.lines.Place.TheVariants.{Before, Fresh}
+use Rattle.cds_http.specs.declared.lines.LinePlace.TheVariants.{Before, Fresh}
 use Rattle.cds_http.specs.declared.framing.Framing.{Framing}
 use Rattle.cds_http.specs.declared.framing.Framing.TheVariants.{Counted, Chunked, ToEnd}
 use Rattle.cds_http.specs.declared.head.Head.{Head}

@@ -4,8 +4,8 @@ use Rattle.std.proofs.lemmas.Bool.Decides.{nat_tests}
 use Rattle.std.proofs.lemmas.List.{append-nil, take-append-drop}
 use Rattle.cds_http.specs.declared.error.HttpError.{HttpError}
 use Rattle.cds_http.specs.declared.error.HttpError.TheVariants.{BadHead, HeadTooLong, BadLength, BadChunk, TooLong, Truncated, Failed, Mem}
-use Rattle.cds_http.specs.declared.lines.Place.{Place}
-use Rattle.cds_http.specs.declared.lines.Place.TheVariants.{Fresh, InLine}
+use Rattle.cds_http.specs.declared.lines.LinePlace.{LinePlace}
+use Rattle.cds_http.specs.declared.lines.LinePlace.TheVariants.{Fresh, InLine}
 use Rattle.cds_http.specs.declared.lines.Scan.TheVariants.{Open}
 use Rattle.cds_http.specs.declared.lines.Front.{Front}
 use Rattle.cds_http.specs.declared.body.Body.{Body}
@@ -50,7 +50,7 @@ pub turns_last : (body line : List ℕ) (size : ℕ) (front : Front) → size �
     → Turns body line (Ok (record { bytes = body; part = Trailer front }))
 turns_last body line size front none text place is ends short =
     let fits : IsFront Fresh head_limit front = (
-      subst (λ (t : List ℕ). scanned Fresh t ≡ Open front.place) (sym text) (ap (λ (p : Place). Open p) (sym place)),
+      subst (λ (t : List ℕ). scanned Fresh t ≡ Open front.place) (sym text) (ap (λ (p : LinePlace). Open p) (sym place)),
       omega (arith, ap length text),
     ) in (
       fits,
@@ -248,7 +248,7 @@ pub goes_close : (body piece : List ℕ) (front : Front) → front.text ≡ [] �
     → Goes (record { bytes = body; part = Close }) (10 ∷ piece) (Ok (More (record { bytes = body; part = Line front }) 1))
 goes_close body piece front text place =
     let fits : IsFront InLine line_limit front = (
-      subst (λ (t : List ℕ). scanned InLine t ≡ Open front.place) (sym text) (ap (λ (p : Place). Open p) (sym place)),
+      subst (λ (t : List ℕ). scanned InLine t ≡ Open front.place) (sym text) (ap (λ (p : LinePlace). Open p) (sym place)),
       omega (arith, ap length text),
     ) in (
       omega arith,

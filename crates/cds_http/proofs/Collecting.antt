@@ -3,7 +3,7 @@ use Rattle.std.proofs.Common.{◌≡◌, ℕ, ◌+◌, ◌≤◌, List, ◌++◌
 use Rattle.std.proofs.Common.{length-append}
 use Rattle.std.proofs.lemmas.List.{length-take-le, take-append-drop}
 use Rattle.cds_http.specs.declared.error.HttpError.{HttpError}
-use Rattle.cds_http.specs.declared.lines.Place.{Place}
+use Rattle.cds_http.specs.declared.lines.LinePlace.{LinePlace}
 use Rattle.cds_http.specs.declared.lines.Scan.TheVariants.{Ended, Open}
 use Rattle.cds_http.specs.declared.lines.Front.{Front}
 use Rattle.cds_http.specs.declared.lines.Collected.{Collected}
@@ -13,7 +13,7 @@ use Rattle.cds_http.proofs.Scans.{ended-append, ended-take, ended_within, ends_t
 use Rattle.cds_http.proofs.Cuts.{cut_past, cut_over}
 
 -- the text with the bytes up to the end ends there
-there : (start place : Place) (came piece : List ℕ) (at : ℕ) → scanned start came ≡ Open place → scanned place piece ≡ Ended at
+there : (start place : LinePlace) (came piece : List ℕ) (at : ℕ) → scanned start came ≡ Open place → scanned place piece ≡ Ended at
     → EndsThere start (came ++ take at piece)
 there start place came piece at opens ends =
     let within = (ended_within place piece at ends).1 in
@@ -30,7 +30,7 @@ front_of came piece more at =
     ∙ ap (λ (p : List ℕ). p ++ more) (sym (append_assoc came (take at piece) (drop at piece)))
     ∙ append_assoc (came ++ take at piece) (drop at piece) more
 
-pub ends : (start : Place) (limit : ℕ) (refusal : HttpError) (front : Front) (piece : List ℕ) (at : ℕ) (result : Result Collected HttpError)
+pub ends : (start : LinePlace) (limit : ℕ) (refusal : HttpError) (front : Front) (piece : List ℕ) (at : ℕ) (result : Result Collected HttpError)
     → scanned front.place piece ≡ Ended at → EndsCollected front.text limit refusal piece at result → IsFront start limit front
     → Collects start limit refusal front.text piece result
 ends start limit refusal front piece at (Ok (WholeText text used)) is done came =
@@ -51,14 +51,14 @@ ends start limit refusal front piece at (Err e) is (inr long) came =
     (omega (arith, total front.text piece at within, long.1)) in
     inr (long.0, λ more. ap (cut_at start refusal limit) (front_of front.text piece more at) ∙ past more)
 
-pub keeps : (start place : Place) (limit : ℕ) (refusal : HttpError) (front : Front) (piece : List ℕ) (result : Result Collected HttpError)
+pub keeps : (start place : LinePlace) (limit : ℕ) (refusal : HttpError) (front : Front) (piece : List ℕ) (result : Result Collected HttpError)
     → scanned front.place piece ≡ Open place → KeepsCollected front.text place limit refusal piece result → IsFront start limit front
     → Collects start limit refusal front.text piece result
 keeps start place limit refusal front piece (Ok (WholeText text used)) is done came = absurd done
 keeps start place limit refusal front piece (Ok (Going f)) is done came = (
   done.0,
   (
-    ap (scanned start) done.0 ∙ stays_open start front.place place front.text piece came.0 is ∙ ap (λ (p : Place). Open p) (sym done.1),
+    ap (scanned start) done.0 ∙ stays_open start front.place place front.text piece came.0 is ∙ ap (λ (p : LinePlace). Open p) (sym done.1),
     omega (arith, ap length done.0, length-append front.text piece, done.2),
   ),
 )

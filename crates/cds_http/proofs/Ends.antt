@@ -7,15 +7,15 @@ use Rattle.std.proofs.lemmas.Bool.Decides.{nat_tests}
 use Rattle.std.proofs.lemmas.List.{nil_from_length}
 use Rattle.std.proofs.lemmas.List.Elements.{All-head, All-tail}
 use Rattle.httparse.specs.Grammar.{LineEnd, crlf, lf, print_end, print_blank, print_version, print_field, print_section, Field, IsField, RequestHead, IsRequestHead, print_request, ResponseHead, IsResponseHead, print_response, print_reason, reason_phrase, ChunkLine, IsChunkLine, print_chunk_line, print_extension, IsExtension, AllPass, is_token_byte, is_uri_byte, is_value_byte, is_ows, is_extension_byte}
-use Rattle.cds_http.specs.declared.lines.Place.{Place}
-use Rattle.cds_http.specs.declared.lines.Place.TheVariants.{Before, Inside, Fresh, InLine}
+use Rattle.cds_http.specs.declared.lines.LinePlace.{LinePlace}
+use Rattle.cds_http.specs.declared.lines.LinePlace.TheVariants.{Before, Inside, Fresh, InLine}
 use Rattle.cds_http.specs.declared.lines.Scan.{Scan}
 use Rattle.cds_http.specs.declared.lines.Scan.TheVariants.{Ended, Open}
 use Rattle.cds_http.specs.Lines.{next_place, further, scan_step, scanned, EndsThere}
 use Rattle.cds_http.proofs.Scans.{ended-append, ends_there, stays_open}
 
 -- a text that ends where its front does has nothing behind that
-pub rest_none : (start : Place) (text front rest : List ℕ) → EndsThere start text → EndsThere start front → text ≡ front ++ rest → rest ≡ []
+pub rest_none : (start : LinePlace) (text front rest : List ℕ) → EndsThere start text → EndsThere start front → text ≡ front ++ rest → rest ≡ []
 rest_none start text front rest whole ends is =
     let at_front : scanned start text ≡ Ended (length front) =
     ap (scanned start) is ∙ ended-append start front rest (length front) ends in
@@ -35,8 +35,8 @@ fresh_step b first second = grind (arith, nat_tests)
 before_step : (b : ℕ) → b ≢ 10 → b ≢ 13 → next_place Before b ≡ Some Inside
 before_step b first second = grind (arith, nat_tests)
 
-pub scan_first : (p q : Place) (b : ℕ) (bytes : List ℕ) → next_place p b ≡ Some q → scanned p (b ∷ bytes) ≡ further 1 (scanned q bytes)
-scan_first p q b bytes is = ap (λ (o : Option Place). scan_step o (λ next. scanned next bytes)) is
+pub scan_first : (p q : LinePlace) (b : ℕ) (bytes : List ℕ) → next_place p b ≡ Some q → scanned p (b ∷ bytes) ≡ further 1 (scanned q bytes)
+scan_first p q b bytes is = ap (λ (o : Option LinePlace). scan_step o (λ next. scanned next bytes)) is
 
 -- bytes with no LF stay in their line
 pub inside_all : (test : ℕ → Bool) → ((b : ℕ) → IsTrue (test b) → b ≢ 10) → (bytes : List ℕ) → AllPass test bytes → scanned Inside bytes ≡ Open Inside
@@ -88,10 +88,10 @@ before_blank (crlf ∷ ends) = ap (λ (s : Scan). further 1 (further 1 s)) (befo
 before_blank (lf ∷ ends) = ap (further 1) (before_blank ends)
 
 -- one text behind another, in their places
-joined : (p q r : Place) (a b : List ℕ) → scanned p a ≡ Open q → scanned q b ≡ Open r → scanned p (a ++ b) ≡ Open r
+joined : (p q r : LinePlace) (a b : List ℕ) → scanned p a ≡ Open q → scanned q b ≡ Open r → scanned p (a ++ b) ≡ Open r
 joined p q r a b = stays_open p q r a b
 
-one : (p q : Place) (b : ℕ) (bytes : List ℕ) (r : Place) → next_place p b ≡ Some q → scanned q bytes ≡ Open r → scanned p (b ∷ bytes) ≡ Open r
+one : (p q : LinePlace) (b : ℕ) (bytes : List ℕ) (r : LinePlace) → next_place p b ≡ Some q → scanned q bytes ≡ Open r → scanned p (b ∷ bytes) ≡ Open r
 one p q b bytes r first rest = scan_first p q b bytes first ∙ ap (further 1) rest
 
 field_line : (f : Field) → IsField f → scanned Fresh (print_field f) ≡ Open Fresh
@@ -126,7 +126,7 @@ line_ends l is =
     (extension_in_line l.extension is.extension))
     refl
 
-version_from : (p : Place) (minor : ℕ) → next_place p 72 ≡ Some Inside → scanned p (print_version minor) ≡ Open Inside
+version_from : (p : LinePlace) (minor : ℕ) → next_place p 72 ≡ Some Inside → scanned p (print_version minor) ≡ Open Inside
 version_from p minor first =
     one p Inside 72 (84 ∷ 84 ∷ 80 ∷ 47 ∷ 49 ∷ 46 ∷ (48 + minor) ∷ []) Inside first
     (stays_open Inside Inside Inside (84 ∷ 84 ∷ 80 ∷ 47 ∷ 49 ∷ 46 ∷ []) ((48 + minor) ∷ []) refl

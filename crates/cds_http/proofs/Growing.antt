@@ -5,7 +5,7 @@ use Rattle.cds_http.specs.declared.error.HttpError.{HttpError}
 use Rattle.cds_http.specs.declared.message.Side.{Side}
 use Rattle.cds_http.specs.declared.message.Message.{Message}
 use Rattle.cds_http.specs.declared.message.Fed.TheVariants.{More}
-use Rattle.cds_http.specs.declared.lines.Place.TheVariants.{Before}
+use Rattle.cds_http.specs.declared.lines.LinePlace.TheVariants.{Before}
 use Rattle.cds_http.specs.declared.lines.Front.{Front}
 use Rattle.cds_http.specs.declared.head.Head.{Head}
 use Rattle.cds_http.specs.declared.body.Part.{Part}

@@ -7,8 +7,8 @@ use Rattle.std.proofs.lemmas.List.{append-nil, take-append-drop, length-take-le,
 use Rattle.std.proofs.lemmas.List.Elements.{All-nil, All-cons, All-head, All-tail}
 use Rattle.cds_http.specs.declared.error.HttpError.TheVariants.{BadHead, HeadTooLong}
 use Rattle.cds_http.specs.declared.message.Side.{Side}
-use Rattle.cds_http.specs.declared.lines.Place.{Place}
-use Rattle.cds_http.specs.declared.lines.Place.TheVariants.{Before, Inside, Fresh, Return, InLine}
+use Rattle.cds_http.specs.declared.lines.LinePlace.{LinePlace}
+use Rattle.cds_http.specs.declared.lines.LinePlace.TheVariants.{Before, Inside, Fresh, Return, InLine}
 use Rattle.cds_http.specs.declared.lines.Scan.{Scan}
 use Rattle.cds_http.specs.declared.lines.Scan.TheVariants.{Ended, Open}
 use Rattle.cds_http.specs.declared.head.Head.{Head}
@@ -26,7 +26,7 @@ use Rattle.cds_http.proofs.Sayings.{Refusal, by_limit, by_text, later, refusal}
 abbrev InsideEnd : List ℕ → Type 0
 InsideEnd text = (others : List ℕ) × (last : List ℕ) × (text ≡ others ++ 10 ∷ last) × IsEmptyLine last
 
-abbrev EndFrom : Place → List ℕ → Type 0
+abbrev EndFrom : LinePlace → List ℕ → Type 0
 EndFrom Before text = EndsWithEmptyLine text
 EndFrom Inside text = InsideEnd text
 EndFrom Fresh text = IsEmptyLine text ⊎ InsideEnd text
@@ -49,7 +49,7 @@ no_cr : (b : ℕ) → b == 13 ≡ false → b ≢ 13
 no_cr b h = grind (arith, nat_tests)
 
 -- one byte on
-end_before : (b : ℕ) (text : List ℕ) (next : Place) → next_place Before b ≡ Some next → EndFrom next text → EndsWithEmptyLine (b ∷ text)
+end_before : (b : ℕ) (text : List ℕ) (next : LinePlace) → next_place Before b ≡ Some next → EndFrom next text → EndsWithEmptyLine (b ∷ text)
 end_before b text next steps is = by (b == 10) refl (b == 13) refl steps
   where
     blank : IsBreak b → EndFrom Before text → EndsWithEmptyLine (b ∷ text)
@@ -63,15 +63,15 @@ end_before b text next steps is = by (b == 10) refl (b == 13) refl steps
         → (if lf then Some Before else if cr then Some Before else Some Inside) ≡ Some next → EndsWithEmptyLine (b ∷ text)
     by true is_lf cr is_cr steps =
         let same : next ≡ Before = cc in
-        blank (inr (lf_is b is_lf)) (subst (λ (p : Place). EndFrom p text) same is)
+        blank (inr (lf_is b is_lf)) (subst (λ (p : LinePlace). EndFrom p text) same is)
     by false is_lf true is_cr steps =
         let same : next ≡ Before = cc in
-        blank (inl (cr_is b is_cr)) (subst (λ (p : Place). EndFrom p text) same is)
+        blank (inl (cr_is b is_cr)) (subst (λ (p : LinePlace). EndFrom p text) same is)
     by false is_lf false is_cr steps =
         let same : next ≡ Inside = cc in
-        inside (λ breaks. elim breaks [ inl h ↦ no_cr b is_cr h | inr h ↦ no_lf b is_lf h ]) (subst (λ (p : Place). EndFrom p text) same is)
+        inside (λ breaks. elim breaks [ inl h ↦ no_cr b is_cr h | inr h ↦ no_lf b is_lf h ]) (subst (λ (p : LinePlace). EndFrom p text) same is)
 
-end_inside : (b : ℕ) (text : List ℕ) (next : Place) → next_place Inside b ≡ Some next → EndFrom next text → InsideEnd (b ∷ text)
+end_inside : (b : ℕ) (text : List ℕ) (next : LinePlace) → next_place Inside b ≡ Some next → EndFrom next text → InsideEnd (b ∷ text)
 end_inside b text next steps is = by (b == 10) refl steps
   where
     fresh : b ≡ 10 → EndFrom Fresh text → InsideEnd (b ∷ text)
@@ -81,12 +81,12 @@ end_inside b text next steps is = by (b == 10) refl steps
     by : (lf : Bool) → b == 10 ≡ lf → (if lf then Some Fresh else Some Inside) ≡ Some next → InsideEnd (b ∷ text)
     by true is_lf steps =
         let same : next ≡ Fresh = cc in
-        fresh (lf_is b is_lf) (subst (λ (p : Place). EndFrom p text) same is)
+        fresh (lf_is b is_lf) (subst (λ (p : LinePlace). EndFrom p text) same is)
     by false is_lf steps =
         let same : next ≡ Inside = cc in
-        inside_more b text (subst (λ (p : Place). EndFrom p text) same is)
+        inside_more b text (subst (λ (p : LinePlace). EndFrom p text) same is)
 
-end_fresh : (b : ℕ) (text : List ℕ) (next : Place) → next_place Fresh b ≡ Some next → EndFrom next text → EndFrom Fresh (b ∷ text)
+end_fresh : (b : ℕ) (text : List ℕ) (next : LinePlace) → next_place Fresh b ≡ Some next → EndFrom next text → EndFrom Fresh (b ∷ text)
 end_fresh b text next steps is = by (b == 10) refl (b == 13) refl steps
   where
     return : b ≡ 13 → EndFrom Return text → EndFrom Fresh (b ∷ text)
@@ -99,28 +99,28 @@ end_fresh b text next steps is = by (b == 10) refl (b == 13) refl steps
     by true is_lf cr is_cr steps = cc
     by false is_lf true is_cr steps =
         let same : next ≡ Return = cc in
-        return (cr_is b is_cr) (subst (λ (p : Place). EndFrom p text) same is)
+        return (cr_is b is_cr) (subst (λ (p : LinePlace). EndFrom p text) same is)
     by false is_lf false is_cr steps =
         let same : next ≡ Inside = cc in
-        inr (inside_more b text (subst (λ (p : Place). EndFrom p text) same is))
+        inr (inside_more b text (subst (λ (p : LinePlace). EndFrom p text) same is))
 
-end_return : (b : ℕ) (text : List ℕ) (next : Place) → next_place Return b ≡ Some next → EndFrom next text → EndFrom Return (b ∷ text)
+end_return : (b : ℕ) (text : List ℕ) (next : LinePlace) → next_place Return b ≡ Some next → EndFrom next text → EndFrom Return (b ∷ text)
 end_return b text next steps is = by (b == 10) steps
   where
     by : (lf : Bool) → (if lf then None else Some Inside) ≡ Some next → EndFrom Return (b ∷ text)
     by true steps = cc
     by false steps =
         let same : next ≡ Inside = cc in
-        inr (inside_more b text (subst (λ (p : Place). EndFrom p text) same is))
+        inr (inside_more b text (subst (λ (p : LinePlace). EndFrom p text) same is))
 
-in_line_stays : (b : ℕ) (next : Place) → next_place InLine b ≡ Some next → next ≡ InLine
+in_line_stays : (b : ℕ) (next : LinePlace) → next_place InLine b ≡ Some next → next ≡ InLine
 in_line_stays b next steps = by (b == 10) steps
   where
     by : (lf : Bool) → (if lf then None else Some InLine) ≡ Some next → next ≡ InLine
     by true steps = cc
     by false steps = cc
 
-end_more : (p : Place) → p ≢ InLine → (b : ℕ) (text : List ℕ) (next : Place) → next_place p b ≡ Some next → EndFrom next text → EndFrom p (b ∷ text)
+end_more : (p : LinePlace) → p ≢ InLine → (b : ℕ) (text : List ℕ) (next : LinePlace) → next_place p b ≡ Some next → EndFrom next text → EndFrom p (b ∷ text)
 end_more Before other b text next steps is = end_before b text next steps is
 end_more Inside other b text next steps is = end_inside b text next steps is
 end_more Fresh other b text next steps is = end_fresh b text next steps is
@@ -128,7 +128,7 @@ end_more Return other b text next steps is = end_return b text next steps is
 end_more InLine other b text next steps is = absurd (other refl)
 
 -- the last byte
-end_last : (p : Place) → p ≢ InLine → (b : ℕ) → next_place p b ≡ None → EndFrom p (b ∷ [])
+end_last : (p : LinePlace) → p ≢ InLine → (b : ℕ) → next_place p b ≡ None → EndFrom p (b ∷ [])
 end_last Before other b steps = by (b == 10) (b == 13) steps
   where
     by : (lf cr : Bool) → (if lf then Some Before else if cr then Some Before else Some Inside) ≡ None → EndFrom Before (b ∷ [])
@@ -153,7 +153,7 @@ end_last Return other b steps = by (b == 10) refl steps
     by false is steps = cc
 end_last InLine other b steps = absurd (other refl)
 
-next_not_in_line : (p : Place) → p ≢ InLine → (b : ℕ) (next : Place) → next_place p b ≡ Some next → next ≢ InLine
+next_not_in_line : (p : LinePlace) → p ≢ InLine → (b : ℕ) (next : LinePlace) → next_place p b ≡ Some next → next ≢ InLine
 next_not_in_line Before other b next steps = by (b == 10) (b == 13) steps
   where
     by : (lf cr : Bool) → (if lf then Some Before else if cr then Some Before else Some Inside) ≡ Some next → next ≢ InLine
@@ -179,11 +179,11 @@ next_not_in_line Return other b next steps = by (b == 10) steps
 next_not_in_line InLine other b next steps = absurd (other refl)
 
 -- where a scan ends, the text has its empty line
-found : (p : Place) → p ≢ InLine → (text : List ℕ) → EndsThere p text → EndFrom p text
+found : (p : LinePlace) → p ≢ InLine → (text : List ℕ) → EndsThere p text → EndFrom p text
 found p other [] ends = cc
 found p other (b ∷ text) ends = by (λ next other ends. found next other text ends) (next_place p b) refl ends
   where
-    by : ((next : Place) → next ≢ InLine → EndsThere next text → EndFrom next text) → (o : Option Place) → next_place p b ≡ o → scan_step o (λ next. scanned next text) ≡ Ended (suc (length text)) → EndFrom p (b ∷ text)
+    by : ((next : LinePlace) → next ≢ InLine → EndsThere next text → EndFrom next text) → (o : Option LinePlace) → next_place p b ≡ o → scan_step o (λ next. scanned next text) ≡ Ended (suc (length text)) → EndFrom p (b ∷ text)
     by on None steps is =
         let one : 1 ≡ suc (length text) = cc in
         let none : text ≡ [] = nil_from_length text (omega (arith, one)) in
@@ -194,15 +194,15 @@ found p other (b ∷ text) ends = by (λ next other ends. found next other text 
         end_more p other b text next steps (on next (next_not_in_line p other b next steps) there)
 
 -- and a text that has one is ended by the scan, there or before
-abbrev Ends : Place → List ℕ → Type 0
+abbrev Ends : LinePlace → List ℕ → Type 0
 Ends p text = (n : ℕ) × (scanned p text ≡ Ended n)
 
-ends_on : (p next : Place) (b : ℕ) (text : List ℕ) → next_place p b ≡ Some next → Ends next text → Ends p (b ∷ text)
+ends_on : (p next : LinePlace) (b : ℕ) (text : List ℕ) → next_place p b ≡ Some next → Ends next text → Ends p (b ∷ text)
 ends_on p next b text steps is =
-    (1 + is.0, ap (λ (o : Option Place). scan_step o (λ next. scanned next text)) steps ∙ ap (further 1) is.1)
+    (1 + is.0, ap (λ (o : Option LinePlace). scan_step o (λ next. scanned next text)) steps ∙ ap (further 1) is.1)
 
-ends_now : (p : Place) (b : ℕ) (text : List ℕ) → next_place p b ≡ None → Ends p (b ∷ text)
-ends_now p b text steps = (1, ap (λ (o : Option Place). scan_step o (λ next. scanned next text)) steps)
+ends_now : (p : LinePlace) (b : ℕ) (text : List ℕ) → next_place p b ≡ None → Ends p (b ∷ text)
+ends_now p b text steps = (1, ap (λ (o : Option LinePlace). scan_step o (λ next. scanned next text)) steps)
 
 empty_ends : (last : List ℕ) → IsEmptyLine last → Ends Fresh last
 empty_ends last (inl is) = (2, ap (scanned Fresh) is)
@@ -348,7 +348,7 @@ long_is bytes is = by (scanned Before bytes) refl
       | inr long ↦ (long, none)
     ]
       where
-        waits : (q : Place) → scanned Before bytes ≡ Open q → length bytes < head_limit → head_cut bytes ≡ Needs
+        waits : (q : LinePlace) → scanned Before bytes ≡ Open q → length bytes < head_limit → head_cut bytes ≡ Needs
         waits q opens short = cut_waits Before q HeadTooLong head_limit bytes opens short
 
 is_long : (bytes : List ℕ) → head_limit ≤ length bytes → NoneWithin head_limit bytes → head_cut bytes ≡ Refused HeadTooLong

@@ -17,7 +17,7 @@ use Rattle.cds_http.specs.declared.error.HttpError.TheVariants.{Mem}
 use Rattle.cds_http.specs.declared.message.Side.TheVariants.{Request, Reply}
 use Rattle.cds_http.specs.declared.message.Start.TheVariants.{Request as request_start, Reply as reply_start}
 use Rattle.cds_http.specs.declared.head.Head.{Head}
-use Rattle.cds_http.specs.declared.lines.Place.TheVariants.{Before}
+use Rattle.cds_http.specs.declared.lines.LinePlace.TheVariants.{Before}
 use Rattle.cds_http.specs.Lines.{EndsThere}
 use Rattle.cds_http.specs.Head.{CanBeKept, kept_fields, field_pair, request_head, reply_head, IsHead, IsNoHead, HoldsRequest, HoldsReply, HeadRead}
 use Rattle.cds_http.proofs.Ends.{rest_none, request_ends, response_ends}

@@ -4,7 +4,7 @@ use Rattle.std.proofs.lemmas.List.{length-map, length-take}
 use Rattle.httparse.specs.Grammar.{ChunkLine, print_chunk_line, ReadsChunkLine, HasNoChunkLine, Field, print_section, ReadsSection}
 use Rattle.httparse.specs.declared.spans.HeaderSpan.{HeaderSpan}
 use Rattle.httparse.specs.Spans.{IsChunkLineAt, IsSectionOf, header_bytes, name_and_value}
-use Rattle.cds_http.specs.declared.lines.Place.TheVariants.{Fresh, InLine}
+use Rattle.cds_http.specs.declared.lines.LinePlace.TheVariants.{Fresh, InLine}
 use Rattle.cds_http.specs.Lines.{EndsThere}
 use Rattle.cds_http.specs.Chunks.{IsSizeLine, IsTrailer}
 use Rattle.cds_http.proofs.Ends.{rest_none, line_ends, section_ends}

@@ -1,7 +1,7 @@
 -- Bytes before an LF stay in their line.
 use Rattle.std.proofs.Common.{◌≡◌, ◌≢◌, ℕ, zero, suc, ◌<◌, ◌≤◌, ◌==◌, true, List, [], ◌∷◌, length, drop, get_or, Some, sym, ap, ◌∙◌, arith}
-use Rattle.cds_http.specs.declared.lines.Place.{Place}
-use Rattle.cds_http.specs.declared.lines.Place.TheVariants.{Inside, InLine}
+use Rattle.cds_http.specs.declared.lines.LinePlace.{LinePlace}
+use Rattle.cds_http.specs.declared.lines.LinePlace.TheVariants.{Inside, InLine}
 use Rattle.cds_http.specs.Lines.{next_place, further, scanned}
 use Rattle.cds_http.proofs.Scans.{further-zero, further-suc}
 use Rattle.cds_http.proofs.Ends.{inside_step, in_line_step, scan_first}
@@ -9,7 +9,7 @@ use Rattle.cds_http.proofs.Ends.{inside_step, in_line_step, scan_first}
 other_byte : (b : ℕ) → ¬ ((b == 10) ≡ true) → b ≢ 10
 other_byte b none is = none (ap (λ (b : ℕ). b == 10) is)
 
-runs : (p : Place) → ((b : ℕ) → b ≢ 10 → next_place p b ≡ Some p) → (bytes : List ℕ) (n : ℕ) → n ≤ length bytes
+runs : (p : LinePlace) → ((b : ℕ) → b ≢ 10 → next_place p b ≡ Some p) → (bytes : List ℕ) (n : ℕ) → n ≤ length bytes
     → ((k : ℕ) → k < n → ¬ ((get_or bytes k 0 == 10) ≡ true)) → scanned p bytes ≡ further n (scanned p (drop n bytes))
 runs p stays bytes zero within none = sym (further-zero (scanned p bytes))
 runs p stays [] (suc n) within none = absurd (omega (arith, within))
@@ -26,5 +26,5 @@ pub runs_in_line : (bytes : List ℕ) (n : ℕ) → n ≤ length bytes → ((k :
     → scanned InLine bytes ≡ further n (scanned InLine (drop n bytes))
 runs_in_line bytes n within none = runs InLine in_line_step bytes n within none
 
-pub runs_none : (p : Place) (bytes : List ℕ) → scanned p bytes ≡ further 0 (scanned p bytes)
+pub runs_none : (p : LinePlace) (bytes : List ℕ) → scanned p bytes ≡ further 0 (scanned p bytes)
 runs_none p bytes = sym (further-zero (scanned p bytes))

@@ -10,8 +10,8 @@ use Rattle.cds_http.specs.declared.error.HttpError.{HttpError}
 use Rattle.cds_http.specs.declared.error.HttpError.TheVariants.{BadHead, HeadTooLong, BadLength, BadChunk, TooLong}
 use Rattle.cds_http.specs.declared.message.Side.{Side}
 use Rattle.cds_http.specs.declared.message.Message.{Message}
-use Rattle.cds_http.specs.declared.lines.Place.{Place}
-use Rattle.cds_http.specs.declared.lines.Place.TheVariants.{Before, Fresh, InLine}
+use Rattle.cds_http.specs.declared.lines.LinePlace.{LinePlace}
+use Rattle.cds_http.specs.declared.lines.LinePlace.TheVariants.{Before, Fresh, InLine}
 use Rattle.cds_http.specs.declared.lines.Scan.{Scan}
 use Rattle.cds_http.specs.declared.lines.Scan.TheVariants.{Ended, Open}
 use Rattle.cds_http.specs.declared.framing.Framing.{Framing}
@@ -86,7 +86,7 @@ pub end_keeps : EndKeeps
 end_keeps side bytes m rest p = (p.0, p.1, then_stays p.0 side m rest p.2)
 
 -- a cut is refused by its cause alone
-pub cut_refused : (start : Place) (d e : HttpError) (limit : ℕ) (bytes : List ℕ) → cut_at start d limit bytes ≡ Refused e → e ≡ d
+pub cut_refused : (start : LinePlace) (d e : HttpError) (limit : ℕ) (bytes : List ℕ) → cut_at start d limit bytes ≡ Refused e → e ≡ d
 cut_refused start d e limit bytes is = by (scanned start bytes) is
   where
     at : (n : ℕ) (b : Bool) → (if b then Whole (take n bytes) (drop n bytes) else Refused d) ≡ Refused e → e ≡ d

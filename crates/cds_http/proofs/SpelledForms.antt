@@ -9,8 +9,8 @@ use Rattle.httparse.specs.Grammar.{ChunkLine, IsChunkLine, print_chunk_line, chu
 use Rattle.cds_http.specs.declared.error.HttpError.{HttpError}
 use Rattle.cds_http.specs.declared.error.HttpError.TheVariants.{HeadTooLong, BadChunk, TooLong}
 use Rattle.cds_http.specs.declared.message.Message.{Message}
-use Rattle.cds_http.specs.declared.lines.Place.{Place}
-use Rattle.cds_http.specs.declared.lines.Place.TheVariants.{Before, Fresh, InLine}
+use Rattle.cds_http.specs.declared.lines.LinePlace.{LinePlace}
+use Rattle.cds_http.specs.declared.lines.LinePlace.TheVariants.{Before, Fresh, InLine}
 use Rattle.cds_http.specs.declared.lines.Scan.{Scan}
 use Rattle.cds_http.specs.declared.lines.Scan.TheVariants.{Ended, Open}
 use Rattle.cds_http.specs.declared.framing.Framing.{Framing}
@@ -27,12 +27,12 @@ use Rattle.cds_http.specs.Laws.{WholeIsSpelled}
 use Rattle.cds_http.proofs.Scans.{ended_within, ended-take}
 
 -- a cut that gives a text
-pub record CutsOff (start : Place) (limit : ℕ) (bytes text rest : List ℕ) : Type 0 where
+pub record CutsOff (start : LinePlace) (limit : ℕ) (bytes text rest : List ℕ) : Type 0 where
   pub all : bytes ≡ text ++ rest
   pub ends : EndsThere start text
   pub short : length text ≤ limit
 
-pub cut_off : (start : Place) (e : HttpError) (limit : ℕ) (bytes text rest : List ℕ) → cut_at start e limit bytes ≡ Whole text rest → CutsOff start limit bytes text rest
+pub cut_off : (start : LinePlace) (e : HttpError) (limit : ℕ) (bytes text rest : List ℕ) → cut_at start e limit bytes ≡ Whole text rest → CutsOff start limit bytes text rest
 cut_off start e limit bytes text rest is = by (scanned start bytes) refl is
   where
     at : (n : ℕ) → scanned start bytes ≡ Ended n → (b : Bool) → nat_le n limit ≡ b

@@ -2,7 +2,7 @@
 use Rattle.std.specs.Prelude.{◌≡◌, ℕ, zero, suc, ◌+◌, ◌≤◌, nat_le, Bool, List, [], ◌∷◌, ◌++◌, length, take, drop, if◌then◌else◌, ◌==◌}
 use Rattle.httparse.specs.Grammar.{ChunkLine, ReadsChunkLine, chunk_size, Field, LineEnd, ReadsSection}
 use Rattle.cds_http.specs.declared.error.HttpError.TheVariants.{BadChunk, TooLong}
-use Rattle.cds_http.specs.declared.lines.Place.TheVariants.{Fresh, InLine}
+use Rattle.cds_http.specs.declared.lines.LinePlace.TheVariants.{Fresh, InLine}
 use Rattle.cds_http.specs.declared.framing.Framing.{Framing}
 use Rattle.cds_http.specs.declared.framing.Framing.TheVariants.{Counted, Chunked, ToEnd}
 use Rattle.cds_http.specs.Known.{Known, Whole, Needs, Refused, Then, map_known}

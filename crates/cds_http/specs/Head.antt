@@ -15,7 +15,7 @@ use Rattle.cds_http.specs.declared.message.Side.{Side}
 use Rattle.cds_http.specs.declared.message.Side.TheVariants.{Request, Reply}
 use Rattle.cds_http.specs.declared.message.Start.TheVariants.{Request as request_start, Reply as reply_start}
 use Rattle.cds_http.specs.declared.head.Head.{Head}
-use Rattle.cds_http.specs.declared.lines.Place.TheVariants.{Before}
+use Rattle.cds_http.specs.declared.lines.LinePlace.TheVariants.{Before}
 use Rattle.cds_http.specs.Known.{Known, Whole, Needs, Refused, Then}
 use Rattle.cds_http.specs.Lines.{cut_at}
 

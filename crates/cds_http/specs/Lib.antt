@@ -8,6 +8,6 @@ pub mod Spelled
 pub mod Reading
 pub mod Steps
 pub mod Written
-pub mod Small
+pub mod Examples
 pub mod Returned
 pub mod Laws

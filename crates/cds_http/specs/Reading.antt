@@ -6,7 +6,7 @@ use Rattle.cds_http.specs.declared.message.Side.{Side}
 use Rattle.cds_http.specs.declared.message.Message.{Message}
 use Rattle.cds_http.specs.declared.message.Fed.{Fed}
 use Rattle.cds_http.specs.declared.message.Fed.TheVariants.{More, Whole as WholeFed}
-use Rattle.cds_http.specs.declared.lines.Place.TheVariants.{Before}
+use Rattle.cds_http.specs.declared.lines.LinePlace.TheVariants.{Before}
 use Rattle.cds_http.specs.declared.head.Head.{Head}
 use Rattle.cds_http.specs.declared.body.Body.{Body}
 use Rattle.cds_http.specs.declared.reader.Stage.{Stage}

@@ -2,7 +2,7 @@
 use Rattle.std.specs.Prelude.{◌≡◌, ℕ, ◌+◌, ◌<◌, ◌≤◌, ⊤, Bool, true, false, List, [], ◌∷◌, ◌++◌, length, take, Result, Ok, Err}
 use Rattle.cds_http.specs.declared.error.HttpError.{HttpError}
 use Rattle.cds_http.specs.declared.error.HttpError.TheVariants.{BadHead, HeadTooLong, BadLength, BadChunk, TooLong, Truncated, Failed, Mem}
-use Rattle.cds_http.specs.declared.lines.Place.TheVariants.{Fresh, InLine}
+use Rattle.cds_http.specs.declared.lines.LinePlace.TheVariants.{Fresh, InLine}
 use Rattle.cds_http.specs.declared.body.Part.{Part}
 use Rattle.cds_http.specs.declared.body.Part.TheVariants.{Counted, ToEnd, Line, Data, Close, Trailer}
 use Rattle.cds_http.specs.declared.body.Body.{Body}

@@ -9,7 +9,7 @@ ghost use Rattle.cds_http.specs.Steps.{Goes, UsesSome, UsesAll, Fits, Turns, Siz
 use crate::HttpError;
 use crate::framing::{BODY_LIMIT, Framing};
 use crate::head::{FIELD_LIMIT, HEAD_LIMIT};
-use crate::lines::{Collected, Front, Place, collect, new_front};
+use crate::lines::{Collected, Front, LinePlace, collect, new_front};
 use cds_base::Bytes;
 use httparse::Status;
 use httparse::spans::{EMPTY_HEADER_SPAN, parse_headers};
@@ -58,7 +58,7 @@ pub(crate) fn new_body(alloc: Global, framing: Framing) -> Body
     let part = match framing {
         Framing::Counted { length } => Part::Counted { left: length },
         Framing::Chunked => Part::Line {
-            front: new_front(alloc, Place::InLine),
+            front: new_front(alloc, LinePlace::InLine),
         },
         Framing::ToEnd => Part::ToEnd,
     };
@@ -116,7 +116,7 @@ fn take_open(bytes: Bytes, piece: &[u8]) -> Result<Progress, HttpError>
 
 /// Returns the size in a whole chunk line.
 fn read_size(line: &[u8]) -> Result<u64, HttpError>
-    ensures { EndsThere Place.InLine line.now → SizeRead line.now result }
+    ensures { EndsThere LinePlace.InLine line.now → SizeRead line.now result }
 {
     match httparse::parse_chunk_size(line) {
         Ok(Status::Complete((_, size))) => Ok(size),
@@ -126,11 +126,11 @@ fn read_size(line: &[u8]) -> Result<u64, HttpError>
 
 /// Returns the body after a chunk line that gives this size.
 fn after_size(alloc: Global, bytes: Bytes, size: u64) -> Result<Body, HttpError>
-    ensures { (line : List ℕ) → IsSizeLine line size → EndsThere Place.InLine line → length line ≤ line_limit → Turns bytes line result }
+    ensures { (line : List ℕ) → IsSizeLine line size → EndsThere LinePlace.InLine line → length line ≤ line_limit → Turns bytes line result }
 {
     if size == 0 {
         let part = Part::Trailer {
-            front: new_front(alloc, Place::Fresh),
+            front: new_front(alloc, LinePlace::Fresh),
         };
         return Ok(Body { bytes, part });
     }
@@ -145,7 +145,7 @@ fn after_size(alloc: Global, bytes: Bytes, size: u64) -> Result<Body, HttpError>
 
 /// Takes a whole chunk line after these bytes of a body.
 fn end_line(alloc: Global, bytes: Bytes, line: &[u8]) -> Result<Body, HttpError>
-    ensures { EndsThere Place.InLine line.now → length line.now ≤ line_limit → Turns bytes line.now result }
+    ensures { EndsThere LinePlace.InLine line.now → length line.now ≤ line_limit → Turns bytes line.now result }
 {
     match read_size(line) {
         Ok(size) => after_size(alloc, bytes, size),
@@ -237,7 +237,7 @@ fn take_close(alloc: Global, bytes: Bytes, piece: &[u8]) -> Result<Progress, Htt
         return Err(HttpError::BadChunk);
     }
     let part = Part::Line {
-        front: new_front(alloc, Place::InLine),
+        front: new_front(alloc, LinePlace::InLine),
     };
     Ok(Progress::More {
         body: Body { bytes, part },
@@ -247,7 +247,7 @@ fn take_close(alloc: Global, bytes: Bytes, piece: &[u8]) -> Result<Progress, Htt
 
 /// Returns whether a text is a trailer. The end of the trailer is the end of the text.
 fn is_trailer(text: &[u8]) -> bool
-    ensures { EndsThere Place.Fresh text.now → TrailerRead text.now result }
+    ensures { EndsThere LinePlace.Fresh text.now → TrailerRead text.now result }
 {
     let mut headers = [EMPTY_HEADER_SPAN; FIELD_LIMIT];
     match parse_headers(text, &mut headers) {

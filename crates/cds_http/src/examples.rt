@@ -1,6 +1,6 @@
 //! Small examples, evaluated by the definitions.
 
-ghost use Rattle.cds_http.specs.Small.{HeadsAreCut, BodiesAreFramed, BodiesAreTaken};
+ghost use Rattle.cds_http.specs.Examples.{HeadsAreCut, BodiesAreFramed, BodiesAreTaken};
 
 /// Cuts small heads, chunk lines and trailers by the definition.
 pub fn heads_are_cut()

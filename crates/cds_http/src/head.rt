@@ -6,7 +6,7 @@ ghost use Rattle.http_header.specs.Token.{lowercase};
 ghost use Rattle.http_header.specs.FieldName.{IsFieldName};
 ghost use Rattle.http_header.specs.FieldValue.{IsFieldValue, plain_value};
 ghost use Rattle.http_header.specs.HeaderMap.{append, value_count};
-ghost use Rattle.cds_http.specs.declared.lines.Place.{Place};
+ghost use Rattle.cds_http.specs.declared.lines.LinePlace.{LinePlace};
 ghost use Rattle.cds_http.specs.Lines.{EndsThere};
 ghost use Rattle.cds_http.specs.Head.{head_limit, kept_fields, CanBeKept, HoldsRequest, HoldsReply, HeadRead};
 
@@ -161,7 +161,7 @@ fn reply_head(
 /// Reads the head of a request.
 fn read_request_head(alloc: Global, text: &[u8]) -> Result<Head, HttpError>
     requires { length text.now ≤ head_limit }
-    ensures { EndsThere Place.Before text.now → HeadRead Side.Request text.now result }
+    ensures { EndsThere LinePlace.Before text.now → HeadRead Side.Request text.now result }
 {
     let mut headers = [EMPTY_HEADER_SPAN; FIELD_LIMIT];
     match parse_request(text, &mut headers) {
@@ -174,7 +174,7 @@ fn read_request_head(alloc: Global, text: &[u8]) -> Result<Head, HttpError>
 /// Reads the head of a reply.
 fn read_reply_head(alloc: Global, text: &[u8]) -> Result<Head, HttpError>
     requires { length text.now ≤ head_limit }
-    ensures { EndsThere Place.Before text.now → HeadRead Side.Reply text.now result }
+    ensures { EndsThere LinePlace.Before text.now → HeadRead Side.Reply text.now result }
 {
     let mut headers = [EMPTY_HEADER_SPAN; FIELD_LIMIT];
     match parse_response(text, &mut headers) {
@@ -187,7 +187,7 @@ fn read_reply_head(alloc: Global, text: &[u8]) -> Result<Head, HttpError>
 /// Reads a head. The end of the head is the end of the text.
 pub(crate) fn read_head(alloc: Global, side: Side, text: &[u8]) -> Result<Head, HttpError>
     requires { length text.now ≤ head_limit }
-    ensures { EndsThere Place.Before text.now → HeadRead side text.now result }
+    ensures { EndsThere LinePlace.Before text.now → HeadRead side text.now result }
 {
     match side {
         Side::Request => read_request_head(alloc, text),

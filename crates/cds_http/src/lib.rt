@@ -3,7 +3,7 @@
 
 mod body;
 mod error;
-mod examples;
+pub mod examples;
 mod fields;
 mod framing;
 mod head;
@@ -14,7 +14,6 @@ mod reader;
 mod write;
 
 pub use error::HttpError;
-pub use examples::{bodies_are_framed, bodies_are_taken, heads_are_cut};
 pub use fields::{Field, Fields};
 pub use message::{Fed, Message, Side, Start};
 pub use reader::MessageReader;

@@ -1,7 +1,7 @@
 //! Finds the end of a head, of a trailer and of a chunk line.
 
 ghost use Rattle.std.specs.Prelude.{◌≡◌, ◌≤◌, ◌<◌, ◌==◌, ℕ, true, [], length, drop, slice_index};
-ghost use Rattle.cds_http.specs.declared.lines.Place.{Place};
+ghost use Rattle.cds_http.specs.declared.lines.LinePlace.{LinePlace};
 ghost use Rattle.cds_http.specs.Lines.{next_place, further, scanned, IsWithin, IsFront, EndsCollected, KeepsCollected, Collects, UsesFront, AddsFront};
 
 use crate::HttpError;
@@ -20,7 +20,7 @@ const SHORT: usize = 64;
 /// - `Return`: after a CR at the start of such a line.
 /// - `InLine`: inside a chunk line, which ends with its LF.
 #[derive(Clone, Copy)]
-pub(crate) enum Place {
+pub(crate) enum LinePlace {
     Before,
     Inside,
     Fresh,
@@ -32,49 +32,49 @@ pub(crate) enum Place {
 #[derive(Clone, Copy)]
 pub(crate) enum Scan {
     Ended { at: usize },
-    Open { place: Place },
+    Open { place: LinePlace },
 }
 
 /// Returns the place after one more byte, or `None` if the byte ends the empty line or the chunk line.
-fn next_place(place: Place, byte: u8) -> Option<Place>
+fn next_place(place: LinePlace, byte: u8) -> Option<LinePlace>
     ensures { result ≡ next_place place byte }
 {
     match place {
-        Place::Before => {
+        LinePlace::Before => {
             if byte == b'\n' || byte == b'\r' {
-                Some(Place::Before)
+                Some(LinePlace::Before)
             } else {
-                Some(Place::Inside)
+                Some(LinePlace::Inside)
             }
         }
-        Place::Inside => {
+        LinePlace::Inside => {
             if byte == b'\n' {
-                Some(Place::Fresh)
+                Some(LinePlace::Fresh)
             } else {
-                Some(Place::Inside)
+                Some(LinePlace::Inside)
             }
         }
-        Place::Fresh => {
+        LinePlace::Fresh => {
             if byte == b'\n' {
                 None
             } else if byte == b'\r' {
-                Some(Place::Return)
+                Some(LinePlace::Return)
             } else {
-                Some(Place::Inside)
+                Some(LinePlace::Inside)
             }
         }
-        Place::Return => {
+        LinePlace::Return => {
             if byte == b'\n' {
                 None
             } else {
-                Some(Place::Inside)
+                Some(LinePlace::Inside)
             }
         }
-        Place::InLine => {
+        LinePlace::InLine => {
             if byte == b'\n' {
                 None
             } else {
-                Some(Place::InLine)
+                Some(LinePlace::InLine)
             }
         }
     }
@@ -92,19 +92,19 @@ fn before_lf(bytes: &[u8]) -> usize
 }
 
 /// Returns how many bytes of a line leave its place as it is.
-fn stay(place: Place, bytes: &[u8]) -> usize
+fn stay(place: LinePlace, bytes: &[u8]) -> usize
     ensures within { result ≤ length bytes.now }
     ensures stays { scanned place bytes.now ≡ further result (scanned place (drop result bytes.now)) }
 {
     match place {
-        Place::Inside => before_lf(bytes),
-        Place::InLine => before_lf(bytes),
+        LinePlace::Inside => before_lf(bytes),
+        LinePlace::InLine => before_lf(bytes),
         _ => 0,
     }
 }
 
 /// Looks for the end of a head or a trailer in the bytes that come after a place in it.
-pub(crate) fn scan_lines(place: Place, bytes: &[u8]) -> Scan
+pub(crate) fn scan_lines(place: LinePlace, bytes: &[u8]) -> Scan
     ensures scanned { result ≡ scanned place bytes.now }
     ensures within { IsWithin bytes.now result }
 {
@@ -131,7 +131,7 @@ pub(crate) fn scan_lines(place: Place, bytes: &[u8]) -> Scan
 #[derive(Drop)]
 pub(crate) struct Front {
     pub text: Bytes,
-    pub place: Place,
+    pub place: LinePlace,
 }
 
 /// What a piece adds: the whole text, with `used` bytes of the piece, or more of the text without its end.
@@ -142,7 +142,7 @@ pub(crate) enum Collected {
 }
 
 /// Returns an empty prefix of what begins at this place.
-pub(crate) fn new_front(alloc: Global, start: Place) -> Front
+pub(crate) fn new_front(alloc: Global, start: LinePlace) -> Front
     ensures text { result.text ≡ [] }
     ensures place { result.place ≡ start }
 {
@@ -177,7 +177,7 @@ fn end_front(
 /// Continues a text with this piece, if it may still be longer.
 fn keep_front(
     text: Bytes,
-    place: Place,
+    place: LinePlace,
     limit: usize,
     refusal: HttpError,
     piece: &[u8],
@@ -206,7 +206,7 @@ pub(crate) fn collect(
     refusal: HttpError,
     piece: &[u8],
 ) -> Result<Collected, HttpError>
-    ensures collects { (start : Place) → IsFront start limit front → Collects start limit refusal front.text piece.now result }
+    ensures collects { (start : LinePlace) → IsFront start limit front → Collects start limit refusal front.text piece.now result }
     ensures uses { UsesFront limit piece.now result }
 {
     let Front { text, place } = front;

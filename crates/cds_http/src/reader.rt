@@ -3,7 +3,7 @@
 ghost use Rattle.std.specs.Prelude.{◌≡◌, ◌≤◌, ◌-◌, ℕ, List, [], length, Option, Some, Ok, Err, false, IsOkAnd};
 ghost use Rattle.cds_http.specs.declared.message.Side.{Side};
 ghost use Rattle.cds_http.specs.declared.message.Message.{Message};
-ghost use Rattle.cds_http.specs.declared.lines.Place.{Place};
+ghost use Rattle.cds_http.specs.declared.lines.LinePlace.{LinePlace};
 ghost use Rattle.cds_http.specs.Lines.{IsFront, EndsThere};
 ghost use Rattle.cds_http.specs.Head.{head_limit};
 ghost use Rattle.cds_http.specs.Decided.{with_body};
@@ -13,7 +13,7 @@ ghost use Rattle.cds_http.specs.Reading.{Stands, Takes, Finishes, Continues, Sta
 use crate::body::{Body, Part, Progress, lengthen, new_body, take_body};
 use crate::framing::frame;
 use crate::head::{HEAD_LIMIT, Head, read_head};
-use crate::lines::{Collected, Front, Place, add_front, collect, new_front};
+use crate::lines::{Collected, Front, LinePlace, add_front, collect, new_front};
 use crate::{Fed, HttpError, Message, Side};
 use cds_base::{Bytes, Mem};
 use std::alloc::Global;
@@ -50,7 +50,7 @@ impl MessageReader {
         Ok(MessageReader {
             side,
             stage: Stage::InHead {
-                front: new_front(alloc, Place::Before),
+                front: new_front(alloc, LinePlace::Before),
             },
         })
     }
@@ -178,7 +178,7 @@ fn take(alloc: Global, side: Side, stage: Stage, piece: &[u8]) -> Result<Taken, 
 
 /// Takes a piece of a head, and what comes after the head.
 fn take_head(alloc: Global, side: Side, front: Front, piece: &[u8]) -> Result<Taken, HttpError>
-    ensures { IsFront Place.Before head_limit front → StageTakes side front.text piece.now result }
+    ensures { IsFront LinePlace.Before head_limit front → StageTakes side front.text piece.now result }
 {
     match collect(front, HEAD_LIMIT, HttpError::HeadTooLong, piece) {
         Ok(Collected::Whole { text, used }) => {
@@ -196,7 +196,7 @@ fn take_head(alloc: Global, side: Side, front: Front, piece: &[u8]) -> Result<Ta
 /// Reads a whole head, and takes the bytes after it.
 fn end_head(alloc: Global, side: Side, text: &[u8], rest: &[u8]) -> Result<Taken, HttpError>
     requires { length text.now ≤ head_limit }
-    ensures { EndsThere Place.Before text.now → StageTakes side text.now rest.now result }
+    ensures { EndsThere LinePlace.Before text.now → StageTakes side text.now rest.now result }
 {
     match read_head(alloc, side, text) {
         Ok(head) => match frame(side, &head.fields) {

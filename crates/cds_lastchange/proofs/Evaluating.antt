@@ -11,7 +11,7 @@ use Rattle.cds_lastchange.specs.Spelled.{class_text, change_text, flagged_text, 
 use Rattle.cds_lastchange.specs.Attributes.{flag_of, class_of, added, modified, deleted, done, event_of, is_state_event}
 use Rattle.cds_lastchange.specs.StateEvent.{IsStateEvent}
 use Rattle.cds_lastchange.specs.Refusal.{IsRefused}
-use Rattle.cds_lastchange.specs.Evaluated.{start, end, deletion, cut, events_are_written, forms_are_read, others_are_refused, text_between_is_refused}
+use Rattle.cds_lastchange.specs.Examples.{start, end, deletion, cut, events_are_written, forms_are_read, others_are_refused, text_between_is_refused}
 use Rattle.cds_lastchange.proofs.Deciding.{answer, Stands, stands}
 
 is-event : (bytes : List ℕ) (events : List Event) → answer bytes ≡ Ok events → IsStateEvent bytes events

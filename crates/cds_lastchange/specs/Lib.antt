@@ -5,4 +5,4 @@ pub mod Refusal
 pub mod Judged
 pub mod Feeding
 pub mod Laws
-pub mod Evaluated
+pub mod Examples

@@ -4,7 +4,7 @@
 
 mod attributes;
 mod error;
-pub mod evaluated;
+pub mod examples;
 mod judge;
 pub mod laws;
 mod reader;

@@ -1,9 +1,9 @@
 -- Words of the grammar lead the machine from one state to another one.
 -- Every state that is kept well can go on to the end of a document: by a next character, behind which less is left.
 use Rattle.std.proofs.Common.{◌≡◌, ◌==◌, ◌+◌, ◌-◌, ◌*◌, ◌<◌, ◌≤◌, ℕ, zero, suc, nat_le, nat_lt, Bool, true, false, Option, Some, None, List, [], ◌∷◌, ◌++◌, length, refl, arith, cond, not, ◌&&◌, ◌⊎◌, inl, inr, codes, map, sym, ap, subst, ◌∙◌, append_assoc}
-use Rattle.cds_markup.proofs.Terms.{inside_move, step_turn, encode_ascii, Word, nat_tests, is_allowed, Referring, Ampersand, EntityA, Entity, Sharp, Number, Valuing, Attributing, AttrName, AttrNamed, Equals, Value, Tagging, Opened, Name, Attribute, Naming, Tag, with_digit, Stage, Version, Closing, Declaring, Xml, Gap, PartName, PartEquals, PartValue, YesOrNo, BehindPart, Question, Misc, Blanks, MiscLess, MiscBang, MiscDash, MiscComment, Turn, Content, Less, Bang, Dash, Comment, Cdata, Section, Reference, StartTag, Slashed, EndTag, Mode, First, Declaration, Prolog, Inside, Epilog, Open, Next, Stuck, On, Done, behind, is_letter, Token, Shut, Ended, Given, given, tag_given, Move, Stops, To, step, comes, is_whole, leads, step_attr, step_comment, step_reference, step_tag, step_value, list_all, is_behind, begins_name, Begin, Character, Many, contains, is_in_text, IsTag, Leaf, Text, IsLeaf, is_text, Tree, EmptyElement, Full, Nothing, LeafThen, TreeThen, begins_with_text, IsStartTag, IsTree, IsContent, IsDocument, Opens, closes_section, brackets_with, ends_tag, Slash, opened, epilog_move, misc_step, Inner}
+use Rattle.cds_markup.proofs.Terms.{inside_move, step_root, encode_ascii, Word, nat_tests, is_allowed, ReferenceState, Ampersand, EntityA, Entity, Sharp, Number, ValueState, AttributeState, AttrName, AttrNamed, Equals, Value, StartTagState, Opened, Name, Attribute, NameState, Tag, with_digit, Stage, Version, Closing, DeclarationState, Xml, Gap, PartName, PartEquals, PartValue, YesOrNo, BehindPart, Question, Misc, Blanks, MiscLess, MiscBang, MiscDash, MiscComment, RootState, Content, Less, Bang, Dash, Comment, Cdata, Section, Reference, StartTag, Slashed, EndTag, Mode, First, Declaration, Prolog, Inside, Epilog, Open, Next, Stuck, On, Done, behind, is_letter, Token, Shut, Ended, Given, given, tag_given, Move, Nowhere, To, step, comes, is_whole, leads, step_attr, step_comment, step_reference, step_tag, step_value, list_all, is_behind, begins_name, Begin, Character, Many, contains, is_in_text, IsTag, Leaf, Text, IsLeaf, is_text, Tree, EmptyElement, Full, Nothing, LeafThen, TreeThen, begins_with_text, IsStartTag, IsTree, IsContent, IsDocument, Opens, closes_section, brackets_with, ends_tag, Slash, opened, epilog_move, misc_step, Inner}
 use Rattle.cds_markup.proofs.Ways.{P, Runs, Ends, takes-run, landing, Anything, next-by, cases, and-first, same-byte, steps-then, Allowed, allowed-append, ascii-first, bytes_of, then-of, then-says, no-blanks, Early, name-no-bang, mode_of, early_next, root_or, step-is, Place, place, takes-last, holds, holds-if, holds-named, leads-any, and-second, Steps, plain-bytes, allowed-apart, bytes-append, steps-as, Way, way-as, way-byte, way-none, way-text, way-then}
-use Rattle.cds_markup.proofs.Placing.{WellMove, WellReference, WellSome, WellAttr, WellTag, WellTurn, WellDeclaring, WellMode, well-step}
+use Rattle.cds_markup.proofs.Placing.{WellMove, WellReference, WellSome, WellAttr, WellTag, WellRoot, WellDeclaration, WellMode, well-step}
 use Rattle.cds_markup.proofs.Standing.{letter-step, AllWhole, end-reads, TagParts, closed-tag, parts-of, Piece, Leaf-of, End-of, InText, start-name, opens-whole, piece-said, last-same, prolog-led, misc-way}
 use Rattle.cds_markup.proofs.ScanForms.{sec, clean, state, word-without, not-so, characters-are}
 use Rattle.cds_markup.proofs.TagForms.{end-plain, tag-reads}
@@ -55,9 +55,9 @@ content-starts o outer n = ((Inside Less, o ∷ outer), refl, λ x e. let other 
 
 -- where one is about to end
 pub record TagRun (p : Place) (all : List Open) (bytes : List ℕ) (tag : Tag) (e : ℕ) : Type 0 where
-  pub turn : Turn
-  pub led : Way P p bytes (Inside turn, all)
-  pub gives : step_turn turn all e ≡ Done (tag_given all (tag, e))
+  pub root_state : RootState
+  pub led : Way P p bytes (Inside root_state, all)
+  pub gives : step_root root_state all e ≡ Done (tag_given all (tag, e))
 
 module _ (p : Place) (all : List Open) (r : Starts p all) where
   tag-run : (inside : List ℕ) (tag : Tag) (e : ℕ) → ends_tag e ≡ true → IsTag inside tag → TagRun p all (60 ∷ inside) tag e
@@ -67,17 +67,17 @@ module _ (p : Place) (all : List Open) (r : Starts p all) where
       let last : l.1 ≡ e = sym (rw l.5 at (closes l.2 l.1)) in
       let is = last-same inside e (bytes_of l.0) e (read.spelled ∙ ap bytes_of (l.3 ∙ ap (λ x. l.0 ++ x ∷ []) last) ∙ bytes-append l.0 (e ∷ []) ∙ ap (λ xs. bytes_of l.0 ++ xs) (plain-bytes (e ∷ []) ((end-plain e ends).0, tt))) in
       by l.0 l.2 is.0 (allowed-apart l.0 (l.1 ∷ []) (subst Allowed l.3 read.allowed)).0 l.4 (ap (step_tag l.2) (sym last) ∙ l.5) where
-        closes : (n : Tagging) (c : ℕ) → holds (step_tag n c) Anything (λ found. found.1 ≡ c)
+        closes : (n : StartTagState) (c : ℕ) → holds (step_tag n c) Anything (λ found. found.1 ≡ c)
         closes (Attribute tag m) c = search leads-any
         closes other c = search (holds-named, holds-if)
 
-        name : (x : ℕ) (w : List ℕ) (n : Tagging) → Steps step_tag Opened (x ∷ w) n → begins_name x ≡ true
+        name : (x : ℕ) (w : List ℕ) (n : StartTagState) → Steps step_tag Opened (x ∷ w) n → begins_name x ≡ true
         name x w n s = cases (begins_name x) (λ f. f) (λ f. absurd (rw f at s))
 
-        by : (v : List ℕ) (n : Tagging) → inside ≡ bytes_of v → Allowed v → Steps step_tag Opened v n → step_tag n e ≡ Done (tag, e) → TagRun p all (60 ∷ inside) tag e
+        by : (v : List ℕ) (n : StartTagState) → inside ≡ bytes_of v → Allowed v → Steps step_tag Opened v n → step_tag n e ≡ Done (tag, e) → TagRun p all (60 ∷ inside) tag e
         by [] n is ok s d = let k = subst (λ m. step_tag m e ≡ Done (tag, e)) (sym s) d in cases (begins_name e) (λ f. let g = rw f at k in absurd (cc)) (λ f. let g = rw f at k in absurd (cc))
         by (x ∷ w) n is ok s d = record {
-          turn = StartTag n;
+          root_state = StartTag n;
           led = way-then P (60 ∷ inside) refl (way-byte P {m = p} {n = r.0} 60 refl (omega arith) refl r.1) (record {
             text = x ∷ w;
             spelled = is;
@@ -147,7 +147,7 @@ pub open-tag-run : (tags : List Tag) (before inside : List ℕ) (tag : Tag) (e :
 open-tag-run tags before inside tag e o ends t =
     let a = open-at tags before o in
     let u = tag-run a.0 (map opened tags) a.2 inside tag e ends t in
-    record { turn = u.turn; led = way-then P (before ++ 60 ∷ inside) refl a.1 u.led; gives = u.gives }
+    record { root_state = u.root_state; led = way-then P (before ++ 60 ∷ inside) refl a.1 u.led; gives = u.gives }
 
 -- The machine reads exactly the documents.
 
@@ -181,7 +181,7 @@ first_or c (b ∷ left) = b
 abbrev digits_left : ℕ → ℕ
 digits_left value = cond (is_allowed value) 1 (cond (nat_le value 2) 3 2)
 
-abbrev plan_reference : Referring → ℕ × ℕ
+abbrev plan_reference : ReferenceState → ℕ × ℕ
 plan_reference Ampersand = (108, 3)
 plan_reference EntityA = (109, 3)
 plan_reference (Entity left code) = (first_or 59 left, length left)
@@ -191,7 +191,7 @@ plan_reference (Number h value) = (cond (is_allowed value) 59 52, digits_left va
 fewer : (value d : ℕ) → 4 ≤ d → (nat_le value 2 ≡ false → is_allowed d ≡ true) → digits_left d < cond (nat_le value 2) 3 2
 fewer value d more ok = cases (nat_le value 2) (λ e. let big : nat_le d 2 ≡ false = grind (arith, nat_tests) in rw (e, big) (cases (is_allowed d) (λ f. rw f (omega arith)) (λ f. rw f (omega arith)))) (λ e. rw (e, ok e) (omega arith))
 
-near-reference : (r : Referring) → WellReference r → Near step_reference plan_reference Anything r
+near-reference : (r : ReferenceState) → WellReference r → Near step_reference plan_reference Anything r
 near-reference (Entity [] code) w = absurd w
 near-reference (Entity (b ∷ []) code) w = ((ascii-first b [] w).1, rw (same-byte b) tt)
 near-reference (Entity (b ∷ d ∷ left) code) w = ((ascii-first b (d ∷ left) w).1, rw (same-byte b) (omega arith))
@@ -200,30 +200,30 @@ near-reference (Number false value) w = cases (is_allowed value) (λ e. rw e (re
 near-reference other w = (refl, omega arith)
 
 -- values
-abbrev plan_value : Valuing → ℕ × ℕ
+abbrev plan_value : ValueState → ℕ × ℕ
 plan_value v = by v.reference where
-  by : Option Referring → ℕ × ℕ
+  by : Option ReferenceState → ℕ × ℕ
   by None = (cond v.double 34 39, 1)
   by (Some r) = ((plan_reference r).0, 2 + (plan_reference r).1)
 
-near-value : (v : Valuing) → WellSome v.reference → Near step_value plan_value Anything v
+near-value : (v : ValueState) → WellSome v.reference → Near step_value plan_value Anything v
 near-value v w = by v.double v.text v.behind_return v.reference w where
-  by : (double : Bool) (text : List ℕ) (after : Bool) (r : Option Referring) → WellSome r → Near step_value plan_value Anything (record { double = double; text = text; behind_return = after; reference = r })
+  by : (double : Bool) (text : List ℕ) (after : Bool) (r : Option ReferenceState) → WellSome r → Near step_value plan_value Anything (record { double = double; text = text; behind_return = after; reference = r })
   by true text after None w = (refl, tt)
   by false text after None w = (refl, tt)
   by double text after (Some r) w = let k = near-reference r w in let h = k.1 in (k.0, search (comes-leads, arith))
 
 -- names, attributes and tags
-abbrev plan_name : Naming → ℕ → ℕ → ℕ × ℕ
+abbrev plan_name : NameState → ℕ → ℕ → ℕ × ℕ
 plan_name n c left = cond (is_whole n.second) (c, left) (97, 1 + left)
 
-abbrev plan_attr : Attributing → ℕ × ℕ
+abbrev plan_attr : AttributeState → ℕ × ℕ
 plan_attr (AttrName n) = plan_name n 61 3
 plan_attr (AttrNamed q) = (61, 3)
 plan_attr (Equals q) = (34, 2)
 plan_attr (Value q v) = plan_value v
 
-near-attr : (m : Attributing) → WellAttr m → Near step_attr plan_attr Anything m
+near-attr : (m : AttributeState) → WellAttr m → Near step_attr plan_attr Anything m
 near-attr (AttrName n) w = by n.first n.second where
   by : (first : List ℕ) (second : Option (List ℕ)) → Near step_attr plan_attr Anything (AttrName (record { first = first; second = second }))
   by first None = (refl, omega arith)
@@ -233,7 +233,7 @@ near-attr (Value q v) w = let k = near-value v w in let h = k.1 in (k.0, search 
 near-attr other w = (refl, omega arith)
 
 -- up to the `/` of an empty element
-abbrev plan_tag : Tagging → ℕ × ℕ
+abbrev plan_tag : StartTagState → ℕ × ℕ
 plan_tag Opened = (97, 2)
 plan_tag (Name n) = plan_name n 47 1
 plan_tag (Attribute tag m) = ((plan_attr m).0, 2 + (plan_attr m).1)
@@ -242,7 +242,7 @@ plan_tag other = (47, 1)
 abbrev Slashing : Tag × ℕ → Type 0
 Slashing found = found.1 ≡ 47
 
-near-tag : (t : Tagging) → WellTag t → Near step_tag plan_tag Slashing t
+near-tag : (t : StartTagState) → WellTag t → Near step_tag plan_tag Slashing t
 near-tag (Name n) w = by n.first n.second where
   by : (first : List ℕ) (second : Option (List ℕ)) → Near step_tag plan_tag Slashing (Name (record { first = first; second = second }))
   by first (Some []) = (refl, rw (encode_ascii 97 (omega arith)) (omega arith))
@@ -270,18 +270,18 @@ near-section (suc (suc zero)) text few = (refl, tt)
 near-section other text few = (refl, omega arith)
 
 -- inside elements: each one that is open is closed, one more by one
-abbrev plan_turn : List Open → Turn → ℕ × ℕ
-plan_turn opens (Content n) = (60, 3 * length opens)
-plan_turn opens Less = (47, 3 * length opens - 1)
-plan_turn opens Bang = (45, 7 + 3 * length opens)
-plan_turn opens Dash = (45, 6 + 3 * length opens)
-plan_turn opens (Comment n) = ((plan_comment n).0, (plan_comment n).1 + 3 * length opens)
-plan_turn opens (Cdata left) = (first_or 93 left, 5 + length left + 3 * length opens)
-plan_turn opens (Section n text) = ((plan_section (n, text)).0, (plan_section (n, text)).1 + 3 * length opens)
-plan_turn opens (Reference r) = ((plan_reference r).0, 1 + (plan_reference r).1 + 3 * length opens)
-plan_turn opens (StartTag t) = ((plan_tag t).0, 2 + (plan_tag t).1 + 3 * length opens)
-plan_turn opens Slashed = (62, 1 + 3 * length opens)
-plan_turn opens (EndTag n) = (62, 3 * length opens - 2)
+abbrev plan_root : List Open → RootState → ℕ × ℕ
+plan_root opens (Content n) = (60, 3 * length opens)
+plan_root opens Less = (47, 3 * length opens - 1)
+plan_root opens Bang = (45, 7 + 3 * length opens)
+plan_root opens Dash = (45, 6 + 3 * length opens)
+plan_root opens (Comment n) = ((plan_comment n).0, (plan_comment n).1 + 3 * length opens)
+plan_root opens (Cdata left) = (first_or 93 left, 5 + length left + 3 * length opens)
+plan_root opens (Section n text) = ((plan_section (n, text)).0, (plan_section (n, text)).1 + 3 * length opens)
+plan_root opens (Reference r) = ((plan_reference r).0, 1 + (plan_reference r).1 + 3 * length opens)
+plan_root opens (StartTag t) = ((plan_tag t).0, 2 + (plan_tag t).1 + 3 * length opens)
+plan_root opens Slashed = (62, 1 + 3 * length opens)
+plan_root opens (EndTag n) = (62, 3 * length opens - 2)
 
 abbrev plan_misc : Misc → ℕ × ℕ
 plan_misc Blanks = (60, 0)
@@ -290,24 +290,24 @@ plan_misc MiscBang = (45, 7)
 plan_misc MiscDash = (45, 6)
 plan_misc (MiscComment n) = ((plan_comment n).0, (plan_comment n).1)
 
-abbrev plan_declaring : Declaring → ℕ × ℕ
-plan_declaring Question = (62, 6)
-plan_declaring (Gap Version) = (118, 22)
-plan_declaring (Gap other) = (63, 7)
-plan_declaring (BehindPart Version) = (32, 23)
-plan_declaring (BehindPart other) = (63, 7)
-plan_declaring (PartValue stage quote left) = (first_or quote left, 8 + length left)
-plan_declaring (YesOrNo quote) = (121, 11)
-plan_declaring (PartEquals stage) = (34, 14)
-plan_declaring (PartName stage left) = (first_or 61 left, 15 + length left)
-plan_declaring (Xml left) = (first_or 32 left, 23 + length left)
+abbrev plan_declaration : DeclarationState → ℕ × ℕ
+plan_declaration Question = (62, 6)
+plan_declaration (Gap Version) = (118, 22)
+plan_declaration (Gap other) = (63, 7)
+plan_declaration (BehindPart Version) = (32, 23)
+plan_declaration (BehindPart other) = (63, 7)
+plan_declaration (PartValue stage quote left) = (first_or quote left, 8 + length left)
+plan_declaration (YesOrNo quote) = (121, 11)
+plan_declaration (PartEquals stage) = (34, 14)
+plan_declaration (PartName stage left) = (first_or 61 left, 15 + length left)
+plan_declaration (Xml left) = (first_or 32 left, 23 + length left)
 
 abbrev plan : Mode → List Open → ℕ × ℕ
 plan First opens = (33, 13 + 3 * length opens)
-plan (Declaration d) opens = ((plan_declaring d).0, (plan_declaring d).1 + 3 * length opens)
+plan (Declaration d) opens = ((plan_declaration d).0, (plan_declaration d).1 + 3 * length opens)
 plan (Prolog MiscLess) opens = (97, 4 + 3 * length opens)
 plan (Prolog m) opens = ((plan_misc m).0, (plan_misc m).1 + 5 + 3 * length opens)
-plan (Inside turn) opens = plan_turn opens turn
+plan (Inside root_state) opens = plan_root opens root_state
 plan (Epilog m) opens = plan_misc m
 plan other opens = (32, 6 + 3 * length opens)
 
@@ -316,13 +316,13 @@ abbrev Nearer : Mode → List Open → Type 0
 Nearer mode opens = (w : List ℕ) × (m : Mode) × (o : List Open) × Allowed w × Runs mode opens w m o × ((plan m o).1 < (plan mode opens).1) × AllWhole o × WellMode m o
 
 abbrev Leads : ℕ → Move → Type 0
-Leads k Stops = ⊥
+Leads k Nowhere = ⊥
 Leads k (To m o us) = ((plan m o).1 < k) × AllWhole o
 
 one : (mode : Mode) (opens : List Open) → WellMode mode opens → is_allowed (plan mode opens).0 ≡ true → Leads (plan mode opens).1 (step mode opens (plan mode opens).0) → Nearer mode opens
 one mode opens w ok h = by (step mode opens (plan mode opens).0) refl (well-step mode opens (plan mode opens).0 ok w) h where
   by : (v : Move) → step mode opens (plan mode opens).0 ≡ v → WellMove v → Leads (plan mode opens).1 v → Nearer mode opens
-  by Stops e well h = absurd h
+  by Nowhere e well h = absurd h
   by (To m o us) e well h = ((plan mode opens).0 ∷ [], m, o, (ok, tt), rw e refl, h.0, h.1, well h.1)
 
 -- where a token leads
@@ -341,38 +341,38 @@ landed-well : (opens : List Open) (t : Token) → AllWhole opens → WellMode (l
 landed-well [] t all = tt
 landed-well (o ∷ outer) t all = (all, (tt, omega arith))
 
-inside : (turn : Turn) (opens : List Open) → AllWhole opens → WellTurn opens turn → is_allowed (plan_turn opens turn).0 ≡ true → comes (step_turn turn opens (plan_turn opens turn).0) (λ t. (plan_turn opens t).1 < (plan_turn opens turn).1) (Lands (plan_turn opens turn).1) → Nearer (Inside turn) opens
-inside turn opens all w ok h = one (Inside turn) opens (all, w) ok (by (step_turn turn opens (plan_turn opens turn).0) h) where
-  by : (next : Next Turn Given) → comes next (λ t. (plan_turn opens t).1 < (plan_turn opens turn).1) (Lands (plan_turn opens turn).1) → Leads (plan_turn opens turn).1 (inside_move opens next)
+inside : (root_state : RootState) (opens : List Open) → AllWhole opens → WellRoot opens root_state → is_allowed (plan_root opens root_state).0 ≡ true → comes (step_root root_state opens (plan_root opens root_state).0) (λ t. (plan_root opens t).1 < (plan_root opens root_state).1) (Lands (plan_root opens root_state).1) → Nearer (Inside root_state) opens
+inside root_state opens all w ok h = one (Inside root_state) opens (all, w) ok (by (step_root root_state opens (plan_root opens root_state).0) h) where
+  by : (next : Next RootState Given) → comes next (λ t. (plan_root opens t).1 < (plan_root opens root_state).1) (Lands (plan_root opens root_state).1) → Leads (plan_root opens root_state).1 (inside_move opens next)
   by Stuck h = absurd h
   by (On t) h = (h, all)
   by (Done g) h = h
 
-near-turn : (turn : Turn) (opens : List Open) → AllWhole opens → WellTurn opens turn → Nearer (Inside turn) opens
-near-turn (Content n) (o ∷ outer) all w = inside (Content n) (o ∷ outer) all w refl (omega arith)
-near-turn Less (o ∷ outer) all w = inside Less (o ∷ outer) all w refl (omega arith)
-near-turn (Comment n) opens all w = let k = near-comment n w.1 in let h = k.1 in inside (Comment n) opens all w k.0 (search (comes-leads, here, arith))
-near-turn (Cdata []) opens all w = inside (Cdata []) opens all w refl (omega arith)
-near-turn (Cdata (b ∷ left)) opens all w = inside (Cdata (b ∷ left)) opens all w (ascii-first b left w.1).1 (rw (same-byte b) (omega arith))
-near-turn (Section n text) opens all w = let k = near-section n text w.1 in let h = k.1 in inside (Section n text) opens all w k.0 (search (comes-leads, here, arith))
-near-turn (Reference r) opens all w = let k = near-reference r w.1 in let h = k.1 in inside (Reference r) opens all w k.0 (search (comes-leads, here, arith))
-near-turn (StartTag t) opens all w = let k = near-tag t w in let h = k.1 in inside (StartTag t) opens all w k.0 (search (comes-leads, slashed, arith))
-near-turn Slashed opens all w = inside Slashed opens all w refl (here opens (1 + 3 * length opens) Shut all (omega arith))
-near-turn (EndTag n) (o ∷ outer) all s =
+near-root_state : (root_state : RootState) (opens : List Open) → AllWhole opens → WellRoot opens root_state → Nearer (Inside root_state) opens
+near-root_state (Content n) (o ∷ outer) all w = inside (Content n) (o ∷ outer) all w refl (omega arith)
+near-root_state Less (o ∷ outer) all w = inside Less (o ∷ outer) all w refl (omega arith)
+near-root_state (Comment n) opens all w = let k = near-comment n w.1 in let h = k.1 in inside (Comment n) opens all w k.0 (search (comes-leads, here, arith))
+near-root_state (Cdata []) opens all w = inside (Cdata []) opens all w refl (omega arith)
+near-root_state (Cdata (b ∷ left)) opens all w = inside (Cdata (b ∷ left)) opens all w (ascii-first b left w.1).1 (rw (same-byte b) (omega arith))
+near-root_state (Section n text) opens all w = let k = near-section n text w.1 in let h = k.1 in inside (Section n text) opens all w k.0 (search (comes-leads, here, arith))
+near-root_state (Reference r) opens all w = let k = near-reference r w.1 in let h = k.1 in inside (Reference r) opens all w k.0 (search (comes-leads, here, arith))
+near-root_state (StartTag t) opens all w = let k = near-tag t w in let h = k.1 in inside (StartTag t) opens all w k.0 (search (comes-leads, slashed, arith))
+near-root_state Slashed opens all w = inside Slashed opens all w refl (here opens (1 + 3 * length opens) Shut all (omega arith))
+near-root_state (EndTag n) (o ∷ outer) all s =
     let g : Given = given Ended outer (Content 0) in
     let r = (end-reads o outer s.text n s.spelled s.allowed (bytes_of s.text ++ 62 ∷ []) g).1 (then-of (bytes_of s.text) (62 ∷ []) tt refl refl (then-of [] (62 ∷ []) tt refl no-blanks (then-says (Word (62 ∷ [])) (λ u. g) (62 ∷ []) g tt refl refl))) in
     let l = here outer (3 * length (o ∷ outer) - 2) Ended all.1 (omega arith) in
     (r.text, landing g, outer, r.allowed, takes-run r.text (EndTag n) (o ∷ outer) g r.takes, l.0, all.1, landed-well outer Ended all.1)
-near-turn (Content n) [] all w = absurd w.0
-near-turn other [] all w = absurd w
-near-turn other opens all w = inside other opens all w refl (omega arith)
+near-root_state (Content n) [] all w = absurd w.0
+near-root_state other [] all w = absurd w
+near-root_state other opens all w = inside other opens all w refl (omega arith)
 
 -- the declaration, and what stands before the root and behind it
-near-declaration : (d : Declaring) (opens : List Open) → AllWhole opens → WellDeclaring d → Nearer (Declaration d) opens
+near-declaration : (d : DeclarationState) (opens : List Open) → AllWhole opens → WellDeclaration d → Nearer (Declaration d) opens
 near-declaration (Xml (b ∷ left)) opens all w = one (Declaration (Xml (b ∷ left))) opens w (ascii-first b left w).1 (rw (same-byte b) (omega arith, all))
 near-declaration (PartName stage (b ∷ left)) opens all w = one (Declaration (PartName stage (b ∷ left))) opens w (ascii-first b left w.1).1 (rw (same-byte b) (omega arith, all))
 near-declaration (PartValue stage quote []) opens all w = one (Declaration (PartValue stage quote [])) opens w (grind (arith, nat_tests)) (rw (same-byte quote) (by stage)) where
-  by : (stage : Stage) → ((plan_declaring (BehindPart (behind stage))).1 + 3 * length opens < 8 + 3 * length opens) × AllWhole opens
+  by : (stage : Stage) → ((plan_declaration (BehindPart (behind stage))).1 + 3 * length opens < 8 + 3 * length opens) × AllWhole opens
   by Version = (omega arith, all)
   by other = (omega arith, all)
 near-declaration (PartValue stage quote (b ∷ left)) opens all w = one (Declaration (PartValue stage quote (b ∷ left))) opens w (ascii-first b left w.1.0).1 (rw (and-first (is_letter stage b b) (list_all (λ b. is_letter stage b b) left) w.1.1) (omega arith, all))
@@ -382,7 +382,7 @@ near-declaration (BehindPart Version) opens all w = one (Declaration (BehindPart
 near-declaration other opens all w = one (Declaration other) opens w refl (omega arith, all)
 
 near : (mode : Mode) (opens : List Open) → AllWhole opens → WellMode mode opens → is_behind mode ≡ false → Nearer mode opens
-near (Inside turn) opens all w e = near-turn turn opens all w.1
+near (Inside root_state) opens all w e = near-root_state root_state opens all w.1
 near (Declaration d) opens all w e = near-declaration d opens all w
 near (Prolog (MiscComment n)) opens all w e =
     let k = near-comment n w in one (Prolog (MiscComment n)) opens w k.0 (next-by (step_comment n (plan_comment n).0) (λ d. absurd (rw d at k.1)) (λ m d. rw d (omega (arith, rw d at k.1), all)) (λ u d. rw d (omega arith, all)))

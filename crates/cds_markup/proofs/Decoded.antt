@@ -1,6 +1,6 @@
 -- Reading a character from its bytes, what is decoded, what a byte and a character do, and what methods answer, from what the methods that they call answer.
 use Rattle.std.proofs.Common.{◌≡◌, ◌==◌, ℕ, ◌<◌, true, false, inl, inr, Option, Some, None, Result, Ok, Err, List, [], ◌∷◌, ◌++◌, length, refl, sym, ap, ◌∙◌, arith, encode_utf8, ◌≤◌, nat_le, subst, ◌+◌, cond, ◌&&◌, Bool, ◌≢◌, zero, suc, drop, slice_get, ◌-◌, nat_lt, IfSome, append_assoc, codes, ◌⊎◌, ◌*◌, ◌/◌, ◌%◌, ◌||◌}
-use Rattle.cds_markup.proofs.Terms.{nat_tests, append-nil, encode_ascii, is_allowed, Whole, More, Stop, Broken, Deep, Event, Mode, Open, Step, after, begins_character, any_at, step, Reading, reading, moved, may_begin, go_on, byte_step, is_deep, judge, ReadSo, DecodesSo, AsciiSo, ByteSo, WholeSo, JudgedSo, NoCharacter, OutOfMemory, clash, empty-is, no-cons, INPUT_LIMIT, NamespaceRule, TooLong, Token, refusal, MovesSo, TakenSo, Progress, progressed, NextSo, Blanks, Turn, Inside, Epilog, Next, Stuck, On, Done, Given, To, is_content, is_over, landed, inside_move, opens_after, is_last, and-no, TurnsSo, by-test, Naming, QName, leads, named_or, Agrees, NamedSo, EndTag, begins_with, end_blanks_step, end_name_step, StandsSo, is-spent, some-is, written_name, Attr, TagAttr, OutOfScalarRange, slice_get_within, flat_map-append, tag_attrs, with_name, counted, written_attr, written_attrs, is_within, second_low, second_high, third_high, byte_at, behind_first, two_bytes_at, three_bytes_at, four_bytes_at, tail_at, ok-err, cases}
+use Rattle.cds_markup.proofs.Terms.{nat_tests, append-nil, encode_ascii, is_allowed, Whole, More, MachineError, Broken, Deep, Event, Mode, Open, Step, after, begins_character, any_at, step, Reading, reading, moved, may_begin, go_on, byte_step, is_deep, judge, ReadSo, DecodesSo, AsciiSo, ByteSo, WholeSo, JudgedSo, NoCharacter, OutOfMemory, clash, empty-is, no-cons, INPUT_LIMIT, NamespaceRule, TooLong, Token, refusal, MovesSo, TakenSo, Progress, progressed, NextSo, Blanks, RootState, Inside, Epilog, Next, Stuck, On, Done, Given, To, is_content, is_over, landed, inside_move, opens_after, is_last, and-no, RootSo, by-test, NameState, QName, leads, named_or, Agrees, NamedSo, EndTag, begins_with, end_blanks_step, end_name_step, StandsSo, is-spent, some-is, written_name, Attr, TagAttr, OutOfScalarRange, slice_get_within, flat_map-append, tag_attrs, with_name, counted, written_attr, written_attrs, is_within, second_low, second_high, third_high, byte_at, behind_first, two_bytes_at, three_bytes_at, four_bytes_at, tail_at, ok-err, cases}
 use lib.Utf8.{encode}
 use Rattle.cds_markup.specs.declared.mode.NameStep.TheVariants.{Ends, Breaks}
 
@@ -299,7 +299,7 @@ pub ascii_none : (b : ℕ) → b < 128 → is_allowed b ≡ false → any_at (b 
 unfolding any_at
 ascii_none b low e = let none : begins_character b ≡ false = rw e (grind (arith, nat_tests)) in rw none refl
 
-pub plain_byte : (r : Reading) (b : ℕ) (result : Result (Option ℕ) Stop) → r.begun ≡ [] → AsciiSo b result → ByteSo r b result r
+pub plain_byte : (r : Reading) (b : ℕ) (result : Result (Option ℕ) MachineError) → r.begun ≡ [] → AsciiSo b result → ByteSo r b result r
 plain_byte r b (Ok (Some c)) e h = (rw (e, h) refl, ap (λ xs. reading xs r.mode r.opens) e)
 plain_byte r b (Err Broken) e h = rw (e, h) refl
 plain_byte r b other e h = absurd h
@@ -336,15 +336,15 @@ step_deep r b e = rw e refl
 pub step_none : (r now : Reading) (b : ℕ) → is_deep r b ≡ false → byte_step r b ≡ Some (now, []) → judge r b ≡ Ok (now, [])
 step_none r now b e f = rw (e, f) refl
 
-pub step_whole : (r s now : Reading) (b c : ℕ) (result : Result (Option Event) Stop) → is_deep r b ≡ false → byte_step r b ≡ moved (step r.mode r.opens c) → s ≡ reading [] r.mode r.opens → WholeSo s c result now → JudgedSo r b result now
+pub step_whole : (r s now : Reading) (b c : ℕ) (result : Result (Option Event) MachineError) → is_deep r b ≡ false → byte_step r b ≡ moved (step r.mode r.opens c) → s ≡ reading [] r.mode r.opens → WholeSo s c result now → JudgedSo r b result now
 step_whole r s now b c result e f d h = by result (rw d at h) where
-  by : (result : Result (Option Event) Stop) → WholeSo (reading [] r.mode r.opens) c result now → JudgedSo r b result now
+  by : (result : Result (Option Event) MachineError) → WholeSo (reading [] r.mode r.opens) c result now → JudgedSo r b result now
   by (Ok (Some event)) h = (h.0, rw (e, f) h.1, h.2)
   by (Err OutOfMemory) h = h
   by other h = rw (e, f) h
 
 -- a whole character that is refused, or completes nothing
-pub whole_refused : (r now : Reading) (c : ℕ) (stop : Stop) (mode : Mode) → MovesSo r.opens (step r.mode r.opens c) (Err stop) mode → WholeSo r c (Err stop) now
+pub whole_refused : (r now : Reading) (c : ℕ) (stop : MachineError) (mode : Mode) → MovesSo r.opens (step r.mode r.opens c) (Err stop) mode → WholeSo r c (Err stop) now
 whole_refused r now c Broken mode h = rw h refl
 whole_refused r now c OutOfMemory mode h = tt
 whole_refused r now c other mode h = absurd h
@@ -356,13 +356,13 @@ whole_nothing r now c mode h e = rw (h, e) refl
 pub whole_token : (r s now : Reading) (c : ℕ) (mode : Mode) (t : Token) (event : Event) → MovesSo r.opens (step r.mode r.opens c) (Ok (Some t)) mode → s ≡ reading [] mode r.opens → TakenSo s t (Ok event) now → WholeSo r c (Ok (Some event)) now
 whole_token r s now c mode t event h e g = let k = subst (λ x. TakenSo x t (Ok event) now) e g in (t, rw (h, k.0) refl ∙ ap (λ x. Ok (x, t ∷ [])) (sym k.2), k.1)
 
-pub whole_broken : (r s now later : Reading) (c : ℕ) (mode : Mode) (t : Token) (stop : Stop) → MovesSo r.opens (step r.mode r.opens c) (Ok (Some t)) mode → s ≡ reading [] mode r.opens → TakenSo s t (Err stop) now → WholeSo r c (Err stop) later
+pub whole_broken : (r s now later : Reading) (c : ℕ) (mode : Mode) (t : Token) (stop : MachineError) → MovesSo r.opens (step r.mode r.opens c) (Ok (Some t)) mode → s ≡ reading [] mode r.opens → TakenSo s t (Err stop) now → WholeSo r c (Err stop) later
 whole_broken r s now later c mode t NamespaceRule h e g = let k = subst (λ x. TakenSo x t (Err NamespaceRule) now) e g in rw (h, k) refl
 whole_broken r s now later c mode t OutOfMemory h e g = tt
 whole_broken r s now later c mode t other h e g = absurd g
 
 -- a byte that is refused
-pub judged_refused : (r now later : Reading) (b : ℕ) (stop : Stop) → is_deep r b ≡ false → ByteSo r b (Err stop) now → JudgedSo r b (Err stop) later
+pub judged_refused : (r now later : Reading) (b : ℕ) (stop : MachineError) → is_deep r b ≡ false → ByteSo r b (Err stop) now → JudgedSo r b (Err stop) later
 judged_refused r now later b Broken e h = rw (e, h) refl
 judged_refused r now later b OutOfMemory e h = tt
 judged_refused r now later b other e h = absurd h
@@ -375,7 +375,7 @@ pub next_event : (p : Progress) (b : ℕ) (event : Option Event) (now : Reading)
 next_event p b None now h j = (not-full INPUT_LIMIT p.at h, refl, j)
 next_event p b (Some e) now h j = (not-full INPUT_LIMIT p.at h, refl, j)
 
-pub next_stopped : (p q : Progress) (b : ℕ) (stop : Stop) (now : Reading) → p.at < INPUT_LIMIT → JudgedSo p.read b (Err stop) now → NextSo p b (Err (refusal stop p.at)) q
+pub next_stopped : (p q : Progress) (b : ℕ) (stop : MachineError) (now : Reading) → p.at < INPUT_LIMIT → JudgedSo p.read b (Err stop) now → NextSo p b (Err (refusal stop p.at)) q
 next_stopped p q b OutOfMemory now h j = tt
 next_stopped p q b stop now h j = rw (not-full INPUT_LIMIT p.at h, j) refl
 
@@ -383,53 +383,53 @@ pub next_long : (p q : Progress) (b : ℕ) → INPUT_LIMIT ≤ p.at → NextSo p
 next_long p q b h = let full : nat_le INPUT_LIMIT p.at ≡ true = grind (arith, nat_tests) in rw full refl
 
 -- where a token leads, and whether the root is over
-over-is : (opens : List Open) (turn : Turn) → is_over opens turn ≡ (is_content turn && (length opens == 0))
-over-is [] turn = by-test (λ t. t ≡ (t && (0 == 0))) refl refl (is_content turn)
-over-is (o ∷ outer) turn = grind (arith, nat_tests)
+over-is : (opens : List Open) (root_state : RootState) → is_over opens root_state ≡ (is_content root_state && (length opens == 0))
+over-is [] root_state = by-test (λ t. t ≡ (t && (0 == 0))) refl refl (is_content root_state)
+over-is (o ∷ outer) root_state = grind (arith, nat_tests)
 
 -- a character inside the root, behind which it may be over
-inside-so : (opens : List Open) (next : Next Turn Given) (said : Result (Option Token) Stop) (turn : Turn) (over : Bool) → TurnsSo opens next said turn → (is_content turn && is_last said opens) ≡ over → MovesSo opens (inside_move opens next) said (cond over (Epilog Blanks) (Inside turn))
-inside-so opens next (Err OutOfMemory) turn over h e = tt
-inside-so opens Stuck (Err Broken) turn over h e = refl
-inside-so opens (On t) (Ok None) turn over h e = subst (λ o. To (Inside t) opens [] ≡ To (cond o (Epilog Blanks) (Inside turn)) opens []) (sym (and-no (is_content turn)) ∙ e) (ap (λ x. To (Inside x) opens []) (sym h))
-inside-so opens (Done g) (Ok (Some token)) turn over h e = ap landed h ∙ ap (λ t. To (cond t (Epilog Blanks) (Inside turn)) (opens_after token opens) (token ∷ [])) (over-is (opens_after token opens) turn ∙ e)
-inside-so opens next said turn over h e = absurd h
+inside-so : (opens : List Open) (next : Next RootState Given) (said : Result (Option Token) MachineError) (root_state : RootState) (over : Bool) → RootSo opens next said root_state → (is_content root_state && is_last said opens) ≡ over → MovesSo opens (inside_move opens next) said (cond over (Epilog Blanks) (Inside root_state))
+inside-so opens next (Err OutOfMemory) root_state over h e = tt
+inside-so opens Stuck (Err Broken) root_state over h e = refl
+inside-so opens (On t) (Ok None) root_state over h e = subst (λ o. To (Inside t) opens [] ≡ To (cond o (Epilog Blanks) (Inside root_state)) opens []) (sym (and-no (is_content root_state)) ∙ e) (ap (λ x. To (Inside x) opens []) (sym h))
+inside-so opens (Done g) (Ok (Some token)) root_state over h e = ap landed h ∙ ap (λ t. To (cond t (Epilog Blanks) (Inside root_state)) (opens_after token opens) (token ∷ [])) (over-is (opens_after token opens) root_state ∙ e)
+inside-so opens next said root_state over h e = absurd h
 
-pub inside_over : (opens : List Open) (next : Next Turn Given) (said : Result (Option Token) Stop) (turn : Turn) → TurnsSo opens next said turn → (is_content turn && is_last said opens) ≡ true → MovesSo opens (inside_move opens next) said (Epilog Blanks)
-inside_over opens next said turn h e = inside-so opens next said turn true h e
+pub inside_over : (opens : List Open) (next : Next RootState Given) (said : Result (Option Token) MachineError) (root_state : RootState) → RootSo opens next said root_state → (is_content root_state && is_last said opens) ≡ true → MovesSo opens (inside_move opens next) said (Epilog Blanks)
+inside_over opens next said root_state h e = inside-so opens next said root_state true h e
 
-pub inside_on : (opens : List Open) (next : Next Turn Given) (said : Result (Option Token) Stop) (turn : Turn) → TurnsSo opens next said turn → (is_content turn && is_last said opens) ≡ false → MovesSo opens (inside_move opens next) said (Inside turn)
-inside_on opens next said turn h e = inside-so opens next said turn false h e
+pub inside_on : (opens : List Open) (next : Next RootState Given) (said : Result (Option Token) MachineError) (root_state : RootState) → RootSo opens next said root_state → (is_content root_state && is_last said opens) ≡ false → MovesSo opens (inside_move opens next) said (Inside root_state)
+inside_on opens next said root_state h e = inside-so opens next said root_state false h e
 
 module _ {M A : Type 0} where
   pub named_ends :
-      (next : Option Naming) (on : Naming → M) (whole : Bool) (q p : QName) (behind : QName → Next M A) (now : Naming) (result : Result (Option A) Stop) (m : M)
+      (next : Option NameState) (on : NameState → M) (whole : Bool) (q p : QName) (behind : QName → Next M A) (now : NameState) (result : Result (Option A) MachineError) (m : M)
       → NamedSo next whole q (Ok (Ends p)) now → Agrees (behind p) result m → Agrees (named_or next on whole (behind q)) result m
   named_ends None on true q p behind now result m h g = subst (λ x. Agrees (behind x) result m) h g
   named_ends next on whole q p behind now result m h g = absurd h
 
   pub named_breaks :
-      (next : Option Naming) (on : Naming → M) (whole : Bool) (q : QName) (behind : Next M A) (now : Naming) (m : M)
+      (next : Option NameState) (on : NameState → M) (whole : Bool) (q : QName) (behind : Next M A) (now : NameState) (m : M)
       → NamedSo next whole q (Ok Breaks) now → Agrees (named_or next on whole behind) (Err Broken) m
   named_breaks None on false q behind now m h = tt
   named_breaks next on whole q behind now m h = absurd h
 
 -- A machine inside another one.
 module _ {M A : Type 0} (opens : List Open) where
-  pub turns_err : (next : Next M A) (on : M → Turn) (done : A → Next Turn Given) (stop : Stop) (now : M) (turn : Turn) → Agrees next (Err stop) now → TurnsSo opens (leads next on done) (Err stop) turn
-  turns_err next on done OutOfMemory now turn h = tt
-  turns_err Stuck on done Broken now turn h = tt
-  turns_err next on done stop now turn h = absurd h
+  pub root_err : (next : Next M A) (on : M → RootState) (done : A → Next RootState Given) (stop : MachineError) (now : M) (root_state : RootState) → Agrees next (Err stop) now → RootSo opens (leads next on done) (Err stop) root_state
+  root_err next on done OutOfMemory now root_state h = tt
+  root_err Stuck on done Broken now root_state h = tt
+  root_err next on done stop now root_state h = absurd h
 
-  pub turns_on : (next : Next M A) (on : M → Turn) (done : A → Next Turn Given) (now : M) → Agrees next (Ok None) now → TurnsSo opens (leads next on done) (Ok None) (on now)
-  turns_on (On x) on done now h = ap on h
-  turns_on next on done now h = absurd h
+  pub root_on : (next : Next M A) (on : M → RootState) (done : A → Next RootState Given) (now : M) → Agrees next (Ok None) now → RootSo opens (leads next on done) (Ok None) (on now)
+  root_on (On x) on done now h = ap on h
+  root_on next on done now h = absurd h
 
-  pub turns_done :
-      (next : Next M A) (on : M → Turn) (done : A → Next Turn Given) (now : M) (a : A) (token : Token) (turn : Turn)
-      → Agrees next (Ok (Some a)) now → TurnsSo opens (done a) (Ok (Some token)) turn → TurnsSo opens (leads next on done) (Ok (Some token)) turn
-  turns_done (Done b) on done now a token turn h g = subst (λ x. TurnsSo opens (done x) (Ok (Some token)) turn) h g
-  turns_done next on done now a token turn h g = absurd h
+  pub root_done :
+      (next : Next M A) (on : M → RootState) (done : A → Next RootState Given) (now : M) (a : A) (token : Token) (root_state : RootState)
+      → Agrees next (Ok (Some a)) now → RootSo opens (done a) (Ok (Some token)) root_state → RootSo opens (leads next on done) (Ok (Some token)) root_state
+  root_done (Done b) on done now a token root_state h g = subst (λ x. RootSo opens (done x) (Ok (Some token)) root_state) h g
+  root_done next on done now a token root_state h g = absurd h
 
 get-none : (xs : List ℕ) (at : ℕ) → slice_get xs at ≡ None → drop at xs ≡ []
 get-none [] zero e = refl
@@ -464,7 +464,7 @@ none_over name at e = rw (get-none name at e) refl
 pub some_over : (name : List ℕ) (at b : ℕ) → slice_get name at ≡ Some b → is-spent (drop at name) ≡ false
 some_over name at b e = rw (get-some name at b e) refl
 
-pub end_over : (opens : List Open) (n : ℕ) (left : List ℕ) (outer : List Open) (c : ℕ) (result : Result (Option Token) Stop) (now : Turn) → is-spent left ≡ true → TurnsSo opens (end_blanks_step n outer c) result now → TurnsSo opens (end_name_step n left outer c) result now
+pub end_over : (opens : List Open) (n : ℕ) (left : List ℕ) (outer : List Open) (c : ℕ) (result : Result (Option Token) MachineError) (now : RootState) → is-spent left ≡ true → RootSo opens (end_blanks_step n outer c) result now → RootSo opens (end_name_step n left outer c) result now
 end_over opens n [] outer c result now e h = h
 end_over opens n (b ∷ left) outer c result now e h = absurd (cc)
 
@@ -473,10 +473,10 @@ name-on n [] outer c e = absurd (cc)
 name-on n (b ∷ left) outer c e = refl
 
 -- a byte of it
-pub end_goes : (opens : List Open) (n behind : ℕ) (name : List ℕ) (outer : List Open) (c : ℕ) → is-spent (drop n name) ≡ false → StandsSo name n (encode_utf8 c) (Some behind) → TurnsSo opens (end_name_step n (drop n name) outer c) (Ok None) (EndTag behind)
+pub end_goes : (opens : List Open) (n behind : ℕ) (name : List ℕ) (outer : List Open) (c : ℕ) → is-spent (drop n name) ≡ false → StandsSo name n (encode_utf8 c) (Some behind) → RootSo opens (end_name_step n (drop n name) outer c) (Ok None) (EndTag behind)
 end_goes opens n behind name outer c e h = rw (name-on n (drop n name) outer c e, h.0) (ap (λ m. EndTag m) h.1)
 
-pub end_stuck : (opens : List Open) (n : ℕ) (name : List ℕ) (outer : List Open) (c : ℕ) (now : Turn) → is-spent (drop n name) ≡ false → StandsSo name n (encode_utf8 c) None → TurnsSo opens (end_name_step n (drop n name) outer c) (Err Broken) now
+pub end_stuck : (opens : List Open) (n : ℕ) (name : List ℕ) (outer : List Open) (c : ℕ) (now : RootState) → is-spent (drop n name) ≡ false → StandsSo name n (encode_utf8 c) None → RootSo opens (end_name_step n (drop n name) outer c) (Err Broken) now
 end_stuck opens n name outer c now e h = rw (name-on n (drop n name) outer c e, h) tt
 
 get-front : (xs ys : List ℕ) (at : ℕ) → at < length xs → slice_get (xs ++ ys) at ≡ slice_get xs at

@@ -1,6 +1,6 @@
 -- What is found where nothing refuses the bytes is among their parts, behind exactly the parts before it, and each part of bytes stands in them.
 use Rattle.std.proofs.Common.{◌≡◌, ◌≢◌, ℕ, ◌+◌, ◌-◌, ◌<◌, ◌≤◌, Bool, true, false, not, ◌&&◌, ◌⊎◌, inl, inr, Option, Some, None, Ok, List, [], ◌∷◌, ◌++◌, codes, map, length, take, refl, sym, ap, subst, ◌∙◌, arith, append_assoc, encode_utf8}
-use Rattle.cds_markup.proofs.Terms.{nat_tests, append-nil, length-append, encode_ascii, INPUT_LIMIT, is_blank, Attr, Part, Start, End, Run, Tag, Content, Inside, Open, OpenText, Leaf, is_text, Text, is_in_text, IsText, IsLeaf, TagEnds, LeafEnds, CanGoOn, Opens, TextByte, opened, reading, marks, Token, given, PartsAreFound, Reading, judge, text_or, text_with, begun_text, or_here, marked, is_in_content, TextGiven, Slashed as Slash-turn, Blanks, Epilog, PartsBegin, parts_of, leaf_parts, OpensParts, first_non_blank, Telling, telling, begin_telling, told_on, told_within, IsPlain, IsBegun, Clear, TagGiven, PartsGiven, StartStands, TextStands, Stands, closes_section, brackets_with, line_ends, Mode, empty-is, and-first, and-second, and-no, and-both, and-so, no-cons, none-behind, some-is, clash, cases, heads, same_from_push, Grammar-reference as Reference, Grammar-section as Section, Grammar-comment as Comment, by-test}
+use Rattle.cds_markup.proofs.Terms.{nat_tests, append-nil, length-append, encode_ascii, INPUT_LIMIT, is_blank, Attr, Part, Start, End, Run, Tag, Content, Inside, Open, OpenText, Leaf, is_text, Text, is_in_text, IsText, IsLeaf, TagEnds, LeafEnds, CanGoOn, Opens, TextByte, opened, reading, marks, Token, given, PartsAreFound, Reading, judge, text_or, text_with, begun_text, or_here, marked, is_in_content, TextGiven, Slashed as Slash-root_state, Blanks, Epilog, PartsBegin, parts_of, leaf_parts, OpensParts, first_non_blank, Telling, telling, begin_telling, told_on, told_within, IsPlain, IsBegun, Clear, TagGiven, PartsGiven, StartStands, TextStands, Stands, closes_section, brackets_with, line_ends, Mode, empty-is, and-first, and-second, and-no, and-both, and-so, no-cons, none-behind, some-is, clash, cases, heads, same_from_push, Grammar-reference as Reference, Grammar-section as Section, Grammar-comment as Comment, by-test}
 use Rattle.cds_markup.specs.declared.name.Name.{Name}
 use Rattle.cds_markup.specs.GivenParts.{Given}
 use Rattle.cds_markup.proofs.GoingOn.{result-by, NoneBefore, front-of, judged-so, judged-cause, cause-refuses, goes-on, taken}
@@ -268,7 +268,7 @@ pub parts-begin : PartsBegin
 parts-begin front rest [] earlier parts few given (inl (o, ends)) = (parts, ap (λ ps. ps ++ parts) (sym o.1))
 parts-begin front rest (t ∷ outer) earlier parts few given (inl (o, ends)) = given-late (front ++ rest) front rest parts earlier (Inside (Content 0)) (map opened (t ∷ outer)) given refl (trail-told INPUT_LIMIT (alone-trail t outer front earlier o ends) few)
 parts-begin front rest tags earlier parts few given (inr (inl s)) = given-late (front ++ rest) front rest parts earlier (Epilog Blanks) [] given refl (trail-told INPUT_LIMIT (root-trail front earlier s) few)
-parts-begin front rest tags earlier parts few given (inr (inr s)) = given-late (front ++ rest) front rest parts earlier (Inside Slash-turn) (map opened s.tags) given refl (trail-told INPUT_LIMIT (slash-trail front earlier s) few).0
+parts-begin front rest tags earlier parts few given (inr (inr s)) = given-late (front ++ rest) front rest parts earlier (Inside Slash-root_state) (map opened s.tags) given refl (trail-told INPUT_LIMIT (slash-trail front earlier s) few).0
 
 -- A character of a literal text that is no white space is in a part, or behind one of its text.
 

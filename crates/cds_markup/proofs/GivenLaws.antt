@@ -1,7 +1,7 @@
 -- The parts of an element, nested and joined, are what the element means; what any bytes are answered; and byte by byte, that what the
 -- reader gives is the parts up to a place of the grammar, behind which no others come.
 use Rattle.std.proofs.Common.{take, encode_utf8, ◌≡◌, ℕ, ◌+◌, Some, List, [], ◌∷◌, ◌++◌, length, refl, sym, ap, ◌∙◌, append_assoc, ◌==◌, ◌≤◌, Bool, true, false, cond, None, Ok, Err, subst, arith, inl, inr, Result, ◌≢◌, ◌⊎◌, ◌-◌, not, ◌&&◌, ◌<◌}
-use Rattle.cds_markup.proofs.Terms.{begins, Grammar-content, append-nil, length-append, nat_tests, INPUT_LIMIT, Part, Start, End, Blanks, Epilog, Inside, MarkupError, Bad, TooDeep, TooLong, Failed, Mem, Less, Tree, EmptyElement, Full, Nothing, LeafThen, TreeThen, IsTree, IsContent, IsDocument, declarations, tag_says, Meaning, Meanings, ChildThen, meaning, meanings, DocOf, Doc, TreeParts, ContentParts, leaf_parts, nested, misc_step, epilog_move, step, Reading, reading, may_begin_name, byte_step, answer_of, marks, Telling, telling, begin_telling, told, told_within, CanGoOn, IsTooDeep, IsBad, Refuses, IsFirst, IsRefused, Verdict, AllAreAnswered, AnswersAreSo, AnswersAreExact, OneAnswer, Broken, Deep, NamespaceRule, Stop, may_end, refusal, Childless, OutOfMemory, cases_lt, Turn, Content, Slashed, Tag, is_in_text, is_empty, any_at, Token, Letter, given, Given, step_turn, judge, is_in_content, ended_text, last_part, passed_over, marked, cuts_text, parts_of, last_parts, IsBegun, PartsTo, Tells, PartsAreGiven, PartsAreOne, PartsStandBefore, PartsAreTold, PartsAreOfRoots, OneTelling, NothingCountsPastTheLimit, LeavesHaveOneEnd, AllIsTold, OneElement, next-by, clash, heads, ok-err, none-behind, Takes, cases, some-is, DocumentParts}
+use Rattle.cds_markup.proofs.Terms.{begins, Grammar-content, append-nil, length-append, nat_tests, INPUT_LIMIT, Part, Start, End, Blanks, Epilog, Inside, MarkupError, Bad, TooDeep, TooLong, Failed, Mem, Less, Tree, EmptyElement, Full, Nothing, LeafThen, TreeThen, IsTree, IsContent, IsDocument, declarations, tag_says, Meaning, Meanings, ChildThen, meaning, meanings, DocOf, Doc, TreeParts, ContentParts, leaf_parts, nested, misc_step, epilog_move, step, Reading, reading, may_begin_name, byte_step, answer_of, marks, Telling, telling, begin_telling, told, told_within, CanGoOn, IsTooDeep, IsBad, Refuses, IsFirst, IsRefused, Verdict, AllAreAnswered, AnswersAreSo, AnswersAreExact, OneAnswer, Broken, Deep, NamespaceRule, MachineError, may_end, refusal, Childless, OutOfMemory, cases_lt, RootState, Content, Slashed, Tag, is_in_text, is_empty, any_at, Token, Letter, given, Given, step_root, judge, is_in_content, ended_text, last_part, passed_over, marked, cuts_text, parts_of, last_parts, IsBegun, PartsTo, Tells, PartsAreGiven, PartsAreOne, PartsStandBefore, PartsAreTold, PartsAreOfRoots, OneTelling, NothingCountsPastTheLimit, LeavesHaveOneEnd, AllIsTold, OneElement, next-by, clash, heads, ok-err, none-behind, Takes, cases, some-is, DocumentParts}
 use Rattle.cds_markup.specs.declared.tag.Declaration.{Declaration}
 use Rattle.cds_markup.proofs.Built.{TreeTold, tree-told, no-misc}
 use Rattle.cds_markup.proofs.Standing.{parts-of, Standing, closed, Stands, leaf_token, Leaf-of, begin, piece-said, misc-way}
@@ -73,7 +73,7 @@ abbrev pub Answers : List ℕ → Result (Unit {0}) MarkupError → Type 0
 Answers bytes (Ok done) = ((tree : Tree) × IsDocument bytes tree) × NoneBefore bytes (length bytes) × (length bytes ≤ INPUT_LIMIT)
 Answers bytes (Err e) = Refused bytes e
 
-bad-of : (stop : Stop) (bytes : List ℕ) (at : ℕ) → CauseAt stop bytes at → IsFirst bytes at → Refused bytes (refusal stop at)
+bad-of : (stop : MachineError) (bytes : List ℕ) (at : ℕ) → CauseAt stop bytes at → IsFirst bytes at → Refused bytes (refusal stop at)
 bad-of Broken bytes at c f = ((inl (inl c), f), λ e. absurd (cc))
 bad-of NamespaceRule bytes at c f = ((inr c, f), λ e. absurd (cc))
 bad-of Deep bytes at c f = ((c, f), λ e. absurd (cc))
@@ -214,7 +214,7 @@ module _ (front : List ℕ) (none : NoneBefore front (length front)) where
   all-of : (before bytes : List ℕ) → front ≡ before ++ bytes → Front front (length front) none (before ++ bytes)
   all-of before bytes e = record { rest = []; spelled = e ∙ sym (append-nil (before ++ bytes)); few = omega (arith, ap length e) }
 
-  stands-place : (tags : List Tag) (turn : Turn) → Stands tags turn front → SomePlace front
+  stands-place : (tags : List Tag) (root_state : RootState) → Stands tags root_state front → SomePlace front
   stands-place [] (Content n) (root, prolog, element, e, p, t) = let r = tree-found front (length front) none root Outside [] prolog element [] tt (At-prolog p) t (all-of prolog element e) in (_, trail-place (trail-as r.1 (sym e) refl))
   stands-place (tag ∷ outer) (Content n) s =
       let e = sym (append-nil front) in
@@ -255,7 +255,7 @@ module _ (front : List ℕ) (q : Telling) (b : ℕ) (s : Reading) (ts : List Tok
   token-case : (t : Token) (us : List Token) → ts ≡ t ∷ us → CaseOf front q b s ts
   token-case t us e =
       let w = subst (λ xs. TagsOf q.read.opens xs (front ++ b ∷ [])) e (taken front q.read b r s ts steps).words in
-      inl (stands-place (front ++ b ∷ []) none w.2.0 w.1.turn w.2.2)
+      inl (stands-place (front ++ b ∷ []) none w.2.0 w.1.root_state w.2.2)
 
   -- no text is cut before it nor behind it
   quiet : ts ≡ [] → cuts_text q.read ≡ false → cuts_text s ≡ false → CaseOf front q b s ts
@@ -398,17 +398,17 @@ nothing-counts-past-the-limit bytes more h = elim (told-ends INPUT_LIMIT bytes b
 
 -- A reference or a section that begins at a place ends at one place.
 
-abbrev Takes-from : Turn → List ℕ → Given → Type 0
-Takes-from t w g = Takes (λ t c. step_turn t [] c) t w g
+abbrev Takes-from : RootState → List ℕ → Given → Type 0
+Takes-from t w g = Takes (λ t c. step_root t [] c) t w g
 
 -- what is taken of the same bytes is the same
-takes-one : (w v : List ℕ) (t : Turn) (g h : Given) (x y : List ℕ) → Allowed w → Allowed v → Takes-from t w g → Takes-from t v h → bytes_of w ++ x ≡ bytes_of v ++ y → w ≡ v
+takes-one : (w v : List ℕ) (t : RootState) (g h : Given) (x y : List ℕ) → Allowed w → Allowed v → Takes-from t w g → Takes-from t v h → bytes_of w ++ x ≡ bytes_of v ++ y → w ≡ v
 takes-one [] v t g h x y a b s u e = absurd s
 takes-one (c ∷ w) [] t g h x y a b s u e = absurd u
 takes-one (c ∷ w) (d ∷ v) t g h x y a b s u e =
     let same = same-first c d (bytes_of w ++ x) (bytes_of v ++ y) a.0 b.0 (sym (append_assoc (encode_utf8 c) (bytes_of w) x) ∙ e ∙ append_assoc (encode_utf8 d) (bytes_of v) y) in
     let q = subst (λ z. Takes-from t (z ∷ v) h) (sym same.0) u in
-    ap (λ z. z ∷ w) same.0 ∙ ap (λ zs. d ∷ zs) (next-by (step_turn t [] c) (λ f. absurd (rw f at s)) (λ n f. takes-one w v n g h x y a.1 b.1 (rw f at s) (rw f at q) same.1) (λ z f. (rw f at s).1 ∙ sym (rw f at q).1))
+    ap (λ z. z ∷ w) same.0 ∙ ap (λ zs. d ∷ zs) (next-by (step_root t [] c) (λ f. absurd (rw f at s)) (λ n f. takes-one w v n g h x y a.1 b.1 (rw f at s) (rw f at q) same.1) (λ z f. (rw f at s).1 ∙ sym (rw f at q).1))
 
 pub leaves-have-one-end : LeavesHaveOneEnd
 leaves-have-one-end bytes tags others begin at end leaf other l isn m notext =

@@ -1,7 +1,7 @@
 -- Byte by byte: what is read can go on, and a byte that is refused cannot stand there.
 -- What is judged at a byte is a cause there, or there is none.
 use Rattle.std.proofs.Common.{◌≡◌, ◌==◌, ℕ, ◌≤◌, Bool, true, false, cond, ◌⊎◌, inl, inr, Ok, Err, List, [], ◌∷◌, ◌++◌, drop, length, refl, sym, ap, subst, ◌∙◌, arith, append_assoc, encode_utf8, Option, Some, None, Result, ◌+◌, map, ◌<◌, nat_lt, ◌&&◌, take}
-use Rattle.cds_markup.proofs.Terms.{Decides-eqb, Stops, Gone, append-nil, length-append, starts_is, encode_ascii, is_allowed, EndTag, Mode, Begin, Inside, Open, name_bytes, byte_order_mark, Tree, IsDocument, Step, any_at, Token, begins_with, end_name_step, Move, To, inside_move, step, comes, Reading, reading, takes_wide, may_begin, moved, go_on, byte_step, is_behind, may_end, CanGoOn, is_empty, nat_tests, take-append_seam, begins_name, Attr, Tag, NamespaceRule, Deep, Broken, Content, Less, Stop, tag_says, declarations, scopes_of, BreaksRule, GoOnOrBreak, Opens, IsTooDeep, Refuses, BreaksAt, EndsShort, Started, Slash, opened, Given, tag_given, scopes_in, is_missing, breaks_rule, may_begin_name, begins_tag, is_deep, judge, nothing_read, Character, most_open, Done, ends_tag, OutOfMemory, append_cancel_left, length-map, steps-then, and-both, heads, empty-is, clash, cases, ok-err}
+use Rattle.cds_markup.proofs.Terms.{Decides-eqb, Nowhere, Gone, append-nil, length-append, starts_is, encode_ascii, is_allowed, EndTag, Mode, Begin, Inside, Open, name_bytes, byte_order_mark, Tree, IsDocument, Step, any_at, Token, begins_with, end_name_step, Move, To, inside_move, step, comes, Reading, reading, takes_wide, may_begin, moved, go_on, byte_step, is_behind, may_end, CanGoOn, is_empty, nat_tests, take-append_seam, begins_name, Attr, Tag, NamespaceRule, Deep, Broken, Content, Less, MachineError, tag_says, declarations, scopes_of, BreaksRule, GoOnOrBreak, Opens, IsTooDeep, Refuses, BreaksAt, EndsShort, Started, Slash, opened, Given, tag_given, scopes_in, is_missing, breaks_rule, may_begin_name, begins_tag, is_deep, judge, nothing_read, Character, most_open, Done, ends_tag, OutOfMemory, append_cancel_left, length-map, steps-then, and-both, heads, empty-is, clash, cases, ok-err}
 use Rattle.cds_markup.proofs.Ways.{Steps, steps-on, is-byte, none-behind, and-first, and-second, no-cons, some-is, mark-bytes, bytes_of, Allowed, bytes-append, allowed-append, allowed-apart, same-first, cut, Spell, AtBegin, Place, place, P, Runs, Ends, steps-behind, plain-bytes, landing}
 use Rattle.cds_markup.proofs.Decoded.{found, decodes, stuck, viable, allowed-at-most, ranges, lead-begins, encode-two, encode-three, encode-four, at-most-or-more}
 use Rattle.cds_markup.proofs.ScanForms.{small-or-wide, no-sign}
@@ -74,7 +74,7 @@ two-or-more c [] b t tail e = two-bytes c b t [] tail e
 two-or-more c (x ∷ xs) b t tail e = two-bytes c x t (xs ++ b ∷ []) tail e
 
 -- what may begin, from a character that goes on there
-pub stops-not : {X : Type 0} (m : Move) → m ≡ Stops → Goes m → X
+pub stops-not : {X : Type 0} (m : Move) → m ≡ Nowhere → Goes m → X
 stops-not m e g = clash g (ap is_to e)
 
 pub prefix-begins : (left bytes more : List ℕ) → left ≡ bytes ++ more → begins_with left bytes ≡ true
@@ -103,11 +103,11 @@ begins-complete other opens c bytes more high ok e w g = sym (wide c high ok oth
 
 -- one step of the machine at a character
 came-goes : (m : Move) (on : Place → Type 0) → comes (place m) on (λ u. ⊥) → Goes m
-came-goes Stops on h = absurd h
+came-goes Nowhere on h = absurd h
 came-goes (To mode opens us) on h = refl
 
-none-moved : (m : Move) → moved m ≡ None → m ≡ Stops
-none-moved Stops e = refl
+none-moved : (m : Move) → moved m ≡ None → m ≡ Nowhere
+none-moved Nowhere e = refl
 none-moved (To mode opens us) e = absurd (cc)
 
 -- how characters that run to a place go on behind what is read
@@ -169,7 +169,7 @@ module _ (front : List ℕ) (r : Reading) (b : ℕ) (q : Reached front r) where
   TakenIf (Some found) = Taken front r b q found.0 found.1
 
   taken-whole : (c : ℕ) (left : List ℕ) → any_at all ≡ Ok (c, left) → (m : Move) → step r.mode r.opens c ≡ m → WellMove m → TakenIf (moved m)
-  taken-whole c left e Stops d w = tt
+  taken-whole c left e Nowhere d w = tt
   taken-whole c left e (To mode opens vs) d w =
       let n = done r.begun b c left q.unfinished e in
       let i = subst (λ m. InMove r.opens m (q.text ++ c ∷ [])) d (step-in r.mode r.opens q.text c q.allowed n.1 q.words) in
@@ -266,7 +266,7 @@ module _ (front : List ℕ) (r : Reading) (q : Reached front r) where
       (d.0, subst (λ xs. IsDocument xs d.0) (bytes-append q.text w) d.1)
 
   moved-on : (c : ℕ) (more : List ℕ) → encode_utf8 c ≡ r.begun ++ more → is_allowed c ≡ true → (m : Move) → step r.mode r.opens c ≡ m → WellMove m → Goes m → CanGoOn front
-  moved-on c more e ok Stops d w g = absurd (cc)
+  moved-on c more e ok Nowhere d w g = absurd (cc)
   moved-on c more e ok (To mode opens us) d w g =
       let i = (subst (λ v. InMove r.opens v (q.text ++ c ∷ [])) d (step-in r.mode r.opens q.text c q.allowed ok q.words)).0 in
       let a = alive mode opens (in-whole mode opens (q.text ++ c ∷ []) i) (w (in-whole mode opens (q.text ++ c ∷ []) i)) in
@@ -450,11 +450,11 @@ module _ (front : List ℕ) (r : Reading) (b : ℕ) (w : List ℕ) (q : Reached 
       let split = same-front front (x.before ++ 60 ∷ x.inside) (b ∷ w) (x.end ∷ x.rest) whole long in
       let e : (ends_tag x.end ≡ true) × (x.end < 128) × (is_allowed x.end ≡ true) = elim x.ends [ inl d ↦ (ap ends_tag d, omega (arith, d), ap is_allowed d) | inr d ↦ (ap ends_tag d, omega (arith, d), ap is_allowed d) ] in
       let p = open-tag-run tags x.before x.inside tag x.end x.opens e.0 x.is_tag in
-      let m = told front r q p.led.text (Inside p.turn) (map opened tags) p.led.allowed (split.0 ∙ p.led.spelled) p.led.steps in
+      let m = told front r q p.led.text (Inside p.root_state) (map opened tags) p.led.allowed (split.0 ∙ p.led.spelled) p.led.steps in
       let g : Given = tag_given (map opened tags) (tag, x.end) in
       let byte : any_at (b ∷ []) ≡ Ok (x.end, []) = ap (λ y. any_at (y ∷ [])) (heads b x.end w x.rest split.1).0 ∙ ap any_at (sym (append-nil (encode_utf8 x.end) ∙ encode_ascii x.end e.1)) ∙ decodes x.end [] e.2 in
-      let same-r : r ≡ reading [] (Inside p.turn) (map opened tags) = ap (λ xs. reading xs r.mode r.opens) m.0 ∙ ap (λ y. reading [] y r.opens) m.1 ∙ ap (reading [] (Inside p.turn)) m.2 in
-      let took : byte_step r b ≡ moved (inside_move (map opened tags) (Done g)) = ap (λ x. byte_step x b) same-r ∙ ap (go_on (Inside p.turn) (map opened tags) (b ∷ [])) byte ∙ ap (λ x. moved (inside_move (map opened tags) x)) p.gives in
+      let same-r : r ≡ reading [] (Inside p.root_state) (map opened tags) = ap (λ xs. reading xs r.mode r.opens) m.0 ∙ ap (λ y. reading [] y r.opens) m.1 ∙ ap (reading [] (Inside p.root_state)) m.2 in
+      let took : byte_step r b ≡ moved (inside_move (map opened tags) (Done g)) = ap (λ x. byte_step x b) same-r ∙ ap (go_on (Inside p.root_state) (map opened tags) (b ∷ [])) byte ∙ ap (λ x. moved (inside_move (map opened tags) x)) p.gives in
       let same : g.token ∷ [] ≡ us = (some-same (reading [] (landing g) g.opens) s (g.token ∷ []) us (sym took ∙ judged-so.1)).1 in
       let broken : breaks_rule (map opened tags) (g.token ∷ []) ≡ true = let none = ap (λ y. is_missing (tag_says y tag)) (scopes-are tags) ∙ ap is_missing says in elim x.ends [ inl d ↦ rw d none | inr d ↦ rw d none ] in
       clash broken (ap (λ os. breaks_rule os (g.token ∷ [])) (sym m.2) ∙ ap (breaks_rule r.opens) same ∙ judged-so.2)
@@ -472,13 +472,13 @@ abbrev pub NoneBefore : List ℕ → ℕ → Type 0
 NoneBefore bytes at = (earlier : ℕ) → earlier < at → Refuses bytes earlier → ⊥
 
 -- the cause at a place
-abbrev pub CauseAt : Stop → List ℕ → ℕ → Type 0
+abbrev pub CauseAt : MachineError → List ℕ → ℕ → Type 0
 CauseAt Broken bytes at = BreaksAt bytes at
 CauseAt NamespaceRule bytes at = BreaksRule bytes at
 CauseAt Deep bytes at = IsTooDeep bytes at
 CauseAt OutOfMemory bytes at = ⊥
 
-pub cause-refuses : (stop : Stop) (bytes : List ℕ) (at : ℕ) → CauseAt stop bytes at → Refuses bytes at
+pub cause-refuses : (stop : MachineError) (bytes : List ℕ) (at : ℕ) → CauseAt stop bytes at → Refuses bytes at
 cause-refuses Broken bytes at c = inl (inl (inl c))
 cause-refuses NamespaceRule bytes at c = inl (inr c)
 cause-refuses Deep bytes at c = inr c
@@ -493,9 +493,9 @@ module _ (front : List ℕ) (r : Reading) (b : ℕ) (w : List ℕ) (q : Reached 
         here = λ c. stops front r b q e (subst CanGoOn (front-of front b w) c);
       }
 
-  pub judged-cause : (stop : Stop) → judge r b ≡ Err stop → CauseAt stop (front ++ b ∷ w) (length front)
+  pub judged-cause : (stop : MachineError) → judge r b ≡ Err stop → CauseAt stop (front ++ b ∷ w) (length front)
   judged-cause stop e =
-      let so : (s : Stop) → ◌≡◌ {A = Result (Reading × List Token) Stop} (Err s) (Err stop) → CauseAt s (front ++ b ∷ w) (length front) → CauseAt stop (front ++ b ∷ w) (length front) = λ s d c. subst (λ s. CauseAt s (front ++ b ∷ w) (length front)) (same-err d) c in
+      let so : (s : MachineError) → ◌≡◌ {A = Result (Reading × List Token) MachineError} (Err s) (Err stop) → CauseAt s (front ++ b ∷ w) (length front) → CauseAt stop (front ++ b ∷ w) (length front) = λ s d c. subst (λ s. CauseAt s (front ++ b ∷ w) (length front)) (same-err d) c in
       cases (is_deep r b) (λ d. so Deep (rw d at e) (deep front r b w q d))
       (λ d. option-by (byte_step r b) (λ f. so Broken (rw (d, f) at e) (breaks-here f))
       (λ found f. cases (breaks_rule r.opens found.1) (λ k. so NamespaceRule (rw (d, f, k) at e) (let x = broken-words r.opens found.1 (front ++ b ∷ []) k (taken front r b q found.0 found.1 f).words in ends-rule front b w r.opens x.0 x.1 x.2)) (λ k. ok-err (rw (d, f, k) at e))))

@@ -1,7 +1,7 @@
 -- What is kept of every state: words are of ASCII, numbers are no more than a code point, names are whole characters.
 -- Where a character leads inside a token.
 use Rattle.std.proofs.Common.{codes, ◌≡◌, ◌==◌, ℕ, List, [], ◌∷◌, drop, true, cond, ◌⊎◌, inl, inr, ◌++◌, map, refl, sym, ap, subst, ◌∙◌, arith, append_assoc, ◌≤◌, Bool, false, Option, Some, None, encode_utf8, length, ◌<◌, nat_lt}
-use Rattle.cds_markup.proofs.Terms.{nat_tests, Stops, append-nil, is_allowed, begins_name, Opened, Turn, Content, Less, Cdata, StartTag, Slashed, EndTag, Open, Tag, Blanks, Mode, Inside, Epilog, name_bytes, IsTag, IsProlog, Tree, IsDocument, comes, leads, end_name_step, step_turn, Token, Started, Slash, Given, opened, Opens, Move, To, misc_step, is_behind, is_over, inside_move, step, Grammar-reference as Ref, Decides-eqb, drop-drop, Referring, Entity, Number, Valuing, Attributing, Value, Tagging, Attribute, Bang, Dash, Comment, Section, Reference, is_quote, Next, Stuck, On, Done, step_reference, value_step, step_value, step_attr, step_tag, step_comment, step_section, given, tag_given, start_step, section_step, begins_with, Stage, Version, Closing, Declaring, Xml, Gap, PartName, PartEquals, PartValue, YesOrNo, BehindPart, Misc, MiscLess, MiscComment, First, Declaration, Prolog, is_letter, step_declaration, prolog_move, starts_is, list_all, is_blank, is_in_name, Naming, AttrName, Name, Tagged, Encoding, Begin, TagAttr, goes_with, is_whole, name_of, base_of, valuing, attr_of, named_or, named_step, ends_tag, tag_named, with_attr, tagged_step, Commented, Referred, declaration_move, marked_move, is_none, wide_attr, wide_tag, wide_turn, wide_misc, takes_wide, is_digit, Letter}
+use Rattle.cds_markup.proofs.Terms.{nat_tests, Nowhere, append-nil, is_allowed, begins_name, Opened, RootState, Content, Less, Cdata, StartTag, Slashed, EndTag, Open, Tag, Blanks, Mode, Inside, Epilog, name_bytes, IsTag, IsProlog, Tree, IsDocument, comes, leads, end_name_step, step_root, Token, Started, Slash, Given, opened, Opens, Move, To, misc_step, is_behind, is_over, inside_move, step, Grammar-reference as Ref, Decides-eqb, drop-drop, ReferenceState, Entity, Number, ValueState, AttributeState, Value, StartTagState, Attribute, Bang, Dash, Comment, Section, Reference, is_quote, Next, Stuck, On, Done, step_reference, value_step, step_value, step_attr, step_tag, step_comment, step_section, given, tag_given, start_step, section_step, begins_with, Stage, Version, Closing, DeclarationState, Xml, Gap, PartName, PartEquals, PartValue, YesOrNo, BehindPart, Misc, MiscLess, MiscComment, First, Declaration, Prolog, is_letter, step_declaration, prolog_move, starts_is, list_all, is_blank, is_in_name, NameState, AttrName, Name, Tagged, Encoding, Begin, TagAttr, goes_with, is_whole, name_of, base_of, value_state, attr_of, named_or, named_step, ends_tag, tag_named, with_attr, tagged_step, Commented, Referred, declaration_move, marked_move, is_none, wide_attr, wide_tag, wide_root, wide_misc, takes_wide, is_digit, Letter}
 use Rattle.cds_markup.proofs.Ways.{then-of, next-by, cases, is-byte, Takes, Steps, steps-on, steps-done, holds, holds-if, leads-any, Anything, only-if, bytes_of, Allowed, bytes-append, plain-bytes, less-bytes, allowed-append, allowed-apart, Early, AtBegin, mode_of, early_next, step-is, place, P, Runs, Ends, by-test, holds-leads, holds-named, and-second, cut, is_ascii, ascii-rest, Spell, ascii-first}
 use Rattle.cds_markup.proofs.Standing.{AllWhole, Piece, Character-of, Leaf-of, Tag-of, End-of, TagCases, Standing, closed, Stands, Leads, piece-stands, shut-stands, opens-whole, tag-stands, piece-reads, start-reads, tag-form, T, misc-is, prolog-word}
 use Rattle.cds_markup.proofs.ScanForms.{low-with, no-sign}
@@ -15,44 +15,44 @@ SomeAscii [] = ⊥
 SomeAscii (b ∷ left) = Ascii (b ∷ left)
 
 -- references
-abbrev pub WellReference : Referring → Type 0
+abbrev pub WellReference : ReferenceState → Type 0
 WellReference (Entity left code) = SomeAscii left
 WellReference (Number h value) = value ≤ 1114111
 WellReference other = Unit {0}
 
-pub well-reference : (r : Referring) (c : ℕ) → WellReference r → holds (step_reference r c) WellReference Anything
+pub well-reference : (r : ReferenceState) (c : ℕ) → WellReference r → holds (step_reference r c) WellReference Anything
 well-reference (Entity [] code) c w = absurd w
 well-reference (Entity (b ∷ d ∷ left) code) c w = search (holds-if, ascii-rest b (d ∷ left) w)
 well-reference other c w = search (holds-if, nat_tests, arith) depth 9
 
 -- values
-abbrev pub WellSome : Option Referring → Type 0
+abbrev pub WellSome : Option ReferenceState → Type 0
 WellSome None = Unit {0}
 WellSome (Some r) = WellReference r
 
-abbrev pub WellValue : Valuing → Type 0
+abbrev pub WellValue : ValueState → Type 0
 WellValue v = WellSome v.reference
 
-pub well-value : (v : Valuing) (c : ℕ) → WellValue v → holds (step_value v c) WellValue Anything
+pub well-value : (v : ValueState) (c : ℕ) → WellValue v → holds (step_value v c) WellValue Anything
 well-value v c w = by v.double v.text v.behind_return v.reference w where
-  by : (double : Bool) (text : List ℕ) (behind : Bool) (r : Option Referring) → WellSome r → holds (value_step double text behind r c) WellValue Anything
+  by : (double : Bool) (text : List ℕ) (behind : Bool) (r : Option ReferenceState) → WellSome r → holds (value_step double text behind r c) WellValue Anything
   by double text behind None w = search holds-if
   by double text behind (Some r) w = let h = well-reference r c w in search holds-leads
 
 -- attributes and tags
-abbrev pub WellAttr : Attributing → Type 0
+abbrev pub WellAttr : AttributeState → Type 0
 WellAttr (Value q v) = WellValue v
 WellAttr other = Unit {0}
 
-pub well-attr : (m : Attributing) (c : ℕ) → WellAttr m → holds (step_attr m c) WellAttr Anything
+pub well-attr : (m : AttributeState) (c : ℕ) → WellAttr m → holds (step_attr m c) WellAttr Anything
 well-attr (Value q v) c w = let h = well-value v c w in search holds-leads
 well-attr other c w = search (holds-named, holds-if)
 
-abbrev pub WellTag : Tagging → Type 0
+abbrev pub WellTag : StartTagState → Type 0
 WellTag (Attribute tag m) = WellAttr m
 WellTag other = Unit {0}
 
-pub well-tag : (t : Tagging) (c : ℕ) → WellTag t → holds (step_tag t c) WellTag Anything
+pub well-tag : (t : StartTagState) (c : ℕ) → WellTag t → holds (step_tag t c) WellTag Anything
 well-tag (Attribute tag m) c w = let h = well-attr m c w in search holds-leads
 well-tag other c w = search (holds-named, holds-if)
 
@@ -65,26 +65,26 @@ abbrev pub WellEnd : ℕ → List Open → Type 0
 WellEnd n [] = ⊥
 WellEnd n (o ∷ outer) = Spell (drop n (name_bytes o.name))
 
-abbrev pub WellTurn : List Open → Turn → Type 0
-WellTurn opens (Content n) = Some-open opens × (n ≤ 2)
-WellTurn opens Less = Some-open opens
-WellTurn opens Bang = Some-open opens
-WellTurn opens Dash = Some-open opens
-WellTurn opens (Comment n) = Some-open opens × (n ≤ 3)
-WellTurn opens (Cdata left) = Some-open opens × Ascii left
-WellTurn opens (Section n text) = Some-open opens × (n ≤ 2)
-WellTurn opens (Reference r) = Some-open opens × WellReference r
-WellTurn opens (StartTag t) = WellTag t
-WellTurn opens Slashed = Unit {0}
-WellTurn opens (EndTag n) = WellEnd n opens
+abbrev pub WellRoot : List Open → RootState → Type 0
+WellRoot opens (Content n) = Some-open opens × (n ≤ 2)
+WellRoot opens Less = Some-open opens
+WellRoot opens Bang = Some-open opens
+WellRoot opens Dash = Some-open opens
+WellRoot opens (Comment n) = Some-open opens × (n ≤ 3)
+WellRoot opens (Cdata left) = Some-open opens × Ascii left
+WellRoot opens (Section n text) = Some-open opens × (n ≤ 2)
+WellRoot opens (Reference r) = Some-open opens × WellReference r
+WellRoot opens (StartTag t) = WellTag t
+WellRoot opens Slashed = Unit {0}
+WellRoot opens (EndTag n) = WellEnd n opens
 
 -- where a token leads: inside an element, behind one that ended, or behind a slash
-abbrev pub WellAt : List Open → Turn → Type 0
+abbrev pub WellAt : List Open → RootState → Type 0
 WellAt [] (Content n) = Unit {0}
-WellAt opens turn = WellTurn opens turn
+WellAt opens root_state = WellRoot opens root_state
 
 abbrev pub WellGiven : Given → Type 0
-WellGiven g = WellAt g.opens g.turn
+WellGiven g = WellAt g.opens g.root_state
 
 abbrev pub Few : ℕ → Type 0
 Few n = n ≤ 3
@@ -104,16 +104,16 @@ slashed [] = tt
 slashed (o ∷ outer) = tt
 
 module _ (opens : List Open) where
-  well-start : (t : Tagging) (c : ℕ) → WellTag t → holds (start_step opens t c) (WellTurn opens) WellGiven
+  well-start : (t : StartTagState) (c : ℕ) → WellTag t → holds (start_step opens t c) (WellRoot opens) WellGiven
   well-start t c w =
       let h = well-tag t c w in
       let here : (found : Tag × ℕ) → WellGiven (tag_given opens found) = λ found. by-test (λ t. WellGiven (cond t (given (Started found.0) (opened found.0 ∷ opens) (Content 0)) (given (Slash found.0) opens Slashed))) (tt, omega arith) (slashed opens) (found.1 == 62) in
       search (holds-leads, here)
 
-  well-text : (n : ℕ) (text : List ℕ) (c : ℕ) → Some-open opens → holds (section_step n text opens c) (WellTurn opens) WellGiven
+  well-text : (n : ℕ) (text : List ℕ) (c : ℕ) → Some-open opens → holds (section_step n text opens c) (WellRoot opens) WellGiven
   well-text n text c o = let h : holds (step_section n text c) (λ s. s.0 ≤ 2) Anything = search (holds-if, low-with) in search (holds-leads, at-content, arith)
 
-well-end : (o : Open) (outer : List Open) (n c : ℕ) → is_allowed c ≡ true → (left : List ℕ) → drop n (name_bytes o.name) ≡ left → Spell left → holds (end_name_step n left outer c) (WellTurn (o ∷ outer)) WellGiven
+well-end : (o : Open) (outer : List Open) (n c : ℕ) → is_allowed c ≡ true → (left : List ℕ) → drop n (name_bytes o.name) ≡ left → Spell left → holds (end_name_step n left outer c) (WellRoot (o ∷ outer)) WellGiven
 well-end o outer n c ok [] e s = let h = subst Spell (sym e) s in search (holds-if, at-content, arith)
 well-end o outer n c ok (b ∷ left) e s =
     let m : ℕ = length (encode_utf8 c) in
@@ -124,34 +124,34 @@ well-end o outer n c ok (b ∷ left) e s =
     in
     search (holds-if, goes)
 
-pub well-turn : (turn : Turn) (opens : List Open) (c : ℕ) → is_allowed c ≡ true → AllWhole opens → WellTurn opens turn → holds (step_turn turn opens c) (WellTurn opens) WellGiven
-well-turn (Content n) opens c ok all w = search (holds-if, at-content, low-with)
-well-turn Less (o ∷ outer) c ok all w = let h = well-start (o ∷ outer) Opened c tt in search holds-if
-well-turn (Comment n) opens c ok all w = let h = well-comment n c w.1 in search (holds-leads, at-content, arith)
-well-turn (Cdata []) opens c ok all w = well-text opens 0 [] c w.0
-well-turn (Cdata (b ∷ left)) opens c ok all w = let h = ascii-rest b left w.1 in search holds-if
-well-turn (Section n text) opens c ok all w = well-text opens n text c w.0
-well-turn (Reference r) opens c ok all w = let h = well-reference r c w.1 in search (holds-leads, at-content, arith)
-well-turn (StartTag t) opens c ok all w = well-start opens t c w
-well-turn (EndTag n) (o ∷ outer) c ok all w = well-end o outer n c ok (drop n (name_bytes o.name)) refl w
-well-turn (EndTag n) [] c ok all w = absurd w
-well-turn Less [] c ok all w = absurd w
-well-turn other opens c ok all w = search (holds-if, at-content, arith)
+pub well-root_state : (root_state : RootState) (opens : List Open) (c : ℕ) → is_allowed c ≡ true → AllWhole opens → WellRoot opens root_state → holds (step_root root_state opens c) (WellRoot opens) WellGiven
+well-root_state (Content n) opens c ok all w = search (holds-if, at-content, low-with)
+well-root_state Less (o ∷ outer) c ok all w = let h = well-start (o ∷ outer) Opened c tt in search holds-if
+well-root_state (Comment n) opens c ok all w = let h = well-comment n c w.1 in search (holds-leads, at-content, arith)
+well-root_state (Cdata []) opens c ok all w = well-text opens 0 [] c w.0
+well-root_state (Cdata (b ∷ left)) opens c ok all w = let h = ascii-rest b left w.1 in search holds-if
+well-root_state (Section n text) opens c ok all w = well-text opens n text c w.0
+well-root_state (Reference r) opens c ok all w = let h = well-reference r c w.1 in search (holds-leads, at-content, arith)
+well-root_state (StartTag t) opens c ok all w = well-start opens t c w
+well-root_state (EndTag n) (o ∷ outer) c ok all w = well-end o outer n c ok (drop n (name_bytes o.name)) refl w
+well-root_state (EndTag n) [] c ok all w = absurd w
+well-root_state Less [] c ok all w = absurd w
+well-root_state other opens c ok all w = search (holds-if, at-content, arith)
 
 -- the declaration
 abbrev pub Real : Stage → Type 0
 Real Closing = ⊥
 Real other = Unit {0}
 
-abbrev pub WellDeclaring : Declaring → Type 0
-WellDeclaring (Xml left) = Ascii left
-WellDeclaring (PartName stage left) = Real stage × Ascii left
-WellDeclaring (PartEquals stage) = Real stage
-WellDeclaring (PartValue stage quote left) = (is_quote quote ≡ true) × (Ascii left × (list_all (λ b. is_letter stage b b) left ≡ true))
-WellDeclaring (YesOrNo quote) = is_quote quote ≡ true
-WellDeclaring other = Unit {0}
+abbrev pub WellDeclaration : DeclarationState → Type 0
+WellDeclaration (Xml left) = Ascii left
+WellDeclaration (PartName stage left) = Real stage × Ascii left
+WellDeclaration (PartEquals stage) = Real stage
+WellDeclaration (PartValue stage quote left) = (is_quote quote ≡ true) × (Ascii left × (list_all (λ b. is_letter stage b b) left ≡ true))
+WellDeclaration (YesOrNo quote) = is_quote quote ≡ true
+WellDeclaration other = Unit {0}
 
-pub well-declaration : (c : ℕ) (d : Declaring) → WellDeclaring d → holds (step_declaration d c) WellDeclaring Anything
+pub well-declaration : (c : ℕ) (d : DeclarationState) → WellDeclaration d → holds (step_declaration d c) WellDeclaration Anything
 well-declaration c (Xml (b ∷ left)) w = search (holds-if, ascii-rest b left)
 well-declaration c (Gap Version) w = search holds-if
 well-declaration c (PartName stage (b ∷ left)) w = search (holds-if, ascii-rest b left)
@@ -171,24 +171,24 @@ well-misc other c w = search (holds-if, arith)
 
 -- the whole
 abbrev pub WellMode : Mode → List Open → Type 0
-WellMode (Declaration d) opens = WellDeclaring d
+WellMode (Declaration d) opens = WellDeclaration d
 WellMode (Prolog m) opens = WellMisc m
-WellMode (Inside turn) opens = AllWhole opens × WellTurn opens turn
+WellMode (Inside root_state) opens = AllWhole opens × WellRoot opens root_state
 WellMode (Epilog m) opens = WellMisc m
 WellMode other opens = Unit {0}
 
 -- where a character leads, whose open elements have whole names
 abbrev pub WellMove : Move → Type 0
-WellMove Stops = Unit {0}
+WellMove Nowhere = Unit {0}
 WellMove (To mode opens us) = AllWhole opens → WellMode mode opens
 
-inside-well : (opens : List Open) (next : Next Turn Given) → holds next (WellTurn opens) WellGiven → WellMove (inside_move opens next)
+inside-well : (opens : List Open) (next : Next RootState Given) → holds next (WellRoot opens) WellGiven → WellMove (inside_move opens next)
 inside-well opens Stuck h = tt
-inside-well opens (On turn) h = λ all. (all, h)
-inside-well opens (Done g) h = by g.opens g.turn h where
-  by : (os : List Open) (turn : Turn) → WellAt os turn → AllWhole os → WellMode (cond (is_over os turn) (Epilog Blanks) (Inside turn)) os
+inside-well opens (On root_state) h = λ all. (all, h)
+inside-well opens (Done g) h = by g.opens g.root_state h where
+  by : (os : List Open) (root_state : RootState) → WellAt os root_state → AllWhole os → WellMode (cond (is_over os root_state) (Epilog Blanks) (Inside root_state)) os
   by [] (Content n) h all = tt
-  by os turn h all = (all, h)
+  by os root_state h all = (all, h)
 
 prolog-well : (opens : List Open) (next : Next Misc (Unit {0})) (c : ℕ) → holds next WellMisc Anything → WellMove (prolog_move opens next c)
 prolog-well opens Stuck c h = tt
@@ -203,7 +203,7 @@ pub well-step : (mode : Mode) (opens : List Open) (c : ℕ) → is_allowed c ≡
 well-step First opens c ok w = let h = well-misc MiscLess c tt in search (move-if, prolog-well)
 well-step (Declaration d) opens c ok w = next-by (step_declaration d c) (λ e. rw e tt) (λ n e. rw e (λ all. rw e at (well-declaration c d w))) (λ u e. rw e (λ all. tt))
 well-step (Prolog m) opens c ok w = prolog-well opens (misc_step m c) c (well-misc m c w)
-well-step (Inside turn) opens c ok w = inside-well opens (step_turn turn opens c) (well-turn turn opens c ok w.0 w.1)
+well-step (Inside root_state) opens c ok w = inside-well opens (step_root root_state opens c) (well-root_state root_state opens c ok w.0 w.1)
 well-step (Epilog m) opens c ok w = next-by (misc_step m c) (λ e. rw e tt) (λ n e. rw e (λ all. rw e at (well-misc m c w))) (λ u e. rw e tt)
 well-step other opens c ok w = let h = well-misc Blanks c tt in search (move-if, prolog-well)
 
@@ -216,7 +216,7 @@ moves (On m) = true
 moves (Done a) = true
 
 abbrev pub is_to : Move → Bool
-is_to Stops = false
+is_to Nowhere = false
 is_to (To mode opens us) = true
 
 abbrev pub Goes : Move → Type 0
@@ -253,7 +253,7 @@ module _ (c : ℕ) (high : 128 ≤ c) where
 
   ruleset signs = (low-no, no-blank, no-end, no-quote)
 
-  narrow-reference : (r : Referring) → WellReference r → step_reference r c ≡ Stuck
+  narrow-reference : (r : ReferenceState) → WellReference r → step_reference r c ≡ Stuck
   narrow-reference (Entity [] code) w = refl
   narrow-reference (Entity (b ∷ []) code) w = rw (no-sign c b high (ascii-first b [] w).0) refl
   narrow-reference (Entity (b ∷ d ∷ left) code) w = rw (no-sign c b high (ascii-first b (d ∷ left) w).0) refl
@@ -264,7 +264,7 @@ module _ (c : ℕ) (high : 128 ≤ c) where
   no-letter Encoding b low = grind (arith, nat_tests)
   no-letter other b low = no-sign c b high low
 
-  pub narrow-declaration : (d : Declaring) → WellDeclaring d → step_declaration d c ≡ Stuck
+  pub narrow-declaration : (d : DeclarationState) → WellDeclaration d → step_declaration d c ≡ Stuck
   narrow-declaration (Xml (b ∷ left)) w = rw (no-sign c b high (ascii-first b left w).0) refl
   narrow-declaration (Gap Version) w = simp signs
   narrow-declaration (PartName stage (b ∷ left)) w = rw (no-sign c b high (ascii-first b left w.1).0) refl
@@ -273,54 +273,54 @@ module _ (c : ℕ) (high : 128 ≤ c) where
   narrow-declaration (BehindPart Version) w = simp signs
   narrow-declaration other w = simp signs
 
-  pub narrow-marked : (opens : List Open) → marked_move opens c ≡ Stops
+  pub narrow-marked : (opens : List Open) → marked_move opens c ≡ Nowhere
   narrow-marked opens = rw (no-sign c 60 high (omega arith), no-blank) refl
 
   module _ (ok : is_allowed c ≡ true) where
     begins : begins_name c ≡ true
     begins = let e = ok in grind (arith, nat_tests)
 
-    named : (first : List ℕ) (second : Option (List ℕ)) (A M : Type 0) (to : Naming → M) (whole : Bool) (behind : Next M A) → moves (named_or (goes_with first second c) to whole behind) ≡ true
+    named : (first : List ℕ) (second : Option (List ℕ)) (A M : Type 0) (to : NameState → M) (whole : Bool) (behind : Next M A) → moves (named_or (goes_with first second c) to whole behind) ≡ true
     named first (Some []) A M to whole behind = rw begins refl
     named first other A M to whole behind = let e = begins in let within : is_in_name c ≡ true = rw e refl in rw within refl
 
-    value-wide : (double : Bool) (text : List ℕ) (behind : Bool) (r : Option Referring) → WellSome r → moves (value_step double text behind r c) ≡ is_none r
-    value-wide double text behind (Some r) w = ap (λ n. moves {M = Valuing} {A = List ℕ} (leads n (λ s. valuing double text behind (Some s)) (λ code. On (valuing double (text ++ encode_utf8 code) false None)))) (narrow-reference r w)
+    value-wide : (double : Bool) (text : List ℕ) (behind : Bool) (r : Option ReferenceState) → WellSome r → moves (value_step double text behind r c) ≡ is_none r
+    value-wide double text behind (Some r) w = ap (λ n. moves {M = ValueState} {A = List ℕ} (leads n (λ s. value_state double text behind (Some s)) (λ code. On (value_state double (text ++ encode_utf8 code) false None)))) (narrow-reference r w)
     value-wide true text behind None w = simp signs
     value-wide false text behind None w = simp signs
 
-    attr-wide : (m : Attributing) → WellAttr m → moves (step_attr m c) ≡ wide_attr m
-    attr-wide (AttrName n) w = named n.first n.second TagAttr Attributing AttrName (is_whole n.second) (named_step (name_of n) c)
+    attr-wide : (m : AttributeState) → WellAttr m → moves (step_attr m c) ≡ wide_attr m
+    attr-wide (AttrName n) w = named n.first n.second TagAttr AttributeState AttrName (is_whole n.second) (named_step (name_of n) c)
     attr-wide (Value q v) w = moves-leads (step_value v c) (Value q) (λ text. Done (attr_of q text)) (λ a. refl) ∙ value-wide v.double v.text v.behind_return v.reference w
     attr-wide other w = simp signs
 
-    tag-wide : (t : Tagging) → WellTag t → moves (step_tag t c) ≡ wide_tag t
+    tag-wide : (t : StartTagState) → WellTag t → moves (step_tag t c) ≡ wide_tag t
     tag-wide Opened w = rw begins refl
     tag-wide (Tagged tag) w = simp signs
-    tag-wide (Name n) w = named n.first n.second (Tag × ℕ) Tagging Name (is_whole n.second) (tagged_step (tag_named (name_of n)) c)
+    tag-wide (Name n) w = named n.first n.second (Tag × ℕ) StartTagState Name (is_whole n.second) (tagged_step (tag_named (name_of n)) c)
     tag-wide (Attribute tag m) w = moves-leads (step_attr m c) (Attribute tag) (λ a. On (Tagged (with_attr tag a))) (λ a. refl) ∙ attr-wide m w
     tag-wide other w = rw (no-blank, no-end, begins) refl
 
-    start-wide : (opens : List Open) (t : Tagging) → WellTag t → moves (start_step opens t c) ≡ wide_tag t
+    start-wide : (opens : List Open) (t : StartTagState) → WellTag t → moves (start_step opens t c) ≡ wide_tag t
     start-wide opens t w = moves-leads (step_tag t c) StartTag (λ found. Done (tag_given opens found)) (λ a. refl) ∙ tag-wide t w
 
     comment-wide : (n : ℕ) → moves (step_comment n c) ≡ nat_lt n 2
     comment-wide n = cases (nat_lt n 2) (λ e. rw e refl) (λ e. simp (e, signs))
 
-    turn-wide : (turn : Turn) (opens : List Open) → WellTurn opens turn → PlainMode (Inside turn) → moves (step_turn turn opens c) ≡ wide_turn turn
-    turn-wide Less opens w p = rw (no-sign c 47 high (omega arith), no-sign c 33 high (omega arith)) (start-wide opens Opened tt)
-    turn-wide (Comment n) opens w p = moves-leads (step_comment n c) Comment (λ over. Done (given Commented opens (Content 0))) (λ a. refl) ∙ comment-wide n
-    turn-wide (Cdata (b ∷ left)) opens w p = rw (no-sign c b high (ascii-first b left w.1).0) (grind (arith, nat_tests))
-    turn-wide (Reference r) opens w p = ap (λ x. moves (leads x Reference (λ code. Done (given (Referred code) opens (Content 0))))) (narrow-reference r w.1)
-    turn-wide (StartTag t) opens w p = start-wide opens t w
-    turn-wide (EndTag n) opens w p = absurd p
-    turn-wide other opens w p = simp signs
+    root_state-wide : (root_state : RootState) (opens : List Open) → WellRoot opens root_state → PlainMode (Inside root_state) → moves (step_root root_state opens c) ≡ wide_root root_state
+    root_state-wide Less opens w p = rw (no-sign c 47 high (omega arith), no-sign c 33 high (omega arith)) (start-wide opens Opened tt)
+    root_state-wide (Comment n) opens w p = moves-leads (step_comment n c) Comment (λ over. Done (given Commented opens (Content 0))) (λ a. refl) ∙ comment-wide n
+    root_state-wide (Cdata (b ∷ left)) opens w p = rw (no-sign c b high (ascii-first b left w.1).0) (grind (arith, nat_tests))
+    root_state-wide (Reference r) opens w p = ap (λ x. moves (leads x Reference (λ code. Done (given (Referred code) opens (Content 0))))) (narrow-reference r w.1)
+    root_state-wide (StartTag t) opens w p = start-wide opens t w
+    root_state-wide (EndTag n) opens w p = absurd p
+    root_state-wide other opens w p = simp signs
 
     misc-wide : (m : Misc) → moves (misc_step m c) ≡ wide_misc true m
     misc-wide (MiscComment n) = moves-leads (step_comment n c) MiscComment (λ over. On Blanks) (λ a. refl) ∙ comment-wide n
     misc-wide other = simp signs
 
-    inside-goes : (opens : List Open) (next : Next Turn Given) → is_to (inside_move opens next) ≡ moves next
+    inside-goes : (opens : List Open) (next : Next RootState Given) → is_to (inside_move opens next) ≡ moves next
     inside-goes opens Stuck = refl
     inside-goes opens other = refl
 
@@ -334,7 +334,7 @@ module _ (c : ℕ) (high : 128 ≤ c) where
     wide First opens w p = rw (no-sign c 63 high (omega arith)) (prolog-goes opens (misc_step MiscLess c) ∙ misc-wide MiscLess)
     wide (Declaration d) opens w p = ap (λ n. is_to (declaration_move opens n)) (narrow-declaration d w)
     wide (Prolog m) opens w p = prolog-goes opens (misc_step m c) ∙ misc-wide m
-    wide (Inside turn) opens w p = inside-goes opens (step_turn turn opens c) ∙ turn-wide turn opens w.1 p
+    wide (Inside root_state) opens w p = inside-goes opens (step_root root_state opens c) ∙ root_state-wide root_state opens w.1 p
     wide (Epilog (MiscComment n)) opens w p = cases (nat_lt n 2) (λ e. rw e refl) (λ e. simp (e, signs))
     wide (Epilog m) opens w p = simp signs
     wide other opens w p = ap is_to (narrow-marked opens)
@@ -347,7 +347,7 @@ Quiet other = Unit {0}
 abbrev pub QuietGiven : Given → Type 0
 QuietGiven = λ g. Quiet g.token
 
-abbrev pub Spoken : Turn → Given → Type 0
+abbrev pub Spoken : RootState → Given → Type 0
 Spoken (Content n) = λ g. Unit {0}
 Spoken other = λ g. Quiet g.token
 
@@ -355,25 +355,25 @@ pub tag-quiet : (opens : List Open) (found : Tag × ℕ) → QuietGiven (tag_giv
 tag-quiet opens found = by-test (λ x. QuietGiven (cond x (given (Started found.0) (opened found.0 ∷ opens) (Content 0)) (given (Slash found.0) opens Slashed))) tt tt (found.1 == 62)
 
 -- to a `<` only from between tags
-abbrev pub Between : Turn → Type 0
+abbrev pub Between : RootState → Type 0
 Between (Content n) = Unit {0}
 Between other = ⊥
 
-abbrev pub Mid : Turn → ℕ → Turn → Type 0
-Mid turn c (Content n) = ⊥
-Mid turn c Less = (c ≡ 60) × Between turn
-Mid turn c other = Unit {0}
+abbrev pub Mid : RootState → ℕ → RootState → Type 0
+Mid root_state c (Content n) = ⊥
+Mid root_state c Less = (c ≡ 60) × Between root_state
+Mid root_state c other = Unit {0}
 
 -- one character of a token
-pub turn-mid : (turn : Turn) (opens : List Open) (c : ℕ) → holds (step_turn turn opens c) (Mid turn c) (Spoken turn)
-turn-mid Less [] c = search (holds-if, leads-any, tag-quiet)
-turn-mid (Cdata []) opens c = search leads-any
-turn-mid (EndTag n) [] c = tt
-turn-mid (EndTag n) (o ∷ outer) c = by (drop n (name_bytes o.name)) where
+pub root_state-mid : (root_state : RootState) (opens : List Open) (c : ℕ) → holds (step_root root_state opens c) (Mid root_state c) (Spoken root_state)
+root_state-mid Less [] c = search (holds-if, leads-any, tag-quiet)
+root_state-mid (Cdata []) opens c = search leads-any
+root_state-mid (EndTag n) [] c = tt
+root_state-mid (EndTag n) (o ∷ outer) c = by (drop n (name_bytes o.name)) where
   by : (left : List ℕ) → holds (end_name_step n left outer c) (Mid (EndTag n) c) (Spoken (EndTag n))
   by [] = search holds-if
   by (b ∷ left) = search holds-if
-turn-mid other opens c = search (holds-if, leads-any, is-byte, tag-quiet)
+root_state-mid other opens c = search (holds-if, leads-any, is-byte, tag-quiet)
 
 -- Which words of the grammar stand before a state inside the root, and where a token leads.
 
@@ -416,23 +416,23 @@ piece-tags n opens bytes g (Leaf-of other h isn d) tag o = absurd (subst (λ x. 
 piece-tags n opens bytes g (End-of x os f h d) tag o = absurd (subst (λ x. OfTag x.token tag) d o)
 
 -- Where a token begins: behind other tokens, or behind the `<` of the root.
-abbrev pub Start : Turn → List Tag → List ℕ → Type 0
+abbrev pub Start : RootState → List Tag → List ℕ → Type 0
 Start (Content n) (tag ∷ outer) before = Standing tag outer n (bytes_of before)
 Start Slashed tags before = Stands tags Slashed (bytes_of before)
 Start (StartTag Opened) [] before = (p : List ℕ) × (before ≡ p ++ 60 ∷ []) × IsProlog (bytes_of p) tt
 Start other tags before = ⊥
 
 -- Inside the root, or in its start tag.
-pub record Placed (tags : List Tag) (turn : Turn) (text : List ℕ) : Type 0 where
-  pub start : Turn
+pub record Placed (tags : List Tag) (root_state : RootState) (text : List ℕ) : Type 0 where
+  pub start : RootState
   pub before : List ℕ
   pub since : List ℕ
   pub spelled : text ≡ before ++ since
   pub starts : Start start tags before
-  pub behind : Steps (T (map opened tags)) start since turn
+  pub behind : Steps (T (map opened tags)) start since root_state
 
 -- where a token ends
-pub ends-of : (start : Turn) (tags : List Tag) (before w : List ℕ) (g : Given) → Start start tags before → Allowed w → Takes (T (map opened tags)) start w g → Leads g (bytes_of (before ++ w)) × ((tag : Tag) → OfTag g.token tag → TagWords (map opened tags) (bytes_of (before ++ w)) tag)
+pub ends-of : (start : RootState) (tags : List Tag) (before w : List ℕ) (g : Given) → Start start tags before → Allowed w → Takes (T (map opened tags)) start w g → Leads g (bytes_of (before ++ w)) × ((tag : Tag) → OfTag g.token tag → TagWords (map opened tags) (bytes_of (before ++ w)) tag)
 ends-of (Content n) (tag ∷ outer) before w g s ok t =
     let opens : List Open = map opened (tag ∷ outer) in
     let piece = (piece-reads n opens (opens-whole (tag ∷ outer) s.front s.within) (bytes_of w) g).0 (record { text = w; spelled = refl; allowed = ok; takes = t }) in
@@ -456,31 +456,31 @@ pub record LessWords (opens : List Open) (front : List ℕ) : Type 0 where
   pub spelled : front ≡ before ++ 60 ∷ []
   pub opens_are : Opens tags before
 
-less-since : (opens : List Open) (w : List ℕ) (t : Turn) → Steps (λ t c. step_turn t opens c) t w Less → ((t ≡ Less) × (w ≡ [])) ⊎ (Between t × (w ≡ 60 ∷ []))
+less-since : (opens : List Open) (w : List ℕ) (t : RootState) → Steps (λ t c. step_root t opens c) t w Less → ((t ≡ Less) × (w ≡ [])) ⊎ (Between t × (w ≡ 60 ∷ []))
 less-since opens [] t s = inl (s, refl)
-less-since opens (c ∷ w) t s = next-by (step_turn t opens c) (λ e. absurd (rw e at s)) (λ l e. on l (rw e at (turn-mid t opens c)) (less-since opens w l (rw e at s))) (λ g e. absurd (rw e at s)) where
-  on : (l : Turn) → Mid t c l → ((l ≡ Less) × (w ≡ [])) ⊎ (Between l × (w ≡ 60 ∷ [])) → ((t ≡ Less) × (c ∷ w ≡ [])) ⊎ (Between t × (c ∷ w ≡ 60 ∷ []))
+less-since opens (c ∷ w) t s = next-by (step_root t opens c) (λ e. absurd (rw e at s)) (λ l e. on l (rw e at (root_state-mid t opens c)) (less-since opens w l (rw e at s))) (λ g e. absurd (rw e at s)) where
+  on : (l : RootState) → Mid t c l → ((l ≡ Less) × (w ≡ [])) ⊎ (Between l × (w ≡ 60 ∷ [])) → ((t ≡ Less) × (c ∷ w ≡ [])) ⊎ (Between t × (c ∷ w ≡ 60 ∷ []))
   on l m (inl (e, d)) = let n = subst (Mid t c) e m in inr (n.1, ap (λ x. x ∷ w) n.0 ∙ ap (λ xs. 60 ∷ xs) d)
   on (Content n) m (inr x) = absurd m
   on other m (inr x) = absurd x.0
 
 -- what is open where content is
-content-since : (opens : List Open) (w : List ℕ) (t : Turn) (n : ℕ) → Steps (λ t c. step_turn t opens c) t w (Content n) → (t ≡ Content n) × (w ≡ [])
+content-since : (opens : List Open) (w : List ℕ) (t : RootState) (n : ℕ) → Steps (λ t c. step_root t opens c) t w (Content n) → (t ≡ Content n) × (w ≡ [])
 content-since opens [] t n s = (s, refl)
 content-since opens (c ∷ w) t n s =
-    next-by (step_turn t opens c) (λ e. absurd (rw e at s)) (λ l e. absurd (subst (Mid t c) (content-since opens w l n (rw e at s)).0 (rw e at (turn-mid t opens c)))) (λ g e. absurd (rw e at s))
+    next-by (step_root t opens c) (λ e. absurd (rw e at s)) (λ l e. absurd (subst (Mid t c) (content-since opens w l n (rw e at s)).0 (rw e at (root_state-mid t opens c)))) (λ g e. absurd (rw e at s))
 
 -- Which words of the grammar stand before a state; at the end of what comes they are a document.
 
 -- behind the root
 abbrev pub InMode : Mode → List Open → List ℕ → Type 0
-InMode (Inside turn) opens text = (tags : List Tag) × (opens ≡ map opened tags) × Placed tags turn text
+InMode (Inside root_state) opens text = (tags : List Tag) × (opens ≡ map opened tags) × Placed tags root_state text
 InMode (Epilog m) opens text = (opens ≡ []) × ((before since : List ℕ) × (text ≡ before ++ since) × Stands [] (Content 0) (bytes_of before) × Steps misc_step Blanks since m)
 InMode mode opens text = (opens ≡ []) × (e : Early) × (mode ≡ mode_of e) × Steps early_next AtBegin text e
 
 pub less-words : (opens : List Open) (text : List ℕ) → InMode (Inside Less) opens text → LessWords opens (bytes_of text)
 less-words opens text (tags, e, p) = subst (λ os. LessWords os (bytes_of text)) (sym e) (by tags p.start p.starts (less-since (map opened tags) p.since p.start p.behind)) where
-  by : (tags : List Tag) (start : Turn) → Start start tags p.before → ((start ≡ Less) × (p.since ≡ [])) ⊎ (Between start × (p.since ≡ 60 ∷ [])) → LessWords (map opened tags) (bytes_of text)
+  by : (tags : List Tag) (start : RootState) → Start start tags p.before → ((start ≡ Less) × (p.since ≡ [])) ⊎ (Between start × (p.since ≡ 60 ∷ [])) → LessWords (map opened tags) (bytes_of text)
   by tags start s (inl (d, f)) = absurd (subst (λ x. Start x tags p.before) d s)
   by (tag ∷ outer) (Content n) s (inr (b, f)) = record {
     tags = tag ∷ outer;
@@ -502,14 +502,14 @@ content-stands opens text n (tags, e, p) = by tags (subst (λ x. Start x tags p.
   by (tag ∷ outer) s = (tag, outer, subst (λ xs. Standing tag outer n (bytes_of xs)) (sym (p.spelled ∙ ap (λ xs. p.before ++ xs) at.1 ∙ append-nil p.before)) s)
 
 -- the names of what is open
-start-whole : (start : Turn) (tags : List Tag) (before : List ℕ) → Start start tags before → AllWhole (map opened tags)
+start-whole : (start : RootState) (tags : List Tag) (before : List ℕ) → Start start tags before → AllWhole (map opened tags)
 start-whole (Content n) (tag ∷ outer) before s = opens-whole (tag ∷ outer) s.front s.within
 start-whole Slashed tags before (other, earlier, slash, e, o, t) = opens-whole tags earlier o
 start-whole (StartTag Opened) [] before s = tt
 start-whole other tags before s = absurd s
 
 pub in-whole : (mode : Mode) (opens : List Open) (text : List ℕ) → InMode mode opens text → AllWhole opens
-in-whole (Inside turn) opens text (tags, e, p) = subst AllWhole (sym e) (start-whole p.start tags p.before p.starts)
+in-whole (Inside root_state) opens text (tags, e, p) = subst AllWhole (sym e) (start-whole p.start tags p.before p.starts)
 in-whole mode opens text i = subst AllWhole (sym i.0) tt
 
 -- and where a character leads, with the words of the tag that it ends and what stands behind a token
@@ -518,30 +518,30 @@ TagsOf opens [] bytes = Unit {0}
 TagsOf opens (t ∷ us) bytes = ((tag : Tag) → OfTag t tag → TagWords opens bytes tag) × (g : Given) × Leads g bytes
 
 abbrev pub InMove : List Open → Move → List ℕ → Type 0
-InMove opens Stops text = Unit {0}
+InMove opens Nowhere text = Unit {0}
 InMove opens (To mode os us) text = InMode mode os text × TagsOf opens us (bytes_of text)
 
-begun : (tags : List Tag) (start : Turn) (text : List ℕ) → Start start tags text → InMode (Inside start) (map opened tags) text
+begun : (tags : List Tag) (start : RootState) (text : List ℕ) → Start start tags text → InMode (Inside start) (map opened tags) text
 begun tags start text s = (tags, refl, record { start = start; before = text; since = []; spelled = sym (append-nil text); starts = s; behind = refl })
 
-lands : (tags : List Tag) (turn : Turn) (text : List ℕ) → Stands tags turn (bytes_of text) → InMode (cond (is_over (map opened tags) turn) (Epilog Blanks) (Inside turn)) (map opened tags) text
+lands : (tags : List Tag) (root_state : RootState) (text : List ℕ) → Stands tags root_state (bytes_of text) → InMode (cond (is_over (map opened tags) root_state) (Epilog Blanks) (Inside root_state)) (map opened tags) text
 lands [] (Content n) text s = (refl, (text, [], sym (append-nil text), s, refl))
 lands (tag ∷ outer) (Content n) text s = begun (tag ∷ outer) (Content n) text s
 lands [] Slashed text s = begun [] Slashed text s
 lands (tag ∷ outer) Slashed text s = begun (tag ∷ outer) Slashed text s
-lands tags turn text s = absurd s
+lands tags root_state text s = absurd s
 
-inside-in : (turn : Turn) (opens : List Open) (text : List ℕ) (c : ℕ) → InMode (Inside turn) opens text → Allowed (text ++ c ∷ []) → InMove opens (inside_move opens (step_turn turn opens c)) (text ++ c ∷ [])
-inside-in turn opens text c (tags, o, p) ok =
+inside-in : (root_state : RootState) (opens : List Open) (text : List ℕ) (c : ℕ) → InMode (Inside root_state) opens text → Allowed (text ++ c ∷ []) → InMove opens (inside_move opens (step_root root_state opens c)) (text ++ c ∷ [])
+inside-in root_state opens text c (tags, o, p) ok =
     let step = T (map opened tags) in
     let whole : text ++ c ∷ [] ≡ p.before ++ (p.since ++ c ∷ []) = ap (λ xs. xs ++ c ∷ []) p.spelled ∙ append_assoc p.before p.since (c ∷ []) in
-    subst (λ os. InMove os (inside_move os (step_turn turn os c)) (text ++ c ∷ [])) (sym o)
-    (next-by (step turn c) (λ e. rw e tt)
-    (λ other e. rw e ((tags, refl, record { start = p.start; before = p.before; since = p.since ++ c ∷ []; spelled = whole; starts = p.starts; behind = steps-on step p.since p.start turn other c p.behind e }), tt))
+    subst (λ os. InMove os (inside_move os (step_root root_state os c)) (text ++ c ∷ [])) (sym o)
+    (next-by (step root_state c) (λ e. rw e tt)
+    (λ other e. rw e ((tags, refl, record { start = p.start; before = p.before; since = p.since ++ c ∷ []; spelled = whole; starts = p.starts; behind = steps-on step p.since p.start root_state other c p.behind e }), tt))
     (λ g e.
-    let a = ends-of p.start tags p.before (p.since ++ c ∷ []) g p.starts (allowed-apart p.before (p.since ++ c ∷ []) (subst Allowed whole ok)).1 (steps-done step p.since p.start turn c g p.behind e) in
+    let a = ends-of p.start tags p.before (p.since ++ c ∷ []) g p.starts (allowed-apart p.before (p.since ++ c ∷ []) (subst Allowed whole ok)).1 (steps-done step p.since p.start root_state c g p.behind e) in
     let leads = subst (λ xs. Leads g (bytes_of xs)) (sym whole) a.0 in
-    rw e (subst (λ os. InMode (cond (is_over os g.turn) (Epilog Blanks) (Inside g.turn)) os (text ++ c ∷ [])) (sym leads.1) (lands leads.0 g.turn (text ++ c ∷ []) leads.2), (λ tag o. subst (λ xs. TagWords (map opened tags) (bytes_of xs) tag) (sym whole) (a.1 tag o), g, leads))))
+    rw e (subst (λ os. InMode (cond (is_over os g.root_state) (Epilog Blanks) (Inside g.root_state)) os (text ++ c ∷ [])) (sym leads.1) (lands leads.0 g.root_state (text ++ c ∷ []) leads.2), (λ tag o. subst (λ xs. TagWords (map opened tags) (bytes_of xs) tag) (sym whole) (a.1 tag o), g, leads))))
 
 early-mode : (e : Early) (text : List ℕ) → Steps early_next AtBegin text e → InMode (mode_of e) [] text
 early-mode AtBegin text s = (refl, AtBegin, refl, s)
@@ -554,7 +554,7 @@ early-in e text c s ok a =
     (λ u d. rw d (cases (begins_name c) (λ b. inside-in (StartTag Opened) [] text c (begun [] (StartTag Opened) text (prolog-word c b text e ok s d)) (allowed-append text (c ∷ []) ok (a, tt))) (λ b. rw b tt))))
 
 pub step-in : (mode : Mode) (opens : List Open) (text : List ℕ) (c : ℕ) → Allowed text → is_allowed c ≡ true → InMode mode opens text → InMove opens (step mode opens c) (text ++ c ∷ [])
-step-in (Inside turn) opens text c ok a p = inside-in turn opens text c p (allowed-append text (c ∷ []) ok (a, tt))
+step-in (Inside root_state) opens text c ok a p = inside-in root_state opens text c p (allowed-append text (c ∷ []) ok (a, tt))
 step-in (Epilog m) opens text c ok a i =
     let p = i.1 in
     next-by (misc_step m c) (λ e. rw e tt) (λ n e. rw e ((i.0, (p.0, p.1 ++ c ∷ [], ap (λ xs. xs ++ c ∷ []) p.2 ∙ append_assoc p.0 p.1 (c ∷ []), p.3, steps-on misc_step p.1 Blanks m n c p.4 e)), tt)) (λ u e. rw e tt)
@@ -585,5 +585,5 @@ document-is (c ∷ w) text mode opens ok all i (m, o, r, h) =
     subst Document (append_assoc text (c ∷ []) w)
     (by (step mode opens c) (λ n p j k. document-is w (text ++ c ∷ []) n p (allowed-append text (c ∷ []) ok (all.0, tt)) all.1 j (m, o, k, h)) (step-in mode opens text c ok all.0 i) r) where
       by : (v : Move) → ((n : Mode) (p : List Open) → InMode n p (text ++ c ∷ []) → Runs n p w m o → Document ((text ++ c ∷ []) ++ w)) → InMove opens v (text ++ c ∷ []) → comes (place v) (λ p. Steps P p w (m, o)) (λ u. ⊥) → Document ((text ++ c ∷ []) ++ w)
-      by Stops again j k = absurd k
+      by Nowhere again j k = absurd k
       by (To n p us) again j k = again n p j.0 k

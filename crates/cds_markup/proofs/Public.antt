@@ -4,7 +4,7 @@ use Rattle.std.specs.Prelude.{⊤}
 use lib.Utf8.{encode}
 use Rattle.cds_markup.specs.Bytes.{answer_of}
 use Rattle.cds_markup.specs.Children.{PlacesAreOne}
-use Rattle.cds_markup.specs.Decoding.{any_at}
+use Rattle.cds_markup.specs.Utf8.{any_at}
 use Rattle.cds_markup.specs.Marks.{parts_of}
 use Rattle.cds_markup.proofs.Terms.{some-is}
 pub use Rattle.cds_markup.proofs.GivenLaws.{one-answer, all-are-answered, one-element, parts-stand-before, leaves-have-one-end, parts-are-one, parts-are-told, parts-are-given, parts-are-of-roots, one-telling, nothing-counts-past-the-limit}

@@ -6,8 +6,8 @@ use Rattle.cds_base.specs.declared.mem.Mem.{Mem}
 use Rattle.cds_base.specs.Runs.{stands_for_itself}
 use Rattle.cds_markup.specs.declared.plain.Plain.{Plain}
 use Rattle.cds_markup.specs.declared.plain.Plain.TheVariants.{Letters, InName, Written, Blanks}
-use Rattle.cds_markup.proofs.Terms.{nat_tests, append-nil, take-append_seam, drop-append_seam, encode_ascii, begins_name, is_allowed, is_blank, is_in_name, INPUT_LIMIT, Marks, OpenText, Attributing, AttrName, Equals, Value, Tagging, Name, Tagged, Spaced, Attribute, Naming, Valuing, Referring, Misc, MiscComment, Turn, Content, Less, Comment, Section, StartTag, EndTag, Mode, Prolog, Inside, Epilog, Open, QName, Tag, Literal, Part, is_empty, On, Token, Letter, naming, goes_on, is_whole, name_of, written_name, name_bytes, begins_with, slash_step, drop-drop, length-take-le, ends_tag, with_attr, valuing, literal_step, says_behind, quote_of, To, step, Reading, reading, go_on, moved, begins_tag, most_open, is_deep, may_begin_name, breaks_rule, is_none, is_between, passed_over, marked, marks, text_with, text_or, open_text, Telling, telling, behind_parts, told_within, told_on, told, Told, ToldSo, TakesAll as Takes, and-no, and-so, and-both, and-first, and-second, is-byte, empty-is, cases, clash, list_all, take_while, take-append-drop, length-prefix_len, IsAscii}
-use Rattle.cds_markup.specs.Running.{begins_plain_name, is_plain_name, is_plain_qname, begins_blank, attr_with, plain_attr, HasAttr, SpacedRuns, HasName, plain_naming, PartAt, NameAt, ValueAt, is_plain_in_name, is_written, is_line_blank, is_plain, EndRuns, HasSlash, in_text, text_before, TextRuns, Passes, Collects, AttrRuns, TagRuns, TurnRuns, MiscRuns, ModeRuns, is_plain_content, takes_run, QuietSo, RunSo}
+use Rattle.cds_markup.proofs.Terms.{nat_tests, append-nil, take-append_seam, drop-append_seam, encode_ascii, begins_name, is_allowed, is_blank, is_in_name, INPUT_LIMIT, Marks, OpenText, AttributeState, AttrName, Equals, Value, StartTagState, Name, Tagged, Spaced, Attribute, NameState, ValueState, ReferenceState, Misc, MiscComment, RootState, Content, Less, Comment, Section, StartTag, EndTag, Mode, Prolog, Inside, Epilog, Open, QName, Tag, Literal, Part, is_empty, On, Token, Letter, name_state, goes_on, is_whole, name_of, written_name, name_bytes, begins_with, slash_step, drop-drop, length-take-le, ends_tag, with_attr, value_state, literal_step, says_behind, quote_of, To, step, Reading, reading, go_on, moved, begins_tag, most_open, is_deep, may_begin_name, breaks_rule, is_none, is_between, passed_over, marked, marks, text_with, text_or, open_text, Telling, telling, behind_parts, told_within, told_on, told, Told, ToldSo, TakesAll as Takes, and-no, and-so, and-both, and-first, and-second, is-byte, empty-is, cases, clash, list_all, take_while, take-append-drop, length-prefix_len, IsAscii}
+use Rattle.cds_markup.specs.Runs.{begins_plain_name, is_plain_name, is_plain_qname, begins_blank, attr_with, plain_attr, HasAttr, SpacedRuns, HasName, plain_name_state, PartAt, NameAt, ValueAt, is_plain_in_name, is_written, is_line_blank, is_plain, EndRuns, HasSlash, in_text, text_before, TextRuns, Passes, Collects, AttrRuns, TagRuns, RootRuns, MiscRuns, ModeRuns, is_plain_content, takes_run, QuietSo, RunSo}
 use Rattle.cds_markup.proofs.Decoded.{ascii_whole}
 use Rattle.cds_markup.proofs.TokenTold.{behind-none, told-append, byte-told, judged-ok, shallow-mode}
 use Rattle.cds_markup.proofs.ToldBytes.{SoFar}
@@ -100,8 +100,8 @@ module _ (test : ℕ → Bool) (spot : List ℕ → ℕ → Telling) (one : (t :
   walks t w e = rw (append-nil w) at (over-walk t w [] (spot (t ++ w)) e (over-none (spot (t ++ w))))
 
 -- a name that may end
-abbrev IsWhole : Naming → List ℕ → List ℕ → Type 0
-IsWhole k prefix local = (k ≡ plain_naming prefix local) × (is_whole k.second ≡ true) × ((c : ℕ) → is_in_name c ≡ false → (c == 58) ≡ false → goes_on k c ≡ None)
+abbrev IsWhole : NameState → List ℕ → List ℕ → Type 0
+IsWhole k prefix local = (k ≡ plain_name_state prefix local) × (is_whole k.second ≡ true) × ((c : ℕ) → is_in_name c ≡ false → (c == 58) ≡ false → goes_on k c ≡ None)
 
 -- what is collected, or not, wherever it stands
 abbrev RunFrom : (ℕ → Telling) → List ℕ → ℕ → (ℕ → Telling) → Type 0
@@ -122,10 +122,10 @@ value-says : (b : ℕ) → stands_for_itself b ≡ true → says_behind false (L
 value-says b e =
     rw (and-no (b == 10)) (cases (is_blank b) (λ f. let space : b ≡ 32 = grind (arith, nat_tests) in rw (f, space) refl) (λ f. rw (f, encode_ascii b (plain-byte Letters b e).0) refl))
 
-literal-goes : (double : Bool) (t : List ℕ) (b : ℕ) → stands_for_itself b ≡ true → literal_step double t false b ≡ On (valuing double (t ++ b ∷ []) false None)
+literal-goes : (double : Bool) (t : List ℕ) (b : ℕ) → stands_for_itself b ≡ true → literal_step double t false b ≡ On (value_state double (t ++ b ∷ []) false None)
 literal-goes double t b e =
     rw (apart stands_for_itself b (quote_of double) e (no-quote double), apart stands_for_itself b 38 e refl, apart stands_for_itself b 60 e refl)
-    (ap (λ xs. On (valuing double (t ++ xs) (b == 13) None)) (value-says b e) ∙ ap (λ x. On (valuing double (t ++ b ∷ []) x None)) (apart stands_for_itself b 13 e refl)) where
+    (ap (λ xs. On (value_state double (t ++ xs) (b == 13) None)) (value-says b e) ∙ ap (λ x. On (value_state double (t ++ b ∷ []) x None)) (apart stands_for_itself b 13 e refl)) where
       no-quote : (double : Bool) → stands_for_itself (quote_of double) ≡ false
       no-quote true = refl
       no-quote false = refl
@@ -186,7 +186,7 @@ module _ (opens : List Open) (m : Marks) (bytes : List ℕ) (n : ℕ) where
   abbrev Leads : Mode → ℕ → Mode → Type 0
   Leads a b c = (begins_tag a ≡ false) × (is_between a ≡ false) × (step a opens b ≡ To c opens [])
 
-  abbrev In-tag : Tagging → Mode
+  abbrev In-tag : StartTagState → Mode
   In-tag t = Inside (StartTag t)
 
   led : (a c : Mode) (b : ℕ) → IsPlain b → Leads a b c → One (spot a) b (spot c)
@@ -210,48 +210,48 @@ module _ (opens : List Open) (m : Marks) (bytes : List ℕ) (n : ℕ) where
       over-one (spot a) (spot (N (b ∷ []))) r b (more ++ v) (first b (and-first (begins_plain_name b) (list_all is_plain_in_name more) e))
       (over-walk is_plain_in_name (λ t. spot (N (b ∷ t))) (one InName (λ t. N (b ∷ t)) (leads b)) [] more v r (and-second (begins_plain_name b) (list_all is_plain_in_name more) e) f)
 
-  module _ (K : Naming → Mode) (leads : (n m : Naming) (b : ℕ) → goes_on n b ≡ Some m → Leads (K n) b (K m)) where
-    name-leads : (t : List ℕ) (b : ℕ) → is_plain_in_name b ≡ true → Leads (K (naming t None)) b (K (naming (t ++ b ∷ []) None))
-    name-leads t b f = leads (naming t None) (naming (t ++ b ∷ []) None) b (rw (and-second (nat_lt b 128) (is_in_name b) f, encode_ascii b (plain-byte InName b f).0) refl)
+  module _ (K : NameState → Mode) (leads : (n m : NameState) (b : ℕ) → goes_on n b ≡ Some m → Leads (K n) b (K m)) where
+    name-leads : (t : List ℕ) (b : ℕ) → is_plain_in_name b ≡ true → Leads (K (name_state t None)) b (K (name_state (t ++ b ∷ []) None))
+    name-leads t b f = leads (name_state t None) (name_state (t ++ b ∷ []) None) b (rw (and-second (nat_lt b 128) (is_in_name b) f, encode_ascii b (plain-byte InName b f).0) refl)
 
-    second-leads : (first : List ℕ) (d : ℕ) (t : List ℕ) (b : ℕ) → is_plain_in_name b ≡ true → Leads (K (naming first (Some (d ∷ t)))) b (K (naming first (Some (d ∷ (t ++ b ∷ [])))))
-    second-leads first d t b f = leads (naming first (Some (d ∷ t))) (naming first (Some (d ∷ (t ++ b ∷ [])))) b (rw (and-second (nat_lt b 128) (is_in_name b) f, encode_ascii b (plain-byte InName b f).0) refl)
+    second-leads : (first : List ℕ) (d : ℕ) (t : List ℕ) (b : ℕ) → is_plain_in_name b ≡ true → Leads (K (name_state first (Some (d ∷ t)))) b (K (name_state first (Some (d ∷ (t ++ b ∷ [])))))
+    second-leads first d t b f = leads (name_state first (Some (d ∷ t))) (name_state first (Some (d ∷ (t ++ b ∷ [])))) b (rw (and-second (nat_lt b 128) (is_in_name b) f, encode_ascii b (plain-byte InName b f).0) refl)
 
-    over-name : (a : Mode) (prefix local v : List ℕ) (r : ℕ → Telling) → is_plain_qname prefix local ≡ true → ((b : ℕ) → begins_plain_name b ≡ true → One (spot a) b (spot (K (naming (b ∷ []) None))))
-        → ((k : Naming) → IsWhole k prefix local → Over (spot (K k)) v r) → Over (spot a) (written_name prefix local ++ v) r
-    over-name a [] local v r e first f = over-part (λ t. K (naming t None)) (λ d t. name-leads (d ∷ t)) a local v r e first (f (naming local None) (refl, refl, λ c g h. rw (g, h) refl))
+    over-name : (a : Mode) (prefix local v : List ℕ) (r : ℕ → Telling) → is_plain_qname prefix local ≡ true → ((b : ℕ) → begins_plain_name b ≡ true → One (spot a) b (spot (K (name_state (b ∷ []) None))))
+        → ((k : NameState) → IsWhole k prefix local → Over (spot (K k)) v r) → Over (spot a) (written_name prefix local ++ v) r
+    over-name a [] local v r e first f = over-part (λ t. K (name_state t None)) (λ d t. name-leads (d ∷ t)) a local v r e first (f (name_state local None) (refl, refl, λ c g h. rw (g, h) refl))
     over-name a (x ∷ xs) [] v r e first f = clash (and-second (is_plain_name (x ∷ xs)) false e) refl
     over-name a (x ∷ xs) (d ∷ more) v r e first f =
-        let P : List ℕ → Mode = λ t. K (naming t None) in
-        let N : List ℕ → Mode = λ t. K (naming (x ∷ xs) (Some t)) in
+        let P : List ℕ → Mode = λ t. K (name_state t None) in
+        let N : List ℕ → Mode = λ t. K (name_state (x ∷ xs) (Some t)) in
         let some : (length (x ∷ xs) == 0) ≡ false = grind (arith, nat_tests) in
         subst (λ w. Over (spot a) w r) (sym (prefixed x xs (d ∷ more) v))
         (over-part P (λ d t. name-leads (d ∷ t)) a (x ∷ xs) (58 ∷ ((d ∷ more) ++ v)) r (and-first (is_plain_name (x ∷ xs)) (is_plain_name (d ∷ more)) e) first
-        (over-one (spot (P (x ∷ xs))) (spot (N [])) r 58 ((d ∷ more) ++ v) (led (P (x ∷ xs)) (N []) 58 (omega arith, refl) (leads (naming (x ∷ xs) None) (naming (x ∷ xs) (Some [])) 58 refl))
+        (over-one (spot (P (x ∷ xs))) (spot (N [])) r 58 ((d ∷ more) ++ v) (led (P (x ∷ xs)) (N []) 58 (omega arith, refl) (leads (name_state (x ∷ xs) None) (name_state (x ∷ xs) (Some [])) 58 refl))
         (over-part N (second-leads (x ∷ xs)) (N []) (d ∷ more) v r (and-second (is_plain_name (x ∷ xs)) (is_plain_name (d ∷ more)) e)
-        (λ b g. led (N []) (N (b ∷ [])) b (begins-plain b g) (leads (naming (x ∷ xs) (Some [])) (naming (x ∷ xs) (Some (b ∷ []))) b (rw (and-second (nat_lt b 128) (begins_name b) g, encode_ascii b (begins-plain b g).0) refl)))
-        (f (naming (x ∷ xs) (Some (d ∷ more))) (rw some refl, refl, λ c g h. rw g refl)))))
+        (λ b g. led (N []) (N (b ∷ [])) b (begins-plain b g) (leads (name_state (x ∷ xs) (Some [])) (name_state (x ∷ xs) (Some (b ∷ []))) b (rw (and-second (nat_lt b 128) (begins_name b) g, encode_ascii b (begins-plain b g).0) refl)))
+        (f (name_state (x ∷ xs) (Some (d ∷ more))) (rw some refl, refl, λ c g h. rw g refl)))))
 
-    name-passed : (a u : Mode) (prefix local rest v w : List ℕ) → ((b : ℕ) → begins_plain_name b ≡ true → One (spot a) b (spot (K (naming (b ∷ []) None)))) → NameAt prefix local rest bytes → rest ≡ v ++ w → n ≡ length bytes - length rest + length v
-        → ((k : Naming) → IsWhole k prefix local → Over (spot (K k)) v (spot u)) → Quiet a u
+    name-passed : (a u : Mode) (prefix local rest v w : List ℕ) → ((b : ℕ) → begins_plain_name b ≡ true → One (spot a) b (spot (K (name_state (b ∷ []) None)))) → NameAt prefix local rest bytes → rest ≡ v ++ w → n ≡ length bytes - length rest + length v
+        → ((k : NameState) → IsWhole k prefix local → Over (spot (K k)) v (spot u)) → Quiet a u
     name-passed a u prefix local rest v w first at e count f =
         let name = written_name prefix local in
         let is : bytes ≡ (name ++ v) ++ w = at.1 ∙ ap (λ x. name ++ x) e ∙ sym (append_assoc name v w) in
         passed-over a u (name ++ v) w is (count ∙ left-is bytes (name ++ v) v w rest (length bytes - length rest) is e refl (omega (arith, length-append name v))) (over-name a prefix local v (spot u) at.0 first f)
 
-    name-quiet : (a : Mode) (j : Naming) → ((b : ℕ) → begins_plain_name b ≡ true → One (spot a) b (spot (K (naming (b ∷ []) None)))) → HasName bytes n (Name j) → Quiet a (K j)
+    name-quiet : (a : Mode) (j : NameState) → ((b : ℕ) → begins_plain_name b ≡ true → One (spot a) b (spot (K (name_state (b ∷ []) None)))) → HasName bytes n (Name j) → Quiet a (K j)
     name-quiet a j first h =
         name-passed a (K j) h.prefix h.local h.rest [] h.rest first h.at refl (h.begins.0 ∙ omega arith) (λ k g. subst (λ x. Over (spot (K k)) [] (spot (K x))) (g.0 ∙ sym h.begins.1) (over-none (spot (K k))))
 
-  abbrev In-value : Tag → QName → Valuing → Mode
+  abbrev In-value : Tag → QName → ValueState → Mode
   In-value tag q v = Inside (StartTag (Attribute tag (Value q v)))
 
-  value-quiet : (tag : Tag) (q : QName) (double : Bool) (text : List ℕ) (behind : Bool) (reference : Option Referring) (now : List ℕ) → Collects (not behind && is_none reference) stands_for_itself text bytes (Ok n) now
-      → Quiet (In-value tag q (valuing double text behind reference)) (In-value tag q (valuing double now behind reference))
+  value-quiet : (tag : Tag) (q : QName) (double : Bool) (text : List ℕ) (behind : Bool) (reference : Option ReferenceState) (now : List ℕ) → Collects (not behind && is_none reference) stands_for_itself text bytes (Ok n) now
+      → Quiet (In-value tag q (value_state double text behind reference)) (In-value tag q (value_state double now behind reference))
   value-quiet tag q double text false None now h =
-      let P : List ℕ → Mode = λ t. In-value tag q (valuing double t false None) in
+      let P : List ℕ → Mode = λ t. In-value tag q (value_state double t false None) in
       collected stands_for_itself (λ t. spot (P t)) text bytes n now true (λ e. walk Letters P (λ t b f. (refl, refl, rw (literal-goes double t b f) refl)) text) h
-  value-quiet tag q double text behind reference now h = collected stands_for_itself (λ t. spot (In-value tag q (valuing double t behind reference))) text bytes n now (not behind && is_none reference) (λ e. clash e refl) h
+  value-quiet tag q double text behind reference now h = collected stands_for_itself (λ t. spot (In-value tag q (value_state double t behind reference))) text bytes n now (not behind && is_none reference) (λ e. clash e refl) h
 
   comment-quiet : (K : ℕ → Mode) → ((b : ℕ) → (b == 45) ≡ false → Leads (K 0) b (K 0)) → (k : ℕ) → Passes (k == 0) stands_for_itself bytes n → Quiet (K k) (K k)
   comment-quiet K leads k h =
@@ -273,17 +273,17 @@ module _ (opens : List Open) (m : Marks) (bytes : List ℕ) (n : ℕ) where
   unmoved f a b h = rw h.1 (stays (spot (f a)) bytes n (stays-at h.0))
 
   -- a whole attribute
-  spaced-first : (tag : Tag) (b : ℕ) → begins_plain_name b ≡ true → One (spot (In-tag (Spaced tag))) b (spot (In-tag (Attribute tag (AttrName (naming (b ∷ []) None)))))
+  spaced-first : (tag : Tag) (b : ℕ) → begins_plain_name b ≡ true → One (spot (In-tag (Spaced tag))) b (spot (In-tag (Attribute tag (AttrName (name_state (b ∷ []) None)))))
   spaced-first tag b h =
-      led (In-tag (Spaced tag)) (In-tag (Attribute tag (AttrName (naming (b ∷ []) None)))) b (begins-plain b h)
+      led (In-tag (Spaced tag)) (In-tag (Attribute tag (AttrName (name_state (b ∷ []) None)))) b (begins-plain b h)
       (refl, refl, rw ((begins-is b h).0, (begins-is b h).1, and-second (nat_lt b 128) (begins_name b) h, encode_ascii b (begins-plain b h).0) refl)
 
   over-attr : (tag : Tag) (prefix local value v : List ℕ) (r : ℕ → Telling) → is_plain_qname prefix local ≡ true → list_all stands_for_itself value ≡ true → Over (spot (In-tag (Tagged (with_attr tag (plain_attr prefix local value))))) v r
       → Over (spot (In-tag (Spaced tag))) (attr_with prefix local value v) r
   over-attr tag prefix local value v r e f g =
-      let K : Naming → Mode = λ k. In-tag (Attribute tag (AttrName k)) in
-      let E : Mode = In-tag (Attribute tag (Equals (name_of (plain_naming prefix local)))) in
-      let V : List ℕ → Mode = λ t. In-value tag (name_of (plain_naming prefix local)) (valuing true t false None) in
+      let K : NameState → Mode = λ k. In-tag (Attribute tag (AttrName k)) in
+      let E : Mode = In-tag (Attribute tag (Equals (name_of (plain_name_state prefix local)))) in
+      let V : List ℕ → Mode = λ t. In-value tag (name_of (plain_name_state prefix local)) (value_state true t false None) in
       let T : Mode = In-tag (Tagged (with_attr tag (plain_attr prefix local value))) in
       over-name K (λ k j b e. (refl, refl, rw e refl)) (In-tag (Spaced tag)) prefix local (61 ∷ (34 ∷ (value ++ 34 ∷ v))) r e (spaced-first tag)
       (λ k h. over-one (spot (K k)) (spot E) r 61 (34 ∷ (value ++ 34 ∷ v)) (led (K k) E 61 (omega arith, refl) (refl, refl, rw (h.2 61 refl refl, h.1, h.0) refl))
@@ -298,12 +298,12 @@ module _ (opens : List Open) (m : Marks) (bytes : List ℕ) (n : ℕ) where
       h.at.2 ∙ ap (λ x. attr_with h.prefix h.local h.value x) e ∙ sym (append_assoc name (61 ∷ (34 ∷ (h.value ++ 34 ∷ v))) w ∙ ap (λ xs. name ++ 61 ∷ (34 ∷ xs)) (append_assoc h.value (34 ∷ v) w)) in
       (is, left-is bytes (attr_with h.prefix h.local h.value v) v w h.rest k is e h.count (omega (arith, length-append name (61 ∷ (34 ∷ (h.value ++ 34 ∷ v))), length-append h.value (34 ∷ v))))
 
-  attr-passed : (tag now : Tag) (u : Tagging) (k : ℕ) (h : HasAttr tag bytes k now) (v w : List ℕ) → h.rest ≡ v ++ w → n ≡ k + length v → Over (spot (In-tag (Tagged now))) v (spot (In-tag u)) → Quiet (In-tag (Spaced tag)) (In-tag u)
+  attr-passed : (tag now : Tag) (u : StartTagState) (k : ℕ) (h : HasAttr tag bytes k now) (v w : List ℕ) → h.rest ≡ v ++ w → n ≡ k + length v → Over (spot (In-tag (Tagged now))) v (spot (In-tag u)) → Quiet (In-tag (Spaced tag)) (In-tag u)
   attr-passed tag now u k h v w e count f =
       let is = attr-is tag now k h v w e in
       passed-over (In-tag (Spaced tag)) (In-tag u) (attr_with h.prefix h.local h.value v) w is.0 (count ∙ is.1) (over-attr tag h.prefix h.local h.value v (spot (In-tag u)) h.at.0 h.at.1 (rw h.adds at f))
 
-  spaced-quiet : (tag : Tag) (u : Tagging) → SpacedRuns tag bytes (Ok n) u → Quiet (In-tag (Spaced tag)) (In-tag u)
+  spaced-quiet : (tag : Tag) (u : StartTagState) → SpacedRuns tag bytes (Ok n) u → Quiet (In-tag (Spaced tag)) (In-tag u)
   spaced-quiet tag (Tagged now) h = attr-passed tag now (Tagged now) n h [] h.rest refl (omega arith) (over-none (spot (In-tag (Tagged now))))
   spaced-quiet tag (Spaced now) (inl h) = rw h.1 (stays (spot (In-tag (Spaced tag))) bytes n h.0)
   spaced-quiet tag (Spaced now) (inr (k, count, h, blank)) =
@@ -320,12 +320,12 @@ module _ (opens : List Open) (m : Marks) (bytes : List ℕ) (n : ℕ) where
   spaced-quiet tag u h = absurd h
 
   -- the name of an element
-  less-first : (length opens == most_open) ≡ false → (b : ℕ) → begins_plain_name b ≡ true → One (spot (Inside Less)) b (spot (In-tag (Name (naming (b ∷ []) None))))
+  less-first : (length opens == most_open) ≡ false → (b : ℕ) → begins_plain_name b ≡ true → One (spot (Inside Less)) b (spot (In-tag (Name (name_state (b ∷ []) None))))
   less-first room b g at w low =
-      quiet-told INPUT_LIMIT (Inside Less) opens m at b w (begins-plain b g) low (ap (λ t. (t && true) && (true && may_begin_name b)) room) (In-tag (Name (naming (b ∷ []) None))) refl
+      quiet-told INPUT_LIMIT (Inside Less) opens m at b w (begins-plain b g) low (ap (λ t. (t && true) && (true && may_begin_name b)) room) (In-tag (Name (name_state (b ∷ []) None))) refl
       (rw ((begins-is b g).2, (begins-is b g).3, and-second (nat_lt b 128) (begins_name b) g, encode_ascii b (begins-plain b g).0) refl)
 
-  less-quiet : (u : Tagging) → (length opens == most_open) ≡ false → HasName bytes n u → Quiet (Inside Less) (In-tag u)
+  less-quiet : (u : StartTagState) → (length opens == most_open) ≡ false → HasName bytes n u → Quiet (Inside Less) (In-tag u)
   less-quiet (Name j) room h = name-quiet (λ k. In-tag (Name k)) (λ k j b e. (refl, refl, rw e refl)) (Inside Less) j (less-first room) h
   less-quiet (Spaced now) room h = by h.rest refl h.begins.0 where
     by : (rest : List ℕ) → h.rest ≡ rest → begins_blank rest ≡ true → Quiet (Inside Less) (In-tag (Spaced now))
@@ -336,12 +336,12 @@ module _ (opens : List Open) (m : Marks) (bytes : List ℕ) (n : ℕ) where
         (λ k g. over-one (spot (In-tag (Name k))) S S c [] (led (In-tag (Name k)) (In-tag (Spaced now)) c (plain-byte Blanks c f) (refl, refl, rw (g.2 c (blank-ends c f).0 (blank-ends c f).1, g.1, g.0, blank-is c f, h.begins.2) refl)) (over-none S))
   less-quiet u room h = absurd h.begins
 
-  attr-quiet : (tag : Tag) (a b : Attributing) → AttrRuns a bytes (Ok n) b → Quiet (Inside (StartTag (Attribute tag a))) (Inside (StartTag (Attribute tag b)))
+  attr-quiet : (tag : Tag) (a b : AttributeState) → AttrRuns a bytes (Ok n) b → Quiet (Inside (StartTag (Attribute tag a))) (Inside (StartTag (Attribute tag b)))
   attr-quiet tag (Value q v) (Value p u) h =
       rw (h.0, h.1.0) (value-quiet tag q v.double v.text v.behind_return v.reference u.text h.1.1)
   attr-quiet tag a b h = unmoved (λ x. Inside (StartTag (Attribute tag x))) a b h
 
-  tag-quiet : (t u : Tagging) → TagRuns t bytes (Ok n) u → Quiet (Inside (StartTag t)) (Inside (StartTag u))
+  tag-quiet : (t u : StartTagState) → TagRuns t bytes (Ok n) u → Quiet (Inside (StartTag t)) (Inside (StartTag u))
   tag-quiet (Attribute tag a) (Attribute same b) h = rw h.0 (attr-quiet tag a b h.1)
   tag-quiet (Spaced tag) u h = spaced-quiet tag u h
   tag-quiet t u h = unmoved (λ x. Inside (StartTag x)) t u h
@@ -356,17 +356,17 @@ module _ (opens : List Open) (m : Marks) (bytes : List ℕ) (n : ℕ) where
       over-one (spot (E k)) (spot (E (k + 1))) (spot (E (k + length (b ∷ w)))) b w (led (E k) (E (k + 1)) b plain (refl, refl, subst (λ x. step (E k) x b ≡ To (E (k + 1)) x []) (sym is) g.0))
       (subst (λ j. Over (spot (E (k + 1))) w (spot (E j))) (omega arith) (over-end o outer is w (k + 1) (and-second (is_written b) (list_all is_written w) e) g.1))
 
-  end-over : (k : ℕ) (text : List ℕ) (count : ℕ) (now : Turn) → EndRuns opens k text count now → (count ≤ length text) × Over (spot (Inside (EndTag k))) (take count text) (spot (Inside now))
+  end-over : (k : ℕ) (text : List ℕ) (count : ℕ) (now : RootState) → EndRuns opens k text count now → (count ≤ length text) × Over (spot (Inside (EndTag k))) (take count text) (spot (Inside now))
   end-over k text count now (inl h) = rw (h.0, h.1) (omega arith, over-none (spot (Inside (EndTag k))))
   end-over k text count now (inr h) =
       let less = front_within is_written text count h.count in
       let all = subst (λ w. list_all is_written w ≡ true) (sym (front_is is_written text count h.count)) (front-all is_written text) in
       (less, subst (λ x. Over (spot (Inside (EndTag k))) (take count text) (spot (Inside x))) (sym (h.ends ∙ ap (λ j. EndTag j) h.stands.1)) (over-end h.innermost h.outer h.is (take count text) k all h.stands.0))
 
-  end-quiet : (k : ℕ) (now : Turn) → EndRuns opens k bytes n now → Quiet (Inside (EndTag k)) (Inside now)
+  end-quiet : (k : ℕ) (now : RootState) → EndRuns opens k bytes n now → Quiet (Inside (EndTag k)) (Inside now)
   end-quiet k now h = let f = end-over k bytes n now h in passed-over (Inside (EndTag k)) (Inside now) (take n bytes) (drop n bytes) (sym (take-append-drop n bytes)) (sym (length-take-le n bytes f.0)) f.1
 
-  slash-quiet : (now : Turn) → (length opens == most_open) ≡ false → HasSlash opens bytes n now → Quiet (Inside Less) (Inside now)
+  slash-quiet : (now : RootState) → (length opens == most_open) ≡ false → HasSlash opens bytes n now → Quiet (Inside Less) (Inside now)
   slash-quiet now room h =
       let f = end-over 0 h.text h.count now h.ends in
       let w = take h.count h.text in
@@ -374,23 +374,23 @@ module _ (opens : List Open) (m : Marks) (bytes : List ℕ) (n : ℕ) where
       (over-one (spot (Inside Less)) (spot (Inside (EndTag 0))) (spot (Inside now)) 47 w
       (λ at v low. quiet-told INPUT_LIMIT (Inside Less) opens m at 47 v (omega arith, refl) low (ap (λ t. (t && true) && (true && may_begin_name 47)) room) (Inside (EndTag 0)) refl (rw (slash-on opens h.some) refl)) f.1)
 
-  turn-quiet : (t u : Turn) → (length opens == most_open && begins_tag (Inside t)) ≡ false → TurnRuns opens t bytes (Ok n) u → Quiet (Inside t) (Inside u)
-  turn-quiet (Comment k) (Comment j) room h = rw h.0 (comment-quiet (λ k. Inside (Comment k)) (λ b e. (refl, refl, rw e refl)) k h.1)
-  turn-quiet (Section k text) (Section j now) room h = rw h.0 (section-quiet k text now h.1)
-  turn-quiet (StartTag t) (StartTag u) room h = tag-quiet t u h
-  turn-quiet Less (StartTag u) room h = less-quiet u (and-so (length opens == most_open) room) h
-  turn-quiet Less (EndTag k) room h = slash-quiet (EndTag k) (and-so (length opens == most_open) room) h
-  turn-quiet Less Less room h = stays (spot (Inside Less)) bytes n h
-  turn-quiet Less u room h = absurd h
-  turn-quiet (EndTag k) u room h = end-quiet k u h
-  turn-quiet t u room h = unmoved Inside t u h
+  root_state-quiet : (t u : RootState) → (length opens == most_open && begins_tag (Inside t)) ≡ false → RootRuns opens t bytes (Ok n) u → Quiet (Inside t) (Inside u)
+  root_state-quiet (Comment k) (Comment j) room h = rw h.0 (comment-quiet (λ k. Inside (Comment k)) (λ b e. (refl, refl, rw e refl)) k h.1)
+  root_state-quiet (Section k text) (Section j now) room h = rw h.0 (section-quiet k text now h.1)
+  root_state-quiet (StartTag t) (StartTag u) room h = tag-quiet t u h
+  root_state-quiet Less (StartTag u) room h = less-quiet u (and-so (length opens == most_open) room) h
+  root_state-quiet Less (EndTag k) room h = slash-quiet (EndTag k) (and-so (length opens == most_open) room) h
+  root_state-quiet Less Less room h = stays (spot (Inside Less)) bytes n h
+  root_state-quiet Less u room h = absurd h
+  root_state-quiet (EndTag k) u room h = end-quiet k u h
+  root_state-quiet t u room h = unmoved Inside t u h
 
   misc-quiet : (K : Misc → Mode) → ((b : ℕ) → (b == 45) ≡ false → Leads (K (MiscComment 0)) b (K (MiscComment 0))) → (a b : Misc) → (b ≡ a) × MiscRuns a bytes n → Quiet (K a) (K b)
   misc-quiet K leads (MiscComment k) b h = rw h.0 (comment-quiet (λ k. K (MiscComment k)) leads k h.1)
   misc-quiet K leads a b h = rw h.0 (stays (spot (K a)) bytes n h.1)
 
   mode-quiet : (a b : Mode) → (length opens == most_open && begins_tag a) ≡ false → ModeRuns opens a bytes (Ok n) b → Quiet a b
-  mode-quiet (Inside t) (Inside u) room h = turn-quiet t u room h
+  mode-quiet (Inside t) (Inside u) room h = root_state-quiet t u room h
   mode-quiet (Prolog k) (Prolog j) room h = misc-quiet Prolog (λ b e. (refl, refl, rw e refl)) k j h
   mode-quiet (Epilog k) (Epilog j) room h = misc-quiet Epilog (λ b e. (refl, refl, rw e refl)) k j h
   mode-quiet a b room h = unmoved (λ x. x) a b h

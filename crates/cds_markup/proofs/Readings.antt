@@ -9,7 +9,7 @@ use Rattle.cds_markup.specs.Decided.{Decides}
 use Rattle.cds_markup.specs.Pieces.{Gives, together}
 use Rattle.cds_markup.specs.Placed.{Placing, placing_of, no_place, noted_in, note_part, with_state, and_part, placed_by, places, placed_as, with_places, ArePlaces, DecidesPlaced}
 use Rattle.cds_markup.specs.Reader.{Came, came, IsRead, Fed, EndsSo, Finished, FinishedPlaced, EveryCutting}
-use Rattle.cds_markup.proofs.Terms.{meaning, append-nil, Part, Start, End, Run, MarkupError, Bad, Mem, Meaning, Doc, Telling, TakesAll as Takes, Tells, TellsTo, InRuns, No-runs, or_then, StandsFor, TakesPiece, TakesEnd, IsRefused, Verdict, some-is, is_err, OnOk, Frame, State, state, state_of, with_part, builds, built, nothing_yet, built_as, first_element, elements_in, nodes_in, child_at, open_behind, and_place, child_starts, root_start, IsPlace, PlacesAreOfElements, DocumentsAreRead, PartsAreBuilt, length-append, INPUT_LIMIT, Stop, Marks, judge, refusal, may_end, answer_of, progressed, ended_of, EndsShort, marks, parts_of, cuts_text, last_part, goes_on_as, listed, Puts, shown, telling, begin_telling, last_parts, Told, ToldSo, told_on, told_within, told, AreGiven, IsClean, IsIn, IsDecided, Answered, GoesOn, told_piece, OutOfMemory, cases, clash, ok-err, IsErrAnd, EndsSo as End-so}
+use Rattle.cds_markup.proofs.Terms.{meaning, append-nil, Part, Start, End, Run, MarkupError, Bad, Mem, Meaning, Doc, Telling, TakesAll as Takes, Tells, TellsTo, InRuns, No-runs, or_then, StandsFor, TakesPiece, TakesEnd, IsRefused, Verdict, some-is, is_err, OnOk, Frame, State, state, state_of, with_part, builds, built, nothing_yet, built_as, first_element, elements_in, nodes_in, child_at, open_behind, and_place, child_starts, root_start, IsPlace, PlacesAreOfElements, DocumentsAreRead, PartsAreBuilt, length-append, INPUT_LIMIT, MachineError, Marks, judge, refusal, may_end, answer_of, progressed, ended_of, EndsShort, marks, parts_of, cuts_text, last_part, goes_on_as, listed, Puts, shown, telling, begin_telling, last_parts, Told, ToldSo, told_on, told_within, told, AreGiven, IsClean, IsIn, IsDecided, Answered, GoesOn, told_piece, OutOfMemory, cases, clash, ok-err, IsErrAnd, EndsSo as End-so}
 use Rattle.cds_markup.proofs.Trails.{tree-is}
 use Rattle.cds_markup.proofs.Built.{no-child, stands-there, child-in, takes-all}
 use Rattle.cds_markup.proofs.GivenLaws.{one-answer, verdict, exact, one-element, parts-are-given, parts-are-one, parts-say, parts-are-told, all-is-told, document-told}
@@ -46,7 +46,7 @@ module _ (came : List ℕ) (us : List Part) (q : Telling) (e : told begin_tellin
       long : length (came ++ s.front) < length (came ++ piece)
       long = omega (arith, length-append came s.front, length-append came piece, ap length s.spelled, length-append s.front (s.byte ∷ s.rest))
 
-      by : (stop : Stop) → judge s.at.read s.byte ≡ Err stop → IsIn came piece (refusal stop s.at.at)
+      by : (stop : MachineError) → judge s.at.read s.byte ≡ Err stop → IsIn came piece (refusal stop s.at.at)
       by OutOfMemory j = absurd (judged-cause (came ++ s.front) s.at.read s.byte [] c.reached OutOfMemory j)
       by other j = (omega (arith, c.at, length-append came s.front), omega (arith, c.at, long))
 

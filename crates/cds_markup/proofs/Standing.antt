@@ -1,6 +1,6 @@
 -- What stands inside an element, token by token, is what the grammar says.
 use Rattle.std.proofs.Common.{◌≡◌, ◌==◌, ℕ, Bool, true, false, cond, inl, inr, List, [], ◌∷◌, ◌++◌, codes, drop, length, refl, sym, ap, subst, ◌∙◌, arith, encode_utf8, not, ◌&&◌, map, append_assoc, Option, Some, None, ◌+◌, take, ◌<◌}
-use Rattle.cds_markup.proofs.Terms.{is_in_name, Byte, IsComment, IsSection, Without, is_any, begins_with_text, Decides-eqb, nat_tests, starts_is, drop-append_seam, append-nil, IsReference, is_allowed, Ampersand, Opened, Content, Slashed, QName, Tag, Open, Turn, Word, Character, Then, Says, Many, name_bytes, IsBlanks, IsTag, Leaf, Text, IsLeaf, is_text, IsStartTag, IsEndTag, is_in_text, IsText, Tree, EmptyElement, Full, Nothing, LeafThen, TreeThen, IsTree, IsContent, IsProlog, IsName, qualified, IsQName, ends_tag, brackets_with, closes_section, Token, Letter, Referred, SectionOf, Commented, Ended, Given, given, opened, is_in_run, tag_given, begins_with, Opens, Bang, Cdata, Comment, Dash, Done, EndTag, Less, Next, On, Reference, Section, StartTag, Stuck, drop-drop, encode_ascii, end_name_step, slash_step, step_comment, step_reference, step_tag, step_turn, Grammar-reference, Grammar-section, Grammar-comment, Inner, length-append, take-append_seam, leads, IsQuoted, IsSpace, IsEquals, is_blank, begins_name, Stage, Version, Encoding, Standalone, Closing, Declaring, Xml, Gap, PartName, PartEquals, PartValue, YesOrNo, BehindPart, Question, Misc, Blanks, MiscLess, MiscBang, MiscDash, MiscComment, Maybe, MiscPiece, Blank, IsMiscPiece, IsMisc, lower_case, AnyCase, is_quote, IsPseudoAttr, IsYesOrNo, IsDeclaration, byte_order_mark, behind, closing_step, standalone_step, begin_step, value_begins, step_declaration, misc_step, is_between, CommentPiece, step, To, Inside}
+use Rattle.cds_markup.proofs.Terms.{is_in_name, Byte, IsComment, IsSection, Without, is_any, begins_with_text, Decides-eqb, nat_tests, starts_is, drop-append_seam, append-nil, IsReference, is_allowed, Ampersand, Opened, Content, Slashed, QName, Tag, Open, RootState, Word, Character, Then, Says, Many, name_bytes, IsBlanks, IsTag, Leaf, Text, IsLeaf, is_text, IsStartTag, IsEndTag, is_in_text, IsText, Tree, EmptyElement, Full, Nothing, LeafThen, TreeThen, IsTree, IsContent, IsProlog, IsName, qualified, IsQName, ends_tag, brackets_with, closes_section, Token, Letter, Referred, SectionOf, Commented, Ended, Given, given, opened, is_in_run, tag_given, begins_with, Opens, Bang, Cdata, Comment, Dash, Done, EndTag, Less, Next, On, Reference, Section, StartTag, Stuck, drop-drop, encode_ascii, end_name_step, slash_step, step_comment, step_reference, step_tag, step_root, Grammar-reference, Grammar-section, Grammar-comment, Inner, length-append, take-append_seam, leads, IsQuoted, IsSpace, IsEquals, is_blank, begins_name, Stage, Version, Encoding, Standalone, Closing, DeclarationState, Xml, Gap, PartName, PartEquals, PartValue, YesOrNo, BehindPart, Question, Misc, Blanks, MiscLess, MiscBang, MiscDash, MiscComment, Maybe, MiscPiece, Blank, IsMiscPiece, IsMisc, lower_case, AnyCase, is_quote, IsPseudoAttr, IsYesOrNo, IsDeclaration, byte_order_mark, behind, closing_step, standalone_step, begin_step, value_begins, step_declaration, misc_step, is_between, CommentPiece, step, To, Inside}
 use Rattle.cds_markup.proofs.TagForms.{Second, IsClosed, reference-form, reference-reads, tag-reads, same-small, quote-small}
 use Rattle.cds_markup.proofs.ScanForms.{characters-are, clean, state, without-word, comment-reads, sec, section-reads}
 use Rattle.cds_markup.proofs.Ways.{cases, is-byte, and-both, and-first, and-second, and-no, heads, allowed-append, bytes_of, Allowed, none-spelled, same-first, bytes-append, Spell, Form, Alike, Or, same, also, or-alike, then-alike, then-or, assoc, none-alike, word-more, Reads, Behind, reads-as, reads-if, reads-letter, reads-word, reads-or, reads-blanks, reads-state, then-of, then-says, says-then, Said, takes-then, next-by, no-cons, Takes, Steps, steps-done, cut, less-bytes, mark-bytes, is_ascii, ascii-first, ascii-rest, steps-as, way-as, reads-in, reads-many, turned, or-turned, or-assoc, maybe-or, says-alike, blanks-or, reads-byte, reads-space, reads-equals, blank-small, Way, way-then, way-none, way-text, way-byte, way-many, said-on, way-one, Early, AtBegin, AtMarked, AtFirst, InDeclaration, InProlog, early_next, misc_next, marked_next, name-no-bang, mode_of}
@@ -26,10 +26,10 @@ misc-on : (m n : Misc) (c : ℕ) → misc_step m c ≡ On n → early_next (InPr
 misc-on m n c e = ap (λ x. leads x InProlog (λ u. cond (begins_name c) (Done tt) Stuck)) e
 
 -- The declaration, part by part.
-abbrev D : Declaring → ℕ → Next Declaring (Unit {0})
+abbrev D : DeclarationState → ℕ → Next DeclarationState (Unit {0})
 D = step_declaration
 
-abbrev R : Declaring → Form (Unit {0})
+abbrev R : DeclarationState → Form (Unit {0})
 R m = Reads D (D m)
 
 -- what may stand behind the version, the encoding and the standalone part
@@ -98,7 +98,7 @@ closing-reads : Alike (Reads D closing_step) (Word (codes "?>"))
 closing-reads = also (reads-letter D 63 (On Question) (codes ">") (Says tt) (omega arith) refl (reads-letter D 62 (Done tt) [] (Says tt) (omega arith) refl none-alike)) (λ bytes a. (λ t. t.spelled ∙ ap (λ xs. t.front ++ xs) t.second.0 ∙ append-nil t.front ∙ t.first, λ e. then-of bytes [] tt (sym (append-nil bytes)) e (refl, refl)))
 
 -- behind a part stands what may come behind white space, or the end
-part-reads : (s : Stage) (next : ℕ → Next Declaring (Unit {0})) (B : Form (Unit {0})) → D (Gap s) ≡ (λ c. cond (is_blank c) (On (Gap s)) (next c)) → ((c : ℕ) → is_blank c ≡ true → next c ≡ Stuck) → Alike (Reads D next) B
+part-reads : (s : Stage) (next : ℕ → Next DeclarationState (Unit {0})) (B : Form (Unit {0})) → D (Gap s) ≡ (λ c. cond (is_blank c) (On (Gap s)) (next c)) → ((c : ℕ) → is_blank c ≡ true → next c ≡ Stuck) → Alike (Reads D next) B
     → Alike (Reads D (λ c. cond (is_blank c) (On (Gap s)) (closing_step c))) (Or (Then IsSpace (λ space. B)) (Word (codes "?>")))
 part-reads s next B is apart e =
     reads-or D is_blank (λ c. cond (is_blank c) (On (Gap s)) (closing_step c)) (λ c. On (Gap s)) closing_step (Then IsSpace (λ space. B)) (Word (codes "?>")) (λ c. refl) (λ c d. let other : (c == 63) ≡ false = grind (arith, nat_tests) in rw other refl) (reads-space D (Gap s) B (reads-blanks D (Gap s) next B is apart e)) closing-reads
@@ -319,12 +319,12 @@ AllWhole [] = Unit {0}
 AllWhole (o ∷ outer) = WholeName o.name × AllWhole outer
 
 -- The machine inside elements.
-abbrev pub T : List Open → Turn → ℕ → Next Turn Given
-T opens = λ t c. step_turn t opens c
+abbrev pub T : List Open → RootState → ℕ → Next RootState Given
+T opens = λ t c. step_root t opens c
 
 -- end tags, from within their name
 module _ (o : Open) (outer : List Open) where
-  abbrev E : Turn → ℕ → Next Turn Given
+  abbrev E : RootState → ℕ → Next RootState Given
   E = T (o ∷ outer)
 
   pub end-reads : (text : List ℕ) (n : ℕ) → drop n (name_bytes o.name) ≡ bytes_of text → Allowed text → Alike (Reads E (E (EndTag n))) (Then (Word (bytes_of text)) (λ u. Then IsBlanks (λ blanks. Then (Word (codes ">")) (λ u. Says (given Ended outer (Content 0))))))
@@ -421,7 +421,7 @@ module _ (opens : List Open) where
       let S : Form Given = Then (Then (Without (codes "]]>") is_any) (λ text. Then (Word (codes "]]>")) (λ closing. Says text))) (λ text. Saying (SectionOf text)) in
       let B : Form Given = Or (Then (Word (codes "--")) (λ u. C)) (Then (Word (codes "[CDATA[")) (λ u. S)) in
       let G : Form Given = Then (Then IsTag IsClosed) (λ found. Says (tag_given opens found)) in
-      let less : ℕ → Next Turn Given = λ c. cond (c == 33) (On Bang) (T opens (StartTag Opened) c) in
+      let less : ℕ → Next RootState Given = λ c. cond (c == 33) (On Bang) (T opens (StartTag Opened) c) in
       let bang = reads-or (T opens) (λ c. c == 45) (T opens Bang) (λ c. On Dash) (λ c. cond (c == 91) (On (Cdata (codes "CDATA["))) Stuck) (Then (Word (codes "--")) (λ u. C)) (Then (Word (codes "[CDATA[")) (λ u. S)) (λ c. refl) (λ c d. rw (is-byte c 45 d) refl)
       (reads-letter (T opens) 45 (On Dash) (codes "-") C (omega arith) refl (reads-letter (T opens) 45 (On (Comment 0)) [] C (omega arith) refl (also (also (reads-state (T opens) step_comment Comment (λ over. Done (given Commented opens (Content 0))) (λ n c. refl) 0) (then-alike comment-reads (λ u. same (Saying Commented)))) none-alike)))
       (reads-letter (T opens) 91 (On (Cdata (codes "CDATA["))) (codes "CDATA[") S (omega arith) refl (reads-word (T opens) Cdata S (λ b left. refl) (also (reads-state (T opens) sec (λ s. Section s.0 s.1) (λ said. Done (given (SectionOf said) opens (Content 0))) (λ n c. refl) (0, [])) (then-alike section-reads (λ text. same (Saying (SectionOf text))))) (codes "CDATA[") refl)) in
@@ -438,8 +438,8 @@ module _ (opens : List Open) where
 
   pub content-reads : (n : ℕ) → Alike (Reads (T opens) (T opens (Content n))) (Or Marked (Lone n))
   content-reads n =
-      let letter : ℕ → Next Turn Given = λ c. cond (is_in_run n c) (Done (given (Letter c) opens (Content (brackets_with n c)))) Stuck in
-      let other : ℕ → Next Turn Given = λ c. cond (c == 38) (On (Reference Ampersand)) (letter c) in
+      let letter : ℕ → Next RootState Given = λ c. cond (is_in_run n c) (Done (given (Letter c) opens (Content (brackets_with n c)))) Stuck in
+      let other : ℕ → Next RootState Given = λ c. cond (c == 38) (On (Reference Ampersand)) (letter c) in
       reads-or (T opens) (λ c. c == 60) (T opens (Content n)) (λ c. On Less) other Marked (Lone n) (λ c. cases (c == 60) (λ d. rw d refl) (λ d. cases (c == 38) (λ e. rw (d, e) refl) (λ e. cases (closes_section n c) (λ f. rw (d, e, f) refl) (λ f. rw (d, e, f) refl)))) (λ c d. rw (is-byte c 60 d) refl)
       (also (reads-letter (T opens) 60 (On Less) [] (Reads (T opens) (T opens Less)) (omega arith) refl none-alike) less-reads)
       (reads-or (T opens) (λ c. c == 38) other (λ c. On (Reference Ampersand)) letter (Then IsReference (λ c. Saying (Referred c))) (Then (Character (is_in_run n)) (λ c. Says (given (Letter c) opens (Content (brackets_with n c))))) (λ c. refl) (λ c d. rw (is-byte c 38 d) refl)
@@ -564,7 +564,7 @@ abbrev fresh : (tag : Tag) (outer : List Tag) (before : List ℕ) (c : Opens (ta
 fresh tag outer before c isn = record { front = before; text = []; spelled = sym (append-nil before); within = c; no_text = isn; each = tt; clear = refl; count = refl }
 
 -- Where a token leads.
-abbrev pub Stands : List Tag → Turn → List ℕ → Type 0
+abbrev pub Stands : List Tag → RootState → List ℕ → Type 0
 Stands tags Slashed before = (tag : Tag) × (earlier : List ℕ) × (slash : List ℕ) × (before ≡ earlier ++ slash) × Opens tags earlier × TagWith (codes "/") slash tag
 Stands [] (Content n) before = (root : Tree) × (prolog : List ℕ) × (element : List ℕ) × (before ≡ prolog ++ element) × IsProlog prolog tt × IsTree root element
 Stands (tag ∷ outer) (Content n) before = Standing tag outer n before
@@ -583,7 +583,7 @@ begin tags tag earlier bytes o s =
 
 -- one token
 abbrev pub Leads : Given → List ℕ → Type 0
-Leads g before = (tags : List Tag) × (g.opens ≡ map opened tags) × Stands tags g.turn before
+Leads g before = (tags : List Tag) × (g.opens ≡ map opened tags) × Stands tags g.root_state before
 
 letter-stands : (tag : Tag) (outer : List Tag) (n c : ℕ) (before bytes : List ℕ) → Standing tag outer n before → Character (is_in_run n) bytes c → Standing tag outer (brackets_with n c) (before ++ bytes)
 letter-stands tag outer n c before bytes s h =

@@ -1,6 +1,6 @@
 -- References, values, names, attributes and start tags are what the grammar says.
 use Rattle.std.proofs.Common.{◌≡◌, ◌⊎◌, [], arith, cond, if◌then◌else◌, ◌==◌, ◌+◌, ◌*◌, ◌<◌, ◌≤◌, ◌&&◌, ◌∷◌, ◌++◌, ◌∙◌, ◌^◌, Bool, List, None, Option, Some, ap, append_assoc, codes, encode_utf8, false, inl, inr, length, nat_le, nat_lt, refl, subst, suc, sym, true, ℕ}
-use Rattle.cds_markup.proofs.Terms.{Ampersand, AttrName, AttrNamed, Attribute, Attributing, Byte, Character, Done, Entity, EntityA, Equals, IsBlanks, IsInside, IsName, IsQName, IsReference, IsSpace, IsTag, IsTagAttr, IsValue, IsValuePiece, Literal, Many, Maybe, Name, Naming, Next, Number, On, Opened, QName, Referring, Says, Sharp, Spaced, Stuck, Tag, TagAttr, Tagged, Tagging, Then, Value, ValuePiece, Valuing, Word, and_behind, attr_of, base_of, begins_name, bytes_eq-Decides, code_of, ends_tag, goes_on, is_allowed, is_blank, is_colon, is_in_name, is_in_value, is_number_in, is_quote, is_return, is_whole, name_begun, name_of, named_or, named_step, nat_tests, number_after_sign, number_in, numbered, piece_says, qualified, quote_of, says_behind, step_attr, step_reference, step_tag, step_value, tag_named, tagged_step, value_in, value_says, valuing, where_allowed, with_attr, with_digit, with_line_ends, named, naming, append-nil, is_digit, digit_value, list_all, flat_map, Referred-piece as Referred, IsEquals, bytes_eq}
+use Rattle.cds_markup.proofs.Terms.{Ampersand, AttrName, AttrNamed, Attribute, AttributeState, Byte, Character, Done, Entity, EntityA, Equals, IsBlanks, IsInside, IsName, IsQName, IsReference, IsSpace, IsTag, IsTagAttr, IsValue, IsValuePiece, Literal, Many, Maybe, Name, NameState, Next, Number, On, Opened, QName, ReferenceState, Says, Sharp, Spaced, Stuck, Tag, TagAttr, Tagged, StartTagState, Then, Value, ValuePiece, ValueState, Word, and_behind, attr_of, base_of, begins_name, bytes_eq-Decides, code_of, ends_tag, goes_on, is_allowed, is_blank, is_colon, is_in_name, is_in_value, is_number_in, is_quote, is_return, is_whole, name_begun, name_of, named_or, named_step, nat_tests, number_after_sign, number_in, numbered, piece_says, qualified, quote_of, says_behind, step_attr, step_reference, step_tag, step_value, tag_named, tagged_step, value_in, value_says, value_state, where_allowed, with_attr, with_digit, with_line_ends, named, name_state, append-nil, is_digit, digit_value, list_all, flat_map, Referred-piece as Referred, IsEquals, bytes_eq}
 use Rattle.cds_markup.proofs.Ways.{taken-if, Takes, and-both, and-first, and-second, cases, clash, either-if, is-byte, only-if, some-is, heads, ascii-bytes, ascii-plain, is_ascii, plain-bytes, then-of, Form, Alike, Or, same, also, or-turned, or-alike, or-assoc, maybe-or, then-alike, assoc, says-alike, none-alike, then-or, blanks-or, Reads, reads-as, reads-if, reads-byte, reads-letter, reads-or, added, reads-many, reads-blanks, reads-space, reads-equals, reads-in, reads-state}
 use Rattle.cds_markup.proofs.Decoded.{allowed-at-most, encoded}
 use Rattle.std.proofs.Math.Nat.{pow-suc, pow-zero}
@@ -69,7 +69,7 @@ sign-says c (d ∷ ds) all says ok =
 abbrev is_digit_in : Bool → ℕ → Bool
 is_digit_in h b = is_digit b (base_of h)
 
-abbrev R : Referring → ℕ → Next Referring ℕ
+abbrev R : ReferenceState → ℕ → Next ReferenceState ℕ
 R = step_reference
 
 -- an entity's name
@@ -135,7 +135,7 @@ sharp-takes (x ∷ w) c t = elim (either-if (x == 120) _ _ _ _ t) [
 
 module _ (c : ℕ) where
   -- where the first byte is known
-  at : (r : Referring) (pre w : List ℕ) (x k : ℕ) → Takes R r (x ∷ w) c → (x == k) ≡ true → (Takes R r (k ∷ w) c → Referred-to (pre ++ k ∷ w) c) → Referred-to (pre ++ x ∷ w) c
+  at : (r : ReferenceState) (pre w : List ℕ) (x k : ℕ) → Takes R r (x ∷ w) c → (x == k) ≡ true → (Takes R r (k ∷ w) c → Referred-to (pre ++ k ∷ w) c) → Referred-to (pre ++ x ∷ w) c
   at r pre w x k t e f = subst (λ y. Takes R r (y ∷ w) c → Referred-to (pre ++ y ∷ w) c) (sym (is-byte x k e)) f t
 
   entity-a-takes : (w : List ℕ) → Takes R EntityA w c → Referred-to (97 ∷ w) c
@@ -233,13 +233,13 @@ reference-form K bytes a = (
 )
 
 -- A value from behind its first quote.
-abbrev V : Valuing → ℕ → Next Valuing (List ℕ)
+abbrev V : ValueState → ℕ → Next ValueState (List ℕ)
 V = step_value
 
 module _ (quote : ℕ) (is_q : is_quote quote ≡ true) where
   -- a state by what is said so far, and whether that ends in a literal carriage return
-  abbrev valued : List ℕ × Bool → Valuing
-  valued x = valuing (quote == 34) x.0 x.1 None
+  abbrev valued : List ℕ × Bool → ValueState
+  valued x = value_state (quote == 34) x.0 x.1 None
 
   abbrev with_piece : List ℕ × Bool → ValuePiece → List ℕ × Bool
   with_piece x p = (x.0 ++ says_behind x.1 p, is_return p)
@@ -247,11 +247,11 @@ module _ (quote : ℕ) (is_q : is_quote quote ≡ true) where
   abbrev From : List ℕ × Bool → Form (List ℕ)
   From x = Reads V (V (valued x))
 
-  abbrev literal : List ℕ × Bool → ℕ → Next Valuing (List ℕ)
+  abbrev literal : List ℕ × Bool → ℕ → Next ValueState (List ℕ)
   literal x c = cond (is_in_value quote c) (On (valued (with_piece x (Literal c)))) Stuck
 
-  abbrev piece : List ℕ × Bool → ℕ → Next Valuing (List ℕ)
-  piece x c = cond (c == 38) (On (valuing (quote == 34) x.0 x.1 (Some Ampersand))) (literal x c)
+  abbrev piece : List ℕ × Bool → ℕ → Next ValueState (List ℕ)
+  piece x c = cond (c == 38) (On (value_state (quote == 34) x.0 x.1 (Some Ampersand))) (literal x c)
 
   piece-form : (K : ValuePiece → Form (List ℕ)) → Alike (Or (Then IsReference (λ c. K (Referred c))) (Then (Character (is_in_value quote)) (λ c. K (Literal c)))) (Then (IsValuePiece quote) K)
   piece-form K bytes a = (λ s. elim s [ inl t ↦ then-of t.front t.back (Referred t.what) t.spelled t.first t.second | inr t ↦ then-of t.front t.back (Literal t.what) t.spelled t.first t.second ], λ t. by t.what t.front t.back t.spelled t.first t.second) where
@@ -264,9 +264,9 @@ module _ (quote : ℕ) (is_q : is_quote quote ≡ true) where
   piece-reads x = also
       (reads-or V (λ c. c == quote) (V (valued x)) (λ c. Done x.0) (piece x) (Then (Byte (λ b. b == quote)) (λ same. Says x.0)) (Then (IsValuePiece quote) (λ p. From (with_piece x p))) whole (λ c d. let one : (c == 38) ≡ false = grind (arith, nat_tests) in rw (one, d) refl)
       (reads-byte V (λ c. c == quote) (λ c. Done x.0) (λ c. Says x.0) (λ c d. same-small quote c is_q d) (λ c d. same (Says x.0)))
-      (also (reads-or V (λ c. c == 38) (piece x) (λ c. On (valuing (quote == 34) x.0 x.1 (Some Ampersand))) (literal x) (Then IsReference (λ c. From (with_piece x (Referred c)))) (Then (Character (is_in_value quote)) (λ c. From (with_piece x (Literal c)))) (λ c. refl) (λ c d. let out : is_in_value quote c ≡ false = grind (arith, nat_tests) in rw out refl)
-      (also (reads-letter V 38 (On (valuing (quote == 34) x.0 x.1 (Some Ampersand))) [] (Then (λ bytes c. IsReference (38 ∷ bytes) c) (λ c. From (with_piece x (Referred c)))) (omega arith) refl
-      (also (also (reads-state V R (λ s. valuing (quote == 34) x.0 x.1 (Some s)) (λ code. On (valuing (quote == 34) (x.0 ++ encode_utf8 code) false None)) (λ n c. refl) Ampersand) (then-alike reference-reads (λ c. same (From (with_piece x (Referred c)))))) none-alike)) (reference-form (λ c. From (with_piece x (Referred c)))))
+      (also (reads-or V (λ c. c == 38) (piece x) (λ c. On (value_state (quote == 34) x.0 x.1 (Some Ampersand))) (literal x) (Then IsReference (λ c. From (with_piece x (Referred c)))) (Then (Character (is_in_value quote)) (λ c. From (with_piece x (Literal c)))) (λ c. refl) (λ c d. let out : is_in_value quote c ≡ false = grind (arith, nat_tests) in rw out refl)
+      (also (reads-letter V 38 (On (value_state (quote == 34) x.0 x.1 (Some Ampersand))) [] (Then (λ bytes c. IsReference (38 ∷ bytes) c) (λ c. From (with_piece x (Referred c)))) (omega arith) refl
+      (also (also (reads-state V R (λ s. value_state (quote == 34) x.0 x.1 (Some s)) (λ code. On (value_state (quote == 34) (x.0 ++ encode_utf8 code) false None)) (λ n c. refl) Ampersand) (then-alike reference-reads (λ c. same (From (with_piece x (Referred c)))))) none-alike)) (reference-form (λ c. From (with_piece x (Referred c)))))
       (reads-if V (is_in_value quote) (λ c. On (valued (with_piece x (Literal c)))) (λ c. From (with_piece x (Literal c))) (λ c d. same (From (with_piece x (Literal c))))))
       (piece-form (λ p. From (with_piece x p))))) (or-turned (Then (Byte (λ b. b == quote)) (λ same. Says x.0)) (Then (IsValuePiece quote) (λ p. From (with_piece x p)))) where
         whole : (c : ℕ) → V (valued x) c ≡ cond (c == quote) (Done x.0) (piece x c)
@@ -297,10 +297,10 @@ abbrev pub Second : List ℕ → Option (List ℕ) → Type 0
 Second = Maybe (Then (Word (codes ":")) (λ colon. IsName))
 
 -- a name inside another machine, and what stands behind it
-module _ {M A : Type 0} (step : M → ℕ → Next M A) (to : Naming → M) (behind : QName → ℕ → Next M A) (is : (n : Naming) (c : ℕ) → step (to n) c ≡ named_or (goes_on n c) to (is_whole n.second) (behind (name_of n) c))
+module _ {M A : Type 0} (step : M → ℕ → Next M A) (to : NameState → M) (behind : QName → ℕ → Next M A) (is : (n : NameState) (c : ℕ) → step (to n) c ≡ named_or (goes_on n c) to (is_whole n.second) (behind (name_of n) c))
     (apart : (q : QName) (c : ℕ) → (is_in_name c ≡ true) ⊎ (is_colon c ≡ true) → behind q c ≡ Stuck) (H : QName → Form A) (next : (q : QName) → Alike (Reads step (behind q)) (H q)) where
   -- the letters of a name from the second on, and those of a name
-  letters-read : (set : List ℕ → Naming) (over : List ℕ → ℕ → Next M A) (K : List ℕ → Form A) → ((t : List ℕ) (c : ℕ) → step (to (set t)) c ≡ cond (is_in_name c) (On (to (set (t ++ encode_utf8 c)))) (over t c)) → ((t : List ℕ) (c : ℕ) → is_in_name c ≡ true → over t c ≡ Stuck)
+  letters-read : (set : List ℕ → NameState) (over : List ℕ → ℕ → Next M A) (K : List ℕ → Form A) → ((t : List ℕ) (c : ℕ) → step (to (set t)) c ≡ cond (is_in_name c) (On (to (set (t ++ encode_utf8 c)))) (over t c)) → ((t : List ℕ) (c : ℕ) → is_in_name c ≡ true → over t c ≡ Stuck)
       → ((t : List ℕ) → Alike (Reads step (over t)) (K t)) → (text : List ℕ) → Alike (Reads step (step (to (set text)))) (Then (Many (Character is_in_name)) (λ cs. K (added step (λ t c. t ++ encode_utf8 c) text cs)))
   letters-read set over K goes none e = reads-many step (λ t c. t ++ encode_utf8 c) (λ t. step (to (set t))) (Character is_in_name) K (λ bytes c h. let s = encoded c in omega (arith, ap length (h.spelled ∙ s.2)))
       (λ t. reads-or step is_in_name (step (to (set t))) (λ c. On (to (set (t ++ encode_utf8 c)))) (over t) (Then (Character is_in_name) (λ c. Reads step (step (to (set (t ++ encode_utf8 c)))))) (K t) (goes t) (none t)
@@ -316,38 +316,38 @@ module _ {M A : Type 0} (step : M → ℕ → Next M A) (to : Naming → M) (beh
         then-of s.front (s.back ++ t.back) s.what (t.spelled ∙ ap (λ xs. xs ++ t.back) s.spelled ∙ append_assoc s.front s.back t.back) s.first (then-of s.back t.back t.first.1 refl s.second (subst (λ xs. K xs t.back a) (sym all) t.second)),
   ))
 
-  second-reads : (first : List ℕ) → Alike (Reads step (step (to (naming first (Some []))))) (Then IsName (λ second. H (qualified first (Some second))))
-  second-reads first = reads-as step (λ c. is (naming first (Some [])) c ∙ cases (begins_name c) (λ d. rw d refl) (λ d. rw d refl)) (word-reads (λ c. to (naming first (Some (encode_utf8 c)))) (λ second. H (qualified first (Some second))) from) where
+  second-reads : (first : List ℕ) → Alike (Reads step (step (to (name_state first (Some []))))) (Then IsName (λ second. H (qualified first (Some second))))
+  second-reads first = reads-as step (λ c. is (name_state first (Some [])) c ∙ cases (begins_name c) (λ d. rw d refl) (λ d. rw d refl)) (word-reads (λ c. to (name_state first (Some (encode_utf8 c)))) (λ second. H (qualified first (Some second))) from) where
     more : (b : ℕ) (t cs : List ℕ) → added step (λ t c. t ++ encode_utf8 c) (b ∷ t) cs ≡ b ∷ added step (λ t c. t ++ encode_utf8 c) t cs
     more b t [] = refl
     more b t (c ∷ cs) = more b (t ++ encode_utf8 c) cs
 
-    from : (c : ℕ) → Alike (Reads step (step (to (naming first (Some (encode_utf8 c)))))) (Then (Many (Character is_in_name)) (λ cs. H (qualified first (Some (added step (λ t c. t ++ encode_utf8 c) (encode_utf8 c) cs)))))
+    from : (c : ℕ) → Alike (Reads step (step (to (name_state first (Some (encode_utf8 c)))))) (Then (Many (Character is_in_name)) (λ cs. H (qualified first (Some (added step (λ t c. t ++ encode_utf8 c) (encode_utf8 c) cs)))))
     from c =
         let s = encoded c in
         let q : List ℕ → QName = λ t. qualified first (Some (s.0 ∷ t)) in
-        rw s.2 (also (letters-read (λ t. naming first (Some (s.0 ∷ t))) (λ t. behind (q t)) (λ t. H (q t)) (λ t c. is (naming first (Some (s.0 ∷ t))) c ∙ cases (is_in_name c) (λ d. rw d refl) (λ d. rw d refl)) (λ t c d. apart (q t) c (inl d)) (λ t. next (q t)) s.1)
+        rw s.2 (also (letters-read (λ t. name_state first (Some (s.0 ∷ t))) (λ t. behind (q t)) (λ t. H (q t)) (λ t c. is (name_state first (Some (s.0 ∷ t))) c ∙ cases (is_in_name c) (λ d. rw d refl) (λ d. rw d refl)) (λ t c d. apart (q t) c (inl d)) (λ t. next (q t)) s.1)
         (then-alike (same (Many (Character is_in_name))) (λ cs. rw (more s.0 s.1 cs) (same (H (q (added step (λ t c. t ++ encode_utf8 c) s.1 cs)))))))
 
   pub name-reads : Alike (Reads step (λ c. cond (begins_name c) (On (to (name_begun c))) Stuck)) (Then IsQName H)
-  name-reads = also (word-reads (λ c. to (name_begun c)) (λ first. Then Second (λ second. H (qualified first second))) (λ c. letters-read (λ t. naming t None) over (λ first. Then Second (λ second. H (qualified first second))) goes none rest (encode_utf8 c)))
+  name-reads = also (word-reads (λ c. to (name_begun c)) (λ first. Then Second (λ second. H (qualified first second))) (λ c. letters-read (λ t. name_state t None) over (λ first. Then Second (λ second. H (qualified first second))) goes none rest (encode_utf8 c)))
       (also (then-alike (same IsName) (λ first. also (then-alike (same Second) (λ second. says-alike (qualified first second) H)) (assoc Second (λ second. Says (qualified first second)) H))) (assoc IsName (λ first. Then Second (λ second. Says (qualified first second))) H)) where
         over : List ℕ → ℕ → Next M A
-        over t c = cond (is_colon c) (On (to (naming t (Some [])))) (behind (qualified t None) c)
+        over t c = cond (is_colon c) (On (to (name_state t (Some [])))) (behind (qualified t None) c)
 
-        goes : (t : List ℕ) (c : ℕ) → step (to (naming t None)) c ≡ cond (is_in_name c) (On (to (naming (t ++ encode_utf8 c) None))) (over t c)
-        goes t c = is (naming t None) c ∙ cases (is_in_name c) (λ d. rw d refl) (λ d. cases (is_colon c) (λ e. rw (d, e) refl) (λ e. rw (d, e) refl))
+        goes : (t : List ℕ) (c : ℕ) → step (to (name_state t None)) c ≡ cond (is_in_name c) (On (to (name_state (t ++ encode_utf8 c) None))) (over t c)
+        goes t c = is (name_state t None) c ∙ cases (is_in_name c) (λ d. rw d refl) (λ d. cases (is_colon c) (λ e. rw (d, e) refl) (λ e. rw (d, e) refl))
 
         none : (t : List ℕ) (c : ℕ) → is_in_name c ≡ true → over t c ≡ Stuck
         none t c d = let other : is_colon c ≡ false = grind (arith, nat_tests) in rw other (apart (qualified t None) c (inl d))
 
         rest : (t : List ℕ) → Alike (Reads step (over t)) (Then Second (λ second. H (qualified t second)))
-        rest t = also (reads-or step is_colon (over t) (λ c. On (to (naming t (Some [])))) (behind (qualified t None)) (Then (Then (Word (codes ":")) (λ colon. IsName)) (λ second. H (qualified t (Some second)))) (H (qualified t None)) (λ c. refl) (λ c d. apart (qualified t None) c (inr d))
-            (also (reads-letter step 58 (On (to (naming t (Some [])))) [] (Then IsName (λ second. H (qualified t (Some second)))) (omega arith) refl (also (second-reads t) none-alike)) (assoc (Word (codes ":")) (λ colon. IsName) (λ second. H (qualified t (Some second))))) (next (qualified t None))) (maybe-or (λ second. H (qualified t second)))
+        rest t = also (reads-or step is_colon (over t) (λ c. On (to (name_state t (Some [])))) (behind (qualified t None)) (Then (Then (Word (codes ":")) (λ colon. IsName)) (λ second. H (qualified t (Some second)))) (H (qualified t None)) (λ c. refl) (λ c d. apart (qualified t None) c (inr d))
+            (also (reads-letter step 58 (On (to (name_state t (Some [])))) [] (Then IsName (λ second. H (qualified t (Some second)))) (omega arith) refl (also (second-reads t) none-alike)) (assoc (Word (codes ":")) (λ colon. IsName) (λ second. H (qualified t (Some second))))) (next (qualified t None))) (maybe-or (λ second. H (qualified t second)))
 
 -- Attributes.
 
-abbrev A : Attributing → ℕ → Next Attributing TagAttr
+abbrev A : AttributeState → ℕ → Next AttributeState TagAttr
 A = step_attr
 
 name-apart : (c : ℕ) → (is_in_name c ≡ true) ⊎ (is_colon c ≡ true) → (is_blank c ≡ false) × ((c == 61) ≡ false) × (ends_tag c ≡ false)
@@ -356,15 +356,15 @@ name-apart c (inr e) = (grind (arith, nat_tests), grind (arith, nat_tests), grin
 
 attr-reads : Alike (Reads A (λ c. cond (begins_name c) (On (AttrName (name_begun c))) Stuck)) IsTagAttr
 attr-reads = name-reads A AttrName named_step (λ n c. refl) (λ q c d. let a = name-apart c d in rw (a.0, a.1) refl) (λ q. Then IsEquals (λ sign. Then IsValue (λ v. Says (attr_of q v))))
-    (λ q. reads-equals A (AttrNamed q) (Equals q) (λ c. cond (is_quote c) (On (Value q (valuing (c == 34) [] false None))) Stuck) (Then IsValue (λ v. Says (attr_of q v))) refl refl (λ c d. let other : is_quote c ≡ false = grind (arith, nat_tests) in rw other refl)
-    (also (reads-byte A is_quote (λ c. On (Value q (valuing (c == 34) [] false None))) (λ quote. Then (Inside quote) (λ v. Says (attr_of q v))) quote-small
-    (λ quote d. also (reads-state A V (Value q) (λ text. Done (attr_of q text)) (λ n c. refl) (valuing (quote == 34) [] false None)) (then-alike (value-reads quote d) (λ v. same (Says (attr_of q v)))))) (assoc (Byte is_quote) Inside (λ v. Says (attr_of q v))))) where
+    (λ q. reads-equals A (AttrNamed q) (Equals q) (λ c. cond (is_quote c) (On (Value q (value_state (c == 34) [] false None))) Stuck) (Then IsValue (λ v. Says (attr_of q v))) refl refl (λ c d. let other : is_quote c ≡ false = grind (arith, nat_tests) in rw other refl)
+    (also (reads-byte A is_quote (λ c. On (Value q (value_state (c == 34) [] false None))) (λ quote. Then (Inside quote) (λ v. Says (attr_of q v))) quote-small
+    (λ quote d. also (reads-state A V (Value q) (λ text. Done (attr_of q text)) (λ n c. refl) (value_state (quote == 34) [] false None)) (then-alike (value-reads quote d) (λ v. same (Says (attr_of q v)))))) (assoc (Byte is_quote) Inside (λ v. Says (attr_of q v))))) where
       Inside : ℕ → Form (List ℕ)
       Inside quote = Then (IsInside quote) (λ text. Then (Byte (λ b. b == quote)) (λ same. Says text))
 
 -- Start tags.
 
-abbrev G : Tagging → ℕ → Next Tagging (Tag × ℕ)
+abbrev G : StartTagState → ℕ → Next StartTagState (Tag × ℕ)
 G = step_tag
 
 abbrev IsSpaced : List ℕ → TagAttr → Type 0
@@ -375,7 +375,7 @@ abbrev pub IsClosed : Tag → Form (Tag × ℕ)
 IsClosed tag = Then (Byte ends_tag) (λ e. Says (tag, e))
 
 module _ (tag : Tag) where
-  abbrev attr : ℕ → Next Tagging (Tag × ℕ)
+  abbrev attr : ℕ → Next StartTagState (Tag × ℕ)
   attr c = cond (begins_name c) (On (Attribute tag (AttrName (name_begun c)))) Stuck
 
   abbrev More : Form (Tag × ℕ)
@@ -384,8 +384,8 @@ module _ (tag : Tag) where
   -- one attribute more, or the end
   tagged-read : Alike (Reads G (G (Tagged tag))) (Or (Then IsSpaced (λ a. Reads G (G (Tagged (with_attr tag a))))) (Then IsBlanks (λ u. IsClosed tag)))
   tagged-read =
-      let inside : ℕ → Next Tagging (Tag × ℕ) = λ c. cond (ends_tag c) (Done (tag, c)) (attr c) in
-      let name : ℕ → Next Attributing TagAttr = λ c. cond (begins_name c) (On (AttrName (name_begun c))) Stuck in
+      let inside : ℕ → Next StartTagState (Tag × ℕ) = λ c. cond (ends_tag c) (Done (tag, c)) (attr c) in
+      let name : ℕ → Next AttributeState TagAttr = λ c. cond (begins_name c) (On (AttrName (name_begun c))) Stuck in
       let ends-read = reads-byte G ends_tag (λ c. Done (tag, c)) (λ e. Says (tag, e)) end-plain (λ c d. same (Says (tag, c))) in
       let attr-read = also (reads-in G A (Attribute tag) (λ a. On (Tagged (with_attr tag a))) (λ n c. refl) attr name (λ c. cases (begins_name c) (λ d. rw d refl) (λ d. rw d refl))) (then-alike attr-reads (λ a. same (Reads G (G (Tagged (with_attr tag a)))))) in
       also (reads-or G is_blank (G (Tagged tag)) (λ c. On (Spaced tag)) (λ c. cond (ends_tag c) (Done (tag, c)) Stuck) (Then IsSpace (λ u. Or (IsClosed tag) More)) (IsClosed tag) (λ c. refl) (λ c d. let other : ends_tag c ≡ false = grind (arith, nat_tests) in rw other refl)

@@ -2,11 +2,11 @@
 -- it leads the machine of characters.
 use lib.Seq.{take-nil}
 use Rattle.std.proofs.Common.{◌≡◌, ℕ, suc, ◌+◌, ◌<◌, nat_lt, nat_le, true, false, Result, Ok, Err, List, [], ◌∷◌, ◌++◌, take, refl, sym, ap, ◌∙◌, arith, append_assoc, length, zero, zero-add, ◌==◌, ◌-◌, ◌≤◌, Bool, not, ◌&&◌, cond, ◌⊎◌, inl, inr, Some, None, encode_utf8, Option, subst}
-use Rattle.cds_markup.proofs.Terms.{nat_tests, INPUT_LIMIT, Stop, MarkupError, Part, Token, Reading, judge, nothing_read, answer_of, progressed, ended_of, marked, parts_from, parts_of, Telling, telling, begin_telling, last_parts, Told, judged_told, told_byte_within, behind_parts, told_on, told_within, told, answered, run, append-nil, length-append, encode_ascii, is_allowed, begins_name, is_blank, NamespaceRule, Deep, TooLong, Marks, Mode, Open, OpenText, Ampersand, Opened, Name, Turn, Content, Less, Reference, StartTag, Inside, Run, line_ends, Step, any_at, Letter, Given, step_turn, To, step, is_content, inside_move, reading, moved, go_on, byte_step, begins_tag, is_deep, breaks_rule, judged, refusal, said_as, is_between, passed_over, completed_as, marks, ended_part, open_text, line_end_says, or_here, text_with, text_or, Next, On, Done, name_begun, closes_section, brackets_with, first_non_blank, Gone, by-test, next-by, either-if, both-no, none-behind, is-byte, Takes, Steps, and-first, and-second, ok-err, cases}
+use Rattle.cds_markup.proofs.Terms.{nat_tests, INPUT_LIMIT, MachineError, MarkupError, Part, Token, Reading, judge, nothing_read, answer_of, progressed, ended_of, marked, parts_from, parts_of, Telling, telling, begin_telling, last_parts, Told, judged_told, told_byte_within, behind_parts, told_on, told_within, told, answered, run, append-nil, length-append, encode_ascii, is_allowed, begins_name, is_blank, NamespaceRule, Deep, TooLong, Marks, Mode, Open, OpenText, Ampersand, Opened, Name, RootState, Content, Less, Reference, StartTag, Inside, Run, line_ends, Step, any_at, Letter, Given, step_root, To, step, is_content, inside_move, reading, moved, go_on, byte_step, begins_tag, is_deep, breaks_rule, judged, refusal, said_as, is_between, passed_over, completed_as, marks, ended_part, open_text, line_end_says, or_here, text_with, text_or, Next, On, Done, name_begun, closes_section, brackets_with, first_non_blank, Gone, by-test, next-by, either-if, both-no, none-behind, is-byte, Takes, Steps, and-first, and-second, ok-err, cases}
 use Rattle.cds_markup.proofs.Ways.{same-first, bytes_of, Allowed, Early, AtBegin, mode_of, root_or, step-is, landing}
 use Rattle.cds_markup.proofs.Decoded.{found, ok_same, wide-bytes, stuck, decodes, encoded}
 use Rattle.cds_markup.proofs.ScanForms.{ends_return, line_more, ends_more, clean, state, small-or-wide, not-so}
-use Rattle.cds_markup.proofs.Placing.{WellMode, is_to, Goes, no-blank, Mid, turn-mid}
+use Rattle.cds_markup.proofs.Placing.{WellMode, is_to, Goes, no-blank, Mid, root_state-mid}
 use Rattle.cds_markup.proofs.GoingOn.{Unfinished, no-both, two-or-more, begins-complete, Reached, reached-nothing, result-by, NoneBefore, next as next-reached, none-here, none-more}
 use Rattle.cds_markup.proofs.Standing.{Leads-root, InText, letter-step}
 
@@ -93,7 +93,7 @@ byte-more n front us q b s ts e less f =
 
 -- a byte stops the reader, whatever comes behind, or it is taken
 abbrev pub CauseOf : ℕ → Telling → ℕ → MarkupError → Type 0
-CauseOf n q b e = ((n ≤ q.at) × (e ≡ TooLong)) ⊎ ((q.at < n) × (stop : Stop) × (judge q.read b ≡ Err stop) × (e ≡ refusal stop q.at))
+CauseOf n q b e = ((n ≤ q.at) × (e ≡ TooLong)) ⊎ ((q.at < n) × (stop : MachineError) × (judge q.read b ≡ Err stop) × (e ≡ refusal stop q.at))
 
 abbrev pub ByteCases : ℕ → Telling → ℕ → Type 0
 ByteCases n q b =
@@ -249,7 +249,7 @@ marked-char mode opens m begun at first next os (t ∷ ts) e = ap (λ x. complet
 -- A token leads the reader of bytes where it leads the machine, and gives its part.
 
 -- states that are not between tokens
-mid-calm : (t : Turn) (c : ℕ) (u : Turn) → is_content t ≡ false → Mid t c u → (is_content u ≡ false) × (begins_tag (Inside u) ≡ false)
+mid-calm : (t : RootState) (c : ℕ) (u : RootState) → is_content t ≡ false → Mid t c u → (is_content u ≡ false) × (begins_tag (Inside u) ≡ false)
 mid-calm t c (Content n) calm m = absurd m
 mid-calm (Content n) c Less calm m = absurd (cc)
 mid-calm t c Less calm m = absurd m.1
@@ -280,17 +280,17 @@ Landed n all us m opens g =
 few-of : (n : ℕ) (front bytes rest : List ℕ) → length (front ++ (bytes ++ rest)) ≤ n → (length (front ++ bytes) ≤ n) × (length ((front ++ bytes) ++ rest) ≤ n)
 few-of n front bytes rest h = (omega (arith, h, length-append front (bytes ++ rest), length-append bytes rest, length-append front bytes), subst (λ xs. length xs ≤ n) (sym (append_assoc front bytes rest)) h)
 
-pub turn-told : (n : ℕ) (w front : List ℕ) (us : List Part) (t : Turn) (opens : List Open) (m : Marks) (g : Given) → told_within n begin_telling front ≡ Ok (us, telling (reading [] (Inside t) opens) m (length front)) → Allowed w → is_content t ≡ false → ((c : ℕ) (rest : List ℕ) → w ≡ c ∷ rest → Shallow (Inside t) opens c) → breaks_rule opens (g.token ∷ []) ≡ false → length (front ++ bytes_of w) ≤ n
-    → Takes (λ t c. step_turn t opens c) t w g → Landed n (front ++ bytes_of w) us m opens g
-turn-told n [] front us t opens m g e ok calm shallow keeps within s = absurd s
-turn-told n (c ∷ w) front us t opens m g e ok calm shallow keeps within s =
+pub root_state-told : (n : ℕ) (w front : List ℕ) (us : List Part) (t : RootState) (opens : List Open) (m : Marks) (g : Given) → told_within n begin_telling front ≡ Ok (us, telling (reading [] (Inside t) opens) m (length front)) → Allowed w → is_content t ≡ false → ((c : ℕ) (rest : List ℕ) → w ≡ c ∷ rest → Shallow (Inside t) opens c) → breaks_rule opens (g.token ∷ []) ≡ false → length (front ++ bytes_of w) ≤ n
+    → Takes (λ t c. step_root t opens c) t w g → Landed n (front ++ bytes_of w) us m opens g
+root_state-told n [] front us t opens m g e ok calm shallow keeps within s = absurd s
+root_state-told n (c ∷ w) front us t opens m g e ok calm shallow keeps within s =
     let few = few-of n front (encode_utf8 c) (bytes_of w) within in
-    next-by (step_turn t opens c) (λ d. absurd (rw d at s))
+    next-by (step_root t opens c) (λ d. absurd (rw d at s))
     (λ u d.
-    let next = mid-calm t c u calm (rw d at (turn-mid t opens c)) in
+    let next = mid-calm t c u calm (rw d at (root_state-mid t opens c)) in
     let made = ap (λ x. passed_over (x && not (is_content u)) m (length (front ++ encode_utf8 c) - 1)) calm in
     let one = more-told n front us us (Inside t) opens m c (Inside u) opens [] ([], m) e ok.0 (shallow c w refl) (ap (inside_move opens) d) refl few.0 made (append-nil us) in
-    subst (λ xs. Landed n xs us m opens g) (append_assoc front (encode_utf8 c) (bytes_of w)) (turn-told n w (front ++ encode_utf8 c) us u opens m g one ok.1 next.0 (λ x rest f b bs z. shallow-mode (Inside u) opens b next.1) keeps few.1 (rw d at s)))
+    subst (λ xs. Landed n xs us m opens g) (append_assoc front (encode_utf8 c) (bytes_of w)) (root_state-told n w (front ++ encode_utf8 c) us u opens m g one ok.1 next.0 (λ x rest f b bs z. shallow-mode (Inside u) opens b next.1) keeps few.1 (rw d at s)))
     (λ b d.
     let h : (b ≡ g) × (w ≡ []) = rw d at s in
     let x : List Part × Marks = completed_as m (length (front ++ encode_utf8 c) - 1) (length front) (said_as opens g.token) in
@@ -299,7 +299,7 @@ turn-told n (c ∷ w) front us t opens m g e ok calm shallow keeps within s =
 
 -- a token from between tokens, which is no character of a text
 pub token-told : (n k : ℕ) (w front : List ℕ) (us : List Part) (opens : List Open) (begin : ℕ) (text : Option OpenText) (g : Given) → told_within n begin_telling front ≡ Ok (us, telling (reading [] (Inside (Content k)) opens) (marks begin text) (length front)) → Allowed w → ((c : ℕ) → g.token ≡ Letter c → ⊥)
-    → ((c : ℕ) (rest : List ℕ) → w ≡ 60 ∷ c ∷ rest → Shallow (Inside Less) opens c) → breaks_rule opens (g.token ∷ []) ≡ false → length (front ++ bytes_of w) ≤ n → Takes (λ t c. step_turn t opens c) (Content k) w g → Landed n (front ++ bytes_of w) (us ++ ended_part text) (marks (length front) None) opens g
+    → ((c : ℕ) (rest : List ℕ) → w ≡ 60 ∷ c ∷ rest → Shallow (Inside Less) opens c) → breaks_rule opens (g.token ∷ []) ≡ false → length (front ++ bytes_of w) ≤ n → Takes (λ t c. step_root t opens c) (Content k) w g → Landed n (front ++ bytes_of w) (us ++ ended_part text) (marks (length front) None) opens g
 token-told n k [] front us opens begin text g e ok none shallow keeps within s = absurd s
 token-told n k (c ∷ w) front us opens begin text g e ok none shallow keeps within s = elim (either-if (c == 60) _ _ _ _ s) [
   | inl (a, h) ↦ after Less (rw a refl) (omega (arith, is-byte c 60 a)) refl (λ d rest f. shallow d rest (ap (λ t. c ∷ t) f ∙ ap (λ t. t ∷ d ∷ rest) (is-byte c 60 a))) h
@@ -308,13 +308,13 @@ token-told n k (c ∷ w) front us opens begin text g e ok none shallow keeps wit
     | inr (b, y) ↦ elim (either-if (closes_section k c) _ _ _ _ y) [ inl h ↦ absurd h.1 | inr h ↦ absurd (none c (ap (λ x. x.token) (sym h.1.0))) ]
   ]
 ] where
-  after : (u : Turn) → step_turn (Content k) opens c ≡ On u → c < 128 → is_content u ≡ false → ((d : ℕ) (rest : List ℕ) → w ≡ d ∷ rest → Shallow (Inside u) opens d) → Takes (λ t c. step_turn t opens c) u w g
+  after : (u : RootState) → step_root (Content k) opens c ≡ On u → c < 128 → is_content u ≡ false → ((d : ℕ) (rest : List ℕ) → w ≡ d ∷ rest → Shallow (Inside u) opens d) → Takes (λ t c. step_root t opens c) u w g
       → Landed n (front ++ bytes_of (c ∷ w)) (us ++ ended_part text) (marks (length front) None) opens g
   after u d low calm first h =
       let few = few-of n front (encode_utf8 c) (bytes_of w) within in
       let made = ap (λ x. passed_over (not x) (marks begin text) (length (front ++ encode_utf8 c) - 1)) calm ∙ ap (λ x. (ended_part text, marks x None)) (omega (arith, length-append front (encode_utf8 c), ap length (encode_ascii c low))) in
       let one = more-told n front us (us ++ ended_part text) (Inside (Content k)) opens (marks begin text) c (Inside u) opens [] (ended_part text, marks (length front) None) e ok.0 (λ b bs z. shallow-mode (Inside (Content k)) opens b refl) (ap (inside_move opens) d) refl few.0 made refl in
-      subst (λ xs. Landed n xs (us ++ ended_part text) (marks (length front) None) opens g) (append_assoc front (encode_utf8 c) (bytes_of w)) (turn-told n w (front ++ encode_utf8 c) (us ++ ended_part text) u opens (marks (length front) None) g one ok.1 calm first keeps few.1 h)
+      subst (λ xs. Landed n xs (us ++ ended_part text) (marks (length front) None) opens g) (append_assoc front (encode_utf8 c) (bytes_of w)) (root_state-told n w (front ++ encode_utf8 c) (us ++ ended_part text) u opens (marks (length front) None) g one ok.1 calm first keeps few.1 h)
 
 -- before the root and behind it
 pub early-less : (e : Early) → begins_tag (mode_of e) ≡ false
@@ -336,11 +336,11 @@ module _ {M A : Type 0} (next : M → ℕ → Next M A) (mode : M → Mode) (mov
       subst (λ xs. Quiet n l xs us) (append_assoc front (encode_utf8 c) (bytes_of w)) (quiet-told n w k l (front ++ encode_utf8 c) us (x.0, one) ok.1 (rw d at s) few.1)) (λ a d. absurd (rw d at s))
 
 -- the root's start tag
-pub root-told : (n : ℕ) (e : Early) (w front : List ℕ) (us : List Part) (begin : ℕ) (g : Given) → Leads-root e → told_within n begin_telling front ≡ Ok (us, telling (reading [] (mode_of e) []) (marks begin None) (length front)) → Allowed w → breaks_rule [] (g.token ∷ []) ≡ false → length (front ++ bytes_of (60 ∷ w)) ≤ n → Takes (λ t c. step_turn t [] c) (StartTag Opened) w g
+pub root-told : (n : ℕ) (e : Early) (w front : List ℕ) (us : List Part) (begin : ℕ) (g : Given) → Leads-root e → told_within n begin_telling front ≡ Ok (us, telling (reading [] (mode_of e) []) (marks begin None) (length front)) → Allowed w → breaks_rule [] (g.token ∷ []) ≡ false → length (front ++ bytes_of (60 ∷ w)) ≤ n → Takes (λ t c. step_root t [] c) (StartTag Opened) w g
     → Landed n (front ++ bytes_of (60 ∷ w)) us (marks (length front) None) [] g
 root-told n e [] front us begin g l t ok keeps within s = absurd s
 root-told n e (x ∷ w) front us begin g l t ok keeps within s =
-    let u : Turn = StartTag (Name (name_begun x)) in
+    let u : RootState = StartTag (Name (name_begun x)) in
     let mid : List ℕ = front ++ encode_utf8 60 in
     let few = few-of n front (encode_utf8 60) (bytes_of (x ∷ w)) within in
     let fewer = few-of n mid (encode_utf8 x) (bytes_of w) few.1 in
@@ -352,7 +352,7 @@ root-told n e (x ∷ w) front us begin g l t ok keeps within s =
     let to : step (mode_of l.next) [] x ≡ To (Inside u) [] [] = step-is l.next [] x ∙ ap (λ y. root_or [] y x) (l.named x name) ∙ (rw name refl) in
     let two = more-told n mid us us (mode_of l.next) [] (marks (length front) None) x (Inside u) [] [] ([], marks (length front) None) one ok.0 (λ b bs z. shallow-mode (mode_of l.next) [] b (early-less l.next)) to refl fewer.0 made-name (append-nil us) in
     subst (λ xs. Landed n xs us (marks (length front) None) [] g) (append_assoc mid (encode_utf8 x) (bytes_of w) ∙ append_assoc front (encode_utf8 60) (bytes_of (x ∷ w)))
-    (turn-told n w (mid ++ encode_utf8 x) us u [] (marks (length front) None) g two ok.1 refl (λ c rest f b bs z. shallow-mode (Inside u) [] b refl) keeps fewer.1 (rw name at s))) (λ name. absurd (rw name at s))
+    (root_state-told n w (mid ++ encode_utf8 x) us u [] (marks (length front) None) g two ok.1 refl (λ c rest f b bs z. shallow-mode (Inside u) [] b refl) keeps fewer.1 (rw name at s))) (λ name. absurd (rw name at s))
 
 -- The characters of a literal text lead the reader of bytes on, and what it keeps of them is what the text says.
 

@@ -2,9 +2,9 @@
 -- One byte where content is: a character is whole, or a part of one, or the text is over. A text is open only there, and one that
 -- goes on behind what was given of it: its runs together are its one run.
 use Rattle.std.proofs.Common.{◌≡◌, ◌≢◌, ℕ, ◌+◌, ◌-◌, nat_le, Bool, true, false, cond, Option, Some, None, Result, Ok, Err, List, [], ◌∷◌, length, refl, sym, ap, subst, ◌∙◌, arith, ◌++◌, ◌==◌, ◌<◌, not, ◌&&◌, ◌⊎◌, inl, inr, append_assoc, encode_utf8}
-use Rattle.cds_markup.proofs.Terms.{INPUT_LIMIT, MarkupError, TooLong, Mem, Event, Marks, Part, Token, judge, Progress, passed_byte, begins, passed_over, completed, completed_as, marked, EndsSo, MarksSo, NextSo, Telling, telling, told_from, last_parts, Told, moved_on, judged_told, told_byte, told_on, cuts_text, last_part, behind_parts, told, ToldSo, listed, Puts, TakesAll as Takes, begin_telling, cases, ok-err, clash, unless_enough, nat_tests, encode_ascii, is_blank, Opened, Open, Turn, Content, Less, Reference, StartTag, Mode, Epilog, Inside, Misc, Next, On, Done, Step, any_at, Letter, Started, Slash, Given, tag_given, step_tag, start_step, step_turn, brackets_with, tag_says, scopes_in, Move, To, is_content, inside_move, epilog_move, misc_step, step, Reading, reading, may_begin, moved, go_on, byte_step, said_as, is_between, is_in_content, length-append, is_empty, told_within, Ampersand, closes_section, Gone, Stops, text_or, BeginsText, append-nil, OpenText, Run, refusal, marks, text_with, run_of, begun_text, or_here, rest_of, goes_on_as, ended_part, shown, or_then, InRuns, No-runs, A-part, More-text, Meanings, add_part, nested, RunsSay, and-both, and-no, both-no, empty-is, holds, Anything, is-byte, taken-if, by-test, some-is}
+use Rattle.cds_markup.proofs.Terms.{INPUT_LIMIT, MarkupError, TooLong, Mem, Event, Marks, Part, Token, judge, Progress, passed_byte, begins, passed_over, completed, completed_as, marked, EndsSo, MarksSo, NextSo, Telling, telling, told_from, last_parts, Told, moved_on, judged_told, told_byte, told_on, cuts_text, last_part, behind_parts, told, ToldSo, listed, Puts, TakesAll as Takes, begin_telling, cases, ok-err, clash, unless_enough, nat_tests, encode_ascii, is_blank, Opened, Open, RootState, Content, Less, Reference, StartTag, Mode, Epilog, Inside, Misc, Next, On, Done, Step, any_at, Letter, Started, Slash, Given, tag_given, step_tag, start_step, step_root, brackets_with, tag_says, scopes_in, Move, To, is_content, inside_move, epilog_move, misc_step, step, Reading, reading, may_begin, moved, go_on, byte_step, said_as, is_between, is_in_content, length-append, is_empty, told_within, Ampersand, closes_section, Gone, Nowhere, text_or, BeginsText, append-nil, OpenText, Run, refusal, marks, text_with, run_of, begun_text, or_here, rest_of, goes_on_as, ended_part, shown, or_then, InRuns, No-runs, A-part, More-text, Meanings, add_part, nested, RunsSay, and-both, and-no, both-no, empty-is, holds, Anything, is-byte, taken-if, by-test, some-is}
 use Rattle.cds_markup.proofs.GoingOn.{next, same-err, result-by, Reached, done, some-same, two-bytes, Unfinished, reached-nothing, taken, option-by, judged-so}
-use Rattle.cds_markup.proofs.Placing.{WellMode, no-blank, InMode, Mid, turn-mid, Quiet, QuietGiven, tag-quiet}
+use Rattle.cds_markup.proofs.Placing.{WellMode, no-blank, InMode, Mid, root_state-mid, Quiet, QuietGiven, tag-quiet}
 use Rattle.cds_markup.proofs.Standing.{last-same}
 use Rattle.cds_markup.proofs.Ways.{Early, early_next, root_or, step-is, leads-any}
 use Rattle.cds_markup.proofs.TokenTold.{told-append, behind-none, parts-at, parts-behind, told-keeps}
@@ -138,13 +138,13 @@ abbrev QuietMove : Move → Type 0
 QuietMove (To mode opens us) = Quiets us
 QuietMove other = Unit {0}
 
-quiet-inside : (on : Turn → Type 0) (opens : List Open) (next : Next Turn Given) → holds next on QuietGiven → QuietMove (inside_move opens next)
+quiet-inside : (on : RootState → Type 0) (opens : List Open) (next : Next RootState Given) → holds next on QuietGiven → QuietMove (inside_move opens next)
 quiet-inside on opens (Done g) h = h
 quiet-inside on opens other h = tt
 
 quiet-step : (mode : Mode) (opens : List Open) (text : List ℕ) (c : ℕ) → InMode mode opens text → is_in_content mode ≡ false → QuietMove (step mode opens c)
 quiet-step (Inside (Content n)) opens text c i e = absurd (cc)
-quiet-step (Inside other) opens text c i e = quiet-inside (Mid other c) opens (step_turn other opens c) (turn-mid other opens c)
+quiet-step (Inside other) opens text c i e = quiet-inside (Mid other c) opens (step_root other opens c) (root_state-mid other opens c)
 quiet-step (Epilog m) opens text c i e = by (misc_step m c) where
   by : (next : Next Misc (Unit {0})) → QuietMove (epilog_move opens next)
   by (On m) = tt
@@ -175,7 +175,7 @@ quiet-byte front r b s us q e f = elim (byte-ways r b s us q.unfinished f) [
   | inr (u, d, is) ↦ (subst Quiets (sym d) tt, ap cuts_text is ∙ ap (λ t. t && not (is_empty (r.begun ++ b ∷ []))) e)
 ] where
   move : (v : Move) → QuietMove v → moved v ≡ Some (s, us) → Quiets us × (cuts_text s ≡ false)
-  move Stops h d = absurd (cc)
+  move Nowhere h d = absurd (cc)
   move (To mode opens xs) h d = let same = some-same (reading [] mode opens) s xs us d in (subst Quiets same.1 h, ap cuts_text (sym same.0) ∙ and-no (is_in_content mode))
 
 -- what content is
@@ -204,7 +204,7 @@ content-byte front begun k o outer b s us q f = elim (byte-ways (reading begun (
       (λ x. let same = some-same (reading [] (Inside (Content (brackets_with k c))) (o ∷ outer)) s (Letter c ∷ []) us (rw (m, n, x) at d) in inl (c, brackets_with k c, sym same.1, sym same.0, e))))
   | inr h ↦ inr (inl (h.1, h.2, h.0))
 ] where
-  over : (c : ℕ) (u : Turn) → is_content u ≡ false → begun ++ b ∷ [] ≡ encode_utf8 c → c < 128 → (c ≡ 60) ⊎ (c ≡ 38) → ◌≡◌ {A = Gone} (Some (reading [] (Inside u) (o ∷ outer), [])) (Some (s, us)) → OverCase (reading begun (Inside (Content k)) (o ∷ outer)) b s us
+  over : (c : ℕ) (u : RootState) → is_content u ≡ false → begun ++ b ∷ [] ≡ encode_utf8 c → c < 128 → (c ≡ 60) ⊎ (c ≡ 38) → ◌≡◌ {A = Gone} (Some (reading [] (Inside u) (o ∷ outer), [])) (Some (s, us)) → OverCase (reading begun (Inside (Content k)) (o ∷ outer)) b s us
   over c u apart e low sign d =
       let same = some-same (reading [] (Inside u) (o ∷ outer)) s [] us d in
       let one = last-same begun b [] c (e ∙ encode_ascii c low) in
@@ -220,7 +220,7 @@ pub none-begun : (r : Reading) → r.begun ≡ [] → cuts_text r ≡ false
 none-begun r e = ap (λ xs. is_in_content r.mode && not (is_empty xs)) e ∙ and-no (is_in_content r.mode)
 
 content-between : (mode : Mode) → is_in_content mode ≡ true → is_between mode ≡ true
-content-between (Inside turn) e = e
+content-between (Inside root_state) e = e
 content-between other e = absurd (cc)
 
 over : (r s : Reading) → is_in_content r.mode ≡ true → is_between s.mode ≡ false → begins r s ≡ true
@@ -250,11 +250,11 @@ calm-step front p b s ts q place calm goes = cases (is_in_content p.read.mode) (
   took : byte_step p.read b ≡ Some (s, ts)
   took = (judged-so front p.read b [] q s ts goes).1
 
-  apart : (x : ℕ) (turn : Turn) → ((k : ℕ) (os : List Open) → byte_step (reading [] (Inside (Content k)) os) x ≡ Some (reading [] (Inside turn) os, [])) → is_content turn ≡ false → is_in_content p.read.mode ≡ true → p.read.begun ≡ [] → is_in_content s.mode ≡ true → b ≢ x
-  apart x turn steps none e z h is =
+  apart : (x : ℕ) (root_state : RootState) → ((k : ℕ) (os : List Open) → byte_step (reading [] (Inside (Content k)) os) x ≡ Some (reading [] (Inside root_state) os, [])) → is_content root_state ≡ false → is_in_content p.read.mode ≡ true → p.read.begun ≡ [] → is_in_content s.mode ≡ true → b ≢ x
+  apart x root_state steps none e z h is =
       let f = content-form front p.read q e in
       let leads = sym took ∙ ap (λ r. byte_step r b) f.3 ∙ ap (λ xs. byte_step (reading xs (Inside (Content f.0)) (f.1 ∷ f.2)) b) z ∙ ap (byte_step (reading [] (Inside (Content f.0)) (f.1 ∷ f.2))) is ∙ steps f.0 (f.1 ∷ f.2) in
-      clash h (ap (λ x. is_in_content x.mode) (some-same s (reading [] (Inside turn) (f.1 ∷ f.2)) ts [] leads).0 ∙ none)
+      clash h (ap (λ x. is_in_content x.mode) (some-same s (reading [] (Inside root_state) (f.1 ∷ f.2)) ts [] leads).0 ∙ none)
 
   still : Calm front p → is_in_content p.read.mode ≡ true → is_in_content s.mode ≡ true → (text_or (p.at - length p.read.begun) p.marks.text).at ≡ (text_or (p.at + 1 - length s.begun) (marked p.read p.marks p.at s ts).1.text).at → Calm (front ++ b ∷ []) (telling s (marked p.read p.marks p.at s ts).1 (p.at + 1))
   still (inr (d, begun)) e h same = inr (h, subst (BeginsText (front ++ b ∷ [])) same (begins-more front (b ∷ []) (text_or (p.at - length p.read.begun) p.marks.text).at begun))

@@ -1,7 +1,7 @@
 -- One construct of a document behind another: the start tags that are open behind them, the parts so far, and that the reader of bytes
 -- gives them.
 use Rattle.std.proofs.Common.{◌==◌, ◌≡◌, ℕ, ◌+◌, ◌<◌, ◌≤◌, Bool, true, false, ◌&&◌, Some, List, [], ◌∷◌, ◌++◌, length, refl, sym, ap, subst, ◌∙◌, arith, append_assoc, ◌⊎◌, inl, inr, Option, None, cond, ◌-◌, Ok, codes, map}
-use Rattle.cds_markup.proofs.Terms.{begins_tag, Grammar-content, TextCut, cases_lt, append-nil, length-append, begins_name, Attr, Part, Start, End, Tag, Leaf, Tree, EmptyElement, Full, Nothing, LeafThen, TreeThen, is_text, begins_with_text, IsLeaf, IsStartTag, IsEndTag, IsProlog, IsTag, IsTree, IsContent, tag_says, most_open, depth, depths, scopes_of, Opens, TagEnds, leaf_parts, TreeParts, ContentParts, OpensParts, RootEnds, Character, IsBegun, IsPlain, PartsTo, Run, SlashEnds, ends_with_text, first_non_blank, line_ends, nat_tests, is_blank, Empty, Marks, OpenText, Blanks, Content, Less, Inside, Epilog, Open, Mode, Without, contains, is_in_text, Text, is_empty, ends_tag, Token, Letter, Slash, Shut, Ended, Given, given, opened, tag_given, reading, may_begin_name, scopes_in, is_deep, is_missing, breaks_rule, if_said, said_as, marks, ended_part, completed_as, text_or, ended_text, is_in_content, last_part, Slashed as Slash-turn, Telling, telling, begin_telling, told_within, last_parts, Reading, MarkupError, Refuses, Stop, TooLong, refusal, length-map, by-test, and-no, heads, and-so, apart, Grammar-reference as Reference, Then}
+use Rattle.cds_markup.proofs.Terms.{begins_tag, Grammar-content, TextCut, cases_lt, append-nil, length-append, begins_name, Attr, Part, Start, End, Tag, Leaf, Tree, EmptyElement, Full, Nothing, LeafThen, TreeThen, is_text, begins_with_text, IsLeaf, IsStartTag, IsEndTag, IsProlog, IsTag, IsTree, IsContent, tag_says, most_open, depth, depths, scopes_of, Opens, TagEnds, leaf_parts, TreeParts, ContentParts, OpensParts, RootEnds, Character, IsBegun, IsPlain, PartsTo, Run, SlashEnds, ends_with_text, first_non_blank, line_ends, nat_tests, is_blank, Empty, Marks, OpenText, Blanks, Content, Less, Inside, Epilog, Open, Mode, Without, contains, is_in_text, Text, is_empty, ends_tag, Token, Letter, Slash, Shut, Ended, Given, given, opened, tag_given, reading, may_begin_name, scopes_in, is_deep, is_missing, breaks_rule, if_said, said_as, marks, ended_part, completed_as, text_or, ended_text, is_in_content, last_part, Slashed as Slash-root_state, Telling, telling, begin_telling, told_within, last_parts, Reading, MarkupError, Refuses, MachineError, TooLong, refusal, length-map, by-test, and-no, heads, and-so, apart, Grammar-reference as Reference, Then}
 use Rattle.cds_markup.specs.declared.name.Name.{Name}
 use Rattle.cds_markup.specs.declared.tag.Declaration.{Declaration}
 use Rattle.cds_markup.proofs.TagForms.{IsClosed}
@@ -12,7 +12,7 @@ use Rattle.cds_markup.proofs.GoingOn.{option-by, NoneBefore, scopes-are, CauseAt
 use Rattle.cds_markup.specs.declared.event.Event.TheVariants.{Start as Began}
 use Rattle.cds_markup.proofs.ScanForms.{without-word, clean, state, word-without, characters-are, wide-open}
 use Rattle.cds_markup.proofs.Alive.{in-text}
-use Rattle.cds_markup.proofs.TokenTold.{shallow-mode, turn-told, token-told, early-less, quiet-told, root-told, letters-told, IsRead, blank-behind, Stopped, told-ends, text-part, text-so, front-told, Landed, Lettered, came-so}
+use Rattle.cds_markup.proofs.TokenTold.{shallow-mode, root_state-told, token-told, early-less, quiet-told, root-told, letters-told, IsRead, blank-behind, Stopped, told-ends, text-part, text-so, front-told, Landed, Lettered, came-so}
 use Rattle.cds_markup.proofs.Placing.{no-blank, is_to}
 
 -- before the root, inside an element with or without a literal text right before, behind the root, behind the `/` of an
@@ -433,7 +433,7 @@ module _ (whole : List ℕ) (most : ℕ) (none : NoneBefore whole most) where
 
 -- what stops the reader is a cause at the byte, whatever comes behind
 pub cause-so : (n : ℕ) (w : List ℕ) (x : List Part × MarkupError) (s : Stopped n begin_telling w x) (more : List ℕ)
-    → ((n ≤ length s.front) × (x.1 ≡ TooLong)) ⊎ ((length s.front < n) × (stop : Stop) × CauseAt stop (s.front ++ s.byte ∷ more) (length s.front) × (x.1 ≡ refusal stop (length s.front)))
+    → ((n ≤ length s.front) × (x.1 ≡ TooLong)) ⊎ ((length s.front < n) × (stop : MachineError) × CauseAt stop (s.front ++ s.byte ∷ more) (length s.front) × (x.1 ≡ refusal stop (length s.front)))
 cause-so n w x s more =
     let c = came-so n s.front s.us s.at s.told in
     elim s.cause [
@@ -484,7 +484,7 @@ ToldAt n Outside tags front parts = Leading n front parts × (tags ≡ [])
 ToldAt n (Within false) tags front parts = Late n (Inside (Content 0)) (map opened tags) front parts
 ToldAt n (Within true) tags front parts = Between n (map opened tags) front parts
 ToldAt n Behind tags front parts = Late n (Epilog Blanks) [] front parts
-ToldAt n Slashed tags front parts = (s : Late n (Inside Slash-turn) (map opened tags) front parts) × (s.begin + 1 ≡ length front)
+ToldAt n Slashed tags front parts = (s : Late n (Inside Slash-root_state) (map opened tags) front parts) × (s.begin + 1 ≡ length front)
 ToldAt n Halved tags front parts = Gives n front parts
 
 between : (n : ℕ) (b : Bool) (tags : List Tag) (front : List ℕ) (parts : List Part) → ToldAt n (Within b) tags front parts → Between n (map opened tags) front parts
@@ -620,7 +620,7 @@ grow-told n earlier (Tags {tag} {tags} {before} {bytes} w empty name attrs end k
   last : length (before ++ bytes) - 1 ≡ end
   last = omega (arith, length-append before bytes, place)
 
-  slashed : (opens : List Open) → landing (given (Slash tag) opens Slash-turn) ≡ Inside Slash-turn
+  slashed : (opens : List Open) → landing (given (Slash tag) opens Slash-root_state) ≡ Inside Slash-root_state
   slashed [] = refl
   slashed (o ∷ outer) = refl
 
@@ -630,12 +630,12 @@ grow-told n earlier (Tags {tag} {tags} {before} {bytes} w empty name attrs end k
       record { begin = length before; told = ends-told n before bytes earlier opens (tag_given opens (tag, 62)) (first ∷ [], marks (length before) None) r (ap (λ o. completed_as (marks (length before) None) (length (before ++ bytes) - 1) r.0 (if_said Began o)) says ∙ ap (λ x. (Start (length before) x name attrs ∷ [], marks (length before) None)) last) }
   by true p =
       let r = tag-ends n w tags before bytes earlier tag true p k at (ap is_missing says) keeps.room within (λ c d. absurd (cc)) refl in
-      let told = ends-told n before bytes earlier opens (given (Slash tag) opens Slash-turn) (first ∷ [], marks end None) r (ap (λ o. completed_as (marks (length before) None) (length (before ++ bytes) - 1) r.0 (if_said Empty o)) says ∙ ap (λ x. (Start (length before) x name attrs ∷ [], marks x None)) last) in
+      let told = ends-told n before bytes earlier opens (given (Slash tag) opens Slash-root_state) (first ∷ [], marks end None) r (ap (λ o. completed_as (marks (length before) None) (length (before ++ bytes) - 1) r.0 (if_said Empty o)) says ∙ ap (λ x. (Start (length before) x name attrs ∷ [], marks x None)) last) in
       (record { begin = end; told = told ∙ ap (λ x. Ok (earlier ++ first ∷ [], telling (reading [] x opens) (marks end None) (length (before ++ bytes)))) (slashed opens) }, place ∙ sym (length-append before bytes))
 grow-told n earlier (Shuts {tags} {before} end place) tr (s, at) within =
     let opens : List Open = map opened tags in
     let whole : before ++ 62 ∷ [] ≡ before ++ bytes_of (62 ∷ []) = ap (λ xs. before ++ xs) (sym (plain-bytes (62 ∷ []) (omega arith, tt))) in
-    let r = turn-told n (62 ∷ []) before earlier Slash-turn opens (marks s.begin None) (given Shut opens (Content 0)) s.told (refl, tt) refl (λ c rest f b bs z. shallow-mode (Inside Slash-turn) opens b refl) refl (subst (λ xs. length xs ≤ n) whole within) (refl, refl) in
+    let r = root_state-told n (62 ∷ []) before earlier Slash-root_state opens (marks s.begin None) (given Shut opens (Content 0)) s.told (refl, tt) refl (λ c rest f b bs z. shallow-mode (Inside Slash-root_state) opens b refl) refl (subst (λ xs. length xs ≤ n) whole within) (refl, refl) in
     subst (λ x. ToldAt n (behind tags) tags (before ++ 62 ∷ []) (earlier ++ End x ∷ [])) (omega (arith, at, place))
     (over-told n tags (before ++ 62 ∷ []) (earlier ++ End s.begin ∷ []) s.begin (subst (λ xs. told_within n begin_telling xs ≡ Ok (earlier ++ End s.begin ∷ [], telling (reading [] (landing (given Ended opens (Content 0))) opens) (marks s.begin None) (length xs))) (sym whole) r.1))
 grow-told n earlier (Leaves {tag} {outer} {before} {bytes} b (Text text) h apart) tr at within =
@@ -678,7 +678,7 @@ place-gives n (Within b) tags front parts at =
     let s = between n b tags front parts at in
     record { us = s.us; at = telling (reading [] (Inside (Content s.count)) (map opened tags)) (marks s.begin s.text) (length front); told = s.told; is = s.is }
 place-gives n Behind tags front parts s = record { us = parts; at = telling (reading [] (Epilog Blanks) []) (marks s.begin None) (length front); told = s.told; is = sym (append-nil parts) }
-place-gives n Slashed tags front parts (s, at) = record { us = parts; at = telling (reading [] (Inside Slash-turn) (map opened tags)) (marks s.begin None) (length front); told = s.told; is = sym (append-nil parts) }
+place-gives n Slashed tags front parts (s, at) = record { us = parts; at = telling (reading [] (Inside Slash-root_state) (map opened tags)) (marks s.begin None) (length front); told = s.told; is = sym (append-nil parts) }
 place-gives n Halved tags front parts s = s
 
 pub gives : (n : ℕ) (front : List ℕ) (parts : List Part) → PartsTo front parts → length front ≤ n → Gives n front parts

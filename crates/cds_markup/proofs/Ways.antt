@@ -1,6 +1,6 @@
 -- Characters in bytes, forms that say the same of the same bytes, which form a machine reads, and where its words lead.
 use Rattle.std.proofs.Common.{◌≡◌, ◌==◌, ℕ, zero, suc, ◌<◌, ◌≤◌, ◌⊎◌, inl, inr, Bool, true, false, cond, Option, Some, None, List, [], ◌∷◌, ◌++◌, length, refl, sym, ap, subst, ◌∙◌, arith, append_assoc, encode_utf8, codes, nat_lt, ◌&&◌}
-use Rattle.cds_markup.proofs.Terms.{nat_tests, append-nil, length-append, encode_ascii, is_allowed, is_blank, is_any, Next, Stuck, On, Done, leads, comes, Byte, Character, Word, Then, Says, Many, Maybe, IsBlanks, IsSpace, IsEquals, Stops, begins_name, Open, Declaring, Xml, Misc, Blanks, MiscLess, Mode, Begin, Marked, First, Declaration, Prolog, step_declaration, Move, To, misc_step, root_move, prolog_move, marked_move, step, Turn, Inside, Epilog, Given, step_turn, is_over, is_behind, byte_order_mark, any_at, no-cons, cases, and-first, and-second, is-byte}
+use Rattle.cds_markup.proofs.Terms.{nat_tests, append-nil, length-append, encode_ascii, is_allowed, is_blank, is_any, Next, Stuck, On, Done, leads, comes, Byte, Character, Word, Then, Says, Many, Maybe, IsBlanks, IsSpace, IsEquals, Nowhere, begins_name, Open, DeclarationState, Xml, Misc, Blanks, MiscLess, Mode, Begin, Marked, First, Declaration, Prolog, step_declaration, Move, To, misc_step, root_move, prolog_move, marked_move, step, RootState, Inside, Epilog, Given, step_root, is_over, is_behind, byte_order_mark, any_at, no-cons, cases, and-first, and-second, is-byte}
 use Rattle.cds_markup.proofs.Decoded.{encode-three, ok_same, decodes, encoded}
 pub use Rattle.cds_markup.proofs.Terms.{next-by, cases, Enters, Takes, Steps, steps-then, is-byte, same-byte, taken-if, and-both, and-first, and-second, clash, either-if, only-if, some-is, heads, by-test, takes-then, no-cons, steps-done, and-no, takes-last, holds, holds-if, holds-named, leads-any, Anything, steps-on, none-behind, empty-is, ok-err, holds-leads}
 
@@ -401,7 +401,7 @@ pub data Early : Type 0 where
   AtBegin : Early
   AtMarked : Early
   AtFirst : Early
-  InDeclaration : Declaring → Early
+  InDeclaration : DeclarationState → Early
   InProlog : Misc → Early
 
 abbrev pub mode_of : Early → Mode
@@ -427,7 +427,7 @@ early_next (InProlog m) c = misc_next m c
 
 -- the move
 abbrev pub root_or : List Open → Next Early (Unit {0}) → ℕ → Move
-root_or opens Stuck c = Stops
+root_or opens Stuck c = Nowhere
 root_or opens (On e) c = To (mode_of e) opens []
 root_or opens (Done u) c = root_move opens c
 
@@ -451,7 +451,7 @@ Place = Mode × List Open
 
 -- where a character leads
 abbrev pub place : Move → Next Place (Unit {0})
-place Stops = Stuck
+place Nowhere = Stuck
 place (To mode opens us) = On (mode, opens)
 
 abbrev pub P : Place → ℕ → Next Place (Unit {0})
@@ -471,7 +471,7 @@ steps-behind step (c ∷ v) w m l n s t = next-by (step m c) (λ e. absurd (rw e
 
 -- a whole token
 abbrev pub landing : Given → Mode
-landing g = cond (is_over g.opens g.turn) (Epilog Blanks) (Inside g.turn)
+landing g = cond (is_over g.opens g.root_state) (Epilog Blanks) (Inside g.root_state)
 
-pub takes-run : (w : List ℕ) (start : Turn) (opens : List Open) (g : Given) → Takes (λ t c. step_turn t opens c) start w g → Runs (Inside start) opens w (landing g) g.opens
-takes-run w start opens g t = takes-on (λ t c. step_turn t opens c) P (λ turn. (Inside turn, opens)) (λ g. On (landing g, g.opens)) (λ turn c. next-by (step_turn turn opens c) (λ e. rw e refl) (λ n e. rw e refl) (λ g e. rw e refl)) w start g (landing g, g.opens) refl t
+pub takes-run : (w : List ℕ) (start : RootState) (opens : List Open) (g : Given) → Takes (λ t c. step_root t opens c) start w g → Runs (Inside start) opens w (landing g) g.opens
+takes-run w start opens g t = takes-on (λ t c. step_root t opens c) P (λ root_state. (Inside root_state, opens)) (λ g. On (landing g, g.opens)) (λ root_state c. next-by (step_root root_state opens c) (λ e. rw e refl) (λ n e. rw e refl) (λ g e. rw e refl)) w start g (landing g, g.opens) refl t

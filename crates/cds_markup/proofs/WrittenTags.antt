@@ -14,7 +14,7 @@ use Rattle.cds_markup.proofs.NodesForm.{is-some, and-joined-more, and-joined-non
 use Rattle.cds_markup.proofs.Ways.{then-of, no-blanks}
 use Rattle.cds_markup.proofs.TagForms.{and-behind}
 use Rattle.cds_markup.proofs.Decoded.{encoded}
-use Rattle.cds_base.specs.Unescape.{AreAllowed}
+use Rattle.cds_base.specs.Characters.{AreAllowed}
 use Rattle.cds_base.proofs.Escapes.{kept_char}
 
 -- among what is written no byte ends a section or is a carriage return

@@ -3,19 +3,19 @@
 use Rattle.std.specs.Prelude.{◌==◌, ℕ, ◌+◌, nat_lt, Bool, true, false, ◌&&◌, if◌then◌else◌, Option, Some, None, Result, Ok, Err, List, [], ◌∷◌, ◌++◌, drop, length, map, take}
 use Rattle.cds_base.specs.declared.limits.TheConstants.{INPUT_LIMIT}
 use Rattle.cds_base.specs.Characters.{begins_name}
-use Rattle.cds_markup.specs.declared.error.Stop.{Stop}
-use Rattle.cds_markup.specs.declared.error.Stop.TheVariants.{Broken, NamespaceRule, Deep, Mem as OutOfMemory}
+use Rattle.cds_markup.specs.declared.error.MachineError.{MachineError}
+use Rattle.cds_markup.specs.declared.error.MachineError.TheVariants.{Broken, NamespaceRule, Deep, Mem as OutOfMemory}
 use Rattle.cds_markup.specs.declared.error.MarkupError.{MarkupError}
 use Rattle.cds_markup.specs.declared.error.MarkupError.TheVariants.{Bad, TooDeep, TooLong, Mem}
-use Rattle.cds_markup.specs.declared.mode.Referring.{Referring}
-use Rattle.cds_markup.specs.declared.mode.Tagging.{Tagging}
-use Rattle.cds_markup.specs.declared.mode.Attributing.{Attributing}
-use Rattle.cds_markup.specs.declared.mode.Attributing.TheVariants.{AttrName, Value}
-use Rattle.cds_markup.specs.declared.mode.Tagging.TheVariants.{Opened, Name as TagName, Spaced, Attribute}
+use Rattle.cds_markup.specs.declared.mode.ReferenceState.{ReferenceState}
+use Rattle.cds_markup.specs.declared.mode.StartTagState.{StartTagState}
+use Rattle.cds_markup.specs.declared.mode.AttributeState.{AttributeState}
+use Rattle.cds_markup.specs.declared.mode.AttributeState.TheVariants.{AttrName, Value}
+use Rattle.cds_markup.specs.declared.mode.StartTagState.TheVariants.{Opened, Name as TagName, Spaced, Attribute}
 use Rattle.cds_markup.specs.declared.mode.Misc.{Misc}
 use Rattle.cds_markup.specs.declared.mode.Misc.TheVariants.{Blanks, MiscLess, MiscComment}
-use Rattle.cds_markup.specs.declared.mode.Turn.{Turn}
-use Rattle.cds_markup.specs.declared.mode.Turn.TheVariants.{Content, Less, Comment, Cdata, Section, StartTag, EndTag}
+use Rattle.cds_markup.specs.declared.mode.RootState.{RootState}
+use Rattle.cds_markup.specs.declared.mode.RootState.TheVariants.{Content, Less, Comment, Cdata, Section, StartTag, EndTag}
 use Rattle.cds_markup.specs.declared.mode.Mode.{Mode}
 use Rattle.cds_markup.specs.declared.mode.Mode.TheVariants.{Begin, First, Prolog, Inside, Epilog}
 use Rattle.cds_markup.specs.declared.tag.Open.{Open}
@@ -25,9 +25,9 @@ use Rattle.cds_markup.specs.declared.name.Attr.{Attr}
 use Rattle.cds_markup.specs.Grammar.{byte_order_mark, name_bytes}
 use Rattle.cds_markup.specs.Namespaces.{is_empty, tag_says}
 use Rattle.cds_markup.specs.Document.{most_open}
-use Rattle.cds_markup.specs.Decoding.{Step, any_at, is_within}
-use Rattle.cds_markup.specs.Turns.{Token, Started, Slash, begins_with}
-use Rattle.cds_markup.specs.Wholes.{Move, Stop as Stops, To, step}
+use Rattle.cds_markup.specs.Utf8.{Step, any_at, is_within}
+use Rattle.cds_markup.specs.Root.{Token, Started, Slash, begins_with}
+use Rattle.cds_markup.specs.Wholes.{Move, Nowhere, To, step}
 
 -- What is read so far: the first bytes of a character that is not whole yet, the state after the whole ones, and the open
 -- elements.
@@ -40,30 +40,30 @@ abbrev pub reading : List ℕ → Mode → List Open → Reading
 reading begun mode opens = record { begun = begun; mode = mode; opens = opens }
 
 -- Whether characters of more than one byte may stand in a state. Either all of them may, or none.
-abbrev pub is_none : Option Referring → Bool
+abbrev pub is_none : Option ReferenceState → Bool
 is_none None = true
 is_none (Some r) = false
 
-abbrev pub wide_attr : Attributing → Bool
+abbrev pub wide_attr : AttributeState → Bool
 wide_attr (AttrName n) = true
 wide_attr (Value q v) = is_none v.reference
 wide_attr other = false
 
-abbrev pub wide_tag : Tagging → Bool
+abbrev pub wide_tag : StartTagState → Bool
 wide_tag Opened = true
 wide_tag (TagName n) = true
 wide_tag (Spaced tag) = true
 wide_tag (Attribute tag m) = wide_attr m
 wide_tag other = false
 
-abbrev pub wide_turn : Turn → Bool
-wide_turn (Content brackets) = true
-wide_turn Less = true
-wide_turn (Comment dashes) = nat_lt dashes 2
-wide_turn (Cdata left) = length left == 0
-wide_turn (Section brackets text) = true
-wide_turn (StartTag t) = wide_tag t
-wide_turn other = false
+abbrev pub wide_root : RootState → Bool
+wide_root (Content brackets) = true
+wide_root Less = true
+wide_root (Comment dashes) = nat_lt dashes 2
+wide_root (Cdata left) = length left == 0
+wide_root (Section brackets text) = true
+wide_root (StartTag t) = wide_tag t
+wide_root other = false
 
 abbrev pub wide_misc : Bool → Misc → Bool
 wide_misc before MiscLess = before
@@ -73,7 +73,7 @@ wide_misc before other = false
 abbrev pub takes_wide : Mode → Bool
 takes_wide First = true
 takes_wide (Prolog m) = wide_misc true m
-takes_wide (Inside turn) = wide_turn turn
+takes_wide (Inside root_state) = wide_root root_state
 takes_wide (Epilog m) = wide_misc false m
 takes_wide other = false
 
@@ -82,13 +82,13 @@ abbrev pub end_begins : ℕ → List Open → List ℕ → Bool
 end_begins n [] bytes = false
 end_begins n (innermost ∷ outer) bytes = begins_with (drop n (name_bytes innermost.name)) bytes
 
-abbrev pub turn_begins : Turn → List Open → List ℕ → Bool
-turn_begins (EndTag n) opens bytes = end_begins n opens bytes
-turn_begins turn opens bytes = wide_turn turn
+abbrev pub root_begins : RootState → List Open → List ℕ → Bool
+root_begins (EndTag n) opens bytes = end_begins n opens bytes
+root_begins root_state opens bytes = wide_root root_state
 
 abbrev pub may_begin : Mode → List Open → List ℕ → Bool
 may_begin Begin opens bytes = begins_with byte_order_mark bytes
-may_begin (Inside turn) opens bytes = turn_begins turn opens bytes
+may_begin (Inside root_state) opens bytes = root_begins root_state opens bytes
 may_begin mode opens bytes = takes_wide mode
 
 -- What a byte leads to by the grammar alone.
@@ -96,7 +96,7 @@ abbrev pub Goes : Type 0
 Goes = Option (Reading × List Token)
 
 abbrev pub moved : Move → Goes
-moved Stops = None
+moved Nowhere = None
 moved (To mode opens tokens) = Some (reading [] mode opens, tokens)
 
 abbrev pub go_on : Mode → List Open → List ℕ → Step ℕ → Goes
@@ -131,18 +131,18 @@ breaks_rule opens (Started tag ∷ more) = is_missing (tag_says (scopes_in opens
 breaks_rule opens (Slash tag ∷ more) = is_missing (tag_says (scopes_in opens) tag)
 breaks_rule opens other = false
 
-abbrev pub judged : List Open → Goes → Result (Reading × List Token) Stop
+abbrev pub judged : List Open → Goes → Result (Reading × List Token) MachineError
 judged opens None = Err Broken
 judged opens (Some found) = if breaks_rule opens found.1 then Err NamespaceRule else Ok found
 
-abbrev pub judge : Reading → ℕ → Result (Reading × List Token) Stop
+abbrev pub judge : Reading → ℕ → Result (Reading × List Token) MachineError
 judge r b = if is_deep r b then Err Deep else judged r.opens (byte_step r b)
 
 -- All bytes up to the first that stops the run.
 abbrev pub Ran : Type 0
-Ran = Result Reading (Stop × ℕ)
+Ran = Result Reading (MachineError × ℕ)
 
-abbrev pub ran_on : Result (Reading × List Token) Stop → ℕ → (Reading → Ran) → Ran
+abbrev pub ran_on : Result (Reading × List Token) MachineError → ℕ → (Reading → Ran) → Ran
 ran_on (Err stop) at next = Err (stop, at)
 ran_on (Ok found) at next = next found.0
 
@@ -166,7 +166,7 @@ abbrev pub may_end : Reading → Bool
 may_end r = is_empty r.begun && is_behind r.mode
 
 -- What any bytes are answered.
-abbrev pub refusal : Stop → ℕ → MarkupError
+abbrev pub refusal : MachineError → ℕ → MarkupError
 refusal Deep at = TooDeep at
 refusal OutOfMemory at = Mem
 refusal stop at = Bad at

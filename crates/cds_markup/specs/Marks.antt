@@ -3,7 +3,7 @@ use Rattle.std.specs.Prelude.{◌≡◌, ◌==◌, ℕ, ◌+◌, ◌-◌, Bool, 
 use Rattle.cds_base.specs.declared.limits.TheConstants.{INPUT_LIMIT}
 use Rattle.cds_base.specs.declared.mem.Mem.{Mem}
 use Rattle.cds_base.specs.Characters.{is_blank}
-use Rattle.cds_markup.specs.declared.error.Stop.{Stop}
+use Rattle.cds_markup.specs.declared.error.MachineError.{MachineError}
 use Rattle.cds_markup.specs.declared.event.Event.{Event}
 use Rattle.cds_markup.specs.declared.event.Event.TheVariants.{Letter, Referred, Section, Comment, Start as Began, Empty, Shut, End as Over}
 use Rattle.cds_markup.specs.declared.marks.Marks.{Marks}
@@ -15,7 +15,7 @@ use Rattle.cds_markup.specs.declared.part.Part.{Part}
 use Rattle.cds_markup.specs.declared.part.Part.TheVariants.{Start, End, Run}
 use Rattle.cds_markup.specs.Namespaces.{is_empty}
 use Rattle.cds_markup.specs.Document.{line_ends}
-use Rattle.cds_markup.specs.Turns.{Token}
+use Rattle.cds_markup.specs.Root.{Token}
 use Rattle.cds_markup.specs.Wholes.{is_content}
 use Rattle.cds_markup.specs.Bytes.{Reading, judge, nothing_read}
 use Rattle.cds_markup.specs.Reads.{said_as}
@@ -25,7 +25,7 @@ abbrev pub is_between : Mode → Bool
 is_between Begin = true
 is_between Marked = true
 is_between (Prolog Blanks) = true
-is_between (Inside turn) = is_content turn
+is_between (Inside root_state) = is_content root_state
 is_between other = false
 
 -- A literal text so far: its place, the place of its first character that is not white space, what it says, and whether a
@@ -82,7 +82,7 @@ goes_on_as cut first None = if cut then Some (open_text first) else None
 
 -- What the end of what is read makes of the open text. The first bytes of a character may stand after it.
 abbrev pub is_in_content : Mode → Bool
-is_in_content (Inside turn) = is_content turn
+is_in_content (Inside root_state) = is_content root_state
 is_in_content other = false
 
 abbrev pub cuts_text : Reading → Bool
@@ -120,7 +120,7 @@ marked r m at s [] = passed_over (begins r s) m at
 marked r m at s (t ∷ ts) = completed_as m at (at - length r.begun) (said_as r.opens t)
 
 -- All bytes up to the first that stops it.
-abbrev pub given_on : List Part → Result (Reading × List Token) Stop → (Reading × List Token → List Part) → List Part
+abbrev pub given_on : List Part → Result (Reading × List Token) MachineError → (Reading × List Token → List Part) → List Part
 given_on ending (Err stop) next = ending
 given_on ending (Ok found) next = next found
 

@@ -2,8 +2,8 @@
 -- nothing.
 use Rattle.std.specs.Prelude.{◌≡◌, ℕ, ◌+◌, nat_le, true, false, if◌then◌else◌, Option, Some, None, Result, Ok, Err, List, [], ◌∷◌, ⊤}
 use Rattle.cds_base.specs.declared.limits.TheConstants.{INPUT_LIMIT}
-use Rattle.cds_markup.specs.declared.error.Stop.{Stop}
-use Rattle.cds_markup.specs.declared.error.Stop.TheVariants.{Broken, NamespaceRule, Mem as OutOfMemory}
+use Rattle.cds_markup.specs.declared.error.MachineError.{MachineError}
+use Rattle.cds_markup.specs.declared.error.MachineError.TheVariants.{Broken, NamespaceRule, Mem as OutOfMemory}
 use Rattle.cds_markup.specs.declared.error.MarkupError.{MarkupError}
 use Rattle.cds_markup.specs.declared.error.MarkupError.TheVariants.{Bad, TooLong, Failed}
 use Rattle.cds_markup.specs.declared.event.Event.{Event}
@@ -11,12 +11,12 @@ use Rattle.cds_markup.specs.declared.event.Event.TheVariants.{Letter as ALetter,
 use Rattle.cds_markup.specs.declared.name.Name.{Name}
 use Rattle.cds_markup.specs.declared.name.Attr.{Attr}
 use Rattle.cds_markup.specs.declared.machine.Machine.{Machine}
-use Rattle.cds_markup.specs.declared.place.Place.{Place}
+use Rattle.cds_markup.specs.declared.cursor.Cursor.{Cursor}
 use Rattle.cds_markup.specs.declared.tag.Tag.{Tag}
 use Rattle.cds_markup.specs.declared.tag.Open.{Open}
 use Rattle.cds_markup.specs.Namespaces.{tag_says}
-use Rattle.cds_markup.specs.Decoding.{any_at}
-use Rattle.cds_markup.specs.Turns.{Token, Letter, Referred, SectionOf, Commented, Started, Slash, Shut, Ended}
+use Rattle.cds_markup.specs.Utf8.{any_at}
+use Rattle.cds_markup.specs.Root.{Token, Letter, Referred, SectionOf, Commented, Started, Slash, Shut, Ended}
 use Rattle.cds_markup.specs.Wholes.{step}
 use Rattle.cds_markup.specs.Bytes.{Reading, reading, moved, byte_step, scopes_in, breaks_rule, judged, judge, nothing_read, may_end, refusal}
 use Rattle.cds_markup.specs.Steps.{opens_after}
@@ -25,13 +25,13 @@ abbrev pub reading_of : Machine → Reading
 reading_of m = reading m.begun.items m.mode m.opens.items
 
 -- A byte below U+0080 alone.
-abbrev pub AsciiSo : ℕ → Result (Option ℕ) Stop → Type 0
+abbrev pub AsciiSo : ℕ → Result (Option ℕ) MachineError → Type 0
 AsciiSo b (Ok (Some c)) = any_at (b ∷ []) ≡ Ok (c, [])
 AsciiSo b (Err Broken) = any_at (b ∷ []) ≡ Err (b ∷ [])
 AsciiSo b result = ⊥
 
 -- A byte, which ends a character or does not.
-abbrev pub ByteSo : Reading → ℕ → Result (Option ℕ) Stop → Reading → Type 0
+abbrev pub ByteSo : Reading → ℕ → Result (Option ℕ) MachineError → Reading → Type 0
 ByteSo r b (Ok (Some c)) now = (byte_step r b ≡ moved (step r.mode r.opens c)) × (now ≡ reading [] r.mode r.opens)
 ByteSo r b (Ok None) now = byte_step r b ≡ Some (now, [])
 ByteSo r b (Err Broken) now = byte_step r b ≡ None
@@ -39,7 +39,7 @@ ByteSo r b (Err OutOfMemory) now = ⊤
 ByteSo r b result now = ⊥
 
 -- A start tag.
-abbrev pub TaggedSo : List Open → Tag → Result (Name × List Attr) Stop → Type 0
+abbrev pub TaggedSo : List Open → Tag → Result (Name × List Attr) MachineError → Type 0
 TaggedSo opens tag (Ok found) = tag_says (scopes_in opens) tag ≡ Some found
 TaggedSo opens tag (Err NamespaceRule) = tag_says (scopes_in opens) tag ≡ None
 TaggedSo opens tag (Err OutOfMemory) = ⊤
@@ -60,7 +60,7 @@ said_as opens (Slash tag) = if_said Empty (tag_says (scopes_in opens) tag)
 said_as opens Shut = Some AShut
 said_as opens Ended = Some End
 
-abbrev pub TakenSo : Reading → Token → Result Event Stop → Reading → Type 0
+abbrev pub TakenSo : Reading → Token → Result Event MachineError → Reading → Type 0
 TakenSo r t (Ok e) now =
     (breaks_rule r.opens (t ∷ []) ≡ false) × (said_as r.opens t ≡ Some e) × (now ≡ reading r.begun r.mode (opens_after t r.opens))
 TakenSo r t (Err NamespaceRule) now = breaks_rule r.opens (t ∷ []) ≡ true
@@ -68,14 +68,14 @@ TakenSo r t (Err OutOfMemory) now = ⊤
 TakenSo r t result now = ⊥
 
 -- A whole character, and a byte.
-abbrev pub WholeSo : Reading → ℕ → Result (Option Event) Stop → Reading → Type 0
+abbrev pub WholeSo : Reading → ℕ → Result (Option Event) MachineError → Reading → Type 0
 WholeSo r c (Ok None) now = judged r.opens (moved (step r.mode r.opens c)) ≡ Ok (now, [])
 WholeSo r c (Ok (Some e)) now =
     (t : Token) × (judged r.opens (moved (step r.mode r.opens c)) ≡ Ok (now, t ∷ [])) × (said_as r.opens t ≡ Some e)
 WholeSo r c (Err OutOfMemory) now = ⊤
 WholeSo r c (Err stop) now = judged r.opens (moved (step r.mode r.opens c)) ≡ Err stop
 
-abbrev pub JudgedSo : Reading → ℕ → Result (Option Event) Stop → Reading → Type 0
+abbrev pub JudgedSo : Reading → ℕ → Result (Option Event) MachineError → Reading → Type 0
 JudgedSo r b (Ok None) now = judge r b ≡ Ok (now, [])
 JudgedSo r b (Ok (Some e)) now = (t : Token) × (judge r b ≡ Ok (now, t ∷ [])) × (said_as r.opens t ≡ Some e)
 JudgedSo r b (Err OutOfMemory) now = ⊤
@@ -89,7 +89,7 @@ pub record Progress : Type 0 where
 abbrev pub progressed : Reading → ℕ → Progress
 progressed read at = record { read = read; at = at }
 
-abbrev pub progress : Place → Progress
+abbrev pub progress : Cursor → Progress
 progress p = progressed (reading_of p.machine) p.at
 
 abbrev pub begin_reading : Progress
@@ -99,7 +99,7 @@ begin_reading = progressed nothing_read 0
 abbrev pub Passed : Type 0
 Passed = Result Progress MarkupError
 
-abbrev pub judged_at : ℕ → Result (Reading × List Token) Stop → Passed
+abbrev pub judged_at : ℕ → Result (Reading × List Token) MachineError → Passed
 judged_at at (Err stop) = Err (refusal stop at)
 judged_at at (Ok found) = Ok (progressed found.0 (at + 1))
 

@@ -1,9 +1,9 @@
 -- Start tags, character by character, from after their `<` to the `>` or `/` that ends them.
 use Rattle.std.specs.Prelude.{◌==◌, ℕ, Bool, ◌||◌, if◌then◌else◌, [], ◌∷◌, ◌++◌}
 use Rattle.cds_base.specs.Characters.{is_blank, begins_name}
-use Rattle.cds_markup.specs.declared.mode.Attributing.TheVariants.{AttrName}
-use Rattle.cds_markup.specs.declared.mode.Tagging.{Tagging}
-use Rattle.cds_markup.specs.declared.mode.Tagging.TheVariants.{Opened, Name, Tagged, Spaced, Attribute}
+use Rattle.cds_markup.specs.declared.mode.AttributeState.TheVariants.{AttrName}
+use Rattle.cds_markup.specs.declared.mode.StartTagState.{StartTagState}
+use Rattle.cds_markup.specs.declared.mode.StartTagState.TheVariants.{Opened, Name, Tagged, Spaced, Attribute}
 use Rattle.cds_markup.specs.declared.tag.QName.{QName}
 use Rattle.cds_markup.specs.declared.tag.TagAttr.{TagAttr}
 use Rattle.cds_markup.specs.declared.tag.Tag.{Tag}
@@ -21,17 +21,17 @@ abbrev pub with_attr : Tag → TagAttr → Tag
 with_attr tag a = record { name = tag.name; attrs = tag.attrs ++ a ∷ [] }
 
 -- A character after a name or a value, and one after white space.
-abbrev pub tagged_step : Tag → ℕ → Next Tagging (Tag × ℕ)
+abbrev pub tagged_step : Tag → ℕ → Next StartTagState (Tag × ℕ)
 tagged_step tag c = if is_blank c then On (Spaced tag) else if ends_tag c then Done (tag, c) else Stuck
 
-abbrev pub spaced_step : Tag → ℕ → Next Tagging (Tag × ℕ)
+abbrev pub spaced_step : Tag → ℕ → Next StartTagState (Tag × ℕ)
 spaced_step tag c =
     if is_blank c then On (Spaced tag)
     else if ends_tag c then Done (tag, c)
     else if begins_name c then On (Attribute tag (AttrName (name_begun c)))
     else Stuck
 
-abbrev pub step_tag : Tagging → ℕ → Next Tagging (Tag × ℕ)
+abbrev pub step_tag : StartTagState → ℕ → Next StartTagState (Tag × ℕ)
 step_tag Opened c = if begins_name c then On (Name (name_begun c)) else Stuck
 step_tag (Name n) c = named_or (goes_on n c) Name (is_whole n.second) (tagged_step (tag_named (name_of n)) c)
 step_tag (Tagged tag) c = tagged_step tag c

@@ -3,14 +3,14 @@
 -- whether it has enough. `Mem` says nothing.
 use Rattle.std.specs.Prelude.{◌≡◌, ℕ, ◌+◌, ◌-◌, nat_le, Bool, true, false, if◌then◌else◌, Option, Some, None, Result, Ok, Err, List, [], ◌∷◌, ◌++◌, length, ⊤}
 use Rattle.cds_base.specs.declared.limits.TheConstants.{INPUT_LIMIT}
-use Rattle.cds_markup.specs.declared.error.Stop.{Stop}
+use Rattle.cds_markup.specs.declared.error.MachineError.{MachineError}
 use Rattle.cds_markup.specs.declared.error.MarkupError.{MarkupError}
 use Rattle.cds_markup.specs.declared.error.MarkupError.TheVariants.{TooLong, Mem}
 use Rattle.cds_markup.specs.declared.event.Event.{Event}
 use Rattle.cds_markup.specs.declared.marks.Marks.{Marks}
 use Rattle.cds_markup.specs.declared.part.Part.{Part}
 use Rattle.cds_markup.specs.declared.part_reader.Spot.{Spot}
-use Rattle.cds_markup.specs.Turns.{Token}
+use Rattle.cds_markup.specs.Root.{Token}
 use Rattle.cds_markup.specs.Bytes.{Reading, judge, nothing_read, refusal}
 use Rattle.cds_markup.specs.Reads.{Progress, progress, JudgedSo, passed_byte}
 use Rattle.cds_markup.specs.Marks.{marks, last_text, cuts_text, goes_on_as, marked}
@@ -34,7 +34,7 @@ abbrev pub told_from : Progress → Marks → Telling
 told_from p m = telling p.read m p.at
 
 abbrev pub telling_of : Spot → Telling
-telling_of s = told_from (progress s.place) s.marks
+telling_of s = told_from (progress s.cursor) s.marks
 
 abbrev pub telling_in : Option Spot → Option Telling
 telling_in None = None
@@ -58,7 +58,7 @@ Told = Result (List Part × Telling) (List Part × MarkupError)
 abbrev pub moved_on : Telling → Reading → List Part × Marks → List Part × Telling
 moved_on p s found = (found.0, telling s found.1 (p.at + 1))
 
-abbrev pub judged_told : Telling → Result (Reading × List Token) Stop → Told
+abbrev pub judged_told : Telling → Result (Reading × List Token) MachineError → Told
 judged_told p (Err stop) = Err (last_parts p, refusal stop p.at)
 judged_told p (Ok found) = Ok (moved_on p found.0 (marked p.read p.marks p.at found.0 found.1))
 

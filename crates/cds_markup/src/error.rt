@@ -1,7 +1,7 @@
 //! Why reading refuses bytes: the public errors, and the reasons why a machine stops.
 
 ghost use Rattle.cds_markup.specs.declared.error.MarkupError.TheVariants.{Mem};
-ghost use Rattle.cds_markup.specs.declared.error.Stop.TheVariants.{Mem as OutOfMemory};
+ghost use Rattle.cds_markup.specs.declared.error.MachineError.TheVariants.{Mem as OutOfMemory};
 ghost use Rattle.std.specs.Prelude.{◌≡◌};
 
 use std::alloc::AllocError;
@@ -47,7 +47,7 @@ impl From<AllocError> for MarkupError {
 
 /// Why reading stopped at the bytes that are left.
 #[derive(Clone, Copy, PartialEq, Eq)]
-pub enum Stop {
+pub enum MachineError {
     /// The next byte cannot stand there, or the input ended.
     Broken,
     /// The next byte ends a start tag that breaks a rule.
@@ -58,18 +58,18 @@ pub enum Stop {
     Mem,
 }
 
-impl From<cds_base::Mem> for Stop {
+impl From<cds_base::Mem> for MachineError {
     ghost from_gives = { λ _ e. e ≡ OutOfMemory };
 
     fn from(_e: cds_base::Mem) -> Self {
-        Stop::Mem
+        MachineError::Mem
     }
 }
 
-impl From<AllocError> for Stop {
+impl From<AllocError> for MachineError {
     ghost from_gives = { λ _ e. e ≡ OutOfMemory };
 
     fn from(_e: AllocError) -> Self {
-        Stop::Mem
+        MachineError::Mem
     }
 }

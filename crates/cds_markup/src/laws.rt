@@ -1,8 +1,13 @@
-//! What is proved of the words about documents themselves. Calling a function gives its law.
+//! What is proved of documents, of the machine that reads them, and of what formats over documents look for. Calling a
+//! function gives its law.
 
+ghost use Rattle.cds_markup.specs.ChildPlaces.{PlacesAreOfElements};
+ghost use Rattle.cds_markup.specs.Children.{PlacesAreOne};
+ghost use Rattle.cds_markup.specs.Drafts.{DraftsAreRead};
 ghost use Rattle.cds_markup.specs.Feeding.{RunsSay};
 ghost use Rattle.cds_markup.specs.Laws.{AllAreAnswered, AllIsTold, DocumentsAreRead, GoOnOrBreak, LeavesHaveOneEnd, NothingCountsPastTheLimit, OneAnswer, OneElement, OneTelling, PartsAreBuilt, PartsAreFound, PartsAreGiven, PartsAreOfRoots, PartsAreOne, PartsAreTold, PartsBegin, PartsStandBefore};
 ghost use Rattle.cds_markup.specs.Reader.{EveryCutting};
+ghost use Rattle.cds_markup.specs.Verdicts.{AnswersAreExact, AnswersAreSo};
 ghost use Rattle.cds_markup.specs.Written.{WrittenIsRead};
 
 /// What is answered to bytes is what the grammar says. They are read exactly if they are a document, and each refusal is given
@@ -105,4 +110,31 @@ pub fn written_is_read()
 /// A literal text in several runs says what it says in one. The element of the parts is also that of their runs.
 pub fn runs_say()
     ensures { RunsSay }
+{}
+
+/// Bytes have at most one place of the root's start tag, and at most one of each child's.
+pub fn places_are_one()
+    ensures { PlacesAreOne }
+{}
+
+/// In a document of an element, a root's place is that of the root as it is written. The place of a child, counted by the
+/// children before it, is that of this child: its `<` stands there, and it says that child of the element.
+pub fn places_are_of_elements()
+    ensures { PlacesAreOfElements }
+{}
+
+/// Let a draft say an element. Then the written draft is a document of the element, with or without the declaration of the
+/// version before it.
+pub fn drafts_are_read()
+    ensures { DraftsAreRead }
+{}
+
+/// What any bytes are answered is true: they are a document, or the refusal stands against them.
+pub fn answers_are_so()
+    ensures { AnswersAreSo }
+{}
+
+/// Every document is taken. Every refusal that stands against bytes is what they are answered.
+pub fn answers_are_exact()
+    ensures { AnswersAreExact }
 {}

@@ -2,8 +2,8 @@
 
 ghost use Rattle.std.specs.Prelude.{◌≡◌, List, ℕ, [], ◌++◌, string_bytes, encode_utf8, length, ◌==◌, IfOk, OnOk, slice_index};
 ghost use Rattle.std.specs.Str.{IsAscii};
-ghost use Rattle.cds_markup.specs.Scans.{without_brackets};
-ghost use Rattle.cds_markup.specs.Running.{is_plain, Collects};
+ghost use Rattle.cds_markup.specs.Delimiters.{without_brackets};
+ghost use Rattle.cds_markup.specs.Runs.{is_plain, Collects};
 
 use crate::plain::Plain;
 use cds_base::{Mem, Text};

@@ -9,14 +9,14 @@ ghost use Rattle.cds_markup.specs.Bytes.{is_deep, nothing_read, may_end, is_behi
 ghost use Rattle.cds_markup.specs.Marks.{cuts_text, is_in_content};
 ghost use Rattle.cds_markup.specs.Reads.{reading_of, AsciiSo, ByteSo, TaggedSo, TakenSo, WholeSo, JudgedSo};
 
-use crate::beginning::may_begin_name;
-use crate::decoding::{Decoded, decode};
-use crate::error::Stop;
+use crate::error::MachineError;
 use crate::event::Event;
-use crate::mode::{Misc, Mode, Turn};
+use crate::mode::{Misc, Mode, RootState};
 use crate::scope::{declarations, tag_says};
 use crate::tag::{Declaration, Open, QName, Tag, TagAttr};
 use crate::token::Token;
+use crate::utf8::{Decoded, decode};
+use crate::wide_characters::may_begin_name;
 use crate::{Attrs, Name};
 use cds_base::{Mem, Sequence, Text};
 use std::alloc::Global;
@@ -37,7 +37,7 @@ pub struct Machine {
 
 /// Returns the character of this byte below U+0080, if it is allowed.
 #[tactic(auto, using(crate::proofs::Decoded::ascii_whole, crate::proofs::Decoded::ascii_none))]
-fn ascii(b: u8) -> Result<Option<char>, Stop>
+fn ascii(b: u8) -> Result<Option<char>, MachineError>
     requires { b < 128 }
     ensures { AsciiSo b result }
 {
@@ -45,7 +45,7 @@ fn ascii(b: u8) -> Result<Option<char>, Stop>
     if cds_base::is_allowed(c) {
         Ok(Some(c))
     } else {
-        Err(Stop::Broken)
+        Err(MachineError::Broken)
     }
 }
 
@@ -73,7 +73,7 @@ impl Machine {
 
     /// Reads a byte below U+0080 while no character has begun.
     #[tactic(auto, using(crate::proofs::Decoded::plain_byte))]
-    fn plain(&mut self, b: u8) -> Result<Option<char>, Stop>
+    fn plain(&mut self, b: u8) -> Result<Option<char>, MachineError>
         requires low { b < 128 }
         requires none { self.old.begun.items ≡ [] }
         ensures { ByteSo (reading_of self.old) b result (reading_of self.new) }
@@ -84,11 +84,11 @@ impl Machine {
     /// Reads a byte of a character that has more than one byte.
     #[tactic(auto, using(crate::proofs::Decoded::wide_whole, crate::proofs::Decoded::wide_more, crate::proofs::Decoded::wide_stuck, crate::proofs::Decoded::wide_broken))]
     #[inline(never)]
-    fn wide(&mut self, b: u8) -> Result<Option<char>, Stop>
+    fn wide(&mut self, b: u8) -> Result<Option<char>, MachineError>
         ensures { ByteSo (reading_of self.old) b result (reading_of self.new) }
     {
         if self.begun.push(b).is_err() {
-            return Err(Stop::Mem);
+            return Err(MachineError::Mem);
         }
         match decode(self.begun.as_slice()) {
             Decoded::Whole(c) => {
@@ -102,15 +102,15 @@ impl Machine {
                 {
                     Ok(None)
                 } else {
-                    Err(Stop::Broken)
+                    Err(MachineError::Broken)
                 }
             }
-            Decoded::Broken => Err(Stop::Broken),
+            Decoded::Broken => Err(MachineError::Broken),
         }
     }
 
     /// Reads a byte. Returns the character that it ends, or `None` if more bytes of that character are to come.
-    fn character(&mut self, b: u8) -> Result<Option<char>, Stop>
+    fn character(&mut self, b: u8) -> Result<Option<char>, MachineError>
         ensures { ByteSo (reading_of self.old) b result (reading_of self.new) }
     {
         if b < 0x80 && self.begun.is_empty() {
@@ -128,7 +128,7 @@ impl Machine {
         prefix: &str,
         local: Text,
         attrs: Sequence<TagAttr>,
-    ) -> Result<(Name, Attrs), Stop>
+    ) -> Result<(Name, Attrs), MachineError>
         requires { declared.now ≡ declarations attrs }
         ensures { TaggedSo self.now.opens.items (record { name = record { prefix = prefix.now; local = local }; attrs = attrs }) result }
     {
@@ -136,12 +136,12 @@ impl Machine {
         let said = tag_says(alloc, opens, declared, prefix, local, attrs)?;
         match said {
             Some(said) => Ok(said),
-            None => Err(Stop::NamespaceRule),
+            None => Err(MachineError::NamespaceRule),
         }
     }
 
     /// Opens the element of a start tag.
-    fn start(&mut self, alloc: Global, tag: Tag) -> Result<Event, Stop>
+    fn start(&mut self, alloc: Global, tag: Tag) -> Result<Event, MachineError>
         ensures { TakenSo (reading_of self.old) (Token.Started tag) result (reading_of self.new) }
     {
         let Tag { name, attrs } = tag;
@@ -156,13 +156,13 @@ impl Machine {
         )?;
         let open = Open { name, declared };
         if self.opens.insert(0, open).is_err() {
-            return Err(Stop::Mem);
+            return Err(MachineError::Mem);
         }
         Ok(Event::Start(said, attrs))
     }
 
     /// Returns what the tag of an empty element says.
-    fn empty(&mut self, alloc: Global, tag: Tag) -> Result<Event, Stop>
+    fn empty(&mut self, alloc: Global, tag: Tag) -> Result<Event, MachineError>
         ensures { TakenSo (reading_of self.old) (Token.Slash tag) result (reading_of self.new) }
     {
         let Tag { name, attrs } = tag;
@@ -184,7 +184,7 @@ impl Machine {
 
     /// Returns what a token says, and brings the open elements up to date.
     #[inline(never)]
-    fn take(&mut self, alloc: Global, token: Token) -> Result<Event, Stop>
+    fn take(&mut self, alloc: Global, token: Token) -> Result<Event, MachineError>
         ensures { TakenSo (reading_of self.old) token result (reading_of self.new) }
     {
         match token {
@@ -201,7 +201,7 @@ impl Machine {
 
     /// Takes a whole character.
     #[tactic(auto, using(crate::proofs::Decoded::whole_nothing, crate::proofs::Decoded::whole_token, crate::proofs::Decoded::whole_broken, crate::proofs::Decoded::whole_refused))]
-    fn whole(&mut self, alloc: Global, c: char) -> Result<Option<Event>, Stop>
+    fn whole(&mut self, alloc: Global, c: char) -> Result<Option<Event>, MachineError>
         requires { self.old.begun.items ≡ [] }
         ensures { WholeSo (reading_of self.old) c result (reading_of self.new) }
     {
@@ -214,11 +214,11 @@ impl Machine {
 
     /// Reads one byte. Returns what it completes. After a refusal nothing is known of the machine.
     #[tactic(auto, using(crate::proofs::Decoded::step_deep, crate::proofs::Decoded::judged_refused, crate::proofs::Decoded::step_none, crate::proofs::Decoded::step_whole))]
-    pub fn step(&mut self, alloc: Global, b: u8) -> Result<Option<Event>, Stop>
+    pub fn step(&mut self, alloc: Global, b: u8) -> Result<Option<Event>, MachineError>
         ensures { JudgedSo (reading_of self.old) b result (reading_of self.new) }
     {
         if self.is_deep(b) {
-            return Err(Stop::Deep);
+            return Err(MachineError::Deep);
         }
         let Some(c) = self.character(b)? else {
             return Ok(None);
@@ -244,7 +244,7 @@ impl Machine {
     fn is_in_content(&self) -> bool
         ensures { result ≡ is_in_content self.now.mode }
     {
-        matches!(self.mode, Mode::Inside(Turn::Content(_)))
+        matches!(self.mode, Mode::Inside(RootState::Content(_)))
     }
 
     /// Returns whether the state is after the root.

@@ -4,14 +4,14 @@ ghost use Rattle.std.specs.Prelude.{◌≡◌, ◌==◌, ◌&&◌, ◌++◌, not
 ghost use Rattle.cds_base.specs.Characters.{is_blank};
 ghost use Rattle.cds_markup.specs.declared.part.Part.TheVariants.{Start, End, Run};
 ghost use Rattle.cds_markup.specs.Document.{line_ends};
-ghost use Rattle.cds_markup.specs.Running.{TextRuns, text_before};
+ghost use Rattle.cds_markup.specs.Runs.{TextRuns, text_before};
 ghost use Rattle.cds_markup.specs.Marks.{is_between, open_text, line_end_says, text_with, letter_in, ended_text, run_of, begun_text, text_or, last_part, rest_of, goes_on_as, passed_over, marks, EndsSo, MarksSo};
 
 use crate::Part;
-use crate::attributing::is_blank;
+use crate::attribute::is_blank;
 use crate::event::Event;
 use crate::letters::Letters;
-use crate::mode::{Misc, Mode, Turn};
+use crate::mode::{Misc, Mode, RootState};
 use crate::plain::{Plain, is_line_blank};
 use cds_base::{Mem, Text};
 use std::alloc::Global;
@@ -45,7 +45,10 @@ impl Mode {
     {
         matches!(
             self,
-            Mode::Begin | Mode::Marked | Mode::Prolog(Misc::Blanks) | Mode::Inside(Turn::Content(_))
+            Mode::Begin
+                | Mode::Marked
+                | Mode::Prolog(Misc::Blanks)
+                | Mode::Inside(RootState::Content(_))
         )
     }
 

@@ -1,21 +1,21 @@
 //! The states of the machine: what came, and what may come next.
 
 ghost use Rattle.std.specs.Prelude.{◌≡◌, if◌then◌else◌, true, drop, List, ℕ, Ok, Err, None};
-ghost use Rattle.cds_markup.specs.declared.error.Stop.TheVariants.{Broken};
+ghost use Rattle.cds_markup.specs.declared.error.MachineError.TheVariants.{Broken};
 ghost use Rattle.cds_markup.specs.Steps.{is_next, is_over};
 
-use crate::error::Stop;
+use crate::error::MachineError;
 use crate::letters::Letters;
 use crate::tag::{QName, Tag};
 use std::marker::Model;
 
 /// Bytes of a word that are still to come. Contracts see the list of them.
 #[derive(Drop)]
-pub struct Left {
+pub struct WordRest {
     bytes: &'static [u8],
 }
 
-impl Model for Left {
+impl Model for WordRest {
     ghost use Rattle.std.specs.Prelude.{ℕ, List};
 
     ghost Value = { List ℕ };
@@ -23,12 +23,12 @@ impl Model for Left {
     ghost view = { λ t. t.bytes.now };
 }
 
-impl Left {
+impl WordRest {
     /// Returns this word, all of it to come.
     pub fn of(bytes: &'static [u8]) -> Self
         ensures { result ≡ bytes.now }
     {
-        Left { bytes }
+        WordRest { bytes }
     }
 
     /// Returns whether the character is the next byte.
@@ -58,12 +58,12 @@ impl Left {
     }
 
     /// Takes one character, which has to be the next byte.
-    pub fn step<T>(&mut self, c: char) -> Result<Option<T>, Stop>
+    pub fn step<T>(&mut self, c: char) -> Result<Option<T>, MachineError>
         ensures next { result ≡ (if is_next c self.old then Ok None else Err Broken) }
         ensures rest { is_next c self.old ≡ true → self.new ≡ drop 1 self.old }
     {
         if !self.is_next(c) {
-            return Err(Stop::Broken);
+            return Err(MachineError::Broken);
         }
         self.advance();
         Ok(None)
@@ -72,13 +72,13 @@ impl Left {
 
 /// Inside a reference, after its `&`.
 #[derive(Drop)]
-pub enum Referring {
+pub enum ReferenceState {
     /// The `&` came.
     Ampersand,
     /// `&a` came.
     EntityA,
     /// The rest of an entity's name and its `;` are to come. It stands for this character.
-    Entity(Left, char),
+    Entity(WordRest, char),
     /// `&#` came.
     Sharp,
     /// Digits came and make this number, hexadecimal ones if the first is true, and decimal ones otherwise.
@@ -87,7 +87,7 @@ pub enum Referring {
 
 /// Inside a qualified name.
 #[derive(Drop)]
-pub struct Naming {
+pub struct NameState {
     /// The name before the colon, if one comes.
     pub first: Letters,
     /// The name after the colon, empty right after it.
@@ -107,7 +107,7 @@ pub enum NameStep {
 
 /// Inside an attribute's value, after its first quote.
 #[derive(Drop)]
-pub struct Valuing {
+pub struct ValueState {
     /// Whether the quote is a double one.
     pub double: bool,
     /// What it says so far.
@@ -115,35 +115,35 @@ pub struct Valuing {
     /// Whether a literal carriage return stands right before.
     pub behind_return: bool,
     /// An open reference in it.
-    pub reference: Option<Referring>,
+    pub reference: Option<ReferenceState>,
 }
 
 /// Inside an attribute.
 #[derive(Drop)]
-pub enum Attributing {
+pub enum AttributeState {
     /// In its name.
-    AttrName(Naming),
+    AttrName(NameState),
     /// After its name and white space.
     AttrNamed(QName),
     /// After its equals sign and white space.
     Equals(QName),
     /// In its value.
-    Value(QName, Valuing),
+    Value(QName, ValueState),
 }
 
 /// Inside a start tag, after its `<`.
 #[derive(Drop)]
-pub enum Tagging {
+pub enum StartTagState {
     /// The `<` came.
     Opened,
     /// In the element's name.
-    Name(Naming),
+    Name(NameState),
     /// After a name or a value.
     Tagged(Tag),
     /// After white space.
     Spaced(Tag),
     /// In an attribute.
-    Attribute(Tag, Attributing),
+    Attribute(Tag, AttributeState),
 }
 
 /// A part of the declaration.
@@ -161,17 +161,17 @@ pub enum Stage {
 
 /// Inside the declaration, after its `<?`.
 #[derive(Drop)]
-pub enum Declaring {
+pub enum DeclarationState {
     /// The rest of `xml` is to come, and white space after it.
-    Xml(Left),
+    Xml(WordRest),
     /// After white space, with this part or a later one to come.
     Gap(Stage),
     /// The rest of this part's name is to come, and an equals sign after it.
-    PartName(Stage, Left),
+    PartName(Stage, WordRest),
     /// After this part's equals sign, and white space.
     PartEquals(Stage),
     /// The rest of this part's value is to come, and this quote after it.
-    PartValue(Stage, u32, Left),
+    PartValue(Stage, u32, WordRest),
     /// After the first quote of the standalone part.
     YesOrNo(u32),
     /// After a part, with this part or a later one to come.
@@ -197,7 +197,7 @@ pub enum Misc {
 
 /// Inside an element, or in the root's start tag.
 #[derive(Drop)]
-pub enum Turn {
+pub enum RootState {
     /// Between tags, after this many closing brackets of those that count in a literal text.
     Content(u32),
     /// `<` came.
@@ -209,13 +209,13 @@ pub enum Turn {
     /// Inside a comment, after this many dashes of those that count.
     Comment(u32),
     /// The rest of `<![CDATA[` is to come.
-    Cdata(Left),
+    Cdata(WordRest),
     /// Inside a CDATA section, after this many closing brackets of those that count, with its text so far.
     Section(u32, Letters),
     /// Inside a reference.
-    Reference(Referring),
+    Reference(ReferenceState),
     /// Inside a start tag.
-    StartTag(Tagging),
+    StartTag(StartTagState),
     /// The `/` of an empty element's tag came.
     Slashed,
     /// Inside an end tag, after this many bytes of its name.
@@ -232,11 +232,11 @@ pub enum Mode {
     /// A `<` came as the first character, perhaps after a byte order mark.
     First,
     /// In the declaration.
-    Declaration(Declaring),
+    Declaration(DeclarationState),
     /// Before the root.
     Prolog(Misc),
     /// In the root.
-    Inside(Turn),
+    Inside(RootState),
     /// After the root.
     Epilog(Misc),
 }

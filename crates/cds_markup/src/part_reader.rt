@@ -6,12 +6,12 @@ ghost use Rattle.cds_markup.specs.declared.part.Part.{Part};
 ghost use Rattle.cds_markup.specs.Taking.{Takes};
 ghost use Rattle.cds_markup.specs.Tellings.{ToldSo, Puts, told_byte, told, told_piece, last_parts, shown, telling_of, telling_in, listed, begin_telling};
 ghost use Rattle.cds_markup.specs.Reads.{reading_of};
-ghost use Rattle.cds_markup.specs.Running.{RunSo, takes_run};
+ghost use Rattle.cds_markup.specs.Runs.{RunSo, takes_run};
 ghost use Rattle.cds_markup.specs.Feeding.{StandsFor, TakesPiece, TakesEnd};
 
+use crate::cursor::Cursor;
 use crate::event::Event;
 use crate::marks::{Marks, OpenText};
-use crate::place::Place;
 use crate::{MarkupError, Part, PartSink};
 use cds_base::{INPUT_LIMIT, Mem};
 use std::alloc::Global;
@@ -23,7 +23,7 @@ use std::marker::Model;
 #[derive(Drop)]
 pub struct Spot {
     /// The machine and its place.
-    pub place: Place,
+    pub cursor: Cursor,
     /// What is open.
     pub marks: Marks,
 }
@@ -88,7 +88,7 @@ impl Spot {
         ensures { telling_of result ≡ begin_telling }
     {
         Spot {
-            place: Place::new(alloc),
+            cursor: Cursor::new(alloc),
             marks: Marks::new(),
         }
     }
@@ -97,8 +97,8 @@ impl Spot {
     fn show<S: PartSink>(&mut self, alloc: Global, to: &mut S) -> Result<(), MarkupError>
         ensures { ToldSo (Takes S.took S.enough) S.enough to.old (Ok (last_parts (telling_of self.old), shown (telling_of self.old))) result to.new (telling_of self.new) }
     {
-        let first = self.place.first();
-        let open = self.place.machine.cuts_text();
+        let first = self.cursor.first();
+        let open = self.cursor.machine.cuts_text();
         put(self.marks.show(alloc, open, first), to)
     }
 
@@ -106,17 +106,17 @@ impl Spot {
     fn byte<S: PartSink>(&mut self, alloc: Global, b: u8, to: &mut S) -> Result<(), MarkupError>
         ensures { ToldSo (Takes S.took S.enough) S.enough to.old (told_byte (telling_of self.old) b) result to.new (telling_of self.new) }
     {
-        let at = self.place.at;
-        let first = self.place.first();
-        let open = self.place.machine.cuts_text();
-        let between = self.place.machine.mode.is_between();
-        match self.place.next(alloc, b) {
+        let at = self.cursor.at;
+        let first = self.cursor.first();
+        let open = self.cursor.machine.cuts_text();
+        let between = self.cursor.machine.mode.is_between();
+        match self.cursor.next(alloc, b) {
             Ok(Some(event)) => {
                 let part = self.marks.complete(alloc, at, first, event)?;
                 put(part, to)
             }
             Ok(None) => {
-                let begins = self.place.machine.mode.begins(between);
+                let begins = self.cursor.machine.mode.begins(between);
                 put(self.marks.pass(begins, at), to)
             }
             Err(refusal) => match refusal {
@@ -131,45 +131,45 @@ impl Spot {
     /// over.
     #[inline(never)]
     fn begin_run(&mut self, alloc: Global, bytes: &[u8]) -> Result<usize, Mem>
-        requires takes { takes_run (reading_of self.old.place.machine) ≡ true }
+        requires takes { takes_run (reading_of self.old.cursor.machine) ≡ true }
         requires none { self.old.marks.text ≡ None }
-        requires room { self.old.place.at + length bytes.now ≤ INPUT_LIMIT }
+        requires room { self.old.cursor.at + length bytes.now ≤ INPUT_LIMIT }
         ensures { RunSo (telling_of self.old) bytes.now result (telling_of self.new) }
     {
-        let at = self.place.at;
+        let at = self.cursor.at;
         let Some((first, _behind)) = bytes.split_first() else {
             return Ok(0);
         };
         if *first == b'<' {
             self.marks.begin = at;
-            self.place.machine.mode.begin_less();
-            self.place.at += 1;
+            self.cursor.machine.mode.begin_less();
+            self.cursor.at += 1;
             return Ok(1);
         }
         let mut text = OpenText::before(alloc, at, *first);
         let count = text.run(bytes)?;
         if count > 0 {
             self.marks.text = Some(text);
-            self.place.at += count;
+            self.cursor.at += count;
         }
         Ok(count)
     }
 
     /// Passes over the first bytes that complete nothing, all of them within the limit. Returns how many.
     fn run_within(&mut self, alloc: Global, bytes: &[u8]) -> Result<usize, Mem>
-        requires { self.old.place.at + length bytes.now ≤ INPUT_LIMIT }
+        requires { self.old.cursor.at + length bytes.now ≤ INPUT_LIMIT }
         ensures { RunSo (telling_of self.old) bytes.now result (telling_of self.new) }
     {
-        if self.place.machine.takes_run() {
+        if self.cursor.machine.takes_run() {
             let Some(text) = &mut self.marks.text else {
                 return self.begin_run(alloc, bytes);
             };
             let count = text.run(bytes)?;
-            self.place.at += count;
+            self.cursor.at += count;
             return Ok(count);
         }
-        let count = self.place.machine.run(alloc, bytes)?;
-        self.place.at += count;
+        let count = self.cursor.machine.run(alloc, bytes)?;
+        self.cursor.at += count;
         Ok(count)
     }
 
@@ -177,10 +177,10 @@ impl Spot {
     fn run(&mut self, alloc: Global, bytes: &[u8]) -> Result<usize, Mem>
         ensures { RunSo (telling_of self.old) bytes.now result (telling_of self.new) }
     {
-        if self.place.at >= INPUT_LIMIT {
+        if self.cursor.at >= INPUT_LIMIT {
             return Ok(0);
         }
-        let room = (INPUT_LIMIT - self.place.at).min(bytes.len());
+        let room = (INPUT_LIMIT - self.cursor.at).min(bytes.len());
         self.run_within(alloc, bytes.split_at(room).0)
     }
 
@@ -275,6 +275,6 @@ impl PartReader {
         let Some(spot) = self.spot else {
             return Err(MarkupError::Failed);
         };
-        spot.place.end()
+        spot.cursor.end()
     }
 }

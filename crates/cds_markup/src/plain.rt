@@ -1,9 +1,9 @@
 //! How far bytes go on with what is open, one like the other.
 
 ghost use Rattle.std.specs.Prelude.{◌≡◌, ◌∷◌, length, take_while, IfSome};
-ghost use Rattle.cds_markup.specs.Running.{is_plain_in_name, is_written, is_line_blank, is_plain, begins_plain_name, begins_blank, PartAt, NameAt, ValueAt, AttrAt};
+ghost use Rattle.cds_markup.specs.Runs.{is_plain_in_name, is_written, is_line_blank, is_plain, begins_plain_name, begins_blank, PartAt, NameAt, ValueAt, AttrAt};
 
-use crate::naming::begins_name;
+use crate::qualified_name::begins_name;
 use cds_base::letters_run;
 
 /// What a run is of.

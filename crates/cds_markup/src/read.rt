@@ -36,7 +36,7 @@ pub fn give_parts<S: PartSink>(alloc: Global, bytes: &[u8], to: &mut S) -> Resul
     if to.has_enough() {
         return Ok(());
     }
-    spot.place.end()
+    spot.cursor.end()
 }
 
 /// Adds the parts of a document, as `give_parts` gives them. `Mem` leaves the parts as they were.

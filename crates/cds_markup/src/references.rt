@@ -5,8 +5,8 @@ ghost use Rattle.cds_base.specs.Characters.{is_allowed};
 ghost use Rattle.cds_markup.specs.References.{number_step, step_reference};
 ghost use Rattle.cds_markup.specs.Steps.{Agrees, entity_code};
 
-use crate::error::Stop;
-use crate::mode::{Left, Referring};
+use crate::error::MachineError;
+use crate::mode::{ReferenceState, WordRest};
 
 /// The greatest code point.
 const LAST: u64 = 0x10_FFFF;
@@ -27,16 +27,21 @@ fn allowed(code: u32) -> Option<char>
     }
 }
 
-impl Referring {
+impl ReferenceState {
     /// Goes over to this state.
-    fn go_to(&mut self, referring: Referring)
-        ensures { self.new ≡ referring }
+    fn go_to(&mut self, reference_state: ReferenceState)
+        ensures { self.new ≡ reference_state }
     {
-        drop(std::mem::replace(self, referring));
+        drop(std::mem::replace(self, reference_state));
     }
 
     /// Takes a digit of a number, or the `;` after it.
-    fn number(&mut self, hexadecimal: bool, value: u32, c: char) -> Result<Option<char>, Stop>
+    fn number(
+        &mut self,
+        hexadecimal: bool,
+        value: u32,
+        c: char,
+    ) -> Result<Option<char>, MachineError>
         ensures { Agrees (number_step hexadecimal value c) result self.new }
     {
         let base = if hexadecimal { 16 } else { 10 };
@@ -44,46 +49,46 @@ impl Referring {
             Some(digit) => {
                 let more = u64::from(value) * u64::from(base) + u64::from(digit);
                 if more > LAST {
-                    return Err(Stop::Broken);
+                    return Err(MachineError::Broken);
                 }
-                self.go_to(Referring::Number(hexadecimal, more as u32));
+                self.go_to(ReferenceState::Number(hexadecimal, more as u32));
                 Ok(None)
             }
             None => {
                 if c != ';' {
-                    return Err(Stop::Broken);
+                    return Err(MachineError::Broken);
                 }
                 match allowed(value) {
                     Some(character) => Ok(Some(character)),
-                    None => Err(Stop::Broken),
+                    None => Err(MachineError::Broken),
                 }
             }
         }
     }
 
     /// Takes the first letter of an entity's name, or the `#` of a number.
-    fn ampersand(&mut self, c: char) -> Result<Option<char>, Stop>
-        ensures { Agrees (step_reference Referring.Ampersand c) result self.new }
+    fn ampersand(&mut self, c: char) -> Result<Option<char>, MachineError>
+        ensures { Agrees (step_reference ReferenceState.Ampersand c) result self.new }
     {
         match c {
-            '#' => self.go_to(Referring::Sharp),
-            'a' => self.go_to(Referring::EntityA),
-            'g' => self.go_to(Referring::Entity(Left::of(b"t;"), '>')),
-            'l' => self.go_to(Referring::Entity(Left::of(b"t;"), '<')),
-            'q' => self.go_to(Referring::Entity(Left::of(b"uot;"), '"')),
-            _ => return Err(Stop::Broken),
+            '#' => self.go_to(ReferenceState::Sharp),
+            'a' => self.go_to(ReferenceState::EntityA),
+            'g' => self.go_to(ReferenceState::Entity(WordRest::of(b"t;"), '>')),
+            'l' => self.go_to(ReferenceState::Entity(WordRest::of(b"t;"), '<')),
+            'q' => self.go_to(ReferenceState::Entity(WordRest::of(b"uot;"), '"')),
+            _ => return Err(MachineError::Broken),
         }
         Ok(None)
     }
 
     /// Takes the second letter of an entity that begins with `a`.
-    fn entity_a(&mut self, c: char) -> Result<Option<char>, Stop>
-        ensures { Agrees (step_reference Referring.EntityA c) result self.new }
+    fn entity_a(&mut self, c: char) -> Result<Option<char>, MachineError>
+        ensures { Agrees (step_reference ReferenceState.EntityA c) result self.new }
     {
         match c {
-            'm' => self.go_to(Referring::Entity(Left::of(b"p;"), '&')),
-            'p' => self.go_to(Referring::Entity(Left::of(b"os;"), '\'')),
-            _ => return Err(Stop::Broken),
+            'm' => self.go_to(ReferenceState::Entity(WordRest::of(b"p;"), '&')),
+            'p' => self.go_to(ReferenceState::Entity(WordRest::of(b"os;"), '\'')),
+            _ => return Err(MachineError::Broken),
         }
         Ok(None)
     }
@@ -93,21 +98,21 @@ impl Referring {
         ensures { result ≡ entity_code self.now }
     {
         match self {
-            Referring::Entity(_, code) => *code,
+            ReferenceState::Entity(_, code) => *code,
             _ => '\0',
         }
     }
 
     /// Takes one character. Returns the character that the reference stands for at its `;`.
-    pub fn step(&mut self, c: char) -> Result<Option<char>, Stop>
+    pub fn step(&mut self, c: char) -> Result<Option<char>, MachineError>
         ensures { Agrees (step_reference self.old c) result self.new }
     {
         match self {
-            Referring::Ampersand => self.ampersand(c),
-            Referring::EntityA => self.entity_a(c),
-            Referring::Entity(left, _) => {
+            ReferenceState::Ampersand => self.ampersand(c),
+            ReferenceState::EntityA => self.entity_a(c),
+            ReferenceState::Entity(left, _) => {
                 if !left.is_next(c) {
-                    return Err(Stop::Broken);
+                    return Err(MachineError::Broken);
                 }
                 left.advance();
                 if !left.is_over() {
@@ -115,14 +120,14 @@ impl Referring {
                 }
                 Ok(Some(self.entity_code()))
             }
-            Referring::Sharp => {
+            ReferenceState::Sharp => {
                 if c == 'x' {
-                    self.go_to(Referring::Number(true, 0));
+                    self.go_to(ReferenceState::Number(true, 0));
                     return Ok(None);
                 }
                 self.number(false, 0, c)
             }
-            Referring::Number(hexadecimal, value) => {
+            ReferenceState::Number(hexadecimal, value) => {
                 let (hexadecimal, value) = (*hexadecimal, *value);
                 self.number(hexadecimal, value, c)
             }

@@ -5,10 +5,10 @@ ghost use Rattle.cds_markup.specs.declared.tag.Open.{Open};
 ghost use Rattle.cds_markup.specs.Wholes.{misc_step, is_content, root_move, prolog_move, marked_move, step};
 ghost use Rattle.cds_markup.specs.Steps.{Agrees, MovesSo, is_last, is_outside};
 
-use crate::attributing::is_blank;
-use crate::error::Stop;
-use crate::mode::{Declaring, Left, Misc, Mode, Tagging, Turn};
-use crate::scans::comment_step;
+use crate::attribute::is_blank;
+use crate::delimiters::comment_step;
+use crate::error::MachineError;
+use crate::mode::{DeclarationState, Misc, Mode, RootState, StartTagState, WordRest};
 use crate::tag::Open;
 use crate::token::Token;
 use std::alloc::Global;
@@ -23,7 +23,7 @@ impl Misc {
 
     /// Takes one character. Returns `()` if a `<` came before it and no comment begins. Then the character belongs to what
     /// follows.
-    pub fn step(&mut self, c: char) -> Result<Option<()>, Stop>
+    pub fn step(&mut self, c: char) -> Result<Option<()>, MachineError>
         ensures { Agrees (misc_step self.old c) result self.new }
     {
         match self {
@@ -32,7 +32,7 @@ impl Misc {
                     return Ok(None);
                 }
                 if c != '<' {
-                    return Err(Stop::Broken);
+                    return Err(MachineError::Broken);
                 }
                 self.go_to(Misc::MiscLess);
             }
@@ -44,13 +44,13 @@ impl Misc {
             }
             Misc::MiscBang => {
                 if c != '-' {
-                    return Err(Stop::Broken);
+                    return Err(MachineError::Broken);
                 }
                 self.go_to(Misc::MiscDash);
             }
             Misc::MiscDash => {
                 if c != '-' {
-                    return Err(Stop::Broken);
+                    return Err(MachineError::Broken);
                 }
                 self.go_to(Misc::MiscComment(0));
             }
@@ -64,17 +64,17 @@ impl Misc {
     }
 }
 
-impl Turn {
+impl RootState {
     /// Returns whether the state is between tags.
     fn is_content(&self) -> bool
         ensures { result ≡ is_content self.now }
     {
-        matches!(self, Turn::Content(_))
+        matches!(self, RootState::Content(_))
     }
 }
 
 /// Returns whether no element is open after what a character completed. `opens` were open before it.
-fn is_last(said: &Result<Option<Token>, Stop>, opens: &[Open]) -> bool
+fn is_last(said: &Result<Option<Token>, MachineError>, opens: &[Open]) -> bool
     ensures { result ≡ is_last said.now opens.now }
 {
     match said {
@@ -96,24 +96,24 @@ impl Mode {
 
     /// Goes over to a `<` inside the root.
     pub fn begin_less(&mut self)
-        ensures { self.new ≡ Mode.Inside Turn.Less }
+        ensures { self.new ≡ Mode.Inside RootState.Less }
     {
-        self.go_to(Mode::Inside(Turn::Less));
+        self.go_to(Mode::Inside(RootState::Less));
     }
 
     /// Takes the first character of the root's name.
     #[inline(never)]
-    fn root(&mut self, alloc: Global, c: char) -> Result<Option<Token>, Stop>
+    fn root(&mut self, alloc: Global, c: char) -> Result<Option<Token>, MachineError>
         ensures { (opens : List Open) → MovesSo opens (root_move opens c) result self.new }
     {
-        let tagging = Tagging::begin(alloc, c)?;
-        self.go_to(Mode::Inside(Turn::StartTag(tagging)));
+        let start_tag_state = StartTagState::begin(alloc, c)?;
+        self.go_to(Mode::Inside(RootState::StartTag(start_tag_state)));
         Ok(None)
     }
 
     /// Takes a character of white space or comments before the root, or the first character of the root's name.
     #[inline(never)]
-    fn prolog(&mut self, alloc: Global, misc: Misc, c: char) -> Result<Option<Token>, Stop>
+    fn prolog(&mut self, alloc: Global, misc: Misc, c: char) -> Result<Option<Token>, MachineError>
         ensures { (opens : List Open) → MovesSo opens (prolog_move opens (misc_step misc c) c) result self.new }
     {
         let mut misc = misc;
@@ -126,7 +126,7 @@ impl Mode {
 
     /// Takes the character after a byte order mark, or the first one if no mark came.
     #[inline(never)]
-    fn marked(&mut self, alloc: Global, c: char) -> Result<Option<Token>, Stop>
+    fn marked(&mut self, alloc: Global, c: char) -> Result<Option<Token>, MachineError>
         ensures { (opens : List Open) → MovesSo opens (marked_move opens c) result self.new }
     {
         if c == '<' {
@@ -145,7 +145,7 @@ impl Mode {
 
     /// Takes one character outside the root.
     #[inline(never)]
-    fn outside(&mut self, alloc: Global, c: char) -> Result<Option<Token>, Stop>
+    fn outside(&mut self, alloc: Global, c: char) -> Result<Option<Token>, MachineError>
         requires { is_outside self.old ≡ true }
         ensures { (opens : List Open) → MovesSo opens (step self.old opens c) result self.new }
     {
@@ -162,11 +162,11 @@ impl Mode {
                 if c != '?' {
                     return self.prolog(alloc, Misc::MiscLess, c);
                 }
-                self.go_to(Mode::Declaration(Declaring::Xml(Left::of(b"xml"))));
+                self.go_to(Mode::Declaration(DeclarationState::Xml(WordRest::of(b"xml"))));
                 Ok(None)
             }
-            Mode::Declaration(declaring) => {
-                if declaring.step(c)?.is_none() {
+            Mode::Declaration(declaration_state) => {
+                if declaration_state.step(c)?.is_none() {
                     return Ok(None);
                 }
                 self.go_to(Mode::Prolog(Misc::Blanks));
@@ -181,7 +181,7 @@ impl Mode {
             Mode::Inside(_) => unreachable!(),
             Mode::Epilog(misc) => {
                 if misc.step(c)?.is_some() {
-                    return Err(Stop::Broken);
+                    return Err(MachineError::Broken);
                 }
                 Ok(None)
             }
@@ -190,13 +190,18 @@ impl Mode {
 
     /// Takes one character, if these elements are open.
     #[tactic(auto, using(crate::proofs::Decoded::inside_over, crate::proofs::Decoded::inside_on))]
-    pub fn step(&mut self, alloc: Global, opens: &[Open], c: char) -> Result<Option<Token>, Stop>
+    pub fn step(
+        &mut self,
+        alloc: Global,
+        opens: &[Open],
+        c: char,
+    ) -> Result<Option<Token>, MachineError>
         ensures { MovesSo opens.now (step self.old opens.now c) result self.new }
     {
         match self {
-            Mode::Inside(turn) => {
-                let said = turn.step(alloc, opens, c);
-                if turn.is_content() && is_last(&said, opens) {
+            Mode::Inside(root_state) => {
+                let said = root_state.step(alloc, opens, c);
+                if root_state.is_content() && is_last(&said, opens) {
                     self.leave();
                 }
                 said

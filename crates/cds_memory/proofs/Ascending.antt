@@ -9,7 +9,7 @@ use Rattle.std.specs.Cmp.Lexicographic.{slice_cmp, nat_list_cmp_total, nat_list_
 use Rattle.std.proofs.lemmas.Bool.{and_parts, and_from, not_from_false}
 use Rattle.cds_memory.specs.declared.item.MemItem.{MemItem}
 use Rattle.cds_memory.specs.declared.item.MemItem.TheVariants.{FolderItem, FileItem}
-use Rattle.cds_base.specs.Entries.{all_differ, is_at, is_new}
+use Rattle.cds_outside.specs.Entries.{all_differ, is_at, is_new}
 use Rattle.cds_memory.specs.Folders.{ascends, entry_of, entries_of, is_before_first, item_path}
 
 is_less : (order : Ordering) → is_lt order ≡ true → order ≡ Less

@@ -7,11 +7,11 @@ use Rattle.std.specs.Cmp.Lexicographic.{nat_list_eq_equiv}
 use Rattle.std.proofs.lemmas.Bool.{and_parts, or_parts, not-true, not_from_false}
 use Rattle.std.proofs.lemmas.List.{take-append-drop, take_more, get_or-map, length-map}
 use Rattle.std.proofs.Math.Seq.{drop-cons}
-use Rattle.cds_base.specs.declared.outside.folder.Entry.{Entry}
-use Rattle.cds_base.specs.declared.outside.folder.Entry.TheVariants.{Folder, File, End}
+use Rattle.cds_outside.specs.declared.folder.Entry.{Entry}
+use Rattle.cds_outside.specs.declared.folder.Entry.TheVariants.{Folder, File, End}
 use Rattle.cds_memory.specs.declared.item.MemItem.{MemItem}
 use Rattle.cds_memory.specs.declared.item.MemItem.TheVariants.{FolderItem, FileItem}
-use Rattle.cds_base.specs.Entries.{OnEntry, IsEntryBehind, all_differ, is_at, is_file_at, is_new, is_tree}
+use Rattle.cds_outside.specs.Entries.{OnEntry, IsEntryBehind, all_differ, is_at, is_file_at, is_new, is_tree}
 use Rattle.cds_memory.specs.Memory.{SourceState}
 use Rattle.cds_memory.specs.Folders.{entry_of, entries_of, source_of, source_at}
 

@@ -1,6 +1,6 @@
 -- What callers see of the clocks in memory.
 use Rattle.std.specs.Prelude.{ℕ, Some, List, [], ◌∷◌, max}
-use Rattle.cds_base.specs.Told.{ClockTold}
+use Rattle.cds_outside.specs.Told.{ClockTold}
 
 -- A clock in memory.
 pub record ClockState : Type 0 where

@@ -1,7 +1,7 @@
 -- What callers see of the connections, doors and spawners in memory.
 use Rattle.std.specs.Prelude.{ℕ, None, List}
-use Rattle.cds_base.specs.Outside.{SinkTold, SourceTold}
-use Rattle.cds_base.specs.Told.{DoorTold, SpawnerTold}
+use Rattle.cds_outside.specs.Outside.{SinkTold, SourceTold}
+use Rattle.cds_outside.specs.Told.{DoorTold, SpawnerTold}
 use Rattle.cds_memory.specs.Memory.{SourceState, SinkState}
 
 -- A connection in memory: what it gives, and what it takes.

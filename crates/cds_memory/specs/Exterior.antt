@@ -2,8 +2,8 @@
 use Rattle.std.specs.Prelude.{◌≡◌, ℕ, Some, List, [], ◌∷◌, map}
 use Rattle.cds_memory.specs.declared.asking.Ask.{Ask}
 use Rattle.cds_memory.specs.declared.asking.Ask.TheVariants.{Folder, Link, Clock, Door, Spawner}
-use Rattle.cds_base.specs.Asked.{Asked, ForClock, ForDoor, ForFolder, ForLink, ForSpawner}
-use Rattle.cds_base.specs.Told.{OutsideTold}
+use Rattle.cds_outside.specs.Asked.{Asked, ForClock, ForDoor, ForFolder, ForLink, ForSpawner}
+use Rattle.cds_outside.specs.Told.{OutsideTold}
 use Rattle.cds_memory.specs.Clocks.{ClockState}
 use Rattle.cds_memory.specs.Doors.{DoorState, SpawnerState}
 use Rattle.cds_memory.specs.Folders.{FolderState, fresh_folder, told_of}

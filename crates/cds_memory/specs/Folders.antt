@@ -3,12 +3,12 @@ use Rattle.std.specs.Prelude.{ℕ, Bool, true, ◌&&◌, if◌then◌else◌, Op
 use Rattle.std.specs.Option.{option_map}
 use Rattle.std.specs.Ordering.{is_lt, nat_cmp}
 use Rattle.std.specs.Cmp.Lexicographic.{slice_cmp}
-use Rattle.cds_base.specs.declared.outside.folder.Entry.{Entry}
-use Rattle.cds_base.specs.declared.outside.folder.Entry.TheVariants.{Folder, File}
+use Rattle.cds_outside.specs.declared.folder.Entry.{Entry}
+use Rattle.cds_outside.specs.declared.folder.Entry.TheVariants.{Folder, File}
 use Rattle.cds_memory.specs.declared.item.MemItem.{MemItem}
 use Rattle.cds_memory.specs.declared.item.MemItem.TheVariants.{FolderItem, FileItem}
 use Rattle.cds_memory.specs.Memory.{SourceState}
-use Rattle.cds_base.specs.Entries.{Contents, FolderTold, is_file_at}
+use Rattle.cds_outside.specs.Entries.{Contents, FolderTold, is_file_at}
 
 -- The entry that an item is given as.
 abbrev pub entry_of : MemItem → Entry

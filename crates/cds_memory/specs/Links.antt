@@ -1,7 +1,7 @@
 -- What callers see of the links in memory.
 use Rattle.std.specs.Prelude.{ℕ, Some, List, []}
-use Rattle.cds_base.specs.declared.outside.link.LinkRequest.{LinkRequest}
-use Rattle.cds_base.specs.Links.{LinkTold}
+use Rattle.cds_outside.specs.declared.link.LinkRequest.{LinkRequest}
+use Rattle.cds_outside.specs.Links.{LinkTold}
 
 -- A link in memory.
 pub record LinkState : Type 0 where

@@ -1,7 +1,7 @@
 -- What callers see of the streams in memory.
 use Rattle.std.specs.Prelude.{◌==◌, ℕ, Bool, Some, List}
 use Rattle.std.specs.List.{list_any}
-use Rattle.cds_base.specs.Outside.{SinkTold, SourceTold, raised}
+use Rattle.cds_outside.specs.Outside.{SinkTold, SourceTold, raised}
 
 -- A source in memory.
 pub record SourceState : Type 0 where

@@ -1,6 +1,6 @@
 //! What the outside in memory was asked for.
 
-use cds_base::Trace;
+use cds_outside::Trace;
 
 /// What the outside in memory was asked for.
 #[derive(Drop)]

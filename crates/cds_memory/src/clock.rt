@@ -3,10 +3,11 @@
 ghost use Rattle.std.specs.Prelude.{◌≡◌, ◌≤◌, [], ◌∷◌, ◌++◌, length, drop, Some, if◌then◌else◌, is_err, IfOk, OnOk, OnErr};
 ghost use Rattle.cds_memory.specs.Clocks.{ClockState, fresh_clock, moment_after};
 ghost use Rattle.cds_memory.specs.Memory.{next_fails};
-ghost use Rattle.cds_base.specs.Outside.{raised, Rose};
+ghost use Rattle.cds_outside.specs.Outside.{raised, Rose};
 
 use crate::streams::is_listed;
-use cds_base::{Clock, Failed, Moments, Numbers, Trace};
+use cds_base::{Moments, Numbers};
+use cds_outside::{Clock, Failed, Trace};
 use std::marker::Model;
 use std::thread::yield_now;
 

@@ -3,11 +3,12 @@
 ghost use Rattle.std.specs.Prelude.{◌≡◌, ℕ, ◌≤◌, ◌<◌, ◌⊎◌, [], ◌++◌, length, take, drop, min, None, Some, is_err, nat_lt, ◌||◌, IfOk, IfSome, OnErr};
 ghost use Rattle.cds_memory.specs.Doors.{ConnState, DoorState, SharedConnState, fresh_door};
 ghost use Rattle.cds_memory.specs.Memory.{SourceState, SinkState, next_fails};
-ghost use Rattle.cds_base.specs.Outside.{raised, Rose};
+ghost use Rattle.cds_outside.specs.Outside.{raised, Rose};
 
 use crate::streams::is_listed;
 use crate::{MemSink, MemSource};
-use cds_base::{Bytes, Conn, Door, Failed, Mem, Numbers, Sequence, Sink, Source};
+use cds_base::{Bytes, Mem, Numbers, Sequence};
+use cds_outside::{Conn, Door, Failed, Sink, Source};
 use std::alloc::{AllocError, Global};
 use std::marker::Model;
 use std::sync::{Arc, Mutex, Wait};

@@ -2,15 +2,16 @@
 
 ghost use Rattle.std.specs.Prelude.{◌≡◌, ◌≤◌, ◌||◌, [], ◌∷◌, ◌++◌, Some, is_none, IfOk, OnErr, IsTrue};
 ghost use Rattle.std.specs.List.{list_any};
-ghost use Rattle.cds_base.specs.Outside.{raised};
+ghost use Rattle.cds_outside.specs.Outside.{raised};
 ghost use Rattle.cds_memory.specs.Memory.{next_fails};
-ghost use Rattle.cds_base.specs.Entries.{OnEntry, IsNext, HasBytes, FailedRose, has_failed, is_new, is_tree, is_file_at};
+ghost use Rattle.cds_outside.specs.Entries.{OnEntry, IsNext, HasBytes, FailedRose, has_failed, is_new, is_tree, is_file_at};
 ghost use Rattle.cds_memory.specs.Folders.{contents_of, entries_of, fresh_folder, given_of, source_at};
 
 use crate::item::{entry_behind, open_item};
 use crate::streams::is_listed;
 use crate::{MemItem, MemSource};
-use cds_base::{Entry, Folder, FolderFault, Mem, Numbers, Sequence};
+use cds_base::{Mem, Numbers, Sequence};
+use cds_outside::{Entry, Folder, FolderFault};
 use std::alloc::Global;
 use std::marker::Model;
 
@@ -30,7 +31,7 @@ pub struct MemFolder {
 
 impl Model for MemFolder {
     ghost use Rattle.std.specs.Prelude.{◌≤◌, length, IsTrue};
-    ghost use Rattle.cds_base.specs.Entries.{is_tree};
+    ghost use Rattle.cds_outside.specs.Entries.{is_tree};
     ghost use Rattle.cds_memory.specs.Folders.{FolderState, entries_of};
 
     ghost Value = { FolderState };

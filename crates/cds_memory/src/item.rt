@@ -3,11 +3,12 @@
 ghost use Rattle.std.specs.Prelude.{◌≡◌, ◌==◌, ◌&&◌, not, Option, Some, None, ◌<◌, length, IfOk, IsTrue};
 ghost use Rattle.std.specs.List.{list_any, list_all};
 ghost use Rattle.std.specs.Str.{bytes_eq};
-ghost use Rattle.cds_base.specs.Entries.{IsEntryBehind, all_differ, is_at, is_file_at, is_held, is_in, is_name, is_new, is_parent_of, is_path_held, is_slash_and_name, is_tree};
+ghost use Rattle.cds_outside.specs.Entries.{IsEntryBehind, all_differ, is_at, is_file_at, is_held, is_in, is_name, is_new, is_parent_of, is_path_held, is_slash_and_name, is_tree};
 ghost use Rattle.cds_memory.specs.Folders.{ascends, entry_of, entries_of, is_before_first, item_path, source_of, source_at};
 
 use crate::MemSource;
-use cds_base::{Bytes, Entry, Mem, Numbers, Text};
+use cds_base::{Bytes, Mem, Numbers, Text};
+use cds_outside::Entry;
 use std::alloc::Global;
 
 /// What stands in a folder in memory.

@@ -1,14 +1,15 @@
 //! Links in memory.
 
 ghost use Rattle.std.specs.Prelude.{◌≡◌, ◌==◌, ◌≤◌, ◌<◌, ◌||◌, ℕ, List, [], ◌∷◌, ◌++◌, length, drop, Some, IfOk, IsErr, IsTrue};
-ghost use Rattle.cds_base.specs.declared.outside.link.LinkRequest.{LinkRequest};
-ghost use Rattle.cds_base.specs.Links.{IsFirstReply, LinkRose, PassesFirst, WhereOver, has_no_reply, requests_after};
+ghost use Rattle.cds_outside.specs.declared.link.LinkRequest.{LinkRequest};
+ghost use Rattle.cds_outside.specs.Links.{IsFirstReply, LinkRose, PassesFirst, WhereOver, has_no_reply, requests_after};
 ghost use Rattle.cds_memory.specs.Links.{LinkState, fresh_link};
 ghost use Rattle.cds_memory.specs.Memory.{next_fails};
-ghost use Rattle.cds_base.specs.Outside.{raised};
+ghost use Rattle.cds_outside.specs.Outside.{raised};
 
 use crate::streams::is_listed;
-use cds_base::{Bytes, Link, LinkFault, LinkRequest, Mem, Numbers, Sequence, Text};
+use cds_base::{Bytes, Mem, Numbers, Sequence, Text};
+use cds_outside::{Link, LinkFault, LinkRequest};
 use std::alloc::Global;
 use std::marker::Model;
 

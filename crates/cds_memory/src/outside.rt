@@ -1,12 +1,12 @@
 //! The outside in memory as a whole: what gives the objects and takes them back.
 
 ghost use Rattle.std.specs.Prelude.{◌≡◌, ◌==◌, ◌≤◌, ◌||◌, if◌then◌else◌, not, [], ◌∷◌, ◌++◌, length, Some, IfOk, OnErr};
-ghost use Rattle.cds_base.specs.Asked.{ForClock, ForDoor, ForFolder, ForLink, ForSpawner, OutsideRose, gave_nothing};
+ghost use Rattle.cds_outside.specs.Asked.{ForClock, ForDoor, ForFolder, ForLink, ForSpawner, OutsideRose, gave_nothing};
 ghost use Rattle.cds_memory.specs.Clocks.{clock_told, fresh_clock};
 ghost use Rattle.cds_memory.specs.Doors.{door_told, fresh_door, fresh_spawner, spawner_told};
-ghost use Rattle.cds_base.specs.Entries.{IsUnasked};
-ghost use Rattle.cds_base.specs.Outside.{Told, raised};
-ghost use Rattle.cds_base.specs.Told.{IsFresh, IsUnsent, unasked_door, unasked_spawner};
+ghost use Rattle.cds_outside.specs.Entries.{IsUnasked};
+ghost use Rattle.cds_outside.specs.Outside.{Told, raised};
+ghost use Rattle.cds_outside.specs.Told.{IsFresh, IsUnsent, unasked_door, unasked_spawner};
 ghost use Rattle.cds_memory.specs.Exterior.{IsFirstOf, asked_of, folder_afresh};
 ghost use Rattle.cds_memory.specs.Folders.{told_of};
 ghost use Rattle.cds_memory.specs.Links.{fresh_link, link_told_of};
@@ -15,7 +15,8 @@ ghost use Rattle.cds_memory.specs.Memory.{next_fails};
 use crate::asking::Ask;
 use crate::streams::is_listed;
 use crate::{MemClock, MemDoor, MemFolder, MemLink, MemSpawner};
-use cds_base::{Numbers, Outside, OutsideFault, Sequence, Trace};
+use cds_base::{Numbers, Sequence};
+use cds_outside::{Outside, OutsideFault, Trace};
 use std::alloc::Global;
 use std::marker::{Model, Send};
 use std::sync::Wait;

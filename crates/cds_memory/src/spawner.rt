@@ -3,10 +3,11 @@
 ghost use Rattle.std.specs.Prelude.{◌≡◌, ◌≤◌, if◌then◌else◌, is_err, IsFalse, OnErr};
 ghost use Rattle.cds_memory.specs.Doors.{SpawnerState, fresh_spawner};
 ghost use Rattle.cds_memory.specs.Memory.{next_fails};
-ghost use Rattle.cds_base.specs.Outside.{raised, Rose};
+ghost use Rattle.cds_outside.specs.Outside.{raised, Rose};
 
 use crate::streams::is_listed;
-use cds_base::{Attempt, Failed, Numbers, Spawner};
+use cds_base::Numbers;
+use cds_outside::{Attempt, Failed, Spawner};
 use std::marker::Model;
 
 /// A spawner that starts real threads. It fails at the calls that it was told.

@@ -2,10 +2,11 @@
 
 ghost use Rattle.std.specs.Prelude.{◌≡◌, ℕ, ◌+◌, ◌≤◌, ◌<◌, ◌⊎◌, List, Some, [], ◌++◌, length, take, drop, min, ◌==◌, if◌then◌else◌, is_err, nat_lt, ◌||◌, IfOk, OnErr, IsTrue, IsErr};
 ghost use Rattle.std.specs.List.{list_any};
-ghost use Rattle.cds_base.specs.Outside.{raised, Rose};
+ghost use Rattle.cds_outside.specs.Outside.{raised, Rose};
 ghost use Rattle.cds_memory.specs.Memory.{SourceState, SinkState, next_fails};
 
-use cds_base::{Bytes, Failed, Mem, Numbers, Sink, Source};
+use cds_base::{Bytes, Mem, Numbers};
+use cds_outside::{Failed, Sink, Source};
 use std::alloc::Global;
 use std::marker::Model;
 

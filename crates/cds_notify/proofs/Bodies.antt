@@ -5,10 +5,9 @@ use Rattle.std.specs.Fmt.{decimal}
 use Rattle.std.specs.Option.{option_and_then}
 use Rattle.std.proofs.lemmas.Bool.Decides.{nat_tests}
 use Rattle.std.proofs.lemmas.Str.{encode_ascii}
-use Rattle.cds_base.specs.Characters.{is_allowed}
+use Rattle.cds_base.specs.Characters.{is_allowed, AreAllowed}
 use Rattle.cds_base.specs.Escape.{escaped, escaped_byte}
 use Rattle.cds_base.specs.Number.{number_below}
-use Rattle.cds_base.specs.Unescape.{AreAllowed}
 use Rattle.cds_object.specs.Writing.{attribute, number_attribute}
 use Rattle.cds_object.specs.declared.event.Class.{Class}
 use Rattle.cds_object.specs.declared.event.Class.TheVariants.{Container, Track}

@@ -6,7 +6,8 @@ ghost use Rattle.cds_base.specs.Escape.{escaped};
 ghost use Rattle.cds_lastchange.specs.Spelled.{spelled};
 ghost use Rattle.cds_notify.specs.Propertyset.{further_text, named, pair_text, pairs_text, property, propertyset_text};
 
-use cds_base::{Mem, escaped_length, put_escaped};
+use cds_base::Mem;
+use cds_escape::{escaped_length, put_escaped};
 use cds_lastchange::write_state_event;
 use cds_object::Event;
 use std::alloc::Global;

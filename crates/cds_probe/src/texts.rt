@@ -2,7 +2,8 @@
 
 use crate::row::Row;
 use crate::show::Out;
-use cds_base::{escape, first_forbidden, letters_run, plain_run, read_plain, read_u32, unescape};
+use cds_base::{escape, first_forbidden, letters_run, plain_run, read_plain, read_u32};
+use cds_escape::unescape;
 use cds_object::clean;
 use std::alloc::Global;
 

@@ -2,7 +2,7 @@
 
 ghost use Rattle.std.specs.Prelude.{◌≡◌, ◌≢◌, ◌⊎◌, ◌≤◌, ◌<◌, ◌+◌, ◌++◌, ℕ, [], Some, None, List, OnErr, OnOk};
 ghost use Rattle.cds_base.specs.declared.limits.TheConstants.{INPUT_LIMIT};
-ghost use Rattle.cds_base.specs.Outside.{raised, Rose, Told};
+ghost use Rattle.cds_outside.specs.Outside.{raised, Rose, Told};
 ghost use Rattle.cds_script.specs.Lines.{line_limit};
 ghost use Rattle.cds_script.specs.Complete.{AnswersAreComplete};
 ghost use Rattle.cds_script.specs.LoadBounds.{BoundsLoads};
@@ -17,8 +17,9 @@ ghost use Rattle.cds_program.specs.Command.{command_of, folder_in, place_in, Ser
 ghost use Rattle.cds_program.specs.declared.command.Command.TheVariants.{Replay, Check, Scan, Serve, Help, Version};
 
 use crate::command::{Command, folder_in, place_in, read_command};
-use crate::serving::serve_folder;
-use cds_base::{Door, Folder, Outside, Runtime, Sink, Source, Words};
+use crate::serving::{Service, serve_folder};
+use cds_base::Words;
+use cds_outside::{Door, Folder, Outside, Runtime, Sink, Source};
 use cds_replay::{ReplayError, replay};
 use cds_subcommands::{check, scan_folder, write_text};
 use std::alloc::Global;
@@ -221,8 +222,12 @@ where
         Some(Command::Check) => check(alloc, source, sink),
         Some(Command::Scan) => scan_folder(alloc, folder_in(words.as_slice()), outside, sink),
         Some(Command::Serve { port, requests }) => {
-            let folder = place_in(words.as_slice());
-            serve_folder(rt, alloc, port, folder, requests, sink, outside)
+            let service = Service {
+                port,
+                folder: place_in(words.as_slice()),
+                requests,
+            };
+            serve_folder(rt, alloc, &service, sink, outside)
         }
         Some(Command::Help) => write_help(sink),
         Some(Command::Version) => write_text(sink, VERSION.as_bytes(), 0),

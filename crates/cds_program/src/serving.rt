@@ -1,28 +1,34 @@
 //! A folder that is served.
 
 ghost use Rattle.std.specs.Prelude.{◌≡◌, ◌⊎◌, ◌≤◌};
-ghost use Rattle.cds_base.specs.Outside.{Rose};
+ghost use Rattle.cds_outside.specs.Outside.{Rose};
 ghost use Rattle.cds_serve.specs.Life.{EndsLife};
 
-use cds_base::{Door, Folder, NoGate, Outside, Runtime, Sink};
+use cds_outside::{Door, Folder, NoGate, Outside, Runtime, Sink};
 use cds_serve::serve;
 use std::alloc::Global;
 use std::marker::Send;
 
-/// Serves the folder at a port for this many connections, and answers the status of `serve`.
+/// What is served: the folder at a path, at a port, for this many connections.
+#[derive(Clone, Copy)]
+pub struct Service<'a> {
+    pub port: u16,
+    pub folder: &'a str,
+    pub requests: u32,
+}
+
+/// Serves a folder, and answers the status of `serve`.
 pub fn serve_folder<R: Runtime, K: Sink, O: Outside>(
     rt: &R,
     alloc: Global,
-    port: u16,
-    folder: &str,
-    requests: u32,
+    service: &Service<'_>,
     sink: &mut K,
     outside: &mut O,
 ) -> u8
 where
     <O::D as Door>::Conn: Send,
     <O::F as Folder>::File: Send,
-    ensures ends { EndsLife port folder.now requests result
+    ensures ends { EndsLife service.now.port service.now.folder.now service.now.requests result
         (record { outside = O.told outside.old; sink = K.told sink.old })
         (record { outside = O.told outside.new; sink = K.told sink.new }) }
     ensures ended_stay { (O.told outside.new).ended ≡ (O.told outside.old).ended }
@@ -34,9 +40,9 @@ where
     serve(
         rt,
         alloc,
-        port,
-        folder,
-        requests,
+        service.port,
+        service.folder,
+        service.requests,
         sink,
         outside,
         &mut NoGate,

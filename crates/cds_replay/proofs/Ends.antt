@@ -7,7 +7,7 @@ use Rattle.cds_script.specs.Report.{limit_ending}
 use Rattle.cds_script.specs.Script.{meaning_of}
 use Rattle.cds_script.proofs.Lines.{lines-append, ended-append, ended-none, lines-last, take-past, lines-begin, ended-begin, take-through, take-within}
 use Rattle.cds_replay.specs.Wire.{WiredEnding, unrefused, Either, EndsAtLine, EndsFrom, EndsOf, lines_in}
-use Rattle.cds_replay.specs.Wired.{Step}
+use Rattle.cds_replay.specs.Wired.{ReplayStep}
 
 -- a test that holds, and one that does not
 pub either-first : (b : Bool) (P Q : Type 0) → b ≡ true → P → Either b P Q
@@ -17,7 +17,7 @@ pub either-second : (b : Bool) (P Q : Type 0) → b ≡ false → Q → Either b
 either-second b P Q is q = subst (λ c. Either c P Q) (sym is) q
 
 -- the same told with other numbers and bytes
-pub ends-same : (carried : List ℕ → List ℕ) (steps : List Step) (ending : WiredEnding) (number line room left : ℕ) (bytes others : List ℕ) → number ≡ line → room ≡ left →
+pub ends-same : (carried : List ℕ → List ℕ) (steps : List ReplayStep) (ending : WiredEnding) (number line room left : ℕ) (bytes others : List ℕ) → number ≡ line → room ≡ left →
     bytes ≡ others → EndsOf carried steps number room bytes ending → EndsOf carried steps line left others ending
 ends-same carried steps ending number line room left bytes others n r b ends =
     subst (λ bs. EndsOf carried steps line left bs ending) b
@@ -46,7 +46,7 @@ lines-next line after room whole enough =
     by false = ap ended_lines (take-past line after room enough) ∙ ended-append line (take (room - (length line + 1)) after) whole
 
 -- the next line and its LF, where they are within the room that is left and the line is no longer than it may be
-pub ends-line : (carried : List ℕ → List ℕ) (steps : List Step) (ending : WiredEnding) (number room : ℕ) (line after : List ℕ) → is_unbroken line ≡ true →
+pub ends-line : (carried : List ℕ → List ℕ) (steps : List ReplayStep) (ending : WiredEnding) (number room : ℕ) (line after : List ℕ) → is_unbroken line ≡ true →
     length line + 1 ≤ room → length line ≤ line_limit →
     EndsAtLine carried steps (meaning_of line) number (λ now later. EndsOf carried now (number + 1) (room - (length line + 1)) after later) ending →
     EndsOf carried steps number room (line ++ 10 ∷ after) ending
@@ -58,7 +58,7 @@ ends-line carried steps ending number room line after whole enough short ends =
     (le-ltb line_limit (length line) short) ends))
 
 -- a last line without its LF
-pub ends-last : (carried : List ℕ → List ℕ) (steps : List Step) (ending : WiredEnding) (number room : ℕ) (line : List ℕ) → is_unbroken line ≡ true →
+pub ends-last : (carried : List ℕ → List ℕ) (steps : List ReplayStep) (ending : WiredEnding) (number room : ℕ) (line : List ℕ) → is_unbroken line ≡ true →
     length line ≤ room → length line ≤ line_limit → (length line ≡ 0 → ⊥) →
     EndsAtLine carried steps (meaning_of line) number (λ now later. later ≡ unrefused now (record { status = 0; text = [] })) ending →
     EndsOf carried steps number room line ending
@@ -76,13 +76,13 @@ ends-last carried steps ending number room (b ∷ line) whole enough short some 
         ∙ lines-last b line whole
 
 -- the end of a script
-pub ends-none : (carried : List ℕ → List ℕ) (steps : List Step) (number room : ℕ) → EndsOf carried steps number room [] (unrefused steps (record { status = 0; text = [] }))
+pub ends-none : (carried : List ℕ → List ℕ) (steps : List ReplayStep) (number room : ℕ) → EndsOf carried steps number room [] (unrefused steps (record { status = 0; text = [] }))
 ends-none carried steps number room =
     subst (λ c. EndsFrom carried steps number (cond c (lines_of []) (ended_lines (take room []))) c (unrefused steps (record { status = 0; text = [] })))
     (sym (le-leb 0 room (omega arith))) refl
 
 -- more bytes than there is room for, without a line that ends within it
-ends-over : (carried : List ℕ → List ℕ) (steps : List Step) (number room : ℕ) (bytes : List ℕ) → is_unbroken (take room bytes) ≡ true → room < length bytes →
+ends-over : (carried : List ℕ → List ℕ) (steps : List ReplayStep) (number room : ℕ) (bytes : List ℕ) → is_unbroken (take room bytes) ≡ true → room < length bytes →
     EndsOf carried steps number room bytes (unrefused steps limit_ending)
 ends-over carried steps number room bytes whole over =
     subst (λ c. EndsFrom carried steps number (cond c (lines_of bytes) (ended_lines (take room bytes))) c (unrefused steps limit_ending))
@@ -90,7 +90,7 @@ ends-over carried steps number room bytes whole over =
     (subst (λ ls. EndsFrom carried steps number ls false (unrefused steps limit_ending)) (sym (ended-none (take room bytes) whole)) refl)
 
 -- a line that is too long ends the script, however it goes on
-ends-long : (carried : List ℕ → List ℕ) (steps : List Step) (number room : ℕ) (front more : List ℕ) → is_unbroken front ≡ true → line_limit < length front →
+ends-long : (carried : List ℕ → List ℕ) (steps : List ReplayStep) (number room : ℕ) (front more : List ℕ) → is_unbroken front ≡ true → line_limit < length front →
     EndsOf carried steps number room (front ++ more) (unrefused steps limit_ending)
 ends-long carried steps number room [] more whole long = absurd (omega (arith, long))
 ends-long carried steps number room (b ∷ front) more whole long =
@@ -126,7 +126,7 @@ ends-long carried steps number room (b ∷ front) more whole long =
         (ended (take (room - length (b ∷ front)) more) (ended-begin b front (take (room - length (b ∷ front)) more) whole))
 
 -- a line of which more has come than one of both limits allows
-pub ends-limit : (carried : List ℕ → List ℕ) (steps : List Step) (number room : ℕ) (front more : List ℕ) → is_unbroken front ≡ true →
+pub ends-limit : (carried : List ℕ → List ℕ) (steps : List ReplayStep) (number room : ℕ) (front more : List ℕ) → is_unbroken front ≡ true →
     ((is_unbroken (take room (front ++ more)) ≡ true) × (room < length (front ++ more))) ⊎ (line_limit < length front) →
     EndsOf carried steps number room (front ++ more) (unrefused steps limit_ending)
 ends-limit carried steps number room front more whole (inl over) = ends-over carried steps number room (front ++ more) over.0 over.1

@@ -16,11 +16,11 @@ use Rattle.cds_script.specs.Report.{Played, first_of, clock_of, records_since, a
 use Rattle.cds_script.specs.Script.{grant_at}
 use Rattle.cds_script.specs.declared.reply.HeldReply.{HeldReply}
 use Rattle.cds_script.specs.declared.reply.HeldReply.TheVariants.{NoReply, Named, Refusal}
-use Rattle.cds_script.specs.declared.turn.Turn.{Turn}
-use Rattle.cds_script.specs.declared.turn.Turn.TheVariants.{Folder, Track, Tag, Scan, Load, Read, Ask, First, At, Subscribe, Accept, Renew, Unsubscribe, Deliver, ReadFault}
+use Rattle.cds_script.specs.declared.turn.ScriptTurn.{ScriptTurn}
+use Rattle.cds_script.specs.declared.turn.ScriptTurn.TheVariants.{Folder, Track, Tag, Scan, Load, Read, Ask, First, At, Subscribe, Accept, Renew, Unsubscribe, Deliver, ReadFault}
 use Rattle.cds_replay.specs.Lines.{known_text}
 use Rattle.cds_replay.specs.Wire.{rows_read, WasLeft, WritesWhatWasLeft, asks_write_what_was_left}
-use Rattle.cds_replay.specs.Wired.{Step, turns_in, and_read, play_read, played_by}
+use Rattle.cds_replay.specs.Wired.{ReplayStep, turns_in, and_read, play_read, played_by}
 
 -- what is so of each thing
 all-weaker : {A : Type 0} (P Q : A → Type 0) (xs : List A) → ((x : A) → P x → Q x) → AllByRecursion P xs → AllByRecursion Q xs
@@ -54,7 +54,7 @@ module _ (row : ObjectRow) where
   and-note None turns shown = shown
   and-note (Some note) turns shown = and-none (Delivers note) turns (λ s. s) shown
 
-  one-left : (read : Option Shown) (first now : ℕ) (records : List Record) (p : Played) (turn : Turn) → WasShown row (play_read read first now records p turn).replica →
+  one-left : (read : Option Shown) (first now : ℕ) (records : List Record) (p : Played) (turn : ScriptTurn) → WasShown row (play_read read first now records p turn).replica →
       HasVersion row (rows_read read) ⊎ WasShown row p.replica
   one-left read first now records p (Folder path) s = inr s
   one-left read first now records p (Track path info size) s = inr s
@@ -83,7 +83,7 @@ module _ (row : ObjectRow) where
   one-left read first now records p ReadFault s = inr s
 
   -- what was shown to the replica was left by the wire
-  was-left : (steps : List Step) → WasShown row (played_by steps).replica → WasLeft row steps
+  was-left : (steps : List ReplayStep) → WasShown row (played_by steps).replica → WasLeft row steps
   was-left [] shown = shown
   was-left (step ∷ older) shown =
       by (one-left step.read (first_of (turns_in older)) (clock_of (turns_in older)) (records_since (turns_in older)) (played_by older) step.turn shown) (was-left older)

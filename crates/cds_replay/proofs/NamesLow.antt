@@ -14,10 +14,10 @@ use Rattle.cds_script.specs.Report.{Played, first_of, clock_of, records_since, a
 use Rattle.cds_script.specs.Script.{grant_at}
 use Rattle.cds_script.specs.declared.reply.HeldReply.{HeldReply}
 use Rattle.cds_script.specs.declared.reply.HeldReply.TheVariants.{NoReply, Named, Refusal}
-use Rattle.cds_script.specs.declared.turn.Turn.{Turn}
-use Rattle.cds_script.specs.declared.turn.Turn.TheVariants.{Folder, Track, Tag, Scan, Load, Read, Ask, First, At, Subscribe, Accept, Renew, Unsubscribe, Deliver, ReadFault}
+use Rattle.cds_script.specs.declared.turn.ScriptTurn.{ScriptTurn}
+use Rattle.cds_script.specs.declared.turn.ScriptTurn.TheVariants.{Folder, Track, Tag, Scan, Load, Read, Ask, First, At, Subscribe, Accept, Renew, Unsubscribe, Deliver, ReadFault}
 use Rattle.cds_replay.specs.Session.{script_start, script_names}
-use Rattle.cds_replay.specs.Wired.{Step, turns_in, and_read, play_read, played_by}
+use Rattle.cds_replay.specs.Wired.{ReplayStep, turns_in, and_read, play_read, played_by}
 use Rattle.cds_replay.proofs.Turned.{scanned-granted, ended-granted, renewed-granted}
 
 abbrev LowName : Option ℕ → ℕ → Type 0
@@ -63,7 +63,7 @@ low-with : (replica : List ReplicaTurn) (reply : HeldReply) (most other : ℕ) �
     LowName (accepted replica) other × LowReply reply other
 low-with replica reply most other same low = subst (λ n. LowName (accepted replica) n × LowReply reply n) (sym same) low
 
-one-low : (read : Option Shown) (first now : ℕ) (records : List Record) (p : Played) (turn : Turn) → AreLow p → AreLow (play_read read first now records p turn)
+one-low : (read : Option Shown) (first now : ℕ) (records : List Record) (p : Played) (turn : ScriptTurn) → AreLow p → AreLow (play_read read first now records p turn)
 one-low read first now records p (Folder path) low = low
 one-low read first now records p (Track path info size) low = low
 one-low read first now records p (Tag comment) low = low
@@ -91,7 +91,7 @@ one-low read first now records p Unsubscribe low = low-with p.replica p.reply (g
 one-low read first now records p (Deliver note) low = (note-low (sent_note note (notes_of first p.commands)) p.replica (granted p.commands) low.0, low.1)
 one-low read first now records p ReadFault low = low
 
-all-low : (steps : List Step) → AreLow (played_by steps)
+all-low : (steps : List ReplayStep) → AreLow (played_by steps)
 all-low [] = (tt, tt)
 all-low (step ∷ older) =
     one-low step.read (first_of (turns_in older)) (clock_of (turns_in older)) (records_since (turns_in older)) (played_by older) step.turn (all-low older)
@@ -100,7 +100,7 @@ short-name : (names name : ℕ) → names + 2 ^ 32 ≤ 2 ^ 128 → name < 2 ^ 32
 short-name names name room few = omega (arith, room, few)
 
 -- so its name on the wire has 128 bits
-pub accepted-short : (steps : List Step) (name : ℕ) → accepted (played_by steps).replica ≡ Some name → granted (played_by steps).commands < 2 ^ 32 → script_names name < 2 ^ 128
+pub accepted-short : (steps : List ReplayStep) (name : ℕ) → accepted (played_by steps).replica ≡ Some name → granted (played_by steps).commands < 2 ^ 32 → script_names name < 2 ^ 128
 accepted-short steps name is few =
     let low : name ≤ granted (played_by steps).commands = subst (λ o. LowName o (granted (played_by steps).commands)) is (all-low steps).0 in
     short-name (names_of (script_start 0)) name (omega arith) (omega (arith, low, few))

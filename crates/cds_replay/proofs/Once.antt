@@ -12,10 +12,10 @@ use Rattle.cds_script.specs.Script.{meaning_of}
 use Rattle.cds_script.specs.Report.{outside_ending, limit_ending}
 use Rattle.cds_script.specs.declared.turn.Meaning.{Meaning}
 use Rattle.cds_script.specs.declared.turn.Meaning.TheVariants.{Nothing, Means, Outside}
-use Rattle.cds_script.specs.declared.turn.Turn.{Turn}
-use Rattle.cds_script.specs.declared.turn.Turn.TheVariants.{Folder, Track, Tag, Scan, Load, Read, Ask, First, At, Subscribe, Accept, Renew, Unsubscribe, Deliver, ReadFault}
+use Rattle.cds_script.specs.declared.turn.ScriptTurn.{ScriptTurn}
+use Rattle.cds_script.specs.declared.turn.ScriptTurn.TheVariants.{Folder, Track, Tag, Scan, Load, Read, Ask, First, At, Subscribe, Accept, Renew, Unsubscribe, Deliver, ReadFault}
 use Rattle.cds_replay.specs.Wire.{WiredEnding, unrefused, refused_at, wired_first, server_reply, Either, IsLeftOf, IsReadBy, EndsAtStep, EndsAtTurn, EndsAtLine, EndsFrom, EndsOver, lines_in, wires_end_once}
-use Rattle.cds_replay.specs.Wired.{Step, played_by, moment_by, may_stand_by, refuses, written_on}
+use Rattle.cds_replay.specs.Wired.{ReplayStep, played_by, moment_by, may_stand_by, refuses, written_on}
 
 -- whichever way a test goes
 either-same : (b : Bool) (P Q R S : Type 0) (T : Type 0) → (P → R → T) → (Q → S → T) → Either b P Q → Either b R S → T
@@ -26,7 +26,7 @@ left-once : (carried : List ℕ → List ℕ) (moment : Moment) (o : Option Aske
 left-once carried moment None one other is also = is ∙ sym also
 left-once carried moment (Some ask) one other is also = readings-are-one ask (carried (server_reply moment ask)) one other is also
 
-read-once : (carried : List ℕ → List ℕ) (older : List Step) (turn : Turn) (one other : Option Shown) → IsReadBy carried older turn one → IsReadBy carried older turn other → one ≡ other
+read-once : (carried : List ℕ → List ℕ) (older : List ReplayStep) (turn : ScriptTurn) (one other : Option Shown) → IsReadBy carried older turn one → IsReadBy carried older turn other → one ≡ other
 read-once carried older (Folder path) one other is also = is ∙ sym also
 read-once carried older (Track path info size) one other is also = is ∙ sym also
 read-once carried older (Tag comment) one other is also = is ∙ sym also
@@ -43,8 +43,8 @@ read-once carried older Unsubscribe one other is also = is ∙ sym also
 read-once carried older (Deliver note) one other is also = is ∙ sym also
 read-once carried older ReadFault one other is also = is ∙ sym also
 
-module _ (carried : List ℕ → List ℕ) (Later : List Step → WiredEnding → Type 0) (once : (now : List Step) (a b : WiredEnding) → Later now a → Later now b → a ≡ b) where
-  step-once : (older : List Step) (step : Step) (number : ℕ) (one other : WiredEnding) → EndsAtStep older step number Later one → EndsAtStep older step number Later other → one ≡ other
+module _ (carried : List ℕ → List ℕ) (Later : List ReplayStep → WiredEnding → Type 0) (once : (now : List ReplayStep) (a b : WiredEnding) → Later now a → Later now b → a ≡ b) where
+  step-once : (older : List ReplayStep) (step : ReplayStep) (number : ℕ) (one other : WiredEnding) → EndsAtStep older step number Later one → EndsAtStep older step number Later other → one ≡ other
   step-once older step number one other ends also =
       either-same (refuses older step) (one ≡ refused_at (step ∷ older) number)
       ((later : WiredEnding) × Later (step ∷ older) later × (one ≡ wired_first (written_on older step) later))
@@ -53,7 +53,7 @@ module _ (carried : List ℕ → List ℕ) (Later : List Step → WiredEnding �
       (one ≡ other) (λ a b. a ∙ sym b)
       (λ a b. a.2 ∙ ap (wired_first (written_on older step)) (once (step ∷ older) a.0 b.0 a.1 b.1) ∙ sym b.2) ends also
 
-  turn-once : (older : List Step) (turn : Turn) (number : ℕ) (one other : WiredEnding) → EndsAtTurn carried older turn number Later one →
+  turn-once : (older : List ReplayStep) (turn : ScriptTurn) (number : ℕ) (one other : WiredEnding) → EndsAtTurn carried older turn number Later one →
       EndsAtTurn carried older turn number Later other → one ≡ other
   turn-once older turn number one other ends also =
       either-same (may_stand_by older turn)
@@ -66,13 +66,13 @@ module _ (carried : List ℕ → List ℕ) (Later : List Step → WiredEnding �
       (subst (λ read. EndsAtStep older (record { turn = turn; read = read }) number Later other) (sym (read-once carried older turn a.0 b.0 a.1 b.1)) b.2))
       (λ a b. a ∙ sym b) ends also
 
-  line-once : (steps : List Step) (meaning : Meaning) (number : ℕ) (one other : WiredEnding) → EndsAtLine carried steps meaning number Later one →
+  line-once : (steps : List ReplayStep) (meaning : Meaning) (number : ℕ) (one other : WiredEnding) → EndsAtLine carried steps meaning number Later one →
       EndsAtLine carried steps meaning number Later other → one ≡ other
   line-once steps Nothing number one other ends also = once steps one other ends also
   line-once steps (Means turn) number one other ends also = turn-once steps turn number one other ends also
   line-once steps Outside number one other ends also = ends ∙ sym also
 
-from-once : (carried : List ℕ → List ℕ) (lines : List (List ℕ)) (whole : Bool) (number : ℕ) (steps : List Step) (one other : WiredEnding) →
+from-once : (carried : List ℕ → List ℕ) (lines : List (List ℕ)) (whole : Bool) (number : ℕ) (steps : List ReplayStep) (one other : WiredEnding) →
     EndsFrom carried steps number lines whole one → EndsFrom carried steps number lines whole other → one ≡ other
 from-once carried [] whole number steps one other ends also = ends ∙ sym also
 from-once carried (line ∷ lines) whole number steps one other ends also =

@@ -26,9 +26,9 @@ use Rattle.cds_script.specs.Script.{IsInRange, IsInfoInRange, grant_at, granted_
 use Rattle.cds_script.specs.declared.found.Found.{Found}
 use Rattle.cds_script.specs.declared.found.Found.TheVariants.{Folder as FolderFound, Track as TrackFound}
 use Rattle.cds_script.specs.declared.reply.HeldReply.TheVariants.{Named, Refusal}
-use Rattle.cds_script.specs.declared.turn.Turn.{Turn}
-use Rattle.cds_script.specs.declared.turn.Turn.TheVariants.{Folder, Track, Tag, Scan, Load, Read, Ask, First, At, Subscribe, Accept, Renew, Unsubscribe, Deliver, ReadFault}
-use Rattle.cds_replay.specs.Wired.{Step, turns_in, play_read, played_by, moment_by, AllStandBy, MayBeBy}
+use Rattle.cds_script.specs.declared.turn.ScriptTurn.{ScriptTurn}
+use Rattle.cds_script.specs.declared.turn.ScriptTurn.TheVariants.{Folder, Track, Tag, Scan, Load, Read, Ask, First, At, Subscribe, Accept, Renew, Unsubscribe, Deliver, ReadFault}
+use Rattle.cds_replay.specs.Wired.{ReplayStep, turns_in, play_read, played_by, moment_by, AllStandBy, MayBeBy}
 use Rattle.cds_script.proofs.Given.{ScannedCases, scanned-cases, scan-accepted}
 
 -- ---- what was found
@@ -50,7 +50,7 @@ last-plain comment [] all = tt
 last-plain comment (found ∷ []) all = (commented-plain comment found all.0, tt)
 last-plain comment (found ∷ next ∷ others) all = (all.0, last-plain comment (next ∷ others) all.1)
 
-found-plain : (turns : List Turn) → AllByRecursion IsInRange turns → AllByRecursion IsPlainFound (found_since turns)
+found-plain : (turns : List ScriptTurn) → AllByRecursion IsInRange turns → AllByRecursion IsPlainFound (found_since turns)
 found-plain [] all = tt
 found-plain (Folder path ∷ older) all = one-more (found_since older) (FolderFound path) (found-plain older all.1) tt
 found-plain (Track path info size ∷ older) all =
@@ -116,7 +116,7 @@ renewal-plain first now commands (Some name) has = by (lives name first now comm
     by true = same-scans commands (Renews now name granted_seconds ∷ commands) refl has
     by false = has
 
-one-plain : (read : Option Shown) (first now : ℕ) (records : List Record) (p : Played) (turn : Turn) → ArePlainRecords records → HasPlainScans p.commands →
+one-plain : (read : Option Shown) (first now : ℕ) (records : List Record) (p : Played) (turn : ScriptTurn) → ArePlainRecords records → HasPlainScans p.commands →
     HasPlainScans (play_read read first now records p turn).commands
 one-plain read first now records p (Folder path) plain has = has
 one-plain read first now records p (Track path info size) plain has = has
@@ -144,7 +144,7 @@ one-plain read first now records p Unsubscribe plain has = given-plain first now
 one-plain read first now records p (Deliver note) plain has = has
 one-plain read first now records p ReadFault plain has = has
 
-steps-plain : (steps : List Step) → AllByRecursion IsInRange (turns_in steps) → HasPlainScans (played_by steps).commands
+steps-plain : (steps : List ReplayStep) → AllByRecursion IsInRange (turns_in steps) → HasPlainScans (played_by steps).commands
 steps-plain [] all = record { scans = []; are = refl; plain = tt; good = tt }
 steps-plain (step ∷ older) all =
     one-plain step.read (first_of (turns_in older)) (clock_of (turns_in older)) (records_since (turns_in older)) (played_by older) step.turn
@@ -183,7 +183,7 @@ renewal-accepted first now commands (Some name) a = by (lives name first now com
     by true = more-accepted first commands (Renews now name granted_seconds ∷ commands) refl a
     by false = a
 
-one-accepted : (read : Option Shown) (first now : ℕ) (records : List Record) (p : Played) (turn : Turn) → AreAccepted first p.commands →
+one-accepted : (read : Option Shown) (first now : ℕ) (records : List Record) (p : Played) (turn : ScriptTurn) → AreAccepted first p.commands →
     AreAccepted first (play_read read first now records p turn).commands
 one-accepted read first now records p (Folder path) a = a
 one-accepted read first now records p (Track path info size) a = a
@@ -215,7 +215,7 @@ none-accepted : (first : ℕ) → first ≤ 4294967295 → AreAccepted first []
 none-accepted first low = record { libraries = tt; few = tt; numbers = omega (arith, low) }
 
 -- the oldest turn may say the first number
-begun-accepted : (read : Option Shown) (turn : Turn) → number_of turn ≤ 4294967295 → AreAccepted (number_of turn) (play_read read 0 0 [] (played_by []) turn).commands
+begun-accepted : (read : Option Shown) (turn : ScriptTurn) → number_of turn ≤ 4294967295 → AreAccepted (number_of turn) (play_read read 0 0 [] (played_by []) turn).commands
 begun-accepted read (Folder path) low = none-accepted 0 low
 begun-accepted read (Track path info size) low = none-accepted 0 low
 begun-accepted read (Tag comment) low = none-accepted 0 low
@@ -232,7 +232,7 @@ begun-accepted read Unsubscribe low = one-accepted read 0 0 [] (played_by []) Un
 begun-accepted read (Deliver note) low = none-accepted 0 low
 begun-accepted read ReadFault low = none-accepted 0 low
 
-pub steps-accepted : (steps : List Step) → first_of (turns_in steps) ≤ 4294967295 → AreAccepted (first_of (turns_in steps)) (played_by steps).commands
+pub steps-accepted : (steps : List ReplayStep) → first_of (turns_in steps) ≤ 4294967295 → AreAccepted (first_of (turns_in steps)) (played_by steps).commands
 steps-accepted [] low = none-accepted 0 low
 steps-accepted (step ∷ []) low = begun-accepted step.read step.turn low
 steps-accepted (step ∷ next ∷ older) low =
@@ -253,7 +253,7 @@ token-plain : IsPlainText script_token
 token-plain = record { allowed = allowed-plain script_token refl; short = omega arith }
 
 -- so what the server has is plain
-pub moment-plain : (steps : List Step) → first_of (turns_in steps) ≤ 4294967295 → AllByRecursion IsInRange (turns_in steps) → IsPlainMoment (moment_by steps)
+pub moment-plain : (steps : List ReplayStep) → first_of (turns_in steps) ≤ 4294967295 → AllByRecursion IsInRange (turns_in steps) → IsPlainMoment (moment_by steps)
 moment-plain steps low all =
     subst IsPlainMoment (ap (λ (h : History). record { token = script_token; number = end_of h; rows = catalog h }) (sym history))
     (histories-are-plain script_token first has.scans token-plain has.plain has.good (at (steps-accepted steps low).numbers))
@@ -273,9 +273,9 @@ moment-plain steps low all =
     at : end_of (scans_of first commands) ≤ 4294967295 → end_of (record { first = first; maps = map map_of has.scans }) < 2 ^ 32
     at number = subst (λ (h : History). end_of h < 4294967296) history (omega (arith, number))
 
-all-fit : (steps : List Step) → AllStandBy steps → AllByRecursion IsInRange (turns_in steps)
+all-fit : (steps : List ReplayStep) → AllStandBy steps → AllByRecursion IsInRange (turns_in steps)
 all-fit [] stand = tt
 all-fit (step ∷ older) stand = (stand.1, all-fit older stand.3)
 
-pub may-plain : (steps : List Step) → MayBeBy steps → IsPlainMoment (moment_by steps)
+pub may-plain : (steps : List ReplayStep) → MayBeBy steps → IsPlainMoment (moment_by steps)
 may-plain steps may = moment-plain steps may.number (all-fit steps may.stand)

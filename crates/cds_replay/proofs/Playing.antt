@@ -1,10 +1,10 @@
 -- A replay under way, at its next piece and at its end.
 use Rattle.std.proofs.Common.{◌≡◌, ℕ, ◌+◌, ◌-◌, ◌≤◌, min, ◌^◌, List, [], ◌++◌, take, drop, Option, Some, None, Result, Ok, Err, IfErr, OnOk, refl, ap, sym, subst, ◌∙◌, append_assoc, arith}
 use Rattle.std.proofs.lemmas.List.{append-nil, take-append-drop}
-use Rattle.cds_base.specs.Outside.{raised, Told}
+use Rattle.cds_outside.specs.Outside.{raised, Told}
 use Rattle.cds_replay.specs.declared.script.Script.{Script}
-use Rattle.cds_replay.specs.declared.script.Stop.{Stop}
-use Rattle.cds_replay.specs.declared.script.Stop.TheVariants.{Outside, Limit as PastLimit, Refused as RefusedAt}
+use Rattle.cds_replay.specs.declared.script.ScriptStop.{ScriptStop}
+use Rattle.cds_replay.specs.declared.script.ScriptStop.TheVariants.{Outside, Limit as PastLimit, Refused as RefusedAt}
 use Rattle.cds_replay.specs.declared.play.ReplayError.{ReplayError}
 use Rattle.cds_replay.specs.declared.play.ReplayError.TheVariants.{Line, ReadFault, WriteFault, Limit, Refused, Mem}
 use Rattle.cds_replay.specs.Script.{stop_text, GoesOn}

@@ -16,7 +16,7 @@ use Rattle.cds_replica.specs.Calls.{GoesOn}
 use Rattle.cds_replica.specs.State.{ReplicaState}
 use Rattle.cds_script.specs.Report.{first_of, clock_of, sent_text, renew_text, unsubscribe_text as end_text, lives, given_up, with_renewal}
 use Rattle.cds_script.specs.Script.{grant_at, moment_limit, script_callback}
-use Rattle.cds_script.specs.declared.turn.Turn.TheVariants.{At, Subscribe, Renew, Unsubscribe}
+use Rattle.cds_script.specs.declared.turn.ScriptTurn.TheVariants.{At, Subscribe, Renew, Unsubscribe}
 use Rattle.cds_server.specs.Due.{due}
 use Rattle.cds_server.specs.Outcome.{noted}
 use Rattle.cds_server.specs.Serving.{Serving, StandsFor}
@@ -26,7 +26,7 @@ use Rattle.cds_replay.specs.Events.{IsAnswered, IsAsked, IsMessage, RepliesTo, e
 use Rattle.cds_replay.specs.Lines.{numbered_line, sent_lines}
 use Rattle.cds_replay.specs.Sending.{SentNote, sent_to, sent_notes, first_sent}
 use Rattle.cds_replay.specs.Session.{Playing, IsAfter, IsSentAs, AreSentAs, tellings_by, quiet, script_start, script_names}
-use Rattle.cds_replay.specs.Wired.{Step, turns_in, played_by, written_on}
+use Rattle.cds_replay.specs.Wired.{ReplayStep, turns_in, played_by, written_on}
 use Rattle.cds_replay.specs.declared.last.Last.TheVariants.{Other}
 use Rattle.cds_replay.proofs.Apart.{none-accepted, some-accepted}
 use Rattle.cds_replay.proofs.EventAnswers.{IsSubscribed, subscribe-answered, renewal-is, unsubscribe-is}
@@ -39,7 +39,7 @@ use Rattle.cds_replay.proofs.Turns.{tick-after, Subscribes, subscribe-after, ren
 
 -- ---- a tick
 
-pub tick-turn : (was : Playing) (server : Serving) (notes : Option Notes) (sent : List SentNote) (moment : ℕ) (steps : List Step) → IsAfter was steps → was.clock ≤ moment →
+pub tick-turn : (was : Playing) (server : Serving) (notes : Option Notes) (sent : List SentNote) (moment : ℕ) (steps : List ReplayStep) → IsAfter was steps → was.clock ≤ moment →
     moment < moment_limit → was.server.book.subscribed.granted < 2 ^ 32 →
     ((start : Start) (commands : List Command) → StandsFor was.server start commands → StandsFor server start (Ticks moment ∷ commands)) →
     ((start : Start) (commands : List Command) → StandsFor was.server start commands → notes ≡ due start commands moment) → IsShort notes →
@@ -80,7 +80,7 @@ first-is-sent name number few low =
       seq = omega arith;
     }
 
-pub subscribe-turn : (was : Playing) (server : Serving) (replica : ReplicaState) (reply : List ℕ) (note : Option FirstNote) (number : ℕ) (sent : List SentNote) (steps : List Step) →
+pub subscribe-turn : (was : Playing) (server : Serving) (replica : ReplicaState) (reply : List ℕ) (note : Option FirstNote) (number : ℕ) (sent : List SentNote) (steps : List ReplayStep) →
     IsAfter was steps → GoesOn was.replica Requests replica → was.server.book.subscribed.granted + 1 < 2 ^ 32 →
     ((start : Start) (commands : List Command) → StandsFor was.server start commands →
     IsAnswered start commands was.clock (subscribe_text event_url callback_url) [] reply note server) →
@@ -149,7 +149,7 @@ unfolding digits
 end-line true = refl
 end-line false = refl
 
-pub no-renewal : (was : Playing) (steps : List Step) → IsAfter was steps → accepted (named script_names (played_by steps).replica) ≡ None →
+pub no-renewal : (was : Playing) (steps : List ReplayStep) → IsAfter was steps → accepted (named script_names (played_by steps).replica) ≡ None →
     IsAfter (record was { last = Other }) (quiet Renew ∷ steps) × (codes "renew none\n" ≡ written_on steps (quiet Renew))
 no-renewal was steps after none =
     let is : accepted (played_by steps).replica ≡ None = none-accepted (played_by steps).replica none in (
@@ -160,7 +160,7 @@ no-renewal was steps after none =
     )
 
 -- the request is one message, to which the server replies
-pub renewal-ready : (was : Playing) (sid : ℕ) (steps : List Step) → IsAfter was steps → accepted (named script_names (played_by steps).replica) ≡ Some sid →
+pub renewal-ready : (was : Playing) (sid : ℕ) (steps : List ReplayStep) → IsAfter was steps → accepted (named script_names (played_by steps).replica) ≡ Some sid →
     was.server.book.subscribed.granted < 2 ^ 32 → IsMessage Request (renewal_text event_url sid) × RepliesTo was.server was.clock (renewal_text event_url sid)
 renewal-ready was sid steps after is few = (
   subst (λ n. IsMessage Request (renewal_text event_url n)) (sym name.2) (let r = renewal-is (script_names name.0) short in (r.message, r.whole)),
@@ -186,7 +186,7 @@ renewal-ready was sid steps after is few = (
     short : script_names name.0 < 2 ^ 128
     short = accepted-short steps name.0 name.1 low
 
-pub renewal-turn : (was : Playing) (server : Serving) (sid status : ℕ) (steps : List Step) → IsAfter was steps → accepted (named script_names (played_by steps).replica) ≡ Some sid →
+pub renewal-turn : (was : Playing) (server : Serving) (sid status : ℕ) (steps : List ReplayStep) → IsAfter was steps → accepted (named script_names (played_by steps).replica) ≡ Some sid →
     was.server.book.subscribed.granted < 2 ^ 32 →
     ((start : Start) (commands : List Command) → StandsFor was.server start commands → IsAsked start commands was.clock (renewal_text event_url sid) status server) →
     IsAfter (record was { server = server; last = Other }) (quiet Renew ∷ steps) × (numbered_line (codes "renew ") status ≡ written_on steps (quiet Renew))
@@ -217,7 +217,7 @@ renewal-turn was server sid status steps after is few asked = (
         (subst (λ n. IsAsked (script_start first) commands now (renewal_text event_url n) status server) name.2
         (subst (λ at. IsAsked (script_start first) commands at (renewal_text event_url sid) status server) after.clock (asked (script_start first) commands after.server)))
 
-pub no-end : (was : Playing) (steps : List Step) → IsAfter was steps → accepted (named script_names (played_by steps).replica) ≡ None →
+pub no-end : (was : Playing) (steps : List ReplayStep) → IsAfter was steps → accepted (named script_names (played_by steps).replica) ≡ None →
     IsAfter (record was { last = Other }) (quiet Unsubscribe ∷ steps) × (codes "unsubscribe none\n" ≡ written_on steps (quiet Unsubscribe))
 no-end was steps after none =
     let is : accepted (played_by steps).replica ≡ None = none-accepted (played_by steps).replica none in (
@@ -228,7 +228,7 @@ no-end was steps after none =
     )
 
 -- the request is one message, to which the server replies
-pub end-ready : (was : Playing) (sid : ℕ) (steps : List Step) → IsAfter was steps → accepted (named script_names (played_by steps).replica) ≡ Some sid →
+pub end-ready : (was : Playing) (sid : ℕ) (steps : List ReplayStep) → IsAfter was steps → accepted (named script_names (played_by steps).replica) ≡ Some sid →
     was.server.book.subscribed.granted < 2 ^ 32 → IsMessage Request (unsubscribe_text event_url sid) × RepliesTo was.server was.clock (unsubscribe_text event_url sid)
 end-ready was sid steps after is few = (
   subst (λ n. IsMessage Request (unsubscribe_text event_url n)) (sym name.2) (let r = unsubscribe-is (script_names name.0) short in (r.message, r.whole)),
@@ -254,7 +254,7 @@ end-ready was sid steps after is few = (
     short : script_names name.0 < 2 ^ 128
     short = accepted-short steps name.0 name.1 low
 
-pub end-turn : (was : Playing) (server : Serving) (sid status : ℕ) (steps : List Step) → IsAfter was steps → accepted (named script_names (played_by steps).replica) ≡ Some sid →
+pub end-turn : (was : Playing) (server : Serving) (sid status : ℕ) (steps : List ReplayStep) → IsAfter was steps → accepted (named script_names (played_by steps).replica) ≡ Some sid →
     was.server.book.subscribed.granted < 2 ^ 32 →
     ((start : Start) (commands : List Command) → StandsFor was.server start commands → IsAsked start commands was.clock (unsubscribe_text event_url sid) status server) →
     IsAfter (record was { server = server; last = Other }) (quiet Unsubscribe ∷ steps) × (numbered_line (codes "unsubscribe ") status ≡ written_on steps (quiet Unsubscribe))

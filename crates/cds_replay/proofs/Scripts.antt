@@ -9,11 +9,11 @@ use Rattle.cds_script.specs.Report.{limit_ending}
 use Rattle.cds_script.specs.Script.{meaning_of}
 use Rattle.cds_replay.specs.Session.{Playing, IsAfter}
 use Rattle.cds_replay.specs.declared.script.Script.{Script}
-use Rattle.cds_replay.specs.declared.script.Stop.{Stop}
-use Rattle.cds_replay.specs.declared.script.Stop.TheVariants.{Limit}
+use Rattle.cds_replay.specs.declared.script.ScriptStop.{ScriptStop}
+use Rattle.cds_replay.specs.declared.script.ScriptStop.TheVariants.{Limit}
 use Rattle.cds_replay.specs.Script.{stop_status, stop_text, stop_refused, GoesOn, Went, EndsAt, StopsAt, Fed, Finished, Continued, LineRead}
 use Rattle.cds_replay.specs.Wire.{WiredEnding, unrefused, wired_first, EndsAtLine, EndsOf, EndsOver, lines_in}
-use Rattle.cds_replay.specs.Wired.{Step}
+use Rattle.cds_replay.specs.Wired.{ReplayStep}
 use Rattle.cds_replay.proofs.Ends.{ends-same, ends-line, ends-last, ends-none, ends-limit}
 
 -- two runs of bytes without an LF
@@ -27,7 +27,7 @@ unbroken-take [] (suc n) whole = refl
 unbroken-take (b ∷ bytes) (suc n) whole = and_from _ _ (and_parts _ _ whole).0 (unbroken-take bytes n (and_parts _ _ whole).1)
 
 -- a line of which more has come than one of both limits allows
-limit-here : (carried : List ℕ → List ℕ) (steps : List Step) (number room : ℕ) (front more : List ℕ) → is_unbroken front ≡ true →
+limit-here : (carried : List ℕ → List ℕ) (steps : List ReplayStep) (number room : ℕ) (front more : List ℕ) → is_unbroken front ≡ true →
     ((room ≤ length front) × (room < length (front ++ more))) ⊎ (line_limit < length front) →
     EndsOf carried steps number room (front ++ more) (unrefused steps limit_ending)
 limit-here carried steps number room front more whole (inl over) =
@@ -42,7 +42,7 @@ first-first one two later =
     (sym (append_assoc one two later.ending.text))
 
 -- a script whose bytes end at a limit
-ends-at-limit : (carried : List ℕ → List ℕ) (steps : List Step) (bytes written old new : List ℕ) → EndsOver carried bytes (wired_first written (unrefused steps limit_ending)) →
+ends-at-limit : (carried : List ℕ → List ℕ) (steps : List ReplayStep) (bytes written old new : List ℕ) → EndsOver carried bytes (wired_first written (unrefused steps limit_ending)) →
     new ≡ old ++ stop_text Limit → StopsAt carried bytes written Limit old new
 ends-at-limit carried steps bytes written old new is out =
     record { ending = wired_first written (unrefused steps limit_ending); is = is; front = []; out = out; at = refl; ends = refl }
@@ -129,7 +129,7 @@ line-goes carried script before written line goes none whole room short more end
     (goes.goes (line ++ 10 ∷ more) ending (ends-line carried goes.steps ending script.line script.room line more whole room short ends))
 
 -- what becomes of a script at a whole line within the limits
-pub line-fed : (carried : List ℕ → List ℕ) (stop : Option Stop) (script later : Script) (before written line old new : List ℕ) →
+pub line-fed : (carried : List ℕ → List ℕ) (stop : Option ScriptStop) (script later : Script) (before written line old new : List ℕ) →
     (goes : GoesOn carried script before written) → script.partial.items ≡ [] → is_unbroken line ≡ true → length line + 1 ≤ script.room → length line ≤ line_limit →
     later.partial.items ≡ [] → later.line ≡ script.line + 1 → later.room ≡ script.room - (length line + 1) →
     LineRead carried stop goes.steps (meaning_of line) script.line old new later.session →
@@ -181,7 +181,7 @@ aside-same before front partial line parts =
     ∙ ap (λ bytes. bytes ++ (line ++ 10 ∷ [])) (sym parts)
 
 -- what became of a script, told of the same bytes in other parts
-pub fed-from : (carried : List ℕ → List ℕ) (stop : Option Stop) (before front written piece part old new : List ℕ) (script : Script) → front ++ part ≡ before ++ piece →
+pub fed-from : (carried : List ℕ → List ℕ) (stop : Option ScriptStop) (before front written piece part old new : List ℕ) (script : Script) → front ++ part ≡ before ++ piece →
     Fed carried stop front written part old new script → Fed carried stop before written piece old new script
 fed-from carried None before front written piece part old new script same went =
     record { added = went.added; goes = subst (λ bytes. GoesOn carried script bytes (written ++ went.added)) same went.goes; out = went.out }
@@ -203,13 +203,13 @@ nothing-ends carried script before written out goes none = record {
 }
 
 -- a last line without an LF
-pub last-ends : (carried : List ℕ → List ℕ) (stop : Option Stop) (script : Script) (before written : List ℕ) (session : Playing) (old new : List ℕ) →
+pub last-ends : (carried : List ℕ → List ℕ) (stop : Option ScriptStop) (script : Script) (before written : List ℕ) (session : Playing) (old new : List ℕ) →
     (goes : GoesOn carried script before written) → is_unbroken script.partial.items ≡ true → length script.partial.items ≤ line_limit →
     length script.partial.items ≤ script.room → (length script.partial.items ≡ 0 → ⊥) →
     LineRead carried stop goes.steps (meaning_of script.partial.items) script.line old new session → Finished carried stop before written old new
 last-ends carried stop script before written session old new goes whole short within some read = by stop read
   where
-    done : List Step → WiredEnding
+    done : List ReplayStep → WiredEnding
     done now = unrefused now (record { status = 0; text = [] })
 
     last : (ending : WiredEnding) → EndsAtLine carried goes.steps (meaning_of script.partial.items) script.line (Continued carried script.line [] true) ending →
@@ -218,7 +218,7 @@ last-ends carried stop script before written session old new goes whole short wi
         subst (λ bytes. EndsOver carried bytes (wired_first written ending)) (sym goes.parts)
         (goes.goes script.partial.items ending (ends-last carried goes.steps ending script.line script.room script.partial.items whole within short some ends))
 
-    by : (stop : Option Stop) → LineRead carried stop goes.steps (meaning_of script.partial.items) script.line old new session → Finished carried stop before written old new
+    by : (stop : Option ScriptStop) → LineRead carried stop goes.steps (meaning_of script.partial.items) script.line old new session → Finished carried stop before written old new
     by None taken = record {
       ending = wired_first written (wired_first taken.added (done taken.now));
       is = last (wired_first taken.added (done taken.now)) (taken.first [] true (done taken.now) refl);

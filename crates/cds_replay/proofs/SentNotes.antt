@@ -18,14 +18,14 @@ use Rattle.cds_notify.specs.Laws.{AreNumbers}
 use Rattle.cds_server.specs.Due.{address_to, body_of, notes_at, due}
 use Rattle.cds_server.specs.declared.notes.Notes.{Notes}
 use Rattle.cds_script.specs.declared.reply.HeldReply.TheVariants.{Named, Refusal}
-use Rattle.cds_script.specs.declared.turn.Turn.{Turn}
-use Rattle.cds_script.specs.declared.turn.Turn.TheVariants.{Folder, Track, Tag, Scan, Load, Read, Ask, First, At, Subscribe, Accept, Renew, Unsubscribe, Deliver, ReadFault}
+use Rattle.cds_script.specs.declared.turn.ScriptTurn.{ScriptTurn}
+use Rattle.cds_script.specs.declared.turn.ScriptTurn.TheVariants.{Folder, Track, Tag, Scan, Load, Read, Ask, First, At, Subscribe, Accept, Renew, Unsubscribe, Deliver, ReadFault}
 use Rattle.cds_script.specs.Report.{Played, first_of, clock_of, records_since, notes_text, sent_note, sent_text, scanned, given_up, with_renewal, lives}
 use Rattle.cds_script.specs.Script.{grant_at, granted_seconds, script_callback}
 use Rattle.cds_replay.specs.Lines.{note_line, sent_lines}
 use Rattle.cds_replay.specs.Sending.{SentNote, sent_to, sent_notes, sent_of}
 use Rattle.cds_replay.specs.Session.{IsSentAs, AreSentAs, Telling, all_telling, containers_told, release_tells, tellings_by, tellings_of, script_start, script_names}
-use Rattle.cds_replay.specs.Wired.{Step, turns_in, play_read, played_by}
+use Rattle.cds_replay.specs.Wired.{ReplayStep, turns_in, play_read, played_by}
 use Rattle.cds_replay.proofs.Numbers.{release-numbers}
 
 -- ---- lists of them
@@ -185,7 +185,7 @@ renewed-call first now commands (Some name) all = by (lives name first now comma
     by true = all
     by false = all
 
-one-call : (read : Option Shown) (first now : ℕ) (records : List Record) (p : Played) (turn : Turn) → AllCall p.commands →
+one-call : (read : Option Shown) (first now : ℕ) (records : List Record) (p : Played) (turn : ScriptTurn) → AllCall p.commands →
     AllCall (play_read read first now records p turn).commands
 one-call read first now records p (Folder path) all = all
 one-call read first now records p (Track path info size) all = all
@@ -213,7 +213,7 @@ one-call read first now records p Unsubscribe all = ended-call first now p.comma
 one-call read first now records p (Deliver note) all = all
 one-call read first now records p ReadFault all = all
 
-pub steps-call : (steps : List Step) → AllCall (played_by steps).commands
+pub steps-call : (steps : List ReplayStep) → AllCall (played_by steps).commands
 steps-call [] = tt
 steps-call (step ∷ older) =
     one-call step.read (first_of (turns_in older)) (clock_of (turns_in older)) (records_since (turns_in older)) (played_by older) step.turn (steps-call older)

@@ -10,10 +10,10 @@ use Rattle.cds_script.specs.Report.{Ending, written_first, outside_ending, limit
 use Rattle.cds_script.specs.Script.{meaning_of}
 use Rattle.cds_script.specs.declared.turn.Meaning.{Meaning}
 use Rattle.cds_script.specs.declared.turn.Meaning.TheVariants.{Nothing, Means, Outside}
-use Rattle.cds_script.specs.declared.turn.Turn.{Turn}
+use Rattle.cds_script.specs.declared.turn.ScriptTurn.{ScriptTurn}
 use Rattle.cds_replay.specs.Reported.{AreTaken, AreTakenBut, IsLast, ends_well, taken_of, wires_report_steps, written_of}
 use Rattle.cds_replay.specs.Wire.{WiredEnding, unrefused, refused_at, wired_first, Either, IsReadBy, AreReadBy, EndsAtStep, EndsAtLine, EndsFrom, EndsOver, lines_in}
-use Rattle.cds_replay.specs.Wired.{Step, turns_in, may_stand_by, refuses, written_on}
+use Rattle.cds_replay.specs.Wired.{ReplayStep, turns_in, may_stand_by, refuses, written_on}
 
 -- whichever way a test goes
 either : (b : Bool) (P Q T : Type 0) → (b ≡ true → P → T) → (b ≡ false → Q → T) → Either b P Q → T
@@ -21,11 +21,11 @@ either true P Q T first second one = first refl one
 either false P Q T first second one = second refl one
 
 -- the turns that lines mean, the oldest first
-abbrev turns_by : List (List ℕ) → List Turn
+abbrev turns_by : List (List ℕ) → List ScriptTurn
 turns_by lines = filter_map (λ line. turn_in (meaning_of line)) lines
 
 -- what is left of a script after steps, of which the first lines that are left give the others
-pub record Comes (carried : List ℕ → List ℕ) (steps : List Step) (lines : List (List ℕ)) (ending : WiredEnding) : Type 0 where
+pub record Comes (carried : List ℕ → List ℕ) (steps : List ReplayStep) (lines : List (List ℕ)) (ending : WiredEnding) : Type 0 where
   pub count : ℕ
   pub turns : turns_in ending.steps ≡ reverse_aux (turns_by (take count lines)) (turns_in steps)
   pub read : AreReadBy carried ending.steps
@@ -40,7 +40,7 @@ none-taken (x ∷ xs) = refl
 
 module _ (carried : List ℕ → List ℕ) where
   -- it ends where it is
-  here : (steps : List Step) (lines : List (List ℕ)) (ending : WiredEnding) (last : Ending) → AreReadBy carried steps → AreTaken steps → IsLast None last →
+  here : (steps : List ReplayStep) (lines : List (List ℕ)) (ending : WiredEnding) (last : Ending) → AreReadBy carried steps → AreTaken steps → IsLast None last →
       ending ≡ unrefused steps last → Comes carried steps lines ending
   here steps lines ending last read taken is e =
       subst (Comes carried steps lines) (sym e) (record {
@@ -59,7 +59,7 @@ module _ (carried : List ℕ → List ℕ) where
   at-end false = inr (inl refl)
 
   -- one line further, which means nothing
-  nothing-next : (steps : List Step) (line : List ℕ) (lines : List (List ℕ)) (ending : WiredEnding) → meaning_of line ≡ Nothing → Comes carried steps lines ending →
+  nothing-next : (steps : List ReplayStep) (line : List ℕ) (lines : List (List ℕ)) (ending : WiredEnding) → meaning_of line ≡ Nothing → Comes carried steps lines ending →
       Comes carried steps (line ∷ lines) ending
   nothing-next steps line lines ending means c = record {
     count = suc c.count;
@@ -72,7 +72,7 @@ module _ (carried : List ℕ → List ℕ) where
   }
 
   -- a turn that is refused
-  refused-here : (steps : List Step) (turn : Turn) (read : Option Shown) (line : List ℕ) (lines : List (List ℕ)) (number : ℕ) (ending : WiredEnding) →
+  refused-here : (steps : List ReplayStep) (turn : ScriptTurn) (read : Option Shown) (line : List ℕ) (lines : List (List ℕ)) (number : ℕ) (ending : WiredEnding) →
       meaning_of line ≡ Means turn → AreReadBy carried steps → AreTaken steps → may_stand_by steps turn ≡ true → IsReadBy carried steps turn read →
       refuses steps (record { turn = turn; read = read }) ≡ true → ending ≡ refused_at (record { turn = turn; read = read } ∷ steps) number →
       Comes carried steps (line ∷ lines) ending
@@ -89,7 +89,7 @@ module _ (carried : List ℕ → List ℕ) where
       })
 
   -- one that is taken
-  turn-next : (steps : List Step) (turn : Turn) (read : Option Shown) (line : List ℕ) (lines : List (List ℕ)) (later ending : WiredEnding) →
+  turn-next : (steps : List ReplayStep) (turn : ScriptTurn) (read : Option Shown) (line : List ℕ) (lines : List (List ℕ)) (later ending : WiredEnding) →
       meaning_of line ≡ Means turn → Comes carried (record { turn = turn; read = read } ∷ steps) lines later →
       ending ≡ wired_first (written_on steps (record { turn = turn; read = read })) later → Comes carried steps (line ∷ lines) ending
   turn-next steps turn read line lines later ending means c e =
@@ -106,15 +106,15 @@ module _ (carried : List ℕ → List ℕ) where
       })
 
   module _ (line : List ℕ) (lines : List (List ℕ)) (number : ℕ) (whole : Bool)
-      (go_on : (now : List Step) (ending : WiredEnding) → AreReadBy carried now → AreTaken now → EndsFrom carried now (number + 1) lines whole ending →
-      Comes carried now lines ending) (steps : List Step) (ending : WiredEnding) (reads : AreReadBy carried steps) (taken : AreTaken steps) where
-    abbrev Later : List Step → WiredEnding → Type 0
+      (go_on : (now : List ReplayStep) (ending : WiredEnding) → AreReadBy carried now → AreTaken now → EndsFrom carried now (number + 1) lines whole ending →
+      Comes carried now lines ending) (steps : List ReplayStep) (ending : WiredEnding) (reads : AreReadBy carried steps) (taken : AreTaken steps) where
+    abbrev Later : List ReplayStep → WiredEnding → Type 0
     Later now later = EndsFrom carried now (number + 1) lines whole later
 
-    at-step : (turn : Turn) (read : Option Shown) → meaning_of line ≡ Means turn → may_stand_by steps turn ≡ true → IsReadBy carried steps turn read →
+    at-step : (turn : ScriptTurn) (read : Option Shown) → meaning_of line ≡ Means turn → may_stand_by steps turn ≡ true → IsReadBy carried steps turn read →
         EndsAtStep steps (record { turn = turn; read = read }) number Later ending → Comes carried steps (line ∷ lines) ending
     at-step turn read means may is ends =
-        let step : Step = record { turn = turn; read = read } in
+        let step : ReplayStep = record { turn = turn; read = read } in
         either (refuses steps step) (ending ≡ refused_at (step ∷ steps) number)
         ((later : WiredEnding) × Later (step ∷ steps) later × (ending ≡ wired_first (written_on steps step) later))
         (Comes carried steps (line ∷ lines) ending)
@@ -134,7 +134,7 @@ module _ (carried : List ℕ → List ℕ) where
         (λ may e. at-step turn e.0 means may e.1 e.2) (λ cannot e. outside-here e) ends
     at-line Outside means ends = outside-here ends
 
-comes : (carried : List ℕ → List ℕ) (lines : List (List ℕ)) (whole : Bool) (number : ℕ) (steps : List Step) (ending : WiredEnding) → AreReadBy carried steps → AreTaken steps →
+comes : (carried : List ℕ → List ℕ) (lines : List (List ℕ)) (whole : Bool) (number : ℕ) (steps : List ReplayStep) (ending : WiredEnding) → AreReadBy carried steps → AreTaken steps →
     EndsFrom carried steps number lines whole ending → Comes carried steps lines ending
 comes carried [] whole number steps ending reads taken ends = here carried steps [] ending (cond whole ends_well limit_ending) reads taken (at-end carried whole) ends
 comes carried (line ∷ lines) whole number steps ending reads taken ends =

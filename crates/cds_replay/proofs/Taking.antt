@@ -15,13 +15,13 @@ use Rattle.cds_replica.specs.State.{ReplicaState, StandsFor}
 use Rattle.cds_script.specs.Report.{first_of, sent_note, after_reply, accept_text, deliver_text}
 use Rattle.cds_script.specs.declared.reply.HeldReply.{HeldReply}
 use Rattle.cds_script.specs.declared.reply.HeldReply.TheVariants.{NoReply, Named, Refusal}
-use Rattle.cds_script.specs.declared.turn.Turn.TheVariants.{Read, Accept, Deliver}
+use Rattle.cds_script.specs.declared.turn.ScriptTurn.TheVariants.{Read, Accept, Deliver}
 use Rattle.cds_server.specs.Serving.{Serving}
 use Rattle.cds_replay.specs.Events.{IsNoteRequest}
 use Rattle.cds_replay.specs.Sending.{SentNote, is_request_of}
 use Rattle.cds_replay.specs.Session.{Playing, IsAfter, IsHeldAs, TurnTaken, QuietTaken, ReplyTaken, HeldTaken, NoteTaken, script_names}
 use Rattle.cds_replay.specs.Wire.{server_reply, IsLeftOf}
-use Rattle.cds_replay.specs.Wired.{Step, turns_in, played_by, moment_by, may_stand_by, refuses_read, refuses_reply, refuses_note, read_text_by}
+use Rattle.cds_replay.specs.Wired.{ReplayStep, turns_in, played_by, moment_by, may_stand_by, refuses_read, refuses_reply, refuses_note, read_text_by}
 use Rattle.cds_replay.specs.declared.last.Last.TheVariants.{Other}
 use Rattle.cds_replay.specs.declared.session.TurnError.{TurnError}
 use Rattle.cds_replay.specs.declared.session.TurnError.TheVariants.{Refused, Mem as NoMemory}
@@ -37,7 +37,7 @@ left-is carried moment o ask reply read asks is next =
     subst (λ a. IsLeftOf carried moment a read) (sym asks)
     (subst (λ bytes. IsReading ask bytes read) is (subst (λ a. IsNextReading a reply read) asks next))
 
-pub read-turn : (carried : List ℕ → List ℕ) (was : Playing) (server : Serving) (replica : ReplicaState) (steps : List Step) (ask : Asked) (reply old new : List ℕ)
+pub read-turn : (carried : List ℕ → List ℕ) (was : Playing) (server : Serving) (replica : ReplicaState) (steps : List ReplayStep) (ask : Asked) (reply old new : List ℕ)
     (result : Result (Unit {0}) TurnError) → IsAfter was steps → next_ask (known_by (played_by steps).replica) ≡ Some ask → server ≡ was.server →
     reply ≡ carried (server_reply (moment_by steps) ask) → ReplyTaken (played_by steps).replica reply old new replica result →
     TurnTaken carried steps Read old new (record was { server = server; replica = replica; last = Other }) result
@@ -53,7 +53,7 @@ read-turn carried was server replica steps ask reply old new (Err Refused) after
 )
 read-turn carried was server replica steps ask reply old new (Err NoMemory) after asks same is t = tt
 
-pub idle-turn : (carried : List ℕ → List ℕ) (was : Playing) (steps : List Step) (old new : List ℕ) → IsAfter was steps →
+pub idle-turn : (carried : List ℕ → List ℕ) (was : Playing) (steps : List ReplayStep) (old new : List ℕ) → IsAfter was steps →
     next_ask (known_by (played_by steps).replica) ≡ None → new ≡ old ++ codes "read none\n" →
     TurnTaken carried steps Read old new (record was { last = Other }) (Ok tt)
 idle-turn carried was steps old new after asks wrote = (
@@ -68,7 +68,7 @@ idle-turn carried was steps old new after asks wrote = (
 
 -- ---- the reply that was held back
 
-pub held-turn : (was : Playing) (replica : ReplicaState) (reply : List ℕ) (steps : List Step) (old new : List ℕ) (result : Result (Unit {0}) TurnError) → IsAfter was steps →
+pub held-turn : (was : Playing) (replica : ReplicaState) (reply : List ℕ) (steps : List ReplayStep) (old new : List ℕ) (result : Result (Unit {0}) TurnError) → IsAfter was steps →
     was.reply ≡ Some reply → HeldTaken (played_by steps).replica (played_by steps).reply old new replica result →
     QuietTaken steps Accept old new (record was { replica = replica; reply = None; last = Other }) result
 held-turn was replica reply steps old new result after is taken =
@@ -97,7 +97,7 @@ held-turn was replica reply steps old new result after is taken =
     by Refusal e (Err Refused) held t = absurd t
     by Refusal e (Err NoMemory) held t = tt
 
-pub none-turn : (was : Playing) (steps : List Step) (old new : List ℕ) → IsAfter was steps → was.reply ≡ None → new ≡ old ++ codes "accept none\n" →
+pub none-turn : (was : Playing) (steps : List ReplayStep) (old new : List ℕ) → IsAfter was steps → was.reply ≡ None → new ≡ old ++ codes "accept none\n" →
     QuietTaken steps Accept old new (record was { reply = None; last = Other }) (Ok tt)
 none-turn was steps old new after none wrote =
     let held : (played_by steps).reply ≡ NoReply = held-none was steps after none in
@@ -109,7 +109,7 @@ none-turn was steps old new after none wrote =
 
 -- ---- a note
 
-pub deliver-turn : (was : Playing) (replica : ReplicaState) (number : ℕ) (note : Note) (steps : List Step) (old new : List ℕ) (result : Result (Unit {0}) TurnError) →
+pub deliver-turn : (was : Playing) (replica : ReplicaState) (number : ℕ) (note : Note) (steps : List ReplayStep) (old new : List ℕ) (result : Result (Unit {0}) TurnError) →
     IsAfter was steps → may_stand_by steps (Deliver number) ≡ true → sent_note number (notes_of (first_of (turns_in steps)) (played_by steps).commands) ≡ Some note →
     NoteTaken (played_by steps).replica number note old new replica result →
     QuietTaken steps (Deliver number) old new (record was { replica = replica; last = Other }) result
@@ -122,7 +122,7 @@ deliver-turn was replica number note steps old new (Err Refused) after may is t 
     record { refused = ap (λ o. refuses_note o (played_by steps).replica) is ∙ t.refused; out = t.out }
 deliver-turn was replica number note steps old new (Err NoMemory) after may is t = tt
 
-pub no-note-turn : (was : Playing) (number : ℕ) (steps : List Step) (out : List ℕ) → IsAfter was steps → may_stand_by steps (Deliver number) ≡ true →
+pub no-note-turn : (was : Playing) (number : ℕ) (steps : List ReplayStep) (out : List ℕ) → IsAfter was steps → may_stand_by steps (Deliver number) ≡ true →
     sent_note number (notes_of (first_of (turns_in steps)) (played_by steps).commands) ≡ None →
     QuietTaken steps (Deliver number) out out (record was { last = Other }) (Ok tt)
 no-note-turn was number steps out after may is = record {

@@ -14,22 +14,22 @@ use Rattle.cds_follow.specs.Named.{named}
 use Rattle.cds_replica.specs.State.{StandsFor}
 use Rattle.cds_script.specs.declared.found.Found.{Found}
 use Rattle.cds_script.specs.declared.reply.HeldReply.TheVariants.{Named, Refusal}
-use Rattle.cds_script.specs.declared.turn.Turn.{Turn}
-use Rattle.cds_script.specs.declared.turn.Turn.TheVariants.{Folder, Track, Tag, Scan, Load, Read, Ask, First, At, Subscribe, Accept, Renew, Unsubscribe, Deliver, ReadFault}
+use Rattle.cds_script.specs.declared.turn.ScriptTurn.{ScriptTurn}
+use Rattle.cds_script.specs.declared.turn.ScriptTurn.TheVariants.{Folder, Track, Tag, Scan, Load, Read, Ask, First, At, Subscribe, Accept, Renew, Unsubscribe, Deliver, ReadFault}
 use Rattle.cds_script.specs.Report.{Played, number_of, first_of, clock_of, records_since, found_since, last_commented, scanned, given_up, with_renewal, lives}
 use Rattle.cds_script.specs.Script.{IsInRange, grant_at, granted_seconds, moment_limit}
 use Rattle.cds_server.specs.Serving.{StandsFor as ServerStandsFor}
 use Rattle.cds_replay.specs.declared.last.Last.TheVariants.{NoTurn}
-use Rattle.cds_replay.specs.Wired.{Step, turns_in, play_read, played_by, may_stand_by, refuses}
+use Rattle.cds_replay.specs.Wired.{ReplayStep, turns_in, play_read, played_by, may_stand_by, refuses}
 use Rattle.cds_replay.specs.Session.{Playing, IsAfter, Grows, AreSentAs, IsHeldAs, tellings_of, last_of, script_start, script_names}
 
 -- the first number is that of the oldest turn
-pub first-more : (turn : Turn) (turns : List Turn) → number_of turn ≡ 0 → first_of (turn ∷ turns) ≡ first_of turns
+pub first-more : (turn : ScriptTurn) (turns : List ScriptTurn) → number_of turn ≡ 0 → first_of (turn ∷ turns) ≡ first_of turns
 first-more turn [] none = none
 first-more turn (next ∷ older) none = refl
 
 -- after a turn the last one is not none
-pub last-some : (turn : Turn) (older : List Turn) → last_of (turn ∷ older) ≡ NoTurn → ⊥
+pub last-some : (turn : ScriptTurn) (older : List ScriptTurn) → last_of (turn ∷ older) ≡ NoTurn → ⊥
 last-some (Folder path) older e = cc
 last-some (Track path info size) older e = cc
 last-some (Tag comment) older e = cc
@@ -47,7 +47,7 @@ last-some (Deliver n) older e = cc
 last-some ReadFault older e = cc
 
 -- after a turn that names no first number
-pub turned : (was new : Playing) (step : Step) (steps : List Step) → IsAfter was steps → number_of step.turn ≡ 0 → may_stand_by steps step.turn ≡ true →
+pub turned : (was new : Playing) (step : ReplayStep) (steps : List ReplayStep) → IsAfter was steps → number_of step.turn ≡ 0 → may_stand_by steps step.turn ≡ true →
     IsInRange step.turn → refuses steps step ≡ false →
     ServerStandsFor new.server (script_start (first_of (turns_in steps))) (played_by (step ∷ steps)).commands →
     StandsFor new.replica (named script_names (played_by (step ∷ steps)).replica) →
@@ -93,7 +93,7 @@ renewed-granted first now commands (Some name) = by (lives name first now comman
     by true = refl
     by false = refl
 
-one-granted : (read : Option Shown) (first now : ℕ) (records : List Record) (p : Played) (turn : Turn) →
+one-granted : (read : Option Shown) (first now : ℕ) (records : List Record) (p : Played) (turn : ScriptTurn) →
     granted (play_read read first now records p turn).commands ≤ granted p.commands + 1
 one-granted read first now records p (Folder path) = omega arith
 one-granted read first now records p (Track path info size) = omega arith
@@ -127,7 +127,7 @@ last-length comment [] = refl
 last-length comment (found ∷ []) = refl
 last-length comment (found ∷ next ∷ others) = ap suc (last-length comment (next ∷ others))
 
-one-found : (turn : Turn) (older : List Turn) → length (found_since (turn ∷ older)) ≤ length (found_since older) + 1
+one-found : (turn : ScriptTurn) (older : List ScriptTurn) → length (found_since (turn ∷ older)) ≤ length (found_since older) + 1
 one-found (Folder path) older = let e = length-append (found_since older) (Rattle.cds_script.specs.declared.found.Found.TheVariants.Folder path ∷ []) in omega (arith, e)
 one-found (Track path info size) older =
     let e = length-append (found_since older) (Rattle.cds_script.specs.declared.found.Found.TheVariants.Track (record { path = path; info = info; size = size }) ∷ []) in
@@ -147,7 +147,7 @@ one-found (Deliver n) older = omega arith
 one-found ReadFault older = omega arith
 
 -- and a moment of a script
-moment-within : (turn : Turn) (older : List Turn) → IsInRange turn → clock_of older < moment_limit → clock_of (turn ∷ older) < moment_limit
+moment-within : (turn : ScriptTurn) (older : List ScriptTurn) → IsInRange turn → clock_of older < moment_limit → clock_of (turn ∷ older) < moment_limit
 moment-within (Folder path) older fits low = low
 moment-within (Track path info size) older fits low = low
 moment-within (Tag comment) older fits low = low
@@ -164,10 +164,10 @@ moment-within Unsubscribe older fits low = low
 moment-within (Deliver n) older fits low = low
 moment-within ReadFault older fits low = low
 
-pub granted-is : (playing : Playing) (steps : List Step) → IsAfter playing steps → playing.server.book.subscribed.granted ≡ granted (played_by steps).commands
+pub granted-is : (playing : Playing) (steps : List ReplayStep) → IsAfter playing steps → playing.server.book.subscribed.granted ≡ granted (played_by steps).commands
 granted-is playing steps after = ap (λ (s : Subscribed). s.granted) after.server.book.subscribed
 
-pub grown : (was new : Playing) (step : Step) (steps : List Step) → IsAfter was steps → IsAfter new (step ∷ steps) → Grows was new
+pub grown : (was new : Playing) (step : ReplayStep) (steps : List ReplayStep) → IsAfter was steps → IsAfter new (step ∷ steps) → Grows was new
 grown was new step steps old after = record {
   found =
       let a = ap length old.found in

@@ -22,36 +22,36 @@ use Rattle.cds_replica.specs.State.{ReplicaState, StandsFor}
 use Rattle.cds_script.specs.declared.found.Found.TheVariants.{Folder as FolderFound, Track as TrackFound}
 use Rattle.cds_script.specs.declared.reply.HeldReply.{HeldReply}
 use Rattle.cds_script.specs.declared.reply.HeldReply.TheVariants.{NoReply, Named, Refusal}
-use Rattle.cds_script.specs.declared.turn.Turn.TheVariants.{Folder, Track, Tag, Scan, Load, Read, Ask, First, At, Subscribe, Accept, Renew, Unsubscribe, Deliver, ReadFault}
+use Rattle.cds_script.specs.declared.turn.ScriptTurn.TheVariants.{Folder, Track, Tag, Scan, Load, Read, Ask, First, At, Subscribe, Accept, Renew, Unsubscribe, Deliver, ReadFault}
 use Rattle.cds_script.specs.Script.{IsInRange, grant_at, granted_seconds, moment_limit}
 use Rattle.cds_server.specs.Outcome.{empty_reply, lease_reply}
 use Rattle.cds_server.specs.Serving.{Serving, StandsFor as ServerStandsFor, Scanned}
 use Rattle.cds_replay.specs.Lines.{was_answered}
 use Rattle.cds_replay.specs.Sending.{SentNote}
-use Rattle.cds_replay.specs.Wired.{Step, turns_in, played_by, and_read, refuses_read, refuses_reply, refuses_note, may_stand_by}
+use Rattle.cds_replay.specs.Wired.{ReplayStep, turns_in, played_by, and_read, refuses_read, refuses_reply, refuses_note, may_stand_by}
 use Rattle.cds_replay.specs.Session.{Playing, IsAfter, AreSentAs, IsHeldAs, tellings_by, tellings_of, quiet, script_start, script_names, with_found, with_tag}
 use Rattle.cds_replay.specs.declared.last.Last.TheVariants.{NoTurn, Other}
 use Rattle.cds_replay.proofs.Turned.{last-some, turned}
 use Rattle.cds_replay.proofs.SentNotes.{sent-same, sent-append}
 
 -- a load
-pub load-after : (was : Playing) (replica : ReplicaState) (steps : List Step) → IsAfter was steps → GoesOn was.replica Begins replica →
+pub load-after : (was : Playing) (replica : ReplicaState) (steps : List ReplayStep) → IsAfter was steps → GoesOn was.replica Begins replica →
     IsAfter (record was { replica = replica; last = Other }) (quiet Load ∷ steps)
 load-after was replica steps after goes =
     turned was (record was { replica = replica; last = Other }) (quiet Load) steps after refl refl tt refl after.server
     (goes (named script_names (played_by steps).replica) after.replica) after.sent after.found after.clock after.reply refl
 
 -- an ask, and a read whose reply is lost
-pub ask-after : (was : Playing) (steps : List Step) → IsAfter was steps → IsAfter (record was { last = Other }) (quiet Ask ∷ steps)
+pub ask-after : (was : Playing) (steps : List ReplayStep) → IsAfter was steps → IsAfter (record was { last = Other }) (quiet Ask ∷ steps)
 ask-after was steps after =
     turned was (record was { last = Other }) (quiet Ask) steps after refl refl tt refl after.server after.replica after.sent after.found after.clock after.reply refl
 
-pub lost-after : (was : Playing) (steps : List Step) → IsAfter was steps → IsAfter (record was { last = Other }) (quiet ReadFault ∷ steps)
+pub lost-after : (was : Playing) (steps : List ReplayStep) → IsAfter was steps → IsAfter (record was { last = Other }) (quiet ReadFault ∷ steps)
 lost-after was steps after =
     turned was (record was { last = Other }) (quiet ReadFault) steps after refl refl tt refl after.server after.replica after.sent after.found after.clock after.reply refl
 
 -- a read
-pub read-after : (was : Playing) (server : Serving) (replica : ReplicaState) (read : Option Shown) (steps : List Step) → IsAfter was steps →
+pub read-after : (was : Playing) (server : Serving) (replica : ReplicaState) (read : Option Shown) (steps : List ReplayStep) → IsAfter was steps →
     server ≡ was.server → refuses_read (next_ask (known_by (played_by steps).replica)) read (played_by steps).replica ≡ false →
     StandsFor replica (named script_names (and_read (next_ask (known_by (played_by steps).replica)) read (played_by steps).replica)) →
     IsAfter (record was { server = server; replica = replica; last = Other }) (record { turn = Read; read = read } ∷ steps)
@@ -61,7 +61,7 @@ read-after was server replica read steps after same takes stands =
     stands after.sent after.found after.clock after.reply refl
 
 -- one where nothing is asked
-pub idle-after : (was : Playing) (steps : List Step) → IsAfter was steps → next_ask (known_by (played_by steps).replica) ≡ None →
+pub idle-after : (was : Playing) (steps : List ReplayStep) → IsAfter was steps → next_ask (known_by (played_by steps).replica) ≡ None →
     IsAfter (record was { last = Other }) (quiet Read ∷ steps)
 idle-after was steps after asked =
     turned was (record was { last = Other }) (quiet Read) steps after refl refl tt
@@ -93,7 +93,7 @@ scanned-notes first records commands (BadRecord line) = refl
 scanned-notes first records commands (TooMany objects) = refl
 scanned-notes first records commands (NoNumbers needed) = refl
 
-pub scan-after : (was : Playing) (server : Serving) (answer : Result Span ApplyError) (steps : List Step) → IsAfter was steps →
+pub scan-after : (was : Playing) (server : Serving) (answer : Result Span ApplyError) (steps : List ReplayStep) → IsAfter was steps →
     Scanned (script_start (first_of (turns_in steps))) (played_by steps).commands (records_since (turns_in steps)) answer was.server server → was_answered answer ≡ true →
     IsAfter (record was { server = server; found = []; last = Other }) (quiet Scan ∷ steps)
 scan-after was server answer steps after scans told =
@@ -108,7 +108,7 @@ scan-after was server answer steps after scans told =
     refl after.clock after.reply refl
 
 -- the first number: nothing came before it
-pub begin-after : (was : Playing) (server : Serving) (number : ℕ) (steps : List Step) → IsAfter was steps → was.last ≡ NoTurn → number ≤ 4294967295 →
+pub begin-after : (was : Playing) (server : Serving) (number : ℕ) (steps : List ReplayStep) → IsAfter was steps → was.last ≡ NoTurn → number ≤ 4294967295 →
     ServerStandsFor server (script_start number) [] → IsAfter (record was { server = server; last = Other }) (quiet (First number) ∷ steps)
 begin-after was server number [] after none low stands = record {
   may = record { stand = (refl, low, refl, tt); number = low };
@@ -123,7 +123,7 @@ begin-after was server number [] after none low stands = record {
 begin-after was server number (step ∷ older) after none low stands = absurd (last-some step.turn (turns_in older) (sym after.last ∙ none))
 
 -- a tick at a moment that is not before the current one
-pub tick-after : (was : Playing) (server : Serving) (sent : List SentNote) (moment : ℕ) (steps : List Step) → IsAfter was steps → was.clock ≤ moment → moment < moment_limit →
+pub tick-after : (was : Playing) (server : Serving) (sent : List SentNote) (moment : ℕ) (steps : List ReplayStep) → IsAfter was steps → was.clock ≤ moment → moment < moment_limit →
     ServerStandsFor server (script_start (first_of (turns_in steps))) (Ticks moment ∷ (played_by steps).commands) →
     AreSentAs sent (tellings_by (first_of (turns_in steps)) (played_by steps).commands (Ticks moment)) →
     IsAfter (record was { server = server; sent = was.sent ++ sent; clock = moment; last = Other }) (quiet (At moment) ∷ steps)
@@ -141,7 +141,7 @@ Subscribes true first now commands reply sent server =
     × AreSentAs sent (tellings_by first commands (grant_at now)) × ServerStandsFor server (script_start first) (grant_at now ∷ commands)
 Subscribes false first now commands reply sent server = (reply ≡ empty_reply 503) × AreSentAs sent [] × ServerStandsFor server (script_start first) commands
 
-pub subscribe-after : (was : Playing) (server : Serving) (replica : ReplicaState) (reply : List ℕ) (sent : List SentNote) (steps : List Step) → IsAfter was steps →
+pub subscribe-after : (was : Playing) (server : Serving) (replica : ReplicaState) (reply : List ℕ) (sent : List SentNote) (steps : List ReplayStep) → IsAfter was steps →
     GoesOn was.replica Requests replica →
     Subscribes (has_room (clock_of (turns_in steps)) (played_by steps).commands (notes_of (first_of (turns_in steps)) (played_by steps).commands))
     (first_of (turns_in steps)) (clock_of (turns_in steps)) (played_by steps).commands reply sent server →
@@ -195,10 +195,10 @@ none-held NoReply is = refl
 none-held (Named name) is = absurd is
 none-held Refusal is = absurd is
 
-pub held-none : (was : Playing) (steps : List Step) → IsAfter was steps → was.reply ≡ None → (played_by steps).reply ≡ NoReply
+pub held-none : (was : Playing) (steps : List ReplayStep) → IsAfter was steps → was.reply ≡ None → (played_by steps).reply ≡ NoReply
 held-none was steps after none = none-held (played_by steps).reply (subst (λ r. IsHeldAs r (played_by steps).reply) none after.reply)
 
-pub none-after : (was : Playing) (steps : List Step) → IsAfter was steps → was.reply ≡ None → IsAfter (record was { reply = None; last = Other }) (quiet Accept ∷ steps)
+pub none-after : (was : Playing) (steps : List ReplayStep) → IsAfter was steps → was.reply ≡ None → IsAfter (record was { reply = None; last = Other }) (quiet Accept ∷ steps)
 none-after was steps after none =
     let held = held-none was steps after none in
     turned was (record was { reply = None; last = Other }) (quiet Accept) steps after refl refl tt
@@ -206,7 +206,7 @@ none-after was steps after none =
     (subst (λ r. StandsFor was.replica (named script_names (after_reply r (played_by steps).replica))) (sym held) after.replica)
     after.sent after.found after.clock tt refl
 
-pub accept-after : (was : Playing) (replica : ReplicaState) (steps : List Step) → IsAfter was steps →
+pub accept-after : (was : Playing) (replica : ReplicaState) (steps : List ReplayStep) → IsAfter was steps →
     refuses_reply (played_by steps).reply (played_by steps).replica ≡ false → StandsFor replica (named script_names (after_reply (played_by steps).reply (played_by steps).replica)) →
     IsAfter (record was { replica = replica; reply = None; last = Other }) (quiet Accept ∷ steps)
 accept-after was replica steps after takes stands =
@@ -230,7 +230,7 @@ ended-notes first now commands (Some name) = by (lives name first now commands)
     by true = sym (append-nil (tellings_of first commands))
     by false = refl
 
-pub renew-after : (was : Playing) (server : Serving) (steps : List Step) → IsAfter was steps →
+pub renew-after : (was : Playing) (server : Serving) (steps : List ReplayStep) → IsAfter was steps →
     ServerStandsFor server (script_start (first_of (turns_in steps)))
     (with_renewal (accepted (played_by steps).replica) (first_of (turns_in steps)) (clock_of (turns_in steps)) (played_by steps).commands) →
     IsAfter (record was { server = server; last = Other }) (quiet Renew ∷ steps)
@@ -243,7 +243,7 @@ renew-after was server steps after stands =
     (renewed-notes first now p.commands (accepted p.replica)) after.sent)
     after.found after.clock after.reply refl
 
-pub end-after : (was : Playing) (server : Serving) (steps : List Step) → IsAfter was steps →
+pub end-after : (was : Playing) (server : Serving) (steps : List ReplayStep) → IsAfter was steps →
     ServerStandsFor server (script_start (first_of (turns_in steps)))
     (given_up (accepted (played_by steps).replica) (first_of (turns_in steps)) (clock_of (turns_in steps)) (played_by steps).commands) →
     IsAfter (record was { server = server; last = Other }) (quiet Unsubscribe ∷ steps)
@@ -257,7 +257,7 @@ end-after was server steps after stands =
     after.found after.clock after.reply refl
 
 -- a note that was sent reaches the replica
-pub deliver-after : (was : Playing) (replica : ReplicaState) (number : ℕ) (note : Note) (steps : List Step) → IsAfter was steps → may_stand_by steps (Deliver number) ≡ true →
+pub deliver-after : (was : Playing) (replica : ReplicaState) (number : ℕ) (note : Note) (steps : List ReplayStep) → IsAfter was steps → may_stand_by steps (Deliver number) ≡ true →
     sent_note number (notes_of (first_of (turns_in steps)) (played_by steps).commands) ≡ Some note → refuses_note (Some note) (played_by steps).replica ≡ false →
     StandsFor replica (named script_names (after_note (Some note) (played_by steps).replica)) →
     IsAfter (record was { replica = replica; last = Other }) (quiet (Deliver number) ∷ steps)
@@ -267,7 +267,7 @@ deliver-after was replica number note steps after may is takes stands =
     (subst (λ o. StandsFor replica (named script_names (after_note o (played_by steps).replica))) (sym is) stands)
     after.sent after.found after.clock after.reply refl
 
-pub no-note-after : (was : Playing) (number : ℕ) (steps : List Step) → IsAfter was steps → may_stand_by steps (Deliver number) ≡ true →
+pub no-note-after : (was : Playing) (number : ℕ) (steps : List ReplayStep) → IsAfter was steps → may_stand_by steps (Deliver number) ≡ true →
     sent_note number (notes_of (first_of (turns_in steps)) (played_by steps).commands) ≡ None →
     IsAfter (record was { last = Other }) (quiet (Deliver number) ∷ steps)
 no-note-after was number steps after may is =
@@ -277,12 +277,12 @@ no-note-after was number steps after may is =
     after.sent after.found after.clock after.reply refl
 
 -- one thing found more
-pub folder-after : (was : Playing) (path : List (List ℕ)) (steps : List Step) → IsAfter was steps → IsAfter (with_found was (FolderFound path)) (quiet (Folder path) ∷ steps)
+pub folder-after : (was : Playing) (path : List (List ℕ)) (steps : List ReplayStep) → IsAfter was steps → IsAfter (with_found was (FolderFound path)) (quiet (Folder path) ∷ steps)
 folder-after was path steps after =
     turned was (with_found was (FolderFound path)) (quiet (Folder path)) steps after refl refl tt refl after.server after.replica after.sent
     (ap (λ f. f ++ FolderFound path ∷ []) after.found) after.clock after.reply refl
 
-pub track-after : (was : Playing) (path : List (List ℕ)) (info : FlacInfo) (size : ℕ) (steps : List Step) → IsAfter was steps → IsInRange (Track path info size) →
+pub track-after : (was : Playing) (path : List (List ℕ)) (info : FlacInfo) (size : ℕ) (steps : List ReplayStep) → IsAfter was steps → IsInRange (Track path info size) →
     IsAfter (with_found was (TrackFound (record { path = path; info = info; size = size }))) (quiet (Track path info size) ∷ steps)
 track-after was path info size steps after plain =
     turned was (with_found was (TrackFound (record { path = path; info = info; size = size }))) (quiet (Track path info size)) steps after refl refl plain refl after.server
@@ -290,7 +290,7 @@ track-after was path info size steps after plain =
     (ap (λ f. f ++ TrackFound (record { path = path; info = info; size = size }) ∷ []) after.found) after.clock after.reply refl
 
 -- a comment for the last one
-pub tag-after : (was : Playing) (comment : Comment) (steps : List Step) → IsAfter was steps → may_stand_by steps (Tag comment) ≡ true →
+pub tag-after : (was : Playing) (comment : Comment) (steps : List ReplayStep) → IsAfter was steps → may_stand_by steps (Tag comment) ≡ true →
     IsAfter (with_tag was comment) (quiet (Tag comment) ∷ steps)
 tag-after was comment steps after stands =
     turned was (with_tag was comment) (quiet (Tag comment)) steps after refl stands tt refl after.server after.replica after.sent

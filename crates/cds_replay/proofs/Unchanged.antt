@@ -28,13 +28,13 @@ use Rattle.cds_script.specs.declared.reply.HeldReply.{HeldReply}
 use Rattle.cds_script.specs.declared.reply.HeldReply.TheVariants.{NoReply, Named, Refusal}
 use Rattle.cds_script.specs.declared.turn.Meaning.{Meaning}
 use Rattle.cds_script.specs.declared.turn.Meaning.TheVariants.{Nothing, Means, Outside}
-use Rattle.cds_script.specs.declared.turn.Turn.{Turn}
-use Rattle.cds_script.specs.declared.turn.Turn.TheVariants.{Folder, Track, Tag, Scan, Load, Read, Ask, First, At, Subscribe, Accept, Renew, Unsubscribe, Deliver, ReadFault}
+use Rattle.cds_script.specs.declared.turn.ScriptTurn.{ScriptTurn}
+use Rattle.cds_script.specs.declared.turn.ScriptTurn.TheVariants.{Folder, Track, Tag, Scan, Load, Read, Ask, First, At, Subscribe, Accept, Renew, Unsubscribe, Deliver, ReadFault}
 use Rattle.cds_script.proofs.MayBe.{lines-range}
 use Rattle.cds_script.proofs.Stood.{turns-taken, stands-at}
 use Rattle.cds_replay.specs.Lines.{known_text}
 use Rattle.cds_replay.specs.Wire.{WiredEnding, unrefused, refused_at, wired_first, script_base, server_reply, Either, IsLeftOf, IsReadBy, AreReadBy, EndsAtStep, EndsAtLine, EndsFrom, EndsOver, lines_in, straight_wires_are_taken, straight_reports_are_the_scripts}
-use Rattle.cds_replay.specs.Wired.{Step, turns_in, and_read, play_read, played_by, moment_by, may_stand_by, refuses_read, refuses_reply, refuses_arrival, refuses_note, refuses_turn, refuses, read_text_by, written_read, written_on, AllStandBy, MayBeBy}
+use Rattle.cds_replay.specs.Wired.{ReplayStep, turns_in, and_read, play_read, played_by, moment_by, may_stand_by, refuses_read, refuses_reply, refuses_arrival, refuses_note, refuses_turn, refuses, read_text_by, written_read, written_on, AllStandBy, MayBeBy}
 use Rattle.cds_replay.proofs.PlainScans.{moment-plain}
 
 -- ---- what is read of an honest reply
@@ -70,7 +70,7 @@ honest-takes moment o read turns (inr h) taken = (λ i. refuses_read (h.1 i) (h.
 -- ---- one more step
 
 -- the first number stays low
-low-more : (turn : Turn) (turns : List Turn) → IsInRange turn → first_of turns ≤ 4294967295 → first_of (turn ∷ turns) ≤ 4294967295
+low-more : (turn : ScriptTurn) (turns : List ScriptTurn) → IsInRange turn → first_of turns ≤ 4294967295 → first_of (turn ∷ turns) ≤ 4294967295
 low-more turn (next ∷ older) fits low = low
 low-more (Folder path) [] fits low = omega arith
 low-more (Track path info size) [] fits low = omega arith
@@ -88,17 +88,17 @@ low-more Unsubscribe [] fits low = omega arith
 low-more (Deliver note) [] fits low = omega arith
 low-more ReadFault [] fits low = omega arith
 
-low-less : (turn : Turn) (turns : List Turn) → first_of (turn ∷ turns) ≤ 4294967295 → first_of turns ≤ 4294967295
+low-less : (turn : ScriptTurn) (turns : List ScriptTurn) → first_of (turn ∷ turns) ≤ 4294967295 → first_of turns ≤ 4294967295
 low-less turn [] low = omega arith
 low-less turn (next ∷ older) low = low
 
 -- steps that were read over a straight wire are those of their turns
-pub record IsStraight (steps : List Step) : Type 0 where
+pub record IsStraight (steps : List ReplayStep) : Type 0 where
   pub same : played_by steps ≡ played (turns_in steps)
   pub may : MayBe (turns_in steps)
   pub fit : AllByRecursion IsInRange (turns_in steps)
 
-stand-same : (older : List Step) (turn : Turn) → played_by older ≡ played (turns_in older) → may_stand_by older turn ≡ may_stand (turns_in older) turn
+stand-same : (older : List ReplayStep) (turn : ScriptTurn) → played_by older ≡ played (turns_in older) → may_stand_by older turn ≡ may_stand (turns_in older) turn
 stand-same older (Folder path) same = refl
 stand-same older (Track path info size) same = refl
 stand-same older (Tag comment) same = refl
@@ -118,7 +118,7 @@ stand-same older ReadFault same = refl
 
 module _ (carried : List ℕ → List ℕ) (straight : (bytes : List ℕ) → carried bytes ≡ bytes) where
   -- a read after straight steps
-  read-honest : (older : List Step) (read : Option Shown) → IsStraight older → IsLeftOf carried (moment_by older) (next_ask (known_by (played_by older).replica)) read →
+  read-honest : (older : List ReplayStep) (read : Option Shown) → IsStraight older → IsLeftOf carried (moment_by older) (next_ask (known_by (played_by older).replica)) read →
       IsHonest (moment_after script_token (first_of (turns_in older)) (played (turns_in older)).commands) (next_ask (known_by (played (turns_in older)).replica)) read
   read-honest older read is left =
       left-read carried (moment_after script_token (first_of (turns_in older)) (played (turns_in older)).commands) (next_ask (known_by (played (turns_in older)).replica)) read
@@ -126,7 +126,7 @@ module _ (carried : List ℕ → List ℕ) (straight : (bytes : List ℕ) → ca
       (subst (λ (p : Played). IsLeftOf carried (moment_after script_token (first_of (turns_in older)) p.commands) (next_ask (known_by p.replica)) read) is.same left)
 
   -- what a turn leads to
-  play-same : (older : List Step) (turn : Turn) (read : Option Shown) → IsStraight older → IsReadBy carried older turn read →
+  play-same : (older : List ReplayStep) (turn : ScriptTurn) (read : Option Shown) → IsStraight older → IsReadBy carried older turn read →
       play_read read (first_of (turns_in older)) (clock_of (turns_in older)) (records_since (turns_in older)) (played (turns_in older)) turn
       ≡ play (first_of (turns_in older)) (clock_of (turns_in older)) (records_since (turns_in older)) (played (turns_in older)) turn
   play-same older (Folder path) read is at = refl
@@ -169,7 +169,7 @@ module _ (carried : List ℕ → List ℕ) (straight : (bytes : List ℕ) → ca
   note-takes (Some note) turns taken =
       let t = taken note refl in arrival-takes (arrival note turns) (with_notes (taken_by (Delivers note) turns) (known_by turns)) t.0 t.1
 
-  turn-takes : (older : List Step) (turn : Turn) (read : Option Shown) → IsStraight older → IsReadBy carried older turn read →
+  turn-takes : (older : List ReplayStep) (turn : ScriptTurn) (read : Option Shown) → IsStraight older → IsReadBy carried older turn read →
       refuses_turn read (first_of (turns_in older)) (played (turns_in older)) turn ≡ false
   turn-takes older (Folder path) read is at = refl
   turn-takes older (Track path info size) read is at = refl
@@ -193,12 +193,12 @@ module _ (carried : List ℕ → List ℕ) (straight : (bytes : List ℕ) → ca
       ((turns-taken (turns_in older) is.may).notes note)
   turn-takes older ReadFault read is at = refl
 
-  step-takes : (older : List Step) (step : Step) → IsStraight older → IsReadBy carried older step.turn step.read → refuses older step ≡ false
+  step-takes : (older : List ReplayStep) (step : ReplayStep) → IsStraight older → IsReadBy carried older step.turn step.read → refuses older step ≡ false
   step-takes older step is at =
       ap (λ (p : Played). refuses_turn step.read (first_of (turns_in older)) p step.turn) is.same ∙ turn-takes older step.turn step.read is at
 
   -- one more step
-  more-straight : (older : List Step) (step : Step) → IsStraight older → may_stand_by older step.turn ≡ true → IsInRange step.turn →
+  more-straight : (older : List ReplayStep) (step : ReplayStep) → IsStraight older → may_stand_by older step.turn ≡ true → IsInRange step.turn →
       IsReadBy carried older step.turn step.read → IsStraight (step ∷ older)
   more-straight older step is may fits at = record {
     same =
@@ -211,14 +211,14 @@ module _ (carried : List ℕ → List ℕ) (straight : (bytes : List ℕ) → ca
     fit = (fits, is.fit);
   }
 
-  all-straight : (steps : List Step) → AllStandBy steps → AreReadBy carried steps → IsStraight steps
+  all-straight : (steps : List ReplayStep) → AllStandBy steps → AreReadBy carried steps → IsStraight steps
   all-straight [] stand read = record { same = refl; may = record { stand = tt; number = omega arith }; fit = tt }
   all-straight (step ∷ older) stand read = more-straight older step (all-straight older stand.3 read.1) stand.0 stand.1 read.0
 
   -- ---- what is written
 
   -- what a replica knows after turns is what they answer
-  ask-written : (turns : List Turn) → MayBe turns → known_text (says (played turns).replica) (copied (known_by (played turns).replica)) ≡ written_by turns Ask
+  ask-written : (turns : List ScriptTurn) → MayBe turns → known_text (says (played turns).replica) (copied (known_by (played turns).replica)) ≡ written_by turns Ask
   ask-written turns may = by (says (played turns).replica) refl
     where
       rows : List ObjectRow
@@ -237,7 +237,7 @@ module _ (carried : List ℕ → List ℕ) (straight : (bytes : List ℕ) → ca
   read-written moment o read turns (inl none) = ap (λ a. read_text_by a read) none ∙ sym (ap (read_text moment) none)
   read-written moment o read turns (inr h) = (λ i. read_text_by (h.1 i) (h.2 i)) ∙ sym (ap (read_text moment) h.1)
 
-  turn-written : (older : List Step) (turn : Turn) (read : Option Shown) → IsStraight older → IsReadBy carried older turn read →
+  turn-written : (older : List ReplayStep) (turn : ScriptTurn) (read : Option Shown) → IsStraight older → IsReadBy carried older turn read →
       written_read read (first_of (turns_in older)) (clock_of (turns_in older)) (records_since (turns_in older)) (played (turns_in older)) turn ≡ written_by (turns_in older) turn
   turn-written older (Folder path) read is at = refl
   turn-written older (Track path info size) read is at = refl
@@ -257,7 +257,7 @@ module _ (carried : List ℕ → List ℕ) (straight : (bytes : List ℕ) → ca
   turn-written older (Deliver note) read is at = refl
   turn-written older ReadFault read is at = refl
 
-  step-written : (older : List Step) (step : Step) → IsStraight older → IsReadBy carried older step.turn step.read → written_on older step ≡ written_by (turns_in older) step.turn
+  step-written : (older : List ReplayStep) (step : ReplayStep) → IsStraight older → IsReadBy carried older step.turn step.read → written_on older step ≡ written_by (turns_in older) step.turn
   step-written older step is at =
       ap (λ (p : Played). written_read step.read (first_of (turns_in older)) (clock_of (turns_in older)) (records_since (turns_in older)) p step.turn) is.same
       ∙ turn-written older step.turn step.read is at
@@ -267,13 +267,13 @@ module _ (carried : List ℕ → List ℕ) (straight : (bytes : List ℕ) → ca
   abbrev IsAs : WiredEnding → Ending → Type 0
   IsAs wired ending = (wired.refused ≡ None) × (wired.ending ≡ ending)
 
-  as-unrefused : (wired : WiredEnding) (steps : List Step) (ending : Ending) → wired ≡ unrefused steps ending → IsAs wired ending
+  as-unrefused : (wired : WiredEnding) (steps : List ReplayStep) (ending : Ending) → wired ≡ unrefused steps ending → IsAs wired ending
   as-unrefused wired steps ending is = (ap (λ (w : WiredEnding). w.refused) is, ap (λ (w : WiredEnding). w.ending) is)
 
-  abbrev Continues : (List Step → WiredEnding → Type 0) → (List Turn → Ending) → Type 0
-  Continues Later go_on = (now : List Step) (later : WiredEnding) → IsStraight now → Later now later → IsAs later (go_on (turns_in now))
+  abbrev Continues : (List ReplayStep → WiredEnding → Type 0) → (List ScriptTurn → Ending) → Type 0
+  Continues Later go_on = (now : List ReplayStep) (later : WiredEnding) → IsStraight now → Later now later → IsAs later (go_on (turns_in now))
 
-  step-ends : (older : List Step) (step : Step) (number : ℕ) (Later : List Step → WiredEnding → Type 0) (go_on : List Turn → Ending) (wired : WiredEnding) → IsStraight older →
+  step-ends : (older : List ReplayStep) (step : ReplayStep) (number : ℕ) (Later : List ReplayStep → WiredEnding → Type 0) (go_on : List ScriptTurn → Ending) (wired : WiredEnding) → IsStraight older →
       may_stand_by older step.turn ≡ true → IsInRange step.turn → IsReadBy carried older step.turn step.read → Continues Later go_on → EndsAtStep older step number Later wired →
       IsAs wired (written_first (written_by (turns_in older) step.turn) (go_on (step.turn ∷ turns_in older)))
   step-ends older step number Later go_on wired is may fits at continues ends =
@@ -289,13 +289,13 @@ module _ (carried : List ℕ → List ℕ) (straight : (bytes : List ℕ) → ca
                 ∙ (λ i. written_first (step-written older step is at i) (rest.1 i)),
           )
 
-  line-ends : (steps : List Step) (meaning : Meaning) (number : ℕ) (Later : List Step → WiredEnding → Type 0) (go_on : List Turn → Ending) (wired : WiredEnding) → IsStraight steps →
+  line-ends : (steps : List ReplayStep) (meaning : Meaning) (number : ℕ) (Later : List ReplayStep → WiredEnding → Type 0) (go_on : List ScriptTurn → Ending) (wired : WiredEnding) → IsStraight steps →
       MeansInRange meaning → Continues Later go_on → EndsAtLine carried steps meaning number Later wired → IsAs wired (ending_at meaning (turns_in steps) number go_on)
   line-ends steps Nothing number Later go_on wired is fits continues ends = continues steps wired is ends
   line-ends steps Outside number Later go_on wired is fits continues ends = as-unrefused wired steps (outside_ending number) ends
   line-ends steps (Means turn) number Later go_on wired is fits continues ends = by (may_stand_by steps turn) refl ends
     where
-      turns : List Turn
+      turns : List ScriptTurn
       turns = turns_in steps
 
       Goes : Type 0
@@ -310,7 +310,7 @@ module _ (carried : List ℕ → List ℕ) (straight : (bytes : List ℕ) → ca
           subst (λ c. IsAs wired (cond c (written_first (written_by turns turn) (go_on (turn ∷ turns))) (outside_ending number))) (sym (sym (stand-same steps turn is.same) ∙ e))
           (as-unrefused wired steps (outside_ending number) t)
 
-  from-ends : (lines : List (List ℕ)) (whole : Bool) (number : ℕ) (steps : List Step) (wired : WiredEnding) → IsStraight steps → EndsFrom carried steps number lines whole wired →
+  from-ends : (lines : List (List ℕ)) (whole : Bool) (number : ℕ) (steps : List ReplayStep) (wired : WiredEnding) → IsStraight steps → EndsFrom carried steps number lines whole wired →
       IsAs wired (ending_from (turns_in steps) number lines whole)
   from-ends [] whole number steps wired is ends = as-unrefused wired steps (cond whole (record { status = 0; text = [] }) limit_ending) ends
   from-ends (line ∷ lines) whole number steps wired is ends =

@@ -11,11 +11,11 @@ use Rattle.cds_script.specs.Report.{Played, first_of, clock_of, records_since, a
 use Rattle.cds_script.specs.Script.{grant_at}
 use Rattle.cds_script.specs.declared.reply.HeldReply.{HeldReply}
 use Rattle.cds_script.specs.declared.reply.HeldReply.TheVariants.{NoReply, Named, Refusal}
-use Rattle.cds_script.specs.declared.turn.Turn.{Turn}
-use Rattle.cds_script.specs.declared.turn.Turn.TheVariants.{Folder, Track, Tag, Scan, Load, Read, Ask, First, At, Subscribe, Accept, Renew, Unsubscribe, Deliver, ReadFault}
+use Rattle.cds_script.specs.declared.turn.ScriptTurn.{ScriptTurn}
+use Rattle.cds_script.specs.declared.turn.ScriptTurn.TheVariants.{Folder, Track, Tag, Scan, Load, Read, Ask, First, At, Subscribe, Accept, Renew, Unsubscribe, Deliver, ReadFault}
 use Rattle.cds_script.proofs.Given.{out-and}
 use Rattle.cds_replay.specs.Session.{IsHeldAs}
-use Rattle.cds_replay.specs.Wired.{Step, turns_in, and_read, play_read, played_by}
+use Rattle.cds_replay.specs.Wired.{ReplayStep, turns_in, and_read, play_read, played_by}
 
 -- a request is out while a reply is held back
 abbrev Waits : HeldReply → List ReplicaTurn → Type 0
@@ -38,7 +38,7 @@ out-note : (o : Option Note) (turns : List ReplicaTurn) → is_out (after_note o
 out-note None turns = refl
 out-note (Some note) turns = out-and (Delivers note) turns refl
 
-one-waits : (read : Option Shown) (first now : ℕ) (records : List Record) (p : Played) (turn : Turn) → Waits p.reply p.replica →
+one-waits : (read : Option Shown) (first now : ℕ) (records : List Record) (p : Played) (turn : ScriptTurn) → Waits p.reply p.replica →
     Waits (play_read read first now records p turn).reply (play_read read first now records p turn).replica
 one-waits read first now records p (Folder path) w = w
 one-waits read first now records p (Track path info size) w = w
@@ -68,7 +68,7 @@ one-waits read first now records p (Deliver note) w =
     waits-on p.reply p.replica (after_note (sent_note note (notes_of first p.commands)) p.replica) (out-note (sent_note note (notes_of first p.commands)) p.replica) w
 one-waits read first now records p ReadFault w = w
 
-all-waits : (steps : List Step) → Waits (played_by steps).reply (played_by steps).replica
+all-waits : (steps : List ReplayStep) → Waits (played_by steps).reply (played_by steps).replica
 all-waits [] = tt
 all-waits (step ∷ older) =
     one-waits step.read (first_of (turns_in older)) (clock_of (turns_in older)) (records_since (turns_in older)) (played_by older) step.turn (all-waits older)
@@ -89,5 +89,5 @@ held-some bytes NoReply is = is
 held-some bytes (Named name) is = tt
 held-some bytes Refusal is = tt
 
-pub reply-waits : (steps : List Step) (bytes : List ℕ) → IsHeldAs (Some bytes) (played_by steps).reply → is_out (played_by steps).replica ≡ true
+pub reply-waits : (steps : List ReplayStep) (bytes : List ℕ) → IsHeldAs (Some bytes) (played_by steps).reply → is_out (played_by steps).replica ≡ true
 reply-waits steps bytes is = waits-so (played_by steps).reply (played_by steps).replica (held-some bytes (played_by steps).reply is) (all-waits steps)

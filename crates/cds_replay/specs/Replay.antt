@@ -1,11 +1,11 @@
 -- How a replay ends, and what its sink holds then.
 use Rattle.std.specs.Prelude.{◌≡◌, ℕ, List, [], ◌++◌, Option, Some, None, Result, Ok, Err}
-use Rattle.cds_base.specs.Outside.{Told}
+use Rattle.cds_outside.specs.Outside.{Told}
 use Rattle.cds_replay.specs.Script.{GoesOn, stop_status, stop_text, stop_refused}
 use Rattle.cds_replay.specs.Wire.{WiredEnding, EndsOver}
 use Rattle.cds_replay.specs.declared.script.Script.{Script}
-use Rattle.cds_replay.specs.declared.script.Stop.{Stop}
-use Rattle.cds_replay.specs.declared.script.Stop.TheVariants.{Outside, Limit as PastLimit, Refused as RefusedAt}
+use Rattle.cds_replay.specs.declared.script.ScriptStop.{ScriptStop}
+use Rattle.cds_replay.specs.declared.script.ScriptStop.TheVariants.{Outside, Limit as PastLimit, Refused as RefusedAt}
 use Rattle.cds_replay.specs.declared.play.ReplayError.{ReplayError}
 use Rattle.cds_replay.specs.declared.play.ReplayError.TheVariants.{Line, ReadFault, WriteFault, Limit, Refused, Mem}
 
@@ -88,7 +88,7 @@ pub record Closes (carried : List ℕ → List ℕ) (bytes written : List ℕ) (
 abbrev pub EndsIn : (List ℕ → List ℕ) → List ℕ → List ℕ → Option (List ℕ) → Option (List ℕ) → Type 0
 EndsIn carried bytes written held after = Closes carried bytes written None 0 [] held after
 
-abbrev pub StopsIn : (List ℕ → List ℕ) → List ℕ → List ℕ → Stop → Option (List ℕ) → Option (List ℕ) → Type 0
+abbrev pub StopsIn : (List ℕ → List ℕ) → List ℕ → List ℕ → ScriptStop → Option (List ℕ) → Option (List ℕ) → Type 0
 StopsIn carried bytes written stop held after = Closes carried bytes written (stop_refused stop) (stop_status stop) (stop_text stop) held after
 
 -- what became of a script that ends with an error: a stop, or none of the script's
@@ -101,7 +101,7 @@ Stopped carried (Refused line) bytes written held after = StopsIn carried bytes 
 Stopped carried Mem bytes written held after = Unit {0}
 
 -- a stop, as an answer
-abbrev pub answer_of : Option Stop → Result (Unit {0}) ReplayError
+abbrev pub answer_of : Option ScriptStop → Result (Unit {0}) ReplayError
 answer_of None = Ok tt
 answer_of (Some (Outside line)) = Err (Line line)
 answer_of (Some PastLimit) = Err Limit

@@ -4,26 +4,26 @@ use Rattle.std.specs.Prelude.{◌≡◌, ◌⊎◌, ℕ, true, false, List, [], 
 use Rattle.cds_script.specs.Played.{script_lines, turns_of}
 use Rattle.cds_script.specs.Report.{Ending, written_first, outside_ending, limit_ending, script_ending}
 use Rattle.cds_replay.specs.Wire.{WiredEnding, AreReadBy, EndsOver}
-use Rattle.cds_replay.specs.Wired.{Step, turns_in, may_stand_by, refuses, written_on}
+use Rattle.cds_replay.specs.Wired.{ReplayStep, turns_in, may_stand_by, refuses, written_on}
 
 -- what steps write, one after the other, the oldest first
-abbrev pub written_of : List Step → List ℕ
+abbrev pub written_of : List ReplayStep → List ℕ
 written_of [] = []
 written_of (step ∷ older) = written_of older ++ written_on older step
 
 -- the steps that the replica did not refuse, among steps of which it refused the newest or none
-abbrev pub taken_of : Option ℕ → List Step → List Step
+abbrev pub taken_of : Option ℕ → List ReplayStep → List ReplayStep
 taken_of None steps = steps
 taken_of (Some line) [] = []
 taken_of (Some line) (step ∷ older) = older
 
 -- each step may stand after the older ones, and nothing that it gives the replica is refused
-abbrev pub AreTaken : List Step → Type 0
+abbrev pub AreTaken : List ReplayStep → Type 0
 AreTaken [] = Unit {0}
 AreTaken (step ∷ older) = (may_stand_by older step.turn ≡ true) × (refuses older step ≡ false) × AreTaken older
 
 -- so each; or each except the newest, which may stand and is refused
-abbrev pub AreTakenBut : Option ℕ → List Step → Type 0
+abbrev pub AreTakenBut : Option ℕ → List ReplayStep → Type 0
 AreTakenBut None steps = AreTaken steps
 AreTakenBut (Some line) [] = ⊥
 AreTakenBut (Some line) (step ∷ older) = (may_stand_by older step.turn ≡ true) × (refuses older step ≡ true) × AreTaken older

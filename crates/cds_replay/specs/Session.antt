@@ -13,14 +13,14 @@ use Rattle.cds_script.specs.Report.{first_of, clock_of, last_commented, found_si
 use Rattle.cds_replica.specs.State.{ReplicaState, StandsFor}
 use Rattle.cds_script.specs.declared.found.Found.{Found}
 use Rattle.cds_script.specs.declared.found.Found.TheVariants.{Folder as FolderFound, Track as TrackFound}
-use Rattle.cds_script.specs.declared.turn.Turn.{Turn}
-use Rattle.cds_script.specs.declared.turn.Turn.TheVariants.{Track, Tag}
+use Rattle.cds_script.specs.declared.turn.ScriptTurn.{ScriptTurn}
+use Rattle.cds_script.specs.declared.turn.ScriptTurn.TheVariants.{Track, Tag}
 use Rattle.cds_script.specs.Script.{granted_seconds, moment_limit, script_callback}
 use Rattle.cds_replay.specs.declared.last.Last.{Last}
 use Rattle.cds_replay.specs.declared.last.Last.TheVariants.{NoTurn, OfTrack, Other}
 use Rattle.cds_replay.specs.declared.session.TurnError.{TurnError}
 use Rattle.cds_replay.specs.declared.session.TurnError.TheVariants.{Refused, Mem as NoMemory}
-use Rattle.cds_replay.specs.Wired.{Step, turns_in, played_by, and_read, refuses_read, refuses_reply, refuses_note, refuses, read_text_by, written_on, MayBeBy}
+use Rattle.cds_replay.specs.Wired.{ReplayStep, turns_in, played_by, and_read, refuses_read, refuses_reply, refuses_note, refuses, read_text_by, written_on, MayBeBy}
 use Rattle.cds_replay.specs.Wire.{IsReadBy, AreReadBy}
 use Rattle.cds_base.specs.declared.mem.Mem.{Mem}
 use Rattle.cds_commands.specs.Names.{name_of}
@@ -45,7 +45,7 @@ pub record Playing : Type 0 where
   pub last : Last
 
 -- what the newest of turns is
-abbrev pub last_of : List Turn → Last
+abbrev pub last_of : List ScriptTurn → Last
 last_of [] = NoTurn
 last_of (Track path info size ∷ older) = OfTrack
 last_of (Tag comment ∷ older) = OfTrack
@@ -114,7 +114,7 @@ IsHeldAs (Some reply) Refusal = reply ≡ empty_reply 503
 
 -- whether a session stands for steps, the newest first. Its server stands for the commands that were accepted, and its replica
 -- for the replica's turns, under the names on the wire. What was sent and what is held back are the notes and the reply
-pub record IsAfter (playing : Playing) (steps : List Step) : Type 0 where
+pub record IsAfter (playing : Playing) (steps : List ReplayStep) : Type 0 where
   pub may : MayBeBy steps
   pub server : ServerStandsFor playing.server (script_start (first_of (turns_in steps))) (played_by steps).commands
   pub replica : StandsFor playing.replica (named script_names (played_by steps).replica)
@@ -126,23 +126,23 @@ pub record IsAfter (playing : Playing) (steps : List Step) : Type 0 where
 
 -- a session stands for some steps whose replies a wire left
 pub record IsPlayed (carried : List ℕ → List ℕ) (playing : Playing) : Type 0 where
-  pub steps : List Step
+  pub steps : List ReplayStep
   pub read : AreReadBy carried steps
   pub after : IsAfter playing steps
 
 -- a step was taken: the session stands for it too, and what it writes was added
-pub record StepTaken (older : List Step) (step : Step) (old new : List ℕ) (playing : Playing) : Type 0 where
+pub record StepTaken (older : List ReplayStep) (step : ReplayStep) (old new : List ℕ) (playing : Playing) : Type 0 where
   pub takes : refuses older step ≡ false
   pub after : IsAfter playing (step ∷ older)
   pub out : new ≡ old ++ written_on older step
 
 -- or refused: nothing was added
-pub record StepRefused (older : List Step) (step : Step) (old new : List ℕ) : Type 0 where
+pub record StepRefused (older : List ReplayStep) (step : ReplayStep) (old new : List ℕ) : Type 0 where
   pub refused : refuses older step ≡ true
   pub out : new ≡ old
 
 -- a turn, the reply to which is read as what a wire left of it, was taken or refused; or memory ran out
-abbrev pub TurnTaken : (List ℕ → List ℕ) → List Step → Turn → List ℕ → List ℕ → Playing → Result (Unit {0}) TurnError → Type 0
+abbrev pub TurnTaken : (List ℕ → List ℕ) → List ReplayStep → ScriptTurn → List ℕ → List ℕ → Playing → Result (Unit {0}) TurnError → Type 0
 TurnTaken carried older turn old new playing (Ok done) =
     (read : Option Shown) × IsReadBy carried older turn read × StepTaken older (record { turn = turn; read = read }) old new playing
 TurnTaken carried older turn old new playing (Err Refused) =
@@ -151,14 +151,14 @@ TurnTaken carried older turn old new playing (Err NoMemory) = Unit {0}
 
 -- a session stands for some steps, whatever was read
 abbrev pub IsStanding : Playing → Type 0
-IsStanding playing = (steps : List Step) × IsAfter playing steps
+IsStanding playing = (steps : List ReplayStep) × IsAfter playing steps
 
 -- a turn without a reply
-abbrev pub quiet : Turn → Step
+abbrev pub quiet : ScriptTurn → ReplayStep
 quiet turn = record { turn = turn; read = None }
 
 -- such a turn was taken or refused; or memory ran out
-abbrev pub QuietTaken : List Step → Turn → List ℕ → List ℕ → Playing → Result (Unit {0}) TurnError → Type 0
+abbrev pub QuietTaken : List ReplayStep → ScriptTurn → List ℕ → List ℕ → Playing → Result (Unit {0}) TurnError → Type 0
 QuietTaken older turn old new playing (Ok done) = StepTaken older (quiet turn) old new playing
 QuietTaken older turn old new playing (Err Refused) = StepRefused older (quiet turn) old new
 QuietTaken older turn old new playing (Err NoMemory) = Unit {0}

@@ -20,9 +20,9 @@ use Rattle.cds_script.specs.Script.{meaning_of}
 use Rattle.cds_script.specs.Report.{Ending, written_first, outside_ending, limit_ending, script_ending}
 use Rattle.cds_script.specs.declared.turn.Meaning.{Meaning}
 use Rattle.cds_script.specs.declared.turn.Meaning.TheVariants.{Nothing, Means, Outside}
-use Rattle.cds_script.specs.declared.turn.Turn.{Turn}
-use Rattle.cds_script.specs.declared.turn.Turn.TheVariants.{Read, Ask}
-use Rattle.cds_replay.specs.Wired.{Step, turns_in, played_by, moment_by, may_stand_by, refuses, written_on, MayBeBy}
+use Rattle.cds_script.specs.declared.turn.ScriptTurn.{ScriptTurn}
+use Rattle.cds_script.specs.declared.turn.ScriptTurn.TheVariants.{Read, Ask}
+use Rattle.cds_replay.specs.Wired.{ReplayStep, turns_in, played_by, moment_by, may_stand_by, refuses, written_on, MayBeBy}
 
 -- the URL that the bytes of tracks are under, for whoever asks a script's server
 abbrev pub script_base : List ℕ
@@ -40,12 +40,12 @@ IsLeftOf carried moment None read = read ≡ None
 IsLeftOf carried moment (Some ask) read = IsReading ask (carried (server_reply moment ask)) read
 
 -- so with the next ask of the replica if a turn is a read; no other turn has a reply
-abbrev pub IsReadBy : (List ℕ → List ℕ) → List Step → Turn → Option Shown → Type 0
+abbrev pub IsReadBy : (List ℕ → List ℕ) → List ReplayStep → ScriptTurn → Option Shown → Type 0
 IsReadBy carried older Read read = IsLeftOf carried (moment_by older) (next_ask (known_by (played_by older).replica)) read
 IsReadBy carried older turn read = read ≡ None
 
 -- each step was read so
-abbrev pub AreReadBy : (List ℕ → List ℕ) → List Step → Type 0
+abbrev pub AreReadBy : (List ℕ → List ℕ) → List ReplayStep → Type 0
 AreReadBy carried [] = Unit {0}
 AreReadBy carried (step ∷ older) = IsReadBy carried older step.turn step.read × AreReadBy carried older
 
@@ -55,16 +55,16 @@ AreReadBy carried (step ∷ older) = IsReadBy carried older step.turn step.read 
 -- status and all that was written. If a line is refused there is no status, told as 0, and what was written is that of the lines
 -- before it
 pub record WiredEnding : Type 0 where
-  pub steps : List Step
+  pub steps : List ReplayStep
   pub refused : Option ℕ
   pub ending : Ending
 
 -- nothing was refused
-abbrev pub unrefused : List Step → Ending → WiredEnding
+abbrev pub unrefused : List ReplayStep → Ending → WiredEnding
 unrefused steps ending = record { steps = steps; refused = None; ending = ending }
 
 -- the step of a line was. The status 0 stands for none here: why the script ends, `refused` says
-abbrev pub refused_at : List Step → ℕ → WiredEnding
+abbrev pub refused_at : List ReplayStep → ℕ → WiredEnding
 refused_at steps number = record { steps = steps; refused = Some number; ending = record { status = 0; text = [] } }
 
 -- with more written before it
@@ -77,13 +77,13 @@ Either true P Q = P
 Either false P Q = Q
 
 -- a step that is refused ends the script; else it writes, and the script goes on
-abbrev pub EndsAtStep : List Step → Step → ℕ → (List Step → WiredEnding → Type 0) → WiredEnding → Type 0
+abbrev pub EndsAtStep : List ReplayStep → ReplayStep → ℕ → (List ReplayStep → WiredEnding → Type 0) → WiredEnding → Type 0
 EndsAtStep older step number Later ending =
     Either (refuses older step) (ending ≡ refused_at (step ∷ older) number)
     ((later : WiredEnding) × Later (step ∷ older) later × (ending ≡ wired_first (written_on older step) later))
 
 -- if a turn may stand, the reply to it is read as what the wire left of it; otherwise its line is outside the grammar
-abbrev pub EndsAtTurn : (List ℕ → List ℕ) → List Step → Turn → ℕ → (List Step → WiredEnding → Type 0) → WiredEnding → Type 0
+abbrev pub EndsAtTurn : (List ℕ → List ℕ) → List ReplayStep → ScriptTurn → ℕ → (List ReplayStep → WiredEnding → Type 0) → WiredEnding → Type 0
 EndsAtTurn carried older turn number Later ending =
     Either (may_stand_by older turn)
     ((read : Option Shown) × IsReadBy carried older turn read × EndsAtStep older (record { turn = turn; read = read }) number Later ending)
@@ -91,14 +91,14 @@ EndsAtTurn carried older turn number Later ending =
 
 -- how a script goes on at a line, by what it means: after these steps, at the line of this number, with what comes after further
 -- ones
-abbrev pub EndsAtLine : (List ℕ → List ℕ) → List Step → Meaning → ℕ → (List Step → WiredEnding → Type 0) → WiredEnding → Type 0
+abbrev pub EndsAtLine : (List ℕ → List ℕ) → List ReplayStep → Meaning → ℕ → (List ReplayStep → WiredEnding → Type 0) → WiredEnding → Type 0
 EndsAtLine carried steps Nothing number Later ending = Later steps ending
 EndsAtLine carried steps (Means turn) number Later ending = EndsAtTurn carried steps turn number Later ending
 EndsAtLine carried steps Outside number Later ending = ending ≡ unrefused steps (outside_ending number)
 
 -- how a script ends after steps; the first of the lines that are left has this number. The last part says whether the script ends
 -- with these lines, or passes its limit
-abbrev pub EndsFrom : (List ℕ → List ℕ) → List Step → ℕ → List (List ℕ) → Bool → WiredEnding → Type 0
+abbrev pub EndsFrom : (List ℕ → List ℕ) → List ReplayStep → ℕ → List (List ℕ) → Bool → WiredEnding → Type 0
 EndsFrom carried steps number [] whole ending = ending ≡ unrefused steps (cond whole (record { status = 0; text = [] }) limit_ending)
 EndsFrom carried steps number (line ∷ lines) whole ending =
     Either (nat_lt line_limit (length line)) (ending ≡ unrefused steps limit_ending)
@@ -109,7 +109,7 @@ abbrev pub lines_in : ℕ → List ℕ → List (List ℕ)
 lines_in room bytes = cond (nat_le (length bytes) room) (lines_of bytes) (ended_lines (take room bytes))
 
 -- how a script goes on after steps, at the line of this number, if this many more bytes may be taken
-abbrev pub EndsOf : (List ℕ → List ℕ) → List Step → ℕ → ℕ → List ℕ → WiredEnding → Type 0
+abbrev pub EndsOf : (List ℕ → List ℕ) → List ReplayStep → ℕ → ℕ → List ℕ → WiredEnding → Type 0
 EndsOf carried steps number room bytes ending = EndsFrom carried steps number (lines_in room bytes) (nat_le (length bytes) room) ending
 
 -- how a script ends over a wire. It does so in one way (`wires_end_once`)
@@ -127,26 +127,26 @@ rows_read None = []
 rows_read (Some shown) = rows_shown shown
 
 -- one of the replies among steps, as it was left, showed an object of a row's id with its content and its objectUpdateID
-abbrev pub WasLeft : ObjectRow → List Step → Type 0
+abbrev pub WasLeft : ObjectRow → List ReplayStep → Type 0
 WasLeft row [] = ⊥
 WasLeft row (step ∷ older) = HasVersion row (rows_read step.read) ⊎ WasLeft row older
 
 -- an ask after steps writes that it stands at a number, and rows each of which was left so
-pub record WritesWhatWasLeft (steps : List Step) (number : ℕ) : Type 0 where
+pub record WritesWhatWasLeft (steps : List ReplayStep) (number : ℕ) : Type 0 where
   pub rows : List ObjectRow
   pub text : written_on steps (record { turn = Ask; read = None }) ≡ codes "stands " ++ decimal number ++ codes "\n" ++ full_text rows
   pub left : AllByRecursion (λ row. WasLeft row steps) rows
 
 -- each ask among steps does, if the replica stands
-abbrev pub AsksShow : List Step → Type 0
-AsksShow steps = (newer older : List Step) (read : Option Shown) (number : ℕ) → steps ≡ newer ++ record { turn = Ask; read = read } ∷ older →
+abbrev pub AsksShow : List ReplayStep → Type 0
+AsksShow steps = (newer older : List ReplayStep) (read : Option Shown) (number : ℕ) → steps ≡ newer ++ record { turn = Ask; read = read } ∷ older →
     says (played_by older).replica ≡ Stands number → WritesWhatWasLeft older number
 
 -- ---- laws
 
 -- whatever is read, asks write what was left
 abbrev pub asks_write_what_was_left : Type 0
-asks_write_what_was_left = (steps : List Step) → AsksShow steps
+asks_write_what_was_left = (steps : List ReplayStep) → AsksShow steps
 
 -- a script ends over a wire in one way
 abbrev pub wires_end_once : Type 0
@@ -155,7 +155,7 @@ wires_end_once = (carried : List ℕ → List ℕ) (script : List ℕ) (one othe
 
 -- over a wire that leaves each reply as it is nothing is refused
 abbrev pub straight_wires_are_taken : Type 0
-straight_wires_are_taken = (carried : List ℕ → List ℕ) (older : List Step) (step : Step) → ((bytes : List ℕ) → carried bytes ≡ bytes) →
+straight_wires_are_taken = (carried : List ℕ → List ℕ) (older : List ReplayStep) (step : ReplayStep) → ((bytes : List ℕ) → carried bytes ≡ bytes) →
     MayBeBy older → AreReadBy carried older → may_stand_by older step.turn ≡ true → IsReadBy carried older step.turn step.read → refuses older step ≡ false
 
 -- over a wire that leaves each reply as it is a script ends as scripts do, and nothing is refused

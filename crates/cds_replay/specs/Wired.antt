@@ -13,18 +13,18 @@ use Rattle.cds_replica.specs.Replies.{and_shown}
 use Rattle.cds_script.specs.Report.{Played, script_token, first_of, clock_of, records_since, sent_note, play, reply_text, written, may_stand}
 use Rattle.cds_script.specs.declared.reply.HeldReply.{HeldReply}
 use Rattle.cds_script.specs.declared.reply.HeldReply.TheVariants.{NoReply, Named, Refusal}
-use Rattle.cds_script.specs.declared.turn.Turn.{Turn}
-use Rattle.cds_script.specs.declared.turn.Turn.TheVariants.{Read, Ask, Accept, Deliver}
+use Rattle.cds_script.specs.declared.turn.ScriptTurn.{ScriptTurn}
+use Rattle.cds_script.specs.declared.turn.ScriptTurn.TheVariants.{Read, Ask, Accept, Deliver}
 use Rattle.cds_script.specs.Script.{IsInRange}
 use Rattle.cds_replay.specs.Lines.{known_text}
 
 -- a turn, and what the reply to it was read as: it may be nothing, and only a read that asks for something has a reply
-pub record Step : Type 0 where
-  pub turn : Turn
+pub record ReplayStep : Type 0 where
+  pub turn : ScriptTurn
   pub read : Option Shown
 
 -- the turns of steps; of both the newest is the first
-abbrev pub turns_in : List Step → List Turn
+abbrev pub turns_in : List ReplayStep → List ScriptTurn
 turns_in [] = []
 turns_in (step ∷ older) = step.turn ∷ turns_in older
 
@@ -35,21 +35,21 @@ abbrev pub and_read : Option Asked → Option Shown → List ReplicaTurn → Lis
 and_read None read turns = turns
 and_read (Some ask) read turns = and_shown read turns
 
-abbrev pub play_read : Option Shown → ℕ → ℕ → List Record → Played → Turn → Played
+abbrev pub play_read : Option Shown → ℕ → ℕ → List Record → Played → ScriptTurn → Played
 play_read read first now records p Read = record p { replica = and_read (next_ask (known_by p.replica)) read p.replica }
 play_read read first now records p turn = play first now records p turn
 
-abbrev pub played_by : List Step → Played
+abbrev pub played_by : List ReplayStep → Played
 played_by [] = record { commands = []; replica = []; reply = NoReply }
 played_by (step ∷ older) =
     play_read step.read (first_of (turns_in older)) (clock_of (turns_in older)) (records_since (turns_in older)) (played_by older) step.turn
 
 -- what the server has after steps
-abbrev pub moment_by : List Step → Moment
+abbrev pub moment_by : List ReplayStep → Moment
 moment_by steps = moment_after script_token (first_of (turns_in steps)) (played_by steps).commands
 
 -- whether a turn may stand after the older ones: a note that is delivered was sent
-abbrev pub may_stand_by : List Step → Turn → Bool
+abbrev pub may_stand_by : List ReplayStep → ScriptTurn → Bool
 may_stand_by older (Deliver note) =
     nat_lt 0 note && nat_le note (length (notes_of (first_of (turns_in older)) (played_by older).commands))
 may_stand_by older turn = may_stand (turns_in older) turn
@@ -83,13 +83,13 @@ refuses_note None turns = false
 refuses_note (Some note) turns = refuses_arrival (arrival note turns) (with_notes (taken_by (Delivers note) turns) (known_by turns))
 
 -- what a turn gives it, after the older ones
-abbrev pub refuses_turn : Option Shown → ℕ → Played → Turn → Bool
+abbrev pub refuses_turn : Option Shown → ℕ → Played → ScriptTurn → Bool
 refuses_turn read first p Read = refuses_read (next_ask (known_by p.replica)) read p.replica
 refuses_turn read first p Accept = refuses_reply p.reply p.replica
 refuses_turn read first p (Deliver note) = refuses_note (sent_note note (notes_of first p.commands)) p.replica
 refuses_turn read first p turn = false
 
-abbrev pub refuses : List Step → Step → Bool
+abbrev pub refuses : List ReplayStep → ReplayStep → Bool
 refuses older step = refuses_turn step.read (first_of (turns_in older)) (played_by older) step.turn
 
 -- ---- what steps write
@@ -101,12 +101,12 @@ read_text_by (Some ask) None = []
 read_text_by (Some ask) (Some shown) = reply_text shown
 
 -- an ask writes what the replica says, and the rows of its copy if it stands
-abbrev pub written_read : Option Shown → ℕ → ℕ → List Record → Played → Turn → List ℕ
+abbrev pub written_read : Option Shown → ℕ → ℕ → List Record → Played → ScriptTurn → List ℕ
 written_read read first now records p Read = read_text_by (next_ask (known_by p.replica)) read
 written_read read first now records p Ask = known_text (says p.replica) (copied (known_by p.replica))
 written_read read first now records p turn = written first now records p turn
 
-abbrev pub written_on : List Step → Step → List ℕ
+abbrev pub written_on : List ReplayStep → ReplayStep → List ℕ
 written_on older step =
     written_read step.read (first_of (turns_in older)) (clock_of (turns_in older)) (records_since (turns_in older)) (played_by older) step.turn
 
@@ -114,10 +114,10 @@ written_on older step =
 
 -- the numbers of each turn are in their ranges; it may stand after the older ones; nothing was refused; and the first number is
 -- one of the server's
-abbrev pub AllStandBy : List Step → Type 0
+abbrev pub AllStandBy : List ReplayStep → Type 0
 AllStandBy [] = Unit {0}
 AllStandBy (step ∷ older) = (may_stand_by older step.turn ≡ true) × IsInRange step.turn × (refuses older step ≡ false) × AllStandBy older
 
-pub record MayBeBy (steps : List Step) : Type 0 where
+pub record MayBeBy (steps : List ReplayStep) : Type 0 where
   pub stand : AllStandBy steps
   pub number : first_of (turns_in steps) ≤ 4294967295

@@ -4,13 +4,13 @@
 mod control;
 mod events;
 mod last;
+pub mod laws;
 mod play;
 mod report;
 mod script;
 mod sent;
 mod session;
 mod wire;
-pub mod wire_laws;
 
 pub use play::{ReplayError, replay, replay_by};
 pub use wire::{Straight, Wire};

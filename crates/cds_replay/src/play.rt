@@ -2,7 +2,7 @@
 
 ghost use Rattle.std.specs.Prelude.{◌≡◌, ℕ, ◌+◌, ◌-◌, ◌<◌, ◌≤◌, ◌++◌, ◌⊎◌, [], ◌∷◌, List, true, Option, Some, None, length, take, drop, IfOk, IfErr, OnOk, OnErr};
 ghost use Rattle.cds_base.specs.declared.limits.TheConstants.{INPUT_LIMIT};
-ghost use Rattle.cds_base.specs.Outside.{raised, Rose, Told};
+ghost use Rattle.cds_outside.specs.Outside.{raised, Rose, Told};
 ghost use Rattle.cds_script.specs.Lines.{is_unbroken, line_limit, script_limit};
 ghost use Rattle.cds_script.specs.Report.{outside_ending, script_ending};
 ghost use Rattle.cds_script.specs.Complete.{AnswersAreComplete};
@@ -14,9 +14,10 @@ ghost use Rattle.cds_replay.specs.Script.{left_in, Sound, GoesOn};
 ghost use Rattle.cds_replay.specs.Wire.{WiredEnding, EndsOver, OnWire, AsksShow};
 ghost use Rattle.cds_replay.specs.Replay.{OnLine, OnRefused, OnLimit, OnReadFault, OnWriteFault, Holds, Reports, EndsWith, EndsIn, Played, Stopped, answer_of};
 
-use crate::script::{Script, Stop, cut_line};
+use crate::script::{Script, ScriptStop, cut_line};
 use crate::wire::{Straight, Wire};
-use cds_base::{Failed, Mem, Sink, Source, empty_piece, read_piece, write_all};
+use cds_base::Mem;
+use cds_outside::{Failed, Sink, Source, empty_piece, read_piece, write_all};
 use std::alloc::Global;
 use std::convert::From;
 use thiserror::Error;
@@ -97,7 +98,7 @@ pub fn replay<S: Source, K: Sink>(
     cds_script::laws::all_turns_bound_loads();
     cds_script::laws::all_turns_stand_at_scan_ends();
     cds_script::laws::all_answers_are_complete();
-    crate::wire_laws::straight_reports_are_the_scripts();
+    crate::laws::straight_reports_are_the_scripts();
     replay_by(alloc, source, sink, &Straight)
 }
 
@@ -140,10 +141,10 @@ pub fn replay_by<S: Source, K: Sink, W: Wire>(
     ensures straight_report { ((bytes : List ℕ) → W.carried wire.now bytes ≡ bytes) → Told (S.told source.old).left
         (λ script. (ending : WiredEnding) → EndsOver (W.carried wire.now) script ending → IsTheScripts script ending) }
 {
-    crate::wire_laws::asks_write_what_was_left();
-    crate::wire_laws::wires_end_once();
-    crate::wire_laws::wires_report_steps();
-    crate::wire_laws::straight_reports_are_the_scripts();
+    crate::laws::asks_write_what_was_left();
+    crate::laws::wires_end_once();
+    crate::laws::wires_report_steps();
+    crate::laws::straight_reports_are_the_scripts();
     let mut buffer = empty_piece(alloc)?;
     let mut script = Script::new(alloc)?;
     play_on(
@@ -303,7 +304,11 @@ fn finish<W: Wire, K: Sink>(
 }
 
 /// Writes a text, and returns the stop that it ends with.
-fn write_out<K: Sink>(sink: &mut K, text: &[u8], stop: Option<Stop>) -> Result<(), ReplayError>
+fn write_out<K: Sink>(
+    sink: &mut K,
+    text: &[u8],
+    stop: Option<ScriptStop>,
+) -> Result<(), ReplayError>
     ensures answer { (result ≡ Err ReplayError.WriteFault) ⊎ (result ≡ answer_of stop) }
     ensures held { (result ≡ answer_of stop) → Holds (K.told sink.old).holds text.now (K.told sink.new).holds }
     ensures write_fault { IfErr result (λ e. OnWriteFault e (Rose (K.told sink.old).faults (K.told sink.new).faults)) }
@@ -315,8 +320,8 @@ fn write_out<K: Sink>(sink: &mut K, text: &[u8], stop: Option<Stop>) -> Result<(
     }
     match stop {
         None => Ok(()),
-        Some(Stop::Outside { line }) => Err(ReplayError::Line { line }),
-        Some(Stop::Limit) => Err(ReplayError::Limit),
-        Some(Stop::Refused { line }) => Err(ReplayError::Refused { line }),
+        Some(ScriptStop::Outside { line }) => Err(ReplayError::Line { line }),
+        Some(ScriptStop::Limit) => Err(ReplayError::Limit),
+        Some(ScriptStop::Refused { line }) => Err(ReplayError::Refused { line }),
     }
 }

@@ -4,15 +4,15 @@ ghost use Rattle.std.specs.Prelude.{◌≡◌, ℕ, ◌+◌, ◌<◌, ◌≤◌,
 ghost use Rattle.cds_script.specs.declared.turn.Meaning.TheVariants.{Means};
 ghost use Rattle.cds_script.specs.Lines.{is_unbroken, line_limit, script_limit};
 ghost use Rattle.cds_script.specs.Script.{IsInRange, meaning_of};
-ghost use Rattle.cds_replay.specs.declared.script.Stop.TheVariants.{Outside};
-ghost use Rattle.cds_replay.specs.Wired.{Step};
+ghost use Rattle.cds_replay.specs.declared.script.ScriptStop.TheVariants.{Outside};
+ghost use Rattle.cds_replay.specs.Wired.{ReplayStep};
 ghost use Rattle.cds_replay.specs.Session.{IsAfter, IsPlayed, IsBounded, Grows};
 ghost use Rattle.cds_replay.specs.Script.{stop_text, left_in, Sound, GoesOn, Fed, Finished, WhileGoing, AtLimit, AtRefusal, LineRead};
 
 use crate::session::{Session, TurnError};
 use crate::wire::Wire;
 use cds_base::{INPUT_LIMIT, Mem, put, put_number};
-use cds_script::{Meaning, Turn, read_line};
+use cds_script::{Meaning, ScriptTurn, read_line};
 use memchr::memchr;
 use std::alloc::Global;
 use std::mem::replace;
@@ -22,7 +22,7 @@ const LINE_LIMIT: usize = 4_096;
 
 /// Why a script ends before its last byte.
 #[derive(Clone, Copy)]
-pub enum Stop {
+pub enum ScriptStop {
     /// The line of this number, counted from 1, is outside the grammar.
     Outside { line: u32 },
     /// The script or a line of it is too long.
@@ -73,7 +73,7 @@ impl Script {
         alloc: Global,
         wire: &W,
         out: &mut String,
-    ) -> Result<Option<Stop>, Mem>
+    ) -> Result<Option<ScriptStop>, Mem>
         requires { Sound (W.carried wire.now) self.old }
         ensures meaning { (before written : List ℕ) → GoesOn (W.carried wire.now) self.old before written → IfOk result
             (λ stop. Finished (W.carried wire.now) stop before written (string_bytes out.old) (string_bytes out.new)) }
@@ -102,7 +102,7 @@ impl Script {
         wire: &W,
         line: &[u8],
         out: &mut String,
-    ) -> Result<Option<Stop>, Mem>
+    ) -> Result<Option<ScriptStop>, Mem>
         requires sound { Sound (W.carried wire.now) self.old }
         requires whole { is_unbroken line.now ≡ true }
         ensures meaning { (before written : List ℕ) → GoesOn (W.carried wire.now) self.old before written → IfOk result
@@ -128,7 +128,7 @@ impl Script {
         wire: &W,
         line: &[u8],
         out: &mut String,
-    ) -> Result<Option<Stop>, Mem>
+    ) -> Result<Option<ScriptStop>, Mem>
         requires sound { Sound (W.carried wire.now) self.old }
         requires none { self.old.partial.items ≡ [] }
         requires whole { is_unbroken line.now ≡ true }
@@ -140,8 +140,8 @@ impl Script {
         ensures straight { ((bytes : List ℕ) → W.carried wire.now bytes ≡ bytes) → IfOk result (λ stop. AtRefusal stop ⊥) }
     {
         if self.room <= line.len() || LINE_LIMIT < line.len() {
-            write_stop(out, Stop::Limit)?;
-            return Ok(Some(Stop::Limit));
+            write_stop(out, ScriptStop::Limit)?;
+            return Ok(Some(ScriptStop::Limit));
         }
         let stop = answer_line(&mut self.session, alloc, wire, line, self.line, out)?;
         self.line += 1;
@@ -155,7 +155,7 @@ impl Script {
         alloc: Global,
         rest: &[u8],
         out: &mut String,
-    ) -> Result<Option<Stop>, Mem>
+    ) -> Result<Option<ScriptStop>, Mem>
         requires kept { is_unbroken self.old.partial.items ≡ true }
         requires short { length self.old.partial.items ≤ line_limit }
         requires within { length self.old.partial.items ≤ self.old.room }
@@ -169,8 +169,8 @@ impl Script {
         ensures not_refused { IfOk result (λ stop. AtRefusal stop ⊥) }
     {
         if self.left() < rest.len() || LINE_LIMIT - self.partial.len() < rest.len() {
-            write_stop(out, Stop::Limit)?;
-            return Ok(Some(Stop::Limit));
+            write_stop(out, ScriptStop::Limit)?;
+            return Ok(Some(ScriptStop::Limit));
         }
         self.partial.extend_from_slice(rest)?;
         Ok(None)
@@ -199,10 +199,10 @@ fn answer_line<W: Wire>(
     line: &[u8],
     number: u32,
     out: &mut String,
-) -> Result<Option<Stop>, Mem>
+) -> Result<Option<ScriptStop>, Mem>
     requires played { IsPlayed (W.carried wire.now) session.old }
     requires bounded { IsBounded session.old }
-    ensures meaning { (steps : List Step) → IsAfter session.old steps → IfOk result
+    ensures meaning { (steps : List ReplayStep) → IsAfter session.old steps → IfOk result
         (λ stop. LineRead (W.carried wire.now) stop steps (meaning_of line.now) number (string_bytes out.old) (string_bytes out.new) session.new) }
     ensures grows { IfOk result (λ stop. WhileGoing stop (Grows session.old session.new)) }
     ensures played { IfOk result (λ stop. WhileGoing stop (IsPlayed (W.carried wire.now) session.new)) }
@@ -222,14 +222,14 @@ fn answer_turn<W: Wire>(
     session: &mut Session,
     alloc: Global,
     wire: &W,
-    turn: Turn,
+    turn: ScriptTurn,
     number: u32,
     out: &mut String,
-) -> Result<Option<Stop>, Mem>
+) -> Result<Option<ScriptStop>, Mem>
     requires played { IsPlayed (W.carried wire.now) session.old }
     requires bounded { IsBounded session.old }
     requires fits { IsInRange turn }
-    ensures meaning { (steps : List Step) → IsAfter session.old steps → IfOk result
+    ensures meaning { (steps : List ReplayStep) → IsAfter session.old steps → IfOk result
         (λ stop. LineRead (W.carried wire.now) stop steps (Means turn) number (string_bytes out.old) (string_bytes out.new) session.new) }
     ensures grows { IfOk result (λ stop. WhileGoing stop (Grows session.old session.new)) }
     ensures played { IfOk result (λ stop. WhileGoing stop (IsPlayed (W.carried wire.now) session.new)) }
@@ -239,36 +239,36 @@ fn answer_turn<W: Wire>(
     if !session.may_stand(&turn) {
         return write_outside(out, number);
     }
-    crate::wire_laws::straight_wires_are_taken();
+    crate::laws::straight_wires_are_taken();
     match session.answer(alloc, wire, turn, out) {
         Ok(()) => Ok(None),
-        Err(TurnError::Refused) => Ok(Some(Stop::Refused { line: number })),
+        Err(TurnError::Refused) => Ok(Some(ScriptStop::Refused { line: number })),
         Err(TurnError::Mem) => Err(Mem),
     }
 }
 
 /// Writes that the line of a number is outside the grammar.
-fn write_outside(out: &mut String, number: u32) -> Result<Option<Stop>, Mem>
+fn write_outside(out: &mut String, number: u32) -> Result<Option<ScriptStop>, Mem>
     ensures stop { IfOk result (λ stop. stop ≡ Some (Outside number)) }
     ensures written { OnOk result (string_bytes out.new ≡ string_bytes out.old ++ stop_text (Outside number)) }
 {
-    let stop = Stop::Outside { line: number };
+    let stop = ScriptStop::Outside { line: number };
     write_stop(out, stop)?;
     Ok(Some(stop))
 }
 
 /// Writes the last line of a script that stops, if it has one. A turn that is refused writes none.
-fn write_stop(out: &mut String, stop: Stop) -> Result<(), Mem>
+fn write_stop(out: &mut String, stop: ScriptStop) -> Result<(), Mem>
     ensures { OnOk result (string_bytes out.new ≡ string_bytes out.old ++ stop_text stop) }
 {
     match stop {
-        Stop::Outside { line } => {
+        ScriptStop::Outside { line } => {
             put(out, "error line ")?;
             put_number(out, u64::from(line))?;
             put(out, "\n")?;
         }
-        Stop::Limit => put(out, "error limit\n")?,
-        Stop::Refused { .. } => {}
+        ScriptStop::Limit => put(out, "error limit\n")?,
+        ScriptStop::Refused { .. } => {}
     }
     Ok(())
 }

@@ -1,7 +1,7 @@
 //! A script's server and replica, which take its turns one by one.
 
 ghost use Rattle.std.specs.Prelude.{◌≡◌, ℕ, ◌+◌, ◌<◌, ◌≤◌, ◌++◌, map, ◌^◌, ◌&&◌, [], ◌∷◌, List, true, nat_lt, nat_le, length, codes, IfOk, OnOk, IsSome, IsTrue, string_bytes};
-ghost use Rattle.cds_script.specs.declared.turn.Turn.TheVariants.{Scan, Load, Read, Ask, Subscribe, Accept, Renew, Unsubscribe, ReadFault, First, At, Deliver};
+ghost use Rattle.cds_script.specs.declared.turn.ScriptTurn.TheVariants.{Scan, Load, Read, Ask, Subscribe, Accept, Renew, Unsubscribe, ReadFault, First, At, Deliver};
 ghost use Rattle.cds_script.specs.Script.{IsInRange, moment_limit};
 ghost use Rattle.cds_script.specs.declared.reply.HeldReply.{HeldReply};
 ghost use Rattle.cds_commands.specs.Commands.{Command, Start as ServerStart};
@@ -15,7 +15,7 @@ ghost use Rattle.cds_script.specs.Report.{commented, last_commented, record_of, 
 ghost use Rattle.cds_follow.specs.Inbox.{ReplicaTurn};
 ghost use Rattle.cds_replica.specs.State.{StandsFor};
 ghost use Rattle.cds_replica.specs.Steps.{phase_ask};
-ghost use Rattle.cds_replay.specs.Wired.{Step, may_stand_by, written_on};
+ghost use Rattle.cds_replay.specs.Wired.{ReplayStep, may_stand_by, written_on};
 ghost use Rattle.cds_replay.specs.declared.last.Last.TheVariants.{NoTurn};
 ghost use Rattle.cds_replay.specs.Session.{script_names, IsHeldAs, IsAfter, IsStanding, IsBounded, TurnTaken, QuietTaken, ReplyTaken, HeldTaken, NameTaken, NoteTaken, of_memory, quiet, Grows, last_found, with_found, with_server, with_tag};
 
@@ -33,7 +33,7 @@ use crate::wire::Wire;
 use cds_base::{Bytes, Mem, put};
 use cds_object::{Comment, FlacInfo, Path, Records};
 use cds_replica::{AnswerError, Note, NotifyError, Replica, Sid};
-use cds_script::{Found, FoundFile, FoundList, Turn};
+use cds_script::{Found, FoundFile, FoundList, ScriptTurn};
 use cds_server::Server;
 use std::alloc::Global;
 use std::convert::From;
@@ -113,14 +113,14 @@ impl Session {
     /// - a comment comes after a track or another comment;
     /// - moments never fall;
     /// - a note that is delivered was sent.
-    pub fn may_stand(&self, turn: &Turn) -> bool
-        ensures { (steps : List Step) → IsAfter self.now steps → result ≡ may_stand_by steps turn.now }
+    pub fn may_stand(&self, turn: &ScriptTurn) -> bool
+        ensures { (steps : List ReplayStep) → IsAfter self.now steps → result ≡ may_stand_by steps turn.now }
     {
         match turn {
-            Turn::First { .. } => matches!(self.last, Last::NoTurn),
-            Turn::At { moment } => self.clock <= *moment,
-            Turn::Deliver { note } => self.has_sent(*note),
-            Turn::Tag { .. } => matches!(self.last, Last::OfTrack),
+            ScriptTurn::First { .. } => matches!(self.last, Last::NoTurn),
+            ScriptTurn::At { moment } => self.clock <= *moment,
+            ScriptTurn::Deliver { note } => self.has_sent(*note),
+            ScriptTurn::Tag { .. } => matches!(self.last, Last::OfTrack),
             _ => true,
         }
     }
@@ -137,33 +137,33 @@ impl Session {
         &mut self,
         alloc: Global,
         wire: &W,
-        turn: Turn,
+        turn: ScriptTurn,
         out: &mut String,
     ) -> Result<(), TurnError>
         requires standing { IsStanding self.old }
-        requires stands { (steps : List Step) → IsAfter self.old steps → may_stand_by steps turn ≡ true }
+        requires stands { (steps : List ReplayStep) → IsAfter self.old steps → may_stand_by steps turn ≡ true }
         requires fits { IsInRange turn }
         requires bounded { IsBounded self.old }
-        ensures taken { (steps : List Step) → IsAfter self.old steps →
+        ensures taken { (steps : List ReplayStep) → IsAfter self.old steps →
             TurnTaken (W.carried wire.now) steps turn (string_bytes out.old) (string_bytes out.new) self.new result }
         ensures grows { OnOk result (Grows self.old self.new) }
     {
         match turn {
-            Turn::Folder { path } => of_memory(self.add_folder(path)),
-            Turn::Track { path, info, size } => of_memory(self.add_track(path, info, size)),
-            Turn::Tag { comment } => of_memory(self.add_tag(comment)),
-            Turn::Scan => of_memory(self.scan(alloc, out)),
-            Turn::Load => of_memory(self.load()),
-            Turn::Read => self.read(alloc, wire, out),
-            Turn::Ask => of_memory(self.ask(out)),
-            Turn::First { number } => of_memory(self.begin_at(alloc, number)),
-            Turn::At { moment } => of_memory(self.tick(alloc, moment, out)),
-            Turn::Subscribe => of_memory(self.subscribe(alloc, out)),
-            Turn::Accept => self.accept(alloc, out),
-            Turn::Renew => of_memory(self.renew(alloc, out)),
-            Turn::Unsubscribe => of_memory(self.unsubscribe(alloc, out)),
-            Turn::Deliver { note } => self.deliver(alloc, note, out),
-            Turn::ReadFault => of_memory(self.lose_read(out)),
+            ScriptTurn::Folder { path } => of_memory(self.add_folder(path)),
+            ScriptTurn::Track { path, info, size } => of_memory(self.add_track(path, info, size)),
+            ScriptTurn::Tag { comment } => of_memory(self.add_tag(comment)),
+            ScriptTurn::Scan => of_memory(self.scan(alloc, out)),
+            ScriptTurn::Load => of_memory(self.load()),
+            ScriptTurn::Read => self.read(alloc, wire, out),
+            ScriptTurn::Ask => of_memory(self.ask(out)),
+            ScriptTurn::First { number } => of_memory(self.begin_at(alloc, number)),
+            ScriptTurn::At { moment } => of_memory(self.tick(alloc, moment, out)),
+            ScriptTurn::Subscribe => of_memory(self.subscribe(alloc, out)),
+            ScriptTurn::Accept => self.accept(alloc, out),
+            ScriptTurn::Renew => of_memory(self.renew(alloc, out)),
+            ScriptTurn::Unsubscribe => of_memory(self.unsubscribe(alloc, out)),
+            ScriptTurn::Deliver { note } => self.deliver(alloc, note, out),
+            ScriptTurn::ReadFault => of_memory(self.lose_read(out)),
         }
     }
 
@@ -205,8 +205,8 @@ impl Session {
     /// Does a scan. What was found since the last scan is all that the library has now, and is dropped.
     fn scan(&mut self, alloc: Global, out: &mut String) -> Result<(), Mem>
         requires { length self.old.found < 2 ^ 32 }
-        ensures after { (steps : List Step) → IsAfter self.old steps → OnOk result (IsAfter self.new (quiet Scan ∷ steps)) }
-        ensures written { (steps : List Step) → IsAfter self.old steps →
+        ensures after { (steps : List ReplayStep) → IsAfter self.old steps → OnOk result (IsAfter self.new (quiet Scan ∷ steps)) }
+        ensures written { (steps : List ReplayStep) → IsAfter self.old steps →
             OnOk result (string_bytes out.new ≡ string_bytes out.old ++ written_on steps (quiet Scan)) }
     {
         let records = self.found.records(alloc)?;
@@ -221,7 +221,7 @@ impl Session {
 
     /// Begins a load.
     fn load(&mut self) -> Result<(), Mem>
-        ensures after { (steps : List Step) → IsAfter self.old steps → OnOk result (IsAfter self.new (quiet Load ∷ steps)) }
+        ensures after { (steps : List ReplayStep) → IsAfter self.old steps → OnOk result (IsAfter self.new (quiet Load ∷ steps)) }
     {
         self.replica.begin_load()?;
         self.last = Last::Other;
@@ -231,7 +231,7 @@ impl Session {
     /// Sends the next ask of the replica, if there is one, to the server as a control request. Then the replica takes what the
     /// wire leaves of the reply.
     fn read<W: Wire>(&mut self, alloc: Global, wire: &W, out: &mut String) -> Result<(), TurnError>
-        ensures taken { (steps : List Step) → IsAfter self.old steps →
+        ensures taken { (steps : List ReplayStep) → IsAfter self.old steps →
             TurnTaken (W.carried wire.now) steps Read (string_bytes out.old) (string_bytes out.new) self.new result }
     {
         self.last = Last::Other;
@@ -249,8 +249,8 @@ impl Session {
 
     /// Puts what the replica knows, and the rows of its copy if it stands.
     fn ask(&mut self, out: &mut String) -> Result<(), Mem>
-        ensures after { (steps : List Step) → IsAfter self.old steps → OnOk result (IsAfter self.new (quiet Ask ∷ steps)) }
-        ensures written { (steps : List Step) → IsAfter self.old steps →
+        ensures after { (steps : List ReplayStep) → IsAfter self.old steps → OnOk result (IsAfter self.new (quiet Ask ∷ steps)) }
+        ensures written { (steps : List ReplayStep) → IsAfter self.old steps →
             OnOk result (string_bytes out.new ≡ string_bytes out.old ++ written_on steps (quiet Ask)) }
     {
         self.last = Last::Other;
@@ -260,7 +260,7 @@ impl Session {
     /// Begins again with a server whose first number is another. No turn came before.
     fn begin_at(&mut self, alloc: Global, number: u32) -> Result<(), Mem>
         requires { self.old.last ≡ NoTurn }
-        ensures after { (steps : List Step) → IsAfter self.old steps → OnOk result (IsAfter self.new (quiet (First number) ∷ steps)) }
+        ensures after { (steps : List ReplayStep) → IsAfter self.old steps → OnOk result (IsAfter self.new (quiet (First number) ∷ steps)) }
     {
         let server = Server::new(alloc, BOOT, number)?;
         drop(replace(&mut self.server, server));
@@ -273,8 +273,8 @@ impl Session {
         requires rises { self.old.clock ≤ moment }
         requires within { moment < moment_limit }
         requires granted { self.old.server.book.subscribed.granted < 2 ^ 32 }
-        ensures after { (steps : List Step) → IsAfter self.old steps → OnOk result (IsAfter self.new (quiet (At moment) ∷ steps)) }
-        ensures written { (steps : List Step) → IsAfter self.old steps →
+        ensures after { (steps : List ReplayStep) → IsAfter self.old steps → OnOk result (IsAfter self.new (quiet (At moment) ∷ steps)) }
+        ensures written { (steps : List ReplayStep) → IsAfter self.old steps →
             OnOk result (string_bytes out.new ≡ string_bytes out.old ++ written_on steps (quiet (At moment))) }
     {
         let sent = self.sent.len();
@@ -289,8 +289,8 @@ impl Session {
     fn subscribe(&mut self, alloc: Global, out: &mut String) -> Result<(), Mem>
         requires standing { IsStanding self.old }
         requires granted { self.old.server.book.subscribed.granted + 1 < 2 ^ 32 }
-        ensures after { (steps : List Step) → IsAfter self.old steps → OnOk result (IsAfter self.new (quiet Subscribe ∷ steps)) }
-        ensures written { (steps : List Step) → IsAfter self.old steps →
+        ensures after { (steps : List ReplayStep) → IsAfter self.old steps → OnOk result (IsAfter self.new (quiet Subscribe ∷ steps)) }
+        ensures written { (steps : List ReplayStep) → IsAfter self.old steps →
             OnOk result (string_bytes out.new ≡ string_bytes out.old ++ written_on steps (quiet Subscribe)) }
     {
         let sent = self.sent.len();
@@ -316,7 +316,7 @@ impl Session {
     /// for it tell what cannot be.
     fn accept(&mut self, alloc: Global, out: &mut String) -> Result<(), TurnError>
         requires { IsStanding self.old }
-        ensures taken { (steps : List Step) → IsAfter self.old steps →
+        ensures taken { (steps : List ReplayStep) → IsAfter self.old steps →
             QuietTaken steps Accept (string_bytes out.old) (string_bytes out.new) self.new result }
     {
         self.last = Last::Other;
@@ -333,8 +333,8 @@ impl Session {
     fn renew(&mut self, alloc: Global, out: &mut String) -> Result<(), Mem>
         requires standing { IsStanding self.old }
         requires granted { self.old.server.book.subscribed.granted < 2 ^ 32 }
-        ensures after { (steps : List Step) → IsAfter self.old steps → OnOk result (IsAfter self.new (quiet Renew ∷ steps)) }
-        ensures written { (steps : List Step) → IsAfter self.old steps →
+        ensures after { (steps : List ReplayStep) → IsAfter self.old steps → OnOk result (IsAfter self.new (quiet Renew ∷ steps)) }
+        ensures written { (steps : List ReplayStep) → IsAfter self.old steps →
             OnOk result (string_bytes out.new ≡ string_bytes out.old ++ written_on steps (quiet Renew)) }
     {
         self.last = Last::Other;
@@ -352,8 +352,8 @@ impl Session {
     fn unsubscribe(&mut self, alloc: Global, out: &mut String) -> Result<(), Mem>
         requires standing { IsStanding self.old }
         requires granted { self.old.server.book.subscribed.granted < 2 ^ 32 }
-        ensures after { (steps : List Step) → IsAfter self.old steps → OnOk result (IsAfter self.new (quiet Unsubscribe ∷ steps)) }
-        ensures written { (steps : List Step) → IsAfter self.old steps →
+        ensures after { (steps : List ReplayStep) → IsAfter self.old steps → OnOk result (IsAfter self.new (quiet Unsubscribe ∷ steps)) }
+        ensures written { (steps : List ReplayStep) → IsAfter self.old steps →
             OnOk result (string_bytes out.new ≡ string_bytes out.old ++ written_on steps (quiet Unsubscribe)) }
     {
         self.last = Last::Other;
@@ -385,7 +385,7 @@ impl Session {
     /// and tells what cannot be.
     fn deliver(&mut self, alloc: Global, number: u32, out: &mut String) -> Result<(), TurnError>
         requires { IsStanding self.old }
-        ensures taken { (steps : List Step) → IsAfter self.old steps → may_stand_by steps (Deliver number) ≡ true →
+        ensures taken { (steps : List ReplayStep) → IsAfter self.old steps → may_stand_by steps (Deliver number) ≡ true →
             QuietTaken steps (Deliver number) (string_bytes out.old) (string_bytes out.new) self.new result }
     {
         self.last = Last::Other;
@@ -400,7 +400,7 @@ impl Session {
 
     /// Loses the reply to one read.
     fn lose_read(&mut self, out: &mut String) -> Result<(), Mem>
-        ensures after { (steps : List Step) → IsAfter self.old steps → OnOk result (IsAfter self.new (quiet ReadFault ∷ steps)) }
+        ensures after { (steps : List ReplayStep) → IsAfter self.old steps → OnOk result (IsAfter self.new (quiet ReadFault ∷ steps)) }
         ensures written { OnOk result (string_bytes out.new ≡ string_bytes out.old ++ codes "readfault\n") }
     {
         self.last = Last::Other;

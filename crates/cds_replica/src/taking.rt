@@ -20,7 +20,7 @@ use cds_object::{Event, Row, Rows};
 use std::alloc::Global;
 
 /// The stage that follows, and the answer.
-type Step = (Stage, Result<Read, AnswerError>);
+type StageStep = (Stage, Result<Read, AnswerError>);
 
 /// The phase that follows, and the answer.
 pub type PhaseStep = (Phase, Result<Read, AnswerError>);
@@ -50,7 +50,7 @@ impl Stage {
 }
 
 /// Returns the phase of a load that goes on.
-fn goes_on(step: Step) -> PhaseStep
+fn goes_on(step: StageStep) -> PhaseStep
     ensures step { (becomes : Taken) (old : Held) (changes : List Event) → IsOutcome becomes old (held_in step.0) step.1 →
         IsStep (load_takes changes becomes) (Loads old) (phase_in result.0) result.1 }
     ensures read { (shown : Read) → IfOk step.1 (λ read. read ≡ shown) → IfOk result.1 (λ read. read ≡ shown) }
@@ -58,7 +58,7 @@ fn goes_on(step: Step) -> PhaseStep
     (Phase::Load(step.0), step.1)
 }
 
-fn take_token(shown: &Shown) -> Step
+fn take_token(shown: &Shown) -> StageStep
     ensures outcome { IsOutcome (taken HoldsBegun shown.now) HoldsBegun (held_in result.0) result.1 }
     ensures read { IfOk result.1 (λ read. read ≡ read_of shown.now) }
 {
@@ -68,7 +68,7 @@ fn take_token(shown: &Shown) -> Step
     }
 }
 
-fn take_number(shown: &Shown) -> Step
+fn take_number(shown: &Shown) -> StageStep
     ensures outcome { IsOutcome (taken HoldsToken shown.now) HoldsToken (held_in result.0) result.1 }
     ensures read { IfOk result.1 (λ read. read ≡ read_of shown.now) }
 {
@@ -78,7 +78,7 @@ fn take_number(shown: &Shown) -> Step
     }
 }
 
-fn take_root(number: u32, shown: Shown) -> Step
+fn take_root(number: u32, shown: Shown) -> StageStep
     ensures outcome { IsOutcome (taken (HoldsNumber number) shown) (HoldsNumber number) (held_in result.0) result.1 }
     ensures read { IfOk result.1 (λ read. read ≡ read_of shown) }
 {
@@ -112,7 +112,7 @@ fn is_root(row: &Row) -> bool
     row.id.0 == 0 && row.content.is_folder()
 }
 
-fn take_number_after_root(alloc: Global, number: u32, root: Row, shown: &Shown) -> Step
+fn take_number_after_root(alloc: Global, number: u32, root: Row, shown: &Shown) -> StageStep
     ensures outcome { IsOutcome (taken (HoldsRoot number root) shown.now) (HoldsRoot number root) (held_in result.0) result.1 }
     ensures read { IfOk result.1 (λ read. read ≡ read_of shown.now) }
 {
@@ -131,7 +131,7 @@ fn take_number_after_root(alloc: Global, number: u32, root: Row, shown: &Shown) 
     }
 }
 
-fn take_page(number: u32, listing: Listing, shown: Shown) -> Step
+fn take_page(number: u32, listing: Listing, shown: Shown) -> StageStep
     ensures outcome { IsOutcome (taken (HoldsListing number (listing_in listing)) shown) (HoldsListing number (listing_in listing))
         (held_in result.0) result.1 }
     ensures read { IfOk result.1 (λ read. read ≡ read_of shown) }

@@ -2,75 +2,207 @@
 //! otherwise.
 
 use crate::made::{MEMORY, calls, sink, source};
-use cds_base::{Numbers, Runtime, Sequence, Text, Words};
+use cds_base::{Numbers, Sequence, Text, Words};
 use cds_memory::{MemFolder, MemItem, MemObjects, MemOutside, MemSink, are_tree};
+use cds_outside::Runtime;
 use cds_program::run;
 use std::alloc::Global;
 use std::process::Abort;
 
-/// A case is, in this order:
-///
-/// - the words of a command line;
-/// - what standard input holds;
-/// - the reads that fail;
-/// - the writes that fail;
-/// - the folders in the folder of the outside;
-/// - the calls of that folder that fail;
-/// - the status;
-/// - how many faults the outside counts;
-/// - what is written.
-type Case = (
-    &'static [&'static str],
-    &'static str,
-    &'static [u32],
-    &'static [u32],
-    &'static [&'static str],
-    &'static [u32],
-    u8,
-    u64,
-    &'static str,
-);
+/// A command, what it is given, which calls fail, and what becomes of it.
+#[derive(Drop)]
+struct CommandCase {
+    name: &'static str,
+    /// The words of the command line.
+    words: &'static [&'static str],
+    /// What standard input holds.
+    input: &'static str,
+    /// The reads, the writes and the calls of the folder that fail.
+    reads: &'static [u32],
+    writes: &'static [u32],
+    calls: &'static [u32],
+    /// The folders in the folder of the outside.
+    folders: &'static [&'static str],
+    status: u8,
+    /// How many faults the outside counts.
+    faults: u64,
+    /// What is written.
+    text: &'static str,
+}
 
 /// The listing of a folder with nothing in it.
 const LISTING: &str =
     "<container id=\"0\" parentID=\"-1\" restricted=\"1\" searchable=\"1\" childCount=\"0\"><dc:title>root</dc:title><upnp:class>object.container</upnp:class><upnp:objectUpdateID>0</upnp:objectUpdateID><upnp:containerUpdateID>0</upnp:containerUpdateID><upnp:totalDeletedChildCount>0</upnp:totalDeletedChildCount></container>\n";
 
-const CASES: [Case; 14] = [
-    (&["replay"], "ask\n", &[1], &[], &[], &[], 2, 0, ""),
-    (
-        &["replay"],
-        "ask\n",
-        &[2],
-        &[],
-        &[],
-        &[],
-        2,
-        0,
-        "behind load\n",
-    ),
-    (&["replay"], "ask\n", &[], &[1], &[], &[], 3, 0, ""),
-    (&["check"], " ", &[2], &[], &[], &[], 2, 0, ""),
-    (&["check"], " ", &[], &[1], &[], &[], 3, 0, ""),
-    (&[], "", &[], &[1], &[], &[], 3, 0, ""),
-    (&["play"], "", &[], &[1], &[], &[], 3, 0, ""),
-    (&["--version"], "", &[], &[1], &[], &[], 3, 0, ""),
-    (&["--help"], "", &[], &[1], &[], &[], 3, 0, ""),
-    (&["scan", "x"], "", &[], &[], &[], &[], 0, 0, LISTING),
-    (&["scan", "x"], "", &[], &[1], &[], &[], 3, 0, ""),
-    (&["scan", "x"], "", &[], &[], &["a"], &[1], 2, 1, ""),
-    (&["scan", "x"], "", &[], &[], &["a"], &[2], 2, 1, ""),
-    // A path that no object may have.
-    (
-        &["scan", "x"],
-        "",
-        &[],
-        &[],
-        &["a", "a/.."],
-        &[],
-        6,
-        0,
-        "error limit\n",
-    ),
+const CASES: [CommandCase; 14] = [
+    CommandCase {
+        name: "replay, the first read",
+        words: &["replay"],
+        input: "ask\n",
+        reads: &[1],
+        writes: &[],
+        calls: &[],
+        folders: &[],
+        status: 2,
+        faults: 0,
+        text: "",
+    },
+    CommandCase {
+        name: "replay, the second read",
+        words: &["replay"],
+        input: "ask\n",
+        reads: &[2],
+        writes: &[],
+        calls: &[],
+        folders: &[],
+        status: 2,
+        faults: 0,
+        text: "behind load\n",
+    },
+    CommandCase {
+        name: "replay, the first write",
+        words: &["replay"],
+        input: "ask\n",
+        reads: &[],
+        writes: &[1],
+        calls: &[],
+        folders: &[],
+        status: 3,
+        faults: 0,
+        text: "",
+    },
+    CommandCase {
+        name: "check, the second read",
+        words: &["check"],
+        input: " ",
+        reads: &[2],
+        writes: &[],
+        calls: &[],
+        folders: &[],
+        status: 2,
+        faults: 0,
+        text: "",
+    },
+    CommandCase {
+        name: "check, the first write",
+        words: &["check"],
+        input: " ",
+        reads: &[],
+        writes: &[1],
+        calls: &[],
+        folders: &[],
+        status: 3,
+        faults: 0,
+        text: "",
+    },
+    CommandCase {
+        name: "no words, the first write",
+        words: &[],
+        input: "",
+        reads: &[],
+        writes: &[1],
+        calls: &[],
+        folders: &[],
+        status: 3,
+        faults: 0,
+        text: "",
+    },
+    CommandCase {
+        name: "an unknown word, the first write",
+        words: &["play"],
+        input: "",
+        reads: &[],
+        writes: &[1],
+        calls: &[],
+        folders: &[],
+        status: 3,
+        faults: 0,
+        text: "",
+    },
+    CommandCase {
+        name: "the version, the first write",
+        words: &["--version"],
+        input: "",
+        reads: &[],
+        writes: &[1],
+        calls: &[],
+        folders: &[],
+        status: 3,
+        faults: 0,
+        text: "",
+    },
+    CommandCase {
+        name: "the help, the first write",
+        words: &["--help"],
+        input: "",
+        reads: &[],
+        writes: &[1],
+        calls: &[],
+        folders: &[],
+        status: 3,
+        faults: 0,
+        text: "",
+    },
+    CommandCase {
+        name: "scan, nothing fails",
+        words: &["scan", "x"],
+        input: "",
+        reads: &[],
+        writes: &[],
+        calls: &[],
+        folders: &[],
+        status: 0,
+        faults: 0,
+        text: LISTING,
+    },
+    CommandCase {
+        name: "scan, the first write",
+        words: &["scan", "x"],
+        input: "",
+        reads: &[],
+        writes: &[1],
+        calls: &[],
+        folders: &[],
+        status: 3,
+        faults: 0,
+        text: "",
+    },
+    CommandCase {
+        name: "scan, the first entry",
+        words: &["scan", "x"],
+        input: "",
+        reads: &[],
+        writes: &[],
+        calls: &[1],
+        folders: &["a"],
+        status: 2,
+        faults: 1,
+        text: "",
+    },
+    CommandCase {
+        name: "scan, the second entry",
+        words: &["scan", "x"],
+        input: "",
+        reads: &[],
+        writes: &[],
+        calls: &[2],
+        folders: &["a"],
+        status: 2,
+        faults: 1,
+        text: "",
+    },
+    CommandCase {
+        name: "scan, a path that no object may have",
+        words: &["scan", "x"],
+        input: "",
+        reads: &[],
+        writes: &[],
+        calls: &[],
+        folders: &["a", "a/.."],
+        status: 6,
+        faults: 0,
+        text: "error limit\n",
+    },
 ];
 
 /// Makes the words of a command line.
@@ -122,39 +254,48 @@ fn objects_of<R: Abort>(rt: &R, alloc: Global, folder: MemFolder) -> MemObjects<
 fn status_of<R: Runtime + Abort>(
     rt: &R,
     alloc: Global,
-    case: &Case,
+    case: &CommandCase,
     sink: &mut MemSink,
     outside: &mut MemOutside<R>,
 ) -> u8 {
-    let words = words_of(rt, alloc, case.0);
-    let mut source = source(rt, alloc, case.1.as_bytes(), case.2);
+    let words = words_of(rt, alloc, case.words);
+    let mut source = source(rt, alloc, case.input.as_bytes(), case.reads);
     run(rt, alloc, &words, &mut source, sink, outside)
 }
 
-/// Returns whether the command ends with the case's status, the outside counts its faults, and its text is written.
-fn writes<R: Runtime + Abort>(
+/// Checks the status of the command, the faults that the outside counts, and what is written.
+fn check_command<R: Runtime + Abort>(
     rt: &R,
     alloc: Global,
-    case: &Case,
+    case: &CommandCase,
     outside: &mut MemOutside<R>,
-) -> bool {
-    let mut sink = sink(rt, alloc, case.3);
+) {
+    let mut sink = sink(rt, alloc, case.writes);
     let status = status_of(rt, alloc, case, &mut sink, outside);
-    status == case.6 && outside.faults() == case.7 && sink.as_slice() == case.8.as_bytes()
+    assert!(rt; status == case.status, "{}: the status {status}", case.name);
+    assert!(rt;
+        outside.faults() == case.faults,
+        "{}: the faults",
+        case.name
+    );
+    assert!(rt;
+        sink.as_slice() == case.text.as_bytes(),
+        "{}: the text",
+        case.name
+    );
 }
 
-/// Returns whether a case comes out so.
-fn is_played<R: Runtime + Abort>(rt: &R, alloc: Global, case: &Case) -> bool {
-    let folder = folder_of(rt, alloc, case.4, case.5);
+/// Checks a case over an outside with the folder of the case alone.
+fn check_case<R: Runtime + Abort>(rt: &R, alloc: Global, case: &CommandCase) {
+    let folder = folder_of(rt, alloc, case.folders, case.calls);
     let objects = objects_of(rt, alloc, folder);
     let mut outside = MemOutside::new(objects, Numbers::new(alloc));
-    writes(rt, alloc, case, &mut outside)
+    check_command(rt, alloc, case, &mut outside);
 }
 
 #[test]
 fn faults_have_their_statuses(rt: HostRuntime) {
-    let cases = &CASES;
-    for at in 0..cases.len() {
-        assert!(rt; is_played(&rt, rt.alloc(), &cases[at]), "{at}");
+    for case in &CASES {
+        check_case(&rt, rt.alloc(), case);
     }
 }

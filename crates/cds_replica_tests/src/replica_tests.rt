@@ -9,7 +9,12 @@ use std::alloc::Global;
 use std::process::Abort;
 
 /// An object: its id, which is its objectUpdateID too; its parent's id; and how many children it has if it is a folder.
-type Object = (u32, u32, Option<u32>);
+#[derive(Drop)]
+struct Object {
+    id: u32,
+    parent: u32,
+    children: Option<u32>,
+}
 
 /// What a reply shows.
 #[derive(Clone, Copy)]
@@ -20,11 +25,30 @@ enum Reply {
     Refusal,
 }
 
-const ROOT: Object = (0, 0, Some(2));
+const ROOT: Object = Object {
+    id: 0,
+    parent: 0,
+    children: Some(2),
+};
 
-const ONE: Object = (1, 0, None);
+const ONE: Object = Object {
+    id: 1,
+    parent: 0,
+    children: None,
+};
 
-const TWO: Object = (2, 0, None);
+const TWO: Object = Object {
+    id: 2,
+    parent: 0,
+    children: None,
+};
+
+/// The root of a catalog with nothing in it.
+const ALONE: Object = Object {
+    id: 0,
+    parent: 0,
+    children: Some(0),
+};
 
 /// The replies to a whole load of two tracks.
 const HONEST: [Reply; 6] = [
@@ -40,7 +64,7 @@ const HONEST: [Reply; 6] = [
 const EMPTY: [Reply; 6] = [
     Reply::Token,
     Reply::Number(0),
-    Reply::Page(&[(0, 0, Some(0))]),
+    Reply::Page(&[ALONE]),
     Reply::Number(0),
     Reply::Page(&[]),
     Reply::Number(0),
@@ -48,7 +72,7 @@ const EMPTY: [Reply; 6] = [
 
 fn content_of<R: Abort>(rt: &R, alloc: Global, object: &Object) -> Content {
     let title = Text::read(alloc, "title").expect(rt, MEMORY);
-    match object.2 {
+    match object.children {
         Some(_) => Content::Folder { title },
         None => Content::Track(TrackContent {
             title,
@@ -70,21 +94,21 @@ fn row_of<R: Abort>(rt: &R, alloc: Global, object: &Object) -> Row {
     let trackers = match &content {
         Content::Folder { .. } => Some(Trackers {
             container_update: 0,
-            child_count: object.2.unwrap_or(0),
+            child_count: object.children.unwrap_or(0),
             deleted: 0,
         }),
         Content::Track(_) => None,
     };
-    let parent = if object.0 == 0 {
+    let parent = if object.id == 0 {
         None
     } else {
-        Some(ObjectId(object.1))
+        Some(ObjectId(object.parent))
     };
     Row {
-        id: ObjectId(object.0),
+        id: ObjectId(object.id),
         parent,
         content,
-        object_update: object.0,
+        object_update: object.id,
         trackers,
     }
 }
@@ -110,187 +134,267 @@ fn shown_of<R: Abort>(rt: &R, alloc: Global, reply: &Reply) -> Shown {
     }
 }
 
-/// Returns whether a replica asks something, and answers this to a reply.
-fn takes<R: Abort>(
+/// Gives a replica a reply to what it asks, and checks what it answers.
+fn check_take<R: Abort>(
     rt: &R,
     alloc: Global,
     replica: &mut Replica,
     reply: &Reply,
     want: Result<Read, AnswerError>,
-) -> bool {
-    if replica.next_ask().is_none() {
-        return false;
-    }
+    name: &str,
+) {
+    assert!(rt; !replica.next_ask().is_none(), "{name}: it asks nothing");
     let shown = shown_of(rt, alloc, reply);
-    replica.take(alloc, shown) == want
+    let is_wanted = replica.take(alloc, shown) == want;
+    assert!(rt; is_wanted, "{name}: what it answers");
 }
 
-/// Returns whether a load begins that takes all these replies.
-fn loads<R: Abort>(rt: &R, alloc: Global, replica: &mut Replica, replies: &[Reply]) -> bool {
+/// Begins a load, and checks that it takes all these replies.
+fn load<R: Abort>(rt: &R, alloc: Global, replica: &mut Replica, replies: &[Reply]) {
     replica.begin_load().expect(rt, MEMORY);
     for reply in replies {
-        if !takes(rt, alloc, replica, reply, Ok(Read::Ok)) {
-            return false;
-        }
+        check_take(rt, alloc, replica, reply, Ok(Read::Ok), "a load");
     }
-    true
 }
 
-/// Returns whether a load takes the first four honest replies. After them the page of the tracks is asked for.
-fn loads_up_to_a_page<R: Abort>(rt: &R, alloc: Global, replica: &mut Replica) -> bool {
+/// Has a replica take the first four honest replies. After them the page of the tracks is asked for.
+fn load_up_to_a_page<R: Abort>(rt: &R, alloc: Global, replica: &mut Replica) {
     let honest = &HONEST;
-    loads(rt, alloc, replica, &honest[..4])
+    load(rt, alloc, replica, &honest[..4]);
 }
 
-/// How many replies of a load were taken, the reply that is refused, and why.
-const REFUSED: [(usize, Reply, AnswerError); 11] = [
-    (0, Reply::Number(7), AnswerError::Unreadable),
-    (1, Reply::Token, AnswerError::Unreadable),
-    (1, Reply::Refusal, AnswerError::Unreadable),
-    (2, Reply::Refusal, AnswerError::Unreadable),
-    (2, Reply::Page(&[]), AnswerError::Unreadable),
-    (2, Reply::Page(&[ROOT, ONE]), AnswerError::Unreadable),
-    (
-        2,
-        Reply::Page(&[(1, 0, Some(0))]),
-        AnswerError::Torn { id: 0 },
-    ),
-    (2, Reply::Page(&[(0, 0, None)]), AnswerError::Torn { id: 0 }),
-    (3, Reply::Page(&[ROOT]), AnswerError::Unreadable),
-    (4, Reply::Number(7), AnswerError::Unreadable),
-    (5, Reply::Refusal, AnswerError::Unreadable),
+/// How many replies of a load are taken, the reply that is then refused, and why.
+#[derive(Drop)]
+struct RefusedCase {
+    name: &'static str,
+    taken: usize,
+    reply: Reply,
+    refusal: AnswerError,
+}
+
+const REFUSED: [RefusedCase; 11] = [
+    RefusedCase {
+        name: "a number for the token",
+        taken: 0,
+        reply: Reply::Number(7),
+        refusal: AnswerError::Unreadable,
+    },
+    RefusedCase {
+        name: "a token for the number",
+        taken: 1,
+        reply: Reply::Token,
+        refusal: AnswerError::Unreadable,
+    },
+    RefusedCase {
+        name: "a refusal for the number",
+        taken: 1,
+        reply: Reply::Refusal,
+        refusal: AnswerError::Unreadable,
+    },
+    RefusedCase {
+        name: "a refusal for the root",
+        taken: 2,
+        reply: Reply::Refusal,
+        refusal: AnswerError::Unreadable,
+    },
+    RefusedCase {
+        name: "no row for the root",
+        taken: 2,
+        reply: Reply::Page(&[]),
+        refusal: AnswerError::Unreadable,
+    },
+    RefusedCase {
+        name: "two rows for the root",
+        taken: 2,
+        reply: Reply::Page(&[ROOT, ONE]),
+        refusal: AnswerError::Unreadable,
+    },
+    RefusedCase {
+        name: "another folder for the root",
+        taken: 2,
+        reply: Reply::Page(&[Object {
+            id: 1,
+            parent: 0,
+            children: Some(0),
+        }]),
+        refusal: AnswerError::Torn { id: 0 },
+    },
+    RefusedCase {
+        name: "a track for the root",
+        taken: 2,
+        reply: Reply::Page(&[Object {
+            id: 0,
+            parent: 0,
+            children: None,
+        }]),
+        refusal: AnswerError::Torn { id: 0 },
+    },
+    RefusedCase {
+        name: "a page for the number after the root",
+        taken: 3,
+        reply: Reply::Page(&[ROOT]),
+        refusal: AnswerError::Unreadable,
+    },
+    RefusedCase {
+        name: "a number for a page",
+        taken: 4,
+        reply: Reply::Number(7),
+        refusal: AnswerError::Unreadable,
+    },
+    RefusedCase {
+        name: "a refusal for the number after a page",
+        taken: 5,
+        reply: Reply::Refusal,
+        refusal: AnswerError::Unreadable,
+    },
 ];
 
-/// Returns whether a replica refuses a reply, and asks and says the same afterwards.
-fn refuses<R: Abort>(
-    rt: &R,
-    alloc: Global,
-    replica: &mut Replica,
-    reply: &Reply,
-    refusal: AnswerError,
-) -> bool {
+/// Checks that a replica refuses the reply of a case, and asks and says the same afterwards.
+fn check_refused<R: Abort>(rt: &R, alloc: Global, replica: &mut Replica, case: &RefusedCase) {
     let ask = replica.next_ask();
     let says = replica.says();
-    takes(rt, alloc, replica, reply, Err(refusal))
-        && replica.next_ask() == ask
-        && replica.says() == says
+    check_take(
+        rt,
+        alloc,
+        replica,
+        &case.reply,
+        Err(case.refusal),
+        case.name,
+    );
+    assert!(rt;
+        replica.next_ask() == ask,
+        "{}: what it asks then",
+        case.name
+    );
+    assert!(rt; replica.says() == says, "{}: what it says then", case.name);
 }
 
-/// Returns whether a fresh replica refuses a reply after the first `reads` honest ones.
-fn refuses_after<R: Abort>(
-    rt: &R,
-    alloc: Global,
-    replica: &mut Replica,
-    reads: usize,
-    reply: &Reply,
-    refusal: AnswerError,
-) -> bool {
+/// Checks the same of a fresh replica after the honest replies of the case.
+fn check_refused_by<R: Abort>(rt: &R, alloc: Global, replica: &mut Replica, case: &RefusedCase) {
     let honest = &HONEST;
-    loads(rt, alloc, replica, &honest[..reads.min(6)])
-        && refuses(rt, alloc, replica, reply, refusal)
-}
-
-/// Returns whether a replica refuses a reply after `reads` honest ones, and asks and says the same afterwards.
-fn is_refused<R: Abort>(
-    rt: &R,
-    alloc: Global,
-    reads: usize,
-    reply: &Reply,
-    refusal: AnswerError,
-) -> bool {
-    let mut replica = Replica::new(alloc);
-    refuses_after(rt, alloc, &mut replica, reads, reply, refusal)
+    load(rt, alloc, replica, &honest[..case.taken.min(6)]);
+    check_refused(rt, alloc, replica, case);
 }
 
 #[test]
 fn replies_that_are_refused(rt: HostRuntime) {
-    let refused = &REFUSED;
-    for at in 0..refused.len() {
-        let case = &refused[at];
-        assert!(rt;
-            is_refused(&rt, rt.alloc(), case.0, &case.1, case.2),
-            "{at}"
-        );
+    for case in &REFUSED {
+        let mut replica = Replica::new(rt.alloc());
+        check_refused_by(&rt, rt.alloc(), &mut replica, case);
     }
 }
 
-/// Pages of the root that cannot be, and what is read when they come.
-const PAGES: [(Reply, Read); 7] = [
-    (Reply::Refusal, Read::Fault { code: 701 }),
-    (Reply::Page(&[]), Read::Ok),
-    (Reply::Page(&[ONE]), Read::Ok),
-    (Reply::Page(&[ONE, TWO, (3, 0, None)]), Read::Ok),
-    (Reply::Page(&[ONE, (2, 1, None)]), Read::Ok),
-    (Reply::Page(&[ONE, ONE]), Read::Ok),
-    (Reply::Page(&[ONE, (0, 0, Some(0))]), Read::Ok),
-];
-
-/// Returns whether a replica takes a page and refuses it when the same number comes after it. Another number then
-/// begins the load again.
-fn judges<R: Abort>(
-    rt: &R,
-    alloc: Global,
-    replica: &mut Replica,
-    page: &Reply,
+/// A page of the root that cannot be, and what is read when it comes.
+#[derive(Drop)]
+struct PageCase {
+    name: &'static str,
+    page: Reply,
     read: Read,
-) -> bool {
-    let torn = Err(AnswerError::Torn { id: 0 });
-    loads_up_to_a_page(rt, alloc, replica)
-        && takes(rt, alloc, replica, page, Ok(read))
-        && takes(rt, alloc, replica, &Reply::Number(7), torn)
-        && takes(rt, alloc, replica, &Reply::Number(9), Ok(Read::Ok))
-        && replica.next_ask() == Some(Ask::Token)
 }
 
-/// Returns whether a page is judged so after the first four honest replies.
-fn is_judged<R: Abort>(rt: &R, alloc: Global, page: &Reply, read: Read) -> bool {
-    let mut replica = Replica::new(alloc);
-    judges(rt, alloc, &mut replica, page, read)
+const PAGES: [PageCase; 7] = [
+    PageCase {
+        name: "a refusal",
+        page: Reply::Refusal,
+        read: Read::Fault { code: 701 },
+    },
+    PageCase {
+        name: "no rows",
+        page: Reply::Page(&[]),
+        read: Read::Ok,
+    },
+    PageCase {
+        name: "a row too few",
+        page: Reply::Page(&[ONE]),
+        read: Read::Ok,
+    },
+    PageCase {
+        name: "a row too many",
+        page: Reply::Page(&[
+            ONE,
+            TWO,
+            Object {
+                id: 3,
+                parent: 0,
+                children: None,
+            },
+        ]),
+        read: Read::Ok,
+    },
+    PageCase {
+        name: "a row of another parent",
+        page: Reply::Page(&[
+            ONE,
+            Object {
+                id: 2,
+                parent: 1,
+                children: None,
+            },
+        ]),
+        read: Read::Ok,
+    },
+    PageCase {
+        name: "a row twice",
+        page: Reply::Page(&[ONE, ONE]),
+        read: Read::Ok,
+    },
+    PageCase {
+        name: "the root among its children",
+        page: Reply::Page(&[ONE, ALONE]),
+        read: Read::Ok,
+    },
+];
+
+/// Checks that a replica takes the page of a case and refuses it when the same number comes after it. Another number then
+/// begins the load again.
+fn check_page<R: Abort>(rt: &R, alloc: Global, replica: &mut Replica, case: &PageCase) {
+    let torn = Err(AnswerError::Torn { id: 0 });
+    load_up_to_a_page(rt, alloc, replica);
+    check_take(rt, alloc, replica, &case.page, Ok(case.read), case.name);
+    check_take(rt, alloc, replica, &Reply::Number(7), torn, case.name);
+    check_take(
+        rt,
+        alloc,
+        replica,
+        &Reply::Number(9),
+        Ok(Read::Ok),
+        case.name,
+    );
+    assert!(rt;
+        replica.next_ask() == Some(Ask::Token),
+        "{}: what it asks then",
+        case.name
+    );
 }
 
 #[test]
 fn pages_that_cannot_be(rt: HostRuntime) {
-    let pages = &PAGES;
-    for at in 0..pages.len() {
-        let case = &pages[at];
-        assert!(rt; is_judged(&rt, rt.alloc(), &case.0, case.1), "{at}");
+    for case in &PAGES {
+        let mut replica = Replica::new(rt.alloc());
+        check_page(&rt, rt.alloc(), &mut replica, case);
     }
 }
 
-/// Returns whether the bytes of a reply are answered so.
-fn answers(
+/// Gives a replica the bytes of a reply to what it asks. Returns whether it answers this.
+fn answers<R: Abort>(
+    rt: &R,
     alloc: Global,
     replica: &mut Replica,
     reply: &[u8],
     want: Result<Read, AnswerError>,
 ) -> bool {
-    if replica.next_ask().is_none() {
-        return false;
-    }
+    assert!(rt; !replica.next_ask().is_none(), "it asks nothing");
     replica.answer(alloc, reply) == want
 }
 
-/// Returns the length of the shortest proper prefix of the page that this replica does not call unreadable. `None` says that
-/// it calls all unreadable.
-fn first_readable_by(alloc: Global, replica: &mut Replica) -> Option<usize> {
+/// Checks that the page is unreadable for a replica at every place where it is cut off.
+fn check_cuts<R: Abort>(rt: &R, alloc: Global, replica: &mut Replica) {
+    let unreadable = Err(AnswerError::Unreadable);
     let bytes = PAGE.as_bytes();
     for end in 0..bytes.len() {
-        if !answers(alloc, replica, &bytes[..end], Err(AnswerError::Unreadable)) {
-            return Some(end);
-        }
+        let is_refused = answers(rt, alloc, replica, &bytes[..end], unreadable);
+        assert!(rt; is_refused, "the first {end} bytes are read");
     }
-    None
-}
-
-/// Returns whether the page is unreadable for a replica at every place where it is cut off.
-fn refuses_pieces<R: Abort>(rt: &R, alloc: Global, replica: &mut Replica) -> bool {
-    loads_up_to_a_page(rt, alloc, replica) && first_readable_by(alloc, replica).is_none()
-}
-
-/// Returns the same for a fresh replica.
-fn pieces_are_refused<R: Abort>(rt: &R, alloc: Global) -> bool {
-    let mut replica = Replica::new(alloc);
-    refuses_pieces(rt, alloc, &mut replica)
 }
 
 /// Makes the whole page, with bytes of another reply after it.
@@ -302,28 +406,43 @@ fn more_than_the_page<R: Abort>(rt: &R, alloc: Global) -> Vec<u8> {
     reply
 }
 
-/// Returns whether a replica reads a page.
-fn reads_page<R: Abort>(rt: &R, alloc: Global, replica: &mut Replica, reply: &[u8]) -> bool {
-    loads_up_to_a_page(rt, alloc, replica)
-        && answers(alloc, replica, reply, Ok(Read::Ok))
-        && replica.next_ask() == Some(Ask::Number)
-}
-
-/// Returns whether a fresh replica reads the whole page although other bytes come after it.
-fn whole_is_read<R: Abort>(rt: &R, alloc: Global) -> bool {
-    let reply = more_than_the_page(rt, alloc);
-    let mut replica = Replica::new(alloc);
-    reads_page(rt, alloc, &mut replica, reply.as_slice())
+/// Checks that a replica reads a page.
+fn check_whole<R: Abort>(rt: &R, alloc: Global, replica: &mut Replica, reply: &[u8]) {
+    assert!(rt;
+        answers(rt, alloc, replica, reply, Ok(Read::Ok)),
+        "the page"
+    );
+    assert!(rt;
+        replica.next_ask() == Some(Ask::Number),
+        "what it asks then"
+    );
 }
 
 #[test]
 fn replies_that_are_cut_off(rt: HostRuntime) {
-    assert!(rt; pieces_are_refused(&rt, rt.alloc()));
-    assert!(rt; whole_is_read(&rt, rt.alloc()));
+    let mut replica = Replica::new(rt.alloc());
+    load_up_to_a_page(&rt, rt.alloc(), &mut replica);
+    check_cuts(&rt, rt.alloc(), &mut replica);
+}
+
+#[test]
+fn a_reply_is_read_although_other_bytes_come_after_it(rt: HostRuntime) {
+    let reply = more_than_the_page(&rt, rt.alloc());
+    let mut replica = Replica::new(rt.alloc());
+    load_up_to_a_page(&rt, rt.alloc(), &mut replica);
+    check_whole(&rt, rt.alloc(), &mut replica, reply.as_slice());
 }
 
 /// A note of subscription 1: its SEQ, its number and its events; what is answered; and what the replica says then.
-type Told = (u32, u32, &'static [Event], Result<Taken, NotifyError>, Says);
+#[derive(Drop)]
+struct NoteCase {
+    name: &'static str,
+    seq: u32,
+    number: u32,
+    events: &'static [Event],
+    answer: Result<Taken, NotifyError>,
+    says: Says,
+}
 
 /// The addition of a track with this number.
 const LATE: Event = Event::ObjAdd {
@@ -350,100 +469,108 @@ const OTHER: Event = Event::ObjMod {
 };
 
 /// Notes, two of which tell what cannot be.
-const NOTES: [Told; 4] = [
-    (0, 0, &[], Ok(Taken::Took), Says::Stands { at: 0 }),
-    (
-        1,
-        5,
-        &[LATE],
-        Err(NotifyError::Jump {
+const NOTES: [NoteCase; 4] = [
+    NoteCase {
+        name: "the first note",
+        seq: 0,
+        number: 0,
+        events: &[],
+        answer: Ok(Taken::Took),
+        says: Says::Stands { at: 0 },
+    },
+    NoteCase {
+        name: "a change that is not the next",
+        seq: 1,
+        number: 5,
+        events: &[LATE],
+        answer: Err(NotifyError::Jump {
             expected: 1,
             first: 5,
         }),
-        Says::Stands { at: 0 },
-    ),
-    (
-        1,
-        1,
-        &[OTHER],
-        Err(NotifyError::Torn { id: 7 }),
-        Says::Stands { at: 0 },
-    ),
-    (1, 1, &[NEXT], Ok(Taken::Took), Says::BehindRead { id: 1 }),
+        says: Says::Stands { at: 0 },
+    },
+    NoteCase {
+        name: "the change of an object that is not there",
+        seq: 1,
+        number: 1,
+        events: &[OTHER],
+        answer: Err(NotifyError::Torn { id: 7 }),
+        says: Says::Stands { at: 0 },
+    },
+    NoteCase {
+        name: "the next change",
+        seq: 1,
+        number: 1,
+        events: &[NEXT],
+        answer: Ok(Taken::Took),
+        says: Says::BehindRead { id: 1 },
+    },
 ];
 
-/// Makes a note of subscription 1.
-fn note_of<R: Abort>(rt: &R, alloc: Global, told: &Told) -> Note {
+/// Makes the note of a case.
+fn note_of<R: Abort>(rt: &R, alloc: Global, case: &NoteCase) -> Note {
     let mut events = Events::new(alloc);
-    events.extend(told.2).expect(rt, MEMORY);
+    events.extend(case.events).expect(rt, MEMORY);
     Note {
         sid: Sid(1),
-        seq: told.0,
-        number: told.1,
+        seq: case.seq,
+        number: case.number,
         events,
     }
 }
 
-/// Returns whether a note is answered so.
-fn hears<R: Abort>(rt: &R, alloc: Global, replica: &mut Replica, told: &Told) -> bool {
-    let note = note_of(rt, alloc, told);
-    replica.notify(alloc, note) == told.3 && replica.says() == told.4
+/// Gives a replica the note of a case, and checks what it answers and says.
+fn check_note<R: Abort>(rt: &R, alloc: Global, replica: &mut Replica, case: &NoteCase) {
+    let note = note_of(rt, alloc, case);
+    let is_answered = replica.notify(alloc, note) == case.answer;
+    assert!(rt; is_answered, "{}: what it answers", case.name);
+    assert!(rt; replica.says() == case.says, "{}: what it says", case.name);
 }
 
-/// Returns whether a replica with a copy of nothing gets subscription 1.
-fn subscribes<R: Abort>(rt: &R, alloc: Global, replica: &mut Replica) -> bool {
-    let loads = loads(rt, alloc, replica, &EMPTY);
+/// Gives a replica a copy of nothing, and subscription 1.
+fn subscribe<R: Abort>(rt: &R, alloc: Global, replica: &mut Replica) {
+    load(rt, alloc, replica, &EMPTY);
     replica.subscribing().expect(rt, MEMORY);
-    if !replica.is_subscribing() {
-        return false;
-    }
+    assert!(rt; replica.is_subscribing(), "no request is out");
     let answer = replica.subscribed(alloc, Sid(1));
     answer.expect(rt, "no subscription");
-    loads
 }
 
-/// Returns whether all notes are answered so.
-fn hears_all<R: Abort>(rt: &R, alloc: Global, replica: &mut Replica) -> bool {
-    for told in &NOTES {
-        if !hears(rt, alloc, replica, told) {
-            return false;
-        }
-    }
-    true
-}
-
-/// Returns whether the replica stands at 1, with a track under the root.
-fn has_track(replica: &Replica) -> bool {
-    let (Some(root), Some(track)) = (replica.rows(0), replica.rows(1)) else {
-        return false;
-    };
+/// Checks that the replica stands at 1, with a track under the root.
+fn check_track<R: Abort>(rt: &R, replica: &Replica) {
     let counted = Trackers {
         container_update: 1,
         child_count: 1,
         deleted: 0,
     };
-    replica.says() == Says::Stands { at: 1 }
-        && root.trackers == Some(counted)
-        && track.id.0 == 1
-        && track.object_update == 1
-        && replica.rows(2).is_none()
+    assert!(rt; replica.says() == Says::Stands { at: 1 }, "what it says");
+    let root = replica.rows(0).expect(rt, "no root");
+    assert!(rt; root.trackers == Some(counted), "what the root counts");
+    let track = replica.rows(1).expect(rt, "no track");
+    assert!(rt; track.id.0 == 1, "the id of the track");
+    assert!(rt; track.object_update == 1, "the objectUpdateID of the track");
+    assert!(rt; replica.rows(2).is_none(), "a third row");
 }
 
-/// Returns whether a replica takes a load, a subscription, notes and a read, and gives its rows.
-fn goes<R: Abort>(rt: &R, alloc: Global, replica: &mut Replica) -> bool {
-    subscribes(rt, alloc, replica)
-        && hears_all(rt, alloc, replica)
-        && takes(rt, alloc, replica, &Reply::Page(&[ONE]), Ok(Read::Ok))
-        && has_track(replica)
-}
-
-/// Returns whether a replica goes its way through its public calls alone.
-fn follows<R: Abort>(rt: &R, alloc: Global) -> bool {
-    let mut replica = Replica::new(alloc);
-    goes(rt, alloc, &mut replica)
+/// Checks that a replica takes a load, a subscription, notes and a read, and gives its rows.
+fn check_way<R: Abort>(rt: &R, alloc: Global, replica: &mut Replica) {
+    subscribe(rt, alloc, replica);
+    for case in &NOTES {
+        check_note(rt, alloc, replica, case);
+    }
+    check_take(
+        rt,
+        alloc,
+        replica,
+        &Reply::Page(&[ONE]),
+        Ok(Read::Ok),
+        "the track",
+    );
+    check_track(rt, replica);
 }
 
 #[test]
 fn a_replica_goes_its_way(rt: HostRuntime) {
-    assert!(rt; follows(&rt, rt.alloc()));
+    let mut replica = Replica::new(rt.alloc());
+    check_way(&rt, rt.alloc(), &mut replica);
 }

@@ -3,77 +3,110 @@
 ghost use Rattle.std.specs.Prelude.{None};
 
 use crate::made::{sink, source};
-use cds_base::{Failed, Sink, Source};
 use cds_memory::MemSink;
+use cds_outside::{Failed, Sink, Source};
 use cds_replay::{ReplayError, replay};
 use std::alloc::Global;
 use std::cell::Cell;
 use std::process::Abort;
 
 /// A script, the reads and the writes that fail, the fault, and the report.
-type Failing = (
-    &'static str,
-    &'static [u32],
-    &'static [u32],
-    ReplayError,
-    &'static str,
-);
-
-const FAILING: [Failing; 3] = [
-    ("ask\n", &[1], &[], ReplayError::ReadFault, ""),
-    (
-        "ask\nread",
-        &[2],
-        &[],
-        ReplayError::ReadFault,
-        "behind load\n",
-    ),
-    ("ask\n# w\n", &[], &[1], ReplayError::WriteFault, ""),
-];
-
-/// Returns whether a replay into a sink has this fault.
-fn has_fault<R: Abort>(rt: &R, alloc: Global, case: &Failing, sink: &mut MemSink) -> bool {
-    let mut source = source(rt, alloc, case.0.as_bytes(), case.1);
-    replay(alloc, &mut source, sink) == Err(case.3)
+#[derive(Drop)]
+struct FaultCase {
+    name: &'static str,
+    script: &'static str,
+    reads: &'static [u32],
+    writes: &'static [u32],
+    fault: ReplayError,
+    report: &'static str,
 }
 
-/// Returns whether a script fails so, with this report.
-fn fails<R: Abort>(rt: &R, alloc: Global, case: &Failing) -> bool {
-    let mut sink = sink(rt, alloc, case.2);
-    has_fault(rt, alloc, case, &mut sink) && sink.as_slice() == case.4.as_bytes()
+const FAULTS: [FaultCase; 3] = [
+    FaultCase {
+        name: "the first read",
+        script: "ask\n",
+        reads: &[1],
+        writes: &[],
+        fault: ReplayError::ReadFault,
+        report: "",
+    },
+    FaultCase {
+        name: "the second read, after a whole line and a part of one",
+        script: "ask\nread",
+        reads: &[2],
+        writes: &[],
+        fault: ReplayError::ReadFault,
+        report: "behind load\n",
+    },
+    FaultCase {
+        name: "the first write",
+        script: "ask\n# w\n",
+        reads: &[],
+        writes: &[1],
+        fault: ReplayError::WriteFault,
+        report: "",
+    },
+];
+
+/// Returns whether the replay of a case into a sink has the fault of the case.
+fn has_fault<R: Abort>(rt: &R, alloc: Global, case: &FaultCase, sink: &mut MemSink) -> bool {
+    let mut source = source(rt, alloc, case.script.as_bytes(), case.reads);
+    replay(alloc, &mut source, sink) == Err(case.fault)
+}
+
+/// Checks the fault and the report of a case.
+fn check_fault<R: Abort>(rt: &R, alloc: Global, case: &FaultCase) {
+    let mut sink = sink(rt, alloc, case.writes);
+    assert!(rt;
+        has_fault(rt, alloc, case, &mut sink),
+        "{}: the fault",
+        case.name
+    );
+    assert!(rt;
+        sink.as_slice() == case.report.as_bytes(),
+        "{}: the report",
+        case.name
+    );
 }
 
 #[test]
 fn reads_and_writes_that_fail(rt: HostRuntime) {
-    for case in &FAILING {
-        assert!(rt; fails(&rt, rt.alloc(), case), "{}", case.0);
+    for case in &FAULTS {
+        check_fault(&rt, rt.alloc(), case);
     }
 }
 
-/// A line, and how many bytes of the report are written before the source is read for it.
-type Asked<'a> = (&'a [u8], usize);
+/// A piece that is typed, and how many bytes of the report are written before the source is read for it.
+#[derive(Drop)]
+struct TypedPiece {
+    bytes: &'static [u8],
+    written: usize,
+}
 
-/// A source that gives one line at a time. It checks that the answers to the lines before are written.
+/// A source that gives one piece at a time. It keeps the place of the first piece that was asked for before the answers to the
+/// pieces before it were written.
 #[derive(Drop)]
 struct Typed<'a> {
-    lines: &'a [Asked<'a>],
+    pieces: &'a [TypedPiece],
     at: usize,
     moved: u64,
     written: &'a Cell<usize>,
-    late: bool,
+    early: Option<usize>,
 }
 
 impl Source for Typed<'_> {
     ghost told = { λ s. record { left = None; moved = s.moved; faults = 0 } };
 
     fn read(&mut self, into: &mut [u8]) -> Result<usize, Failed> {
-        let Some((line, answered)) = self.lines.get(self.at) else {
+        let Some(piece) = self.pieces.get(self.at) else {
             return Ok(0);
         };
-        self.late = self.late || self.written.get() != *answered;
+        if self.early.is_none() && self.written.get() != piece.written {
+            self.early = Some(self.at);
+        }
         self.at = self.at.saturating_add(1);
-        let count = line.len().min(into.len());
-        into[..count].copy_from_slice(&line[..count]);
+        let count = piece.bytes.len().min(into.len());
+        into[..count].copy_from_slice(&piece.bytes[..count]);
         self.moved = self.moved.saturating_add(count as u64);
         Ok(count)
     }
@@ -97,42 +130,73 @@ impl Sink for Heard<'_> {
     }
 }
 
-/// Lines as they are typed.
-const LINES: [Asked; 8] = [
-    (b"ask\n", 0),
-    (b"folder a\n", 12),
-    (b"scan\n", 12),
-    (b"re", 19),
-    (b"ad\n", 19),
-    (b"ask\nask\n\nask\nread\n", 29),
-    (b"ask", 75),
-    (b"", 75),
+/// Lines as they are typed, piece by piece.
+const PIECES: [TypedPiece; 8] = [
+    TypedPiece {
+        bytes: b"ask\n",
+        written: 0,
+    },
+    TypedPiece {
+        bytes: b"folder a\n",
+        written: 12,
+    },
+    TypedPiece {
+        bytes: b"scan\n",
+        written: 12,
+    },
+    TypedPiece {
+        bytes: b"re",
+        written: 19,
+    },
+    TypedPiece {
+        bytes: b"ad\n",
+        written: 19,
+    },
+    TypedPiece {
+        bytes: b"ask\nask\n\nask\nread\n",
+        written: 29,
+    },
+    TypedPiece {
+        bytes: b"ask",
+        written: 75,
+    },
+    TypedPiece {
+        bytes: b"",
+        written: 75,
+    },
 ];
 
-/// Returns whether all lines are read, each after those before it are answered.
-fn are_answered_in_time(alloc: Global, written: &Cell<usize>, sink: &mut Heard) -> bool {
+/// Checks that all pieces are read, each after the lines before it are answered.
+fn check_typed<R: Abort>(rt: &R, alloc: Global, written: &Cell<usize>, sink: &mut Heard) {
     let mut source = Typed {
-        lines: &LINES,
+        pieces: &PIECES,
         at: 0,
         moved: 0,
         written,
-        late: false,
+        early: None,
     };
-    let answer = replay(alloc, &mut source, sink);
-    answer == Ok(()) && !source.late && source.at == 8
+    replay(alloc, &mut source, sink).expect(rt, "the replay");
+    let early = source.early.unwrap_or(8);
+    assert!(rt;
+        early == 8,
+        "piece {early} is read before the lines before it are answered"
+    );
+    assert!(rt; source.at == 8, "how many pieces are read");
 }
 
-/// Returns whether the lines are answered in time, and the lines of one piece one by one.
-fn are_answered_one_by_one(alloc: Global, written: &Cell<usize>) -> bool {
+/// Checks that the lines are answered in time, and the lines of one piece one by one.
+fn check_heard<R: Abort>(rt: &R, alloc: Global, written: &Cell<usize>) {
     let mut sink = Heard {
         written,
         at_once: 0,
     };
-    are_answered_in_time(alloc, written, &mut sink) && written.get() == 87 && sink.at_once == 12
+    check_typed(rt, alloc, written, &mut sink);
+    assert!(rt; written.get() == 87, "how many bytes are written");
+    assert!(rt; sink.at_once == 12, "how many bytes are written at once");
 }
 
 #[test]
 fn a_line_is_answered_before_the_next_is_read(rt: HostRuntime) {
     let written = Cell::new(0);
-    assert!(rt; are_answered_one_by_one(rt.alloc(), &written));
+    check_heard(&rt, rt.alloc(), &written);
 }

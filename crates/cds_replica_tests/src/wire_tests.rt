@@ -51,33 +51,29 @@ fn answer_of<R: Abort, W: Wire>(
     replay_by(alloc, &mut source, sink, wire)
 }
 
-/// Returns whether a script over a wire is answered so, with this report.
-fn is_played<R: Abort, W: Wire>(
+/// Checks what a script over a wire is answered, and its report.
+fn check_replay<R: Abort, W: Wire>(
     rt: &R,
     alloc: Global,
     script: &str,
     wire: &W,
     want: Result<(), ReplayError>,
     report: &str,
-) -> bool {
+) {
     let mut sink = sink(rt, alloc, &[]);
     let answer = answer_of(rt, alloc, script, wire, &mut sink);
-    answer == want && sink.as_slice() == report.as_bytes()
+    assert!(rt; answer == want, "the answer");
+    assert!(rt; sink.as_slice() == report.as_bytes(), "the report");
 }
 
-/// Returns whether a script shows the rows that a wire left. The wire writes another title than the server's.
-fn shows_what_is_left<R: Abort>(rt: &R, alloc: Global) -> bool {
+/// The replica's rows are those that the wire left. The wire writes another title than the server's.
+#[test]
+fn rows_are_what_the_wire_left(rt: HostRuntime) {
     let wire = Writes {
         old: b'Z',
         new: b'Y',
     };
-    is_played(rt, alloc, ONE_TRACK, &wire, Ok(()), SHOWN)
-}
-
-/// The replica's rows are those that the wire left.
-#[test]
-fn rows_are_what_the_wire_left(rt: HostRuntime) {
-    assert!(rt; shows_what_is_left(&rt, rt.alloc()));
+    check_replay(&rt, rt.alloc(), ONE_TRACK, &wire, Ok(()), SHOWN);
 }
 
 /// A wire that makes the first byte of a reply zero if the reply is exactly this one.
@@ -102,18 +98,13 @@ impl Wire for Spoils<'_> {
 const TAGGED: &str =
     "track s.flac 10 0 2 16 0\ntag TITLE A%20&%20\"B\"%20<C>%01\nscan\nload\nread\nread\nread\nread\nread\nread\nask\n";
 
-/// Returns whether a script ends at the fifth reply, which is exactly the page and which a wire spoils. The wire leaves
-/// all others.
-fn ends_at_the_page<R: Abort>(rt: &R, alloc: Global) -> bool {
+/// A script ends at the fifth reply, which is exactly the page and which a wire spoils. The wire leaves all others.
+#[test]
+fn the_page_of_a_tagged_track(rt: HostRuntime) {
     let wire = Spoils {
         reply: PAGE.as_bytes(),
     };
     let answer = Err(ReplayError::Refused { line: 9 });
     let shown = "scan 1\nread ok\nread ok\nread ok\nread ok\n";
-    is_played(rt, alloc, TAGGED, &wire, answer, shown)
-}
-
-#[test]
-fn the_page_of_a_tagged_track(rt: HostRuntime) {
-    assert!(rt; ends_at_the_page(&rt, rt.alloc()));
+    check_replay(&rt, rt.alloc(), TAGGED, &wire, answer, shown);
 }

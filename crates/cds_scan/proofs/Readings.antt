@@ -1,8 +1,8 @@
 -- What a file that was opened and read says.
 use Rattle.std.proofs.Common.{◌≡◌, ℕ, List, Option, Some, None, Result, Ok, Err, IfOk, sym, subst}
 use Rattle.cds_base.specs.declared.mem.Mem.{Mem as Memory}
-use Rattle.cds_base.specs.Entries.{Contents, HasBytes}
-use Rattle.cds_base.specs.Outside.{Told}
+use Rattle.cds_outside.specs.Entries.{Contents, HasBytes}
+use Rattle.cds_outside.specs.Outside.{Told}
 use Rattle.cds_flac.specs.declared.error.FlacError.{FlacError}
 use Rattle.cds_flac.specs.declared.error.FlacError.TheVariants.{NotFlac, NoStreamInfo, BadStreamInfo, Forbidden, Truncated, BadComment, TooLong, ReadFault, Mem}
 use Rattle.cds_flac.specs.Agree.{Agrees}

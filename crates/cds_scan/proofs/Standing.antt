@@ -6,7 +6,7 @@ use Rattle.std.proofs.lemmas.Bool.{and_parts, or_parts, not-true, eqb-true, cond
 use Rattle.std.proofs.lemmas.List.{take-append-drop}
 use Rattle.std.proofs.lemmas.List.Splits.{join_with_byte-slice_split}
 use Rattle.std.proofs.lemmas.Slice.Eq.{bytes_eq-Decides}
-use Rattle.cds_base.specs.Entries.{is_in, is_name, is_slash_and_name}
+use Rattle.cds_outside.specs.Entries.{is_in, is_name, is_slash_and_name}
 use Rattle.cds_object.specs.Path.{bad_name_at, parent_of, path_read}
 
 -- ---- paths and their names

@@ -8,9 +8,9 @@ use Rattle.std.specs.Cmp.Lexicographic.{nat_list_eq_equiv}
 use Rattle.std.proofs.lemmas.Bool.{and_parts, and_from, or_parts, not-true, not_from_true, cond-true, cond-false}
 use Rattle.std.proofs.Math.Bool.{or-true}
 use Rattle.std.proofs.lemmas.Slice.Eq.{bytes_eq-Decides}
-use Rattle.cds_base.specs.declared.outside.folder.Entry.{Entry}
-use Rattle.cds_base.specs.declared.outside.folder.Entry.TheVariants.{Folder, File, End}
-use Rattle.cds_base.specs.Entries.{Contents, all_differ, is_at, is_folder_at, is_held, is_in, is_name, is_new, is_parent_of, is_path_held, is_tree}
+use Rattle.cds_outside.specs.declared.folder.Entry.{Entry}
+use Rattle.cds_outside.specs.declared.folder.Entry.TheVariants.{Folder, File, End}
+use Rattle.cds_outside.specs.Entries.{Contents, all_differ, is_at, is_folder_at, is_held, is_in, is_name, is_new, is_parent_of, is_path_held, is_tree}
 use Rattle.cds_object.specs.declared.content.Content.{Content}
 use Rattle.cds_object.specs.declared.record.Record.{Record}
 use Rattle.cds_object.specs.Object.{is_folder}

@@ -3,11 +3,11 @@ use Rattle.std.proofs.Common.{◌≡◌, ℕ, ◌+◌, ◌≤◌, Bool, true, fa
 use Rattle.std.specs.Result.{IsErrAnd}
 use Rattle.std.specs.Bool.{IsTrue}
 use Rattle.std.specs.List.{list_any}
-use Rattle.cds_base.specs.declared.outside.folder.Entry.{Entry}
-use Rattle.cds_base.specs.declared.outside.folder.Entry.TheVariants.{Folder, File, End}
-use Rattle.cds_base.specs.Entries.{Contents, IsNext, OnEntry, is_file_at, is_tree}
-use Rattle.cds_base.specs.Outside.{Told, raised}
-use Rattle.cds_base.proofs.Given.{just_given}
+use Rattle.cds_outside.specs.declared.folder.Entry.{Entry}
+use Rattle.cds_outside.specs.declared.folder.Entry.TheVariants.{Folder, File, End}
+use Rattle.cds_outside.specs.Entries.{Contents, IsNext, OnEntry, is_file_at, is_tree}
+use Rattle.cds_outside.specs.Outside.{Told, raised}
+use Rattle.cds_outside.proofs.Given.{just_given}
 use Rattle.cds_object.specs.Path.{name_of, path_read}
 use Rattle.cds_scan.specs.declared.error.ScanError.{ScanError}
 use Rattle.cds_scan.specs.declared.error.ScanError.TheVariants.{FolderFault, TooDeep, Full, TooMany, Mem}

@@ -1,8 +1,8 @@
 -- Scans that end, and files that came back.
 use Rattle.std.proofs.Common.{◌≡◌, ℕ, zero, suc, ◌+◌, ◌<◌, ◌≤◌, List, [], ◌∷◌, ◌++◌, length, Option, refl, sym, ap, subst, ◌∙◌, arith, zero-add}
-use Rattle.cds_base.specs.declared.outside.folder.Entry.{Entry}
-use Rattle.cds_base.specs.Entries.{Contents}
-use Rattle.cds_base.specs.Outside.{Told, Rose, raised}
+use Rattle.cds_outside.specs.declared.folder.Entry.{Entry}
+use Rattle.cds_outside.specs.Entries.{Contents}
+use Rattle.cds_outside.specs.Outside.{Told, Rose, raised}
 use Rattle.cds_scan.specs.declared.error.ScanError.{ScanError}
 use Rattle.cds_scan.specs.declared.error.ScanError.TheVariants.{FolderFault, TooDeep, Full, TooMany, Mem}
 use Rattle.cds_scan.specs.declared.scanned.Scan.{Scan}

@@ -1,6 +1,6 @@
 -- What a scan answers to a fault of its folder.
-use Rattle.cds_base.specs.declared.outside.folder.FolderFault.{FolderFault as Fault}
-use Rattle.cds_base.specs.declared.outside.folder.FolderFault.TheVariants.{Failed, Mem as NoMemory}
+use Rattle.cds_outside.specs.declared.folder.FolderFault.{FolderFault as Fault}
+use Rattle.cds_outside.specs.declared.folder.FolderFault.TheVariants.{Failed, Mem as NoMemory}
 use Rattle.cds_scan.specs.declared.error.ScanError.{ScanError}
 use Rattle.cds_scan.specs.declared.error.ScanError.TheVariants.{FolderFault, Mem}
 

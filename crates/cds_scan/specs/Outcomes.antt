@@ -3,10 +3,10 @@
 use Rattle.std.specs.Prelude.{◌≡◌, ◌-◌, ◌&&◌, ℕ, ⊤, Bool, true, false, nat_le, List, [], ◌∷◌, length, drop, Option, Some, None, Ok, Err, codes}
 use Rattle.std.specs.List.{filter_map}
 use Rattle.std.specs.Str.{str_to_ascii_lowercase}
-use Rattle.cds_base.specs.declared.outside.folder.Entry.{Entry}
-use Rattle.cds_base.specs.declared.outside.folder.Entry.TheVariants.{Folder, File, End}
-use Rattle.cds_base.specs.Entries.{Contents}
-use Rattle.cds_base.specs.Outside.{Told}
+use Rattle.cds_outside.specs.declared.folder.Entry.{Entry}
+use Rattle.cds_outside.specs.declared.folder.Entry.TheVariants.{Folder, File, End}
+use Rattle.cds_outside.specs.Entries.{Contents}
+use Rattle.cds_outside.specs.Outside.{Told}
 use Rattle.cds_flac.specs.declared.error.FlacError.{FlacError}
 use Rattle.cds_flac.specs.declared.error.FlacError.TheVariants.{ReadFault, Mem}
 use Rattle.cds_flac.specs.Reading.{metadata}

@@ -1,8 +1,8 @@
 -- What the reading of one file answers.
 use Rattle.std.specs.Prelude.{◌≡◌, ◌^◌, ◌<◌, ℕ, ⊤, List, Option, Result, Ok, Err}
 use Rattle.cds_base.specs.declared.mem.Mem.{Mem as Memory}
-use Rattle.cds_base.specs.Entries.{Contents}
-use Rattle.cds_base.specs.Outside.{Rose}
+use Rattle.cds_outside.specs.Entries.{Contents}
+use Rattle.cds_outside.specs.Outside.{Rose}
 use Rattle.cds_flac.specs.declared.error.FlacError.{FlacError}
 use Rattle.cds_flac.specs.declared.error.FlacError.TheVariants.{ReadFault, Mem}
 use Rattle.cds_object.specs.declared.info.FlacInfo.{FlacInfo}

@@ -1,10 +1,10 @@
 -- What a scan of a folder answers.
 use Rattle.std.specs.Prelude.{◌≡◌, ◌+◌, ◌-◌, ◌^◌, ◌<◌, ◌≤◌, ◌⊎◌, ℕ, zero, suc, ⊤, Bool, true, false, IsTrue, List, [], ◌∷◌, ◌++◌, length, Option, Err}
 use Rattle.std.specs.List.{count_by}
-use Rattle.cds_base.specs.declared.outside.folder.Entry.{Entry}
-use Rattle.cds_base.specs.declared.outside.folder.Entry.TheVariants.{Folder, File, End}
-use Rattle.cds_base.specs.Entries.{Contents, FolderTold, is_tree}
-use Rattle.cds_base.specs.Outside.{Told, Rose, raised}
+use Rattle.cds_outside.specs.declared.folder.Entry.{Entry}
+use Rattle.cds_outside.specs.declared.folder.Entry.TheVariants.{Folder, File, End}
+use Rattle.cds_outside.specs.Entries.{Contents, FolderTold, is_tree}
+use Rattle.cds_outside.specs.Outside.{Told, Rose, raised}
 use Rattle.cds_flac.specs.declared.error.FlacError.{FlacError}
 use Rattle.cds_flac.specs.declared.error.FlacError.TheVariants.{ReadFault}
 use Rattle.cds_object.specs.declared.record.Record.{Record}

@@ -1,10 +1,10 @@
 -- The steps of a scan over the entries of a folder.
 use Rattle.std.specs.Prelude.{◌≡◌, ◌≤◌, ℕ, ⊤, Bool, true, false, IsTrue, List, [], ◌∷◌, ◌++◌, length, Option, Result, Ok, Err}
 use Rattle.std.specs.List.{list_any}
-use Rattle.cds_base.specs.declared.outside.folder.Entry.{Entry}
-use Rattle.cds_base.specs.declared.outside.folder.Entry.TheVariants.{Folder, File, End}
-use Rattle.cds_base.specs.Entries.{Contents, is_file_at, is_tree}
-use Rattle.cds_base.specs.Outside.{Told, Rose}
+use Rattle.cds_outside.specs.declared.folder.Entry.{Entry}
+use Rattle.cds_outside.specs.declared.folder.Entry.TheVariants.{Folder, File, End}
+use Rattle.cds_outside.specs.Entries.{Contents, is_file_at, is_tree}
+use Rattle.cds_outside.specs.Outside.{Told, Rose}
 use Rattle.cds_object.specs.declared.record.Record.{Record}
 use Rattle.cds_object.specs.Path.{path_read}
 use Rattle.cds_catalog.specs.Library.{map_of}

@@ -4,7 +4,7 @@ ghost use Rattle.std.specs.Prelude.{◌≡◌};
 ghost use Rattle.cds_scan.specs.declared.error.ScanError.TheVariants.{Mem};
 ghost use Rattle.cds_scan.specs.Faults.{scan_fault};
 
-use cds_base::FolderFault;
+use cds_outside::FolderFault;
 use std::convert::From;
 use thiserror::Error;
 

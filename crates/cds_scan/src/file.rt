@@ -2,12 +2,13 @@
 
 ghost use Rattle.std.specs.Prelude.{◌≡◌, ◌≤◌, ◌<◌, ◌^◌, IfOk, IsTrue};
 ghost use Rattle.std.specs.List.{list_any};
-ghost use Rattle.cds_base.specs.Entries.{is_file_at};
+ghost use Rattle.cds_outside.specs.Entries.{is_file_at};
 ghost use Rattle.cds_scan.specs.Reading.{IsReading, IsReadingOf, HasSamples, ReadFaultRose};
 ghost use Rattle.cds_scan.specs.Scanning.{CameBack};
 
-use cds_base::{Folder, FolderFault, Mem};
+use cds_base::Mem;
 use cds_flac::{FlacError, FlacInfo, read_flac};
+use cds_outside::{Folder, FolderFault};
 use std::alloc::Global;
 
 /// What the reading of a file answers.

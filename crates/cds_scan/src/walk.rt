@@ -2,7 +2,7 @@
 
 ghost use Rattle.std.specs.Prelude.{◌≡◌, ◌+◌, ◌≤◌, [], None, IfOk, IfErr};
 ghost use Rattle.std.specs.List.{count_by};
-ghost use Rattle.cds_base.specs.declared.outside.folder.Entry.TheVariants.{File as FileEntry};
+ghost use Rattle.cds_outside.specs.declared.folder.Entry.TheVariants.{File as FileEntry};
 ghost use Rattle.cds_catalog.specs.Scans.{bad_record};
 ghost use Rattle.cds_scan.specs.Found.{Adds};
 ghost use Rattle.cds_scan.specs.Scanning.{CameBack, Covers, GoesOn, IsRefusedBy, IsScanOf, is_read_fault};
@@ -13,8 +13,9 @@ use crate::file::{Reading, read_file};
 use crate::found::Found;
 use crate::name::ends_in_flac;
 use crate::{Scan, ScanError};
-use cds_base::{Entry, Folder, Text};
+use cds_base::Text;
 use cds_object::{Path, PathError, content_of, folder_of};
+use cds_outside::{Entry, Folder};
 use std::alloc::Global;
 
 /// The largest number of entries that a folder may have.

@@ -39,8 +39,8 @@ use Rattle.cds_follow.proofs.Served.{commands-serve}
 use Rattle.cds_follow.proofs.Stages.{following-later}
 use Rattle.cds_follow.proofs.Honest.{entries-served}
 use Rattle.cds_follow.proofs.LoadTurns.{loads-are-of-turns}
-use Rattle.cds_script.specs.declared.turn.Turn.{Turn}
-use Rattle.cds_script.specs.declared.turn.Turn.TheVariants.{Folder, Track, Tag, Scan, Load, Read, Ask, First, At, Subscribe, Accept, Renew, Unsubscribe, Deliver, ReadFault}
+use Rattle.cds_script.specs.declared.turn.ScriptTurn.{ScriptTurn}
+use Rattle.cds_script.specs.declared.turn.ScriptTurn.TheVariants.{Folder, Track, Tag, Scan, Load, Read, Ask, First, At, Subscribe, Accept, Renew, Unsubscribe, Deliver, ReadFault}
 use Rattle.cds_script.proofs.Given.{Kept, ScannedCases, scanned-cases, oldest-all, turns-kept}
 use Rattle.cds_script.proofs.Stood.{read-taken, note-taken, name-taken, may-before_ask, letter_at}
 use Rattle.cds_script.specs.declared.reply.HeldReply.{HeldReply}
@@ -319,7 +319,7 @@ renewal-same first now commands (Some name) = by (lives name first now commands)
     by true = refl
     by false = refl
 
-step : (first now : ℕ) (records : List Record) (p : Played) → Kept first p → (n : ℕ) → Bound (moment_after script_token first p.commands) p.replica n → (turn : Turn) →
+step : (first now : ℕ) (records : List Record) (p : Played) → Kept first p → (n : ℕ) → Bound (moment_after script_token first p.commands) p.replica n → (turn : ScriptTurn) →
     Bound (moment_after script_token first (play first now records p turn).commands) (play first now records p turn).replica (answered_after first records p n turn)
 step first now records p kept n bound (Folder path) = bound
 step first now records p kept n bound (Track path info size) = bound
@@ -350,7 +350,7 @@ step first now records p kept n bound ReadFault = bound
 nothing-bound : (m : Moment) → Bound m [] 0
 nothing-bound m = inl (refl, refl)
 
-first-bound : (turn : Turn) → number_of turn ≤ 4294967295 → Bound (moment_after script_token (number_of turn) (play 0 0 [] (played []) turn).commands) (play 0 0 [] (played []) turn).replica
+first-bound : (turn : ScriptTurn) → number_of turn ≤ 4294967295 → Bound (moment_after script_token (number_of turn) (play 0 0 [] (played []) turn).commands) (play 0 0 [] (played []) turn).replica
     (answered_after 0 [] (played []) 0 turn)
 first-bound (First number) low = nothing-bound (moment_after script_token number [])
 first-bound (Folder path) low = nothing-bound (moment_after script_token 0 [])
@@ -368,7 +368,7 @@ first-bound Unsubscribe low = step 0 0 [] (played []) (turns-kept [] low) 0 (not
 first-bound (Deliver note) low = step 0 0 [] (played []) (turns-kept [] low) 0 (nothing-bound (moment_after script_token 0 [])) (Deliver note)
 first-bound ReadFault low = nothing-bound (moment_after script_token 0 [])
 
-bounds : (turns : List Turn) → first_of turns ≤ 4294967295 → Bound (moment_after script_token (first_of turns) (played turns).commands) (played turns).replica (answered_since turns)
+bounds : (turns : List ScriptTurn) → first_of turns ≤ 4294967295 → Bound (moment_after script_token (first_of turns) (played turns).commands) (played turns).replica (answered_since turns)
 bounds [] low = nothing-bound (moment_after script_token 0 [])
 bounds (turn ∷ []) low = first-bound turn low
 bounds (turn ∷ next ∷ older) low =

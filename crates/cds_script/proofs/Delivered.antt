@@ -21,8 +21,8 @@ use Rattle.cds_follow.specs.Follow.{Known, Knows, with_notes, is_no, is_turned_a
 use Rattle.cds_follow.specs.Given.{moment_after, asked_at}
 use Rattle.cds_commands.proofs.Among.{Among, among-contained, among-all, among-filter}
 use Rattle.cds_commands.proofs.Sent.{Sound, all-sound}
-use Rattle.cds_script.specs.declared.turn.Turn.{Turn}
-use Rattle.cds_script.specs.declared.turn.Turn.TheVariants.{Folder, Track, Tag, Scan, Load, Read, Ask, First, At, Subscribe, Accept, Renew, Unsubscribe, Deliver, ReadFault}
+use Rattle.cds_script.specs.declared.turn.ScriptTurn.{ScriptTurn}
+use Rattle.cds_script.specs.declared.turn.ScriptTurn.TheVariants.{Folder, Track, Tag, Scan, Load, Read, Ask, First, At, Subscribe, Accept, Renew, Unsubscribe, Deliver, ReadFault}
 use Rattle.cds_script.specs.Played.{AllStand}
 use Rattle.cds_script.specs.Complete.{is_full, delivered_notes_are_received, is_quiet, nothing_is_to_be_read, all_answers_are_complete}
 use Rattle.cds_script.proofs.Given.{Waits, Kept, ScannedCases, scanned-cases, granted-rises, sent-place, sent-contained, turns-kept}
@@ -119,7 +119,7 @@ reply-named first commands replica (Named other) kept named = record {
     by name true f = named.granted_one name f
     by name false f = let same : other ≡ name = cc in let high = kept.waits.2 in omega (arith, same, high)
 
-step-named : (first now : ℕ) (records : List Record) (p : Played) → Kept first p → NamesRise p → (turn : Turn) → NamesRise (play first now records p turn)
+step-named : (first now : ℕ) (records : List Record) (p : Played) → Kept first p → NamesRise p → (turn : ScriptTurn) → NamesRise (play first now records p turn)
 step-named first now records p kept named (Folder path) = named
 step-named first now records p kept named (Track path info size) = named
 step-named first now records p kept named (Tag comment) = named
@@ -175,11 +175,11 @@ nothing-named : NamesRise (played [])
 nothing-named = record { granted_one = λ name f. absurd (cc); before = λ name next f g. absurd (cc) }
 
 -- the first number of older turns is not above the last
-low-older : (turn : Turn) (older : List Turn) → first_of (turn ∷ older) ≤ 4294967295 → first_of older ≤ 4294967295
+low-older : (turn : ScriptTurn) (older : List ScriptTurn) → first_of (turn ∷ older) ≤ 4294967295 → first_of older ≤ 4294967295
 low-older turn [] low = omega arith
 low-older turn (next ∷ older) low = low
 
-turns-named : (turns : List Turn) → first_of turns ≤ 4294967295 → NamesRise (played turns)
+turns-named : (turns : List ScriptTurn) → first_of turns ≤ 4294967295 → NamesRise (played turns)
 turns-named [] low = nothing-named
 turns-named (turn ∷ older) low =
     step-named (first_of older) (clock_of older) (records_since older) (played older) (turns-kept older (low-older turn older low)) (turns-named older (low-older turn older low)) turn
@@ -321,7 +321,7 @@ reply-got first p note kept got (Named name) e =
 
 -- ---- the note of a number stays
 
-step-sent : (first now number : ℕ) (records : List Record) (p : Played) (note : Note) → sent_note number (notes_of first p.commands) ≡ Some note → (turn : Turn) →
+step-sent : (first now number : ℕ) (records : List Record) (p : Played) (note : Note) → sent_note number (notes_of first p.commands) ≡ Some note → (turn : ScriptTurn) →
     sent_note number (notes_of first (play first now records p turn).commands) ≡ Some note
 step-sent first now number records p note e (Folder path) = e
 step-sent first now number records p note e (Track path info size) = e
@@ -372,7 +372,7 @@ known-note first number commands note e =
 
 -- ---- and so does what was delivered
 
-step-got : (first now number : ℕ) (records : List Record) (p : Played) (note : Note) → Kept first p → sent_note number (notes_of first p.commands) ≡ Some note → Got p note → (turn : Turn) →
+step-got : (first now number : ℕ) (records : List Record) (p : Played) (note : Note) → Kept first p → sent_note number (notes_of first p.commands) ≡ Some note → Got p note → (turn : ScriptTurn) →
     Got (play first now records p turn) note
 step-got first now number records p note kept e got (Folder path) = got
 step-got first now number records p note kept e got (Track path info size) = got
@@ -405,25 +405,25 @@ step-got first now number records p note kept e got ReadFault = got
 
 -- ---- all turns
 
-first-after_deliver : (number : ℕ) (older : List Turn) → first_of (Deliver number ∷ older) ≡ first_of older
+first-after_deliver : (number : ℕ) (older : List ScriptTurn) → first_of (Deliver number ∷ older) ≡ first_of older
 first-after_deliver number [] = refl
 first-after_deliver number (turn ∷ older) = refl
 
-first-after : (turn : Turn) (newer : List Turn) (other : Turn) (older : List Turn) → first_of (turn ∷ (newer ++ other ∷ older)) ≡ first_of (newer ++ other ∷ older)
+first-after : (turn : ScriptTurn) (newer : List ScriptTurn) (other : ScriptTurn) (older : List ScriptTurn) → first_of (turn ∷ (newer ++ other ∷ older)) ≡ first_of (newer ++ other ∷ older)
 first-after turn [] other older = refl
 first-after turn (next ∷ newer) other older = refl
 
 -- the note of a number after further turns
-later-sent : (newer : List Turn) (number : ℕ) (older : List Turn) (note : Note) → sent_note number (notes_of (first_of older) (played older).commands) ≡ Some note →
+later-sent : (newer : List ScriptTurn) (number : ℕ) (older : List ScriptTurn) (note : Note) → sent_note number (notes_of (first_of older) (played older).commands) ≡ Some note →
     sent_note number (notes_of (first_of (newer ++ Deliver number ∷ older)) (played (newer ++ Deliver number ∷ older)).commands) ≡ Some note
 later-sent [] number older note e = ap (λ (f : ℕ). sent_note number (notes_of f (played older).commands)) (first-after_deliver number older) ∙ e
 later-sent (turn ∷ newer) number older note e =
-    let turns : List Turn = newer ++ Deliver number ∷ older in
+    let turns : List ScriptTurn = newer ++ Deliver number ∷ older in
     ap (λ (f : ℕ). sent_note number (notes_of f (played (turn ∷ turns)).commands)) (first-after turn newer (Deliver number) older)
     ∙ step-sent (first_of turns) (clock_of turns) number (records_since turns) (played turns) note (later-sent newer number older note e) turn
 
 -- what was delivered, after further turns
-later-got : (newer : List Turn) (number : ℕ) (older : List Turn) (note : Note) → first_of (newer ++ Deliver number ∷ older) ≤ 4294967295 →
+later-got : (newer : List ScriptTurn) (number : ℕ) (older : List ScriptTurn) (note : Note) → first_of (newer ++ Deliver number ∷ older) ≤ 4294967295 →
     sent_note number (notes_of (first_of older) (played older).commands) ≡ Some note → is_full (arrival note (played older).replica) ≡ false →
     Got (played (newer ++ Deliver number ∷ older)) note
 later-got [] number older note low e free =
@@ -431,16 +431,16 @@ later-got [] number older note low e free =
     subst (λ (o : Option Note). Got (record (played older) { replica = after_note o (played older).replica }) note) (sym e)
     (delivered-got (first_of older) number (played older) note (turns-kept older older-low) (turns-named older older-low) e free)
 later-got (turn ∷ newer) number older note low e free =
-    let turns : List Turn = newer ++ Deliver number ∷ older in
+    let turns : List ScriptTurn = newer ++ Deliver number ∷ older in
     let rest : first_of turns ≤ 4294967295 = low-older turn turns low in
     step-got (first_of turns) (clock_of turns) number (records_since turns) (played turns) note (turns-kept turns rest) (later-sent newer number older note e)
     (later-got newer number older note rest e free) turn
 
-low-rest : (newer older : List Turn) → first_of (newer ++ older) ≤ 4294967295 → first_of older ≤ 4294967295
+low-rest : (newer older : List ScriptTurn) → first_of (newer ++ older) ≤ 4294967295 → first_of older ≤ 4294967295
 low-rest [] older low = low
 low-rest (turn ∷ newer) older low = low-rest newer older (low-older turn (newer ++ older) low)
 
-all-rest : (newer older : List Turn) → AllStand (newer ++ older) → AllStand older
+all-rest : (newer older : List ScriptTurn) → AllStand (newer ++ older) → AllStand older
 all-rest [] older all = all
 all-rest (turn ∷ newer) older all = all-rest newer older all.1
 
@@ -467,7 +467,7 @@ delivered-received turns name may named delivered =
         has_seq (received (played turns).replica) note.seq ≡ true
     one number note sent is = seq-there note (received (played turns).replica) among
       where
-        d : (newer : List Turn) × (older : List Turn) × (turns ≡ newer ++ Deliver number ∷ older) × (is_full (arrival note (played older).replica) ≡ false)
+        d : (newer : List ScriptTurn) × (older : List ScriptTurn) × (turns ≡ newer ++ Deliver number ∷ older) × (is_full (arrival note (played older).replica) ≡ false)
         d = delivered number note sent is
 
         low : first_of (d.0 ++ Deliver number ∷ d.1) ≤ 4294967295
@@ -527,7 +527,7 @@ none-asked moment (Some (Children id start)) e = absurd (by (row_of id moment.ro
     by None f = let letter : 55 ≡ 110 = ap (letter_at 5) f in omega (arith, letter)
     by (Some row) f = on row (is_folder row.content) f
 
-step-quiet : (first now : ℕ) (records : List Record) (p : Played) (turn : Turn) → is_quiet turn ≡ true → next_ask (known_by p.replica) ≡ None →
+step-quiet : (first now : ℕ) (records : List Record) (p : Played) (turn : ScriptTurn) → is_quiet turn ≡ true → next_ask (known_by p.replica) ≡ None →
     next_ask (known_by (play first now records p turn).replica) ≡ None
 step-quiet first now records p (Folder path) q e = e
 step-quiet first now records p (Track path info size) q e = e
@@ -557,7 +557,7 @@ nothing-read [] older wrote quiet =
     step-quiet (first_of older) (clock_of older) (records_since older) (played older) Read refl none
 nothing-read (turn ∷ newer) older wrote quiet =
     let both = and_parts (is_quiet turn) (list_all is_quiet newer) quiet in
-    let turns : List Turn = newer ++ Read ∷ older in
+    let turns : List ScriptTurn = newer ++ Read ∷ older in
     step-quiet (first_of turns) (clock_of turns) (records_since turns) (played turns) turn both.0 (nothing-read newer older wrote both.1)
 
 -- ---- the answer is complete

@@ -16,8 +16,8 @@ use Rattle.cds_commands.specs.Subscriptions.{granted}
 use Rattle.cds_follow.specs.Inbox.{ReplicaTurn, Begins, Shows, Requests, Accepts, Refuses, Delivers, accepted, is_out}
 use Rattle.cds_follow.specs.Follow.{is_refused, and_turn, known_by, next_ask}
 use Rattle.cds_follow.specs.Given.{moment_after, Entry, Starts, Asks, Calls, Granted, Denied, Gets, asked_at, given_by, latest_length, length_before_call, IsGiven}
-use Rattle.cds_script.specs.declared.turn.Turn.{Turn}
-use Rattle.cds_script.specs.declared.turn.Turn.TheVariants.{Folder, Track, Tag, Scan, Load, Read, Ask, First, At, Subscribe, Accept, Renew, Unsubscribe, Deliver, ReadFault}
+use Rattle.cds_script.specs.declared.turn.ScriptTurn.{ScriptTurn}
+use Rattle.cds_script.specs.declared.turn.ScriptTurn.TheVariants.{Folder, Track, Tag, Scan, Load, Read, Ask, First, At, Subscribe, Accept, Renew, Unsubscribe, Deliver, ReadFault}
 use Rattle.cds_script.specs.Report.{number_of, first_of, clock_of, records_since, Played, scanned, after_reply, after_note, sent_note, lives, given_up, with_renewal, play, played, script_token}
 use Rattle.cds_script.specs.ScriptGiven.{scripts_are_given}
 use Rattle.cds_script.specs.declared.reply.HeldReply.{HeldReply}
@@ -352,7 +352,7 @@ renewal-kept first now p (Some name) kept = by (lives name first now p.commands)
         more-command first p (Renews now name granted_seconds) kept (record { libraries = a.libraries; few = a.few; numbers = a.numbers })
     by false = same-commands first p p.commands refl kept
 
-step : (first now : ℕ) (records : List Record) (p : Played) → Kept first p → (turn : Turn) → Kept first (play first now records p turn)
+step : (first now : ℕ) (records : List Record) (p : Played) → Kept first p → (turn : ScriptTurn) → Kept first (play first now records p turn)
 step first now records p kept (Folder path) = kept
 step first now records p kept (Track path info size) = kept
 step first now records p kept (Tag comment) = kept
@@ -393,7 +393,7 @@ nothing-kept first low = record {
   waits = tt;
 }
 
-first-kept : (turn : Turn) → number_of turn ≤ 4294967295 → Kept (number_of turn) (play 0 0 [] (played []) turn)
+first-kept : (turn : ScriptTurn) → number_of turn ≤ 4294967295 → Kept (number_of turn) (play 0 0 [] (played []) turn)
 first-kept (First number) low = nothing-kept number low
 first-kept (Folder path) low = nothing-kept 0 low
 first-kept (Track path info size) low = nothing-kept 0 low
@@ -410,7 +410,7 @@ first-kept Unsubscribe low = step 0 0 [] (played []) (nothing-kept 0 low) Unsubs
 first-kept (Deliver note) low = step 0 0 [] (played []) (nothing-kept 0 low) (Deliver note)
 first-kept ReadFault low = nothing-kept 0 low
 
-pub turns-kept : (turns : List Turn) → first_of turns ≤ 4294967295 → Kept (first_of turns) (played turns)
+pub turns-kept : (turns : List ScriptTurn) → first_of turns ≤ 4294967295 → Kept (first_of turns) (played turns)
 turns-kept [] low = nothing-kept 0 low
 turns-kept (turn ∷ []) low = first-kept turn low
 turns-kept (turn ∷ next ∷ older) low =

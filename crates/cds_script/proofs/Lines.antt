@@ -3,7 +3,7 @@ use Rattle.std.proofs.Common.{◌≡◌, ℕ, zero, suc, ◌+◌, ◌-◌, ◌<�
 use Rattle.std.specs.Prelude.{nat_le}
 use Rattle.std.specs.List.{onto_first}
 use Rattle.std.proofs.lemmas.Bool.{and_parts, and_from, le-leb, lt-leb, lt-ltb, not-true, cases_lt}
-use Rattle.cds_script.specs.declared.turn.Turn.{Turn}
+use Rattle.cds_script.specs.declared.turn.ScriptTurn.{ScriptTurn}
 use Rattle.cds_script.specs.Lines.{lines_of, ended_lines, onto_line, is_unbroken, line_limit}
 use Rattle.cds_script.specs.Script.{meaning_of}
 use Rattle.cds_script.specs.Report.{Ending, limit_ending, ending_at, ending_from, ending_of}
@@ -45,7 +45,7 @@ take-past (b ∷ line) after (suc room) enough =
     ∙ ap (λ n. b ∷ (line ++ 10 ∷ take n after)) (let e : room - (length line + 1) ≡ suc room - (suc (length line) + 1) = omega arith in e)
 
 -- the next line and its LF, if they are within the room that is left
-pub ending-line : (turns : List Turn) (number room : ℕ) (line after : List ℕ) → is_unbroken line ≡ true → length line + 1 ≤ room →
+pub ending-line : (turns : List ScriptTurn) (number room : ℕ) (line after : List ℕ) → is_unbroken line ≡ true → length line + 1 ≤ room →
     ending_of turns number room (line ++ 10 ∷ after)
     ≡ cond (nat_lt line_limit (length line)) limit_ending
     (ending_at (meaning_of line) turns number (λ now. ending_of now (number + 1) (room - (length line + 1)) after))
@@ -58,7 +58,7 @@ ending-line turns number room line after whole enough = by (nat_le (length after
           | inr fits ↦ le-leb (length (line ++ 10 ∷ after)) room (omega (arith, length-append line (10 ∷ after), fits, enough)) ∙ sym (le-leb _ _ fits)
         ]
 
-    rest : Bool → List Turn → Ending
+    rest : Bool → List ScriptTurn → Ending
     rest b now =
         cond b (ending_from now (number + 1) (lines_of after) true) (ending_from now (number + 1) (ended_lines (take (room - (length line + 1)) after)) false)
 
@@ -78,7 +78,7 @@ ending-line turns number room line after whole enough = by (nat_le (length after
         ∙ sym (ap step e)
 
 -- a last line without its LF
-pub ending-last : (turns : List Turn) (number room : ℕ) (line : List ℕ) → is_unbroken line ≡ true → length line ≤ room → (length line ≡ 0 → ⊥) →
+pub ending-last : (turns : List ScriptTurn) (number room : ℕ) (line : List ℕ) → is_unbroken line ≡ true → length line ≤ room → (length line ≡ 0 → ⊥) →
     ending_of turns number room line
     ≡ cond (nat_lt line_limit (length line)) limit_ending (ending_at (meaning_of line) turns number (λ now. record { status = 0; text = [] }))
 ending-last turns number room [] whole enough some = absurd (some refl)
@@ -88,12 +88,12 @@ ending-last turns number room (b ∷ line) whole enough some =
     ∙ ap (λ lines. ending_from turns number lines true) (lines-last b line whole)
 
 -- the end of a script
-pub ending-none : (turns : List Turn) (number room : ℕ) → ending_of turns number room [] ≡ record { status = 0; text = [] }
+pub ending-none : (turns : List ScriptTurn) (number room : ℕ) → ending_of turns number room [] ≡ record { status = 0; text = [] }
 ending-none turns number room =
     ap (λ c. cond c (ending_from turns number [] true) (ending_from turns number (ended_lines (take room [])) false)) (le-leb 0 room (omega arith))
 
 -- more bytes than there is room for, without a line that ends within it
-pub ending-over : (turns : List Turn) (number room : ℕ) (bytes : List ℕ) → is_unbroken (take room bytes) ≡ true → room < length bytes →
+pub ending-over : (turns : List ScriptTurn) (number room : ℕ) (bytes : List ℕ) → is_unbroken (take room bytes) ≡ true → room < length bytes →
     ending_of turns number room bytes ≡ limit_ending
 ending-over turns number room bytes whole over =
     ap (λ c. cond c (ending_from turns number (lines_of bytes) true) (ending_from turns number (ended_lines (take room bytes)) false))
@@ -162,7 +162,7 @@ take-within (b ∷ front) more (suc room) small whole =
     and_from _ _ (and_parts _ _ whole).0 (take-within front more room (omega (arith, small)) (and_parts _ _ whole).1)
 
 -- a line that is too long ends the script, however it goes on
-pub ending-long : (turns : List Turn) (number room : ℕ) (front more : List ℕ) → is_unbroken front ≡ true → line_limit < length front →
+pub ending-long : (turns : List ScriptTurn) (number room : ℕ) (front more : List ℕ) → is_unbroken front ≡ true → line_limit < length front →
     ending_of turns number room (front ++ more) ≡ limit_ending
 ending-long turns number room [] more whole long = absurd (omega (arith, long))
 ending-long turns number room (b ∷ front) more whole long =

@@ -12,8 +12,8 @@ use Rattle.cds_commands.specs.Subscriptions.{granted, end_after, renewed_until, 
 use Rattle.cds_commands.specs.Notes.{next_seq_of, seq_limit, alive_names, has_room, sent_by, notes_of}
 use Rattle.cds_follow.specs.Inbox.{Requests, accepted}
 use Rattle.cds_commands.proofs.Among.{among-contained, filter-among, seq-append}
-use Rattle.cds_script.specs.declared.turn.Turn.{Turn}
-use Rattle.cds_script.specs.declared.turn.Turn.TheVariants.{Folder, Track, Tag, Scan, Load, Read, Ask, First, At, Subscribe, Accept, Renew, Unsubscribe, Deliver, ReadFault}
+use Rattle.cds_script.specs.declared.turn.ScriptTurn.{ScriptTurn}
+use Rattle.cds_script.specs.declared.turn.ScriptTurn.TheVariants.{Folder, Track, Tag, Scan, Load, Read, Ask, First, At, Subscribe, Accept, Renew, Unsubscribe, Deliver, ReadFault}
 use Rattle.cds_script.specs.Report.{number_of, first_of, clock_of, records_since, Played, scanned, lives, given_up, with_renewal, play, played, may_stand}
 use Rattle.cds_script.specs.Played.{AllStand}
 use Rattle.cds_script.specs.ScriptGiven.{subscriptions_are_few}
@@ -182,7 +182,7 @@ renewal-few first now commands (Some name) few = by (lives name first now comman
         omega (arith, fewer, few)
     by false living = few
 
-step : (first : ℕ) (older : List Turn) (turn : Turn) → may_stand older turn ≡ true → AreFew first (clock_of older) (played older).commands →
+step : (first : ℕ) (older : List ScriptTurn) (turn : ScriptTurn) → may_stand older turn ≡ true → AreFew first (clock_of older) (played older).commands →
     AreFew first (clock_of (turn ∷ older)) (play first (clock_of older) (records_since older) (played older) turn).commands
 step first older (Folder path) stands few = few
 step first older (Track path info size) stands few = few
@@ -214,7 +214,7 @@ step first older ReadFault stands few = few
 none-few : (first now : ℕ) → AreFew first now []
 none-few first now = omega arith
 
-first-few : (turn : Turn) → may_stand [] turn ≡ true → AreFew (number_of turn) (clock_of (turn ∷ [])) (play 0 0 [] (played []) turn).commands
+first-few : (turn : ScriptTurn) → may_stand [] turn ≡ true → AreFew (number_of turn) (clock_of (turn ∷ [])) (play 0 0 [] (played []) turn).commands
 first-few (First number) stands = none-few number 0
 first-few (Folder path) stands = none-few 0 0
 first-few (Track path info size) stands = none-few 0 0
@@ -231,7 +231,7 @@ first-few Unsubscribe stands = step 0 [] Unsubscribe stands (none-few 0 0)
 first-few (Deliver note) stands = none-few 0 0
 first-few ReadFault stands = none-few 0 0
 
-few-live : (turns : List Turn) → AllStand turns → AreFew (first_of turns) (clock_of turns) (played turns).commands
+few-live : (turns : List ScriptTurn) → AllStand turns → AreFew (first_of turns) (clock_of turns) (played turns).commands
 few-live [] stand = none-few 0 0
 few-live (turn ∷ []) stand = first-few turn stand.0
 few-live (turn ∷ next ∷ older) stand = step (first_of (next ∷ older)) (next ∷ older) turn stand.0 (few-live (next ∷ older) stand.1)

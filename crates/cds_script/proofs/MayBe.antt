@@ -15,8 +15,8 @@ use Rattle.cds_script.specs.Script.{number_from_to, info_from, path_said, folder
 use Rattle.cds_script.specs.Played.{script_lines, turn_in, is_within, is_answered, and_meant, answered_lines, AllStand, script_turns_may_be}
 use Rattle.cds_script.specs.declared.turn.Meaning.{Meaning}
 use Rattle.cds_script.specs.declared.turn.Meaning.TheVariants.{Nothing, Means, Outside}
-use Rattle.cds_script.specs.declared.turn.Turn.{Turn}
-use Rattle.cds_script.specs.declared.turn.Turn.TheVariants.{Folder, Track, Tag, Scan, Load, Read, Ask, First, At, Subscribe, Accept, Renew, Unsubscribe, Deliver, ReadFault}
+use Rattle.cds_script.specs.declared.turn.ScriptTurn.{ScriptTurn}
+use Rattle.cds_script.specs.declared.turn.ScriptTurn.TheVariants.{Folder, Track, Tag, Scan, Load, Read, Ask, First, At, Subscribe, Accept, Renew, Unsubscribe, Deliver, ReadFault}
 use Rattle.cds_script.specs.Report.{number_of, first_of, may_stand}
 use Rattle.cds_script.proofs.Played.{turns_in}
 use Rattle.cds_object.specs.ContentOf.{bare_info}
@@ -33,11 +33,11 @@ below-limit limit bytes n = by (has_leading_zero bytes) (is_number_in 10 bytes) 
     by false true true l e = let is : value_in 10 bytes ≡ n = cc in let low = ltb-true (value_in 10 bytes) limit l in omega (arith, is, low)
 
 -- the numbers of a turn, if it is one, are within their ranges
-abbrev Fine : Option Turn → Type 0
+abbrev Fine : Option ScriptTurn → Type 0
 Fine None = Unit {0}
 Fine (Some turn) = IsInRange turn
 
-low-number : (turn : Turn) → IsInRange turn → number_of turn ≤ 4294967295
+low-number : (turn : ScriptTurn) → IsInRange turn → number_of turn ≤ 4294967295
 low-number (Folder path) f = omega arith
 low-number (Track path info size) f = omega arith
 low-number (Tag comment) f = omega arith
@@ -54,7 +54,7 @@ low-number Unsubscribe f = omega arith
 low-number (Deliver note) f = omega arith
 low-number ReadFault f = omega arith
 
-cond-fine : (b : Bool) (x y : Option Turn) → Fine x → Fine y → Fine (cond b x y)
+cond-fine : (b : Bool) (x y : Option ScriptTurn) → Fine x → Fine y → Fine (cond b x y)
 cond-fine true x y fx fy = fx
 cond-fine false x y fx fy = fy
 
@@ -162,7 +162,7 @@ turn-fine (word ∷ words) =
     (cond-fine (same_text word (codes "track")) (track_line words) _ (track_line-fine words)
     (cond-fine (same_text word (codes "tag")) (tag_line words) (plain_line word words) (tag_line-fine words) (plain_line-fine word words)))
 
-meant-fine : (o : Option Turn) → Fine o → Fine (turn_in (meaning_of_turn o))
+meant-fine : (o : Option ScriptTurn) → Fine o → Fine (turn_in (meaning_of_turn o))
 meant-fine None f = tt
 meant-fine (Some turn) f = f
 
@@ -183,32 +183,32 @@ line-fine (b ∷ rest) = by _
 
 -- ---- the turns of answered lines
 
-abbrev AreFine : List Turn → Type 0
+abbrev AreFine : List ScriptTurn → Type 0
 AreFine turns = AllStand turns × AllByRecursion (λ turn. number_of turn ≤ 4294967295) turns
 
-and-fine : (turns : List Turn) (o : Option Turn) → Fine o → ((turn : Turn) → o ≡ Some turn → may_stand turns turn ≡ true) → AreFine turns → AreFine (and_meant o turns)
+and-fine : (turns : List ScriptTurn) (o : Option ScriptTurn) → Fine o → ((turn : ScriptTurn) → o ≡ Some turn → may_stand turns turn ≡ true) → AreFine turns → AreFine (and_meant o turns)
 and-fine turns None f stands all = all
 and-fine turns (Some turn) f stands all = ((stands turn refl, all.0), (low-number turn f, all.1))
 
-within-stands : (turns : List Turn) (meaning : Meaning) (turn : Turn) → is_within turns meaning ≡ true → turn_in meaning ≡ Some turn → may_stand turns turn ≡ true
+within-stands : (turns : List ScriptTurn) (meaning : Meaning) (turn : ScriptTurn) → is_within turns meaning ≡ true → turn_in meaning ≡ Some turn → may_stand turns turn ≡ true
 within-stands turns Nothing turn w e = absurd (cc)
 within-stands turns (Means other) turn w e = let same : other ≡ turn = cc in ap (may_stand turns) (sym same) ∙ w
 within-stands turns Outside turn w e = absurd (cc)
 
-lines-fine : (turns : List Turn) (lines : List (List ℕ)) → AreFine turns → AreFine (reverse_aux (turns_in (take (answered_lines turns lines) lines)) turns)
+lines-fine : (turns : List ScriptTurn) (lines : List (List ℕ)) → AreFine turns → AreFine (reverse_aux (turns_in (take (answered_lines turns lines) lines)) turns)
 lines-fine turns [] all = all
 lines-fine turns (line ∷ lines) all = by (is_answered turns line) refl (λ now n f. lines-fine now lines f)
   where
-    next : List Turn
+    next : List ScriptTurn
     next = and_meant (turn_in (meaning_of line)) turns
 
     Later : Type 0
-    Later = (now : List Turn) → (n : ℕ) → AreFine now → AreFine (reverse_aux (turns_in (take (answered_lines now lines) lines)) now)
+    Later = (now : List ScriptTurn) → (n : ℕ) → AreFine now → AreFine (reverse_aux (turns_in (take (answered_lines now lines) lines)) now)
 
     counted : (b : Bool) → is_answered turns line ≡ b → answered_lines turns (line ∷ lines) ≡ cond b (answered_lines next lines + 1) 0
     counted b e = ap (λ v. cond v (answered_lines next lines + 1) 0) e
 
-    onto : (o : Option Turn) (rest : List Turn) → reverse_aux (cons_option o rest) turns ≡ reverse_aux rest (and_meant o turns)
+    onto : (o : Option ScriptTurn) (rest : List ScriptTurn) → reverse_aux (cons_option o rest) turns ≡ reverse_aux rest (and_meant o turns)
     onto None rest = refl
     onto (Some turn) rest = refl
 
@@ -221,7 +221,7 @@ lines-fine turns (line ∷ lines) all = by (is_answered turns line) refl (λ now
         (later next 0 (and-fine turns (turn_in (meaning_of line)) (line-fine line) (λ turn t. within-stands turns (meaning_of line) turn within t) all))
     by false e later = subst AreFine (sym (ap (λ n. reverse_aux (turns_in (take n (line ∷ lines))) turns) (counted false e))) all
 
-first-low : (turns : List Turn) → AllByRecursion (λ turn. number_of turn ≤ 4294967295) turns → first_of turns ≤ 4294967295
+first-low : (turns : List ScriptTurn) → AllByRecursion (λ turn. number_of turn ≤ 4294967295) turns → first_of turns ≤ 4294967295
 first-low [] all = omega arith
 first-low (turn ∷ []) all = all.0
 first-low (turn ∷ next ∷ older) all = first-low (next ∷ older) all.1

@@ -8,21 +8,21 @@ use Rattle.cds_script.specs.Lines.{lines_of, ended_lines, script_limit}
 use Rattle.cds_script.specs.Played.{is_long, turn_in, is_within, is_answered, and_meant, answered_lines, report_of, stop_at, reports_are_of_turns}
 use Rattle.cds_script.specs.declared.turn.Meaning.{Meaning}
 use Rattle.cds_script.specs.declared.turn.Meaning.TheVariants.{Nothing, Means, Outside}
-use Rattle.cds_script.specs.declared.turn.Turn.{Turn}
+use Rattle.cds_script.specs.declared.turn.ScriptTurn.{ScriptTurn}
 use Rattle.cds_script.specs.Script.{meaning_of}
 
 -- the turns of lines, the oldest first
-abbrev pub turns_in : List (List ℕ) → List Turn
+abbrev pub turns_in : List (List ℕ) → List ScriptTurn
 turns_in lines = filter_map (λ line. turn_in (meaning_of line)) lines
 
 -- what is left of the report after turns, by the lines that come, the first of which has this number and so many of which are
 -- answered
-abbrev End : List Turn → ℕ → ℕ → List (List ℕ) → Bool → Ending
+abbrev End : List ScriptTurn → ℕ → ℕ → List (List ℕ) → Bool → Ending
 End turns number n lines whole =
     written_first (report_of (reverse_aux (turns_in (take n lines)) turns)) (stop_at (number + n) (drop n lines) whole)
 
 -- a line that is answered leads to the next
-end-next : (turns : List Turn) (number m : ℕ) (line : List ℕ) (lines : List (List ℕ)) (whole : Bool) (n : ℕ) → n ≡ m + 1 →
+end-next : (turns : List ScriptTurn) (number m : ℕ) (line : List ℕ) (lines : List (List ℕ)) (whole : Bool) (n : ℕ) → n ≡ m + 1 →
     End turns number n (line ∷ lines) whole ≡ End (and_meant (turn_in (meaning_of line)) turns) (number + 1) m lines whole
 end-next turns number m line lines whole n is =
     (λ i. written_first (report_of (reverse_aux (turns_in (take (size i) (line ∷ lines))) turns)) (stop_at (number + size i) (drop (size i) (line ∷ lines)) whole))
@@ -35,14 +35,14 @@ end-next turns number m line lines whole n is =
     count : number + suc m ≡ number + 1 + m
     count = omega arith
 
-    by : (o : Option Turn) →
+    by : (o : Option ScriptTurn) →
         written_first (report_of (reverse_aux (cons_option o (turns_in (take m lines))) turns)) (stop_at (number + 1 + m) (drop m lines) whole)
         ≡ End (and_meant o turns) (number + 1) m lines whole
     by None = refl
     by (Some turn) = refl
 
 -- a line that is not answered ends the script
-end-here : (turns : List Turn) (number : ℕ) (line : List ℕ) (lines : List (List ℕ)) (whole : Bool) →
+end-here : (turns : List ScriptTurn) (number : ℕ) (line : List ℕ) (lines : List (List ℕ)) (whole : Bool) →
     End turns number 0 (line ∷ lines) whole ≡ written_first (report_of turns) (cond (is_long line) limit_ending (outside_ending number))
 end-here turns number line lines whole = λ i. written_first (report_of turns) (cond (is_long line) limit_ending (outside_ending (same i)))
   where
@@ -50,7 +50,7 @@ end-here turns number line lines whole = λ i. written_first (report_of turns) (
     same = omega arith
 
 -- what a script leaves is what its turns and its last line leave
-goes : (turns : List Turn) (number : ℕ) (lines : List (List ℕ)) (whole : Bool) →
+goes : (turns : List ScriptTurn) (number : ℕ) (lines : List (List ℕ)) (whole : Bool) →
     written_first (report_of turns) (ending_from turns number lines whole) ≡ End turns number (answered_lines turns lines) lines whole
 goes turns number [] whole = λ i. written_first (report_of turns) (stop_at (same (i)) [] whole)
   where
@@ -59,9 +59,9 @@ goes turns number [] whole = λ i. written_first (report_of turns) (stop_at (sam
 goes turns number (line ∷ lines) whole = by_length (is_long line) refl (λ now. goes now (number + 1) lines whole)
   where
     Later : Type 0
-    Later = (now : List Turn) → written_first (report_of now) (ending_from now (number + 1) lines whole) ≡ End now (number + 1) (answered_lines now lines) lines whole
+    Later = (now : List ScriptTurn) → written_first (report_of now) (ending_from now (number + 1) lines whole) ≡ End now (number + 1) (answered_lines now lines) lines whole
 
-    next : List Turn
+    next : List ScriptTurn
     next = and_meant (turn_in (meaning_of line)) turns
 
     after : Meaning → Ending
@@ -74,7 +74,7 @@ goes turns number (line ∷ lines) whole = by_length (is_long line) refl (λ now
     test : (b : Bool) → is_long line ≡ b → is_answered turns line ≡ (not b && is_within turns (meaning_of line))
     test b e = ap (λ v. not v && is_within turns (meaning_of line)) e
 
-    onwards : is_answered turns line ≡ true → (o : Option Turn) → turn_in (meaning_of line) ≡ o →
+    onwards : is_answered turns line ≡ true → (o : Option ScriptTurn) → turn_in (meaning_of line) ≡ o →
         written_first (report_of (and_meant o turns)) (ending_from (and_meant o turns) (number + 1) lines whole) ≡ End (and_meant o turns) (number + 1) (answered_lines (and_meant o turns) lines) lines whole →
         written_first (report_of (and_meant o turns)) (ending_from (and_meant o turns) (number + 1) lines whole) ≡ End turns number (answered_lines turns (line ∷ lines)) (line ∷ lines) whole
     onwards passes o e later =
@@ -86,7 +86,7 @@ goes turns number (line ∷ lines) whole = by_length (is_long line) refl (λ now
         ≡ End turns number (answered_lines turns (line ∷ lines)) (line ∷ lines) whole
     stops fails = sym (ap (λ n. End turns number n (line ∷ lines) whole) (counted false fails) ∙ end-here turns number line lines whole)
 
-    by_stand : is_long line ≡ false → Later → (turn : Turn) → meaning_of line ≡ Means turn → (b : Bool) → may_stand turns turn ≡ b →
+    by_stand : is_long line ≡ false → Later → (turn : ScriptTurn) → meaning_of line ≡ Means turn → (b : Bool) → may_stand turns turn ≡ b →
         written_first (report_of turns) (cond b (written_first (written_by turns turn) (ending_from (turn ∷ turns) (number + 1) lines whole)) (outside_ending number))
         ≡ End turns number (answered_lines turns (line ∷ lines)) (line ∷ lines) whole
     by_stand short later turn e true stands =

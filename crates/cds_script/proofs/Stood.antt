@@ -26,8 +26,8 @@ use Rattle.cds_follow.specs.declared.says.Says.TheVariants.{Gap, BehindLoad, Beh
 use Rattle.cds_commands.proofs.Scanned.{scans-first, dropped-grows}
 use Rattle.cds_follow.proofs.Honest.{stood, entries-served, entry-taken}
 use Rattle.cds_follow.proofs.Complete.{answers-complete}
-use Rattle.cds_script.specs.declared.turn.Turn.{Turn}
-use Rattle.cds_script.specs.declared.turn.Turn.TheVariants.{Ask}
+use Rattle.cds_script.specs.declared.turn.ScriptTurn.{ScriptTurn}
+use Rattle.cds_script.specs.declared.turn.ScriptTurn.TheVariants.{Ask}
 use Rattle.cds_script.specs.Report.{first_of, clock_of, sent_note, lives, Played, played, history_of, answer_text, written_by, script_token}
 use Rattle.cds_script.specs.Played.{AllStand, MayBe}
 use Rattle.cds_script.proofs.Given.{Waits, Kept, oldest-all, sent-contained, turns-kept}
@@ -35,20 +35,20 @@ use Rattle.cds_script.specs.declared.reply.HeldReply.TheVariants.{Named}
 
 -- ---- older turns may be
 
-first-rest : (newer : List Turn) (turn : Turn) (older : List Turn) → first_of (newer ++ turn ∷ older) ≡ first_of (turn ∷ older)
+first-rest : (newer : List ScriptTurn) (turn : ScriptTurn) (older : List ScriptTurn) → first_of (newer ++ turn ∷ older) ≡ first_of (turn ∷ older)
 first-rest [] turn older = refl
 first-rest (next ∷ []) turn older = refl
 first-rest (next ∷ after ∷ newer) turn older = first-rest (after ∷ newer) turn older
 
-all-rest : (newer older : List Turn) → AllStand (newer ++ older) → AllStand older
+all-rest : (newer older : List ScriptTurn) → AllStand (newer ++ older) → AllStand older
 all-rest [] older all = all
 all-rest (turn ∷ newer) older all = all-rest newer older all.1
 
-first-after_ask : (older : List Turn) → first_of (Ask ∷ older) ≡ first_of older
+first-after_ask : (older : List ScriptTurn) → first_of (Ask ∷ older) ≡ first_of older
 first-after_ask [] = refl
 first-after_ask (turn ∷ older) = refl
 
-pub may-before_ask : (newer older turns : List Turn) → turns ≡ newer ++ Ask ∷ older → MayBe turns → MayBe older
+pub may-before_ask : (newer older turns : List ScriptTurn) → turns ≡ newer ++ Ask ∷ older → MayBe turns → MayBe older
 may-before_ask newer older turns parts may =
     let same : first_of turns ≡ first_of older = ap first_of parts ∙ first-rest newer Ask older ∙ first-after_ask older in
     let low = may.number in
@@ -126,7 +126,7 @@ scan-end first p kept number stands =
     }
 
 -- what an ask writes where the replica stands at a number
-pub stands-at : (turns : List Turn) → MayBe turns → (number : ℕ) → says (played turns).replica ≡ Stands number →
+pub stands-at : (turns : List ScriptTurn) → MayBe turns → (number : ℕ) → says (played turns).replica ≡ Stands number →
     IsScanEnd (history_of turns) number (copied (known_by (played turns).replica))
     × (written_by turns Ask ≡ codes "stands " ++ decimal number ++ codes "\n" ++ full_text (copied (known_by (played turns).replica)))
 stands-at turns may number stands =

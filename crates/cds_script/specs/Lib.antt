@@ -1,6 +1,6 @@
 pub mod Complete
-pub mod Evaluated
-pub mod EvaluatedNotes
+pub mod Examples
+pub mod ExamplesOfNotes
 pub mod FoundFile
 pub mod LineLaws
 pub mod Lines

@@ -15,8 +15,8 @@ use Rattle.cds_follow.specs.HonestLaws.{load_was_begun}
 use Rattle.cds_follow.specs.declared.says.Says.TheVariants.{BehindLoad}
 use Rattle.cds_script.specs.declared.reply.HeldReply.{HeldReply}
 use Rattle.cds_script.specs.declared.reply.HeldReply.TheVariants.{Named}
-use Rattle.cds_script.specs.declared.turn.Turn.{Turn}
-use Rattle.cds_script.specs.declared.turn.Turn.TheVariants.{Scan, Load, Read, Ask, Accept, Deliver}
+use Rattle.cds_script.specs.declared.turn.ScriptTurn.{ScriptTurn}
+use Rattle.cds_script.specs.declared.turn.ScriptTurn.TheVariants.{Scan, Load, Read, Ask, Accept, Deliver}
 use Rattle.cds_script.specs.Report.{first_of, records_since, Played, scanned, sent_note, played, history_of, written_by}
 use Rattle.cds_script.specs.Played.{MayBe}
 
@@ -40,7 +40,7 @@ note_drops (Some note) older = drops (Delivers note) older
 
 -- how many reads were answered, after a turn. They are counted anew from a load's beginning, and from a scan with changes. They
 -- are not from a scan whose end is the number before it
-abbrev pub answered_after : ℕ → List Record → Played → ℕ → Turn → ℕ
+abbrev pub answered_after : ℕ → List Record → Played → ℕ → ScriptTurn → ℕ
 answered_after first records p n Scan =
     cond (nat_eq (end_of (scans_of first (scanned (scan_answer (scans_of first p.commands) records) records p.commands))) (end_of (scans_of first p.commands))) n 0
 answered_after first records p n Load = 0
@@ -49,20 +49,20 @@ answered_after first records p n Accept = cond (reply_drops p.reply p.replica) 0
 answered_after first records p n (Deliver note) = cond (note_drops (sent_note note (notes_of first p.commands)) p.replica) 0 n
 answered_after first records p n turn = n
 
-abbrev pub answered_since : List Turn → ℕ
+abbrev pub answered_since : List ScriptTurn → ℕ
 answered_since [] = 0
 answered_since (turn ∷ older) = answered_after (first_of older) (records_since older) (played older) (answered_since older) turn
 
 -- if the replica is behind its load, none was begun or few reads were answered since: fewer than a load of the catalog takes, and
 -- two more
 abbrev pub loads_are_bounded : Type 0
-loads_are_bounded = (turns : List Turn) → MayBe turns → says (played turns).replica ≡ BehindLoad →
+loads_are_bounded = (turns : List ScriptTurn) → MayBe turns → says (played turns).replica ≡ BehindLoad →
     (load_was_begun (played turns).replica ≡ false) ⊎ (answered_since turns < load_reads (catalog (history_of turns)) + 2)
 
 -- each ask among turns that writes `behind load` obeys this bound
-abbrev pub BoundsLoads : List Turn → Type 0
-BoundsLoads turns = (newer older : List Turn) → turns ≡ newer ++ Ask ∷ older → written_by older Ask ≡ codes "behind load\n" →
+abbrev pub BoundsLoads : List ScriptTurn → Type 0
+BoundsLoads turns = (newer older : List ScriptTurn) → turns ≡ newer ++ Ask ∷ older → written_by older Ask ≡ codes "behind load\n" →
     (load_was_begun (played older).replica ≡ false) ⊎ (answered_since older < load_reads (catalog (history_of older)) + 2)
 
 abbrev pub all_turns_bound_loads : Type 0
-all_turns_bound_loads = (turns : List Turn) → MayBe turns → BoundsLoads turns
+all_turns_bound_loads = (turns : List ScriptTurn) → MayBe turns → BoundsLoads turns

@@ -33,8 +33,8 @@ use Rattle.cds_script.specs.declared.reply.HeldReply.{HeldReply}
 use Rattle.cds_script.specs.declared.reply.HeldReply.TheVariants.{NoReply, Named, Refusal}
 use Rattle.cds_script.specs.declared.turn.Meaning.{Meaning}
 use Rattle.cds_script.specs.declared.turn.Meaning.TheVariants.{Nothing, Means, Outside}
-use Rattle.cds_script.specs.declared.turn.Turn.{Turn}
-use Rattle.cds_script.specs.declared.turn.Turn.TheVariants.{Folder, Track, Tag, Scan, Load, Read, Ask, First, At, Subscribe, Accept, Renew, Unsubscribe, Deliver, ReadFault}
+use Rattle.cds_script.specs.declared.turn.ScriptTurn.{ScriptTurn}
+use Rattle.cds_script.specs.declared.turn.ScriptTurn.TheVariants.{Folder, Track, Tag, Scan, Load, Read, Ask, First, At, Subscribe, Accept, Renew, Unsubscribe, Deliver, ReadFault}
 
 -- a comment put to the last thing that was found, if it is a file
 abbrev pub commented : Comment → Found → Found
@@ -47,7 +47,7 @@ last_commented comment (found ∷ []) = commented comment found ∷ []
 last_commented comment (found ∷ next ∷ others) = found ∷ last_commented comment (next ∷ others)
 
 -- what was found since the last scan, after turns of which the newest is the first
-abbrev pub found_since : List Turn → List Found
+abbrev pub found_since : List ScriptTurn → List Found
 found_since [] = []
 found_since (Folder path ∷ older) = found_since older ++ FolderFound path ∷ []
 found_since (Track path info size ∷ older) = found_since older ++ TrackFound (record { path = path; info = info; size = size }) ∷ []
@@ -65,21 +65,21 @@ record_of (FolderFound path) = folder_record path
 record_of (TrackFound file) = track_record file
 
 -- the records since the last scan
-abbrev pub records_since : List Turn → List Record
+abbrev pub records_since : List ScriptTurn → List Record
 records_since turns = map record_of (found_since turns)
 
 -- the server's first number: the oldest turn may say it, else it is 0
-abbrev pub number_of : Turn → ℕ
+abbrev pub number_of : ScriptTurn → ℕ
 number_of (First number) = number
 number_of turn = 0
 
-abbrev pub first_of : List Turn → ℕ
+abbrev pub first_of : List ScriptTurn → ℕ
 first_of [] = 0
 first_of (turn ∷ []) = number_of turn
 first_of (turn ∷ next ∷ older) = first_of (next ∷ older)
 
 -- the current moment, in milliseconds
-abbrev pub clock_of : List Turn → ℕ
+abbrev pub clock_of : List ScriptTurn → ℕ
 clock_of [] = 0
 clock_of (At moment ∷ older) = moment
 clock_of (turn ∷ older) = clock_of older
@@ -131,7 +131,7 @@ abbrev pub script_token : List ℕ
 script_token = codes "00000000-0000-8000-8000-000000000000"
 
 -- what a turn leads to, after the older ones
-abbrev pub play : ℕ → ℕ → List Record → Played → Turn → Played
+abbrev pub play : ℕ → ℕ → List Record → Played → ScriptTurn → Played
 play first now records p (Folder path) = p
 play first now records p (Track path info size) = p
 play first now records p (Tag comment) = p
@@ -151,12 +151,12 @@ play first now records p Unsubscribe = record p { commands = given_up (accepted 
 play first now records p (Deliver note) = record p { replica = after_note (sent_note note (notes_of first p.commands)) p.replica }
 play first now records p ReadFault = p
 
-abbrev pub played : List Turn → Played
+abbrev pub played : List ScriptTurn → Played
 played [] = record { commands = []; replica = []; reply = NoReply }
 played (turn ∷ older) = play (first_of older) (clock_of older) (records_since older) (played older) turn
 
 -- the history of the accepted scans
-abbrev pub history_of : List Turn → History
+abbrev pub history_of : List ScriptTurn → History
 history_of turns = scans_of (first_of turns) (played turns).commands
 
 -- what a scan writes
@@ -229,7 +229,7 @@ answer_text history (Stands number) =
     codes "stands " ++ decimal number ++ codes "\n" ++ full_text (catalog_at history.first history.maps number)
 
 -- what a turn writes, after the older ones
-abbrev pub written : ℕ → ℕ → List Record → Played → Turn → List ℕ
+abbrev pub written : ℕ → ℕ → List Record → Played → ScriptTurn → List ℕ
 written first now records p (Folder path) = []
 written first now records p (Track path info size) = []
 written first now records p (Tag comment) = []
@@ -248,7 +248,7 @@ written first now records p Unsubscribe = unsubscribe_text (accepted p.replica) 
 written first now records p (Deliver note) = deliver_text note (sent_note note (notes_of first p.commands)) p.replica
 written first now records p ReadFault = codes "readfault\n"
 
-abbrev pub written_by : List Turn → Turn → List ℕ
+abbrev pub written_by : List ScriptTurn → ScriptTurn → List ℕ
 written_by older turn = written (first_of older) (clock_of older) (records_since older) (played older) turn
 
 -- how a script ends: with a status, and with all that was written
@@ -268,14 +268,14 @@ abbrev pub limit_ending : Ending
 limit_ending = record { status = 6; text = codes "error limit\n" }
 
 -- whether the newest of turns is a track, or a comment of one
-abbrev pub is_tagging : List Turn → Bool
+abbrev pub is_tagging : List ScriptTurn → Bool
 is_tagging (Track path info size ∷ older) = true
 is_tagging (Tag comment ∷ older) = true
 is_tagging turns = false
 
 -- whether a turn may stand after the older ones; otherwise its line is outside the grammar. The first number comes before all
 -- else, and a comment after a track or another comment. Moments never fall, and a note that is delivered was sent
-abbrev pub may_stand : List Turn → Turn → Bool
+abbrev pub may_stand : List ScriptTurn → ScriptTurn → Bool
 may_stand older (Tag comment) = is_tagging older
 may_stand older (First number) = nat_eq (length older) 0
 may_stand older (At moment) = nat_le (clock_of older) moment
@@ -284,7 +284,7 @@ may_stand older turn = true
 
 -- how a script goes on at a line, by what it means: after these turns, at the line of this number, with what comes after
 -- further turns
-abbrev pub ending_at : Meaning → List Turn → ℕ → (List Turn → Ending) → Ending
+abbrev pub ending_at : Meaning → List ScriptTurn → ℕ → (List ScriptTurn → Ending) → Ending
 ending_at Nothing turns number go_on = go_on turns
 ending_at (Means turn) turns number go_on =
     cond (may_stand turns turn) (written_first (written_by turns turn) (go_on (turn ∷ turns))) (outside_ending number)
@@ -292,7 +292,7 @@ ending_at Outside turns number go_on = outside_ending number
 
 -- how a script ends after turns; the first of the lines that are left has this number. The last part says whether the script ends
 -- with these lines, or passes its limit
-abbrev pub ending_from : List Turn → ℕ → List (List ℕ) → Bool → Ending
+abbrev pub ending_from : List ScriptTurn → ℕ → List (List ℕ) → Bool → Ending
 ending_from turns number [] whole = cond whole (record { status = 0; text = [] }) limit_ending
 ending_from turns number (line ∷ lines) whole =
     cond (nat_lt line_limit (length line)) limit_ending
@@ -300,7 +300,7 @@ ending_from turns number (line ∷ lines) whole =
 
 -- how a script goes on after turns, at the line of this number, if this many more bytes may be taken. The lines before a broken
 -- one are answered. Of a script that is too long, those are that ended before the limit was passed
-abbrev pub ending_of : List Turn → ℕ → ℕ → List ℕ → Ending
+abbrev pub ending_of : List ScriptTurn → ℕ → ℕ → List ℕ → Ending
 ending_of turns number room bytes =
     cond (nat_le (length bytes) room) (ending_from turns number (lines_of bytes) true)
     (ending_from turns number (ended_lines (take room bytes)) false)

@@ -11,8 +11,8 @@ use Rattle.cds_object.specs.ContentOf.{bare_info}
 use Rattle.cds_script.specs.Lines.{words_of}
 use Rattle.cds_script.specs.Word.{words_said}
 use Rattle.cds_commands.specs.Commands.{Command, Grants}
-use Rattle.cds_script.specs.declared.turn.Turn.{Turn}
-use Rattle.cds_script.specs.declared.turn.Turn.TheVariants.{Folder, Track, Tag, Scan, Load, Read, Ask, First, At, Subscribe, Accept, Renew, Unsubscribe, Deliver, ReadFault}
+use Rattle.cds_script.specs.declared.turn.ScriptTurn.{ScriptTurn}
+use Rattle.cds_script.specs.declared.turn.ScriptTurn.TheVariants.{Folder, Track, Tag, Scan, Load, Read, Ask, First, At, Subscribe, Accept, Renew, Unsubscribe, Deliver, ReadFault}
 use Rattle.cds_script.specs.declared.turn.Meaning.{Meaning}
 use Rattle.cds_script.specs.declared.turn.Meaning.TheVariants.{Nothing, Means, Outside}
 
@@ -25,7 +25,7 @@ abbrev pub path_said : List ℕ → Option (List (List ℕ))
 path_said word = cond (is_utf8 word) (result_ok (path_read word)) None
 
 -- the turn of a folder at a place, if the word is one
-abbrev pub folder_turn : Option (List (List ℕ)) → Option Turn
+abbrev pub folder_turn : Option (List (List ℕ)) → Option ScriptTurn
 folder_turn None = None
 folder_turn (Some path) = Some (Folder path)
 
@@ -35,16 +35,16 @@ info_from (Some rate) (Some channels) (Some bits) (Some samples) = Some (bare_in
 info_from rate channels bits samples = None
 
 -- the turn of a track, if its words are a place, the file's size in bytes and what the file says
-abbrev pub track_turn : Option (List (List ℕ)) → Option ℕ → Option FlacInfo → Option Turn
+abbrev pub track_turn : Option (List (List ℕ)) → Option ℕ → Option FlacInfo → Option ScriptTurn
 track_turn (Some path) (Some size) (Some info) = Some (Track path info size)
 track_turn path size info = None
 
 -- the turn of a comment, if its name and its value are texts in UTF-8
-abbrev pub tag_turn : List ℕ → List ℕ → Option Turn
+abbrev pub tag_turn : List ℕ → List ℕ → Option ScriptTurn
 tag_turn name value = cond (is_utf8 name && is_utf8 value) (Some (Tag (record { name = name; value = value }))) None
 
 -- the turn of a line of one word
-abbrev pub plain_turn : List ℕ → Option Turn
+abbrev pub plain_turn : List ℕ → Option ScriptTurn
 plain_turn word =
     cond (same_text word (codes "scan")) (Some Scan)
     (cond (same_text word (codes "load")) (Some Load)
@@ -75,50 +75,50 @@ abbrev pub moment_limit : ℕ
 moment_limit = 2 ^ 64
 
 -- the turns of lines that name a number, if they do
-abbrev pub first_turn : Option ℕ → Option Turn
+abbrev pub first_turn : Option ℕ → Option ScriptTurn
 first_turn None = None
 first_turn (Some number) = Some (First number)
 
-abbrev pub at_turn : Option ℕ → Option Turn
+abbrev pub at_turn : Option ℕ → Option ScriptTurn
 at_turn None = None
 at_turn (Some moment) = Some (At moment)
 
-abbrev pub deliver_turn : Option ℕ → Option Turn
+abbrev pub deliver_turn : Option ℕ → Option ScriptTurn
 deliver_turn None = None
 deliver_turn (Some note) = Some (Deliver note)
 
 -- the turn of a line of a word and a number
-abbrev pub number_turn : List ℕ → List ℕ → Option Turn
+abbrev pub number_turn : List ℕ → List ℕ → Option ScriptTurn
 number_turn word number =
     cond (same_text word (codes "first")) (first_turn (plain_below (2 ^ 32) number))
     (cond (same_text word (codes "at")) (at_turn (plain_below moment_limit number))
     (cond (same_text word (codes "deliver")) (deliver_turn (plain_below (2 ^ 32) number)) None))
 
 -- the turn of a line that begins with `folder`, by its other words
-abbrev pub folder_line : List (List ℕ) → Option Turn
+abbrev pub folder_line : List (List ℕ) → Option ScriptTurn
 folder_line (path ∷ []) = folder_turn (path_said path)
 folder_line words = None
 
 -- the turn of a line that begins with `track`, by its other words
-abbrev pub track_line : List (List ℕ) → Option Turn
+abbrev pub track_line : List (List ℕ) → Option ScriptTurn
 track_line (path ∷ size ∷ rate ∷ channels ∷ bits ∷ samples ∷ []) =
     track_turn (path_said path) (plain_below (2 ^ 64) size)
     (info_from (plain_below (2 ^ 20) rate) (number_from_to 1 8 channels) (number_from_to 1 32 bits) (plain_below (2 ^ 36) samples))
 track_line words = None
 
 -- the turn of a line that begins with `tag`, by its other words
-abbrev pub tag_line : List (List ℕ) → Option Turn
+abbrev pub tag_line : List (List ℕ) → Option ScriptTurn
 tag_line (name ∷ value ∷ []) = tag_turn name value
 tag_line words = None
 
 -- the turn of a line that is one word alone, or a word and a number
-abbrev pub plain_line : List ℕ → List (List ℕ) → Option Turn
+abbrev pub plain_line : List ℕ → List (List ℕ) → Option ScriptTurn
 plain_line word [] = plain_turn word
 plain_line word (number ∷ []) = number_turn word number
 plain_line word (number ∷ next ∷ words) = None
 
 -- the turn of a line, by its words
-abbrev pub turn_of : List (List ℕ) → Option Turn
+abbrev pub turn_of : List (List ℕ) → Option ScriptTurn
 turn_of [] = None
 turn_of (word ∷ words) =
     cond (same_text word (codes "folder")) (folder_line words)
@@ -126,7 +126,7 @@ turn_of (word ∷ words) =
     (cond (same_text word (codes "tag")) (tag_line words) (plain_line word words)))
 
 -- what a turn that may be none means
-abbrev pub meaning_of_turn : Option Turn → Meaning
+abbrev pub meaning_of_turn : Option ScriptTurn → Meaning
 meaning_of_turn None = Outside
 meaning_of_turn (Some turn) = Means turn
 
@@ -150,7 +150,7 @@ abbrev pub IsInfoInRange : FlacInfo → Type 0
 IsInfoInRange info = (info.rate < 2 ^ 32) × (info.channels < 2 ^ 8) × (info.bits < 2 ^ 8) × (info.samples < 2 ^ 36)
 
 -- the numbers of a turn are within their ranges
-abbrev pub IsInRange : Turn → Type 0
+abbrev pub IsInRange : ScriptTurn → Type 0
 IsInRange (Track path info size) = IsInfoInRange info × (size < 2 ^ 64)
 IsInRange (First number) = number ≤ 4294967295
 IsInRange (At moment) = moment < moment_limit

@@ -1,10 +1,12 @@
-//! Laws of scripts: each function's contract is one of them.
+//! Laws of scripts and of their lines: each function's contract is one of them.
 
 ghost use Rattle.cds_script.specs.Complete as complete;
+ghost use Rattle.cds_script.specs.LineLaws as lines;
 ghost use Rattle.cds_script.specs.LoadBounds as bounds;
 ghost use Rattle.cds_script.specs.Played as played;
 ghost use Rattle.cds_script.specs.Script as script;
 ghost use Rattle.cds_script.specs.ScriptGiven as given;
+ghost use Rattle.cds_script.specs.Word as words;
 
 /// States that the report of a script is what its turns write, one after the other, and then its last line. The last line is
 /// none, or `error line` with the number of the first line that is outside the grammar, or `error limit`. The status is
@@ -94,4 +96,45 @@ pub fn all_answers_are_complete()
 /// States that a script meets the premises of the complete answer.
 pub fn scripts_can_be_complete()
     ensures { complete.scripts_can_be_complete }
+{}
+
+/// States that all bytes are lines that are each followed by an LF, and a last line without one, which may be empty.
+pub fn scripts_are_lines()
+    ensures { lines.scripts_are_lines }
+{}
+
+/// States that lines that are each followed by an LF are the lines of their bytes, and that each was ended.
+pub fn ended_lines_are_read()
+    ensures { lines.ended_lines_are_read }
+{}
+
+/// States that a last line that has bytes and no LF is one more line, and the only one that was not ended.
+pub fn last_lines_are_read()
+    ensures { lines.last_lines_are_read }
+{}
+
+/// States that any bytes can be written as a part of a line that stands for them.
+pub fn any_bytes_can_be_written()
+    ensures { words.any_bytes_can_be_written }
+{}
+
+/// States that visible ASCII without `%` stands for itself.
+pub fn plain_words_stand_for_themselves()
+    ensures { words.plain_words_stand_for_themselves }
+{}
+
+/// States that a part of a line stands for bytes if and only if it is pieces, one after the other, that stand for these bytes. A
+/// piece is a byte that stands for itself or an escape. Every other part is no word.
+pub fn words_are_of_pieces()
+    ensures { words.words_are_of_pieces }
+{}
+
+/// States that bytes that are written as a word have visible ASCII alone: no space, and no LF.
+pub fn written_words_are_visible()
+    ensures { words.written_words_are_visible }
+{}
+
+/// States that words that are written so, with one space between each two, are read back from their line.
+pub fn written_lines_are_read()
+    ensures { words.written_lines_are_read }
 {}

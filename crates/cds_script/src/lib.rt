@@ -1,11 +1,10 @@
 //! Scripts: what their lines mean, what their turns lead to, and the report that is owed.
 #![tactic(auto)]
 
-pub mod evaluated;
+pub mod examples;
 mod found;
 pub mod laws;
 mod line;
-pub mod line_laws;
 mod reply;
 mod turn;
 mod word;
@@ -13,4 +12,4 @@ mod word;
 pub use found::{Found, FoundFile, FoundList};
 pub use line::read_line;
 pub use reply::HeldReply;
-pub use turn::{Meaning, Turn};
+pub use turn::{Meaning, ScriptTurn};

@@ -8,7 +8,7 @@ ghost use Rattle.cds_script.specs.Lines.{words_of};
 ghost use Rattle.cds_script.specs.Script.{number_from_to, info_from, path_said, folder_turn, track_turn, tag_turn, moment_limit, first_turn, at_turn, deliver_turn, plain_turn, number_turn, plain_line, folder_line, track_line, tag_line, turn_of, meaning_of_turn, meaning_of_words, meaning_of};
 
 use crate::word::{Word, words_in};
-use crate::{Meaning, Turn};
+use crate::{Meaning, ScriptTurn};
 use cds_base::{Mem, Sequence, Text, read_plain};
 use cds_object::{Comment, FlacInfo, Path, PathError};
 use std::alloc::Global;
@@ -66,7 +66,7 @@ fn is_text(word: &[u8], text: &str) -> bool
 }
 
 /// Returns the turn of a line of words.
-fn turn(alloc: Global, words: &[Word]) -> Result<Option<Turn>, Mem>
+fn turn(alloc: Global, words: &[Word]) -> Result<Option<ScriptTurn>, Mem>
     ensures { IfOk result (λ turn. turn ≡ turn_of words.now) }
 {
     match words {
@@ -87,7 +87,7 @@ fn turn(alloc: Global, words: &[Word]) -> Result<Option<Turn>, Mem>
 }
 
 /// Returns the turn of a line that is one word alone, or a word and a number.
-fn short(word: &[u8], others: &[Word]) -> Option<Turn>
+fn short(word: &[u8], others: &[Word]) -> Option<ScriptTurn>
     ensures { result ≡ plain_line word.now others.now }
 {
     match others {
@@ -98,34 +98,34 @@ fn short(word: &[u8], others: &[Word]) -> Option<Turn>
 }
 
 /// Returns the turn of a line of one word.
-fn plain(word: &[u8]) -> Option<Turn>
+fn plain(word: &[u8]) -> Option<ScriptTurn>
     ensures { result ≡ plain_turn word.now }
 {
     if is_text(word, "scan") {
-        Some(Turn::Scan)
+        Some(ScriptTurn::Scan)
     } else if is_text(word, "load") {
-        Some(Turn::Load)
+        Some(ScriptTurn::Load)
     } else if is_text(word, "read") {
-        Some(Turn::Read)
+        Some(ScriptTurn::Read)
     } else if is_text(word, "ask") {
-        Some(Turn::Ask)
+        Some(ScriptTurn::Ask)
     } else if is_text(word, "subscribe") {
-        Some(Turn::Subscribe)
+        Some(ScriptTurn::Subscribe)
     } else if is_text(word, "accept") {
-        Some(Turn::Accept)
+        Some(ScriptTurn::Accept)
     } else if is_text(word, "renew") {
-        Some(Turn::Renew)
+        Some(ScriptTurn::Renew)
     } else if is_text(word, "unsubscribe") {
-        Some(Turn::Unsubscribe)
+        Some(ScriptTurn::Unsubscribe)
     } else if is_text(word, "readfault") {
-        Some(Turn::ReadFault)
+        Some(ScriptTurn::ReadFault)
     } else {
         None
     }
 }
 
 /// Returns the turn of a line of a word and a number.
-fn numbered(word: &[u8], number: &[u8]) -> Option<Turn>
+fn numbered(word: &[u8], number: &[u8]) -> Option<ScriptTurn>
     ensures { result ≡ number_turn word.now number.now }
 {
     if is_text(word, "first") {
@@ -140,11 +140,11 @@ fn numbered(word: &[u8], number: &[u8]) -> Option<Turn>
 }
 
 /// Returns the turn of a line that names the server's first number.
-fn first(number: &[u8]) -> Option<Turn>
+fn first(number: &[u8]) -> Option<ScriptTurn>
     ensures { result ≡ first_turn (plain_below (2 ^ 32) number.now) }
 {
     match number_below(number, 1 << 32) {
-        Some(number) => Some(Turn::First {
+        Some(number) => Some(ScriptTurn::First {
             number: number as u32,
         }),
         None => None,
@@ -152,21 +152,21 @@ fn first(number: &[u8]) -> Option<Turn>
 }
 
 /// Returns the turn of a line that names a moment.
-fn at(moment: &[u8]) -> Option<Turn>
+fn at(moment: &[u8]) -> Option<ScriptTurn>
     ensures { result ≡ at_turn (plain_below moment_limit moment.now) }
 {
     match read_plain(moment) {
-        Some(moment) => Some(Turn::At { moment }),
+        Some(moment) => Some(ScriptTurn::At { moment }),
         None => None,
     }
 }
 
 /// Returns the turn of a line that names a note.
-fn deliver(note: &[u8]) -> Option<Turn>
+fn deliver(note: &[u8]) -> Option<ScriptTurn>
     ensures { result ≡ deliver_turn (plain_below (2 ^ 32) note.now) }
 {
     match number_below(note, 1 << 32) {
-        Some(note) => Some(Turn::Deliver { note: note as u32 }),
+        Some(note) => Some(ScriptTurn::Deliver { note: note as u32 }),
         None => None,
     }
 }
@@ -186,7 +186,7 @@ fn path_of(alloc: Global, word: &[u8]) -> Result<Option<Path>, Mem>
 }
 
 /// Returns the turn of a line that begins with `folder`, by its other words.
-fn folder(alloc: Global, words: &[Word]) -> Result<Option<Turn>, Mem>
+fn folder(alloc: Global, words: &[Word]) -> Result<Option<ScriptTurn>, Mem>
     ensures { IfOk result (λ turn. turn ≡ folder_line words.now) }
 {
     match words {
@@ -196,12 +196,12 @@ fn folder(alloc: Global, words: &[Word]) -> Result<Option<Turn>, Mem>
 }
 
 /// Returns the turn of a folder at the place that a word names.
-fn folder_at(alloc: Global, path: &[u8]) -> Result<Option<Turn>, Mem>
+fn folder_at(alloc: Global, path: &[u8]) -> Result<Option<ScriptTurn>, Mem>
     ensures { IfOk result (λ turn. turn ≡ folder_turn (path_said path.now)) }
 {
     match path_of(alloc, path)? {
         None => Ok(None),
-        Some(path) => Ok(Some(Turn::Folder { path })),
+        Some(path) => Ok(Some(ScriptTurn::Folder { path })),
     }
 }
 
@@ -252,7 +252,7 @@ fn info_of(
 }
 
 /// Returns the turn of a line that begins with `track`, by its other words.
-fn track(alloc: Global, words: &[Word]) -> Result<Option<Turn>, Mem>
+fn track(alloc: Global, words: &[Word]) -> Result<Option<ScriptTurn>, Mem>
     ensures { IfOk result (λ turn. turn ≡ track_line words.now) }
 {
     match words {
@@ -276,17 +276,17 @@ fn track_at(
     path: &[u8],
     size: Option<u64>,
     info: Option<FlacInfo>,
-) -> Result<Option<Turn>, Mem>
+) -> Result<Option<ScriptTurn>, Mem>
     ensures { IfOk result (λ turn. turn ≡ track_turn (path_said path.now) size info) }
 {
     match (path_of(alloc, path)?, size, info) {
-        (Some(path), Some(size), Some(info)) => Ok(Some(Turn::Track { path, info, size })),
+        (Some(path), Some(size), Some(info)) => Ok(Some(ScriptTurn::Track { path, info, size })),
         _ => Ok(None),
     }
 }
 
 /// Returns the turn of a line that begins with `tag`, by its other words.
-fn tag(alloc: Global, words: &[Word]) -> Result<Option<Turn>, Mem>
+fn tag(alloc: Global, words: &[Word]) -> Result<Option<ScriptTurn>, Mem>
     ensures { IfOk result (λ turn. turn ≡ tag_line words.now) }
 {
     match words {
@@ -296,7 +296,7 @@ fn tag(alloc: Global, words: &[Word]) -> Result<Option<Turn>, Mem>
 }
 
 /// Returns the turn of a comment, if its name and its value are texts.
-fn tag_of(alloc: Global, name: &[u8], value: &[u8]) -> Result<Option<Turn>, Mem>
+fn tag_of(alloc: Global, name: &[u8], value: &[u8]) -> Result<Option<ScriptTurn>, Mem>
     ensures { IfOk result (λ turn. turn ≡ tag_turn name.now value.now) }
 {
     let Ok(name) = str::from_utf8(name) else {
@@ -307,7 +307,7 @@ fn tag_of(alloc: Global, name: &[u8], value: &[u8]) -> Result<Option<Turn>, Mem>
     };
     let name = Text::read(alloc, name)?;
     let value = Text::read(alloc, value)?;
-    Ok(Some(Turn::Tag {
+    Ok(Some(ScriptTurn::Tag {
         comment: Comment { name, value },
     }))
 }

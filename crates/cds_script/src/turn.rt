@@ -4,7 +4,7 @@ use cds_object::{Comment, FlacInfo, Path};
 
 /// One line of a script that does something.
 #[derive(Drop, Debug)]
-pub enum Turn {
+pub enum ScriptTurn {
     /// Adds a folder to what the next scan finds.
     Folder {
         path: Path,
@@ -57,7 +57,7 @@ pub enum Turn {
 pub enum Meaning {
     /// It is empty or a comment.
     Nothing,
-    Means(Turn),
+    Means(ScriptTurn),
     /// It is outside the grammar.
     Outside,
 }

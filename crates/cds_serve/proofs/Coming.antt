@@ -16,7 +16,7 @@ use Rattle.cds_http.proofs.Once.{one_outcome}
 use Rattle.cds_serve.specs.Answered.{ReadsFrom, piece_limit}
 use Rattle.cds_serve.specs.declared.request.Request.{Request}
 use Rattle.cds_serve.specs.declared.request.Request.TheVariants as request
-use Rattle.cds_base.specs.Outside.{Rose}
+use Rattle.cds_outside.specs.Outside.{Rose}
 use Rattle.cds_serve.specs.Requested.{BrokenRose, ComesTo, HasAll, IsCause, IsLastIn, IsRequest}
 
 -- ---- the end of a message

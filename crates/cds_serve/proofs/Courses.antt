@@ -3,21 +3,25 @@ use Rattle.std.proofs.Common.{◌≡◌, ◌+◌, inl, inr, ℕ, true, List, [],
 use Rattle.std.specs.Prelude.{⊤}
 use Rattle.std.proofs.lemmas.List.{take_all}
 use Rattle.cds_base.specs.declared.mem.Mem.{Mem as Memory}
-use Rattle.cds_base.specs.Outside.{HoldsPart, Rose, SinkTold, Told}
+use Rattle.cds_outside.specs.Outside.{HoldsPart, Rose, SinkTold, Told}
 use Rattle.cds_commands.specs.Commands.{Command, Start}
 use Rattle.cds_http.specs.declared.message.Message.{Message}
 use Rattle.cds_http.specs.declared.message.Side.TheVariants as side
 use Rattle.cds_http.specs.Decided.{Decides}
 use Rattle.cds_http.specs.Known.{Known}
+use Rattle.cds_server.specs.Asking.{Fits, IsAsking, note_in, reply_in, said}
+use Rattle.cds_server.specs.declared.made.Answered.{Answered}
+use Rattle.cds_server.specs.declared.asking.Asking.{Asking}
+use Rattle.cds_server.specs.declared.asking.Asking.TheVariants as asking
 use Rattle.cds_server.specs.Outcome.{Ended, GoesOut, Granted, Outcome, Refused as RefusedBy, Renewed, outcome}
-use Rattle.cds_server.specs.Replies.{command_at, command_by}
+use Rattle.cds_server.specs.Replies.{IsReply, command_at, command_by}
 use Rattle.cds_server.specs.Route.{Goes, Route, Subscribes, route}
 use Rattle.std.specs.List.{AllByRecursion}
 use Rattle.cds_serve.specs.Jobs.{AddsAnswers, IsOfMessage}
 use Rattle.cds_serve.specs.Served.{added}
 use Rattle.cds_turn.specs.Line.{Extends}
 use Rattle.cds_turn.specs.Turn.{SeatTold, after_turn}
-use Rattle.cds_serve.specs.Acts.{IsReplyGiven, free_text, reply_adds, reply_requests, reply_text}
+use Rattle.cds_serve.specs.Acts.{IsAnswerGiven, IsReplyGiven, IsWritten, answer_adds, free_text, reply_adds, reply_requests, reply_text}
 use Rattle.cds_serve.specs.Answered.{Around, Broken, Course, Free, Handled, NeedsTurn, ReadsFrom, Serves, Starved, TakesTurn, Unhandled, free_status, no_memory_reply}
 use Rattle.cds_serve.specs.Sent.{GivesAll, GivesEach, first_requests}
 use Rattle.cds_serve.specs.Told.{IsAlone, IsMoment, Writes}
@@ -58,11 +62,48 @@ reads-on left mid after P Q f same read bytes told =
 
 -- ---- the course
 
+-- what a list is, by other words for what was added to it
+pub of-reply : (list added reply found : List Command) → list ≡ added ++ found → added ≡ reply → list ≡ reply ++ found
+of-reply list added reply found is same = is ∙ ap (λ (l : List Command). l ++ found) same
+
 -- a first note that was given goes out
 pub goes-out : (start : Start) (found : List Command) (now : ℕ) (m : Message) (reply : Result Reply Memory) → IsReplyGiven start found now m reply
     → IfOk reply (λ reply. GoesOut reply.note)
 goes-out start found now m (Ok reply) given = given.2
 goes-out start found now m (Err memory) given = tt
+
+-- what the server answered, put together
+pub answer-given : (start : Start) (found : List Command) (now : ℕ) (asking : Asking) (result : Result Answered Memory)
+    → IfOk result (λ answered. said asking answered.made ≡ reply_in start found now asking)
+    → IfOk result (λ answered. answered.note ≡ note_in start found now asking) → IfOk result (λ answered. Fits asking answered.made)
+    → IfOk result (λ answered. GoesOut answered.note) → IsAnswerGiven start found now asking result
+answer-given start found now asking (Ok answered) said note fits delivered = (said, note, fits, delivered)
+answer-given start found now asking (Err memory) said note fits delivered = tt
+
+-- the answer fits what was asked
+pub answer-fits : (start : Start) (found : List Command) (now : ℕ) (asking : Asking) (result : Result Answered Memory)
+    → IsAnswerGiven start found now asking result → IfOk result (λ answered. Fits asking answered.made)
+answer-fits start found now asking (Ok answered) given = given.2
+answer-fits start found now asking (Err memory) given = tt
+
+-- The answer to what was asked of a message, once it is written, is the reply to the message. It added the command of the message,
+-- or nothing if there was no memory to write it.
+pub asked-given : (start : Start) (found : List Command) (now : ℕ) (m : Message) (asking : Asking) (answered : Result Answered Memory)
+    (reply : Result Reply Memory) → IsAsking m asking → IsAnswerGiven start found now asking answered → IsWritten asking answered reply
+    → IsReplyGiven start found now m reply × (answer_adds start found now asking answered ≡ reply_adds start found now m reply)
+asked-given start found now m asking (Ok answered) (Ok reply) is given written = (
+  (
+    subst (λ (t : List ℕ). IsReply start found now m t) (sym (written.0 ∙ given.0)) (is.replies start found now),
+    written.1 ∙ given.1 ∙ sym (is.note start found now),
+    subst GoesOut (sym written.1) given.3,
+  ),
+  ap added (sym (is.command start found now)),
+)
+asked-given start found now m (asking.Ready text) (Ok answered) (Err memory) is given written = absurd written
+asked-given start found now m (asking.Action host asked) (Ok answered) (Err memory) is given written = (tt, refl)
+asked-given start found now m (asking.Subscription gena) (Ok answered) (Err memory) is given written = absurd written
+asked-given start found now m asking (Err memory) (Ok reply) is given written = absurd (true≢false (sym written))
+asked-given start found now m asking (Err memory) (Err other) is given written = (tt, refl)
 
 module _ {A : Type 0} (start : Start) (result : Result A Memory) (before now : ℕ) (old new : Around) where
   -- what is so for all that the bytes may say

@@ -3,8 +3,8 @@ use Rattle.std.proofs.Common.{◌≡◌, ℕ, suc, ◌+◌, ◌<◌, ◌≤◌, 
 use Rattle.std.specs.BTreeMap.{insert_entry}
 use Rattle.std.specs.Ordering.{match_ordering}
 use Rattle.std.proofs.lemmas.List.{length-map}
-use Rattle.cds_base.specs.Entries.{Contents}
-use Rattle.cds_base.specs.declared.outside.folder.Entry.{Entry}
+use Rattle.cds_outside.specs.Entries.{Contents}
+use Rattle.cds_outside.specs.declared.folder.Entry.{Entry}
 use Rattle.cds_object.specs.Path.{path_cmp}
 use Rattle.cds_object.specs.declared.content.Content.{Content}
 use Rattle.cds_object.specs.declared.record.Record.{Record}

@@ -7,9 +7,8 @@ use Rattle.http_header.specs.FieldValue.{FieldValue}
 use Rattle.cds_http.specs.declared.message.Start.{Start as Line}
 use Rattle.cds_http.specs.declared.message.Start.TheVariants.{Request, Reply}
 use Rattle.cds_gena.specs.Asked.{field_of}
-use Rattle.cds_server.specs.Route.{Answers, Goes, Route, Subscribes, Way, control_at, route_by}
+use Rattle.cds_server.specs.Route.{Answers, Goes, Route, Subscribes, Way, control_at, request_status, route_by, status_unless}
 use Rattle.cds_server.specs.Replies.{IsReplyOf}
-use Rattle.cds_serve.specs.Answered.{request_status, status_unless}
 use Rattle.cds_serve.specs.Laws.{free_answers_are_replies}
 
 some-is : (a b : ℕ) → Some a ≡ Some b → a ≡ b

@@ -2,6 +2,7 @@ pub mod Adding
 pub mod Coming
 pub mod Counting
 pub mod Courses
+pub mod Crews
 pub mod Crossing
 pub mod Few
 pub mod Free

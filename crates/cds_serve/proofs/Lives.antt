@@ -4,13 +4,13 @@ use Rattle.std.proofs.lemmas.Bool.Decides.{nat_tests}
 use Rattle.std.proofs.lemmas.List.Sums.{sum_by-cons}
 use Rattle.std.specs.Prelude.{⊤}
 use Rattle.std.specs.List.{AllByRecursion}
-use Rattle.cds_base.specs.Asked.{Asked, ForClock, ForLink, OutsideRose}
-use Rattle.cds_base.specs.declared.outside.exterior.OutsideFault.{OutsideFault}
-use Rattle.cds_base.specs.declared.outside.exterior.OutsideFault.TheVariants as outside_fault
-use Rattle.cds_base.specs.Outside.{Told, HoldsPart, Rose, raised}
-use Rattle.cds_base.specs.Told.{ClockTold, DoorTold, IsFresh, OutsideTold, and_moment, asked_then}
+use Rattle.cds_outside.specs.Asked.{Asked, ForClock, ForLink, OutsideRose}
+use Rattle.cds_outside.specs.declared.exterior.OutsideFault.{OutsideFault}
+use Rattle.cds_outside.specs.declared.exterior.OutsideFault.TheVariants as outside_fault
+use Rattle.cds_outside.specs.Outside.{Told, HoldsPart, Rose, raised}
+use Rattle.cds_outside.specs.Told.{ClockTold, DoorTold, IsFresh, OutsideTold, and_moment, asked_then}
 use Rattle.cds_serve.specs.Told.{IsMoment}
-use Rattle.cds_serve.specs.Life.{AreBootWords, AreCounts, AreFirstWords, Asks, AsksFor, Counts, EndsLife, GaveOnce, IsCaused, KeepsEnded, OfFirst, Outer, Stops, Takes, WritesLife, WritesLine, fault_of, life_asks, life_text, doors_back, served_line, served_then, serving_line, share_of, status_of, worker_asks}
+use Rattle.cds_serve.specs.Life.{AllAccepted, AreBootWords, AreCounts, AreFirstWords, Asks, AsksFor, Counts, EndsLife, GaveOnce, IsCaused, KeepsEnded, OfFirst, Outer, Stops, Takes, WritesLife, WritesLine, fault_of, life_asks, life_text, doors_back, served_line, serving_line, share_of, status_of, worker_asks}
 use Rattle.cds_serve.specs.declared.fault.Fault.{Fault}
 use Rattle.cds_serve.specs.declared.fault.Fault.TheVariants as fault
 use Rattle.cds_serve.proofs.Rounds.{rose-more, rose-on}
@@ -55,10 +55,6 @@ pub asks-stopped : {A : Type 0} (e : Fault) (v : A) (xs ys : List Asked) (old ne
 asks-stopped e v xs ys old new one = λ list told.
     (length xs + 0, one list told ∙ ap (λ l. Some (list ++ l)) (sym (append-nil xs) ∙ sym (take-front xs ys 0)))
 
--- nothing yet
-pub asks-none : (e : Fault) (xs : List Asked) (old : Option (List Asked)) → AsksFor {A = ⊤} (Err e) xs old old
-asks-none e xs old = λ list told. (0, told ∙ ap Some (sym (append-nil list)))
-
 -- ---- causes
 
 pub caused-as : (e : Fault) (P Q P' Q' : Type 0) → IsCaused {A = ⊤} (Err e) P Q → (P → P') → (Q → Q') → IsCaused {A = ⊤} (Err e) P' Q'
@@ -81,10 +77,6 @@ exit P (Err x) e err p = subst (λ (z : Fault). P (Err z)) (sym err) p
 pub on-ok : {B : Type 0} (result : Result B Fault) (P : Type 0) → P → OnOk result P
 on-ok (Ok v) P p = p
 on-ok (Err e) P p = tt
-
-pub regroup : {P Q S : Type 0} → P ⊎ Q → P ⊎ (Q ⊎ S)
-regroup (inl p) = inl p
-regroup (inr q) = inr (inl q)
 
 -- all of these, whatever comes then
 pub asks-over : {A B : Type 0} (result : Result B Fault) (v : A) (xs : List Asked) (old new : Option (List Asked)) → AsksFor {A = A} (Ok v) xs old new
@@ -287,16 +279,24 @@ takes-next k n v old mid new door between after is one next =
 
 -- ---- counts that come back
 
-pub raised-twice : (old one two : ℕ) → raised (raised old one) two ≡ raised old (one + two)
-raised-twice old one two = twice old one two (2 ^ 64 - 1)
-  where
-    twice : (old one two top : ℕ) → min (min (old + one) top + two) top ≡ min (old + (one + two)) top
-    twice old one two top = omega arith
+no-rose : {P : Type 0} (before faults : ℕ) → before ≡ 0 → faults ≡ 0 → Rose before faults → P
+no-rose before faults none still (inl less) = absurd (omega (arith, none, still, less))
+no-rose before faults none still (inr most) = absurd (omega (arith, still, most))
 
-pub rose-spawned : (old mid new door door' spawner spawner' : ℕ) → old ≤ mid → Rose mid new ⊎ Rose spawner spawner'
-    → Rose old new ⊎ (Rose door door' ⊎ Rose spawner spawner')
-rose-spawned old mid new door door' spawner spawner' up (inl rose) = inl (rose-on old mid new up rose)
-rose-spawned old mid new door door' spawner spawner' up (inr rose) = inr (inr rose)
+-- an object came back, with no faults or with a count that rose
+pub rose-end : (old mid now new before faults : ℕ) → old ≤ mid → mid ≤ now → now ≤ new → before ≡ 0 → (faults ≡ 0) ⊎ Rose now new
+    → Rose mid now ⊎ Rose before faults → Rose old new
+rose-end old mid now new before faults up on later none back (inl rose) = rose-on old mid new up (rose-more mid now new rose later)
+rose-end old mid now new before faults up on later none (inr rose) (inr its) = rose-on old now new (le_trans up on) rose
+rose-end old mid now new before faults up on later none (inl still) (inr its) = no-rose before faults none still its
+
+pub back-more : (faults old mid new : ℕ) → (faults ≡ 0) ⊎ Rose old mid → mid ≤ new → (faults ≡ 0) ⊎ Rose old new
+back-more faults old mid new (inl none) up = inl none
+back-more faults old mid new (inr rose) up = inr (rose-more old mid new rose up)
+
+pub back-on : (faults old mid new : ℕ) → old ≤ mid → (faults ≡ 0) ⊎ Rose mid new → (faults ≡ 0) ⊎ Rose old new
+back-on faults old mid new up (inl none) = inl none
+back-on faults old mid new up (inr rose) = inr (rose-on old mid new up rose)
 
 pub on-ok-as : {B : Type 0} (result : Result B Fault) (P Q : Type 0) → (P → Q) → OnOk result P → OnOk result Q
 on-ok-as (Ok v) P Q f p = f p
@@ -313,22 +313,12 @@ rose-back old mid new before faults none (inr most) is up = once old mid new fau
     once : (old mid new faults top : ℕ) → 2 ^ 64 - 1 ≤ faults → new ≡ min (mid + min 1 faults) top → old ≤ mid → (old < new) ⊎ (top ≤ new)
     once old mid new faults top most is up = grind (arith, most, is, up)
 
-pub rose-door : (old mid now new door door' spawner spawner' : ℕ) → old ≤ mid → mid ≤ now → now ≤ new → spawner ≡ 0
-    → new ≡ raised now (min 1 spawner') → Rose mid now ⊎ (Rose door door' ⊎ Rose spawner spawner') → Rose old new ⊎ Rose door door'
-rose-door old mid now new door door' spawner spawner' up on later none is (inl rose) =
-    inl (rose-on old mid new up (rose-more mid now new rose later))
-rose-door old mid now new door door' spawner spawner' up on later none is (inr (inl rose)) = inr rose
-rose-door old mid now new door door' spawner spawner' up on later none is (inr (inr rose)) =
-    inl (rose-back old now new spawner spawner' none rose is (le_trans up on))
-
--- the door came back
-pub rose-whole : (old mid now new door door' : ℕ) → old ≤ mid → mid ≤ now → now ≤ new → door ≡ 0 → new ≡ raised now (min 1 door')
-    → Rose mid now ⊎ Rose door door' → Rose old new
-rose-whole old mid now new door door' up on later none is (inl rose) = rose-on old mid new up (rose-more mid now new rose later)
-rose-whole old mid now new door door' up on later none is (inr rose) = rose-back old now new door door' none rose is (le_trans up on)
-
-pub up-back : (old mid new by : ℕ) → old < 2 ^ 64 → new ≡ raised mid by → old ≤ mid → old ≤ new
-up-back old mid new by small is up = omega (arith, small, is, up)
+-- by the count of faults of an object that came back
+pub came-back : (now new faults : ℕ) → new ≡ raised now (min 1 faults) → (faults ≡ 0) ⊎ Rose now new
+came-back now new faults is = once now new faults (2 ^ 64 - 1) is
+  where
+    once : (now new faults top : ℕ) → new ≡ min (now + min 1 faults) top → (faults ≡ 0) ⊎ ((now < new) ⊎ (top ≤ new))
+    once now new faults top is = grind (arith, is)
 
 -- six jobs were started
 pub six-started : (old new started none : ℕ) → none ≡ 0 → ((n : ℕ) → raised started n ≡ raised none (6 + n)) → new ≡ raised old started → new ≡ raised old 6
@@ -390,13 +380,6 @@ once-are =
     record { some = some; accepted = one; refused = none; memory = none }
 
 module _ (port requests : ℕ) where
-  all-counts : (before after : Option (List ℕ)) → WritesLife {A = ⊤} (Ok tt) port requests before after
-      → (counts : Counts) × AreCounts counts × Told before (λ held. after ≡ Some (held ++ life_text port requests counts))
-  all-counts None after w = (once, once-are, λ held told. none-is-no held told)
-  all-counts (Some bytes) after w =
-      let c = w bytes refl in
-      (c.0, c.1, λ held told. c.2 ∙ ap (λ h. Some (h ++ life_text port requests c.0)) (some-is bytes held told))
-
   front-counts : (e : Fault) (before after : Option (List ℕ)) → WritesLife {A = ⊤} (Err e) port requests before after
       → (counts : Counts) × AreCounts counts × Told before (λ held. HoldsPart held (life_text port requests counts) after)
   front-counts e None after w = (once, once-are, λ held told. none-is-no held told)
@@ -439,11 +422,17 @@ module _ (port requests : ℕ) where
 
   -- both lines, or the first and a front of the second
   pub writes-both : {A B : Type 0} (result : Result B Fault) (v : A) (counts : Counts) (before mid after : Option (List ℕ)) → AreCounts counts
+      → AllAccepted port counts.accepted
       → WritesLine {A = A} (Ok v) (serving_line port) before mid → WritesLine result (served_line requests counts) mid after
       → WritesLife result port requests before after
-  writes-both (Ok w) v counts before mid after are one other = λ held told.
-      (counts, are, other (held ++ serving_line port) (one held told) ∙ ap Some (append_assoc held (serving_line port) (served_line requests counts)))
-  writes-both (Err e) v counts before mid after are one other = λ held told.
+  writes-both (Ok w) v counts before mid after are accepted one other = record {
+    counts = counts;
+    are_counts = are;
+    written = λ held told.
+        other (held ++ serving_line port) (one held told) ∙ ap Some (append_assoc held (serving_line port) (served_line requests counts));
+    accepted = accepted;
+  }
+  writes-both (Err e) v counts before mid after are accepted one other = λ held told.
       let h = other (held ++ serving_line port) (one held told) in
       let line = serving_line port in
       let more = served_line requests counts in (
@@ -477,9 +466,18 @@ module _ (port requests : ℕ) (path : List ℕ) (old new : Outer) where
       → WritesLife result port requests old.sink.holds new.sink.holds → AsksFor result (life_asks port path) old.outside.asked new.outside.asked
       → OnOk result (new.outside.connections ≡ raised old.outside.connections requests) → OnOk result (new.outside.started ≡ raised old.outside.started 6)
       → EndsLife port path requests (status_of result) old new
-  by-result (Ok value) cause w a connections started =
-      let c = all-counts port requests old.sink.holds new.sink.holds w in
-      inl (refl, record { counts = c.0; are_counts = c.1; written = c.2; connections = connections; started = started; asked = a })
+  by-result (Ok value) cause w a connections started = inl (
+    refl,
+    record {
+      counts = w.counts;
+      are_counts = w.are_counts;
+      written = w.written;
+      connections = connections;
+      started = started;
+      asked = a;
+      accepted = w.accepted;
+    },
+  )
   by-result (Err fault.Sink) cause w a connections started = inr (inl (refl, cause, stops fault.Sink w a))
   by-result (Err fault.Mem) cause w a connections started = inr (inr (inl (refl, stops fault.Mem w a)))
   by-result (Err fault.Outside) cause w a connections started = inr (inr (inr (refl, cause, stops fault.Outside w a)))
@@ -530,16 +528,16 @@ keeps-on old mid new one other = (other.0 ∙ one.0, other.1 ∙ one.1)
 pub keeps : (old new same : OutsideTold) → new ≡ same → same.ended ≡ old.ended → same.ended_links ≡ old.ended_links → KeepsEnded old new
 keeps old new same is ended links = (ap (λ (t : OutsideTold). t.ended) is ∙ ended, ap (λ (t : OutsideTold). t.ended_links) is ∙ links)
 
--- nothing came back where the outside was asked
-pub served-asked : (old new : OutsideTold) → new ≡ asked_then old new → new ≡ served_then old new
-served-asked old new is =
-    is ∙ ap (λ (n : ℕ). record old { faults = new.faults; asked = new.asked; connections = n }) (sym (ap (λ (t : OutsideTold). t.connections) is))
+-- nothing came back where the outside was asked; then a door did
+pub keeps-asked : (old new : OutsideTold) → new ≡ asked_then old new → KeepsEnded old new
+keeps-asked old new is = keeps old new (asked_then old new) is refl refl
 
--- doors came back then
-pub served-doors : (old mid new : OutsideTold) → mid ≡ asked_then old mid → new ≡ doors_back mid new → new ≡ served_then old new
-served-doors old mid new one is =
-    is ∙ ap (λ (t : OutsideTold). record t { faults = new.faults; connections = new.connections }) one
-    ∙ ap (λ (a : Option (List Asked)). record old { faults = new.faults; asked = a; connections = new.connections }) (sym (ap (λ (t : OutsideTold). t.asked) is))
+pub keeps-doors : (old new : OutsideTold) → new ≡ doors_back old new → KeepsEnded old new
+keeps-doors old new is = keeps old new (doors_back old new) is refl refl
+
+-- two asks, one after the other
+pub asked-twice : (old mid new : OutsideTold) → mid ≡ asked_then old mid → new ≡ asked_then mid new → new ≡ asked_then old new
+asked-twice old mid new one other = other ∙ ap (λ (t : OutsideTold). record t { faults = new.faults; asked = new.asked }) one
 
 -- ---- all jobs
 
@@ -596,16 +594,6 @@ served-cut served sum requests P (inr p) whole few = p
 
 -- what comes of all jobs
 module _ {A : Type 0} (started : Bool) (served requests : ℕ) (counts : Option A) where
-  pub counts-given : (result : Result A Fault) (P : A → Type 0) → IfOk result (λ given. (counts ≡ Some given) × IsTrue started × (served ≡ requests))
-      → IfSome counts P → IfOk result P
-  counts-given (Ok v) P h p = subst (λ o. IfSome o P) h.0 p
-  counts-given (Err e) P h p = tt
-
-  pub well-given : (result : Result A Fault) (P : Type 0) → IfOk result (λ given. (counts ≡ Some given) × IsTrue started × (served ≡ requests))
-      → (IsTrue started → served ≡ requests → P) → OnOk result P
-  well-given (Ok v) P h f = f h.1 h.2
-  well-given (Err e) P h f = tt
-
   module _ (P Q : Type 0) (off : IsFalse started → Q) (cut : IsTrue started → served ≢ requests → P) (none : IsTrue started → IsNone counts → ⊥) where
     why : (b : Bool) → started ≡ b → IsFalse started ⊎ ((served ≢ requests) ⊎ IsNone counts) → P ⊎ Q
     why false is h = inr (off is)

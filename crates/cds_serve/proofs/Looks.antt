@@ -3,7 +3,7 @@ use Rattle.std.proofs.Common.{◌≡◌, ◌+◌, inl, inr, ℕ, Bool, true, Lis
 use Rattle.cds_base.specs.declared.mem.Mem.{Mem}
 use Rattle.cds_commands.specs.Commands.{Command, Start, Ticks}
 use Rattle.cds_server.specs.declared.notes.Notes.{Notes}
-use Rattle.cds_base.specs.declared.outside.link.LinkRequest.{LinkRequest}
+use Rattle.cds_outside.specs.declared.link.LinkRequest.{LinkRequest}
 use Rattle.cds_turn.specs.Line.{Extends}
 use Rattle.cds_turn.specs.Turn.{SeatTold}
 use Rattle.cds_serve.specs.Acts.{IsLook, look_adds}

@@ -2,9 +2,9 @@
 use Rattle.std.proofs.Common.{◌≡◌, ◌≢◌, inl, inr, ℕ, Bool, true, false, true≢false, ◌+◌, ◌-◌, ◌^◌, ◌<◌, ◌≤◌, min, List, [], ◌∷◌, ◌++◌, length, suc, Option, Result, Ok, Err, IfErr, IsTrue, OnOk, refl, sym, ap, subst, ◌∙◌, append_assoc, arith, le_trans}
 use Rattle.std.proofs.Math.Nat.{le-min}
 use Rattle.std.specs.List.{AllByRecursion}
-use Rattle.cds_base.specs.declared.outside.folder.Entry.{Entry}
-use Rattle.cds_base.specs.Entries.{Contents, FolderTold}
-use Rattle.cds_base.specs.Outside.{Rose, raised}
+use Rattle.cds_outside.specs.declared.folder.Entry.{Entry}
+use Rattle.cds_outside.specs.Entries.{Contents, FolderTold}
+use Rattle.cds_outside.specs.Outside.{Rose, raised}
 use Rattle.cds_catalog.specs.Library.{map_of}
 use Rattle.cds_catalog.specs.Scans.{Accepted, BadRecord, NoNumbers, ScanAnswer, TooMany, scan_answer}
 use Rattle.cds_commands.specs.Commands.{Command, Start, Scans, is_stopped, scans_of}
@@ -258,19 +258,39 @@ module _ (start : Start) (told : FolderTold) (first : List Command) (before now 
       let more : Extends new.seat.seen old.seat.seen = subst (λ l. Extends l old.seat.seen) (sym seen) taken.1.begun in
       so-far-more (λ only. seen ∙ taken.1.alone only) more (ap (λ (k : Counts). k.accepted) is) (same-cause more (ap (λ (k : Counts). k.refused) is))
 
+-- a scan leaves the passes of its seat
+pub scans-passes : {A : Type 0} (start : Start) (result : Result A ScanRefused) (before now : ℕ) (old new : Across) → ScansOnce start result before now old new
+    → new.seat.passes ≡ old.seat.passes
+scans-passes start (Ok value) before now old new c = ap (λ (t : SeatTold Command). t.passes) c.turn.seat
+scans-passes start (Err (refused.Scan error)) before now old new c = ap (λ (t : SeatTold Command). t.passes) c.1.0
+scans-passes start (Err (refused.Apply error)) before now old new c = ap (λ (t : SeatTold Command). t.passes) c.turn.seat
+scans-passes start (Err refused.Mem) before now old new (inl none) = ap (λ (t : SeatTold Command). t.passes) none.0
+scans-passes start (Err refused.Mem) before now old new (inr taken) = ap (λ (t : SeatTold Command). t.passes) taken.1.seat
+
+-- the same scans, and as many counted as accepted
+pub same-scans : (first own own' : List Command) (a b : Counts) → own' ≡ own → b.accepted ≡ a.accepted → AddsScans a.accepted first own → AddsScans b.accepted first own'
+same-scans first own own' a b same counted s = (s.0, counted ∙ s.1, same ∙ s.2)
+
 -- a scan adds its map to the own commands of its seat, or nothing
-pub scans-own : {A : Type 0} (start : Start) (result : Result A ScanRefused) (before now : ℕ) (old new : Across) → ScansOnce start result before now old new
-    → (first : List Command) → AddsScans first old.seat.own → AddsScans first new.seat.own
-scans-own start (Ok value) before now old new c first a =
-    (map_of c.scan.records ∷ a.0, ap (λ (t : SeatTold Command). t.own) c.turn.seat ∙ ap (λ (z : List Command). Scans (map_of c.scan.records) ∷ z) a.1)
-scans-own start (Err (refused.Scan error)) before now old new c first a =
-    subst (AddsScans first) (sym (ap (λ (t : SeatTold Command). t.own) c.1.0)) a
-scans-own start (Err (refused.Apply error)) before now old new c first a =
-    subst (AddsScans first) (sym (ap (λ (t : SeatTold Command). t.own) c.turn.seat)) a
-scans-own start (Err refused.Mem) before now old new (inl none) first a =
-    subst (AddsScans first) (sym (ap (λ (t : SeatTold Command). t.own) none.0)) a
-scans-own start (Err refused.Mem) before now old new (inr taken) first a =
-    subst (AddsScans first) (sym (ap (λ (t : SeatTold Command). t.own) taken.1.seat)) a
+pub scans-own : {A : Type 0} (start : Start) (result : Result A ScanRefused) (before now : ℕ) (old new : Across) (a b : Counts) → ScansOnce start result before now old new
+    → OnOk result (b ≡ record a { accepted = raised a.accepted 1 }) → IfErr result (λ refusal. b ≡ counted a refusal)
+    → (first : List Command) → AddsScans a.accepted first old.seat.own → AddsScans b.accepted first new.seat.own
+scans-own start (Ok value) before now old new a b c is none first s = (
+  map_of c.scan.records ∷ s.0,
+  one-up a.accepted b.accepted (length s.0) (2 ^ 64 - 1) (ap (λ (k : Counts). k.accepted) is) s.1,
+  ap (λ (t : SeatTold Command). t.own) c.turn.seat ∙ ap (λ (z : List Command). Scans (map_of c.scan.records) ∷ z) s.2,
+)
+  where
+    one-up : (accepted more n top : ℕ) → more ≡ min (accepted + 1) top → accepted ≡ min (0 + n) top → more ≡ min (0 + suc n) top
+    one-up accepted more n top counted many = omega (arith, counted, many)
+scans-own start (Err (refused.Scan error)) before now old new a b c none is first s =
+    same-scans first _ _ a b (ap (λ (t : SeatTold Command). t.own) c.1.0) (ap (λ (k : Counts). k.accepted) is) s
+scans-own start (Err (refused.Apply error)) before now old new a b c none is first s =
+    same-scans first _ _ a b (ap (λ (t : SeatTold Command). t.own) c.turn.seat) (ap (λ (k : Counts). k.accepted) is) s
+scans-own start (Err refused.Mem) before now old new a b (inl untaken) none is first s =
+    same-scans first _ _ a b (ap (λ (t : SeatTold Command). t.own) untaken.0) (ap (λ (k : Counts). k.accepted) is) s
+scans-own start (Err refused.Mem) before now old new a b (inr taken) none is first s =
+    same-scans first _ _ a b (ap (λ (t : SeatTold Command). t.own) taken.1.seat) (ap (λ (k : Counts). k.accepted) is) s
 
 -- each scan is counted
 pub some-counted : {A : Type 0} (result : Result A ScanRefused) (a b : Counts) → OnOk result (b ≡ record a { accepted = raised a.accepted 1 })

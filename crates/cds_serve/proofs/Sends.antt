@@ -1,11 +1,11 @@
 -- Notes that are given to a link one after another.
 use Rattle.std.proofs.Common.{◌≡◌, ◌+◌, ◌<◌, ◌≤◌, ℕ, List, [], ◌∷◌, ◌++◌, length, map, take, get_or, Option, Some, None, IsSome, IfSome, Result, Ok, Err, OnErr, option_map, unwrap_or, true≢false, refl, sym, ap, subst, ◌∙◌, append_assoc}
 use Rattle.std.proofs.lemmas.List.{append-nil, length-map, map-append, take-map, take_all, take_more}
-use Rattle.cds_base.specs.declared.outside.link.LinkFault.{LinkFault}
-use Rattle.cds_base.specs.declared.outside.link.LinkFault.TheVariants.{Failed, Mem, Over}
-use Rattle.cds_base.specs.declared.outside.link.LinkRequest.{LinkRequest}
-use Rattle.cds_base.specs.Outside.{Told}
-use Rattle.cds_base.specs.Links.{requests_after}
+use Rattle.cds_outside.specs.declared.link.LinkFault.{LinkFault}
+use Rattle.cds_outside.specs.declared.link.LinkFault.TheVariants.{Failed, Mem, Over}
+use Rattle.cds_outside.specs.declared.link.LinkRequest.{LinkRequest}
+use Rattle.cds_outside.specs.Outside.{Told}
+use Rattle.cds_outside.specs.Links.{requests_after}
 use Rattle.url.specs.Parts.{Parts}
 use Rattle.cds_gena.specs.Asked.{url_in}
 use Rattle.cds_gena.specs.Subscribed.{IsDelivered}

@@ -1,6 +1,6 @@
 -- The jobs on a shared server, each done in one turn: the commands that a job appends and its answer.
-use Rattle.std.specs.Prelude.{◌≡◌, ℕ, List, [], ◌∷◌, Result, Ok, Err, IfSome, ⊤}
-use Rattle.cds_base.specs.declared.outside.link.LinkRequest.{LinkRequest}
+use Rattle.std.specs.Prelude.{◌≡◌, ℕ, List, [], ◌∷◌, Result, Ok, Err, IfSome, IsErr, ⊤}
+use Rattle.cds_outside.specs.declared.link.LinkRequest.{LinkRequest}
 use Rattle.cds_base.specs.declared.mem.Mem.{Mem}
 use Rattle.cds_catalog.specs.Library.{map_of}
 use Rattle.cds_catalog.specs.Scans.{Accepted, scan_answer}
@@ -10,16 +10,37 @@ use Rattle.cds_object.specs.declared.record.Record.{Record}
 use Rattle.cds_store.specs.Applied.{IsRefusal}
 use Rattle.cds_store.specs.declared.error.ApplyError.{ApplyError}
 use Rattle.cds_store.specs.declared.span.Span.{Span}
+use Rattle.cds_server.specs.Asking.{Fits, IsAction, command_in, note_in, reply_in, said}
 use Rattle.cds_server.specs.Due.{AllGoOut, due}
 use Rattle.cds_server.specs.Outcome.{GoesOut, empty_reply}
 use Rattle.cds_server.specs.Replies.{IsReply, command_at, note_at}
+use Rattle.cds_server.specs.declared.made.Answered.{Answered}
+use Rattle.cds_server.specs.declared.asking.Asking.{Asking}
 use Rattle.cds_serve.specs.declared.acts.Look.{Look}
 use Rattle.cds_serve.specs.declared.acts.Reply.{Reply}
 use Rattle.cds_serve.specs.Answered.{no_memory_reply}
 use Rattle.cds_serve.specs.Sent.{first_requests}
 use Rattle.cds_serve.specs.Served.{added}
 
--- The server handles a message: its reply and its first note, by the list of commands found.
+-- The server answers what was asked, by the list of commands found: its answer says the reply that is owed, and has the first
+-- note that is owed.
+abbrev pub answer_adds : Start → List Command → ℕ → Asking → Result Answered Mem → List Command
+answer_adds start found now asking (Ok answered) = added (command_in start found now asking)
+answer_adds start found now asking (Err memory) = []
+
+abbrev pub IsAnswerGiven : Start → List Command → ℕ → Asking → Result Answered Mem → Type 0
+IsAnswerGiven start found now asking (Ok answered) =
+    (said asking answered.made ≡ reply_in start found now asking) × (answered.note ≡ note_in start found now asking)
+    × Fits asking answered.made × GoesOut answered.note
+IsAnswerGiven start found now asking (Err memory) = ⊤
+
+-- The answer is written, or there was no memory for it. What is made of a subscription is always written.
+abbrev pub IsWritten : Asking → Result Answered Mem → Result Reply Mem → Type 0
+IsWritten asking (Ok answered) (Ok reply) = (reply.text ≡ said asking answered.made) × (reply.note ≡ answered.note)
+IsWritten asking (Ok answered) (Err memory) = IsAction asking
+IsWritten asking (Err memory) reply = IsErr reply
+
+-- The message was handled: its reply and its first note, by the list of commands found.
 abbrev pub reply_adds : Start → List Command → ℕ → Message → Result Reply Mem → List Command
 reply_adds start found now m (Ok reply) = added (command_at start found now m)
 reply_adds start found now m (Err memory) = []

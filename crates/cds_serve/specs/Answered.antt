@@ -1,25 +1,24 @@
 -- What a connection is answered, by its bytes. RFC 9110 gives the statuses 400, 404, 405 and 413. UPnP Device Architecture 2.0
 -- gives the URLs of control and of eventing.
-use Rattle.std.specs.Prelude.{◌≡◌, ◌≤◌, ℕ, Bool, true, false, ◌||◌, bytes_eq, codes, if◌then◌else◌, List, [], ◌++◌, length, Option, Some, None, IsSome, Result, IsErr, IsOk, ⊤}
+use Rattle.std.specs.Prelude.{◌≡◌, ◌≤◌, ℕ, true, false, List, [], ◌++◌, length, Option, Some, None, IsSome, Result, IsErr, IsOk, ⊤}
 use Rattle.cds_base.specs.declared.mem.Mem.{Mem as Memory}
-use Rattle.cds_base.specs.declared.outside.link.LinkRequest.{LinkRequest}
-use Rattle.cds_base.specs.Outside.{Told, Rose}
-use Rattle.cds_base.specs.Links.{LinkTold}
+use Rattle.cds_outside.specs.declared.link.LinkRequest.{LinkRequest}
+use Rattle.cds_outside.specs.Outside.{Told, Rose}
+use Rattle.cds_outside.specs.Links.{LinkTold}
 use Rattle.cds_http.specs.declared.error.HttpError.{HttpError}
 use Rattle.cds_http.specs.declared.error.HttpError.TheVariants.{BadHead, HeadTooLong, BadLength, BadChunk, TooLong, Truncated, Failed, Mem}
 use Rattle.cds_http.specs.declared.message.Message.{Message}
 use Rattle.cds_http.specs.declared.message.Side.TheVariants as side
-use Rattle.cds_http.specs.declared.message.Start.{Start as Line}
-use Rattle.cds_http.specs.declared.message.Start.TheVariants as line
 use Rattle.cds_http.specs.Decided.{Decides}
 use Rattle.cds_http.specs.Known.{Known, Whole, Needs, Refused}
 use Rattle.cds_commands.specs.Commands.{Command, Start}
 use Rattle.cds_turn.specs.Line.{Extends}
 use Rattle.cds_server.specs.Outcome.{empty_reply}
 use Rattle.cds_server.specs.Replies.{IsReply, command_at, fault_reply, note_at}
+use Rattle.cds_server.specs.Route.{request_status}
 use Rattle.cds_serve.specs.Sent.{GivesAll, first_requests}
 use Rattle.cds_serve.specs.Served.{added}
-use Rattle.cds_base.specs.Told.{ClockTold, ConnTold}
+use Rattle.cds_outside.specs.Told.{ClockTold, ConnTold}
 use Rattle.cds_turn.specs.Turn.{SeatTold, after_turn}
 use Rattle.cds_serve.specs.Told.{IsAlone, IsMoment, Writes}
 
@@ -35,27 +34,6 @@ refusal_status BadChunk = 400
 refusal_status Truncated = 400
 refusal_status Failed = 400
 refusal_status Mem = 400
-
--- whether the target of events takes this method
-abbrev pub is_event_method : List ℕ → Bool
-is_event_method method = bytes_eq method (codes "SUBSCRIBE") || bytes_eq method (codes "UNSUBSCRIBE")
-
--- a method that a target does not take gets 405
-abbrev pub status_unless : Bool → Option ℕ
-status_unless true = None
-status_unless false = Some 405
-
--- The target `/control` takes POST; `/event` takes SUBSCRIBE and UNSUBSCRIBE. Every other target gets 404.
-abbrev pub status_at : List ℕ → List ℕ → Option ℕ
-status_at target method =
-    if bytes_eq target (codes "/control") then status_unless (bytes_eq method (codes "POST"))
-    else if bytes_eq target (codes "/event") then status_unless (is_event_method method)
-    else Some 404
-
--- the status of a start line, if the server has no part in it; a line that is no request gets 400
-abbrev pub request_status : Line → Option ℕ
-request_status (line.Request method target) = status_at target method
-request_status (line.Reply status) = Some 400
 
 -- The status that bytes are answered with, without a turn. Bytes that end before their message does are refused as cut off.
 abbrev pub free_status : Known Message → Option ℕ

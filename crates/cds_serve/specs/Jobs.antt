@@ -1,17 +1,21 @@
--- What the three jobs of a server that listens answer.
-use Rattle.std.specs.Prelude.{◌≡◌, ◌≢◌, ◌⊎◌, ◌+◌, ◌<◌, ◌≤◌, ℕ, IsTrue, List, [], ◌∷◌, ◌++◌, length, map, ⊤}
-use Rattle.std.specs.List.{AllByRecursion}
-use Rattle.cds_base.specs.Entries.{FolderTold}
-use Rattle.cds_base.specs.Outside.{raised, Rose}
-use Rattle.cds_base.specs.Told.{DoorTold}
+-- What the three jobs of a server that listens answer, and which commands they and its stop gave.
+use Rattle.std.specs.Prelude.{◌≡◌, ◌≢◌, ◌⊎◌, ◌+◌, ◌<◌, ◌≤◌, ℕ, Bool, IsTrue, List, [], ◌∷◌, ◌++◌, length, map, ⊤}
+use Rattle.std.specs.List.{AllByRecursion, count_by}
+use Rattle.cds_outside.specs.Entries.{FolderTold}
+use Rattle.cds_outside.specs.Outside.{raised, Rose}
+use Rattle.cds_outside.specs.Told.{DoorTold}
 use Rattle.cds_catalog.specs.Library.{FolderMap, map_of}
 use Rattle.cds_catalog.specs.Scans.{Accepted, scan_answer}
 use Rattle.cds_commands.specs.Commands.{Command, Start, Ends, Grants, Renews, Scans, Stops, Ticks, is_stopped, scans_of}
 use Rattle.cds_scan.specs.Scanning.{IsStop}
 use Rattle.cds_scan.specs.declared.error.ScanError.{ScanError}
 use Rattle.cds_scan.specs.declared.scanned.Scan.{Scan}
+use Rattle.cds_server.specs.Serving.{Serving, StandsFor}
+use Rattle.cds_turn.specs.declared.seat.Seat.{Seat}
+use Rattle.cds_turn.specs.declared.stands.StandsFor.{Ghosts}
+use Rattle.cds_turn.specs.declared.turn.Turn.{Turn}
 use Rattle.cds_turn.specs.Line.{Extends}
-use Rattle.cds_turn.specs.Turn.{SeatTold}
+use Rattle.cds_turn.specs.Turn.{SeatTold, own_by, passes_of}
 use Rattle.cds_serve.specs.Scanned.{MayGive}
 
 -- ---- a worker
@@ -39,9 +43,9 @@ AddsAnswers before own = (commands : List Command) × AllByRecursion IsOfMessage
 
 -- ---- the scanner
 
--- Scans and no other commands were added to a list.
-abbrev pub AddsScans : List Command → List Command → Type 0
-AddsScans before own = (maps : List FolderMap) × (own ≡ map Scans maps ++ before)
+-- Scans and no other commands were added to a list, as many as are counted as accepted. The count stops at the last value of a u64.
+abbrev pub AddsScans : ℕ → List Command → List Command → Type 0
+AddsScans accepted before own = (maps : List FolderMap) × (accepted ≡ raised 0 (length maps)) × (own ≡ map Scans maps ++ before)
 
 -- The maps of what scans gave stand among commands, the newest first, each at a place of its own.
 abbrev pub StandAmong : List Scan → List Command → Type 0
@@ -118,3 +122,39 @@ pub record EndsNotifying (old new : SeatTold Command) : Type 0 where
   pub own : AddsTicks old.own new.own
   pub passes : new.passes ≡ old.passes
   pub alone : old.passes ≡ old.seats → AddsTicks old.seen new.seen
+
+-- ---- all jobs
+
+module _ {V C T : Type 0} {of : Ghosts V C T} where
+  -- A job that was not started yet shares this turn. Its seat has one pass and no commands of its own.
+  abbrev pub IsHired : Turn V C T → Turn V C T → Seat V C T of → Type 0
+  IsHired turn theirs seat = (theirs ≡ turn) × (passes_of seat ≡ 1) × (length (own_by seat) ≡ 0)
+
+-- Answers and no other commands follow a list.
+abbrev pub FollowAnswers : List Command → List Command → Type 0
+FollowAnswers before own = (answers : List Command) × AllByRecursion IsOfMessage answers × (own ≡ before ++ answers)
+
+-- This many scans and no other commands follow a list. The count stops at the last value of a u64.
+abbrev pub FollowScans : ℕ → List Command → List Command → Type 0
+FollowScans accepted before own = (maps : List FolderMap) × (accepted ≡ raised 0 (length maps)) × (own ≡ before ++ map Scans maps)
+
+-- Ticks and no other commands follow a list.
+abbrev pub FollowTicks : List Command → List Command → Type 0
+FollowTicks before own = (moments : List ℕ) × (own ≡ before ++ map Ticks moments)
+
+-- Requests about subscriptions, scans, ticks and one stop gave all of these commands, counted by any test. There are as many scans
+-- as were counted as accepted. The count stops at the last value of a u64.
+pub record IsAllGiven (commands : List Command) (accepted : ℕ) : Type 0 where
+  pub answers : List Command
+  pub answered : AllByRecursion IsOfMessage answers
+  pub maps : List FolderMap
+  pub scanned : accepted ≡ raised 0 (length maps)
+  pub moments : List ℕ
+  pub all : (test : Command → Bool) → count_by test commands ≡ count_by test (answers ++ map Scans maps ++ map Ticks moments ++ Stops ∷ [])
+
+-- A seat is the only one of its turn. A server stands for what it has seen, from this start. The jobs and one stop gave all of it.
+pub record HasSeenAll (start : Start) (seat : SeatTold Command) (accepted : ℕ) : Type 0 where
+  pub alone : seat.passes ≡ seat.seats
+  pub serving : Serving
+  pub stands : StandsFor serving start seat.seen
+  pub given : IsAllGiven seat.seen accepted

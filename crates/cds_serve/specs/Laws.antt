@@ -1,22 +1,18 @@
 -- Laws of what a connection is answered and of how a listening server makes names.
-use Rattle.std.specs.Prelude.{◌≡◌, ◌↔◌, ◌+◌, ◌*◌, ◌%◌, ◌^◌, ◌<◌, ℕ, List, [], ◌∷◌, Some}
+use Rattle.std.specs.Prelude.{◌≡◌, ◌↔◌, ◌+◌, ◌*◌, ◌%◌, ◌^◌, ◌<◌, ℕ, List, Some}
 use Rattle.cds_http.specs.declared.message.Message.{Message}
 use Rattle.cds_commands.specs.Commands.{Command, Start}
 use Rattle.cds_commands.specs.Names.{name_of}
 use Rattle.cds_server.specs.Outcome.{empty_reply}
 use Rattle.cds_server.specs.Replies.{IsReply}
-use Rattle.cds_serve.specs.Answered.{request_status}
-use Rattle.cds_serve.specs.Life.{first_word, second_word, start_with}
+use Rattle.cds_server.specs.Route.{request_status}
+use Rattle.cds_serve.specs.Life.{start_at}
 
 -- If a request is answered with a status and no turn, the server would give the same reply, at each moment and after each list of
 -- commands.
 abbrev pub free_answers_are_replies : Type 0
 free_answers_are_replies = (start : Start) (commands : List Command) (now : ℕ) (m : Message) (status : ℕ) (text : List ℕ) →
     request_status m.start ≡ Some status → IsReply start commands now m text ↔ (text ≡ empty_reply status)
-
--- the start of a server that listens at a port, with boot words of this moment
-abbrev pub start_at : ℕ → ℕ → Start
-start_at moment port = start_with (first_word moment ∷ second_word port ∷ [])
 
 -- A name has 128 bits. The upper 48 are the moment's lowest; the lower 48 are the port and the number of the grant. Between them
 -- stand the version 8 and the variant of a UUID (RFC 9562). No other bit is set.

@@ -1,7 +1,7 @@
 pub mod Acts
 pub mod Answered
 pub mod Counted
-pub mod Evaluated
+pub mod Examples
 pub mod Jobs
 pub mod Laws
 pub mod Life

@@ -1,12 +1,14 @@
 -- A server that listens at a port, from its start to its end (this project's profile).
 use Rattle.std.specs.Prelude.{◌≡◌, ◌⊎◌, ◌+◌, ◌*◌, ◌/◌, ◌%◌, ◌^◌, ◌≤◌, ◌<◌, ℕ, codes, nat_lt, if◌then◌else◌, slice_index, List, [], ◌∷◌, ◌++◌, take, zero, suc, Option, Some, Result, Ok, Err, ⊤}
 use Rattle.std.specs.Fmt.{decimal}
-use Rattle.cds_base.specs.Asked.{Asked, ForClock, ForDoor, ForFolder, ForLink, ForSpawner}
-use Rattle.cds_base.specs.Outside.{HoldsPart, Rose, SinkTold, Told, raised}
-use Rattle.cds_base.specs.declared.outside.exterior.OutsideFault.{OutsideFault}
-use Rattle.cds_base.specs.declared.outside.exterior.OutsideFault.TheVariants as outside_fault
-use Rattle.cds_commands.specs.Commands.{Start}
-use Rattle.cds_base.specs.Told.{ClockTold, DoorTold, OutsideTold, asked_then}
+use Rattle.cds_outside.specs.Asked.{Asked, ForClock, ForDoor, ForFolder, ForLink, ForSpawner}
+use Rattle.cds_outside.specs.Outside.{HoldsPart, Rose, SinkTold, Told, raised}
+use Rattle.cds_outside.specs.declared.exterior.OutsideFault.{OutsideFault}
+use Rattle.cds_outside.specs.declared.exterior.OutsideFault.TheVariants as outside_fault
+use Rattle.cds_commands.specs.Commands.{Command, Start}
+use Rattle.cds_server.specs.Serving.{Serving, StandsFor}
+use Rattle.cds_outside.specs.Told.{ClockTold, DoorTold, OutsideTold, asked_then}
+use Rattle.cds_serve.specs.Jobs.{IsAllGiven}
 use Rattle.cds_serve.specs.Told.{IsMoment}
 use Rattle.cds_serve.specs.declared.fault.Fault.{Fault}
 use Rattle.cds_serve.specs.declared.fault.Fault.TheVariants as fault
@@ -82,6 +84,14 @@ pub record AreFirstWords (port : ℕ) (clock : ClockTold) (boot : List ℕ) : Ty
 abbrev pub start_with : List ℕ → Start
 start_with boot = record { high = slice_index boot 0; low = slice_index boot 1; first = 0 }
 
+-- the start of a server that was opened with the boot words of a moment and a port
+abbrev pub start_at : ℕ → ℕ → Start
+start_at moment port = start_with (first_word moment ∷ second_word port ∷ [])
+
+-- A server was opened at a port, with the boot words of some moment.
+abbrev pub IsOpenedAt : ℕ → Start → Type 0
+IsOpenedAt port start = (moment : ℕ) × (start ≡ start_at moment port)
+
 -- A list has a first element, and this holds of it.
 abbrev pub OfFirst : {A : Type 0} → (A → Type 0) → List A → Type 0
 OfFirst P [] = ⊥
@@ -100,8 +110,18 @@ pub record Outer : Type 0 where
   pub outside : OutsideTold
   pub sink : SinkTold
 
+-- All that a server at a port accepted, from its opening to its end. It was opened with the boot words of a moment and the port. At
+-- its end a server stands for these commands; the newest stands first. Requests about subscriptions, this many scans, ticks and one
+-- stop gave all of them.
+pub record AllAccepted (port scans : ℕ) : Type 0 where
+  pub commands : List Command
+  pub moment : ℕ
+  pub serving : Serving
+  pub stands : StandsFor serving (start_at moment port) commands
+  pub given : IsAllGiven commands scans
+
 -- The server served to its end. Both lines are written, the doors gave as many connections as were asked for, and six jobs were
--- started.
+-- started. Its jobs and its stop gave all that it accepted.
 pub record Served (port : ℕ) (path : List ℕ) (requests : ℕ) (old new : Outer) : Type 0 where
   pub counts : Counts
   pub are_counts : AreCounts counts
@@ -109,6 +129,7 @@ pub record Served (port : ℕ) (path : List ℕ) (requests : ℕ) (old new : Out
   pub connections : new.outside.connections ≡ raised old.outside.connections requests
   pub started : new.outside.started ≡ raised old.outside.started 6
   pub asked : Told old.outside.asked (λ list. new.outside.asked ≡ Some (list ++ life_asks port path))
+  pub accepted : AllAccepted port counts.accepted
 
 -- The server ended early. A prefix of its possible output is written, and the outside was asked for the first n things.
 pub record Stops (port : ℕ) (path : List ℕ) (requests : ℕ) (old new : Outer) : Type 0 where
@@ -133,10 +154,16 @@ IsCaused (Err fault.Sink) sink outside = sink
 IsCaused (Err fault.Mem) sink outside = ⊤
 IsCaused (Err fault.Outside) sink outside = outside
 
+-- Both lines were written, with the counts of all that the server accepted.
+pub record WritesBoth (port requests : ℕ) (before after : Option (List ℕ)) : Type 0 where
+  pub counts : Counts
+  pub are_counts : AreCounts counts
+  pub written : Told before (λ held. after ≡ Some (held ++ life_text port requests counts))
+  pub accepted : AllAccepted port counts.accepted
+
 -- Both lines were written, or a prefix of a possible output.
 abbrev pub WritesLife : {A : Type 0} → Result A Fault → ℕ → ℕ → Option (List ℕ) → Option (List ℕ) → Type 0
-WritesLife (Ok value) port requests before after =
-    Told before (λ held. (counts : Counts) × AreCounts counts × (after ≡ Some (held ++ life_text port requests counts)))
+WritesLife (Ok value) port requests before after = WritesBoth port requests before after
 WritesLife (Err cause) port requests before after =
     Told before (λ held. (counts : Counts) × AreCounts counts × HoldsPart held (life_text port requests counts) after)
 
@@ -181,10 +208,6 @@ pub record Takes {A : Type 0} (result : Result A Fault) (asks : List Asked) (old
 -- Doors came back to the outside and nothing else did. Its counts of faults and of connections may rise.
 abbrev pub doors_back : OutsideTold → OutsideTold → OutsideTold
 doors_back old new = record old { faults = new.faults; connections = new.connections }
-
--- The outside was asked for objects, and doors came back.
-abbrev pub served_then : OutsideTold → OutsideTold → OutsideTold
-served_then old new = record old { faults = new.faults; asked = new.asked; connections = new.connections }
 
 -- The folders and the links that came back are the same as before.
 abbrev pub KeepsEnded : OutsideTold → OutsideTold → Type 0

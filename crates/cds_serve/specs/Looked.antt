@@ -2,13 +2,13 @@
 -- ContentDirectory:4 on the moderation of events).
 use Rattle.std.specs.Prelude.{◌≡◌, ◌⊎◌, ◌+◌, ℕ, Bool, List, ◌∷◌, Option, Result, Ok, Err, [], ◌++◌}
 use Rattle.cds_base.specs.declared.mem.Mem.{Mem}
-use Rattle.cds_base.specs.declared.outside.link.LinkRequest.{LinkRequest}
-use Rattle.cds_base.specs.Links.{LinkTold}
+use Rattle.cds_outside.specs.declared.link.LinkRequest.{LinkRequest}
+use Rattle.cds_outside.specs.Links.{LinkTold}
 use Rattle.cds_commands.specs.Commands.{Command, Start, Ticks, is_stopped}
 use Rattle.cds_turn.specs.Line.{Extends}
 use Rattle.cds_server.specs.Due.{due}
 use Rattle.cds_serve.specs.Sent.{GivesEach, GivesFront, release_requests}
-use Rattle.cds_base.specs.Told.{ClockTold}
+use Rattle.cds_outside.specs.Told.{ClockTold}
 use Rattle.cds_turn.specs.Turn.{SeatTold}
 use Rattle.cds_serve.specs.Told.{IsAlone, IsMoment}
 

@@ -1,6 +1,6 @@
 -- How one request is read from a connection.
 use Rattle.std.specs.Prelude.{◌≡◌, ◌⊎◌, ℕ, false, true, List, [], ◌++◌, Option, Some, None, ⊤}
-use Rattle.cds_base.specs.Outside.{Rose}
+use Rattle.cds_outside.specs.Outside.{Rose}
 use Rattle.cds_http.specs.declared.error.HttpError.{HttpError}
 use Rattle.cds_http.specs.declared.error.HttpError.TheVariants.{BadHead, HeadTooLong, BadLength, BadChunk, TooLong, Truncated, Failed, Mem}
 use Rattle.cds_http.specs.declared.message.Message.{Message}

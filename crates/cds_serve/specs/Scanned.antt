@@ -1,8 +1,8 @@
 -- One scan of a folder that a shared server takes.
 use Rattle.std.specs.Prelude.{◌≡◌, ◌⊎◌, ℕ, List, ◌∷◌, Result, Ok, Err, ⊤, []}
 use Rattle.std.specs.List.{count_by}
-use Rattle.cds_base.specs.Entries.{FolderTold}
-use Rattle.cds_base.specs.Outside.{Rose}
+use Rattle.cds_outside.specs.Entries.{FolderTold}
+use Rattle.cds_outside.specs.Outside.{Rose}
 use Rattle.cds_catalog.specs.Library.{map_of}
 use Rattle.cds_catalog.specs.Scans.{Accepted, scan_answer}
 use Rattle.cds_commands.specs.Commands.{Command, Start, Scans, scans_of}
@@ -17,7 +17,7 @@ use Rattle.cds_store.specs.declared.error.ApplyError.TheVariants as apply_error
 use Rattle.cds_turn.specs.Line.{Extends}
 use Rattle.cds_serve.specs.declared.scanning.ScanRefused.{ScanRefused}
 use Rattle.cds_serve.specs.declared.scanning.ScanRefused.TheVariants as refused
-use Rattle.cds_base.specs.Told.{ClockTold}
+use Rattle.cds_outside.specs.Told.{ClockTold}
 use Rattle.cds_turn.specs.Turn.{SeatTold, after_turn}
 use Rattle.cds_serve.specs.Told.{IsAlone, IsMoment}
 

@@ -1,10 +1,10 @@
 -- The requests that carry notes over a link (UPnP Device Architecture 2.0 on event messages).
 use Rattle.std.specs.Prelude.{◌≡◌, ◌<◌, ℕ, List, [], ◌∷◌, ◌++◌, length, map, take, Option, Some, None, Result, Ok, Err, option_map, unwrap_or}
 use Rattle.cds_base.specs.declared.mem.Mem.{Mem as Memory}
-use Rattle.cds_base.specs.declared.outside.link.LinkFault.{LinkFault}
-use Rattle.cds_base.specs.declared.outside.link.LinkFault.TheVariants.{Failed, Mem, Over}
-use Rattle.cds_base.specs.declared.outside.link.LinkRequest.{LinkRequest}
-use Rattle.cds_base.specs.Outside.{Told}
+use Rattle.cds_outside.specs.declared.link.LinkFault.{LinkFault}
+use Rattle.cds_outside.specs.declared.link.LinkFault.TheVariants.{Failed, Mem, Over}
+use Rattle.cds_outside.specs.declared.link.LinkRequest.{LinkRequest}
+use Rattle.cds_outside.specs.Outside.{Told}
 use Rattle.cds_gena.specs.Asked.{url_in}
 use Rattle.cds_gena.specs.declared.address.Address.{Address}
 use Rattle.cds_notify.specs.Notify.{notify_text}

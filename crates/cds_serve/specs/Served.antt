@@ -1,5 +1,5 @@
 -- A server that threads share in turns: which commands it stands for.
-use Rattle.std.specs.Prelude.{◌≡◌, ◌==◌, ℕ, Bool, false, List, [], ◌∷◌, Option, Some, None}
+use Rattle.std.specs.Prelude.{◌≡◌, List, [], ◌∷◌, Option, Some, None}
 use Rattle.cds_commands.specs.Commands.{Command, Start}
 use Rattle.cds_server.specs.Serving.{Serving, StandsFor}
 
@@ -16,8 +16,3 @@ Stands opened start commands = (opened.start ≡ start) × StandsFor opened.serv
 abbrev pub added : Option Command → List Command
 added None = []
 added (Some command) = command ∷ []
-
--- whether there is a digit and it is `2`
-abbrev pub is_two : Option ℕ → Bool
-is_two None = false
-is_two (Some digit) = digit == 50

@@ -1,7 +1,7 @@
 -- What a seat, a clock and a connection tell before and after a call.
 use Rattle.std.specs.Prelude.{◌≡◌, ◌⊎◌, ℕ, List, ◌++◌, Some}
-use Rattle.cds_base.specs.Outside.{HoldsPart, Rose, SinkTold, Told}
-use Rattle.cds_base.specs.Told.{ClockTold, and_moment}
+use Rattle.cds_outside.specs.Outside.{HoldsPart, Rose, SinkTold, Told}
+use Rattle.cds_outside.specs.Told.{ClockTold, and_moment}
 use Rattle.cds_commands.specs.Commands.{Command}
 use Rattle.cds_turn.specs.Turn.{SeatTold}
 

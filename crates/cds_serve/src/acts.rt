@@ -1,22 +1,18 @@
 //! Jobs on the shared server, each done in one turn.
 
-ghost use Rattle.std.specs.Prelude.{◌≡◌, ◌<◌, ◌^◌, ℕ, List, length, slice_get};
-ghost use Rattle.cds_commands.specs.Commands.{Command, Start};
-ghost use Rattle.cds_server.specs.Replies.{IsReply, command_at};
-ghost use Rattle.cds_server.specs.Route.{asks_events};
-ghost use Rattle.cds_serve.specs.Served.{added, is_two};
+ghost use Rattle.std.specs.Prelude.{◌≡◌, ◌<◌, ◌^◌, Option, is_some, length};
+ghost use Rattle.cds_commands.specs.Commands.{Command};
+ghost use Rattle.cds_serve.specs.Served.{added};
 
 use crate::served::Served;
 use cds_base::{Bytes, Mem};
-use cds_gena::asks_of_subscription;
-use cds_http::{Message, Start as Line};
 use cds_scan::Scan;
-use cds_server::{FirstNote, Notes};
+use cds_server::{Answered, Asking, FirstNote, Notes};
 use cds_store::{ApplyError, Span};
 use cds_turn::Act;
 use std::alloc::Global;
 
-/// What a server made of a message: the reply, and the first note of a subscription that was accepted.
+/// What is written and sent for a message: the reply, and the first note of a subscription that was accepted.
 #[derive(Drop)]
 pub(crate) struct Reply {
     pub text: Bytes,
@@ -30,68 +26,38 @@ pub(crate) struct Look {
     pub stopped: bool,
 }
 
-/// Returns whether a message asks about a subscription at the target of events.
-fn asks_events(message: &Message) -> bool
-    ensures { result ≡ asks_events message.now.start }
+/// Returns how many commands were appended, by whether one was accepted.
+fn appended(accepted: bool) -> u64
+    ensures { (command : Option Command) → accepted ≡ is_some command → result ≡ length (added command) }
 {
-    match &message.start {
-        Line::Request { target, .. } => {
-            target.as_str() == "/event" && asks_of_subscription(message)
-        }
-        Line::Reply { .. } => false,
-    }
+    if accepted { 1 } else { 0 }
 }
 
-/// Returns whether a reply has a status from 200 to 299. Its text is `HTTP/1.1 ` and the digits.
-fn is_good(text: &[u8]) -> bool
-    ensures { result ≡ is_two (slice_get text.now 9) }
-{
-    match text.get(9) {
-        Some(byte) => *byte == b'2',
-        None => false,
-    }
-}
-
-/// Returns how many commands a message appended, judged by the reply. Of the requests about subscriptions, exactly the accepted
-/// ones have the status 200.
-fn appended(message: &Message, text: &[u8]) -> u64
-    ensures { (start : Start) (found : List Command) (now : ℕ) → IsReply start found now message.now text.now
-        → result ≡ length (added (command_at start found now message.now)) }
-{
-    if asks_events(message) && is_good(text) {
-        1
-    } else {
-        0
-    }
-}
-
-/// Has the server handle a message that came at a moment.
+/// Has the server answer what was asked at a moment.
 #[derive(Clone, Copy)]
 pub(crate) struct Handle<'a> {
     pub alloc: Global,
     pub now: u64,
-    pub message: &'a Message,
+    pub asking: &'a Asking,
 }
 
 impl<'a> Act<Served> for Handle<'a> {
     ghost use Rattle.std.specs.Prelude.{⊤};
-    ghost use Rattle.cds_serve.specs.Acts.{IsReplyGiven, reply_adds};
+    ghost use Rattle.cds_serve.specs.Acts.{IsAnswerGiven, answer_adds};
 
-    type Out = Result<Reply, Mem>;
+    type Out = Result<Answered, Mem>;
 
-    ghost adds = { λ act start found answer. reply_adds start found act.now act.message.now answer };
+    ghost adds = { λ act start found answer. answer_adds start found act.now act.asking.now answer };
 
-    ghost answers = { λ act start found answer. IsReplyGiven start found act.now act.message.now answer };
+    ghost answers = { λ act start found answer. IsAnswerGiven start found act.now act.asking.now answer };
 
     ghost does = { λ _ _ _ _. ⊤ };
 
-    fn act(self, served: &mut Served) -> (Result<Reply, Mem>, u64) {
-        let mut out = Vec::new(self.alloc);
-        match served.handle(self.alloc, self.now, self.message, &mut out) {
-            Ok(note) => {
-                let count = appended(self.message, out.as_slice());
-                let text = Bytes::from(out);
-                (Ok(Reply { text, note }), count)
+    fn act(self, served: &mut Served) -> (Result<Answered, Mem>, u64) {
+        match served.answer(self.alloc, self.now, self.asking) {
+            Ok(answered) => {
+                let count = appended(answered.accepted);
+                (Ok(answered), count)
             }
             Err(Mem) => (Err(Mem), 0),
         }

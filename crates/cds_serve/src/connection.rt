@@ -1,11 +1,12 @@
-//! Serving one connection: read a message, handle it, write the reply.
+//! Serving one connection: read a message and what it asks, have it answered in a turn, write the reply.
 
 ghost use Rattle.std.specs.Prelude.{◌≡◌, ◌≤◌, ◌++◌, Some, IfOk, IsErr, IsSome, OnErr, OnOk};
-ghost use Rattle.cds_base.specs.Outside.{HoldsPart, Rose, Told};
+ghost use Rattle.cds_outside.specs.Outside.{HoldsPart, Rose, Told};
 ghost use Rattle.cds_turn.specs.Turn.{IsSeatOf, seat_told, start_of};
-ghost use Rattle.cds_server.specs.Outcome.{GoesOut, empty_reply};
+ghost use Rattle.cds_server.specs.Asking.{Fits};
+ghost use Rattle.cds_server.specs.Outcome.{GoesOut};
 ghost use Rattle.cds_serve.specs.Answered.{Serves, no_memory_reply};
-ghost use Rattle.cds_serve.specs.Acts.{free_text, reply_requests, reply_text};
+ghost use Rattle.cds_serve.specs.Acts.{IsWritten, free_text, reply_requests, reply_text};
 ghost use Rattle.cds_serve.specs.Sent.{GivesAll};
 ghost use Rattle.cds_serve.specs.Told.{Writes};
 
@@ -14,8 +15,9 @@ use crate::moment::ask_moment;
 use crate::request::{Request, read_request};
 use crate::sending::send_first;
 use crate::served::Served;
-use cds_base::{Bytes, Clock, Conn, Failed, Gate, Link, Mem};
-use cds_http::{Fields, Message, write_reply};
+use cds_base::Mem;
+use cds_outside::{Clock, Conn, Failed, Gate, Link};
+use cds_server::{Answered, Asking, empty_text, read_asked, write_made};
 use cds_turn::{Seat, Turn};
 use std::alloc::Global;
 use std::sync::Wait;
@@ -30,8 +32,8 @@ const BEFORE_REPLY: u32 = 1;
 
 const BEHIND_REPLY: u32 = 2;
 
-/// Serves one connection: reads one message, has the server handle it in one turn, writes the reply, and sends the first note of
-/// an accepted subscription.
+/// Serves one connection: reads one message and what it asks, has the server answer that in one turn, writes the reply, and sends
+/// the first note of an accepted subscription.
 ///
 /// - A message that is refused, or that the server has no part in, is answered with its status. It costs no turn.
 /// - If memory runs out while a message is read or handled, the constant reply of the fault 603 is written.
@@ -71,27 +73,47 @@ pub fn serve_one<R: Wait, C: Conn, T: Clock, L: Link, G: Gate>(
     ensures link_faults_rise { (L.told link.old).faults ≤ (L.told link.new).faults }
 {
     match read_request(alloc, conn) {
-        Request::Needing(message) => {
-            let now = ask_moment(clock, last);
-            let reply = turn.with(
-                rt,
-                seat,
-                Handle {
-                    alloc,
-                    now,
-                    message: &message,
-                },
-            );
-            drop(message);
-            answer(alloc, conn, link, gate, reply)
-        }
+        Request::Needing(message) => match read_asked(alloc, &message) {
+            Ok(asking) => {
+                drop(message);
+                let now = ask_moment(clock, last);
+                let answered = turn.with(
+                    rt,
+                    seat,
+                    Handle {
+                        alloc,
+                        now,
+                        asking: &asking,
+                    },
+                );
+                answer(alloc, conn, link, gate, reply_of(alloc, asking, answered))
+            }
+            Err(Mem) => {
+                drop(message);
+                starve(conn, gate)
+            }
+        },
         Request::Free(status) => answer_free(alloc, conn, gate, status),
         Request::Broken => Ok(()),
         Request::Starved => starve(conn, gate),
     }
 }
 
-/// Writes what the server made of a message, and sends the first note.
+/// Returns what is written and sent, by what was asked and what the server answered in its turn.
+fn reply_of(alloc: Global, asking: Asking, answered: Result<Answered, Mem>) -> Result<Reply, Mem>
+    requires fits { IfOk answered (λ answered. Fits asking answered.made) }
+    ensures { IsWritten asking answered result }
+{
+    match answered {
+        Ok(Answered { made, note, .. }) => {
+            let text = write_made(alloc, asking, made)?;
+            Ok(Reply { text, note })
+        }
+        Err(Mem) => Err(Mem),
+    }
+}
+
+/// Writes the reply, and sends the first note.
 fn answer<C: Conn, L: Link, G: Gate>(
     alloc: Global,
     conn: &mut C,
@@ -131,23 +153,13 @@ fn answer_free<C: Conn, G: Gate>(
     ensures write_faults_rise { (C.Sink.told conn.old).faults ≤ (C.Sink.told conn.new).faults }
     ensures source_stays { C.Source.told conn.new ≡ C.Source.told conn.old }
 {
-    match empty_reply(alloc, status) {
+    match empty_text(alloc, status) {
         Ok(text) => {
             write(conn, gate, text.as_slice());
             Ok(())
         }
         Err(Mem) => starve(conn, gate),
     }
-}
-
-/// Returns a reply of a status without a body.
-fn empty_reply(alloc: Global, status: u16) -> Result<Bytes, Mem>
-    ensures { IfOk result (λ text. text ≡ empty_reply status) }
-{
-    let fields = Fields::new(alloc);
-    let mut text = Vec::new(alloc);
-    write_reply(status, &fields, b"", &mut text)?;
-    Ok(Bytes::from(text))
 }
 
 /// Writes the constant reply of the fault 603, and returns `Mem`.

@@ -1,22 +1,26 @@
 //! The jobs of a server: how they are hired, started and joined.
 
-ghost use Rattle.std.specs.Prelude.{◌≡◌, ◌≢◌, ◌⊎◌, ◌+◌, ◌^◌, ◌≤◌, ◌<◌, ℕ, [], length, take, sum_by, vec_len, vec_capacity, is_some, nat_lt, if◌then◌else◌, Ok, Err, Some, IfErr, IfNone, IfOk, IfSome, IsFalse, IsNone, IsTrue, OnOk};
+ghost use Rattle.std.specs.Prelude.{◌≡◌, ◌≢◌, ◌⊎◌, ◌+◌, ◌^◌, ◌≤◌, ◌<◌, ℕ, Bool, [], ◌∷◌, length, take, sum_by, vec_len, vec_capacity, is_some, nat_lt, if◌then◌else◌, Ok, Err, Some, IfErr, IfNone, IfOk, IfSome, IsFalse, IsNone, IsTrue, OnOk};
 ghost use Rattle.std.proofs.Props.{props};
 ghost use Rattle.std.specs.Arc.{arc_value};
-ghost use Rattle.std.specs.List.{AllByRecursion};
-ghost use Rattle.cds_base.specs.Outside.{Rose, raised};
-ghost use Rattle.cds_base.specs.Told.{unasked_door};
-ghost use Rattle.cds_turn.specs.Turn.{IsSeatOf, passes_of, start_of};
-ghost use Rattle.cds_serve.specs.Life.{AreCounts, AreFirstWords, IsCaused, doors_back, OfFirst, share_of, start_with};
+ghost use Rattle.std.specs.List.{AllByRecursion, count_by};
+ghost use Rattle.cds_outside.specs.Outside.{Rose, raised};
+ghost use Rattle.cds_outside.specs.Told.{unasked_door};
+ghost use Rattle.cds_commands.specs.Commands.{Command, Stops};
+ghost use Rattle.cds_server.specs.Serving.{Serving, StandsFor};
+ghost use Rattle.cds_turn.specs.Turn.{IsSeatOf, own_by, passes_of, seat_told, seats_of, seen_by, start_of};
+ghost use Rattle.cds_serve.specs.Jobs.{FollowAnswers, FollowScans, FollowTicks, HasSeenAll, IsHired};
+ghost use Rattle.cds_serve.specs.Life.{AreCounts, AreFirstWords, IsCaused, IsOpenedAt, doors_back, OfFirst, share_of, start_with};
 
-use crate::acts::Stop;
+use crate::acts::{IsStopped, Stop};
 use crate::fault::Fault;
 use crate::means::{Ends, Means};
 use crate::notifier::{Notified, Notifier};
 use crate::scanner::{Scanned, Scanner};
 use crate::served::Served;
-use crate::worker::{Worked, Worker};
-use cds_base::{Clock, Door, Folder, Gate, Job, Link, Mem, Outside, Running, Runtime, Spawner};
+use crate::worker::{Post, Worked, Worker};
+use cds_base::Mem;
+use cds_outside::{Clock, Door, Folder, Gate, Job, Link, Outside, Running, Runtime, Spawner};
 use cds_turn::{Seat, Turn};
 use std::alloc::Global;
 use std::marker::Send;
@@ -31,31 +35,55 @@ const NOTIFIER: u32 = 5;
 /// The number of seats: one for each job, and one more.
 const SEATS: u32 = 7;
 
-/// All jobs before they are started, with the turn and its last seat.
+/// All jobs before they are started, with the turn and its last seat. No commands were appended yet with any of the seats.
 #[derive(Drop)]
 pub(crate) struct Crew<R, D, T, L, F, G> {
+    /// The port of the server.
+    pub(crate) port: u16,
+    /// How many connections the workers are to serve.
+    pub(crate) requests: u32,
     pub(crate) turn: Arc<Turn<Served>>,
     pub(crate) seat: Seat<Served>,
     pub(crate) workers: Vec<Worker<R, D, T, L, G>>,
     pub(crate) scanner: Scanner<R, F, T, G>,
     pub(crate) notifier: Notifier<R, T, L, G>,
     ghost own: { IsSeatOf (arc_value turn) seat },
-    ghost workers_own: { AllByRecursion (λ worker. arc_value worker.turn ≡ arc_value turn) workers.items } by { Prim.hlevel props },
-    ghost scanner_own: { arc_value scanner.turn ≡ arc_value turn },
-    ghost notifier_own: { arc_value notifier.turn ≡ arc_value turn },
+    ghost last: { (passes_of seat ≡ 1) × (length (own_by seat) ≡ 0) × (seats_of (arc_value turn) ≡ 7) },
+    ghost few: { length workers.items ≡ 4 },
+    ghost served: { (sum_by (λ worker. worker.post.share) workers.items ≡ requests) × (requests < 2 ^ 32) },
+    ghost workers_own: { AllByRecursion (λ worker. IsHired (arc_value turn) (arc_value worker.turn) worker.seat) workers.items } by { Prim.hlevel props },
+    ghost scanner_own: { IsHired (arc_value turn) (arc_value scanner.turn) scanner.seat },
+    ghost notifier_own: { IsHired (arc_value turn) (arc_value notifier.turn) notifier.seat },
+}
+
+/// A server at its end, with the last seat of its turn, and what the scanner counted.
+#[derive(Drop)]
+pub(crate) struct Finished {
+    pub(crate) turn: Arc<Turn<Served>>,
+    pub(crate) seat: Seat<Served>,
+    pub(crate) counts: Counts,
+    ghost own: { IsSeatOf (arc_value turn) seat },
+}
+
+/// What all jobs of a server stand on.
+#[derive(Drop)]
+struct Ground<'a, R> {
+    rt: &'a R,
+    alloc: Global,
+    turn: &'a Arc<Turn<Served>>,
 }
 
 /// A share of the turn, and a seat of it.
 #[derive(Drop)]
-struct Place {
+struct JobSeat {
     turn: Arc<Turn<Served>>,
     seat: Seat<Served>,
     ghost own: { IsSeatOf (arc_value turn) seat },
 }
 
-/// What each job has: a runtime, a gate, and a place.
+/// What each job is given: a runtime, a gate, and a seat.
 #[derive(Drop)]
-struct Post<R, G> {
+struct Kit<R, G> {
     rt: R,
     gate: G,
     turn: Arc<Turn<Served>>,
@@ -114,12 +142,11 @@ pub(crate) fn hire_crew<
     requires fresh { AllByRecursion (λ ends. D.told ends.door ≡ unasked_door) means.workers.items }
     requires few { length means.workers.items ≡ 4 }
     requires boot { OfFirst (λ ends. AreFirstWords port (T.told ends.clock) means.boot) means.workers.items }
-    ensures workers { IfOk result (λ crew. sum_by (λ worker. worker.share) crew.workers.items ≡ requests) }
-    ensures fresh { IfOk result (λ crew. AllByRecursion (λ worker. D.told worker.door ≡ unasked_door) crew.workers.items) }
-    ensures few { IfOk result (λ crew. length crew.workers.items ≡ 4) }
-    ensures start { IfOk result (λ crew. start_of (arc_value crew.turn) crew.seat ≡ start_with means.boot) }
+    ensures asked { IfOk result (λ crew. (crew.port ≡ port) × (crew.requests ≡ requests)) }
+    ensures fresh { IfOk result (λ crew. AllByRecursion (λ worker. D.told worker.post.door ≡ unasked_door) crew.workers.items) }
+    ensures opened { IfOk result (λ crew. IsOpenedAt port (start_of (arc_value crew.turn) crew.seat)) }
 {
-    let Place { turn, mut seat } = open_turn(alloc, means.boot)?;
+    let JobSeat { turn, mut seat } = open_turn(alloc, means.boot)?;
     let Means {
         boot: _,
         folder,
@@ -128,10 +155,17 @@ pub(crate) fn hire_crew<
         notifier,
         link,
     } = means;
-    let workers = hire_workers(rt, alloc, &turn, &mut seat, requests, workers, gate)?;
-    let scanner = hire_scanner(rt, alloc, &turn, &mut seat, folder, scanner, gate)?;
-    let notifier = hire_notifier(rt, alloc, &turn, &mut seat, notifier, link, gate)?;
+    let ground = Ground {
+        rt,
+        alloc,
+        turn: &turn,
+    };
+    let workers = hire_workers(&ground, &mut seat, requests, workers, gate)?;
+    let scanner = hire_scanner(&ground, &mut seat, folder, scanner, gate)?;
+    let notifier = hire_notifier(&ground, &mut seat, notifier, link, gate)?;
     Ok(Crew {
+        port,
+        requests,
         turn,
         seat,
         workers,
@@ -141,54 +175,55 @@ pub(crate) fn hire_crew<
 }
 
 /// Opens a server with these boot words, before any command, and returns the one seat of its turn.
-fn open_turn(alloc: Global, boot: [u64; 2]) -> Result<Place, Mem>
-    ensures seats { IfOk result (λ place. passes_of place.seat ≡ 7) }
-    ensures start { IfOk result (λ place. start_of (arc_value place.turn) place.seat ≡ start_with boot) }
+fn open_turn(alloc: Global, boot: [u64; 2]) -> Result<JobSeat, Mem>
+    ensures seats { IfOk result (λ job_seat. (passes_of job_seat.seat ≡ 7) × (seats_of (arc_value job_seat.turn) ≡ 7)) }
+    ensures none { IfOk result (λ job_seat. length (own_by job_seat.seat) ≡ 0) }
+    ensures start { IfOk result (λ job_seat. start_of (arc_value job_seat.turn) job_seat.seat ≡ start_with boot) }
 {
     let served = Served::new(alloc, boot, 0)?;
     let (turn, seat) = Turn::new(alloc, served, SEATS)?;
     let turn = Arc::new(alloc, turn)?;
-    Ok(Place { turn, seat })
+    Ok(JobSeat { turn, seat })
 }
 
-/// Returns a place for one job, whose seat takes one of the passes.
-fn place_of(turn: &Arc<Turn<Served>>, seat: &mut Seat<Served>) -> Result<Place, Mem>
+/// Returns a seat for one job, which takes one of the passes.
+fn job_seat_of(turn: &Arc<Turn<Served>>, seat: &mut Seat<Served>) -> Result<JobSeat, Mem>
     requires seat { IsSeatOf (arc_value turn.now) seat.old }
     requires passes { 2 ≤ passes_of seat.old }
     ensures seat { IsSeatOf (arc_value turn.now) seat.new }
+    ensures own { own_by seat.new ≡ own_by seat.old }
     ensures passes { OnOk result (passes_of seat.new + 1 ≡ passes_of seat.old) }
-    ensures shares { IfOk result (λ place. arc_value place.turn ≡ arc_value turn.now) }
+    ensures hired { IfOk result (λ job_seat. IsHired (arc_value turn.now) (arc_value job_seat.turn) job_seat.seat) }
 {
     let shared = Arc::try_clone(turn)?;
     let theirs = turn.split(seat);
-    Ok(Place {
+    Ok(JobSeat {
         turn: shared,
         seat: theirs,
     })
 }
 
-/// Returns the post of the job of this number, whose seat takes one of the passes.
-fn post_of<R: Clone + Drop, G: Gate + Drop>(
-    rt: &R,
-    alloc: Global,
-    turn: &Arc<Turn<Served>>,
+/// Returns what the job of this number is given. Its seat takes one of the passes.
+fn kit_of<R: Clone + Drop, G: Gate + Drop>(
+    ground: &Ground<'_, R>,
     seat: &mut Seat<Served>,
     number: u32,
     gate: &mut G,
-) -> Result<Post<R, G>, Mem>
-    requires seat { IsSeatOf (arc_value turn.now) seat.old }
+) -> Result<Kit<R, G>, Mem>
+    requires seat { IsSeatOf (arc_value ground.now.turn.now) seat.old }
     requires passes { 2 ≤ passes_of seat.old }
-    ensures seat { IsSeatOf (arc_value turn.now) seat.new }
+    ensures seat { IsSeatOf (arc_value ground.now.turn.now) seat.new }
+    ensures own { own_by seat.new ≡ own_by seat.old }
     ensures passes { OnOk result (passes_of seat.new + 1 ≡ passes_of seat.old) }
-    ensures shares { IfOk result (λ post. arc_value post.turn ≡ arc_value turn.now) }
+    ensures hired { IfOk result (λ kit. IsHired (arc_value ground.now.turn.now) (arc_value kit.turn) kit.seat) }
 {
-    let gate = gate.again(alloc, number)?;
-    let rt = rt.clone()?;
-    let Place {
+    let gate = gate.again(ground.alloc, number)?;
+    let rt = ground.rt.clone()?;
+    let JobSeat {
         turn: shared,
         seat: theirs,
-    } = place_of(turn, seat)?;
-    Ok(Post {
+    } = job_seat_of(ground.turn, seat)?;
+    Ok(Kit {
         rt,
         gate,
         turn: shared,
@@ -204,29 +239,28 @@ fn hire_workers<
     L: Link + Send + Drop + 'static,
     G: Gate + Send + Drop + 'static,
 >(
-    rt: &R,
-    alloc: Global,
-    turn: &Arc<Turn<Served>>,
+    ground: &Ground<'_, R>,
     seat: &mut Seat<Served>,
     requests: u32,
     all: Vec<Ends<D, T, L>>,
     gate: &mut G,
 ) -> Result<Vec<Worker<R, D, T, L, G>>, Mem>
-    requires seat { IsSeatOf (arc_value turn.now) seat.old }
+    requires seat { IsSeatOf (arc_value ground.now.turn.now) seat.old }
     requires passes { 5 ≤ passes_of seat.old }
     requires fresh { AllByRecursion (λ ends. D.told ends.door ≡ unasked_door) all.items }
     requires few { length all.items ≡ 4 }
-    ensures seat { IsSeatOf (arc_value turn.now) seat.new }
+    ensures seat { IsSeatOf (arc_value ground.now.turn.now) seat.new }
+    ensures own { own_by seat.new ≡ own_by seat.old }
     ensures passes { OnOk result (passes_of seat.new + 4 ≡ passes_of seat.old) }
-    ensures workers { IfOk result (λ workers. sum_by (λ worker. worker.share) workers.items ≡ requests) }
-    ensures fresh { IfOk result (λ workers. AllByRecursion (λ worker. D.told worker.door ≡ unasked_door) workers.items) }
+    ensures workers { IfOk result (λ workers. sum_by (λ worker. worker.post.share) workers.items ≡ requests) }
+    ensures fresh { IfOk result (λ workers. AllByRecursion (λ worker. D.told worker.post.door ≡ unasked_door) workers.items) }
     ensures few { IfOk result (λ workers. length workers.items ≡ 4) }
-    ensures turn { IfOk result (λ workers. AllByRecursion (λ worker. arc_value worker.turn ≡ arc_value turn.now) workers.items) }
+    ensures hired { IfOk result (λ workers. AllByRecursion (λ worker. IsHired (arc_value ground.now.turn.now) (arc_value worker.turn) worker.seat) workers.items) }
 {
-    let mut workers = Vec::new(alloc);
+    let mut workers = Vec::new(ground.alloc);
     let mut number = 0;
     'workers: for ends in all {
-        let worker = hire_worker(rt, alloc, turn, seat, requests, number, ends, gate)?;
+        let worker = hire_worker(ground, seat, requests, number, ends, gate)?;
         workers.push(worker)?;
         number += 1;
     }
@@ -241,9 +275,7 @@ fn hire_worker<
     L: Link + Send + Drop + 'static,
     G: Gate + Send + Drop + 'static,
 >(
-    rt: &R,
-    alloc: Global,
-    turn: &Arc<Turn<Served>>,
+    ground: &Ground<'_, R>,
     seat: &mut Seat<Served>,
     requests: u32,
     number: u32,
@@ -251,25 +283,29 @@ fn hire_worker<
     gate: &mut G,
 ) -> Result<Worker<R, D, T, L, G>, Mem>
     requires number { number < 4 }
-    requires seat { IsSeatOf (arc_value turn.now) seat.old }
+    requires seat { IsSeatOf (arc_value ground.now.turn.now) seat.old }
     requires passes { 2 ≤ passes_of seat.old }
-    ensures seat { IsSeatOf (arc_value turn.now) seat.new }
+    ensures seat { IsSeatOf (arc_value ground.now.turn.now) seat.new }
+    ensures own { own_by seat.new ≡ own_by seat.old }
     ensures passes { OnOk result (passes_of seat.new + 1 ≡ passes_of seat.old) }
-    ensures share { IfOk result (λ worker. worker.share ≡ share_of requests number) }
-    ensures door { IfOk result (λ worker. worker.door ≡ ends.door) }
-    ensures turn { IfOk result (λ worker. arc_value worker.turn ≡ arc_value turn.now) }
+    ensures share { IfOk result (λ worker. worker.post.share ≡ share_of requests number) }
+    ensures door { IfOk result (λ worker. worker.post.door ≡ ends.door) }
+    ensures hired { IfOk result (λ worker. IsHired (arc_value ground.now.turn.now) (arc_value worker.turn) worker.seat) }
 {
-    let post = post_of(rt, alloc, turn, seat, number, gate)?;
+    let kit = kit_of(ground, seat, number, gate)?;
     Ok(Worker {
-        rt: post.rt,
-        alloc,
-        turn: post.turn,
-        seat: post.seat,
-        door: ends.door,
-        clock: ends.clock,
-        link: ends.link,
-        gate: post.gate,
-        share: share_of(requests, number),
+        rt: kit.rt,
+        alloc: ground.alloc,
+        turn: kit.turn,
+        seat: kit.seat,
+        post: Post {
+            door: ends.door,
+            clock: ends.clock,
+            last: 0,
+            link: ends.link,
+            gate: kit.gate,
+            share: share_of(requests, number),
+        },
     })
 }
 
@@ -280,29 +316,28 @@ fn hire_scanner<
     T: Clock + Send + Drop + 'static,
     G: Gate + Send + Drop + 'static,
 >(
-    rt: &R,
-    alloc: Global,
-    turn: &Arc<Turn<Served>>,
+    ground: &Ground<'_, R>,
     seat: &mut Seat<Served>,
     folder: F,
     clock: T,
     gate: &mut G,
 ) -> Result<Scanner<R, F, T, G>, Mem>
-    requires seat { IsSeatOf (arc_value turn.now) seat.old }
+    requires seat { IsSeatOf (arc_value ground.now.turn.now) seat.old }
     requires passes { 2 ≤ passes_of seat.old }
-    ensures seat { IsSeatOf (arc_value turn.now) seat.new }
+    ensures seat { IsSeatOf (arc_value ground.now.turn.now) seat.new }
+    ensures own { own_by seat.new ≡ own_by seat.old }
     ensures passes { OnOk result (passes_of seat.new + 1 ≡ passes_of seat.old) }
-    ensures shares { IfOk result (λ scanner. arc_value scanner.turn ≡ arc_value turn.now) }
+    ensures hired { IfOk result (λ scanner. IsHired (arc_value ground.now.turn.now) (arc_value scanner.turn) scanner.seat) }
 {
-    let post = post_of(rt, alloc, turn, seat, SCANNER, gate)?;
+    let kit = kit_of(ground, seat, SCANNER, gate)?;
     Ok(Scanner {
-        rt: post.rt,
-        alloc,
-        turn: post.turn,
-        seat: post.seat,
+        rt: kit.rt,
+        alloc: ground.alloc,
+        turn: kit.turn,
+        seat: kit.seat,
         folder,
         clock,
-        gate: post.gate,
+        gate: kit.gate,
     })
 }
 
@@ -313,52 +348,50 @@ fn hire_notifier<
     L: Link + Send + Drop + 'static,
     G: Gate + Send + Drop + 'static,
 >(
-    rt: &R,
-    alloc: Global,
-    turn: &Arc<Turn<Served>>,
+    ground: &Ground<'_, R>,
     seat: &mut Seat<Served>,
     clock: T,
     link: L,
     gate: &mut G,
 ) -> Result<Notifier<R, T, L, G>, Mem>
-    requires seat { IsSeatOf (arc_value turn.now) seat.old }
+    requires seat { IsSeatOf (arc_value ground.now.turn.now) seat.old }
     requires passes { 2 ≤ passes_of seat.old }
-    ensures seat { IsSeatOf (arc_value turn.now) seat.new }
+    ensures seat { IsSeatOf (arc_value ground.now.turn.now) seat.new }
+    ensures own { own_by seat.new ≡ own_by seat.old }
     ensures passes { OnOk result (passes_of seat.new + 1 ≡ passes_of seat.old) }
-    ensures shares { IfOk result (λ notifier. arc_value notifier.turn ≡ arc_value turn.now) }
+    ensures hired { IfOk result (λ notifier. IsHired (arc_value ground.now.turn.now) (arc_value notifier.turn) notifier.seat) }
 {
-    let post = post_of(rt, alloc, turn, seat, NOTIFIER, gate)?;
+    let kit = kit_of(ground, seat, NOTIFIER, gate)?;
     Ok(Notifier {
-        rt: post.rt,
-        alloc,
-        turn: post.turn,
-        seat: post.seat,
+        rt: kit.rt,
+        alloc: ground.alloc,
+        turn: kit.turn,
+        seat: kit.seat,
         clock,
         link,
-        gate: post.gate,
+        gate: kit.gate,
     })
 }
 
-/// Starts all jobs, joins them, and returns what the scanner counted. The workers end by themselves, and the others once the
-/// server is stopped. If a job cannot be started, the server is stopped at once.
+/// Starts all jobs and joins them. Returns the server with all that it accepted, and what the scanner counted. The workers end by
+/// themselves, and the others once the server is stopped. If a job cannot be started, the server is stopped at once.
 pub(crate) fn run_crew<R: Runtime, O: Outside, G: Gate + Send + Drop + 'static>(
     rt: &R,
     crew: Crew<R, O::D, O::C, O::L, O::F, G>,
     running: Vec<Running<Worker<R, O::D, O::C, O::L, G>>>,
-    requests: u32,
     outside: &mut O,
     spawner: &mut O::W,
-) -> Result<Counts, Fault>
+) -> Result<Finished, Fault>
 where
     <O::D as Door>::Conn: Send,
     <O::F as Folder>::File: Send,
-    requires served { sum_by (λ worker. worker.share) crew.workers.items ≡ requests }
-    requires fresh { AllByRecursion (λ worker. O.D.told worker.door ≡ unasked_door) crew.workers.items }
-    requires few { length crew.workers.items ≡ 4 }
+    requires fresh { AllByRecursion (λ worker. O.D.told worker.post.door ≡ unasked_door) crew.workers.items }
     requires none { running.items ≡ [] }
     requires room { 4 ≤ vec_capacity running }
-    ensures counts { IfOk result (λ counts. AreCounts (record { accepted = counts.accepted; refused = counts.refused; memory = counts.memory })) }
-    ensures connections { OnOk result ((n : ℕ) → raised (O.told outside.new).connections n ≡ raised (O.told outside.old).connections (requests + n)) }
+    ensures counts { IfOk result (λ finished. AreCounts (record { accepted = finished.counts.accepted; refused = finished.counts.refused; memory = finished.counts.memory })) }
+    ensures turn { IfOk result (λ finished. arc_value finished.turn ≡ arc_value crew.turn) }
+    ensures seen { IfOk result (λ finished. HasSeenAll (start_of (arc_value crew.turn) crew.seat) (seat_told (arc_value finished.turn) finished.seat) finished.counts.accepted) }
+    ensures connections { OnOk result ((n : ℕ) → raised (O.told outside.new).connections n ≡ raised (O.told outside.old).connections (crew.requests + n)) }
     ensures started { OnOk result ((n : ℕ) → raised (O.W.told spawner.new).started n ≡ raised (O.W.told spawner.old).started (6 + n)) }
     ensures cause { IsCaused result ⊥ (Rose (O.told outside.old).faults (O.told outside.new).faults ⊎ Rose (O.W.told spawner.old).faults (O.W.told spawner.new).faults) }
     ensures others_stay { O.told outside.new ≡ doors_back (O.told outside.old) (O.told outside.new) }
@@ -366,6 +399,8 @@ where
     ensures outside_never_falls { (O.told outside.old).faults ≤ (O.told outside.new).faults }
 {
     let Crew {
+        port: _,
+        requests,
         turn,
         mut seat,
         workers,
@@ -378,14 +413,17 @@ where
         notifier,
     } = start_crew(rt, spawner, workers, scanner, notifier, running);
     let started = notifier.is_some();
-    stop_if(!started, rt, &turn, &mut seat);
-    let served = join_workers(rt, outside, workers);
-    stop_if(started, rt, &turn, &mut seat);
-    let counts = join_scanner(rt, &turn, &mut seat, scanner);
-    join_notifier(rt, &turn, &mut seat, notifier);
-    drop(seat);
-    drop(turn);
-    outcome_of(started, served, requests, counts)
+    let shared: &Turn<Served> = &turn;
+    stop_if(!started, rt, shared, &mut seat);
+    let served = join_workers(rt, outside, shared, &mut seat, workers);
+    stop_if(started, rt, shared, &mut seat);
+    let scanned = join_scanner(rt, shared, &mut seat, scanner);
+    join_notifier(rt, shared, &mut seat, notifier);
+    look_last(rt, shared, &mut seat);
+    match outcome_of(started, served, requests, scanned) {
+        Ok(counts) => Ok(Finished { turn, seat, counts }),
+        Err(fault) => Err(fault),
+    }
 }
 
 /// Returns what the scanner counted, if all jobs were started and all connections served.
@@ -415,11 +453,27 @@ fn outcome_of(
 /// Tells the server to stop, if this is wanted.
 fn stop_if<R: Wait>(wanted: bool, rt: &R, turn: &Turn<Served>, seat: &mut Seat<Served>)
     requires { IsSeatOf turn.now seat.old }
-    ensures { IsSeatOf turn.now seat.new }
+    ensures seat { IsSeatOf turn.now seat.new }
+    ensures passes { passes_of seat.new ≡ passes_of seat.old }
+    ensures wanted { IsTrue wanted → own_by seat.new ≡ Stops ∷ own_by seat.old }
+    ensures unwanted { IsFalse wanted → own_by seat.new ≡ own_by seat.old }
 {
     if wanted {
         turn.with(rt, seat, Stop);
     }
+}
+
+/// Looks at the server once more. If the seat is the only one, it has then seen all that the server accepted, and any test passes as
+/// many of those commands as of its own.
+fn look_last<R: Wait>(rt: &R, turn: &Turn<Served>, seat: &mut Seat<Served>)
+    requires { IsSeatOf turn.now seat.old }
+    ensures seat { IsSeatOf turn.now seat.new }
+    ensures passes { passes_of seat.new ≡ passes_of seat.old }
+    ensures own { own_by seat.new ≡ own_by seat.old }
+    ensures counted { passes_of seat.old ≡ seats_of turn.now → (test : Command → Bool) → count_by test (own_by seat.new) ≡ count_by test (seen_by seat.new) }
+    ensures stands { (serving : Serving) × StandsFor serving (start_of turn.now seat.old) (seen_by seat.new) }
+{
+    turn.with(rt, seat, IsStopped);
 }
 
 /// Starts all jobs, the workers first, until one cannot be started.
@@ -500,19 +554,27 @@ fn start_workers<R: Threads, W: Spawner, J: Job>(
     true
 }
 
-/// Joins the workers that were started, hands their doors back, and returns how many connections they served.
+/// Joins the workers that were started, hands their doors back, takes their seats back, and returns how many connections they
+/// served.
 fn join_workers<R: Runtime, O: Outside, G: Gate + Send + Drop + 'static>(
     rt: &R,
     outside: &mut O,
+    turn: &Turn<Served>,
+    seat: &mut Seat<Served>,
     running: Vec<Running<Worker<R, O::D, O::C, O::L, G>>>,
 ) -> u64
 where
     <O::D as Door>::Conn: Send,
-    requires fresh { AllByRecursion (λ worker. O.D.told worker.door ≡ unasked_door) running.items }
-    requires few { sum_by (λ worker. worker.share) running.items < 2 ^ 32 }
+    requires seat { IsSeatOf turn.now seat.old }
+    requires hired { AllByRecursion (λ worker. IsHired turn.now (arc_value worker.turn) worker.seat) running.items }
+    requires fresh { AllByRecursion (λ worker. O.D.told worker.post.door ≡ unasked_door) running.items }
+    requires few { sum_by (λ worker. worker.post.share) running.items < 2 ^ 32 }
+    ensures seat { IsSeatOf turn.now seat.new }
+    ensures passes { passes_of seat.new ≡ passes_of seat.old + length running.items }
+    ensures own { FollowAnswers (own_by seat.old) (own_by seat.new) }
     ensures connections { (n : ℕ) → raised (O.told outside.new).connections n ≡ raised (O.told outside.old).connections (result + n) }
-    ensures no_more { result ≤ sum_by (λ worker. worker.share) running.items }
-    ensures all { (result ≡ sum_by (λ worker. worker.share) running.items) ⊎ Rose (O.told outside.old).faults (O.told outside.new).faults }
+    ensures no_more { result ≤ sum_by (λ worker. worker.post.share) running.items }
+    ensures all { (result ≡ sum_by (λ worker. worker.post.share) running.items) ⊎ Rose (O.told outside.old).faults (O.told outside.new).faults }
     ensures never_falls { (O.told outside.old).faults ≤ (O.told outside.new).faults }
     ensures others_stay { O.told outside.new ≡ doors_back (O.told outside.old) (O.told outside.new) }
 {
@@ -523,7 +585,7 @@ where
             seat: theirs,
             served,
         } = worker.join(rt);
-        drop(theirs);
+        turn.join(seat, theirs);
         outside.end_door(door);
         total += u64::from(served);
     }
@@ -545,8 +607,10 @@ fn join_scanner<
 where
     F::File: Send,
     requires seat { IsSeatOf turn.now seat.old }
-    requires shares { IfSome scanner (λ scanner. arc_value scanner.turn ≡ turn.now) }
+    requires hired { IfSome scanner (λ scanner. IsHired turn.now (arc_value scanner.turn) scanner.seat) }
     ensures seat { IsSeatOf turn.now seat.new }
+    ensures passes { IfSome result (λ _. passes_of seat.new ≡ passes_of seat.old + 1) }
+    ensures own { IfSome result (λ counts. FollowScans counts.accepted (own_by seat.old) (own_by seat.new)) }
     ensures counts { IfSome result (λ counts. AreCounts (record { accepted = counts.accepted; refused = counts.refused; memory = counts.memory })) }
     ensures started { is_some result ≡ is_some scanner }
 {
@@ -578,8 +642,10 @@ fn join_notifier<
     notifier: Option<Running<Notifier<R, T, L, G>>>,
 )
     requires seat { IsSeatOf turn.now seat.old }
-    requires shares { IfSome notifier (λ notifier. arc_value notifier.turn ≡ turn.now) }
-    ensures { IsSeatOf turn.now seat.new }
+    requires hired { IfSome notifier (λ notifier. IsHired turn.now (arc_value notifier.turn) notifier.seat) }
+    ensures seat { IsSeatOf turn.now seat.new }
+    ensures passes { IfSome notifier (λ _. passes_of seat.new ≡ passes_of seat.old + 1) }
+    ensures own { IfSome notifier (λ _. FollowTicks (own_by seat.old) (own_by seat.new)) }
 {
     if let Some(running) = notifier {
         let Notified { seat: theirs } = running.join(rt);

@@ -1,6 +1,6 @@
 //! Small cases, evaluated by the definitions.
 
-ghost use Rattle.cds_serve.specs.Evaluated.{LivesAreWritten, RequestsAreFree};
+ghost use Rattle.cds_serve.specs.Examples.{LivesAreWritten, RequestsAreFree};
 
 /// Shows what a listening server writes, how its connections are shared, and how it names its subscriptions.
 pub fn lives_are_written()

@@ -6,7 +6,7 @@
 mod acts;
 mod connection;
 mod crew;
-mod examples;
+pub mod examples;
 mod fault;
 pub mod laws;
 mod life;
@@ -22,12 +22,11 @@ mod served;
 mod worker;
 
 pub use connection::serve_one;
-pub use examples::{lives_are_written, requests_are_free};
 pub use life::serve;
 pub use looking::notify_once;
 pub use means::boot_words;
 pub use notifier::{Notified, Notifier};
 pub use scanner::{Scanned, Scanner};
 pub use scanning::{ScanRefused, scan_once};
-pub use served::{Opening, Served, ServerCommand};
-pub use worker::{Worked, Worker};
+pub use served::{Served, ServerCommand, ServerStart};
+pub use worker::{Post, Worked, Worker};

@@ -1,16 +1,44 @@
 //! A server that listens at a port, from its start to its end.
 
-ghost use Rattle.std.specs.Prelude.{◌≡◌, ◌⊎◌, ◌+◌, ◌≤◌, ℕ, [], ◌++◌, drop, Ok, Err, IfOk, OnOk, string_bytes};
+ghost use Rattle.std.specs.Prelude.{◌≡◌, ◌⊎◌, ◌+◌, ◌≤◌, ℕ, [], ◌∷◌, ◌++◌, drop, Ok, Err, IfOk, OnOk, string_bytes};
+ghost use Rattle.std.specs.Arc.{arc_value};
 ghost use Rattle.std.specs.Fmt.{decimal};
-ghost use Rattle.cds_base.specs.Outside.{Rose, raised};
-ghost use Rattle.cds_serve.specs.Life.{AsksFor, EndsLife, IsCaused, KeepsEnded, WritesLife, WritesLine, life_asks, served_line, served_then, serving_line, status_of};
+ghost use Rattle.std.specs.List.{AllByRecursion};
+ghost use Rattle.cds_outside.specs.Asked.{ForDoor, ForSpawner};
+ghost use Rattle.cds_outside.specs.Outside.{Rose, raised};
+ghost use Rattle.cds_outside.specs.Told.{asked_then, unasked_door, unasked_spawner};
+ghost use Rattle.cds_turn.specs.Turn.{start_of};
+ghost use Rattle.cds_serve.specs.Life.{AsksFor, EndsLife, IsCaused, IsOpenedAt, KeepsEnded, Takes, WritesLife, WritesLine, doors_back, life_asks, served_line, serving_line, status_of};
 
-use crate::crew::{Counts, hire_crew, run_crew};
+use crate::crew::{Counts, Crew, Finished, hire_crew, run_crew};
 use crate::fault::Fault;
 use crate::means::{WORKERS, ask_door, ask_means, ask_spawner};
-use cds_base::{Door, Folder, Gate, Mem, Outside, Runtime, Sink, put, put_number, write_all};
+use cds_base::{Mem, put, put_number};
+use cds_outside::{Door, Folder, Gate, Outside, Runtime, Sink, write_all};
 use std::alloc::Global;
 use std::marker::Send;
+
+/// What a server is to do.
+#[derive(Clone, Copy)]
+struct Order<'a> {
+    port: u16,
+    /// The path of the folder.
+    folder: &'a str,
+    /// How many connections are to be served.
+    requests: u32,
+}
+
+/// What a server begins with: the door that it listens at, and the spawner of its jobs.
+struct Front<D, W> {
+    door: D,
+    spawner: W,
+}
+
+/// A server whose jobs are hired and not started yet.
+struct Hired<R, W, D, T, L, F, G> {
+    front: Front<D, W>,
+    crew: Crew<R, D, T, L, F, G>,
+}
 
 /// Serves a library over HTTP until `requests` connections were served (UPnP ContentDirectory:4). It answers the connections at
 /// the port, scans the folder again and again, and sends the notes of its changes.
@@ -24,6 +52,8 @@ use std::marker::Send;
 /// - 3: the sink could not be written
 /// - 4: memory ran out
 /// - 7: the outside, the spawner or a door failed
+///
+/// With status 0, requests about subscriptions, scans, ticks and one stop gave all commands that the server accepted.
 ///
 /// When it returns, the jobs that were started have ended. A fault of one connection, of a link, of the folder or of a clock ends
 /// nothing. Neither the folder nor a link is handed back to the outside.
@@ -47,97 +77,137 @@ where
     ensures sink_never_falls { (K.told sink.old).faults ≤ (K.told sink.new).faults }
     ensures outside_never_falls { (O.told outside.old).faults ≤ (O.told outside.new).faults }
 {
-    match ask_door(alloc, port, outside) {
-        Ok(mut door) => {
-            let ended = serve_door(
-                rt, alloc, port, folder, requests, sink, outside, gate, &mut door,
-            );
-            outside.end_door(door);
+    let order = Order {
+        port,
+        folder,
+        requests,
+    };
+    match hire(rt, alloc, &order, outside, gate) {
+        Ok(hired) => {
+            let Hired { mut front, crew } = hired;
+            let ended = live(rt, alloc, crew, sink, outside, &mut front.spawner);
+            end_front(outside, front);
             status_of(ended)
         }
         Err(fault) => status_of(Err(fault)),
     }
 }
 
-/// Serves the connections of a door.
-fn serve_door<R: Runtime, K: Sink, O: Outside, G: Gate + Send + Drop + 'static>(
-    rt: &R,
+/// Asks for a door and a spawner. If there is no spawner, the door is handed back.
+fn ask_front<O: Outside>(
     alloc: Global,
     port: u16,
-    folder: &str,
-    requests: u32,
-    sink: &mut K,
     outside: &mut O,
-    gate: &mut G,
-    door: &mut O::D,
-) -> Result<(), Fault>
-where
-    <O::D as Door>::Conn: Send,
-    <O::F as Folder>::File: Send,
-    ensures cause { IsCaused result (Rose (K.told sink.old).faults (K.told sink.new).faults)
-        (Rose (O.told outside.old).faults (O.told outside.new).faults ⊎ Rose (O.D.told door.old).faults (O.D.told door.new).faults) }
-    ensures writes { WritesLife result port requests (K.told sink.old).holds (K.told sink.new).holds }
-    ensures asks { AsksFor result (drop 1 (life_asks port folder.now)) (O.told outside.old).asked (O.told outside.new).asked }
-    ensures connections { OnOk result ((n : ℕ) → raised (O.told outside.new).connections n ≡ raised (O.told outside.old).connections (requests + n)) }
-    ensures started { OnOk result ((O.told outside.new).started ≡ raised (O.told outside.old).started 6) }
-    ensures none_given { (O.D.told door.new).connections ≡ (O.D.told door.old).connections }
-    ensures door_never_falls { (O.D.told door.old).faults ≤ (O.D.told door.new).faults }
+) -> Result<Front<O::D, O::W>, Fault>
+    ensures asks { AsksFor result (ForDoor port ∷ ForSpawner ∷ []) (O.told outside.old).asked (O.told outside.new).asked }
+    ensures cause { IsCaused result ⊥ (Rose (O.told outside.old).faults (O.told outside.new).faults) }
+    ensures fresh { IfOk result (λ front. (O.D.told front.door ≡ unasked_door) × (O.W.told front.spawner ≡ unasked_spawner)) }
+    ensures others { OnOk result (O.told outside.new ≡ asked_then (O.told outside.old) (O.told outside.new)) }
     ensures ended_stays { KeepsEnded (O.told outside.old) (O.told outside.new) }
-    ensures sink_never_falls { (K.told sink.old).faults ≤ (K.told sink.new).faults }
-    ensures outside_never_falls { (O.told outside.old).faults ≤ (O.told outside.new).faults }
+    ensures never_falls { (O.told outside.old).faults ≤ (O.told outside.new).faults }
 {
-    let mut spawner = ask_spawner(alloc, outside)?;
-    let ended = serve_spawned(
-        rt,
-        alloc,
-        port,
-        folder,
-        requests,
-        sink,
-        outside,
-        gate,
-        door,
-        &mut spawner,
-    );
-    outside.end_spawner(spawner);
-    ended
+    let door = ask_door(alloc, port, outside)?;
+    match ask_spawner(alloc, outside) {
+        Ok(spawner) => Ok(Front { door, spawner }),
+        Err(fault) => {
+            outside.end_door(door);
+            Err(fault)
+        }
+    }
 }
 
-/// Serves the connections with jobs of a spawner, and writes both lines.
-fn serve_spawned<R: Runtime, K: Sink, O: Outside, G: Gate + Send + Drop + 'static>(
+/// Hands a door and a spawner back.
+fn end_front<O: Outside>(outside: &mut O, front: Front<O::D, O::W>)
+    ensures connections { (O.told outside.new).connections ≡ raised (O.told outside.old).connections (O.D.told front.door).connections }
+    ensures started { (O.told outside.new).started ≡ raised (O.told outside.old).started (O.W.told front.spawner).started }
+    ensures asked { (O.told outside.new).asked ≡ (O.told outside.old).asked }
+    ensures rose { ((O.D.told front.door).faults ≡ 0) ⊎ Rose (O.told outside.old).faults (O.told outside.new).faults }
+    ensures rose_spawner { ((O.W.told front.spawner).faults ≡ 0) ⊎ Rose (O.told outside.old).faults (O.told outside.new).faults }
+    ensures ended_stays { KeepsEnded (O.told outside.old) (O.told outside.new) }
+    ensures never_falls { (O.told outside.old).faults ≤ (O.told outside.new).faults }
+{
+    let Front { door, spawner } = front;
+    outside.end_spawner(spawner);
+    outside.end_door(door);
+}
+
+/// Asks for all that a server needs, and hires its jobs. If that fails, what was to come back to the outside is handed back.
+fn hire<R: Runtime, O: Outside, G: Gate + Send + Drop + 'static>(
     rt: &R,
     alloc: Global,
-    port: u16,
-    folder: &str,
-    requests: u32,
-    sink: &mut K,
+    order: &Order<'_>,
+    outside: &mut O,
+    gate: &mut G,
+) -> Result<Hired<R, O::W, O::D, O::C, O::L, O::F, G>, Fault>
+    ensures asks { AsksFor result (life_asks order.now.port order.now.folder.now) (O.told outside.old).asked (O.told outside.new).asked }
+    ensures cause { IsCaused result ⊥ (Rose (O.told outside.old).faults (O.told outside.new).faults) }
+    ensures spawner { IfOk result (λ hired. O.W.told hired.front.spawner ≡ unasked_spawner) }
+    ensures none_given { IfOk result (λ hired. (O.D.told hired.front.door).connections ≡ 0) }
+    ensures asked { IfOk result (λ hired. (hired.crew.port ≡ order.now.port) × (hired.crew.requests ≡ order.now.requests)) }
+    ensures fresh { IfOk result (λ hired. AllByRecursion (λ worker. O.D.told worker.post.door ≡ unasked_door) hired.crew.workers.items) }
+    ensures opened { IfOk result (λ hired. IsOpenedAt order.now.port (start_of (arc_value hired.crew.turn) hired.crew.seat)) }
+    ensures others { OnOk result (O.told outside.new ≡ asked_then (O.told outside.old) (O.told outside.new)) }
+    ensures ended_stays { KeepsEnded (O.told outside.old) (O.told outside.new) }
+    ensures never_falls { (O.told outside.old).faults ≤ (O.told outside.new).faults }
+{
+    let mut front = ask_front(alloc, order.port, outside)?;
+    match crew_at(rt, alloc, order, outside, gate, &mut front.door) {
+        Ok(crew) => Ok(Hired { front, crew }),
+        Err(fault) => {
+            end_front(outside, front);
+            Err(fault)
+        }
+    }
+}
+
+/// Asks for all that the jobs take, and hires them.
+fn crew_at<R: Runtime, O: Outside, G: Gate + Send + Drop + 'static>(
+    rt: &R,
+    alloc: Global,
+    order: &Order<'_>,
     outside: &mut O,
     gate: &mut G,
     door: &mut O::D,
+) -> Result<Crew<R, O::D, O::C, O::L, O::F, G>, Fault>
+    ensures takes { Takes result (drop 2 (life_asks order.now.port order.now.folder.now)) (O.told outside.old) (O.told outside.new) (O.D.told door.old) (O.D.told door.new) }
+    ensures asked { IfOk result (λ crew. (crew.port ≡ order.now.port) × (crew.requests ≡ order.now.requests)) }
+    ensures fresh { IfOk result (λ crew. AllByRecursion (λ worker. O.D.told worker.post.door ≡ unasked_door) crew.workers.items) }
+    ensures opened { IfOk result (λ crew. IsOpenedAt order.now.port (start_of (arc_value crew.turn) crew.seat)) }
+{
+    let means = ask_means(alloc, order.port, order.folder, outside, door)?;
+    Ok(hire_crew(rt, alloc, order.port, order.requests, means, gate)?)
+}
+
+/// Lets the jobs serve to the end, and writes both lines.
+fn live<R: Runtime, K: Sink, O: Outside, G: Gate + Send + Drop + 'static>(
+    rt: &R,
+    alloc: Global,
+    crew: Crew<R, O::D, O::C, O::L, O::F, G>,
+    sink: &mut K,
+    outside: &mut O,
     spawner: &mut O::W,
 ) -> Result<(), Fault>
 where
     <O::D as Door>::Conn: Send,
     <O::F as Folder>::File: Send,
+    requires fresh { AllByRecursion (λ worker. O.D.told worker.post.door ≡ unasked_door) crew.workers.items }
+    requires opened { IsOpenedAt crew.port (start_of (arc_value crew.turn) crew.seat) }
     ensures cause { IsCaused result (Rose (K.told sink.old).faults (K.told sink.new).faults)
-        (Rose (O.told outside.old).faults (O.told outside.new).faults
-        ⊎ (Rose (O.D.told door.old).faults (O.D.told door.new).faults ⊎ Rose (O.W.told spawner.old).faults (O.W.told spawner.new).faults)) }
-    ensures writes { WritesLife result port requests (K.told sink.old).holds (K.told sink.new).holds }
-    ensures asks { AsksFor result (drop 2 (life_asks port folder.now)) (O.told outside.old).asked (O.told outside.new).asked }
-    ensures connections { OnOk result ((n : ℕ) → raised (O.told outside.new).connections n ≡ raised (O.told outside.old).connections (requests + n)) }
+        (Rose (O.told outside.old).faults (O.told outside.new).faults ⊎ Rose (O.W.told spawner.old).faults (O.W.told spawner.new).faults) }
+    ensures writes { WritesLife result crew.port crew.requests (K.told sink.old).holds (K.told sink.new).holds }
+    ensures connections { OnOk result ((n : ℕ) → raised (O.told outside.new).connections n ≡ raised (O.told outside.old).connections (crew.requests + n)) }
     ensures started { OnOk result ((n : ℕ) → raised (O.W.told spawner.new).started n ≡ raised (O.W.told spawner.old).started (6 + n)) }
-    ensures others_stay { O.told outside.new ≡ served_then (O.told outside.old) (O.told outside.new) }
-    ensures none_given { (O.D.told door.new).connections ≡ (O.D.told door.old).connections }
-    ensures door_never_falls { (O.D.told door.old).faults ≤ (O.D.told door.new).faults }
+    ensures others_stay { O.told outside.new ≡ doors_back (O.told outside.old) (O.told outside.new) }
     ensures spawner_never_falls { (O.W.told spawner.old).faults ≤ (O.W.told spawner.new).faults }
     ensures sink_never_falls { (K.told sink.old).faults ≤ (K.told sink.new).faults }
     ensures outside_never_falls { (O.told outside.old).faults ≤ (O.told outside.new).faults }
 {
-    let means = ask_means(alloc, port, folder, outside, door)?;
-    let crew = hire_crew(rt, alloc, port, requests, means, gate)?;
+    let requests = crew.requests;
     let running = Vec::with_capacity(alloc, WORKERS)?;
-    write_serving(alloc, sink, port)?;
-    let counts = run_crew(rt, crew, running, requests, outside, spawner)?;
+    write_serving(alloc, sink, crew.port)?;
+    let Finished { turn, seat, counts } = run_crew(rt, crew, running, outside, spawner)?;
+    drop(seat);
+    drop(turn);
     write_served(alloc, sink, requests, counts)
 }
 

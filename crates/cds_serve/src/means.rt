@@ -2,13 +2,13 @@
 
 ghost use Rattle.std.specs.Prelude.{◌≡◌, ◌≤◌, ◌<◌, [], ◌∷◌, length, take, drop, Ok, Err, IfErr, IfOk, IsFalse, IsTrue};
 ghost use Rattle.std.specs.List.{AllByRecursion};
-ghost use Rattle.cds_base.specs.Asked.{ForClock, ForDoor, ForFolder, ForLink, ForSpawner};
-ghost use Rattle.cds_base.specs.Outside.{Rose};
-ghost use Rattle.cds_base.specs.Told.{IsFresh, unasked_door, unasked_spawner};
+ghost use Rattle.cds_outside.specs.Asked.{ForClock, ForDoor, ForFolder, ForLink, ForSpawner};
+ghost use Rattle.cds_outside.specs.Outside.{Rose};
+ghost use Rattle.cds_outside.specs.Told.{IsFresh, unasked_door, unasked_spawner};
 ghost use Rattle.cds_serve.specs.Life.{AreBootWords, AreFirstWords, Asks, IsCaused, OfFirst, Takes, fault_of, first_word, life_asks, second_word, worker_asks};
 
 use crate::fault::Fault;
-use cds_base::{Clock, Door, Failed, Outside, OutsideFault};
+use cds_outside::{Clock, Door, Failed, Outside, OutsideFault};
 use std::alloc::Global;
 
 /// The number of workers.

@@ -3,7 +3,7 @@
 ghost use Rattle.std.specs.Prelude.{◌≡◌, ◌≤◌};
 ghost use Rattle.cds_serve.specs.Told.{IsMoment};
 
-use cds_base::Clock;
+use cds_outside::Clock;
 
 /// Asks the clock for the moment now and keeps it as the last one that it gave. If the clock failed, the moment is the last one
 /// again.

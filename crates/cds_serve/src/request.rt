@@ -1,18 +1,20 @@
 //! Requests as they come over a connection: reading one, and the statuses that need no server.
 
 ghost use Rattle.std.specs.Prelude.{◌≡◌, ◌≤◌, ◌<◌, ℕ, true, List, length, Option, Some, IfOk, OnErr};
-ghost use Rattle.cds_base.specs.Outside.{Told};
+ghost use Rattle.cds_outside.specs.Outside.{Told};
 ghost use Rattle.cds_http.specs.declared.error.HttpError.TheVariants as cause;
 ghost use Rattle.cds_http.specs.declared.message.Message.{Message};
 ghost use Rattle.cds_http.specs.declared.message.Side.TheVariants as side;
 ghost use Rattle.cds_http.specs.Decided.{Decides};
 ghost use Rattle.cds_http.specs.Known.{Known, Needs, Refused, Whole};
 ghost use Rattle.cds_http.specs.Reading.{Stands};
-ghost use Rattle.cds_serve.specs.Answered.{ReadsFrom, is_event_method, piece_limit, request_status, status_at, status_unless};
+ghost use Rattle.cds_serve.specs.Answered.{ReadsFrom, piece_limit};
 ghost use Rattle.cds_serve.specs.Requested.{BrokenRose, ComesTo, FilledRose, GoesOn, HasAll, IsFilled, IsLastBy, IsLastIn, IsRequest};
 
-use cds_base::{Conn, Failed, Mem};
-use cds_http::{Fed, HttpError, Message, MessageReader, Side, Start};
+use cds_base::Mem;
+use cds_http::{Fed, HttpError, Message, MessageReader, Side};
+use cds_outside::{Conn, Failed};
+use cds_server::{Route, route};
 use std::alloc::Global;
 
 /// The number of bytes that are read at once.
@@ -163,17 +165,17 @@ fn finish(reader: MessageReader) -> Request
     }
 }
 
-/// Returns the request that a message is.
+/// Returns the request that a message is, by where it goes.
 fn judged(message: Message) -> Request
     ensures request { (rest : List ℕ) → IsRequest (Whole message rest) result }
     ensures rose { (old new : ℕ) → BrokenRose result old new }
 {
-    match request_status(&message.start) {
-        Some(status) => {
+    match route(&message) {
+        Route::Refused(status) => {
             drop(message);
             Request::Free(status)
         }
-        None => Request::Needing(message),
+        Route::Control | Route::Event => Request::Needing(message),
     }
 }
 
@@ -189,42 +191,4 @@ fn refused(refusal: HttpError) -> Request
         HttpError::TooLong => Request::Free(413),
         _ => Request::Free(400),
     }
-}
-
-/// Returns the status of a request that the server has no part in. It is 404 if the target is neither `/control` nor `/event`. It
-/// is 405 if `/control` gets another method than POST, or `/event` another than SUBSCRIBE and UNSUBSCRIBE.
-fn request_status(start: &Start) -> Option<u16>
-    ensures { result ≡ request_status start.now }
-{
-    match start {
-        Start::Request { method, target } => status_at(target.as_str(), method.as_str()),
-        Start::Reply { .. } => Some(400),
-    }
-}
-
-/// Returns the status of a target and a method, if the server has no part in them.
-fn status_at(target: &str, method: &str) -> Option<u16>
-    ensures { result ≡ status_at target.now method.now }
-{
-    if target == "/control" {
-        status_unless(method == "POST")
-    } else if target == "/event" {
-        status_unless(is_event_method(method))
-    } else {
-        Some(404)
-    }
-}
-
-/// Returns the status of a method, if the target does not take it.
-fn status_unless(is_taken: bool) -> Option<u16>
-    ensures { result ≡ status_unless is_taken }
-{
-    if is_taken { None } else { Some(405) }
-}
-
-/// Returns whether the method is SUBSCRIBE or UNSUBSCRIBE.
-fn is_event_method(method: &str) -> bool
-    ensures { result ≡ is_event_method method.now }
-{
-    method == "SUBSCRIBE" || method == "UNSUBSCRIBE"
 }

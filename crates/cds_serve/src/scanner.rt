@@ -1,20 +1,19 @@
 //! The job of the scanner, which scans the folder again and again.
 
-ghost use Rattle.std.specs.Prelude.{◌≡◌, ◌+◌, ◌≤◌, List, IfErr, IsTrue, OnOk};
+ghost use Rattle.std.specs.Prelude.{◌≡◌, IfErr, IsTrue, OnOk};
 ghost use Rattle.std.specs.Arc.{arc_value};
-ghost use Rattle.cds_base.specs.Entries.{FolderTold};
-ghost use Rattle.cds_base.specs.Outside.{raised};
-ghost use Rattle.cds_commands.specs.Commands.{Command, is_stopped};
+ghost use Rattle.cds_outside.specs.Outside.{raised};
+ghost use Rattle.cds_commands.specs.Commands.{is_stopped};
 ghost use Rattle.cds_turn.specs.Line.{Extends};
 ghost use Rattle.cds_turn.specs.Turn.{IsSeatOf, own_by, passes_of, seats_of, seen_by, start_of};
 ghost use Rattle.cds_serve.specs.Counted.{counted};
-ghost use Rattle.cds_serve.specs.Jobs.{AddsScans, EndsScanning, ScansSoFar};
+ghost use Rattle.cds_serve.specs.Jobs.{AddsScans, EndsScanning};
 
 use crate::acts::IsStopped;
 use crate::moment::ask_moment;
 use crate::scanning::{ScanRefused, scan_once};
 use crate::served::Served;
-use cds_base::{Clock, Folder, Gate, Job};
+use cds_outside::{Clock, Folder, Gate, Job};
 use cds_turn::{Seat, Turn};
 use std::alloc::Global;
 use std::marker::Send;
@@ -87,7 +86,7 @@ impl<
         × (passes_of scanned.seat ≡ passes_of scanner.seat)
         × EndsScanning (start_of (arc_value scanner.turn) scanner.seat) (passes_of scanner.seat) (seats_of (arc_value scanner.turn)) (F.told scanner.folder) (F.told scanned.folder)
         (seen_by scanner.seat) (seen_by scanned.seat) scanned.accepted scanned.refused scanned.memory
-        × AddsScans (own_by scanner.seat) (own_by scanned.seat) };
+        × AddsScans scanned.accepted (own_by scanner.seat) (own_by scanned.seat) };
 
     fn run(self) -> Scanned<F> {
         let Scanner {
@@ -121,7 +120,7 @@ fn scan_until_stopped<R: Wait, F: Folder, T: Clock>(
     ensures passes { passes_of seat.new ≡ passes_of seat.old }
     ensures ends { EndsScanning (start_of turn.now seat.old) (passes_of seat.old) (seats_of turn.now) (F.told folder.old) (F.told folder.new)
         (seen_by seat.old) (seen_by seat.new) result.accepted result.refused result.memory }
-    ensures own { AddsScans (own_by seat.old) (own_by seat.new) }
+    ensures own { AddsScans result.accepted (own_by seat.old) (own_by seat.new) }
 {
     let mut last = 0;
     let mut counts = Counts {
@@ -130,38 +129,13 @@ fn scan_until_stopped<R: Wait, F: Folder, T: Clock>(
         memory: 0,
     };
     'scans: for _ in rt.forever() {
-        scan_and_count(rt, alloc, turn, seat, folder, clock, &mut last, &mut counts);
+        let scanned = scan_once(rt, alloc, turn, seat, folder, clock, &mut last);
+        counts.count(scanned);
         if wait_for_scan(rt, turn, seat, clock, &mut last) {
             return counts;
         }
     }
     unreachable!()
-}
-
-/// Scans once, and counts how that ended.
-fn scan_and_count<R: Wait, F: Folder, T: Clock>(
-    rt: &R,
-    alloc: Global,
-    turn: &Turn<Served>,
-    seat: &mut Seat<Served>,
-    folder: &mut F,
-    clock: &mut T,
-    last: &mut u64,
-    counts: &mut Counts,
-)
-    requires { IsSeatOf turn.now seat.old }
-    ensures seat { IsSeatOf turn.now seat.new }
-    ensures passes { passes_of seat.new ≡ passes_of seat.old }
-    ensures so_far { (told : FolderTold) (before : List Command)
-        → ScansSoFar (start_of turn.now seat.old) (passes_of seat.old) (seats_of turn.now) told (F.told folder.old)
-        before (seen_by seat.old) counts.old.accepted counts.old.refused
-        → ScansSoFar (start_of turn.now seat.old) (passes_of seat.old) (seats_of turn.now) told (F.told folder.new)
-        before (seen_by seat.new) counts.new.accepted counts.new.refused }
-    ensures own { (before : List Command) → AddsScans before (own_by seat.old) → AddsScans before (own_by seat.new) }
-    ensures some { 1 ≤ counts.new.accepted + counts.new.refused + counts.new.memory }
-{
-    let scanned = scan_once(rt, alloc, turn, seat, folder, clock, last);
-    counts.count(scanned);
 }
 
 /// Returns what is answered at the end.

@@ -9,7 +9,7 @@ ghost use Rattle.cds_serve.specs.Scanned.{IsUnscanned, MayGive, ScansOnce, decli
 use crate::acts::accepting;
 use crate::moment::ask_moment;
 use crate::served::Served;
-use cds_base::{Clock, Folder};
+use cds_outside::{Clock, Folder};
 use cds_scan::{Scan, ScanError, scan};
 use cds_store::{ApplyError, Span};
 use cds_turn::{Seat, Turn};

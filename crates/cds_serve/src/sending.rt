@@ -2,17 +2,18 @@
 
 ghost use Rattle.std.specs.Prelude.{◌≡◌, ◌≤◌, List, ◌∷◌, [], map, Option, Some, IfOk, IfSome, IsErr, IsSome, OnErr};
 ghost use Rattle.std.specs.List.{AllByRecursion};
-ghost use Rattle.cds_base.specs.declared.outside.link.LinkRequest.{LinkRequest};
-ghost use Rattle.cds_base.specs.Outside.{Told};
-ghost use Rattle.cds_base.specs.Links.{requests_after};
+ghost use Rattle.cds_outside.specs.declared.link.LinkRequest.{LinkRequest};
+ghost use Rattle.cds_outside.specs.Outside.{Told};
+ghost use Rattle.cds_outside.specs.Links.{requests_after};
 ghost use Rattle.cds_gena.specs.Subscribed.{IsDelivered};
 ghost use Rattle.cds_server.specs.Due.{AllGoOut};
 ghost use Rattle.cds_server.specs.Outcome.{GoesOut};
 ghost use Rattle.cds_serve.specs.Sent.{GivesAll, GivesFront, GivesEach, first_requests, note_request, release_requests, sent_despite};
 
-use cds_base::{Link, LinkFault, Mem};
+use cds_base::Mem;
 use cds_gena::Address;
 use cds_notify::write_notify;
+use cds_outside::{Link, LinkFault};
 use cds_server::{FirstNote, Notes};
 use std::alloc::Global;
 

@@ -1,17 +1,15 @@
 //! A server that threads share in turns.
 
-ghost use Rattle.std.specs.Prelude.{◌≡◌, ◌<◌, ◌^◌, List, [], ◌∷◌, ◌++◌, length, slice_index, IfOk, IfSome, OnErr, OnOk};
+ghost use Rattle.std.specs.Prelude.{◌≡◌, ◌<◌, ◌^◌, List, [], ◌∷◌, ◌++◌, is_some, length, slice_index, IfOk, IfSome, OnErr, OnOk};
 ghost use Rattle.cds_commands.specs.Commands.{Command, Start, Stops, Ticks, is_stopped};
+ghost use Rattle.cds_server.specs.Asking.{command_in};
 ghost use Rattle.cds_server.specs.Due.{AllGoOut, due};
-ghost use Rattle.cds_server.specs.Outcome.{GoesOut};
-ghost use Rattle.cds_server.specs.Replies.{IsReply, command_at, note_at};
-ghost use Rattle.cds_serve.specs.Acts.{IsScanAnswer, scan_adds};
+ghost use Rattle.cds_serve.specs.Acts.{IsAnswerGiven, IsScanAnswer, scan_adds};
 ghost use Rattle.cds_serve.specs.Served.{Stands, added};
 
 use cds_base::Mem;
-use cds_http::Message;
 use cds_scan::Scan;
-use cds_server::{FirstNote, Notes, Server};
+use cds_server::{Answered, Asking, Notes, Server};
 use cds_store::{ApplyError, Span};
 use cds_turn::StandsFor;
 use std::alloc::Global;
@@ -21,12 +19,12 @@ use std::snapshot::Snapshot;
 /// What a server is opened with; no command changes it. It has two boot words, of which the server's names are made, and the
 /// first number.
 #[derive(Drop)]
-pub struct Opening {
+pub struct ServerStart {
     pub boot: [u64; 2],
     pub first: u32,
 }
 
-impl Model for Opening {
+impl Model for ServerStart {
     ghost use Rattle.std.specs.Prelude.{slice_index};
     ghost use Rattle.cds_commands.specs.Commands.{Start};
 
@@ -51,7 +49,7 @@ impl Model for ServerCommand {
 pub struct Served {
     server: Server,
     /// It takes no memory.
-    opening: Snapshot<Opening>,
+    opening: Snapshot<ServerStart>,
 }
 
 impl Model for Served {
@@ -67,7 +65,7 @@ impl StandsFor for Served {
 
     type Command = ServerCommand;
 
-    type Start = Opening;
+    type Start = ServerStart;
 
     ghost start = { λ served. served.start };
 
@@ -80,7 +78,7 @@ impl Served {
         ensures start { IfOk result (λ served. served.start ≡ record { high = slice_index boot 0; low = slice_index boot 1; first = first }) }
         ensures stands { IfOk result (λ served. Stands served served.start []) }
     {
-        let opening = Opening { boot, first };
+        let opening = ServerStart { boot, first };
         let server = Server::new(alloc, boot, first)?;
         Ok(Served {
             server,
@@ -95,25 +93,21 @@ impl Served {
         &self.server
     }
 
-    /// Has the server handle a message, as `Server::handle` says.
-    pub(crate) fn handle(
+    /// Has the server answer what was asked, as `Server::answer` says.
+    pub(crate) fn answer(
         &mut self,
         alloc: Global,
         now: u64,
-        message: &Message,
-        out: &mut Vec<u8>,
-    ) -> Result<Option<FirstNote>, Mem>
-        requires empty { out.old.items ≡ [] }
-        ensures replied { (start : Start) (found : List Command) → Stands self.old start found
-            → OnOk result (IsReply start found now message.now out.new.items) }
+        asking: &Asking,
+    ) -> Result<Answered, Mem>
+        ensures given { (start : Start) (found : List Command) → Stands self.old start found → IsAnswerGiven start found now asking.now result }
         ensures stands { (start : Start) (found : List Command) → Stands self.old start found
-            → OnOk result (Stands self.new start (added (command_at start found now message.now) ++ found)) }
-        ensures note { (start : Start) (found : List Command) → Stands self.old start found
-            → IfOk result (λ note. note ≡ note_at start found now message.now) }
-        ensures delivered { IfOk result GoesOut }
+            → OnOk result (Stands self.new start (added (command_in start found now asking.now) ++ found)) }
+        ensures accepted { (start : Start) (found : List Command) → Stands self.old start found
+            → IfOk result (λ answered. answered.accepted ≡ is_some (command_in start found now asking.now)) }
         ensures stays { OnErr result (self.new ≡ self.old) }
     {
-        self.server.handle(alloc, now, message, out)
+        self.server.answer(alloc, now, asking)
     }
 
     /// Has the server take what a scan found, as `Server::accept_scan` says.

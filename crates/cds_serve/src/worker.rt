@@ -7,11 +7,24 @@ ghost use Rattle.cds_serve.specs.Jobs.{AddsAnswers, EndsWorking};
 
 use crate::connection::serve_one;
 use crate::served::Served;
-use cds_base::{Clock, Door, Gate, Job, Link};
+use cds_outside::{Clock, Door, Gate, Job, Link};
 use cds_turn::{Seat, Turn};
 use std::alloc::Global;
 use std::marker::Send;
 use std::sync::{Arc, Wait};
+
+/// What a worker takes its connections from and serves them with.
+#[derive(Drop)]
+pub struct Post<D, T, L, G> {
+    pub door: D,
+    pub clock: T,
+    /// The last moment that the clock gave.
+    pub last: u64,
+    pub link: L,
+    pub gate: G,
+    /// How many connections it is to serve.
+    pub share: u32,
+}
 
 /// Serves a share of the connections of a door, one after another, over a server that others share. If the door fails, it ends
 /// before its share is served.
@@ -21,12 +34,7 @@ pub struct Worker<R, D, T, L, G> {
     pub alloc: Global,
     pub turn: Arc<Turn<Served>>,
     pub seat: Seat<Served>,
-    pub door: D,
-    pub clock: T,
-    pub link: L,
-    pub gate: G,
-    /// How many connections it is to serve.
-    pub share: u32,
+    pub post: Post<D, T, L, G>,
     ghost own: { IsSeatOf (arc_value turn) seat },
 }
 
@@ -51,7 +59,7 @@ impl<
     ghost answers = { λ worker worked. IsSeatOf (arc_value worker.turn) worked.seat
         × (passes_of worked.seat ≡ passes_of worker.seat)
         × AddsAnswers (own_by worker.seat) (own_by worked.seat)
-        × EndsWorking worker.share worked.served (D.told worker.door) (D.told worked.door) };
+        × EndsWorking worker.post.share worked.served (D.told worker.post.door) (D.told worked.door) };
 
     fn run(self) -> Worked<D> {
         let Worker {
@@ -59,49 +67,66 @@ impl<
             alloc,
             turn,
             mut seat,
-            mut door,
-            mut clock,
-            mut link,
-            mut gate,
-            share,
+            mut post,
         } = self;
-        let served = serve_share(
-            &rt, alloc, &turn, &mut seat, &mut door, &mut clock, &mut link, &mut gate, share,
-        );
-        drop(gate);
-        drop(link);
-        drop(clock);
+        let served = serve_share(&rt, alloc, &turn, &mut seat, &mut post);
         drop(turn);
         drop(rt);
-        Worked { door, seat, served }
+        Worked {
+            door: door_of(post),
+            seat,
+            served,
+        }
     }
 }
 
-/// Serves this many connections of a door, or fewer if it fails. Returns how many it served.
+/// Returns the door of a post, and drops the rest.
+fn door_of<D, T: Drop, L: Drop, G: Drop>(post: Post<D, T, L, G>) -> D
+    ensures { result ≡ post.door }
+{
+    let Post {
+        door,
+        clock,
+        last: _,
+        link,
+        gate,
+        share: _,
+    } = post;
+    drop(gate);
+    drop(link);
+    drop(clock);
+    door
+}
+
+/// Serves as many connections as the share of a post has, or fewer if its door fails. Returns how many it served.
 fn serve_share<R: Wait, D: Door, T: Clock, L: Link, G: Gate>(
     rt: &R,
     alloc: Global,
     turn: &Turn<Served>,
     seat: &mut Seat<Served>,
-    door: &mut D,
-    clock: &mut T,
-    link: &mut L,
-    gate: &mut G,
-    share: u32,
+    post: &mut Post<D, T, L, G>,
 ) -> u32
     requires { IsSeatOf turn.now seat.old }
     ensures seat { IsSeatOf turn.now seat.new }
     ensures passes { passes_of seat.new ≡ passes_of seat.old }
     ensures own { AddsAnswers (own_by seat.old) (own_by seat.new) }
-    ensures ends { EndsWorking share result (D.told door.old) (D.told door.new) }
+    ensures ends { EndsWorking post.old.share result (D.told post.old.door) (D.told post.new.door) }
 {
-    let mut last = 0;
+    let share = post.share;
     let mut served = 0;
     'connections: while served < share {
-        match door.accept() {
+        match post.door.accept() {
             Ok(mut conn) => {
                 let _ = serve_one(
-                    rt, alloc, turn, seat, &mut conn, clock, &mut last, link, gate,
+                    rt,
+                    alloc,
+                    turn,
+                    seat,
+                    &mut conn,
+                    &mut post.clock,
+                    &mut post.last,
+                    &mut post.link,
+                    &mut post.gate,
                 );
                 served += 1;
             }

@@ -1,63 +1,108 @@
--- A request about a subscription, handled by a server.
-use Rattle.std.proofs.Common.{◌≡◌, ◌&&◌, ℕ, Bool, true, false, List, Option, None, IsTrue, Result, Ok, Err, IfOk, OnOk, OnErr, sym, ap, subst, true≢false}
+-- A message, handled in parts.
+use Rattle.std.proofs.Common.{◌≡◌, ◌++◌, ℕ, List, Option, None, is_some, Result, Ok, Err, IfOk, OnOk, OnErr, refl, sym, ap, ◌∙◌, subst}
 use Rattle.cds_base.specs.declared.mem.Mem.{Mem as Memory}
-use Rattle.cds_http.specs.declared.message.Start.{Start as Line}
 use Rattle.cds_http.specs.declared.message.Message.{Message}
 use Rattle.cds_commands.specs.Commands.{Command, Start}
-use Rattle.cds_gena.specs.Asked.{asks_of_subscription, gena_of}
+use Rattle.cds_gena.specs.declared.gena.Gena.{Gena}
 use Rattle.cds_gena.specs.Subscribed.{Booked}
+use Rattle.cds_server.specs.declared.asking.Asking.{Asking}
+use Rattle.cds_server.specs.declared.asking.Asking.TheVariants as ask
+use Rattle.cds_server.specs.declared.asking.EventRequest.{EventRequest}
+use Rattle.cds_server.specs.declared.made.Settled.{Settled}
 use Rattle.cds_server.specs.declared.notes.FirstNote.{FirstNote}
-use Rattle.cds_server.specs.Route.{asks_events, goes_to}
+use Rattle.cds_server.specs.Asking.{ChangesNone, IsAsking, asked_command, asked_note, asked_reply, command_in, note_in, reply_in}
 use Rattle.cds_server.specs.Outcome.{IsDone, and_command, outcome_in}
 use Rattle.cds_server.specs.Replies.{Replied, command_at, note_at}
 use Rattle.cds_server.specs.Serving.{Serving, StandsFor, IsServing}
-use Rattle.cds_server.proofs.Stands.{event-note, event-replied, event-same, event-serving, event-stands}
+use Rattle.cds_server.proofs.Stands.{event-accepted, event-note, event-replied, event-same, event-serving, event-stands}
+
+-- ---- a request about a subscription
 
 abbrev Answer : Type 0
-Answer = Result (Option FirstNote) Memory
-
-second : (a b : Bool) → a && b ≡ true → b ≡ true
-second true b e = e
-second false b e = absurd (true≢false (sym e))
-
-pub asks-method : (line : Line) → asks_events line ≡ true → IsTrue (asks_of_subscription line)
-asks-method line e = second (goes_to _ line) (asks_of_subscription line) e
+Answer = Result Settled Memory
 
 abbrev pub with_book : Serving → Booked → Serving
 with_book serving after = record { store = serving.store; book = after; moderated = serving.moderated; stopped = serving.stopped }
 
-module _ (serving : Serving) (now : ℕ) (m : Message) (old new : List ℕ) (after : Booked) (asked : asks_events m.start ≡ true) (number : ℕ)
-    (is : number ≡ serving.store.standing.number) where
-  abbrev pub Done : Option FirstNote → Type 0
-  Done note = IsDone serving.book number now (outcome_in serving.book now (gena_of m)) old new note after
+module _ (serving : Serving) (now : ℕ) (gena : Gena) (old new : List ℕ) (after : Booked) (number : ℕ) (is : number ≡ serving.store.standing.number) where
+  abbrev pub Done : Settled → Type 0
+  Done settled = IsDone serving.book number now (outcome_in serving.book now (Ok gena)) old new settled after
 
-  abbrev There : Option FirstNote → Type 0
-  There note = IsDone serving.book serving.store.standing.number now (outcome_in serving.book now (gena_of m)) old new note after
+  abbrev There : Settled → Type 0
+  There settled = IsDone serving.book serving.store.standing.number now (outcome_in serving.book now (Ok gena)) old new settled after
 
-  there : (note : Option FirstNote) → Done note → There note
-  there note d = subst (λ n. IsDone serving.book n now (outcome_in serving.book now (gena_of m)) old new note after) is d
+  there : (settled : Settled) → Done settled → There settled
+  there settled d = subst (λ n. IsDone serving.book n now (outcome_in serving.book now (Ok gena)) old new settled after) is d
 
-  pub handled-serving : (r : Answer) → IfOk r Done → OnErr r (after ≡ serving.book) → IsServing serving → IsServing (with_book serving after)
-  handled-serving (Ok note) d stays kept = event-serving serving now (outcome_in serving.book now (gena_of m)) after kept (there note d).kept
-  handled-serving (Err memory) d stays kept = subst (λ b. IsServing (with_book serving b)) (sym stays) kept
+  pub settled-serving : (r : Answer) → IfOk r Done → OnErr r (after ≡ serving.book) → IsServing serving → IsServing (with_book serving after)
+  settled-serving (Ok settled) d stays kept = event-serving serving now (outcome_in serving.book now (Ok gena)) after kept (there settled d).kept
+  settled-serving (Err memory) d stays kept = subst (λ b. IsServing (with_book serving b)) (sym stays) kept
 
-  pub handled-replied : (r : Answer) → IfOk r Done → (start : Start) (commands : List Command) → StandsFor serving start commands
-      → OnOk r (Replied start commands now m old new)
-  handled-replied (Ok note) d start commands s = event-replied serving start commands now m old new note after s asked (there note d)
-  handled-replied (Err memory) d start commands s = tt
+  pub settled-replied : (r : Answer) → IfOk r Done → (start : Start) (commands : List Command) → StandsFor serving start commands
+      → OnOk r (new ≡ old ++ asked_reply start commands now gena)
+  settled-replied (Ok settled) d start commands s = event-replied serving start commands now gena old new settled after s (there settled d)
+  settled-replied (Err memory) d start commands s = tt
 
-  pub handled-stands : (r : Answer) → IfOk r Done → (start : Start) (commands : List Command) → StandsFor serving start commands
-      → OnOk r (StandsFor (with_book serving after) start (and_command (command_at start commands now m) commands))
-  handled-stands (Ok note) d start commands s = event-stands serving start commands now m old new note after s asked (there note d)
-  handled-stands (Err memory) d start commands s = tt
+  pub settled-stands : (r : Answer) → IfOk r Done → (start : Start) (commands : List Command) → StandsFor serving start commands
+      → OnOk r (StandsFor (with_book serving after) start (and_command (asked_command start commands now gena) commands))
+  settled-stands (Ok settled) d start commands s = event-stands serving start commands now gena old new settled after s (there settled d)
+  settled-stands (Err memory) d start commands s = tt
 
-  pub handled-note : (r : Answer) → IfOk r Done → (start : Start) (commands : List Command) → StandsFor serving start commands
-      → IfOk r (λ note. note ≡ note_at start commands now m)
-  handled-note (Ok note) d start commands s = event-note serving start commands now m old new note after s asked (there note d)
-  handled-note (Err memory) d start commands s = tt
+  pub settled-note : (r : Answer) → IfOk r Done → (start : Start) (commands : List Command) → StandsFor serving start commands
+      → IfOk r (λ settled. settled.note ≡ asked_note start commands now gena)
+  settled-note (Ok settled) d start commands s = event-note serving start commands now gena old new settled after s (there settled d)
+  settled-note (Err memory) d start commands s = tt
 
-  pub handled-same : (r : Answer) → IfOk r Done → OnErr r (after ≡ serving.book) → (start : Start) (commands : List Command) → StandsFor serving start commands
-      → command_at start commands now m ≡ None → with_book serving after ≡ serving
-  handled-same (Ok note) d stays start commands s none =
-      ap (λ b. with_book serving b) (event-same serving start commands now m old new note after s asked (there note d) none)
-  handled-same (Err memory) d stays start commands s none = ap (λ b. with_book serving b) stays
+  pub settled-accepted : (r : Answer) → IfOk r Done → (start : Start) (commands : List Command) → StandsFor serving start commands
+      → IfOk r (λ settled. settled.accepted ≡ is_some (asked_command start commands now gena))
+  settled-accepted (Ok settled) d start commands s = event-accepted serving start commands now gena old new settled after s (there settled d)
+  settled-accepted (Err memory) d start commands s = tt
+
+  pub settled-same : (r : Answer) → IfOk r Done → OnErr r (after ≡ serving.book) → (start : Start) (commands : List Command) → StandsFor serving start commands
+      → asked_command start commands now gena ≡ None → with_book serving after ≡ serving
+  settled-same (Ok settled) d stays start commands s none =
+      ap (λ b. with_book serving b) (event-same serving start commands now gena old new settled after s (there settled d) none)
+  settled-same (Err memory) d stays start commands s none = ap (λ b. with_book serving b) stays
+
+-- ---- what changes no server
+
+pub unasked : (asking : Asking) → ((request : EventRequest) → asking ≡ ask.Subscription request → ⊥) → ChangesNone asking
+unasked (ask.Ready text) other = tt
+unasked (ask.Action host asked) other = tt
+unasked (ask.Subscription request) other = absurd (other request refl)
+
+no-command : (start : Start) (commands : List Command) (now : ℕ) (asking : Asking) → ChangesNone asking → command_in start commands now asking ≡ None
+no-command start commands now (ask.Ready text) none = refl
+no-command start commands now (ask.Action host asked) none = refl
+no-command start commands now (ask.Subscription request) none = absurd none
+
+no-note : (start : Start) (commands : List Command) (now : ℕ) (asking : Asking) → ChangesNone asking → note_in start commands now asking ≡ None
+no-note start commands now (ask.Ready text) none = refl
+no-note start commands now (ask.Action host asked) none = refl
+no-note start commands now (ask.Subscription request) none = absurd none
+
+-- ---- a message, by what was read of it
+
+module _ (m : Message) (asking : Asking) (start : Start) (commands : List Command) (now : ℕ) (a : IsAsking m asking) where
+  pub handled-replied : (old new : List ℕ) → new ≡ old ++ reply_in start commands now asking → Replied start commands now m old new
+  handled-replied old new is = (reply_in start commands now asking, a.replies start commands now, is)
+
+  pub handled-stands : (serving : Serving) → StandsFor serving start (and_command (command_in start commands now asking) commands)
+      → StandsFor serving start (and_command (command_at start commands now m) commands)
+  handled-stands serving s = subst (λ (c : Option Command). StandsFor serving start (and_command c commands)) (sym (a.command start commands now)) s
+
+  pub handled-note : (first : Option FirstNote) → first ≡ note_in start commands now asking → first ≡ note_at start commands now m
+  handled-note first is = is ∙ sym (a.note start commands now)
+
+  pub handled-none : command_at start commands now m ≡ None → command_in start commands now asking ≡ None
+  handled-none none = sym (a.command start commands now) ∙ none
+
+  pub kept-stands : (old new : Serving) → ChangesNone asking → new ≡ old → StandsFor old start commands
+      → StandsFor new start (and_command (command_at start commands now m) commands)
+  kept-stands old new none same s =
+      subst (λ (z : Serving). StandsFor z start (and_command (command_at start commands now m) commands)) (sym same)
+      (handled-stands old
+      (subst (λ (c : Option Command). StandsFor old start (and_command c commands)) (sym (no-command start commands now asking none)) s))
+
+  pub kept-note : ChangesNone asking → None ≡ note_at start commands now m
+  kept-note none = sym (a.note start commands now ∙ no-note start commands now asking none)

@@ -8,6 +8,9 @@ pub mod PagesRows
 pub mod Whole
 pub mod Done
 pub mod Stands
+pub mod Routes
+pub mod Asks
+pub mod Makes
 pub mod Handled
 pub mod Ticked
 pub mod Heads

@@ -2,7 +2,7 @@
 use Rattle.std.proofs.Common.{◌≡◌, ◌+◌, ◌≤◌, ℕ, suc, Bool, true, false, cond, nat_eq, nat_lt, List, [], ◌∷◌, ◌++◌, length, reverse, Option, Some, None, is_some, refl, sym, ap, ◌∙◌, subst, arith, true≢false, ltb-false, length-append}
 use Rattle.std.specs.List.{AllByRecursion, filter_map, cons_option}
 use Rattle.std.proofs.lemmas.List.{length-reverse}
-use Rattle.std.specs.Prelude.{Result}
+use Rattle.std.specs.Prelude.{Result, Ok}
 use Rattle.cds_object.specs.declared.record.Record.{Record}
 use Rattle.cds_catalog.specs.Library.{FolderMap, map_of, found, arrival, departure}
 use Rattle.cds_catalog.specs.History.{History, changes_of, end_of, latest, with_scan}
@@ -16,18 +16,18 @@ use Rattle.cds_http.specs.declared.message.Message.{Message}
 use Rattle.cds_commands.specs.Commands.{Command, Start, Scans, Stops, AreAccepted, scans_of}
 use Rattle.cds_commands.specs.Names.{names_of}
 use Rattle.cds_commands.specs.Subscriptions.{granted, end_after}
-use Rattle.cds_gena.specs.Asked.{gena_of}
 use Rattle.cds_gena.specs.Subscribed.{Booked, Subscribed, StandsFor as BookStandsFor, grant_refusal, if_alive, if_full, last_number, living_named, number_of, subscribed_by, with_grant, renewed, without}
 use Rattle.cds_gena.specs.declared.error.GenaError.{GenaError}
 use Rattle.cds_gena.specs.declared.error.GenaError.TheVariants.{Spent}
 use Rattle.cds_gena.specs.declared.gena.Gena.{Gena}
 use Rattle.cds_gena.proofs.Commands.{as-many, number-alive, booked-scan, booked-grant, booked-renewal, booked-end, booked-stop}
 use Rattle.cds_moderator.specs.Moderating.{Moderated, moderated_by, reached}
-use Rattle.cds_server.specs.declared.notes.FirstNote.{FirstNote}
+use Rattle.cds_server.specs.declared.made.Settled.{Settled}
 use Rattle.cds_server.specs.Route.{Route, Subscribes, Goes, asks_events, route, way_by}
-use Rattle.cds_server.specs.Published.{Published, published_by, token_of}
-use Rattle.cds_server.specs.Outcome.{Outcome, Refused, Granted, Renewed, Ended, IsDone, and_command, command_of, done, event_reply, first_of, if_lives, living_number, outcome, outcome_in, outcome_note, outcome_of, outcome_reply, refusal_of}
-use Rattle.cds_server.specs.Replies.{IsReplyOf, RepliesBy, Replied, command_at, command_by, note_at, note_by}
+use Rattle.cds_server.specs.Published.{published_by, token_of}
+use Rattle.cds_server.specs.Asking.{asked_command, asked_note, asked_outcome, asked_reply}
+use Rattle.cds_server.specs.Outcome.{Outcome, Refused, Granted, Renewed, Ended, IsDone, and_command, command_of, done, first_of, if_lives, living_number, outcome, outcome_in, outcome_note, outcome_of, outcome_reply, refusal_of}
+use Rattle.cds_server.specs.Replies.{command_at, command_by, note_at, note_by}
 use Rattle.cds_server.specs.Serving.{Serving, StandsFor, IsServing, CanFollow, published_of}
 
 -- ---- replies to other messages
@@ -43,15 +43,12 @@ goes-way m unasked = ap (λ b. cond b Subscribes (Goes (way_by m.start m.fields)
 pub asks-way : (m : Message) → asks_events m.start ≡ true → route m ≡ Subscribes
 asks-way m asked_so = ap (λ b. cond b Subscribes (Goes (way_by m.start m.fields))) asked_so
 
-pub other-replied : (serving : Serving) (start : Start) (commands : List Command) (now : ℕ) (m : Message) (old new : List ℕ) → StandsFor serving start commands
-    → asks_events m.start ≡ false → RepliesBy (published_of serving) m (way_by m.start m.fields) old new → Replied start commands now m old new
-other-replied serving start commands now m old new s unasked r =
-    let here = subst (λ (p : Published). RepliesBy p m (way_by m.start m.fields) old new) (published-is serving start commands s) r in
-    (here.0, subst (λ (w : Route). IsReplyOf start commands now m w here.0) (sym (goes-way m unasked)) here.1, here.2)
-
 pub other-commands : (start : Start) (commands : List Command) (now : ℕ) (m : Message) → asks_events m.start ≡ false
     → and_command (command_at start commands now m) commands ≡ commands
 other-commands start commands now m unasked = ap (λ (w : Route). and_command (command_by w now (outcome start commands now m)) commands) (goes-way m unasked)
+
+pub other-command : (start : Start) (commands : List Command) (now : ℕ) (m : Message) → asks_events m.start ≡ false → command_at start commands now m ≡ None
+other-command start commands now m unasked = ap (λ (w : Route). command_by w now (outcome start commands now m)) (goes-way m unasked)
 
 pub other-note : (start : Start) (commands : List Command) (now : ℕ) (m : Message) → asks_events m.start ≡ false → note_at start commands now m ≡ None
 other-note start commands now m unasked = ap (λ (w : Route). note_by w (first_of start commands now m)) (goes-way m unasked)
@@ -132,11 +129,11 @@ event-serving serving now o after kept is =
       room = omega (arith, names, room);
     }
 
-module _ (serving : Serving) (start : Start) (commands : List Command) (now : ℕ) (m : Message) (old new : List ℕ) (note : Option FirstNote) (after : Booked)
-    (s : StandsFor serving start commands) (asked_so : asks_events m.start ≡ true)
-    (is : IsDone serving.book serving.store.standing.number now (outcome_in serving.book now (gena_of m)) old new note after) where
-  come : outcome_in serving.book now (gena_of m) ≡ outcome start commands now m
-  come = outcome-is serving.book start commands now (gena_of m) s.book
+module _ (serving : Serving) (start : Start) (commands : List Command) (now : ℕ) (gena : Gena) (old new : List ℕ) (settled : Settled) (after : Booked)
+    (s : StandsFor serving start commands)
+    (is : IsDone serving.book serving.store.standing.number now (outcome_in serving.book now (Ok gena)) old new settled after) where
+  come : outcome_in serving.book now (Ok gena) ≡ asked_outcome start commands now gena
+  come = outcome-is serving.book start commands now (Ok gena) s.book
 
   many : serving.book.subscribed.granted ≡ granted commands
   many = ap (λ (t : Subscribed). t.granted) s.book.subscribed
@@ -144,33 +141,26 @@ module _ (serving : Serving) (start : Start) (commands : List Command) (now : �
   number : serving.store.standing.number ≡ end_of (scans_of start.first commands)
   number = ap (λ (t : Standing). t.number) s.store.1
 
-  commanded : command_at start commands now m ≡ command_of now (outcome start commands now m)
-  commanded = ap (λ (w : Route). command_by w now (outcome start commands now m)) (asks-way m asked_so)
-
-  kept-is : after ≡ done now (outcome start commands now m) serving.book
+  kept-is : after ≡ done now (asked_outcome start commands now gena) serving.book
   kept-is = is.kept ∙ ap (λ o. done now o serving.book) come
 
-  pub event-replied : Replied start commands now m old new
-  event-replied = (
-    event_reply start commands now m,
-    subst (λ (w : Route). IsReplyOf start commands now m w (event_reply start commands now m)) (sym (asks-way m asked_so)) refl,
-    is.replied ∙ (λ i. old ++ outcome_reply (s.book.names i) (many i) (come i)),
-  )
+  pub event-replied : new ≡ old ++ asked_reply start commands now gena
+  event-replied = is.replied ∙ (λ i. old ++ outcome_reply (s.book.names i) (many i) (come i))
 
-  pub event-stands : StandsFor (record { store = serving.store; book = after; moderated = serving.moderated; stopped = serving.stopped }) start (and_command (command_at start commands now m) commands)
+  pub event-stands : StandsFor (record { store = serving.store; book = after; moderated = serving.moderated; stopped = serving.stopped }) start (and_command (asked_command start commands now gena) commands)
   event-stands =
-      subst (λ (c : Option Command). StandsFor (record { store = serving.store; book = after; moderated = serving.moderated; stopped = serving.stopped }) start (and_command c commands)) (sym commanded)
-      (with-book serving start commands now (outcome start commands now m) after s
-      (subst (λ (b : Booked). BookStandsFor b start (and_command (command_of now (outcome start commands now m)) commands)) (sym kept-is)
-      (done-stands serving.book start commands now (outcome start commands now m) s.book)))
+      with-book serving start commands now (asked_outcome start commands now gena) after s
+      (subst (λ (b : Booked). BookStandsFor b start (and_command (asked_command start commands now gena) commands)) (sym kept-is)
+      (done-stands serving.book start commands now (asked_outcome start commands now gena) s.book))
 
-  pub event-note : note ≡ note_at start commands now m
-  event-note =
-      is.noted ∙ (λ i. outcome_note (s.book.names i) (many i) (number i) (come i))
-      ∙ sym (ap (λ (w : Route). note_by w (first_of start commands now m)) (asks-way m asked_so))
+  pub event-note : settled.note ≡ asked_note start commands now gena
+  event-note = is.noted ∙ (λ i. outcome_note (s.book.names i) (many i) (number i) (come i))
 
-  pub event-same : command_at start commands now m ≡ None → after ≡ serving.book
-  event-same none = kept-is ∙ keeps now (outcome start commands now m) serving.book (sym commanded ∙ none)
+  pub event-accepted : settled.accepted ≡ is_some (asked_command start commands now gena)
+  event-accepted = is.accepted ∙ ap (λ o. is_some (command_of now o)) come
+
+  pub event-same : asked_command start commands now gena ≡ None → after ≡ serving.book
+  event-same none = kept-is ∙ keeps now (asked_outcome start commands now gena) serving.book none
 
 -- ---- a scan
 

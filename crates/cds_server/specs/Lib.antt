@@ -1,9 +1,11 @@
 pub mod Route
+pub mod Routed
 pub mod Published
 pub mod Answering
 pub mod Outcome
 pub mod Due
 pub mod Serving
 pub mod Replies
+pub mod Asking
 pub mod Laws
-pub mod Evaluated
+pub mod Examples

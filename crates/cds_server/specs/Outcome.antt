@@ -1,6 +1,6 @@
 -- What comes of a request about a subscription, by the commands that a server accepted (UPnP Device Architecture 2.0 on SUBSCRIBE
 -- and UNSUBSCRIBE). The order of the statuses is this project's profile.
-use Rattle.std.specs.Prelude.{◌≡◌, ◌+◌, ◌++◌, ℕ, cond, nat_eq, List, [], ◌∷◌, length, codes, Option, Some, None, Result, Ok, Err, ⊤}
+use Rattle.std.specs.Prelude.{◌≡◌, ◌+◌, ◌++◌, ℕ, Bool, true, false, cond, nat_eq, List, [], ◌∷◌, length, codes, Option, Some, None, is_some, Result, Ok, Err, ⊤}
 use Rattle.std.specs.Fmt.{decimal}
 use Rattle.url.specs.Parts.{serialize}
 use Rattle.cds_catalog.specs.History.{end_of}
@@ -11,7 +11,7 @@ use Rattle.cds_commands.specs.Commands.{Command, Start, Grants, Renews, Ends, sc
 use Rattle.cds_commands.specs.Names.{names_of}
 use Rattle.cds_commands.specs.Subscriptions.{end_after, granted}
 use Rattle.cds_commands.specs.Notes.{Note, alive_names, first_note, notes_of}
-use Rattle.cds_gena.specs.Asked.{gena_of}
+use Rattle.cds_gena.specs.Asked.{gena_of, is_deliverable}
 use Rattle.cds_gena.specs.Served.{lives_at}
 use Rattle.cds_gena.specs.SidText.{sid_text}
 use Rattle.cds_gena.specs.Subscribed.{Booked, IsDelivered, Subscribed, grant_refusal, if_full, last_number, living_named, number_of, renewed, with_grant, without}
@@ -20,6 +20,7 @@ use Rattle.cds_gena.specs.declared.error.GenaError.TheVariants.{Mem, Incompatibl
 use Rattle.cds_gena.specs.declared.gena.Gena.{Gena}
 use Rattle.cds_gena.specs.declared.gena.Gena.TheVariants.{Subscribe, Renew, Unsubscribe}
 use Rattle.cds_notify.specs.Propertyset.{propertyset_text}
+use Rattle.cds_server.specs.declared.made.Settled.{Settled}
 use Rattle.cds_server.specs.declared.notes.FirstNote.{FirstNote}
 
 -- What comes of a request:
@@ -32,6 +33,12 @@ pub data Outcome : Type 0 where
   Granted : List ℕ → ℕ → Outcome
   Renewed : ℕ → ℕ → Outcome
   Ended : ℕ → Outcome
+
+-- whether notes can be delivered at the callback, if a new subscription is asked for
+abbrev pub can_deliver : Gena → Bool
+can_deliver (Subscribe url seconds) = is_deliverable url
+can_deliver (Renew sid seconds) = true
+can_deliver (Unsubscribe sid) = true
 
 -- ---- what comes of it
 
@@ -153,11 +160,16 @@ done now (Granted callback seconds) book = with_subscribed book (with_grant now 
 done now (Renewed number seconds) book = with_subscribed book (renewed number (end_after now seconds) book.subscribed)
 done now (Ended number) book = with_subscribed book (without number book.subscribed)
 
--- A request is answered, by the subscriptions before it: this is appended, kept and answered.
-pub record IsDone (book : Booked) (number now : ℕ) (come : Outcome) (old new : List ℕ) (note : Option FirstNote) (after : Booked) : Type 0 where
+-- nothing was accepted
+abbrev pub unsettled : Settled
+unsettled = record { note = None; accepted = false }
+
+-- A request is answered, by the subscriptions before it: this is appended, kept and settled.
+pub record IsDone (book : Booked) (number now : ℕ) (come : Outcome) (old new : List ℕ) (settled : Settled) (after : Booked) : Type 0 where
   pub replied : new ≡ old ++ outcome_reply book.names book.subscribed.granted come
   pub kept : after ≡ done now come book
-  pub noted : note ≡ outcome_note book.names book.subscribed.granted number come
+  pub noted : settled.note ≡ outcome_note book.names book.subscribed.granted number come
+  pub accepted : settled.accepted ≡ is_some (command_of now come)
 
 -- A first note can be delivered, if there is one.
 abbrev pub GoesOut : Option FirstNote → Type 0

@@ -49,9 +49,6 @@ abbrev pub IsReply : Start → List Command → ℕ → Message → List ℕ →
 IsReply start commands now m text = IsReplyOf start commands now m (route m) text
 
 -- A reply was appended.
-abbrev pub RepliesBy : Published → Message → Way → List ℕ → List ℕ → Type 0
-RepliesBy published m way old new = (text : List ℕ) × IsReplyBy published m way text × (new ≡ old ++ text)
-
 abbrev pub Replied : Start → List Command → ℕ → Message → List ℕ → List ℕ → Type 0
 Replied start commands now m old new = (text : List ℕ) × IsReply start commands now m text × (new ≡ old ++ text)
 

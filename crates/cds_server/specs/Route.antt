@@ -1,6 +1,6 @@
 -- The way of a message, by its target, its method and its HOST, in this order. A message that goes nowhere is answered with a
 -- status (RFC 9110 on the statuses 400, 404 and 405; UPnP Device Architecture 2.0 on the URLs of control and of eventing).
-use Rattle.std.specs.Prelude.{ℕ, Bool, false, ◌&&◌, List, codes, bytes_eq, Option, Some, None, if◌then◌else◌}
+use Rattle.std.specs.Prelude.{ℕ, Bool, true, false, ◌&&◌, ◌||◌, List, codes, bytes_eq, Option, Some, None, if◌then◌else◌}
 use Rattle.http_header.specs.HeaderMap.{Entries}
 use Rattle.http_header.specs.FieldValue.{FieldValue}
 use Rattle.cds_http.specs.declared.message.Start.{Start}
@@ -56,3 +56,26 @@ route_by start fields = if asks_events start then Subscribes else Goes (way_by s
 
 abbrev pub route : Message → Route
 route m = route_by m.start m.fields
+
+-- ---- the statuses that need no server
+
+-- whether the target of events takes this method
+abbrev pub is_event_method : List ℕ → Bool
+is_event_method method = bytes_eq method (codes "SUBSCRIBE") || bytes_eq method (codes "UNSUBSCRIBE")
+
+-- a method that a target does not take gets 405
+abbrev pub status_unless : Bool → Option ℕ
+status_unless true = None
+status_unless false = Some 405
+
+-- The target `/control` takes POST; `/event` takes SUBSCRIBE and UNSUBSCRIBE. Every other target gets 404.
+abbrev pub status_at : List ℕ → List ℕ → Option ℕ
+status_at target method =
+    if bytes_eq target (codes "/control") then status_unless (bytes_eq method (codes "POST"))
+    else if bytes_eq target (codes "/event") then status_unless (is_event_method method)
+    else Some 404
+
+-- the status of a start line, if the server has no part in it; a line that is no request gets 400
+abbrev pub request_status : Start → Option ℕ
+request_status (Request method target) = status_at target method
+request_status (Reply status) = Some 400

@@ -1,34 +1,45 @@
-//! The answers to actions.
+//! What a server makes of actions.
 
-ghost use Rattle.std.specs.Prelude.{◌≡◌, ◌≤◌, [], ◌∷◌, ◌++◌, length, Ok, IfOk, OnOk, string_bytes};
-ghost use Rattle.cds_store.specs.Rows.{rows_of};
-ghost use Rattle.cds_didl.specs.Fragment.{didl_text, fragments};
+ghost use Rattle.std.specs.Prelude.{◌≡◌, ◌≤◌, [], ◌∷◌, ◌++◌, length, Ok, IfOk, OnOk};
 ghost use Rattle.cds_browse.specs.Browsing.{longest_page};
+ghost use Rattle.cds_soap.specs.declared.action.Action.TheVariants as action;
+ghost use Rattle.cds_soap.specs.declared.answer.Answer.TheVariants as answer;
+ghost use Rattle.cds_store.specs.Rows.{rows_of};
+ghost use Rattle.cds_server.specs.Answering.{code_of, rows_with};
+ghost use Rattle.cds_server.specs.Asking.{made_page, made_to};
 ghost use Rattle.cds_server.specs.Published.{token_of};
 ghost use Rattle.cds_server.specs.Serving.{published_of};
-ghost use Rattle.cds_server.specs.Answering.{base_of, rows_with, code_of, page_answer, browsed, answer_to};
+ghost use Rattle.cds_server.specs.declared.made.Made.TheVariants as make;
 
 use crate::Server;
-use cds_base::{Bytes, Mem, Text};
+use crate::made::Made;
+use cds_base::{Mem, Text};
 use cds_browse::{BrowseError, Page, browse};
-use cds_didl::{Filter, put_didl_end, put_didl_start, put_row};
+use cds_object::{Row, Rows};
 use cds_soap::{Action, Answer, BrowseRequest};
 use cds_store::{Keeping, Store};
 use std::alloc::Global;
 use uuid::Uuid;
 
-/// Returns what an action is answered with, for a request with this HOST.
-pub fn answer_to(alloc: Global, server: &Server, host: &str, action: &Action) -> Result<Answer, Mem>
-    ensures { IfOk result (λ answer. answer ≡ answer_to (published_of server.now) host.now action.now) }
+/// Returns what a server makes of an action.
+pub fn made_to(alloc: Global, server: &Server, action: &Action) -> Result<Made, Mem>
+    ensures { IfOk result (λ made. made ≡ made_to (published_of server.now) action.now) }
 {
     match action {
-        Action::Browse(asked) => browsed(alloc, server, host, asked),
-        Action::GetSystemUpdateId => Ok(Answer::Number(server.system_update_id())),
-        Action::GetServiceResetToken => token_answer(alloc, server.book.names()),
-        Action::Search(_) => Ok(Answer::Fault { code: 401 }),
-        Action::GetSearchCapabilities => Ok(Answer::Fault { code: 401 }),
-        Action::GetSortCapabilities => Ok(Answer::Fault { code: 401 }),
+        Action::Browse(asked) => browsed(alloc, server, asked),
+        Action::GetSystemUpdateId => Ok(Made::Answer(Answer::Number(server.system_update_id()))),
+        Action::GetServiceResetToken => token_made(alloc, server.book.names()),
+        Action::Search(_) => Ok(fault(401)),
+        Action::GetSearchCapabilities => Ok(fault(401)),
+        Action::GetSortCapabilities => Ok(fault(401)),
     }
+}
+
+/// Returns a fault.
+fn fault(code: u16) -> Made
+    ensures { result ≡ make.Answer (answer.Fault code) }
+{
+    Made::Answer(Answer::Fault { code })
 }
 
 /// Returns the text of the name of number 0.
@@ -41,11 +52,11 @@ fn token_of(alloc: Global, names: u128) -> Result<Text, Mem>
 }
 
 /// Returns the reset token, as an answer.
-fn token_answer(alloc: Global, names: u128) -> Result<Answer, Mem>
-    ensures { IfOk result (λ answer. answer ≡ Answer.Text (token_of names)) }
+fn token_made(alloc: Global, names: u128) -> Result<Made, Mem>
+    ensures { IfOk result (λ made. made ≡ make.Answer (answer.Text (token_of names))) }
 {
     let token = token_of(alloc, names)?;
-    Ok(Answer::Text(token))
+    Ok(Made::Answer(Answer::Text(token)))
 }
 
 /// Returns the code of a refusal of Browse.
@@ -61,97 +72,53 @@ fn code_of(refusal: BrowseError) -> u16
     }
 }
 
-/// Returns what Browse is answered with.
-fn browsed(alloc: Global, server: &Server, host: &str, asked: &BrowseRequest) -> Result<Answer, Mem>
-    ensures { IfOk result (λ answer. answer ≡ browsed (published_of server.now) host.now asked.now) }
+/// Returns what a server makes of Browse.
+fn browsed(alloc: Global, server: &Server, asked: &BrowseRequest) -> Result<Made, Mem>
+    ensures { IfOk result (λ made. made ≡ made_to (published_of server.now) (action.Browse asked.now)) }
 {
     match browse(alloc, &server.store, asked) {
-        Ok(page) => page_answer(alloc, &server.store, host, asked.filter.as_str(), &page),
+        Ok(page) => page_made(alloc, &server.store, &page),
         Err(BrowseError::Mem) => Err(Mem),
-        Err(refusal) => Ok(Answer::Fault {
-            code: code_of(refusal),
-        }),
+        Err(refusal) => Ok(fault(code_of(refusal))),
     }
 }
 
-/// Returns a page, as an answer.
-fn page_answer(
-    alloc: Global,
-    store: &Store,
-    host: &str,
-    filter: &str,
-    page: &Page,
-) -> Result<Answer, Mem>
+/// Returns a page with copies of its rows.
+fn page_made(alloc: Global, store: &Store, page: &Page) -> Result<Made, Mem>
     requires few { length page.now.ids ≤ longest_page }
-    ensures { IfOk result (λ answer. answer ≡ page_answer filter.now host.now (rows_of store.now.standing.rows) (Ok page.now)) }
+    ensures { IfOk result (λ made. made ≡ made_page (rows_of store.now.standing.rows) (Ok page.now)) }
 {
-    let filter = Filter::read(alloc, filter)?;
-    let base = base_of(alloc, host)?;
-    let text = page_text(alloc, store, page.ids.as_slice(), &filter, base.as_str())?;
-    Ok(Answer::Page {
-        result: Bytes::from(text.into_bytes()),
+    let rows = copies(alloc, store, page.ids.as_slice())?;
+    Ok(Made::Page {
+        rows,
         returned: page.ids.len() as u32,
         total: page.total,
         update: page.update,
     })
 }
 
-/// Returns the base of the URLs of tracks.
-fn base_of(alloc: Global, host: &str) -> Result<String, Mem>
-    ensures { IfOk result (λ base. string_bytes base ≡ base_of host.now) }
+/// Returns copies of the rows of these ids.
+fn copies(alloc: Global, store: &Store, ids: &[u32]) -> Result<Rows, Mem>
+    ensures { IfOk result (λ rows. rows ≡ rows_with ids.now (rows_of store.now.standing.rows)) }
 {
-    let mut base = String::from_str(alloc, "http://")?;
-    base.push_str(host)?;
-    Ok(base)
-}
-
-/// Returns the document of a page's rows.
-#[tactic(auto, unfolding(cds_didl::specs::Fragment::didl_text))]
-fn page_text(
-    alloc: Global,
-    store: &Store,
-    ids: &[u32],
-    filter: &Filter,
-    base: &str,
-) -> Result<String, Mem>
-    ensures { IfOk result (λ text. string_bytes text ≡ didl_text filter.now base.now (rows_with ids.now (rows_of store.now.standing.rows))) }
-{
-    let mut text = String::new(alloc);
-    put_didl_start(&mut text)?;
-    put_rows(&mut text, store, ids, filter, base)?;
-    put_didl_end(&mut text)?;
-    Ok(text)
-}
-
-/// Appends the texts of a page's rows.
-fn put_rows(
-    out: &mut String,
-    store: &Store,
-    ids: &[u32],
-    filter: &Filter,
-    base: &str,
-) -> Result<(), Mem>
-    ensures { OnOk result (string_bytes out.new ≡ string_bytes out.old ++ fragments filter.now base.now (rows_with ids.now (rows_of store.now.standing.rows))) }
-{
+    let mut rows = Vec::new(alloc);
+    rows.reserve(ids.len())?;
     for id in ids {
-        put_row_of(out, store, *id, filter, base)?;
+        push_copy(alloc, store, *id, &mut rows)?;
     }
-    Ok(())
+    Ok(Rows::from(rows))
 }
 
-/// Appends the text of the row of an id.
-fn put_row_of(
-    out: &mut String,
-    store: &Store,
-    id: u32,
-    filter: &Filter,
-    base: &str,
-) -> Result<(), Mem>
-    ensures { OnOk result (string_bytes out.new
-        ≡ string_bytes out.old ++ fragments filter.now base.now (rows_with (id ∷ []) (rows_of store.now.standing.rows))) }
+/// Appends a copy of the row of an id.
+fn push_copy(alloc: Global, store: &Store, id: u32, rows: &mut Vec<Row>) -> Result<(), Mem>
+    ensures { OnOk result (rows.new.items ≡ rows.old.items ++ rows_with (id ∷ []) (rows_of store.now.standing.rows)) }
 {
     match store.get(id) {
         None => Ok(()),
-        Some(row) => put_row(out, row, filter, base),
+        Some(row) => {
+            let copy = row.copy(alloc)?;
+            rows.push(copy)?;
+            Ok(())
+        }
     }
 }

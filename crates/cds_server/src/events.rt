@@ -1,40 +1,31 @@
 //! Requests about subscriptions: what is done, replied and noted.
 
-ghost use Rattle.std.specs.Prelude.{◌≡◌, ◌≢◌, ◌+◌, ◌≤◌, ◌<◌, ◌^◌, ◌++◌, ℕ, length, take, codes, Some, None, IsTrue, IfOk, OnOk, OnErr, MatchOption, string_bytes};
+ghost use Rattle.std.specs.Prelude.{◌≡◌, ◌≢◌, ◌+◌, ◌≤◌, ◌<◌, ◌^◌, ◌++◌, ℕ, length, take, codes, Ok, Some, None, IsTrue, IfOk, OnOk, OnErr, MatchOption, string_bytes};
 ghost use Rattle.std.specs.Fmt.{decimal};
 ghost use Rattle.url.specs.Parts.{serialize};
 ghost use Rattle.cds_commands.specs.Notes.{first_note};
-ghost use Rattle.cds_gena.specs.Asked.{asks_of_subscription, gena_of, is_deliverable};
+ghost use Rattle.cds_gena.specs.Asked.{is_deliverable};
 ghost use Rattle.cds_gena.specs.Subscribed.{grant_refusal, last_number, living_named};
 ghost use Rattle.cds_gena.specs.declared.error.GenaError.TheVariants as gena_error;
-ghost use Rattle.cds_server.specs.Route.{asks_events, goes_to};
-ghost use Rattle.cds_server.specs.Outcome.{IsDone, GoesOut, empty_reply, ending, granting, lease_fields, lease_reply, noted, outcome_in, renewing, status_of};
+ghost use Rattle.cds_server.specs.Outcome.{IsDone, GoesOut, empty_reply, ending, granting, lease_fields, lease_reply, noted, outcome_in, renewing, status_of, unsettled};
 
+use crate::asking::EventRequest;
+use crate::made::Settled;
 use crate::notes::FirstNote;
 use crate::replying::put_empty;
 use cds_base::{Bytes, Mem, Text};
-use cds_gena::{Address, Book, Gena, GenaError, Sid, asks_of_subscription, read_gena};
-use cds_http::{Fields, Message, Start, write_reply};
+use cds_gena::{Address, Book, Gena, GenaError, Lease, Sid};
+use cds_http::{Fields, write_reply};
 use cds_notify::write_propertyset;
 use cds_object::Events;
 use std::alloc::Global;
 use url::Url;
 
-/// Returns whether a message is a request to a target.
-fn goes_to(message: &Message, name: &str) -> bool
-    ensures { result ≡ goes_to name.now message.now.start }
-{
-    match &message.start {
-        Start::Request { target, .. } => target.as_str() == name,
-        Start::Reply { .. } => false,
-    }
-}
-
-/// Returns whether a message asks about a subscription at the target of events.
-pub fn asks_events(message: &Message) -> bool
-    ensures { result ≡ asks_events message.now.start }
-{
-    goes_to(message, "/event") && asks_of_subscription(message)
+/// When a request came: its moment in milliseconds, and the number of the last change then.
+#[derive(Clone, Copy)]
+pub struct When {
+    pub moment: u64,
+    pub number: u32,
 }
 
 /// Returns the name that the next subscription gets, if a number is left.
@@ -88,12 +79,12 @@ fn timeout_text(alloc: Global, seconds: u32) -> Result<String, Mem>
 }
 
 /// Returns the given fields of the reply to an accepted SUBSCRIBE.
-fn lease_fields(alloc: Global, sid: Sid, seconds: u32) -> Result<Fields, Mem>
-    ensures fields { IfOk result (λ fields. fields ≡ lease_fields sid.0 seconds) }
-    ensures few { seconds < 2 ^ 32 }
+fn lease_fields(alloc: Global, lease: Lease) -> Result<Fields, Mem>
+    ensures fields { IfOk result (λ fields. fields ≡ lease_fields lease.sid.0 lease.seconds) }
+    ensures few { lease.seconds < 2 ^ 32 }
 {
-    let sid = sid.text(alloc)?;
-    let timeout = timeout_text(alloc, seconds)?;
+    let sid = lease.sid.text(alloc)?;
+    let timeout = timeout_text(alloc, lease.seconds)?;
     let mut fields = Fields::new(alloc);
     fields.push(alloc, "SID", sid.as_str())?;
     fields.push(alloc, "TIMEOUT", timeout.as_str())?;
@@ -101,16 +92,16 @@ fn lease_fields(alloc: Global, sid: Sid, seconds: u32) -> Result<Fields, Mem>
 }
 
 /// Appends the reply to an accepted SUBSCRIBE.
-fn put_lease(alloc: Global, sid: Sid, seconds: u32, out: &mut Vec<u8>) -> Result<(), Mem>
-    ensures ok { OnOk result (out.new.items ≡ out.old.items ++ lease_reply sid.0 seconds) }
+fn put_lease(alloc: Global, lease: Lease, out: &mut Vec<u8>) -> Result<(), Mem>
+    ensures ok { OnOk result (out.new.items ≡ out.old.items ++ lease_reply lease.sid.0 lease.seconds) }
     ensures err { OnErr result (out.new.items ≡ out.old.items) }
 {
-    let fields = lease_fields(alloc, sid, seconds)?;
+    let fields = lease_fields(alloc, lease)?;
     write_reply(200, &fields, b"", out)
 }
 
 /// Appends the reply to a refused request. If memory ran out, nothing is appended.
-fn refuse(alloc: Global, refusal: GenaError, out: &mut Vec<u8>) -> Result<(), Mem>
+pub fn refuse(alloc: Global, refusal: GenaError, out: &mut Vec<u8>) -> Result<(), Mem>
     ensures ok { OnOk result (out.new.items ≡ out.old.items ++ empty_reply (status_of refusal)) }
     ensures cause { OnOk result (refusal ≢ gena_error.Mem) }
     ensures err { OnErr result (out.new.items ≡ out.old.items) }
@@ -124,15 +115,18 @@ fn refuse(alloc: Global, refusal: GenaError, out: &mut Vec<u8>) -> Result<(), Me
     }
 }
 
-/// Appends the reply to a refused request, which has no first note.
-fn refused(alloc: Global, refusal: GenaError, out: &mut Vec<u8>) -> Result<Option<FirstNote>, Mem>
+/// Appends the reply to a refused request, of which nothing is accepted.
+fn refused(alloc: Global, refusal: GenaError, out: &mut Vec<u8>) -> Result<Settled, Mem>
     ensures ok { OnOk result (out.new.items ≡ out.old.items ++ empty_reply (status_of refusal)) }
     ensures cause { OnOk result (refusal ≢ gena_error.Mem) }
-    ensures none { IfOk result (λ note. note ≡ None) }
+    ensures none { IfOk result (λ settled. settled ≡ unsettled) }
     ensures err { OnErr result (out.new.items ≡ out.old.items) }
 {
     refuse(alloc, refusal, out)?;
-    Ok(None)
+    Ok(Settled {
+        note: None,
+        accepted: false,
+    })
 }
 
 /// Drops what was appended after a place, and refuses the request instead.
@@ -141,38 +135,37 @@ fn refused_instead(
     before: usize,
     refusal: GenaError,
     out: &mut Vec<u8>,
-) -> Result<Option<FirstNote>, Mem>
+) -> Result<Settled, Mem>
     requires inside { before ≤ length out.old.items }
     ensures ok { OnOk result (out.new.items ≡ take before out.old.items ++ empty_reply (status_of refusal)) }
     ensures cause { OnOk result (refusal ≢ gena_error.Mem) }
-    ensures none { IfOk result (λ note. note ≡ None) }
+    ensures none { IfOk result (λ settled. settled ≡ unsettled) }
     ensures err { OnErr result (out.new.items ≡ take before out.old.items) }
 {
     out.truncate(before);
     refused(alloc, refusal, out)
 }
 
-/// Grants a subscription, if one more is granted, and returns its first note.
+/// Grants a subscription, if one more is granted.
 fn grant(
     alloc: Global,
     book: &mut Book,
-    number: u32,
-    now: u64,
+    when: When,
     callback: &Url,
     seconds: u32,
     out: &mut Vec<u8>,
-) -> Result<Option<FirstNote>, Mem>
+) -> Result<Settled, Mem>
     requires room { book.old.names + 2 ^ 32 ≤ 2 ^ 128 }
     requires delivered { IsTrue (is_deliverable callback.now) }
-    ensures answers { IfOk result (λ note. IsDone book.old number now
-        (granting (grant_refusal now book.old.subscribed) (serialize callback.now) seconds) out.old.items out.new.items note book.new) }
-    ensures delivered { IfOk result GoesOut }
+    ensures answers { IfOk result (λ settled. IsDone book.old when.number when.moment
+        (granting (grant_refusal when.moment book.old.subscribed) (serialize callback.now) seconds) out.old.items out.new.items settled book.new) }
+    ensures delivered { IfOk result (λ settled. GoesOut settled.note) }
     ensures stays { OnErr result (book.new ≡ book.old) }
     ensures kept { OnErr result (out.new.items ≡ out.old.items) }
 {
     match next_sid(book) {
         None => refused(alloc, GenaError::Spent, out),
-        Some(sid) => grant_named(alloc, book, number, now, sid, callback, seconds, out),
+        Some(sid) => grant_named(alloc, book, when, callback, Lease { sid, seconds }, out),
     }
 }
 
@@ -180,26 +173,27 @@ fn grant(
 fn grant_named(
     alloc: Global,
     book: &mut Book,
-    number: u32,
-    now: u64,
-    sid: Sid,
+    when: When,
     callback: &Url,
-    seconds: u32,
+    lease: Lease,
     out: &mut Vec<u8>,
-) -> Result<Option<FirstNote>, Mem>
-    requires named { sid.0 ≡ book.old.names + (book.old.subscribed.granted + 1) }
+) -> Result<Settled, Mem>
+    requires named { lease.sid.0 ≡ book.old.names + (book.old.subscribed.granted + 1) }
     requires delivered { IsTrue (is_deliverable callback.now) }
-    ensures answers { IfOk result (λ note. IsDone book.old number now
-        (granting (grant_refusal now book.old.subscribed) (serialize callback.now) seconds) out.old.items out.new.items note book.new) }
-    ensures delivered { IfOk result GoesOut }
+    ensures answers { IfOk result (λ settled. IsDone book.old when.number when.moment
+        (granting (grant_refusal when.moment book.old.subscribed) (serialize callback.now) lease.seconds) out.old.items out.new.items settled book.new) }
+    ensures delivered { IfOk result (λ settled. GoesOut settled.note) }
     ensures stays { OnErr result (book.new ≡ book.old) }
     ensures kept { OnErr result (out.new.items ≡ out.old.items) }
 {
-    let note = first_note(alloc, sid, callback, number)?;
+    let note = first_note(alloc, lease.sid, callback, when.number)?;
     let before = out.len();
-    put_lease(alloc, sid, seconds, out)?;
-    match book.subscribe(alloc, now, callback, seconds) {
-        Ok(_) => Ok(Some(note)),
+    put_lease(alloc, lease, out)?;
+    match book.subscribe(alloc, when.moment, callback, lease.seconds) {
+        Ok(_) => Ok(Settled {
+            note: Some(note),
+            accepted: true,
+        }),
         Err(refusal) => refused_instead(alloc, before, refusal, out),
     }
 }
@@ -209,20 +203,22 @@ fn renew(
     alloc: Global,
     book: &mut Book,
     now: u64,
-    sid: Sid,
-    seconds: u32,
+    lease: Lease,
     out: &mut Vec<u8>,
-) -> Result<Option<FirstNote>, Mem>
-    ensures answers { IfOk result (λ note. (number : ℕ) → IsDone book.old number now
-        (renewing (living_named now sid.0 book.old) seconds) out.old.items out.new.items note book.new) }
-    ensures none { IfOk result (λ note. note ≡ None) }
+) -> Result<Settled, Mem>
+    ensures answers { IfOk result (λ settled. (number : ℕ) → IsDone book.old number now
+        (renewing (living_named now lease.sid.0 book.old) lease.seconds) out.old.items out.new.items settled book.new) }
+    ensures none { IfOk result (λ settled. settled.note ≡ None) }
     ensures stays { OnErr result (book.new ≡ book.old) }
     ensures kept { OnErr result (out.new.items ≡ out.old.items) }
 {
     let place = out.len();
-    put_lease(alloc, sid, seconds, out)?;
-    match book.renew(now, sid, seconds) {
-        Ok(()) => Ok(None),
+    put_lease(alloc, lease, out)?;
+    match book.renew(now, lease.sid, lease.seconds) {
+        Ok(()) => Ok(Settled {
+            note: None,
+            accepted: true,
+        }),
         Err(refusal) => refused_instead(alloc, place, refusal, out),
     }
 }
@@ -234,45 +230,49 @@ fn end(
     now: u64,
     sid: Sid,
     out: &mut Vec<u8>,
-) -> Result<Option<FirstNote>, Mem>
-    ensures answers { IfOk result (λ note. (number : ℕ) → IsDone book.old number now
-        (ending (living_named now sid.0 book.old)) out.old.items out.new.items note book.new) }
-    ensures none { IfOk result (λ note. note ≡ None) }
+) -> Result<Settled, Mem>
+    ensures answers { IfOk result (λ settled. (number : ℕ) → IsDone book.old number now
+        (ending (living_named now sid.0 book.old)) out.old.items out.new.items settled book.new) }
+    ensures none { IfOk result (λ settled. settled.note ≡ None) }
     ensures stays { OnErr result (book.new ≡ book.old) }
     ensures kept { OnErr result (out.new.items ≡ out.old.items) }
 {
     let begin = out.len();
     put_empty(alloc, 200, out)?;
     match book.unsubscribe(now, sid) {
-        Ok(()) => Ok(None),
+        Ok(()) => Ok(Settled {
+            note: None,
+            accepted: true,
+        }),
         Err(refusal) => refused_instead(alloc, begin, refusal, out),
     }
 }
 
-/// Does what a request about a subscription asks for at a moment, and appends the reply. Returns the first note of a subscription
-/// that was granted. If memory runs out, nothing is done.
-pub fn answer_event(
+/// Does what a request about a subscription asks for, and appends the reply. Returns the first note of a subscription that was
+/// granted, and whether a command was accepted. If memory runs out, nothing is done.
+pub fn settle(
     alloc: Global,
     book: &mut Book,
-    number: u32,
-    now: u64,
-    message: &Message,
+    when: When,
+    request: &EventRequest,
     out: &mut Vec<u8>,
-) -> Result<Option<FirstNote>, Mem>
-    requires method { IsTrue (asks_of_subscription message.now.start) }
+) -> Result<Settled, Mem>
     requires room { book.old.names + 2 ^ 32 ≤ 2 ^ 128 }
-    ensures answers { IfOk result (λ note. IsDone book.old number now (outcome_in book.old now (gena_of message.now))
-        out.old.items out.new.items note book.new) }
-    ensures delivered { IfOk result GoesOut }
+    ensures answers { IfOk result (λ settled. IsDone book.old when.number when.moment (outcome_in book.old when.moment (Ok request.now.gena))
+        out.old.items out.new.items settled book.new) }
+    ensures delivered { IfOk result (λ settled. GoesOut settled.note) }
     ensures stays { OnErr result (book.new ≡ book.old) }
     ensures kept { OnErr result (out.new.items ≡ out.old.items) }
 {
-    match read_gena(alloc, message) {
-        Ok(Gena::Subscribe { callback, seconds }) => {
-            grant(alloc, book, number, now, &callback, seconds, out)
+    match &request.gena {
+        Gena::Subscribe { callback, seconds } => grant(alloc, book, when, callback, *seconds, out),
+        Gena::Renew { sid, seconds } => {
+            let lease = Lease {
+                sid: *sid,
+                seconds: *seconds,
+            };
+            renew(alloc, book, when.moment, lease, out)
         }
-        Ok(Gena::Renew { sid, seconds }) => renew(alloc, book, now, sid, seconds, out),
-        Ok(Gena::Unsubscribe { sid }) => end(alloc, book, now, sid, out),
-        Err(refusal) => refused(alloc, refusal, out),
+        Gena::Unsubscribe { sid } => end(alloc, book, when.moment, *sid, out),
     }
 }

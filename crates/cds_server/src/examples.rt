@@ -1,6 +1,6 @@
 //! Small requests, evaluated by the definitions.
 
-ghost use Rattle.cds_server.specs.Evaluated.{RequestsAreRouted, ActionsAreAnswered, SubscriptionsAreAnswered};
+ghost use Rattle.cds_server.specs.Examples.{RequestsAreRouted, ActionsAreAnswered, SubscriptionsAreAnswered};
 
 /// Shows the routes of requests.
 pub fn requests_are_routed()

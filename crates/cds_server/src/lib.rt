@@ -3,15 +3,23 @@
 #![tactic(auto)]
 
 mod answering;
+mod asking;
 mod events;
-mod examples;
+pub mod examples;
 mod host;
 pub mod laws;
+mod made;
 mod notes;
+mod reading;
 mod replying;
+mod routing;
 mod server;
 mod ticking;
 
-pub use examples::{actions_are_answered, requests_are_routed, subscriptions_are_answered};
+pub use asking::{Asking, EventRequest, Route};
+pub use made::{Answered, Made};
 pub use notes::{FirstNote, Notes};
+pub use reading::read_asked;
+pub use replying::{empty_text, write_made};
+pub use routing::route;
 pub use server::Server;

@@ -1,153 +1,22 @@
-//! Replies to messages that do not ask about a subscription.
+//! The texts of replies: those that need no server, and those that are written after a server has answered.
 
-ghost use Rattle.std.specs.Prelude.{◌≡◌, ◌++◌, None, IsTrue, OnOk, OnErr, option_map};
-ghost use Rattle.cds_soap.specs.Written.{is_known_code, written_answer};
-ghost use Rattle.cds_server.specs.Route.{Answers, Controls, control_at, control_by, request_to, status_elsewhere, way_by};
-ghost use Rattle.cds_server.specs.Serving.{published_of};
-ghost use Rattle.cds_server.specs.Answering.{answer_to};
+ghost use Rattle.std.specs.Prelude.{◌≡◌, ◌++◌, None, Some, IsTrue, IsErr, IfOk, OnOk, OnErr, string_bytes};
+ghost use Rattle.cds_didl.specs.Filter.{filter_of};
+ghost use Rattle.cds_didl.specs.Fragment.{didl_text};
+ghost use Rattle.cds_soap.specs.Written.{is_known_code};
+ghost use Rattle.cds_server.specs.Answering.{base_of};
+ghost use Rattle.cds_server.specs.Asking.{Fits, FitsAction, IsAction, IsText, filter_in, made_answer, said, text_in, written_made};
 ghost use Rattle.cds_server.specs.Outcome.{empty_reply};
-ghost use Rattle.cds_server.specs.Replies.{fault_reply, RepliesBy};
+ghost use Rattle.cds_server.specs.Replies.{fault_reply};
 
-use crate::Server;
-use crate::answering::answer_to;
-use crate::host::host_text;
-use cds_base::Mem;
-use cds_gena::field_of;
-use cds_http::{Fields, Message, Start, write_reply};
-use cds_soap::{Action, Answer, Asked, SoapError, read_action, write_answer};
+use crate::asking::Asking;
+use crate::made::Made;
+use cds_base::{Bytes, Mem};
+use cds_didl::{Filter, write_didl};
+use cds_http::{Fields, write_reply};
+use cds_object::Row;
+use cds_soap::{Action, Answer, Asked, write_answer};
 use std::alloc::Global;
-
-/// Appends the reply to a message that does not ask about a subscription.
-pub fn reply(
-    alloc: Global,
-    server: &Server,
-    message: &Message,
-    out: &mut Vec<u8>,
-) -> Result<(), Mem>
-    ensures ok { OnOk result (RepliesBy (published_of server.now) message.now (way_by message.now.start message.now.fields)
-        out.old.items out.new.items) }
-    ensures err { OnErr result (out.new.items ≡ out.old.items) }
-{
-    match &message.start {
-        Start::Request { method, target } => {
-            request_to(
-                alloc,
-                server,
-                method.as_str(),
-                target.as_str(),
-                message,
-                out,
-            )
-        }
-        Start::Reply { .. } => empty(alloc, server, message, 400, out),
-    }
-}
-
-/// Appends the reply to a request, by its target.
-fn request_to(
-    alloc: Global,
-    server: &Server,
-    method: &str,
-    target: &str,
-    message: &Message,
-    out: &mut Vec<u8>,
-) -> Result<(), Mem>
-    ensures ok { OnOk result (RepliesBy (published_of server.now) message.now (request_to method.now target.now message.now.fields)
-        out.old.items out.new.items) }
-    ensures err { OnErr result (out.new.items ≡ out.old.items) }
-{
-    if target == "/control" {
-        control_by(alloc, server, method, message, out)
-    } else {
-        empty(alloc, server, message, status_elsewhere(target), out)
-    }
-}
-
-/// Returns the status of a request to another target than that of control. The request does not ask about a subscription.
-fn status_elsewhere(target: &str) -> u16
-    ensures { result ≡ status_elsewhere target.now }
-{
-    if target == "/event" { 405 } else { 404 }
-}
-
-/// Appends the reply to a request to the target of control, by its method.
-fn control_by(
-    alloc: Global,
-    server: &Server,
-    method: &str,
-    message: &Message,
-    out: &mut Vec<u8>,
-) -> Result<(), Mem>
-    ensures ok { OnOk result (RepliesBy (published_of server.now) message.now (control_by method.now message.now.fields) out.old.items out.new.items) }
-    ensures err { OnErr result (out.new.items ≡ out.old.items) }
-{
-    if method == "POST" {
-        control_at(
-            alloc,
-            server,
-            field_of(&message.fields, "host"),
-            message,
-            out,
-        )
-    } else {
-        empty(alloc, server, message, 405, out)
-    }
-}
-
-/// Appends the reply to a control request, by its HOST.
-fn control_at(
-    alloc: Global,
-    server: &Server,
-    host: Option<&[u8]>,
-    message: &Message,
-    out: &mut Vec<u8>,
-) -> Result<(), Mem>
-    ensures ok { OnOk result (RepliesBy (published_of server.now) message.now (control_at (option_map (λ x. x.now) host.entry)) out.old.items out.new.items) }
-    ensures err { OnErr result (out.new.items ≡ out.old.items) }
-{
-    let Some(host) = host else {
-        return empty(alloc, server, message, 400, out);
-    };
-    match host_text(host) {
-        Some(host) => control(alloc, server, host, message, out),
-        None => empty(alloc, server, message, 400, out),
-    }
-}
-
-/// Appends a reply of a status without a body.
-fn empty(
-    alloc: Global,
-    server: &Server,
-    message: &Message,
-    status: u16,
-    out: &mut Vec<u8>,
-) -> Result<(), Mem>
-    ensures ok { OnOk result (RepliesBy (published_of server.now) message.now (Answers status) out.old.items out.new.items) }
-    ensures err { OnErr result (out.new.items ≡ out.old.items) }
-{
-    put_empty(alloc, status, out)
-}
-
-/// Appends the reply to a control request, by its body.
-fn control(
-    alloc: Global,
-    server: &Server,
-    host: &str,
-    message: &Message,
-    out: &mut Vec<u8>,
-) -> Result<(), Mem>
-    ensures ok { OnOk result (RepliesBy (published_of server.now) message.now (Controls host.now) out.old.items out.new.items) }
-    ensures err { OnErr result (out.new.items ≡ out.old.items) }
-{
-    match read_action(alloc, message) {
-        Ok(asked) => answer(alloc, server, host, &asked, out),
-        Err(SoapError::Markup(_)) => put_empty(alloc, 400, out),
-        Err(SoapError::InvalidAction) => put_fault(401, out),
-        Err(SoapError::InvalidArgs) => put_fault(402, out),
-        Err(SoapError::NotAnswer) => unreachable!(),
-        Err(SoapError::Mem) => Err(Mem),
-    }
-}
 
 /// Appends a reply of a status without a body.
 pub fn put_empty(alloc: Global, status: u16, out: &mut Vec<u8>) -> Result<(), Mem>
@@ -158,28 +27,116 @@ pub fn put_empty(alloc: Global, status: u16, out: &mut Vec<u8>) -> Result<(), Me
     write_reply(status, &fields, b"", out)
 }
 
-/// Appends a reply with a fault.
-fn put_fault(code: u16, out: &mut Vec<u8>) -> Result<(), Mem>
-    requires known { IsTrue (is_known_code code) }
-    ensures ok { OnOk result (out.new.items ≡ out.old.items ++ fault_reply code) }
-    ensures err { OnErr result (out.new.items ≡ out.old.items) }
+/// Returns a reply of a status without a body.
+pub fn empty_text(alloc: Global, status: u16) -> Result<Bytes, Mem>
+    ensures { IfOk result (λ text. text ≡ empty_reply status) }
 {
-    let fault = Answer::Fault { code };
-    write_answer(&Action::GetSystemUpdateId, 4, &fault, None, out)
+    let mut text = Vec::new(alloc);
+    put_empty(alloc, status, &mut text)?;
+    Ok(Bytes::from(text))
 }
 
-/// Appends the answer to an action in the version that was asked.
-fn answer(
-    alloc: Global,
-    server: &Server,
-    host: &str,
-    asked: &Asked,
-    out: &mut Vec<u8>,
-) -> Result<(), Mem>
-    ensures ok { OnOk result (out.new.items ≡ out.old.items ++ written_answer asked.now.action asked.now.version
-        (answer_to (published_of server.now) host.now asked.now.action) None) }
-    ensures err { OnErr result (out.new.items ≡ out.old.items) }
+/// Returns a reply with a fault.
+pub fn fault_text(alloc: Global, code: u16) -> Result<Bytes, Mem>
+    requires known { IsTrue (is_known_code code) }
+    ensures { IfOk result (λ text. text ≡ fault_reply code) }
 {
-    let answer = answer_to(alloc, server, host, &asked.action)?;
-    write_answer(&asked.action, asked.version, &answer, None, out)
+    let fault = Answer::Fault { code };
+    let mut text = Vec::new(alloc);
+    write_answer(&Action::GetSystemUpdateId, 4, &fault, None, &mut text)?;
+    Ok(Bytes::from(text))
+}
+
+/// Writes the reply, by what was asked and what a server made of it. Only the reply to an action takes memory: any other is there
+/// already, and is not copied.
+pub fn write_made(alloc: Global, asking: Asking, made: Made) -> Result<Bytes, Mem>
+    requires fits { Fits asking made }
+    ensures text { IfOk result (λ text. text ≡ said asking made) }
+    ensures cause { IsErr result → IsAction asking }
+{
+    match asking {
+        Asking::Ready(text) => Ok(text),
+        Asking::Action { host, asked } => write_action(alloc, host.as_str(), &asked, made),
+        Asking::Subscription(_) => Ok(text_in(made)),
+    }
+}
+
+/// Returns the reply that a server made whole.
+fn text_in(made: Made) -> Bytes
+    requires { IsText made }
+    ensures { result ≡ text_in made }
+{
+    match made {
+        Made::Text(text) => text,
+        Made::Ready => unreachable!(),
+        Made::Answer(_) => unreachable!(),
+        Made::Page { .. } => unreachable!(),
+    }
+}
+
+/// Writes the reply to an action in the version that was asked.
+fn write_action(alloc: Global, host: &str, asked: &Asked, made: Made) -> Result<Bytes, Mem>
+    requires fits { FitsAction asked.now.action (made_answer host.now asked.now.action made) }
+    ensures { IfOk result (λ text. text ≡ written_made asked.now (made_answer host.now asked.now.action made)) }
+{
+    let answer = made_answer(alloc, host, &asked.action, made)?;
+    let mut text = Vec::new(alloc);
+    write_answer(&asked.action, asked.version, &answer, None, &mut text)?;
+    Ok(Bytes::from(text))
+}
+
+/// Returns the answer to an action. The rows of a page are written as a document.
+fn made_answer(alloc: Global, host: &str, action: &Action, made: Made) -> Result<Answer, Mem>
+    requires fits { FitsAction action.now (made_answer host.now action.now made) }
+    ensures { IfOk result (λ answer. made_answer host.now action.now made ≡ Some answer) }
+{
+    match made {
+        Made::Answer(answer) => Ok(answer),
+        Made::Page {
+            rows,
+            returned,
+            total,
+            update,
+        } => {
+            let result = page_text(alloc, host, filter_in(action), rows.as_slice())?;
+            Ok(Answer::Page {
+                result,
+                returned,
+                total,
+                update,
+            })
+        }
+        Made::Ready => unreachable!(),
+        Made::Text(_) => unreachable!(),
+    }
+}
+
+/// Returns the filter of an action. It is empty if the action has none.
+fn filter_in(action: &Action) -> &str
+    ensures { result.now ≡ filter_in action.now }
+{
+    match action {
+        Action::Browse(asked) => asked.filter.as_str(),
+        _ => "",
+    }
+}
+
+/// Returns the document of a page's rows.
+fn page_text(alloc: Global, host: &str, filter: &str, rows: &[Row]) -> Result<Bytes, Mem>
+    ensures { IfOk result (λ text. text ≡ didl_text (filter_of filter.now) (base_of host.now) rows.now) }
+{
+    let filter = Filter::read(alloc, filter)?;
+    let base = base_of(alloc, host)?;
+    let mut text = Vec::new(alloc);
+    write_didl(rows, &filter, base.as_str(), &mut text)?;
+    Ok(Bytes::from(text))
+}
+
+/// Returns the base of the URLs of tracks.
+fn base_of(alloc: Global, host: &str) -> Result<String, Mem>
+    ensures { IfOk result (λ base. string_bytes base ≡ base_of host.now) }
+{
+    let mut base = String::from_str(alloc, "http://")?;
+    base.push_str(host)?;
+    Ok(base)
 }

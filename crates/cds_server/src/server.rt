@@ -1,21 +1,26 @@
 //! The server: what it keeps, and its calls.
 
-ghost use Rattle.std.specs.Prelude.{◌≡◌, ◌<◌, ◌^◌, ◌∷◌, List, [], length, false, true, slice_index, Some, None, IfOk, IfErr, IfSome, OnOk, OnErr};
+ghost use Rattle.std.specs.Prelude.{◌≡◌, ◌<◌, ◌^◌, ◌∷◌, ◌++◌, List, [], length, false, true, slice_index, is_some, Some, None, IfOk, IfErr, IfSome, OnOk, OnErr};
 ghost use Rattle.cds_catalog.specs.History.{end_of};
 ghost use Rattle.cds_catalog.specs.Scans.{bad_record};
 ghost use Rattle.cds_commands.specs.Commands.{Command, Start, Stops, Ticks, is_stopped, scans_of};
 ghost use Rattle.cds_moderator.specs.Moderating.{next_span};
+ghost use Rattle.cds_server.specs.Asking.{ChangesNone, Fits, asked_command, asked_note, asked_reply, command_in, note_in, reply_in, said};
 ghost use Rattle.cds_server.specs.Due.{AllGoOut, due};
 ghost use Rattle.cds_server.specs.Outcome.{GoesOut, and_command};
 ghost use Rattle.cds_server.specs.Replies.{Replied, command_at, note_at};
 ghost use Rattle.cds_server.specs.Route.{asks_events};
-ghost use Rattle.cds_server.specs.Serving.{StandsFor, Scanned, IsOfWhole};
+ghost use Rattle.cds_server.specs.Serving.{StandsFor, Scanned, IsOfWhole, IsServing};
 
-use crate::events::{answer_event, asks_events};
+use crate::answering::made_to;
+use crate::asking::{Asking, EventRequest};
+use crate::events::{When, settle};
+use crate::made::{Answered, Made, Settled};
 use crate::notes::{FirstNote, Notes};
-use crate::replying::reply;
+use crate::reading::read_asked;
+use crate::replying::write_made;
 use crate::ticking::{note_body, tell};
-use cds_base::Mem;
+use cds_base::{Bytes, Mem};
 use cds_gena::{Addresses, Book};
 use cds_http::Message;
 use cds_moderator::Moderator;
@@ -97,37 +102,110 @@ impl Server {
         ensures kept { OnErr result (out.new.items ≡ out.old.items) }
         ensures stays { OnErr result (self.new ≡ self.old) }
     {
-        if asks_events(message) {
-            self.handle_event(alloc, now, message, out)
-        } else {
-            reply(alloc, self, message, out)?;
-            Ok(None)
+        // Only the proof needs this line.
+        self.serves();
+        let asking = read_asked(alloc, message)?;
+        match asking {
+            Asking::Subscription(request) => {
+                let settled = self.settle(alloc, now, &request, out)?;
+                Ok(settled.note)
+            }
+            other => {
+                self.append_reply(alloc, now, other, out)?;
+                Ok(None)
+            }
         }
     }
 
-    /// Appends the reply to a request about a subscription.
-    fn handle_event(
+    /// Makes known that a server stands for some commands. Only proofs need this.
+    fn serves(&self)
+        ensures { IsServing self.now }
+    {
+        let _ = &self.stopped;
+    }
+
+    /// Appends the reply to what is asked, if it changes no server.
+    fn append_reply(
         &mut self,
         alloc: Global,
         now: u64,
-        message: &Message,
+        asking: Asking,
         out: &mut Vec<u8>,
-    ) -> Result<Option<FirstNote>, Mem>
-        requires asks { asks_events message.now.start ≡ true }
+    ) -> Result<(), Mem>
+        requires { ChangesNone asking }
         ensures replied { (start : Start) (commands : List Command) → StandsFor self.old start commands
-            → OnOk result (Replied start commands now message.now out.old.items out.new.items) }
+            → OnOk result (out.new.items ≡ out.old.items ++ reply_in start commands now asking) }
+        ensures kept { OnErr result (out.new.items ≡ out.old.items) }
+        ensures stays { self.new ≡ self.old }
+    {
+        let answered = self.answer(alloc, now, &asking)?;
+        let text = write_made(alloc, asking, answered.made)?;
+        out.extend_from_slice(text.as_slice())?;
+        Ok(())
+    }
+
+    /// Answers what was asked at a moment in milliseconds. A request about a subscription is accepted or refused as `handle` says,
+    /// and its whole reply is made here. The rows of a page are only copied. `write_made` writes the rest. If memory runs out, the
+    /// server is as it was.
+    pub fn answer(&mut self, alloc: Global, now: u64, asking: &Asking) -> Result<Answered, Mem>
+        ensures replied { (start : Start) (commands : List Command) → StandsFor self.old start commands
+            → IfOk result (λ answered. said asking.now answered.made ≡ reply_in start commands now asking.now) }
         ensures stands { (start : Start) (commands : List Command) → StandsFor self.old start commands
-            → OnOk result (StandsFor self.new start (and_command (command_at start commands now message.now) commands)) }
+            → OnOk result (StandsFor self.new start (and_command (command_in start commands now asking.now) commands)) }
         ensures note { (start : Start) (commands : List Command) → StandsFor self.old start commands
-            → IfOk result (λ note. note ≡ note_at start commands now message.now) }
+            → IfOk result (λ answered. answered.note ≡ note_in start commands now asking.now) }
+        ensures accepted { (start : Start) (commands : List Command) → StandsFor self.old start commands
+            → IfOk result (λ answered. answered.accepted ≡ is_some (command_in start commands now asking.now)) }
+        ensures same { ChangesNone asking.now → self.new ≡ self.old }
+        ensures fits { IfOk result (λ answered. Fits asking.now answered.made) }
+        ensures delivered { IfOk result (λ answered. GoesOut answered.note) }
+        ensures stays { OnErr result (self.new ≡ self.old) }
+    {
+        match asking {
+            Asking::Ready(_) => Ok(unaccepted(Made::Ready)),
+            Asking::Action { asked, .. } => {
+                let made = made_to(alloc, self, &asked.action)?;
+                Ok(unaccepted(made))
+            }
+            Asking::Subscription(request) => {
+                let mut text = Vec::new(alloc);
+                let settled = self.settle(alloc, now, request, &mut text)?;
+                Ok(Answered {
+                    made: Made::Text(Bytes::from(text)),
+                    note: settled.note,
+                    accepted: settled.accepted,
+                })
+            }
+        }
+    }
+
+    /// Does what a request about a subscription asks for at a moment, and appends the reply.
+    fn settle(
+        &mut self,
+        alloc: Global,
+        now: u64,
+        request: &EventRequest,
+        out: &mut Vec<u8>,
+    ) -> Result<Settled, Mem>
+        ensures replied { (start : Start) (commands : List Command) → StandsFor self.old start commands
+            → OnOk result (out.new.items ≡ out.old.items ++ asked_reply start commands now request.now.gena) }
+        ensures stands { (start : Start) (commands : List Command) → StandsFor self.old start commands
+            → OnOk result (StandsFor self.new start (and_command (asked_command start commands now request.now.gena) commands)) }
+        ensures note { (start : Start) (commands : List Command) → StandsFor self.old start commands
+            → IfOk result (λ settled. settled.note ≡ asked_note start commands now request.now.gena) }
+        ensures accepted { (start : Start) (commands : List Command) → StandsFor self.old start commands
+            → IfOk result (λ settled. settled.accepted ≡ is_some (asked_command start commands now request.now.gena)) }
         ensures unaccepted { (start : Start) (commands : List Command) → StandsFor self.old start commands
-            → command_at start commands now message.now ≡ None → self.new ≡ self.old }
-        ensures delivered { IfOk result GoesOut }
+            → asked_command start commands now request.now.gena ≡ None → self.new ≡ self.old }
+        ensures delivered { IfOk result (λ settled. GoesOut settled.note) }
         ensures kept { OnErr result (out.new.items ≡ out.old.items) }
         ensures stays { OnErr result (self.new ≡ self.old) }
     {
-        let number = self.store.system_update_id();
-        answer_event(alloc, &mut self.book, number, now, message, out)
+        let when = When {
+            moment: now,
+            number: self.store.system_update_id(),
+        };
+        settle(alloc, &mut self.book, when, request, out)
     }
 
     /// Takes what a scan found as the whole library, at a moment in milliseconds, and returns the numbers of its changes. The
@@ -234,5 +312,16 @@ impl Server {
             → result ≡ is_stopped commands }
     {
         self.stopped
+    }
+}
+
+/// Returns what was made, if no command was accepted.
+fn unaccepted(made: Made) -> Answered
+    ensures { result ≡ record { made = made; note = None; accepted = false } }
+{
+    Answered {
+        made,
+        note: None,
+        accepted: false,
     }
 }

@@ -5,8 +5,8 @@ ghost use Rattle.std.specs.Arc.{arc_value};
 ghost use Rattle.cds_turn.specs.Turn.{IsSeatOf, passes_of};
 
 use crate::made::{MEMORY, clock, link};
-use cds_base::NoGate;
 use cds_memory::{MemClock, MemConn, MemFolder, MemLink};
+use cds_outside::NoGate;
 use cds_serve::{Served, notify_once, scan_once, serve_one};
 use cds_turn::{Seat, Turn};
 use std::alloc::Global;

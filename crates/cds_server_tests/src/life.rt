@@ -1,8 +1,9 @@
 //! Tests of whole lives of a server in which one call fails.
 
 use crate::made::{MEMORY, asking, clock, folder, link, only, sink, subscribing};
-use cds_base::{Gate, NoGate, Numbers, Runtime, Sequence};
+use cds_base::{Numbers, Sequence};
 use cds_memory::{MemDoor, MemObjects, MemOutside, MemSink, MemSpawner};
+use cds_outside::{Gate, NoGate, Runtime};
 use cds_serve::serve;
 use std::alloc::Global;
 use std::marker::{Send, Sync};
@@ -90,7 +91,7 @@ pub fn outside_of<R: Wait + Clone + Drop + Abort>(
 }
 
 /// What became of a server: its status, the connections given, the jobs started and the failed calls of the outside.
-#[derive(Clone, Copy, PartialEq, Eq)]
+#[derive(Clone, Copy)]
 pub struct End {
     pub status: u8,
     pub connections: u64,
@@ -143,67 +144,134 @@ fn end_of<R: Threads + Wait + Clone + Copy + Drop + Abort + Send + Sync + 'stati
 }
 
 /// A number of connections, and what a server writes that serves them.
-const LIVES: [(u32, &str); 3] = [
-    (0, "serving 49152\nserved 0 scans 1 refused 0 memory 0\n"),
-    (1, "serving 49152\nserved 1 scans 1 refused 0 memory 0\n"),
-    (2, "serving 49152\nserved 2 scans 1 refused 0 memory 0\n"),
+#[derive(Drop)]
+struct LifeCase {
+    name: &'static str,
+    requests: u32,
+    text: &'static str,
+}
+
+const LIVES: [LifeCase; 3] = [
+    LifeCase {
+        name: "no connection",
+        requests: 0,
+        text: "serving 49152\nserved 0 scans 1 refused 0 memory 0\n",
+    },
+    LifeCase {
+        name: "one connection",
+        requests: 1,
+        text: "serving 49152\nserved 1 scans 1 refused 0 memory 0\n",
+    },
+    LifeCase {
+        name: "two connections",
+        requests: 2,
+        text: "serving 49152\nserved 2 scans 1 refused 0 memory 0\n",
+    },
 ];
 
-/// Returns whether a server serves `requests` connections and writes this.
-fn is_served<R: Threads + Wait + Clone + Copy + Drop + Abort + Send + Sync + 'static>(
+/// Checks that a server serves the connections of a case, and what it writes.
+fn check_life<R: Threads + Wait + Clone + Copy + Drop + Abort + Send + Sync + 'static>(
     rt: R,
     alloc: Global,
-    requests: u32,
-    text: &str,
-) -> bool {
-    let want = End {
-        status: 0,
-        connections: u64::from(requests),
-        started: 6,
-        faults: 0,
-    };
-    end_of(rt, alloc, requests, NONE, text) == (want, true)
+    case: &LifeCase,
+) {
+    let (end, is_written) = end_of(rt, alloc, case.requests, NONE, case.text);
+    assert!(rt; end.status == 0, "{}: the status {}", case.name, end.status);
+    assert!(rt; is_written, "{}: what is written", case.name);
+    let connections = u64::from(case.requests);
+    assert!(rt;
+        end.connections == connections,
+        "{}: the connections",
+        case.name
+    );
+    assert!(rt; end.started == 6, "{}: the jobs started", case.name);
+    assert!(rt; end.faults == 0, "{}: the faults", case.name);
 }
 
 #[test]
 fn a_server_serves_to_its_end(rt: HostRuntime) {
-    for (requests, text) in &LIVES {
-        assert!(rt; is_served(rt, rt.alloc(), *requests, text), "{requests}");
+    for case in &LIVES {
+        check_life(rt, rt.alloc(), case);
     }
 }
 
-/// Each part, how many of its calls end a server if they fail, and the status that it then ends with.
-const FAULTS: [(Part, u32, u8); 6] = [
-    (Part::Door, 6, 7),
-    (Part::Spawner, 6, 7),
-    (Part::Outside, 14, 7),
-    (Part::Sink, 2, 3),
-    (Part::Clock, 0, 0),
-    (Part::Link, 0, 0),
+/// A part, how many of its calls end a server if they fail, and the status that it then ends with.
+#[derive(Drop)]
+struct FaultCase {
+    name: &'static str,
+    part: Part,
+    calls: u32,
+    status: u8,
+}
+
+const FAULTS: [FaultCase; 6] = [
+    FaultCase {
+        name: "the door",
+        part: Part::Door,
+        calls: 6,
+        status: 7,
+    },
+    FaultCase {
+        name: "the spawner",
+        part: Part::Spawner,
+        calls: 6,
+        status: 7,
+    },
+    FaultCase {
+        name: "the outside",
+        part: Part::Outside,
+        calls: 14,
+        status: 7,
+    },
+    FaultCase {
+        name: "the sink",
+        part: Part::Sink,
+        calls: 2,
+        status: 3,
+    },
+    FaultCase {
+        name: "a clock",
+        part: Part::Clock,
+        calls: 0,
+        status: 0,
+    },
+    FaultCase {
+        name: "a link",
+        part: Part::Link,
+        calls: 0,
+        status: 0,
+    },
 ];
 
-/// Returns whether a life of two connections in which this call fails ends with a status. The outside must count a
+/// Checks with which status a life of two connections ends in which this call of a part fails. The outside must count a
 /// fault exactly with status 7.
-fn ends_with<R: Threads + Wait + Clone + Copy + Drop + Abort + Send + Sync + 'static>(
+fn check_fault<R: Threads + Wait + Clone + Copy + Drop + Abort + Send + Sync + 'static>(
     rt: R,
     alloc: Global,
-    part: Part,
+    case: &FaultCase,
     call: u32,
-    status: u8,
-) -> bool {
+) {
+    let owed = if call <= case.calls { case.status } else { 0 };
+    let part = case.part;
     let (end, _) = end_of(rt, alloc, 2, Fault { part, call }, "");
-    end.status == status && (status == 7) == (end.faults > 0)
+    let status = end.status;
+    assert!(rt;
+        status == owed,
+        "{}, call {call}: the status {status}",
+        case.name
+    );
+    assert!(rt;
+        (status == 7) == (end.faults > 0),
+        "{}, call {call}: the faults",
+        case.name
+    );
 }
 
 #[test]
 fn each_fault_ends_a_server_with_its_status(rt: HostRuntime) {
-    for (part, calls, status) in &FAULTS {
-        for call in 1..=*calls + 2 {
-            let owed = if call <= *calls { *status } else { 0 };
-            assert!(rt;
-                ends_with(rt, rt.alloc(), *part, call, owed),
-                "{status} at {call}"
-            );
+    for case in &FAULTS {
+        for call in 1..=case.calls + 2 {
+            check_fault(rt, rt.alloc(), case, call);
         }
     }
 }

@@ -2,10 +2,10 @@
 
 use crate::desk::Desk;
 use crate::made::{MEMORY, asking, folder, is_good, rows_in, subscribing};
-use cds_base::LinkRequest;
 use cds_http::{MessageReader, Side};
 use cds_memory::{MemConn, MemLink};
 use cds_notify::{Note, read_notify};
+use cds_outside::LinkRequest;
 use std::alloc::Global;
 use std::process::Abort;
 use std::sync::Wait;
@@ -32,10 +32,36 @@ fn is_given_up<R: Wait + Abort>(rt: &R, alloc: Global, read: u32, write: u32) ->
 
 #[test]
 fn a_connection_is_answered_or_given_up(rt: HostRuntime) {
-    assert!(rt; rows_shown(&rt, rt.alloc()) == Some(0));
+    assert!(rt; rows_shown(&rt, rt.alloc()) == Some(0), "the rows");
     assert!(rt; is_given_up(&rt, rt.alloc(), 1, 0), "a read");
     assert!(rt; is_given_up(&rt, rt.alloc(), 0, 1), "a write");
 }
+
+/// A note that goes out: its SEQ, which is its SystemUpdateID too, and how many changes it tells.
+#[derive(Drop)]
+struct NoteCase {
+    name: &'static str,
+    seq: u32,
+    changes: usize,
+}
+
+const NOTES: [NoteCase; 3] = [
+    NoteCase {
+        name: "the first note",
+        seq: 0,
+        changes: 0,
+    },
+    NoteCase {
+        name: "the note of the first scan",
+        seq: 1,
+        changes: 1,
+    },
+    NoteCase {
+        name: "the note of the second scan",
+        seq: 2,
+        changes: 1,
+    },
+];
 
 /// Returns the note that a request carries. The test ends if it carries none.
 fn note_in<R: Abort>(rt: &R, alloc: Global, request: &LinkRequest) -> Note {
@@ -47,64 +73,68 @@ fn note_in<R: Abort>(rt: &R, alloc: Global, request: &LinkRequest) -> Note {
     read_notify(alloc, &message).expect(rt, "a note")
 }
 
-/// Returns whether a request carries a note with this SEQ, the same number as SystemUpdateID, and `changes` changes.
-fn is_note<R: Abort>(
-    rt: &R,
-    alloc: Global,
-    request: &LinkRequest,
-    seq: u32,
-    changes: usize,
-) -> bool {
+/// Checks what a note says.
+fn check_content<R: Abort>(rt: &R, note: &Note, case: &NoteCase) {
+    assert!(rt; note.seq == case.seq, "{}: the SEQ", case.name);
+    assert!(rt; note.number == case.seq, "{}: the number", case.name);
+    assert!(rt;
+        note.events.len() == case.changes,
+        "{}: the changes",
+        case.name
+    );
+}
+
+/// Checks that a request carries the note of a case.
+fn check_note<R: Abort>(rt: &R, alloc: Global, request: &LinkRequest, case: &NoteCase) {
+    let url = request.url.as_str();
+    assert!(rt;
+        url == "http://10.0.0.9/n?x",
+        "{}: the address {url}",
+        case.name
+    );
+    assert!(rt;
+        request.limit == 16_384,
+        "{}: the limit of the reply",
+        case.name
+    );
     let note = note_in(rt, alloc, request);
-    let is_sent = request.url.as_str() == "http://10.0.0.9/n?x" && request.limit == 16_384;
-    is_sent && note.seq == seq && note.number == seq && note.events.len() == changes
+    check_content(rt, &note, case);
 }
 
-/// Returns whether exactly these notes went out, in this order, each with its SEQ and its number of changes.
-fn are_notes<R: Abort>(rt: &R, alloc: Global, link: &MemLink, wants: &[(u32, usize)]) -> bool {
-    for (request, (seq, changes)) in link.requests().iter().zip(wants) {
-        if !is_note(rt, alloc, request, *seq, *changes) {
-            return false;
-        }
+/// Checks that exactly the notes of the cases went out, in their order.
+fn check_notes<R: Abort>(rt: &R, alloc: Global, link: &MemLink) {
+    for (request, case) in link.requests().iter().zip(&NOTES) {
+        check_note(rt, alloc, request, case);
     }
-    link.requests().len() == wants.len()
+    assert!(rt; link.requests().len() == NOTES.len(), "how many notes");
 }
 
-/// Subscribes. Returns whether that was accepted.
-fn subscribes<R: Wait + Abort>(rt: &R, alloc: Global, desk: &mut Desk) -> bool {
+/// Subscribes, and checks that this is accepted.
+fn subscribe<R: Wait + Abort>(rt: &R, alloc: Global, desk: &mut Desk) {
     let mut conn = subscribing(rt, alloc);
     desk.serve(rt, alloc, &mut conn);
-    is_good(conn.written())
+    assert!(rt; is_good(conn.written()), "the subscription");
 }
 
-/// Scans folders of these names and looks. Returns whether the server goes on and its last moment is this one.
-fn scans_and_looks<R: Wait + Abort>(
-    rt: &R,
-    alloc: Global,
-    desk: &mut Desk,
-    names: &str,
-    last: u64,
-) -> bool {
+/// Scans folders of these names and looks. Checks that the server goes on, and that its last moment is this one.
+fn scan_and_look<R: Wait + Abort>(rt: &R, alloc: Global, desk: &mut Desk, names: &str, last: u64) {
     let mut folder = folder(rt, alloc, names);
     desk.scan(rt, alloc, &mut folder);
-    !desk.look(rt, alloc) && desk.last == last
+    let is_stopped = desk.look(rt, alloc);
+    assert!(rt; !is_stopped, "{names}: the server was stopped");
+    assert!(rt; desk.last == last, "{names}: the last moment");
 }
 
-/// Returns whether a subscriber is told of scans at moments, one of which the clock does not give.
-fn is_told<R: Wait + Abort>(rt: &R, alloc: Global, desk: &mut Desk) -> bool {
-    subscribes(rt, alloc, desk)
-        && scans_and_looks(rt, alloc, desk, "Rock", 200)
-        && scans_and_looks(rt, alloc, desk, "Jazz Rock", 400)
-        && are_notes(rt, alloc, &desk.link, &[(0, 0), (1, 1), (2, 1)])
-}
-
-/// Returns the same for a server that has done nothing yet.
-fn new_server_tells<R: Wait + Abort>(rt: &R, alloc: Global) -> bool {
-    let mut desk = Desk::new(rt, alloc, &[100, 200, 300, 400], 2);
-    is_told(rt, alloc, &mut desk)
+/// Checks that a subscriber is told of scans at moments, one of which the clock does not give.
+fn check_told<R: Wait + Abort>(rt: &R, alloc: Global, desk: &mut Desk) {
+    subscribe(rt, alloc, desk);
+    scan_and_look(rt, alloc, desk, "Rock", 200);
+    scan_and_look(rt, alloc, desk, "Jazz Rock", 400);
+    check_notes(rt, alloc, &desk.link);
 }
 
 #[test]
 fn a_subscriber_is_told_of_scans(rt: HostRuntime) {
-    assert!(rt; new_server_tells(&rt, rt.alloc()));
+    let mut desk = Desk::new(&rt, rt.alloc(), &[100, 200, 300, 400], 2);
+    check_told(&rt, rt.alloc(), &mut desk);
 }

@@ -18,64 +18,185 @@ const FILE: [u8; 65] = [
     0x5A,
 ];
 
-/// A path, which ends in `/` if it is a folder's; how many bytes of `FILE` its file has; and the read of it that fails,
-/// 0 for none. A file that has more bytes than `FILE` cannot be opened.
-type Item = (&'static str, usize, u32);
+/// A folder or a file.
+#[derive(Drop)]
+struct ItemCase {
+    /// Its path, which ends in `/` if it is a folder's.
+    path: &'static str,
+    /// How many bytes of `FILE` it has, if it is a file. One that has more bytes than `FILE` cannot be opened.
+    bytes: usize,
+    /// The read of it that fails, 0 for none.
+    fails: u32,
+}
 
-/// The titles of records, and the paths and errors of refused files, each in its order.
-type Found = (
-    &'static [&'static str],
-    &'static [(&'static str, FlacError)],
-);
+/// A file that is refused.
+#[derive(Drop)]
+struct RefusedCase {
+    path: &'static str,
+    error: FlacError,
+}
 
-/// A name; items; the call of the folder that fails, 0 for none; and what a scan answers.
-type Case = (&'static str, &'static [Item], u32, Result<Found, ScanError>);
+/// The titles of records, and the refused files, each in its order.
+#[derive(Drop)]
+struct Found {
+    titles: &'static [&'static str],
+    refused: &'static [RefusedCase],
+}
+
+/// The items of a folder, the call of it that fails, 0 for none, and what a scan answers.
+#[derive(Drop)]
+struct ScanCase {
+    name: &'static str,
+    items: &'static [ItemCase],
+    fails: u32,
+    answer: Result<Found, ScanError>,
+}
 
 /// A folder and a track.
-const TWO: [Item; 2] = [("a/", 0, 0), ("x.flac", 65, 0)];
+const TWO: [ItemCase; 2] = [
+    ItemCase {
+        path: "a/",
+        bytes: 0,
+        fails: 0,
+    },
+    ItemCase {
+        path: "x.flac",
+        bytes: 65,
+        fails: 0,
+    },
+];
 
-const CASES: [Case; 9] = [
-    ("nothing", &[], 0, Ok((&[], &[]))),
-    (
-        "a file that is cut off, one that fails at its second read, and one that cannot be opened",
-        &[
-            ("v.flac", 66, 0),
-            ("u.flac", 65, 2),
-            ("bad.flac", 48, 0),
-            ("good.flac", 65, 0),
+const CASES: [ScanCase; 9] = [
+    ScanCase {
+        name: "nothing",
+        items: &[],
+        fails: 0,
+        answer: Ok(Found {
+            titles: &[],
+            refused: &[],
+        }),
+    },
+    ScanCase {
+        name: "a file that is cut off, one that fails at its second read, and one that cannot be opened",
+        items: &[
+            ItemCase {
+                path: "v.flac",
+                bytes: 66,
+                fails: 0,
+            },
+            ItemCase {
+                path: "u.flac",
+                bytes: 65,
+                fails: 2,
+            },
+            ItemCase {
+                path: "bad.flac",
+                bytes: 48,
+                fails: 0,
+            },
+            ItemCase {
+                path: "good.flac",
+                bytes: 65,
+                fails: 0,
+            },
         ],
-        0,
-        Ok((
-            &["Z"],
-            &[
-                ("bad.flac", FlacError::Truncated { at: 48 }),
-                ("u.flac", FlacError::ReadFault),
-                ("v.flac", FlacError::ReadFault),
+        fails: 0,
+        answer: Ok(Found {
+            titles: &["Z"],
+            refused: &[
+                RefusedCase {
+                    path: "bad.flac",
+                    error: FlacError::Truncated { at: 48 },
+                },
+                RefusedCase {
+                    path: "u.flac",
+                    error: FlacError::ReadFault,
+                },
+                RefusedCase {
+                    path: "v.flac",
+                    error: FlacError::ReadFault,
+                },
             ],
-        )),
-    ),
-    (
-        "a folder's path that no object may have",
-        &[("a/", 0, 0), ("a/../", 0, 0)],
-        0,
-        Err(ScanError::TooDeep { bytes: 4 }),
-    ),
-    (
-        "such a path of a file that is no track",
-        &[("x.flac", 3, 0), ("..", 3, 0), ("b/", 0, 0)],
-        0,
-        Err(ScanError::TooDeep { bytes: 2 }),
-    ),
-    ("the first entry", &TWO, 1, Err(ScanError::FolderFault)),
-    ("the second entry", &TWO, 2, Err(ScanError::FolderFault)),
-    (
-        "the open",
-        &TWO,
-        3,
-        Ok((&["a"], &[("x.flac", FlacError::ReadFault)])),
-    ),
-    ("the last entry", &TWO, 4, Err(ScanError::FolderFault)),
-    ("none of the calls", &TWO, 5, Ok((&["a", "Z"], &[]))),
+        }),
+    },
+    ScanCase {
+        name: "a folder's path that no object may have",
+        items: &[
+            ItemCase {
+                path: "a/",
+                bytes: 0,
+                fails: 0,
+            },
+            ItemCase {
+                path: "a/../",
+                bytes: 0,
+                fails: 0,
+            },
+        ],
+        fails: 0,
+        answer: Err(ScanError::TooDeep { bytes: 4 }),
+    },
+    ScanCase {
+        name: "such a path of a file that is no track",
+        items: &[
+            ItemCase {
+                path: "x.flac",
+                bytes: 3,
+                fails: 0,
+            },
+            ItemCase {
+                path: "..",
+                bytes: 3,
+                fails: 0,
+            },
+            ItemCase {
+                path: "b/",
+                bytes: 0,
+                fails: 0,
+            },
+        ],
+        fails: 0,
+        answer: Err(ScanError::TooDeep { bytes: 2 }),
+    },
+    ScanCase {
+        name: "the first entry fails",
+        items: &TWO,
+        fails: 1,
+        answer: Err(ScanError::FolderFault),
+    },
+    ScanCase {
+        name: "the second entry fails",
+        items: &TWO,
+        fails: 2,
+        answer: Err(ScanError::FolderFault),
+    },
+    ScanCase {
+        name: "the open fails",
+        items: &TWO,
+        fails: 3,
+        answer: Ok(Found {
+            titles: &["a"],
+            refused: &[RefusedCase {
+                path: "x.flac",
+                error: FlacError::ReadFault,
+            }],
+        }),
+    },
+    ScanCase {
+        name: "the last entry fails",
+        items: &TWO,
+        fails: 4,
+        answer: Err(ScanError::FolderFault),
+    },
+    ScanCase {
+        name: "none of the calls fails",
+        items: &TWO,
+        fails: 5,
+        answer: Ok(Found {
+            titles: &["a", "Z"],
+            refused: &[],
+        }),
+    },
 ];
 
 /// Returns what a file holds, or `None` if it cannot be opened.
@@ -90,30 +211,30 @@ fn bytes_of<R: Abort>(rt: &R, alloc: Global, length: usize) -> Option<Bytes> {
 }
 
 /// Makes a file.
-fn file_item<R: Abort>(rt: &R, alloc: Global, item: &Item) -> MemItem {
+fn file_item<R: Abort>(rt: &R, alloc: Global, item: &ItemCase) -> MemItem {
     MemItem::FileItem {
-        path: text_of(rt, alloc, item.0),
+        path: text_of(rt, alloc, item.path),
         size: 65,
-        bytes: bytes_of(rt, alloc, item.1),
-        fails: only(rt, alloc, item.2),
+        bytes: bytes_of(rt, alloc, item.bytes),
+        fails: only(rt, alloc, item.fails),
     }
 }
 
 /// Makes a file or a folder.
-fn item_of<R: Abort>(rt: &R, alloc: Global, item: &Item) -> MemItem {
-    match item.0.strip_suffix('/') {
+fn item_of<R: Abort>(rt: &R, alloc: Global, item: &ItemCase) -> MemItem {
+    match item.path.strip_suffix('/') {
         Some(folder) => folder_item(rt, alloc, folder),
         None => file_item(rt, alloc, item),
     }
 }
 
-/// Makes a folder of items, of which one call fails.
-fn folder_of<R: Abort>(rt: &R, alloc: Global, items: &[Item], fails: u32) -> MemFolder {
+/// Makes the folder of a case.
+fn folder_of<R: Abort>(rt: &R, alloc: Global, case: &ScanCase) -> MemFolder {
     let mut list = Sequence::new(alloc);
-    for item in items {
+    for item in case.items {
         list.push(item_of(rt, alloc, item)).expect(rt, MEMORY);
     }
-    tree(rt, list, only(rt, alloc, fails))
+    tree(rt, list, only(rt, alloc, case.fails))
 }
 
 /// Returns the title that a content has.
@@ -124,53 +245,67 @@ fn title_of(content: &Content) -> &str {
     }
 }
 
-/// Returns whether records have these titles.
-fn have_titles(records: &[Record], titles: &[&str]) -> bool {
-    for (found, title) in records.iter().zip(titles) {
-        if title_of(&found.content) != *title {
-            return false;
-        }
+/// Checks that records have the titles of a case.
+fn check_titles<R: Abort>(rt: &R, records: &[Record], titles: &[&str], name: &str) {
+    for (record, title) in records.iter().zip(titles) {
+        assert!(rt;
+            title_of(&record.content) == *title,
+            "{name}: the title {title}"
+        );
     }
-    records.len() == titles.len()
+    assert!(rt; records.len() == titles.len(), "{name}: how many records");
 }
 
-/// Returns whether exactly these files are refused.
-fn are_refused(files: &[RefusedFile], want: &[(&str, FlacError)]) -> bool {
-    for (file, (path, error)) in files.iter().zip(want) {
-        if file.path.as_str() != *path || file.error != *error {
-            return false;
-        }
+/// Checks that exactly the files of a case are refused.
+fn check_refused<R: Abort>(rt: &R, files: &[RefusedFile], cases: &[RefusedCase], name: &str) {
+    for (file, case) in files.iter().zip(cases) {
+        assert!(rt;
+            file.path.as_str() == case.path,
+            "{name}: the path {}",
+            case.path
+        );
+        assert!(rt;
+            file.error == case.error,
+            "{name}: the error of {}",
+            case.path
+        );
     }
-    files.len() == want.len()
+    assert!(rt;
+        files.len() == cases.len(),
+        "{name}: how many files are refused"
+    );
 }
 
-/// Returns whether a scan answers this.
-fn is_found(answer: &Result<Scan, ScanError>, want: &Result<Found, ScanError>) -> bool {
-    match (answer, want) {
-        (Ok(found), Ok((titles, refused))) => {
-            have_titles(found.records.as_slice(), titles)
-                && are_refused(found.refused.as_slice(), refused)
+/// Checks what a scan answers.
+fn check_answer<R: Abort>(rt: &R, answer: &Result<Scan, ScanError>, case: &ScanCase) {
+    match (answer, &case.answer) {
+        (Ok(scan), Ok(found)) => {
+            check_titles(rt, scan.records.as_slice(), found.titles, case.name);
+            check_refused(rt, scan.refused.as_slice(), found.refused, case.name);
         }
-        (Err(error), Err(other)) => error == other,
-        _ => false,
+        (Err(error), Err(want)) => assert!(rt; error == want, "{}: the error", case.name),
+        (Ok(_), Err(_)) => panic!(rt; "{}: the folder is scanned", case.name),
+        (Err(_), Ok(_)) => panic!(rt; "{}: the folder is not scanned", case.name),
     }
 }
 
-/// Returns whether the scan of a folder answers this.
-fn answers(alloc: Global, folder: &mut MemFolder, want: &Result<Found, ScanError>) -> bool {
+/// Scans a folder, and checks the answer.
+fn check_scan<R: Abort>(rt: &R, alloc: Global, folder: &mut MemFolder, case: &ScanCase) {
     let answer = scan(alloc, folder);
-    is_found(&answer, want)
+    check_answer(rt, &answer, case);
 }
 
-/// Returns whether a case is answered so, and the folder got back each file that it opened.
-fn is_scanned<R: Abort>(rt: &R, alloc: Global, case: &Case) -> bool {
-    let mut folder = folder_of(rt, alloc, case.1, case.2);
-    answers(alloc, &mut folder, &case.3) && folder.opened() == folder.returned()
+/// Checks a case, and that the folder got back each file that it opened.
+fn check_case<R: Abort>(rt: &R, alloc: Global, case: &ScanCase) {
+    let mut folder = folder_of(rt, alloc, case);
+    check_scan(rt, alloc, &mut folder, case);
+    let is_back = folder.opened() == folder.returned();
+    assert!(rt; is_back, "{}: the files that came back", case.name);
 }
 
 #[test]
 fn scans_of_folders_that_fail(rt: HostRuntime) {
     for case in &CASES {
-        assert!(rt; is_scanned(&rt, rt.alloc(), case), "{}", case.0);
+        check_case(&rt, rt.alloc(), case);
     }
 }

@@ -6,8 +6,9 @@ ghost use Rattle.cds_turn.specs.Turn.{IsSeatOf, passes_of};
 
 use crate::desk::{Desk, server};
 use crate::made::{MEMORY, asking, clock, folder, rows_in};
-use cds_base::{Job, NoGate, Numbers, Spawner};
+use cds_base::Numbers;
 use cds_memory::{MemClock, MemFolder, MemSpawner};
+use cds_outside::{Job, NoGate, Spawner};
 use cds_serve::{Scanned, Scanner, Served, scan_once};
 use cds_turn::{Seat, Turn};
 use std::alloc::Global;
@@ -171,5 +172,7 @@ fn rows_found<R: Threads + Wait + Abort + Copy + Send + Drop + 'static>(
 
 #[test]
 fn a_scan_of_another_thread_is_browsed(rt: HostRuntime) {
-    assert!(rt; rows_found(rt, rt.alloc()) == (true, Some(2)));
+    let (is_accepted, rows) = rows_found(rt, rt.alloc());
+    assert!(rt; is_accepted, "the scan was not accepted");
+    assert!(rt; rows == Some(2), "the rows that are shown");
 }

@@ -2,8 +2,9 @@
 
 use crate::life::{NONE, door, lived, outside_of};
 use crate::made::{MEMORY, is_good};
-use cds_base::{Bytes, Door, Gate, Mem, Numbers};
+use cds_base::{Bytes, Mem, Numbers};
 use cds_memory::{MemDoor, MemSink};
+use cds_outside::{Door, Gate};
 use std::alloc::Global;
 use std::marker::{Send, Sync};
 use std::process::Abort;
@@ -50,66 +51,59 @@ impl Gate for Turnstile {
     }
 }
 
-/// Returns whether the connection of this number of a door was answered.
-fn is_answered<R: Wait + Clone + Drop + Abort>(
+/// Checks that the connection of this number of a door was answered.
+fn check_answered<R: Wait + Clone + Drop + Abort>(
     rt: &R,
     alloc: Global,
     door: &MemDoor<R>,
     at: usize,
-) -> bool {
-    match door.written(alloc, at).expect(rt, MEMORY) {
-        Some(reply) => is_good(reply.as_slice()),
-        None => false,
-    }
+) {
+    let reply = door.written(alloc, at).expect(rt, MEMORY);
+    let reply = reply.expect(rt, "no connection");
+    assert!(rt; is_good(reply.as_slice()), "the reply at connection {at}");
 }
 
-/// Returns whether both connections of a door were answered.
-fn are_both_answered<R: Wait + Clone + Drop + Abort>(
-    rt: &R,
-    alloc: Global,
-    door: &MemDoor<R>,
-) -> bool {
-    is_answered(rt, alloc, door, 0) && is_answered(rt, alloc, door, 1)
-}
-
-/// Returns whether a server that serves the two connections of this door ends well.
-fn serves_well<R: Threads + Wait + Clone + Copy + Drop + Abort + Send + Sync + 'static>(
+/// Lets a server serve the two connections of this door, and checks that it ends well.
+fn serve_both<R: Threads + Wait + Clone + Copy + Drop + Abort + Send + Sync + 'static>(
     rt: R,
     alloc: Global,
     door: MemDoor<R>,
     gate: &mut Turnstile,
-) -> bool {
+) {
     let mut sink = MemSink::new(Bytes::new(alloc), 256, Numbers::new(alloc)).expect(&rt, MEMORY);
     let mut outside = outside_of(&rt, alloc, NONE, door);
-    lived(&rt, alloc, 2, &mut outside, &mut sink, gate).status == 0
+    let end = lived(&rt, alloc, 2, &mut outside, &mut sink, gate);
+    assert!(rt; end.status == 0);
 }
 
-/// Returns whether a server that serves two connections answers both of a door.
-fn are_answered<R: Threads + Wait + Clone + Copy + Drop + Abort + Send + Sync + 'static>(
+/// Checks that a server that serves two connections answers both of a door.
+fn check_both<R: Threads + Wait + Clone + Copy + Drop + Abort + Send + Sync + 'static>(
     rt: R,
     alloc: Global,
     gate: &mut Turnstile,
-) -> bool {
+) {
     let mut shown = door(rt, alloc, NONE);
     let theirs = shown.again().expect(&rt, "another handle of the door");
-    serves_well(rt, alloc, theirs, gate) && are_both_answered(&rt, alloc, &shown)
+    serve_both(rt, alloc, theirs, gate);
+    check_answered(&rt, alloc, &shown, 0);
+    check_answered(&rt, alloc, &shown, 1);
 }
 
-/// Returns whether both are answered while worker 0 is held.
-fn are_side_by_side<R: Threads + Wait + Clone + Copy + Drop + Abort + Send + Sync + 'static>(
+/// Checks that both are answered while worker 0 is held.
+fn check_side_by_side<R: Threads + Wait + Clone + Copy + Drop + Abort + Send + Sync + 'static>(
     rt: R,
     alloc: Global,
-) -> bool {
+) {
     let passed = Arc::new(alloc, AtomicU64::new(0)).expect(&rt, MEMORY);
     let mut gate = Turnstile {
         worker: 9,
         passed: Arc::try_clone(&passed).expect(&rt, MEMORY),
     };
-    let answered = are_answered(rt, alloc, &mut gate);
-    answered && passed.load(Ordering::SeqCst) == 2
+    check_both(rt, alloc, &mut gate);
+    assert!(rt; passed.load(Ordering::SeqCst) == 2, "worker 0 was not held");
 }
 
 #[test]
 fn workers_serve_side_by_side(rt: HostRuntime) {
-    assert!(rt; are_side_by_side(rt, rt.alloc()));
+    check_side_by_side(rt, rt.alloc());
 }

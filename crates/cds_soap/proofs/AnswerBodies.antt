@@ -4,7 +4,7 @@ use Rattle.std.specs.Fmt.{decimal}
 use Rattle.std.specs.Option.{option_and_then}
 use Rattle.std.proofs.lemmas.Bool.Decides.{Decides-eqb}
 use Rattle.cds_base.specs.declared.limits.TheConstants.{INPUT_LIMIT}
-use Rattle.cds_base.specs.Unescape.{AreAllowed}
+use Rattle.cds_base.specs.Characters.{AreAllowed}
 use Rattle.cds_object.specs.Writing.{text_element, number_element}
 use Rattle.cds_markup.specs.declared.tag.Tag.{Tag}
 use Rattle.cds_markup.specs.Document.{Meaning, Meanings, Element, End, ChildThen, most_open, Doc}

@@ -5,7 +5,7 @@ use Rattle.std.specs.Fmt.{decimal, digits}
 use Rattle.std.specs.Option.{option_and_then}
 use Rattle.std.proofs.lemmas.Bool.Decides.{nat_tests}
 use Rattle.cds_base.specs.Escape.{escaped}
-use Rattle.cds_base.specs.Unescape.{AreAllowed}
+use Rattle.cds_base.specs.Characters.{AreAllowed}
 use Rattle.cds_object.specs.Writing.{text_element, number_element}
 use Rattle.cds_markup.specs.declared.name.Name.{Name}
 use Rattle.cds_markup.specs.declared.tag.QName.{QName}

@@ -8,10 +8,9 @@ use Rattle.std.proofs.lemmas.List.Elements.{All-head, All-tail}
 use Rattle.std.proofs.lemmas.Str.{encode_ascii}
 use Rattle.httparse.specs.Grammar.{AllPass}
 use Rattle.httparse.proofs.TrimLemmas.{AllPass-reverse}
-use Rattle.cds_base.specs.Characters.{is_allowed}
+use Rattle.cds_base.specs.Characters.{is_allowed, AreAllowed}
 use Rattle.cds_base.specs.Escape.{escaped, escaped_byte}
 use Rattle.cds_base.specs.Number.{value_in, number_below}
-use Rattle.cds_base.specs.Unescape.{AreAllowed}
 use Rattle.cds_base.proofs.Plain.{allowed-printed, decimal-digits, digits-read, printed-decimal}
 use Rattle.cds_http.proofs.Numerals.{decimal-digits as numerals}
 use Rattle.cds_soap.proofs.Naming.{both-true, true-both}

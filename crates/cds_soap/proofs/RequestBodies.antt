@@ -2,7 +2,7 @@
 use Rattle.std.proofs.Common.{◌≡◌, ℕ, ◌≤◌, ◌<◌, ◌^◌, Some, option_map, List, [], ◌++◌, codes, length, refl, sym, ap, subst, ◌∙◌, arith, append_assoc, append-nil}
 use Rattle.std.specs.Fmt.{decimal}
 use Rattle.cds_base.specs.declared.limits.TheConstants.{INPUT_LIMIT}
-use Rattle.cds_base.specs.Unescape.{AreAllowed}
+use Rattle.cds_base.specs.Characters.{AreAllowed}
 use Rattle.cds_object.specs.Writing.{text_element}
 use Rattle.cds_markup.specs.Document.{Meaning, Meanings, End, ChildThen, most_open, Doc}
 use Rattle.cds_markup.specs.Drafts.{Draft, Drafts, Done, DraftThen, drafted, drafted_in, drafts_say, CanBeDrafts, CanBeDrafted, draft_depth, version_declared}

@@ -5,7 +5,7 @@ use Rattle.http_header.specs.HeaderMap.{get}
 use Rattle.url.specs.Parts.{Parts}
 use Rattle.cds_base.specs.declared.limits.TheConstants.{INPUT_LIMIT}
 use Rattle.cds_base.specs.Escape.{escaped}
-use Rattle.cds_base.specs.Unescape.{AreAllowed}
+use Rattle.cds_base.specs.Characters.{AreAllowed}
 use Rattle.cds_http.specs.declared.message.Side.TheVariants.{Request, Reply}
 use Rattle.cds_http.specs.declared.message.Start.TheVariants.{Request as of_request}
 use Rattle.cds_http.specs.declared.message.Message.{Message}

@@ -6,5 +6,5 @@ pub mod Answered
 pub mod Found
 pub mod Written
 pub mod Shell
-pub mod Evaluated
+pub mod Examples
 pub mod Laws

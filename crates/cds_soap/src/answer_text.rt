@@ -12,7 +12,8 @@ use crate::request_text::{
     put_envelope_end, put_envelope_start, put_service_end, put_service_start, put_u32_element,
 };
 use crate::{Action, ActionName, Answer};
-use cds_base::{Mem, escaped_length, put, put_escaped};
+use cds_base::{Mem, put};
+use cds_escape::{escaped_length, put_escaped};
 use cds_http::{Fields, write_reply_head};
 use cds_object::put_text_element;
 use std::alloc::Global;

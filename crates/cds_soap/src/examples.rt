@@ -1,6 +1,6 @@
 //! Small texts and elements, evaluated by the definitions.
 
-ghost use Rattle.cds_soap.specs.Evaluated.{NamesAreSaid, NumbersAreRead, EnvelopesAreOpened, ArgumentsAreTaken, AnswersAreTaken, BodiesAreWritten};
+ghost use Rattle.cds_soap.specs.Examples.{NamesAreSaid, NumbersAreRead, EnvelopesAreOpened, ArgumentsAreTaken, AnswersAreTaken, BodiesAreWritten};
 
 /// Evaluates what SOAPACTION says.
 pub fn names_are_said()

@@ -8,9 +8,9 @@ mod answer_text;
 mod ask;
 mod envelope;
 mod error;
-mod examples;
+pub mod examples;
 mod given;
-mod laws;
+pub mod laws;
 mod names;
 mod reply;
 mod request_text;
@@ -21,10 +21,5 @@ pub use answer::Answer;
 pub use answer_text::{fits, write_answer};
 pub use ask::read_action;
 pub use error::SoapError;
-pub use examples::{
-    answers_are_taken, arguments_are_taken, bodies_are_written, envelopes_are_opened,
-    names_are_said, numbers_are_read,
-};
-pub use laws::{answers_are_read, bodies_are_short, one_ask, one_reply, requests_are_read};
 pub use reply::read_answer;
 pub use request_text::write_action;

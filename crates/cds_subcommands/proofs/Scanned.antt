@@ -8,9 +8,9 @@ use Rattle.std.proofs.lemmas.Bool.Decides.{nat_tests}
 use Rattle.std.proofs.lemmas.Grind.{flat_map-append}
 use Rattle.std.proofs.lemmas.List.{length-map, length-reverse, take_all, take_more}
 use Rattle.std.proofs.lemmas.Option.{slice_get_cases}
-use Rattle.cds_base.specs.Entries.{Contents, FolderTold}
-use Rattle.cds_base.specs.Outside.{Told, raised, Rose}
-use Rattle.cds_base.specs.declared.outside.folder.Entry.{Entry}
+use Rattle.cds_outside.specs.Entries.{Contents, FolderTold}
+use Rattle.cds_outside.specs.Outside.{Told, raised, Rose}
+use Rattle.cds_outside.specs.declared.folder.Entry.{Entry}
 use Rattle.cds_object.specs.Fragment.{fragment, full_text}
 use Rattle.cds_object.specs.Object.{ObjectRow}
 use Rattle.cds_object.specs.Path.{path_cmp}

@@ -1,6 +1,6 @@
 -- What the parts of `scan` owe to each other.
 use Rattle.std.specs.Prelude.{◌≡◌, ◌⊎◌, ◌≤◌, ⊤, ℕ, List, [], ◌∷◌, ◌++◌, length, Option, Some, None, Result, Ok, Err}
-use Rattle.cds_base.specs.Entries.{FolderTold}
+use Rattle.cds_outside.specs.Entries.{FolderTold}
 use Rattle.cds_object.specs.Fragment.{fragment}
 use Rattle.cds_object.specs.Object.{ObjectRow}
 use Rattle.cds_catalog.specs.Scans.{bad_record}

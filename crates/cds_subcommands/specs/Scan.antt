@@ -1,9 +1,9 @@
 -- What `scan` answers to a folder (this project's profile).
 use Rattle.std.specs.Prelude.{◌≡◌, ◌⊎◌, ◌≤◌, ℕ, List, [], ◌∷◌, ◌++◌, Option, Some, codes}
 use Rattle.std.specs.List.{count_by, flat_map}
-use Rattle.cds_base.specs.Asked.{Asked, ForFolder}
-use Rattle.cds_base.specs.Entries.{FolderTold}
-use Rattle.cds_base.specs.Outside.{Told}
+use Rattle.cds_outside.specs.Asked.{Asked, ForFolder}
+use Rattle.cds_outside.specs.Entries.{FolderTold}
+use Rattle.cds_outside.specs.Outside.{Told}
 use Rattle.cds_object.specs.Fragment.{full_text}
 use Rattle.cds_object.specs.declared.record.Record.{Record}
 use Rattle.cds_catalog.specs.Catalog.{catalog}

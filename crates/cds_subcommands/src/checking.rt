@@ -2,7 +2,7 @@
 
 ghost use Rattle.std.specs.Prelude.{◌≡◌, ◌≢◌, ◌⊎◌, ℕ, ◌+◌, ◌<◌, ◌≤◌, ◌++◌, [], Some, List, length, IfOk, IfErr, OnOk, OnErr, string_bytes};
 ghost use Rattle.cds_base.specs.declared.limits.TheConstants.{INPUT_LIMIT};
-ghost use Rattle.cds_base.specs.Outside.{raised, Rose, Told};
+ghost use Rattle.cds_outside.specs.Outside.{raised, Rose, Told};
 ghost use Rattle.cds_object.specs.declared.event.Event.{Event};
 ghost use Rattle.cds_lastchange.specs.Feeding.{IsRead};
 ghost use Rattle.cds_lastchange.specs.StateEvent.{IsStateEvent};
@@ -11,8 +11,9 @@ ghost use Rattle.cds_subcommands.specs.Check.{EndsCheck, WritesCheck, IsCause, O
 ghost use Rattle.cds_subcommands.specs.Run.{Ends, Writes};
 
 use crate::written::write_text;
-use cds_base::{Failed, INPUT_LIMIT, Mem, Sink, Source, empty_piece, read_piece};
+use cds_base::{INPUT_LIMIT, Mem};
 use cds_lastchange::{Events, StateError, StateReader, write_state_event};
+use cds_outside::{Failed, Sink, Source, empty_piece, read_piece};
 use std::alloc::Global;
 use std::convert::From;
 

@@ -2,8 +2,8 @@
 
 ghost use Rattle.std.specs.Prelude.{◌≡◌, ◌⊎◌, ◌≤◌, ◌++◌, ◌∷◌, [], None, Err, IfOk, OnOk, length, slice_get};
 ghost use Rattle.std.specs.List.{flat_map};
-ghost use Rattle.cds_base.specs.Entries.{IsUnasked};
-ghost use Rattle.cds_base.specs.Outside.{Rose, Told};
+ghost use Rattle.cds_outside.specs.Entries.{IsUnasked};
+ghost use Rattle.cds_outside.specs.Outside.{Rose, Told};
 ghost use Rattle.cds_object.specs.Fragment.{fragment, full_text};
 ghost use Rattle.cds_catalog.specs.Catalog.{catalog};
 ghost use Rattle.cds_catalog.specs.Scans.{bad_record};
@@ -16,9 +16,10 @@ ghost use Rattle.cds_subcommands.specs.Run.{Ends, Writes};
 ghost use Rattle.cds_subcommands.specs.Scan.{AsksFor, EndsScan, GivesBack, WritesScan, one_scan, refused_line, scan_ending};
 
 use crate::written::write_text;
-use cds_base::{Mem, Outside, OutsideFault, Sink};
+use cds_base::Mem;
 use cds_didl::put_fragment;
 use cds_object::{Records, Row};
+use cds_outside::{Outside, OutsideFault, Sink};
 use cds_scan::{Refused, RefusedFile, Scan, ScanError, scan};
 use cds_store::{ApplyError, Keeping, Store};
 use std::alloc::Global;

@@ -1,10 +1,10 @@
 //! Texts into a sink.
 
 ghost use Rattle.std.specs.Prelude.{◌≡◌, ◌≢◌};
-ghost use Rattle.cds_base.specs.Outside.{Rose, Told};
+ghost use Rattle.cds_outside.specs.Outside.{Rose, Told};
 ghost use Rattle.cds_subcommands.specs.Run.{EndsText, WritesText};
 
-use cds_base::{Sink, write_all};
+use cds_outside::{Sink, write_all};
 
 /// Writes a text, and answers the status, or 3 if the text could not be written.
 pub fn write_text<K: Sink>(sink: &mut K, text: &[u8], status: u8) -> u8

@@ -1,12 +1,12 @@
 -- What is known of the entries that a folder gave, by their paths.
-use Rattle.std.specs.Prelude.{◌≡◌, ◌==◌, ⊤, ℕ, Bool, true, false, IsTrue, List, [], ◌∷◌, ◌++◌, Option, Some, None}
+use Rattle.std.specs.Prelude.{◌≡◌, ⊤, ℕ, Bool, true, false, IsTrue, List, [], ◌∷◌, ◌++◌, Option, Some, None}
 use Rattle.std.specs.List.{list_any}
 use Rattle.std.specs.Ordering.{nat_cmp}
 use Rattle.std.specs.Cmp.Lexicographic.{slice_cmp}
 use Rattle.std.specs.BTreeMap.{BTreeMap, get}
-use Rattle.cds_base.specs.declared.outside.folder.Entry.{Entry}
-use Rattle.cds_base.specs.declared.outside.folder.Entry.TheVariants.{Folder, File, End}
-use Rattle.cds_base.specs.Entries.{is_at, is_folder_at, is_new, is_path_held, is_tree}
+use Rattle.cds_outside.specs.declared.folder.Entry.{Entry}
+use Rattle.cds_outside.specs.declared.folder.Entry.TheVariants.{Folder, File, End}
+use Rattle.cds_outside.specs.Entries.{is_at, is_folder_at, is_new, is_path_held, is_tree}
 
 -- what is known of a path: nothing was given there (`None`), a folder was given there (`Some true`), or nothing is claimed (`Some
 -- false`)

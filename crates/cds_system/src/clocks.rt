@@ -2,7 +2,7 @@
 
 ghost use Rattle.std.specs.Prelude.{◌≡◌};
 
-use cds_base::{Clock, Failed};
+use cds_outside::{Clock, Failed};
 use std::thread::sleep;
 use std::time::{Clock as SystemClock, Duration};
 

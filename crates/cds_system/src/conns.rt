@@ -2,83 +2,132 @@
 //! trusted to be what the system says.
 
 ghost use Rattle.std.specs.Prelude.{◌≡◌, ◌≤◌, ◌<◌, length, IfOk, IfSome, OnErr};
-ghost use Rattle.cds_base.specs.Outside.{raised, Rose};
+ghost use Rattle.cds_outside.specs.Outside.{raised, Rose};
 
-use cds_base::{Conn, Failed, Sink, Source};
+use crate::lobby::Arrived;
+use crate::retry::{read_again, write_again};
+use cds_outside::{Conn, Failed, Sink, Source};
 use std::io;
-use std::io::{ErrorKind, Read, Write};
+use std::io::ErrorKind;
 use std::net::TcpStream;
 use std::time::{Clock, Duration};
 
-/// How many seconds a read or a write waits.
-const PATIENCE: u64 = 10;
+/// For how many seconds a connection is read, apart from those for its bytes.
+const READING: u64 = 2;
 
-/// For how many seconds a connection is read.
-const READING: u64 = 30;
+/// How many bytes give one second more to read.
+const READ_RATE: u64 = 16_384;
 
-/// A connection of the system. A read or a write that gets nowhere for 10 seconds is a fault. So is a read that begins more than
-/// 30 seconds after the connection was given. So a peer that sends a byte now and then keeps nobody busy.
+/// For how many seconds a connection is read at most.
+const MOST_READING: u64 = 30;
+
+/// For how many seconds a connection is written, apart from those for its bytes.
+const WRITING: u64 = 10;
+
+/// How many bytes give one second more to write.
+const WRITE_RATE: u64 = 65_536;
+
+/// A connection of the system. It gives the bytes first that came while it waited at the door.
+///
+/// After them it is read for 2 seconds, and 1 second more for each 16,384 bytes, but at most for 30 seconds. It is written for 10
+/// seconds after the first write began, and 1 second more for each 65,536 bytes. A read or a write after that is a fault. So a
+/// peer that sends or takes a byte now and then keeps nobody busy.
 #[derive(Drop)]
 pub struct RealConn<R: Clock + Drop> {
     rt: R,
-    end: Duration,
     stream: TcpStream,
+    ahead: Vec<u8>,
+    reading: Option<Duration>,
+    writing: Option<Duration>,
     moved: u64,
+    wrote: u64,
     read_faults: u64,
     write_faults: u64,
 }
 
-/// Has the reads and writes of a stream wait, at most as long as those of a connection.
-fn set_patience(stream: &TcpStream) -> io::Result<()> {
-    let patience = Duration::from_secs(PATIENCE);
-    stream.set_nonblocking(false)?;
-    stream.set_read_timeout(Some(patience))?;
-    stream.set_write_timeout(Some(patience))
-}
-
-/// Has the reads and writes of a stream wait, and returns the time up to which it is read.
-fn end_of_reading<R: Clock>(rt: &R, stream: &TcpStream) -> Option<Duration> {
-    set_patience(stream).ok()?;
-    let now = rt.monotonic().ok()?;
-    Some(now.saturating_add(Duration::from_secs(READING)))
-}
-
 impl<R: Clock + Drop> RealConn<R> {
-    /// Makes a connection; nothing was read from it or written to it yet. Returns `None` if the system does not tell the time, or
-    /// does not set how long reads and writes wait.
-    pub fn new(rt: R, stream: TcpStream) -> Option<Self>
+    /// Makes a connection; nothing was read from it or written to it yet. Returns `None` if the system does not have reads and
+    /// writes wait.
+    pub fn new(rt: R, arrived: Arrived) -> Option<Self>
         ensures moved { IfSome result (λ conn. conn.moved ≡ 0) }
         ensures read_faults { IfSome result (λ conn. conn.read_faults ≡ 0) }
         ensures write_faults { IfSome result (λ conn. conn.write_faults ≡ 0) }
     {
-        let end = end_of_reading(&rt, &stream)?;
+        let Arrived { stream, bytes } = arrived;
+        stream.set_nonblocking(false).ok()?;
         Some(RealConn {
             rt,
-            end,
             stream,
+            ahead: bytes,
+            reading: None,
+            writing: None,
             moved: 0,
+            wrote: 0,
             read_faults: 0,
             write_faults: 0,
         })
     }
+}
 
-    /// Returns whether the time for reading is up, or cannot be had.
-    fn is_late(&self) -> bool {
-        match self.rt.monotonic() {
-            Ok(now) => now >= self.end,
-            Err(_) => true,
-        }
+/// Returns what is left of a time of `seconds` seconds, which is above 0. It began at `begun`, or begins now. `None` if it is up,
+/// or the system does not tell the time.
+fn time_left<R: Clock>(rt: &R, begun: &mut Option<Duration>, seconds: u64) -> Option<Duration> {
+    let now = rt.monotonic().ok()?;
+    let start = begun.unwrap_or(now);
+    *begun = Some(start);
+    let end = start.saturating_add(Duration::from_secs(seconds));
+    if now < end {
+        Some(end.saturating_sub(now))
+    } else {
+        None
     }
 }
 
-/// Reads, if it is not too late.
-fn read_in_time(stream: &mut TcpStream, is_late: bool, into: &mut [u8]) -> io::Result<usize>
+/// Returns for how many seconds a connection is read, if `beyond` bytes were read of it after those that came before.
+fn seconds_to_read(beyond: u64) -> u64 {
+    READING.saturating_add(beyond / READ_RATE).min(MOST_READING)
+}
+
+/// Returns for how many seconds a connection is written to, if `wrote` bytes were written to it.
+fn seconds_to_write(wrote: u64) -> u64 {
+    WRITING.saturating_add(wrote / WRITE_RATE)
+}
+
+/// Moves as many bytes as there is room for, those from a place on, to the beginning of the buffer. Returns how many.
+fn take_ahead(ahead: &[u8], at: u64, into: &mut [u8]) -> usize
+    ensures { result ≤ length into.old }
+{
+    let at = usize::try_from(at).unwrap_or(ahead.len());
+    let (_, left) = ahead.split_at(at.min(ahead.len()));
+    let count = left.len().min(into.len());
+    into[..count].copy_from_slice(&left[..count]);
+    count
+}
+
+/// Reads, if time is left.
+fn read_in_time(
+    stream: &mut TcpStream,
+    left: Option<Duration>,
+    into: &mut [u8],
+) -> io::Result<usize>
     ensures { IfOk result (λ n. n ≤ length into.old) }
 {
-    if is_late {
+    if left.is_none() {
         return Err(io::Error::from(ErrorKind::TimedOut));
     }
-    stream.read(into)
+    stream.set_read_timeout(left)?;
+    read_again(stream, into)
+}
+
+/// Writes, if time is left.
+fn write_in_time(stream: &mut TcpStream, left: Option<Duration>, piece: &[u8]) -> io::Result<usize>
+    ensures { IfOk result (λ n. n ≤ length piece.now) }
+{
+    if left.is_none() {
+        return Err(io::Error::from(ErrorKind::TimedOut));
+    }
+    stream.set_write_timeout(left)?;
+    write_again(stream, piece)
 }
 
 impl<R: Clock + Drop> Source for RealConn<R> {
@@ -94,8 +143,14 @@ impl<R: Clock + Drop> Source for RealConn<R> {
         ensures never_falls { self.old.read_faults ≤ self.new.read_faults }
         ensures write_faults_stay { self.new.write_faults ≡ self.old.write_faults }
     {
-        let is_late = self.is_late();
-        match read_in_time(&mut self.stream, is_late, into) {
+        let count = take_ahead(self.ahead.as_slice(), self.moved, into);
+        if count > 0 {
+            self.moved = self.moved.saturating_add(count as u64);
+            return Ok(count);
+        }
+        let beyond = self.moved.saturating_sub(self.ahead.len() as u64);
+        let left = time_left(&self.rt, &mut self.reading, seconds_to_read(beyond));
+        match read_in_time(&mut self.stream, left, into) {
             Ok(count) => {
                 self.moved = self.moved.saturating_add(count as u64);
                 Ok(count)
@@ -124,8 +179,12 @@ impl<R: Clock + Drop> Sink for RealConn<R> {
         if piece.is_empty() {
             return Ok(0);
         }
-        match self.stream.write(piece) {
-            Ok(count) if count > 0 => Ok(count),
+        let left = time_left(&self.rt, &mut self.writing, seconds_to_write(self.wrote));
+        match write_in_time(&mut self.stream, left, piece) {
+            Ok(count) if count > 0 => {
+                self.wrote = self.wrote.saturating_add(count as u64);
+                Ok(count)
+            }
             _ => {
                 self.write_faults = self.write_faults.saturating_add(1);
                 Err(Failed)

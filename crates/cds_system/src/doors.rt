@@ -3,17 +3,17 @@
 ghost use Rattle.std.specs.Prelude.{◌≡◌, IfOk, IfSome};
 
 use crate::conns::RealConn;
-use crate::lobby::Lobby;
-use cds_base::{Door, Failed, OutsideFault};
+use crate::lobby::{Arrived, Lobby};
+use cds_outside::{Door, Failed, OutsideFault};
 use std::alloc::Global;
 use std::io;
 use std::io::ErrorKind;
-use std::net::{Net, TcpStream};
+use std::net::Net;
 use std::sync::{Arc, Mutex, Wait};
 use std::time::Clock;
 
-/// A handle of the door at a port, at all addresses of IPv4. It gives a connection only once bytes of it have come. Connections
-/// that sent nothing yet wait in a lobby, which all handles share.
+/// A handle of the door at a port, at all addresses of IPv4. It gives a connection only once its message has come, or its first
+/// 65,536 bytes. Others wait in a lobby, which all handles share.
 #[derive(Drop)]
 pub struct RealDoor<R: Wait + Clock + Clone + Drop> {
     rt: R,
@@ -86,12 +86,12 @@ fn share(alloc: Global, opened: io::Result<Lobby>) -> Result<Arc<Mutex<Lobby>>, 
     }
 }
 
-/// Returns the next connection of which bytes have come.
-fn next_stream<R: Wait + Clock>(rt: &R, lobby: &Mutex<Lobby>) -> Option<TcpStream> {
+/// Returns the next connection that need not wait any longer.
+fn next_arrived<R: Wait + Clock>(rt: &R, lobby: &Mutex<Lobby>) -> Option<Arrived> {
     lobby.lock(rt).next(rt).ok()
 }
 
-/// Returns the next connection whose waits can be bounded.
+/// Returns the next connection whose reads and writes can wait.
 fn next_conn<R: Wait + Clock + Clone + Drop>(rt: &R, lobby: &Mutex<Lobby>) -> Option<RealConn<R>>
     ensures moved { IfSome result (λ conn. conn.moved ≡ 0) }
     ensures read_faults { IfSome result (λ conn. conn.read_faults ≡ 0) }
@@ -99,8 +99,8 @@ fn next_conn<R: Wait + Clock + Clone + Drop>(rt: &R, lobby: &Mutex<Lobby>) -> Op
 {
     for _ in rt.forever() {
         let owned = rt.clone().ok()?;
-        let stream = next_stream(rt, lobby)?;
-        if let Some(conn) = RealConn::new(owned, stream) {
+        let arrived = next_arrived(rt, lobby)?;
+        if let Some(conn) = RealConn::new(owned, arrived) {
             return Some(conn);
         }
     }

@@ -2,12 +2,14 @@
 
 ghost use Rattle.std.specs.Prelude.{◌≡◌};
 
+use crate::backoff::Shared;
 use crate::clocks::{RealClock, ahead};
 use crate::doors::RealDoor;
 use crate::files::{RealFolder, real_folder};
-use crate::links::RealLink;
+use crate::links::{RealLink, remembered};
 use crate::spawners::RealSpawner;
-use cds_base::{Mem, Outside, OutsideFault};
+use cds_base::Mem;
+use cds_outside::{Outside, OutsideFault};
 use std::alloc::Global;
 use std::marker::Send;
 use std::net::Net;
@@ -15,11 +17,12 @@ use std::rt::Files;
 use std::sync::Wait;
 use std::time::Clock;
 
-/// Gives the objects of the system.
+/// Gives the objects of the system. Its links share what they remember of addresses that did not answer.
 #[derive(Drop)]
 pub struct RealOutside<R: Files + AllocGlobal + Net + Clock + Wait + Clone + Drop> {
     rt: R,
     ahead: u64,
+    backoff: Option<Shared>,
     connections: u64,
     started: u64,
     faults: u64,
@@ -36,6 +39,7 @@ impl<R: Files + AllocGlobal + Net + Clock + Wait + Clone + Drop> RealOutside<R> 
         RealOutside {
             rt,
             ahead,
+            backoff: None,
             connections: 0,
             started: 0,
             faults: 0,
@@ -77,12 +81,20 @@ where
         } };
 
     fn folder(&mut self, alloc: Global, path: &str) -> Result<RealFolder<R>, OutsideFault> {
-        Ok(real_folder(&self.rt, alloc, path)?)
+        match real_folder(&self.rt, alloc, path) {
+            Ok(folder) => Ok(folder),
+            Err(OutsideFault::Mem) => Err(OutsideFault::Mem),
+            Err(OutsideFault::Failed) => {
+                self.faults = self.faults.saturating_add(1);
+                Err(OutsideFault::Failed)
+            }
+        }
     }
 
-    fn link(&mut self, _alloc: Global) -> Result<RealLink<R>, OutsideFault> {
+    fn link(&mut self, alloc: Global) -> Result<RealLink<R>, OutsideFault> {
         let rt = another(&self.rt)?;
-        Ok(RealLink::new(rt))
+        let backoff = remembered(alloc, &mut self.backoff)?;
+        Ok(RealLink::sharing(rt, backoff))
     }
 
     fn clock(&mut self, _alloc: Global) -> Result<RealClock<R>, OutsideFault> {

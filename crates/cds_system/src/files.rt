@@ -6,8 +6,9 @@ ghost use Rattle.cds_system.specs.Given.{GivesEntry, IsPathOf};
 
 use crate::given::Given;
 use crate::streams::Input;
-use crate::walk::{Walk, joined};
-use cds_base::{Entry, Folder, FolderFault, Mem, Text};
+use crate::walk::{Walk, joined, open_folder};
+use cds_base::{Mem, Text};
+use cds_outside::{Entry, Folder, FolderFault, OutsideFault};
 use std::alloc::Global;
 use std::fs;
 use std::io::{BufReader, ErrorKind};
@@ -180,12 +181,25 @@ fn open_file<R: Files + AllocGlobal + Clone + Drop>(
     }
 }
 
-/// Returns the folder at a path; nothing was asked of it yet.
+/// Looks at the root of a folder. `Failed` comes if it is missing, is no folder or may not be read.
+fn look_at_root<R: Files + AllocGlobal + Clone + Drop>(
+    rt: &R,
+    alloc: Global,
+    root: &Text,
+) -> Result<(), OutsideFault> {
+    match open_folder(rt, alloc, root) {
+        Ok(_) => Ok(()),
+        Err(error) if error.kind() == ErrorKind::OutOfMemory => Err(OutsideFault::Mem),
+        Err(_) => Err(OutsideFault::Failed),
+    }
+}
+
+/// Returns the folder at a path; nothing was asked of it yet. `Failed` comes if the path leads to no folder that can be read.
 pub fn real_folder<R: Files + AllocGlobal + Clone + Drop>(
     rt: &R,
     alloc: Global,
     path: &str,
-) -> Result<RealFolder<R>, Mem>
+) -> Result<RealFolder<R>, OutsideFault>
     ensures given { IfOk result (λ folder. folder.given ≡ []) }
     ensures entries { IfOk result (λ folder. folder.entries ≡ 0) }
     ensures opened { IfOk result (λ folder. folder.opened ≡ 0) }
@@ -194,9 +208,25 @@ pub fn real_folder<R: Files + AllocGlobal + Clone + Drop>(
     ensures file_faults { IfOk result (λ folder. folder.file_faults ≡ 0) }
 {
     let root = Text::read(alloc, path)?;
+    look_at_root(rt, alloc, &root)?;
+    made_folder(rt, alloc, root)
+}
+
+/// Makes a folder with this root; nothing was asked of it yet.
+fn made_folder<R: Files + AllocGlobal + Clone + Drop>(
+    rt: &R,
+    alloc: Global,
+    root: Text,
+) -> Result<RealFolder<R>, OutsideFault>
+    ensures given { IfOk result (λ folder. folder.given ≡ []) }
+    ensures entries { IfOk result (λ folder. folder.entries ≡ 0) }
+    ensures opened { IfOk result (λ folder. folder.opened ≡ 0) }
+    ensures returned { IfOk result (λ folder. folder.returned ≡ 0) }
+    ensures entry_faults { IfOk result (λ folder. folder.entry_faults ≡ 0) }
+    ensures file_faults { IfOk result (λ folder. folder.file_faults ≡ 0) }
+{
     let walked = root.copy(alloc)?;
-    let walking = rt.clone()?;
-    let rt = rt.clone()?;
+    let (walking, rt) = two_owners(rt)?;
     Ok(RealFolder {
         rt,
         root,
@@ -208,4 +238,11 @@ pub fn real_folder<R: Files + AllocGlobal + Clone + Drop>(
         entry_faults: 0,
         file_faults: 0,
     })
+}
+
+/// Returns two more owners of the runtime.
+fn two_owners<R: Clone + Drop>(rt: &R) -> Result<(R, R), Mem> {
+    let first = rt.clone()?;
+    let second = rt.clone()?;
+    Ok((first, second))
 }

@@ -2,10 +2,11 @@
 
 ghost use Rattle.std.specs.Prelude.{◌≡◌, ◌==◌, [], ◌∷◌, ◌++◌, true, false, IfOk, OnErr, IsTrue};
 ghost use Rattle.std.specs.List.{list_any};
-ghost use Rattle.cds_base.specs.Entries.{is_at, is_folder_at, is_in, is_name, is_parent_of, is_path_held, is_slash_and_name, is_tree};
+ghost use Rattle.cds_outside.specs.Entries.{is_at, is_folder_at, is_in, is_name, is_parent_of, is_path_held, is_slash_and_name, is_tree};
 ghost use Rattle.cds_system.specs.Given.{Fits, IsEntryAt, is_folder_entry};
 
-use cds_base::{Entry, Mem, Text, Trace};
+use cds_base::{Mem, Text};
+use cds_outside::{Entry, Trace};
 use std::alloc::Global;
 use std::collections::BTreeMap;
 use std::marker::Model;
@@ -21,8 +22,8 @@ pub struct Given {
 
 impl Model for Given {
     ghost use Rattle.std.specs.Prelude.{List, IsTrue};
-    ghost use Rattle.cds_base.specs.declared.outside.folder.Entry.{Entry};
-    ghost use Rattle.cds_base.specs.Entries.{is_tree};
+    ghost use Rattle.cds_outside.specs.declared.folder.Entry.{Entry};
+    ghost use Rattle.cds_outside.specs.Entries.{is_tree};
     ghost use Rattle.cds_system.specs.Given.{Knows};
 
     ghost Value = { List Entry };

@@ -1,19 +1,24 @@
 //! The adapters over the system. Its streams, folders, clock, network and threads become the sources, sinks and objects that
-//! `cds_base` names. `Input` and `Output` are streams of the system, `RealOutside` gives its objects, and `read_words` the words
-//! of the command line.
+//! `cds_outside` names. `Input` and `Output` are streams of the system, `RealOutside` gives its objects, and `read_words` the
+//! words of the command line.
 #![tactic(auto)]
 
+mod backoff;
 mod clocks;
 mod conns;
 mod doors;
 mod exterior;
 mod files;
+mod framing;
 mod given;
 mod links;
 mod lobby;
+mod names;
 mod reach;
+mod retry;
 mod spawners;
 mod streams;
+mod waiting;
 mod walk;
 mod words;
 

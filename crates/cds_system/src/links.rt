@@ -5,32 +5,63 @@ ghost use Rattle.std.specs.Prelude.{◌≡◌, ◌<◌, ◌≤◌, length, IfOk}
 ghost use Rattle.std.specs.Net.Socket.{socket_ip};
 ghost use Rattle.cds_system.specs.Near.{IsNear};
 
+use crate::backoff::{Shared, Trial, new_shared};
+use crate::framing::{Framing, Kind};
 use crate::reach::near_address;
-use cds_base::{Link, LinkFault, Mem};
+use crate::retry::{read_again, write_again};
+use cds_base::Mem;
+use cds_outside::{Link, LinkFault};
 use std::alloc::Global;
-use std::io::{Read, Write};
+use std::io::{ErrorKind, Read, Write};
 use std::net::{Net, OpenStream, SocketAddr, TcpStream};
+use std::sync::{Arc, Wait};
 use std::time::{Clock, Duration};
 
-/// How many seconds connecting, sending and reading may take, each of the three as a whole.
-const PATIENCE: u64 = 5;
+/// How many milliseconds connecting may take.
+const CONNECTING: u64 = 1_000;
+
+/// How many milliseconds sending may take, and reading the reply, each as a whole.
+const PATIENCE: u64 = 5_000;
+
+/// How many milliseconds the reply to a note may take.
+const NOTE_PATIENCE: u64 = 2_000;
+
+/// How many milliseconds each of the three may take if the address failed before.
+const SHORT_PATIENCE: u64 = 1_000;
 
 /// The number of bytes that are read at once.
 const PIECE: usize = 2_048;
 
-/// A link over the system's connections, one for each request. It tells no requests and no replies.
+/// A link over the system's connections, one for each request. It tells no requests and no replies. It leaves an address that did
+/// not answer alone for some seconds: requests to it then fail at once.
 #[derive(Drop)]
-pub struct RealLink<R: Net + Clock + Drop> {
+pub struct RealLink<R: Net + Clock + Wait + Drop> {
     rt: R,
+    backoff: Option<Shared>,
     faults: u64,
 }
 
-impl<R: Net + Clock + Drop> RealLink<R> {
+impl<R: Net + Clock + Wait + Drop> RealLink<R> {
     /// Makes a link of which no call has failed.
     pub fn new(rt: R) -> Self
         ensures { result.faults ≡ 0 }
     {
-        RealLink { rt, faults: 0 }
+        RealLink {
+            rt,
+            backoff: None,
+            faults: 0,
+        }
+    }
+
+    /// Makes a link of which no call has failed. It shares with others what it remembers of addresses.
+    pub fn sharing(rt: R, backoff: Shared) -> Self
+        ensures { result.faults ≡ 0 }
+    {
+        RealLink {
+            rt,
+            backoff: Some(backoff),
+            faults: 0,
+        }
     }
 
     /// Returns how many calls failed, and how many replies were too long.
@@ -41,12 +72,12 @@ impl<R: Net + Clock + Drop> RealLink<R> {
     }
 }
 
-impl<R: Net + Clock + Drop> Link for RealLink<R> {
+impl<R: Net + Clock + Wait + Drop> Link for RealLink<R> {
     ghost use Rattle.std.specs.Prelude.{None};
 
     ghost told = { λ s. record { requests = None; replies = None; faults = s.faults } };
 
-    /// Does as `Link::exchange` says. The reply ends when the peer ends the connection.
+    /// Does as `Link::exchange` says. The reply ends as its head says, or when the peer ends the connection.
     fn exchange(
         &mut self,
         alloc: Global,
@@ -54,7 +85,8 @@ impl<R: Net + Clock + Drop> Link for RealLink<R> {
         request: &[u8],
         limit: usize,
     ) -> Result<Vec<u8>, LinkFault> {
-        match exchange_once(&self.rt, alloc, url, request, limit) {
+        let backoff = remembered(alloc, &mut self.backoff)?;
+        match exchange_once(&self.rt, alloc, &backoff, url, request, limit) {
             Ok(reply) => Ok(reply),
             Err(LinkFault::Mem) => Err(LinkFault::Mem),
             Err(LinkFault::Failed) => {
@@ -69,10 +101,24 @@ impl<R: Net + Clock + Drop> Link for RealLink<R> {
     }
 }
 
-/// Sends the request to the address by a connection of its own, and returns the reply's bytes.
-fn exchange_once<R: Net + Clock>(
+/// Returns what is remembered of addresses. It is made at the first call.
+pub fn remembered(alloc: Global, backoff: &mut Option<Shared>) -> Result<Shared, Mem> {
+    let shared = match backoff {
+        Some(shared) => Arc::try_clone(shared)?,
+        None => new_shared(alloc)?,
+    };
+    if backoff.is_none() {
+        *backoff = Some(Arc::try_clone(&shared)?);
+    }
+    Ok(shared)
+}
+
+/// Sends the request to the address that a URL names, and returns the reply's bytes. It fails at once if the address is to be
+/// left alone.
+fn exchange_once<R: Net + Clock + Wait>(
     rt: &R,
     alloc: Global,
+    backoff: &Shared,
     url: &str,
     request: &[u8],
     limit: usize,
@@ -80,9 +126,105 @@ fn exchange_once<R: Net + Clock>(
     ensures { IfOk result (λ reply. length reply.items ≤ limit) }
 {
     let address = near_address(alloc, url)?;
-    let mut stream = connect(rt, address)?;
-    send(rt, &mut stream, request)?;
-    within(gather(rt, alloc, &mut stream, limit)?, limit)
+    let begun = moment(rt)?;
+    let trial = backoff
+        .lock(rt)
+        .trial(address, begun, is_first_note(request));
+    if trial == Trial::None {
+        return Err(LinkFault::Failed);
+    }
+    let answer = exchange_at(
+        rt,
+        alloc,
+        address,
+        Times::of(request, trial),
+        request,
+        limit,
+    );
+    keep_in_mind(rt, backoff, address, begun, is_failure(&answer));
+    answer
+}
+
+/// Returns whether an exchange failed. A reply that is too long is none.
+fn is_failure(answer: &Result<Vec<u8>, LinkFault>) -> bool {
+    matches!(answer, Err(LinkFault::Failed))
+}
+
+/// Remembers or forgets an address after an exchange with it.
+fn keep_in_mind<R: Clock + Wait>(
+    rt: &R,
+    backoff: &Shared,
+    address: SocketAddr,
+    begun: Duration,
+    failed: bool,
+) {
+    if failed {
+        let ended = rt.monotonic().unwrap_or(begun);
+        backoff.lock(rt).remember(address, begun, ended);
+    } else {
+        backoff.lock(rt).forget(address);
+    }
+}
+
+/// Returns the moment now.
+fn moment<R: Clock>(rt: &R) -> Result<Duration, LinkFault> {
+    match rt.monotonic() {
+        Ok(now) => Ok(now),
+        Err(_) => Err(LinkFault::Failed),
+    }
+}
+
+/// How many milliseconds the parts of an exchange may take.
+#[derive(Clone, Copy)]
+struct Times {
+    connecting: u64,
+    sending: u64,
+    reading: u64,
+}
+
+impl Times {
+    /// Returns how long a request to an address may take.
+    fn of(request: &[u8], trial: Trial) -> Times {
+        let longest = if trial == Trial::Short {
+            SHORT_PATIENCE
+        } else {
+            PATIENCE
+        };
+        let reading = if request.starts_with(b"NOTIFY ") {
+            NOTE_PATIENCE
+        } else {
+            PATIENCE
+        };
+        Times {
+            connecting: CONNECTING.min(longest),
+            sending: longest,
+            reading: reading.min(longest),
+        }
+    }
+}
+
+/// Returns whether a request is the first note of a subscription, whose SEQ is 0.
+fn is_first_note(request: &[u8]) -> bool {
+    let (head, _) = request.split_at(request.len().min(PIECE));
+    head.split(|byte| *byte == b'\n')
+        .any(|line| line.trim_ascii() == b"SEQ: 0".as_slice())
+}
+
+/// Sends the request to a near address by a connection of its own, and returns the reply's bytes.
+fn exchange_at<R: Net + Clock>(
+    rt: &R,
+    alloc: Global,
+    address: SocketAddr,
+    times: Times,
+    request: &[u8],
+    limit: usize,
+) -> Result<Vec<u8>, LinkFault>
+    requires near { IsNear (socket_ip address) }
+    ensures { IfOk result (λ reply. length reply.items ≤ limit) }
+{
+    let mut stream = connect(rt, address, times.connecting)?;
+    send(rt, &mut stream, times.sending, request)?;
+    within(gather(rt, alloc, &mut stream, times.reading, limit)?, limit)
 }
 
 /// Returns the reply, if it is not too long.
@@ -95,22 +237,19 @@ fn within(reply: Vec<u8>, limit: usize) -> Result<Vec<u8>, LinkFault>
     Ok(reply)
 }
 
-/// Connects to a near address.
-fn connect<R: Net>(rt: &R, address: SocketAddr) -> Result<R::Stream, LinkFault>
+/// Connects to a near address, within `patience` milliseconds.
+fn connect<R: Net>(rt: &R, address: SocketAddr, patience: u64) -> Result<R::Stream, LinkFault>
     requires near { IsNear (socket_ip address) }
 {
-    match TcpStream::connect_timeout(rt, &address, Duration::from_secs(PATIENCE)) {
+    match TcpStream::connect_timeout(rt, &address, Duration::from_millis(patience)) {
         Ok(stream) => Ok(stream),
         Err(_) => Err(LinkFault::Failed),
     }
 }
 
-/// Returns the time at which what begins now is to have ended.
-fn deadline<R: Clock>(rt: &R) -> Result<Duration, LinkFault> {
-    match rt.monotonic() {
-        Ok(now) => Ok(now.saturating_add(Duration::from_secs(PATIENCE))),
-        Err(_) => Err(LinkFault::Failed),
-    }
+/// Returns the time at which what begins now is to have ended, `patience` milliseconds from now.
+fn deadline<R: Clock>(rt: &R, patience: u64) -> Result<Duration, LinkFault> {
+    Ok(moment(rt)?.saturating_add(Duration::from_millis(patience)))
 }
 
 /// Returns what is left of the time up to the end, which is above 0.
@@ -121,13 +260,14 @@ fn time_left<R: Clock>(rt: &R, end: Duration) -> Result<Duration, LinkFault> {
     }
 }
 
-/// Sends all bytes.
+/// Sends all bytes, within `patience` milliseconds.
 fn send<R: Clock, S: Write + OpenStream>(
     rt: &R,
     stream: &mut S,
+    patience: u64,
     request: &[u8],
 ) -> Result<(), LinkFault> {
-    let end = deadline(rt)?;
+    let end = deadline(rt, patience)?;
     let mut at = 0;
     while at < request.len() {
         let (_, left) = request.split_at(at);
@@ -149,58 +289,92 @@ fn send_piece<S: Write + OpenStream>(
     if stream.set_write_timeout(Some(patience)).is_err() {
         return Err(LinkFault::Failed);
     }
-    match stream.write(piece) {
+    match write_again(stream, piece) {
         Ok(count) if count > 0 => Ok(count),
         _ => Err(LinkFault::Failed),
     }
 }
 
-/// Returns all bytes up to the end. If more come than the limit, it returns more than the limit.
+/// What a read of a reply brought.
+#[derive(Clone, Copy)]
+enum Came {
+    /// This number of bytes, which is above 0.
+    Bytes(usize),
+    /// The end of the stream.
+    End,
+    /// Nothing within the time.
+    Late,
+}
+
+/// Returns the bytes up to the end of the reply, and perhaps some after it. If more come than the limit, it returns more than the
+/// limit. A reply without a body whose head gives no length is whole if nothing more comes within the time.
 fn gather<R: Clock, S: Read + OpenStream>(
     rt: &R,
     alloc: Global,
     stream: &mut S,
+    patience: u64,
     limit: usize,
 ) -> Result<Vec<u8>, LinkFault> {
-    let end = deadline(rt)?;
+    let end = deadline(rt, patience)?;
     let mut bytes = Vec::new(alloc);
-    let mut piece = [0u8; PIECE];
+    let mut framing = Framing::new(Kind::Reply);
     for _ in 0..u64::MAX {
-        let left_time = time_left(rt, end)?;
-        let count = read_piece(stream, left_time, &mut piece)?;
-        if count == 0 {
-            return Ok(bytes);
+        match take_piece(rt, stream, end, &mut bytes)? {
+            Came::Bytes(_) => {}
+            Came::End => return Ok(bytes),
+            Came::Late if framing.is_bare(bytes.len()) => return Ok(bytes),
+            Came::Late => return Err(LinkFault::Failed),
         }
-        put_front(&mut bytes, &piece, count)?;
-        if bytes.len() > limit {
+        if framing.take(bytes.as_slice()) || bytes.len() > limit {
             return Ok(bytes);
         }
     }
     Err(LinkFault::Failed)
 }
 
-/// Appends the first `count` bytes of a piece.
-fn put_front(bytes: &mut Vec<u8>, piece: &[u8], count: usize) -> Result<(), Mem>
-    requires within { count ≤ length piece.now }
-{
-    let (front, _) = piece.split_at(count);
+/// Reads a piece, up to the end of the time, and appends it.
+fn take_piece<R: Clock, S: Read + OpenStream>(
+    rt: &R,
+    stream: &mut S,
+    end: Duration,
+    bytes: &mut Vec<u8>,
+) -> Result<Came, LinkFault> {
+    let mut piece = [0u8; PIECE];
+    let came = match time_left(rt, end) {
+        Ok(left_time) => read_piece(stream, left_time, &mut piece)?,
+        Err(_) => Came::Late,
+    };
+    if let Came::Bytes(count) = came {
+        put_front(bytes, &piece, count)?;
+    }
+    Ok(came)
+}
+
+/// Appends the first `count` bytes of a piece, or all of it.
+fn put_front(bytes: &mut Vec<u8>, piece: &[u8], count: usize) -> Result<(), Mem> {
+    let (front, _) = piece.split_at(count.min(piece.len()));
     bytes.extend_from_slice(front)?;
     Ok(())
 }
 
-/// Reads into the beginning of the buffer, and returns how many bytes came: 0 at the end.
+/// Reads into the beginning of the buffer.
 fn read_piece<S: Read + OpenStream>(
     stream: &mut S,
     patience: Duration,
     into: &mut [u8],
-) -> Result<usize, LinkFault>
-    ensures { IfOk result (λ n. n ≤ length into.old) }
-{
+) -> Result<Came, LinkFault> {
     if stream.set_read_timeout(Some(patience)).is_err() {
         return Err(LinkFault::Failed);
     }
-    match stream.read(into) {
-        Ok(count) => Ok(count),
+    match read_again(stream, into) {
+        Ok(0) => Ok(Came::End),
+        Ok(count) => Ok(Came::Bytes(count)),
+        Err(error) if is_late(error.kind()) => Ok(Came::Late),
         Err(_) => Err(LinkFault::Failed),
     }
+}
+
+/// Returns whether an error says that nothing came in time.
+fn is_late(kind: ErrorKind) -> bool {
+    matches!(kind, ErrorKind::WouldBlock | ErrorKind::TimedOut)
 }

@@ -1,5 +1,7 @@
-//! Connections that came in and wait until their bytes come. What the system says of them is trusted, and no clause speaks of it.
+//! The lobby of a port: connections that came in wait there until their messages have come. What the system says of them is
+//! trusted, and no clause speaks of it.
 
+use crate::waiting::{State, Waiting, first_to_go};
 use mio::net::{TcpListener, TcpStream};
 use mio::{Events, Interest, Poll, Token};
 use std::alloc::Global;
@@ -12,8 +14,8 @@ use std::{io, net};
 /// The largest number of connections that wait.
 const MOST: usize = 256;
 
-/// How many seconds a connection waits without a byte.
-const PATIENCE: u64 = 30;
+/// The largest number of connections that are taken in at once.
+const AT_ONCE: usize = 64;
 
 /// How many milliseconds pass until the next look if connections could not be taken in.
 const PAUSE: u64 = 100;
@@ -24,39 +26,34 @@ const EVENTS: usize = 64;
 /// The token of the port itself. The tokens of connections come after it.
 const PORT: Token = Token(0);
 
-/// A connection that waits.
+/// A connection that need not wait any longer, and the bytes that came of it.
 #[derive(Drop)]
-struct Waiting {
-    token: Token,
-    stream: TcpStream,
-    since: Duration,
-    is_ready: bool,
+pub struct Arrived {
+    pub stream: net::TcpStream,
+    pub bytes: Vec<u8>,
 }
 
-/// What came of a connection.
-#[derive(Clone, Copy)]
-enum Heard {
-    Bytes,
-    Nothing,
-    End,
+/// How taking in ended.
+#[derive(Clone, Copy, PartialEq, Eq)]
+enum Taken {
+    /// All that came were taken in, or there is no room for more.
+    All,
+    /// More may have come.
+    Part,
+    /// The system failed.
+    Failed,
 }
 
-impl Waiting {
-    /// Returns what came of it. Bytes are left for the reader.
-    fn heard(&self) -> Heard {
-        let mut byte = [0u8; 1];
-        match self.stream.peek(&mut byte) {
-            Ok(1) => Heard::Bytes,
-            Err(error) if error.kind() == ErrorKind::WouldBlock => Heard::Nothing,
-            _ => Heard::End,
-        }
-    }
-}
-
-/// The connections at a port that wait until their bytes come, at most 256 of them, the oldest first. One that waits longer than
-/// 30 seconds without a byte is let go. If another comes in and there is no room, the oldest of those without a byte is let go.
+/// The connections at a port that wait until their messages have come, at most 256 of them, the oldest first. What comes is read
+/// without waiting and kept, at most 65,536 bytes of each.
+///
+/// A connection waits no longer once its message is whole or refused, or its peer ended it. One of which no more bytes are kept
+/// comes after all these. One that waits longer than 30 seconds without a byte, or longer than 60 seconds, is let go. If another
+/// comes in and there is no room, one of the address with the most connections is let go: the one that waits longest without a
+/// byte.
 #[derive(Drop)]
 pub struct Lobby {
+    alloc: Global,
     poll: Poll,
     events: Events,
     listener: TcpListener,
@@ -71,6 +68,7 @@ impl Lobby {
         let waiting = Vec::with_capacity(alloc, MOST)?;
         let (poll, listener) = listen(rt, port)?;
         Ok(Lobby {
+            alloc,
             poll,
             events,
             listener,
@@ -84,41 +82,50 @@ impl Lobby {
         Ok(self.listener.local_addr()?.port())
     }
 
-    /// Waits until bytes of a connection have come, and returns it.
-    pub fn next<R: Wait + Clock>(&mut self, rt: &R) -> io::Result<net::TcpStream> {
+    /// Waits until a connection need not wait any longer, and returns it.
+    pub fn next<R: Wait + Clock>(&mut self, rt: &R) -> io::Result<Arrived> {
         for _ in rt.forever() {
             let now = rt.monotonic()?;
-            let is_all = self.take_in(now);
+            let taken = self.take_in(now);
+            self.hear(now);
             self.let_go(now);
-            if let Some(stream) = self.first_ready() {
-                return Ok(stream);
+            if let Some(arrived) = self.next_arrived() {
+                return Ok(arrived);
             }
-            let rest = if is_all {
-                self.patience_left(now)
-            } else {
-                Some(Duration::from_millis(PAUSE))
-            };
+            let rest = self.rest(taken, now);
             self.look(rest)?;
         }
         unreachable!()
     }
 
-    /// Takes in the connections that came, and returns whether these are all.
-    fn take_in(&mut self, now: Duration) -> bool {
-        for _ in 0..MOST {
+    /// Takes in connections that came.
+    fn take_in(&mut self, now: Duration) -> Taken {
+        for _ in 0..AT_ONCE {
+            if !self.make_room() {
+                return Taken::All;
+            }
             match self.listener.accept() {
-                Ok((stream, _)) => self.add(stream, now),
-                Err(error) => return error.kind() == ErrorKind::WouldBlock,
+                Ok((stream, address)) => self.add(stream, address, now),
+                Err(error) if error.kind() == ErrorKind::WouldBlock => return Taken::All,
+                Err(_) => return Taken::Failed,
             }
         }
-        false
+        Taken::Part
+    }
+
+    /// Makes room for one more connection, if there is none. Returns whether there is room.
+    fn make_room(&mut self) -> bool {
+        if self.waiting.len() < MOST {
+            return true;
+        }
+        match first_to_go(self.waiting.as_slice()) {
+            Some(at) => self.take(at).is_some(),
+            None => false,
+        }
     }
 
     /// Has a connection wait. If the system does not watch it, it is let go.
-    fn add(&mut self, mut stream: TcpStream, now: Duration) {
-        if self.waiting.len() >= MOST {
-            self.let_one_go();
-        }
+    fn add(&mut self, mut stream: TcpStream, address: SocketAddr, now: Duration) {
         self.last_token = self.last_token.wrapping_add(1);
         let token = Token(self.last_token);
         let watched = self
@@ -126,19 +133,10 @@ impl Lobby {
             .registry()
             .register(&mut stream, token, Interest::READABLE);
         if watched.is_ok() {
-            let _ = self.waiting.push(Waiting {
-                token,
-                stream,
-                since: now,
-                is_ready: false,
-            });
+            let _ = self
+                .waiting
+                .push(Waiting::new(self.alloc, token, stream, address, now));
         }
-    }
-
-    /// Lets the oldest connection go of which no bytes have come, or the oldest of all.
-    fn let_one_go(&mut self) {
-        let silent = first_of(self.waiting.as_slice(), false);
-        let _ = self.take(silent.unwrap_or(0));
     }
 
     /// Takes the connection at a place out, if there is one.
@@ -150,17 +148,28 @@ impl Lobby {
         }
     }
 
-    /// Lets those go that waited too long without a byte.
-    fn let_go(&mut self, now: Duration) {
-        let patience = Duration::from_secs(PATIENCE);
-        self.waiting
-            .retain(|w| w.is_ready || now.saturating_sub(w.since) < patience);
+    /// Reads what came of the connections.
+    fn hear(&mut self, now: Duration) {
+        for one in self.waiting.iter_mut() {
+            one.hear(now);
+        }
     }
 
-    /// Returns how long the oldest may still wait. `None` if none waits.
-    fn patience_left(&self, now: Duration) -> Option<Duration> {
-        let oldest = self.waiting.first()?;
-        Some(Duration::from_secs(PATIENCE).saturating_sub(now.saturating_sub(oldest.since)))
+    /// Lets those go that ended or waited too long.
+    fn let_go(&mut self, now: Duration) {
+        self.waiting.retain(|one| one.stays(now));
+    }
+
+    /// Returns how long the next look may wait. `None` if nothing needs it.
+    fn rest(&self, taken: Taken, now: Duration) -> Option<Duration> {
+        let is_ready = self.waiting.iter().any(|one| one.state == State::Ready);
+        if is_ready || taken == Taken::Part {
+            Some(Duration::from_secs(0))
+        } else if taken == Taken::Failed {
+            Some(Duration::from_millis(PAUSE))
+        } else {
+            self.waiting.iter().map(|one| one.patience_left(now)).min()
+        }
     }
 
     /// Waits until something happens, at most this long, and marks the connections that it happened to.
@@ -172,39 +181,29 @@ impl Lobby {
         Ok(())
     }
 
-    /// Returns the first connection of which bytes have come. It does not wait here any longer.
-    fn first_ready(&mut self) -> Option<net::TcpStream> {
+    /// Takes the connection out that a worker gets next, if there is one.
+    fn next_arrived(&mut self) -> Option<Arrived> {
         for _ in 0..=MOST {
-            let at = first_of(self.waiting.as_slice(), true)?;
-            if let Some(stream) = self.take_ready(at) {
-                return Some(stream);
+            let at = next_to_come(self.waiting.as_slice())?;
+            if let Some(arrived) = self.hand_over(at) {
+                return Some(arrived);
             }
         }
         None
     }
 
-    /// Takes the connection at a place out if bytes of it have come. If it has ended, it is let go. If nothing happened, it waits
-    /// on.
-    fn take_ready(&mut self, at: usize) -> Option<net::TcpStream> {
-        let waiting = self.waiting.get_mut(at)?;
-        match waiting.heard() {
-            Heard::Bytes => self.hand_over(at),
-            Heard::Nothing => {
-                waiting.is_ready = false;
-                None
-            }
-            Heard::End => {
-                let _ = self.take(at);
-                None
-            }
-        }
-    }
-
     /// Takes the connection at a place out, and ends the watch over it.
-    fn hand_over(&mut self, at: usize) -> Option<net::TcpStream> {
-        let Waiting { mut stream, .. } = self.take(at)?;
+    fn hand_over(&mut self, at: usize) -> Option<Arrived> {
+        let Waiting {
+            mut stream,
+            bytes,
+            ..
+        } = self.take(at)?;
         self.poll.registry().deregister(&mut stream).ok()?;
-        Some(net::TcpStream::from(stream))
+        Some(Arrived {
+            stream: net::TcpStream::from(stream),
+            bytes,
+        })
     }
 }
 
@@ -219,16 +218,25 @@ fn listen<R: Net>(rt: &R, port: u16) -> io::Result<(Poll, TcpListener)> {
     Ok((poll, listener))
 }
 
-/// Returns the place of the first connection of which bytes have come, or of which none have, as `is_ready` says.
-fn first_of(waiting: &[Waiting], is_ready: bool) -> Option<usize> {
-    waiting.iter().position(|one| one.is_ready == is_ready)
+/// Returns the place of the connection that a worker gets next: the first that need not wait any longer, or else the first of
+/// which no more bytes are kept.
+fn next_to_come(waiting: &[Waiting]) -> Option<usize> {
+    match first_in(waiting, State::Done) {
+        Some(at) => Some(at),
+        None => first_in(waiting, State::Full),
+    }
 }
 
-/// Marks the connection of this token.
+/// Returns the place of the first connection in a state.
+fn first_in(waiting: &[Waiting], state: State) -> Option<usize> {
+    waiting.iter().position(|one| one.state == state)
+}
+
+/// Marks the connection of this token, if it is to wait for more.
 fn mark(waiting: &mut [Waiting], token: Token) {
     for one in waiting {
-        if one.token == token {
-            one.is_ready = true;
+        if one.token == token && one.state == State::Idle {
+            one.state = State::Ready;
         }
     }
 }

@@ -5,7 +5,7 @@ ghost use Rattle.std.specs.Prelude.{◌↔◌, IfOk, IsTrue};
 ghost use Rattle.std.specs.Net.Socket.{socket_ip};
 ghost use Rattle.cds_system.specs.Near.{IsNear};
 
-use cds_base::LinkFault;
+use cds_outside::LinkFault;
 use std::alloc::Global;
 use std::net::{IpAddr, SocketAddr};
 use url::{Host, ParseError, Url};

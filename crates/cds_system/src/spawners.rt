@@ -2,7 +2,7 @@
 
 ghost use Rattle.std.specs.Prelude.{◌≡◌};
 
-use cds_base::{Attempt, Failed, Spawner};
+use cds_outside::{Attempt, Failed, Spawner};
 
 /// Starts threads of the system, and counts how often none could be made.
 #[derive(Drop)]

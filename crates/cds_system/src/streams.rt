@@ -3,7 +3,8 @@
 
 ghost use Rattle.std.specs.Prelude.{◌≡◌, None};
 
-use cds_base::{Failed, Sink, Source};
+use crate::retry::{read_again, write_again};
+use cds_outside::{Failed, Sink, Source};
 use std::io::{Read, Write};
 
 /// A reader as a source.
@@ -39,7 +40,7 @@ impl<R: Read + Drop> Source for Input<R> {
     ghost told = { λ s. record { left = None; moved = s.moved; faults = s.faults } };
 
     fn read(&mut self, into: &mut [u8]) -> Result<usize, Failed> {
-        match self.reader.read(into) {
+        match read_again(&mut self.reader, into) {
             Ok(count) => {
                 self.moved = self.moved.saturating_add(count as u64);
                 Ok(count)
@@ -75,7 +76,7 @@ impl<W: Write + Drop> Sink for Output<W> {
         if piece.is_empty() {
             return Ok(0);
         }
-        match self.writer.write(piece) {
+        match write_again(&mut self.writer, piece) {
             Ok(count) if count > 0 => Ok(count),
             _ => {
                 self.faults = self.faults.saturating_add(1);

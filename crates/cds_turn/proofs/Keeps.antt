@@ -136,7 +136,7 @@ module _ {V C T : Type 0} (stands : V → T → List C → Type 0) (start : T) (
         ),
         λ t' mine'. let same : t ≡ t' = cc in inl (
           hit ∙ ap (λ (n : ℕ). n % 2 ^ 64) same,
-          (r.list, value, (λ n. (w, (0, Some value) ∷ empty n)), (λ st e. subst (λ (z : T). stands value z r.list) (sym (f.starts st e)) home.2), f.begun, λ e. lone s r id v at (e ∙ is_all) home.3),
+          (r.list, value, (λ n. (w, (0, Some value) ∷ empty n)), (λ st e. subst (λ (z : T). stands value z r.list) (sym (f.starts st e)) home.2), f.begun, (λ e. lone s r id v at (e ∙ is_all) home.3), (λ e test. sym (all_own s r id v at (e ∙ is_all) test) ∙ ap (count_by test) (lone s r id v at (e ∙ is_all) home.3))),
         ),
       ))
       (λ miss. (me.0, keeps, tt, unchanged s 1 id me k at, λ t' mine'. let same : t ≡ t' = cc in inr ((λ e. miss (e ∙ ap (λ (n : ℕ). n % 2 ^ 64) (sym same))), refl)))

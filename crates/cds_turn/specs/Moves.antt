@@ -1,5 +1,6 @@
 -- What each kind of step tells the seat that makes it: a relation of the seat before, the number found and the seat after.
-use Rattle.std.specs.Prelude.{◌≡◌, ◌≢◌, ◌⊎◌, ℕ, ◌+◌, ◌-◌, ◌%◌, ◌^◌, List, [], ◌∷◌, ◌++◌, length, Option, Some, None, unwrap_or, nat_lt, if◌then◌else◌}
+use Rattle.std.specs.Prelude.{◌≡◌, ◌≢◌, ◌⊎◌, ℕ, ◌+◌, ◌-◌, ◌%◌, ◌^◌, Bool, List, [], ◌∷◌, ◌++◌, length, Option, Some, None, unwrap_or, nat_lt, if◌then◌else◌}
+use Rattle.std.specs.List.{count_by}
 use mathlib.Core.Option.{some}
 use lib.ListN.{get_elem?}
 use Rattle.atomic_table.specs.Table.{Me, Step}
@@ -87,11 +88,12 @@ module _ {C T : Type 0} where
 -- for a turn of `seats` seats
 module _ {V C T : Type 0} (stands : V → T → List C → Type 0) (seats : ℕ) where
   -- The seat has the turn, with the value. The value stands for a list that begins with all that the seat had seen. A seat with
-  -- all passes had seen the whole list
+  -- all passes had seen the whole list, and had appended all of it, counted by any test
   abbrev pub Turns : Me (Option V) (View C T) → Me (Option V) (View C T) → Type 0
   Turns m m' = (found : List C) × (value : V) × (m' ≡ (having m.0 found, (0, Some value) ∷ []))
       × ((start : T) → m.0.start ≡ Some start → stands value start found) × Extends found m.0.seen
       × (m.0.passes ≡ seats → found ≡ m.0.seen)
+      × (m.0.passes ≡ seats → (test : C → Bool) → count_by test m.0.own ≡ count_by test m.0.seen)
 
   -- the turn comes exactly if the number found is the own ticket's modulo 2 ^ 64, and otherwise the seat is as before
   abbrev pub Looks : Step (Option V) → Me (Option V) (View C T) → ℕ → Me (Option V) (View C T) → Type 0

@@ -42,13 +42,15 @@ impl<V: StandsFor + Drop> Turn<V> {
     }
 
     /// Does an act on the value once it is the caller's turn, which may take for ever. The list found begins with all
-    /// that the seat had seen. If the seat has all passes, the list is just that. The answer is one that the act's
-    /// meaning allows for the list found.
+    /// that the seat had seen. If the seat has all passes, the list is just that. Any test then passes as many of the
+    /// seat's own commands as of those that it had seen. The answer is one that the act's meaning allows for the list
+    /// found.
     pub fn with<A: Act<V>, R: Wait>(&self, rt: &R, seat: &mut Seat<V>, act: A) -> A::Out
         requires { IsSeatOf self.now seat.old }
         ensures seat { IsSeatOf self.now seat.new }
         ensures passes { passes_of seat.new ≡ passes_of seat.old }
         ensures turns { turns_of seat.new ≡ turns_of seat.old + 1 }
+        ensures counted { passes_of seat.old ≡ seats_of self.now → (test : V.Command → Bool) → count_by test (own_by seat.old) ≡ count_by test (seen_by seat.old) }
         ensures found { (found : List V.Command) × Extends found (seen_by seat.old)
             × (passes_of seat.old ≡ seats_of self.now → found ≡ seen_by seat.old)
             × A.answers act (start_of self.now seat.old) found result

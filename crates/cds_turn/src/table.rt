@@ -119,6 +119,8 @@ pub(crate) fn enter<V: StandsFor, R: Wait, G: Sharing>(
     ensures stands { V.stands result (V.start lane.now.key.value.value) (found_of place.new) }
     ensures begun { Extends (found_of place.new) place.old.me.0.seen }
     ensures all { place.old.me.0.passes ≡ lane.now.key.seats → found_of place.new ≡ place.old.me.0.seen }
+    ensures counted { place.old.me.0.passes ≡ lane.now.key.seats
+        → (test : V.Command → Bool) → count_by test place.old.me.0.own ≡ count_by test place.old.me.0.seen }
 {
     let ticket = draw(lane, place);
     await_turn::<V, R, G>(rt, lane, place, ticket);

@@ -40,7 +40,7 @@ fn begins_with_zero(digits: &[u8]) -> bool
 }
 
 /// Returns the value of a run of ASCII digits to a base, below 2^64; leading zeros are accepted. Letters may be of either case.
-pub(crate) fn read_digits(base: u32, digits: &[u8]) -> Option<u64>
+pub fn read_digits(base: u32, digits: &[u8]) -> Option<u64>
     requires low { 2 ≤ base }
     requires high { base ≤ 36 }
     ensures { result ≡ number_in_below base (2 ^ 64) digits.now }

@@ -1,6 +1,6 @@
 -- The definition's answer for what is left is that for all. More blocks may come than the limit lets in.
 use Rattle.std.proofs.Common.{◌≡◌, ℕ, ◌-◌, ◌+◌, ◌<◌, ◌≤◌, false, Some, List}
-use Rattle.cds_base.specs.Outside.{Told}
+use Rattle.cds_outside.specs.Outside.{Told}
 use Rattle.cds_flac.specs.Reading.{blocks_from, further_blocks}
 use Rattle.cds_flac.proofs.block.read_blocks.Given as goal
 

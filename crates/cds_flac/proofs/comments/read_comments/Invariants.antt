@@ -1,6 +1,6 @@
 -- The comments so far, and the definition's of what is left behind them, are the definition's of all.
 use Rattle.std.proofs.Common.{◌≡◌, ◌+◌, ◌-◌, ◌≤◌, Some, List, ℕ}
-use Rattle.cds_base.specs.Outside.{Told}
+use Rattle.cds_outside.specs.Outside.{Told}
 use Rattle.cds_flac.specs.Reading.{comments_from}
 use Rattle.cds_flac.proofs.Fronts.{with_front}
 use Rattle.cds_flac.proofs.comments.read_comments.Given as goal

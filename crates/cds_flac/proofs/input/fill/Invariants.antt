@@ -1,6 +1,6 @@
 -- The front of `into` has the bytes so far.
 use Rattle.std.proofs.Common.{length, ◌+◌, ◌-◌, ◌≡◌, ◌≤◌, Some, take, drop}
-use Rattle.cds_base.specs.Outside.{Told}
+use Rattle.cds_outside.specs.Outside.{Told}
 use Rattle.cds_flac.proofs.input.fill.Given as goal
 
 abbrev pub invariant-loop-got : goal.invariant-loop-got

@@ -1,6 +1,6 @@
 -- So many bytes were passed over.
 use Rattle.std.proofs.Common.{length, ◌+◌, ◌-◌, ◌≡◌, ◌≤◌, Some, drop}
-use Rattle.cds_base.specs.Outside.{Told}
+use Rattle.cds_outside.specs.Outside.{Told}
 use Rattle.cds_flac.proofs.input.pass_over.Given as goal
 
 abbrev pub invariant-loop-passed : goal.invariant-loop-passed

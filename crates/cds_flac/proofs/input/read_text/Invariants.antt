@@ -1,6 +1,6 @@
 -- The text so far is the front of the bytes.
 use Rattle.std.proofs.Common.{length, ◌+◌, ◌-◌, ◌≡◌, ◌≤◌, Some, take, drop}
-use Rattle.cds_base.specs.Outside.{Told}
+use Rattle.cds_outside.specs.Outside.{Told}
 use Rattle.cds_flac.proofs.input.read_text.Given as goal
 
 abbrev pub invariant-loop-piece : goal.invariant-loop-piece

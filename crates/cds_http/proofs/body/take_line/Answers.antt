@@ -1,4 +1,4 @@
-use Rattle.cds_http.specs.declared.lines.Place.TheVariants.{InLine}
+use Rattle.cds_http.specs.declared.lines.LinePlace.TheVariants.{InLine}
 use Rattle.cds_http.proofs.Chunking.{goes_line, refuses_line, keeps_line, long_line}
 use Rattle.cds_http.proofs.body.take_line.Goals as goal
 

@@ -1,4 +1,4 @@
-use Rattle.cds_http.specs.declared.lines.Place.TheVariants.{Fresh}
+use Rattle.cds_http.specs.declared.lines.LinePlace.TheVariants.{Fresh}
 use Rattle.cds_http.proofs.Chunking.{goes_trailer, refuses_trailer, keeps_trailer, long_trailer}
 use Rattle.cds_http.proofs.body.take_trailer.Goals as goal
 

@@ -1,4 +1,4 @@
-use Rattle.cds_http.specs.declared.lines.Place.TheVariants.{Before}
+use Rattle.cds_http.specs.declared.lines.LinePlace.TheVariants.{Before}
 use Rattle.cds_http.proofs.StageForms.{takes_front, long_head}
 use Rattle.cds_http.proofs.reader.take_head.Goals as goal
 

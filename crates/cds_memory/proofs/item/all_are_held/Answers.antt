@@ -1,5 +1,5 @@
 use Rattle.std.proofs.Common.{sym, ◌∙◌}
-use Rattle.cds_base.specs.Entries.{is_held}
+use Rattle.cds_outside.specs.Entries.{is_held}
 use Rattle.cds_memory.specs.Folders.{entry_of, entries_of}
 use Rattle.cds_memory.proofs.Items.{all_of_map}
 use Rattle.cds_memory.proofs.item.all_are_held.Goals as goal

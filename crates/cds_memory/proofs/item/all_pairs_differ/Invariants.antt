@@ -1,5 +1,5 @@
 use Rattle.std.proofs.Common.{◌≡◌, length}
-use Rattle.cds_base.specs.Entries.{all_differ}
+use Rattle.cds_outside.specs.Entries.{all_differ}
 use Rattle.cds_memory.specs.Folders.{entries_of}
 use Rattle.cds_memory.proofs.item.all_pairs_differ.Given as goal
 

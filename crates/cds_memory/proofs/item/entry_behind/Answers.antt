@@ -1,6 +1,6 @@
 use Rattle.std.proofs.Common.{sym, subst}
-use Rattle.cds_base.specs.declared.outside.folder.Entry.{Entry}
-use Rattle.cds_base.specs.Entries.{IsEntryBehind}
+use Rattle.cds_outside.specs.declared.folder.Entry.{Entry}
+use Rattle.cds_outside.specs.Entries.{IsEntryBehind}
 use Rattle.cds_memory.specs.Folders.{entries_of}
 use Rattle.cds_memory.proofs.Items.{is_entry_behind}
 use Rattle.cds_memory.proofs.item.entry_behind.Goals as goal

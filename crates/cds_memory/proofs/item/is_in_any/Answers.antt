@@ -1,5 +1,5 @@
 use Rattle.std.proofs.Common.{sym, ◌∙◌}
-use Rattle.cds_base.specs.Entries.{is_parent_of}
+use Rattle.cds_outside.specs.Entries.{is_parent_of}
 use Rattle.cds_memory.specs.Folders.{entry_of}
 use Rattle.cds_memory.proofs.Items.{any_of_map}
 use Rattle.cds_memory.proofs.item.is_in_any.Goals as goal

@@ -1,7 +1,7 @@
 -- Each piece is taken where the last one ended.
 use Rattle.std.proofs.Common.{◌≡◌, ◌+◌, ◌-◌, Some, drop, ap, ◌∙◌, arith}
 use Rattle.std.proofs.lemmas.Result.{on_ok_weaker, IfErr-weaker, err_from_is_err_and}
-use Rattle.cds_base.specs.Outside.{raised}
+use Rattle.cds_outside.specs.Outside.{raised}
 use Rattle.cds_replay.specs.Script.{left_in}
 use Rattle.cds_replay.proofs.Playing.{under-begin, under-piece, under-stops, under-last, under-well, on-ok-any, moved-by, raised-twice}
 use Rattle.cds_replay.proofs.play.play_on.Goals as goal

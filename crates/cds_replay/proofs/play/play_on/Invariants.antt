@@ -1,6 +1,6 @@
 -- So far the bytes that the source gave were taken, and what they add to the report is in the sink.
 use Rattle.std.proofs.Common.{◌≡◌, ℕ, ◌+◌, ◌-◌, ◌≤◌, List, [], Some}
-use Rattle.cds_base.specs.Outside.{raised}
+use Rattle.cds_outside.specs.Outside.{raised}
 use Rattle.cds_replay.specs.Script.{left_in, Sound, GoesOn}
 use Rattle.cds_replay.specs.Replay.{Under}
 use Rattle.cds_replay.proofs.play.play_on.Given as goal

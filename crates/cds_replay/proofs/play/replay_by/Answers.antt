@@ -1,11 +1,11 @@
 -- What the bytes of a source mean as a script over the wire is what the replay of them does.
 use Rattle.std.proofs.Common.{◌+◌, ◌-◌, ◌≤◌, [], Some, None, IfErr, subst}
 use Rattle.std.proofs.lemmas.Result.{on_ok_weaker}
-use Rattle.cds_base.specs.Outside.{raised}
+use Rattle.cds_outside.specs.Outside.{raised}
 use Rattle.cds_script.specs.Lines.{line_limit, script_limit}
 use Rattle.cds_replay.specs.Replay.{OnLimit}
 use Rattle.cds_replay.specs.Script.{stop_text}
-use Rattle.cds_replay.specs.declared.script.Stop.TheVariants.{Outside, Limit as PastLimit, Refused as RefusedAt}
+use Rattle.cds_replay.specs.declared.script.ScriptStop.TheVariants.{Outside, Limit as PastLimit, Refused as RefusedAt}
 use Rattle.cds_replay.proofs.Playing.{ok-told, line-told, limit-told, refused-told, reported, ends-with}
 use Rattle.cds_replay.proofs.play.replay_by.Goals as goal
 

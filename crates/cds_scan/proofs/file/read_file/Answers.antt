@@ -1,6 +1,6 @@
 use Rattle.std.proofs.Common.{ap, ◌∙◌}
-use Rattle.cds_base.specs.Entries.{FolderTold}
-use Rattle.cds_base.specs.Outside.{raised}
+use Rattle.cds_outside.specs.Entries.{FolderTold}
+use Rattle.cds_outside.specs.Outside.{raised}
 use Rattle.cds_scan.proofs.Readings.{reading_told}
 use Rattle.cds_scan.proofs.file.read_file.Goals as goal
 

@@ -1,7 +1,7 @@
 -- The walk from the folder's beginning, and what it found as lists.
 use Rattle.std.proofs.Common.{ℕ, Option, List, sym, subst, ◌∙◌, ap}
-use Rattle.cds_base.specs.declared.outside.folder.Entry.{Entry}
-use Rattle.cds_base.specs.Entries.{FolderTold, Contents}
+use Rattle.cds_outside.specs.declared.folder.Entry.{Entry}
+use Rattle.cds_outside.specs.Entries.{FolderTold, Contents}
 use Rattle.cds_catalog.specs.Laws.{IsLibrary}
 use Rattle.cds_catalog.specs.Library.{FolderMap}
 use Rattle.cds_scan.specs.Found.{Refusals}

@@ -1,6 +1,6 @@
 use Rattle.std.proofs.Common.{◌≡◌, refl, sym, ap, subst, ◌∙◌}
-use Rattle.cds_base.specs.declared.outside.folder.Entry.{Entry}
-use Rattle.cds_base.specs.declared.outside.folder.Entry.TheVariants.{Folder}
+use Rattle.cds_outside.specs.declared.folder.Entry.{Entry}
+use Rattle.cds_outside.specs.declared.folder.Entry.TheVariants.{Folder}
 use Rattle.cds_scan.specs.Outcomes.{IsOutcome, Kept, folder_record}
 use Rattle.cds_scan.specs.Walking.{IsEntryFault, TakesFolder}
 use Rattle.cds_scan.proofs.Steps.{err_exit}

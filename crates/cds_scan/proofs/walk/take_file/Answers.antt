@@ -1,5 +1,5 @@
 use Rattle.std.proofs.Common.{rules, ◌≡◌, true, sym, ap, ◌∙◌}
-use Rattle.cds_base.specs.declared.outside.folder.Entry.TheVariants.{File}
+use Rattle.cds_outside.specs.declared.folder.Entry.TheVariants.{File}
 use Rattle.cds_object.specs.Path.{name_of, path_read}
 use Rattle.cds_scan.specs.Outcomes.{ends_in_flac}
 use Rattle.cds_scan.specs.Walking.{IsEntryFault}

@@ -1,5 +1,5 @@
 use Rattle.std.proofs.Common.{◌≡◌, ◌∙◌, ℕ, true, false, Option, sym, subst, refl, ap}
-use Rattle.cds_base.specs.Entries.{FolderTold, Contents}
+use Rattle.cds_outside.specs.Entries.{FolderTold, Contents}
 use Rattle.cds_scan.specs.Walking.{IsEntryFault, IsStepFault, TakesEntry, is_the_end}
 use Rattle.cds_scan.proofs.Steps.{back_from, ended, ended_whole, err_exit, given_now, next_of, now_given, step_left}
 use Rattle.cds_scan.proofs.walk.take_next.Goals as goal

@@ -1,7 +1,7 @@
 -- One entry more, until the tree ends or there are too many.
 use Rattle.std.proofs.Common.{◌≡◌, Bool, true, false, Option, List, [], ◌∷◌, ◌++◌, length, refl, sym, ap, subst, ◌∙◌, arith, length-append}
-use Rattle.cds_base.specs.declared.outside.folder.Entry.{Entry}
-use Rattle.cds_base.specs.Entries.{FolderTold, Contents}
+use Rattle.cds_outside.specs.declared.folder.Entry.{Entry}
+use Rattle.cds_outside.specs.Entries.{FolderTold, Contents}
 use Rattle.cds_scan.specs.Scanning.{IsRefused}
 use Rattle.cds_scan.specs.Walking.{Ends, IsOver, IsStep, Reached, TakesEntry, TakesNext}
 use Rattle.cds_scan.proofs.Reaching.{reached_later, reached_more, reached_none}

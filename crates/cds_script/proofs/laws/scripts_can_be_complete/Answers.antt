@@ -2,10 +2,10 @@ use lib.Utf8.{encode}
 use Rattle.std.proofs.Common.{◌≡◌, ◌⊎◌, inl, inr, ℕ, zero, suc, List, [], ◌∷◌, ◌++◌, take, drop, false, refl, sym, ap, ◌∙◌, subst, Some, None}
 use Rattle.std.specs.Str.{is_utf8, chars}
 use Rattle.cds_commands.specs.Notes.{Note, first_note, notes_of}
-use Rattle.cds_commands.specs.Evaluated.{added}
+use Rattle.cds_commands.specs.Examples.{added}
 use Rattle.cds_follow.specs.Inbox.{arrival}
-use Rattle.cds_script.specs.declared.turn.Turn.{Turn}
-use Rattle.cds_script.specs.declared.turn.Turn.TheVariants.{Deliver}
+use Rattle.cds_script.specs.declared.turn.ScriptTurn.{ScriptTurn}
+use Rattle.cds_script.specs.declared.turn.ScriptTurn.TheVariants.{Deliver}
 use Rattle.cds_script.specs.Report.{sent_note, played}
 use Rattle.cds_script.specs.Played.{script_turns}
 use Rattle.cds_script.specs.Complete.{is_full, followed_script}
@@ -19,11 +19,11 @@ two-sent a b (suc zero) note e = inl refl
 two-sent a b (suc (suc zero)) note e = inr refl
 two-sent a b (suc (suc (suc n))) note e = let none : None ≡ Some note = sym (sent-place (suc (suc n)) (a ∷ b ∷ [])) ∙ e in absurd (cc)
 
-abbrev turns : List Turn
+abbrev turns : List ScriptTurn
 turns = script_turns followed_script
 
 abbrev Told : ℕ → Note → Type 0
-Told number note = (newer : List Turn) × (older : List Turn) × (turns ≡ newer ++ Deliver number ∷ older) × (is_full (arrival note (played older).replica) ≡ false)
+Told number note = (newer : List ScriptTurn) × (older : List ScriptTurn) × (turns ≡ newer ++ Deliver number ∷ older) × (is_full (arrival note (played older).replica) ≡ false)
 
 some-is : (a b : Note) → Some a ≡ Some b → a ≡ b
 some-is a b e = cc

@@ -2,7 +2,7 @@ use Rattle.std.proofs.Common.{◌≡◌, List, ℕ, Some, None, cond, ◌&&◌, 
 use Rattle.std.specs.Str.{is_utf8}
 use Rattle.std.proofs.lemmas.Str.{is_utf8-from_IsUtf8}
 use Rattle.cds_object.specs.declared.info.Comment.{Comment}
-use Rattle.cds_script.specs.declared.turn.Turn.TheVariants.{Tag}
+use Rattle.cds_script.specs.declared.turn.ScriptTurn.TheVariants.{Tag}
 use Rattle.cds_script.specs.Script.{tag_turn}
 use Rattle.cds_script.proofs.Words.{no-text}
 use Rattle.cds_script.proofs.line.tag_of.Goals as goal

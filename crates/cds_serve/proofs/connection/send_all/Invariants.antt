@@ -1,6 +1,6 @@
 -- So far the front of the text was taken, up to the place that the loop is at, and nothing was read.
 use Rattle.std.proofs.Common.{length, ◌-◌, ◌≡◌, ◌≤◌, Some, ◌++◌, take}
-use Rattle.cds_base.specs.Outside.{Told}
+use Rattle.cds_outside.specs.Outside.{Told}
 use Rattle.cds_serve.proofs.connection.send_all.Given as goal
 
 abbrev pub invariant-pieces : goal.invariant-pieces

@@ -1,19 +1,27 @@
 -- One connection is served by one of its courses.
 use Rattle.std.proofs.Common.{ap, refl}
-use Rattle.cds_base.specs.Outside.{SourceTold}
-use Rattle.cds_turn.specs.Turn.{start_of}
-use Rattle.cds_serve.proofs.Courses.{broken, freed, reads-on, starved, turned-at, writes-from, writes-nothing}
+use Rattle.cds_outside.specs.Outside.{SourceTold}
+use Rattle.cds_turn.specs.Turn.{own_by, start_of}
+use Rattle.cds_serve.proofs.Courses.{asked-given, broken, freed, of-reply, reads-on, starved, turned-at, writes-from, writes-nothing}
 use Rattle.cds_serve.proofs.connection.serve_one.Goals as goal
 
-pub returns-in-Needing-clause-served : goal.returns-in-Needing-clause-served
-returns-in-Needing-clause-served g c =
-    let took = c.with-reply.ensures.found in
-    turned-at (start_of c.args.turn.now c.args.seat.now) _ _ _ _ _ took.0 c.in-Needing.message c.with-reply.result _ c.ask_moment-now.ensures.kept
+pub returns-in-Ok-clause-served : goal.returns-in-Ok-clause-served
+returns-in-Ok-clause-served g c =
+    let took = c.with-answered.ensures.found in
+    let both =
+    asked-given (start_of c.args.turn.now c.args.seat.now) took.0 _ c.in-Needing.message c.in-Ok.asking c.with-answered.result c.reply_of.result
+    c.in-Ok.ensures took.3 c.reply_of.ensures in
+    turned-at (start_of c.args.turn.now c.args.seat.now) _ _ _ _ _ took.0 c.in-Needing.message c.reply_of.result _ c.ask_moment-now.ensures.kept
     (λ bytes told known d. c.in-Needing.ensures.request bytes told known d) (reads-on _ _ _ _ _ (λ piece p. tt) (ap (λ (t : SourceTold). t.left) c.answer.ensures.source_stays) c.in-Needing.ensures.read)
-    took.1 took.2 took.3 took.4 took.5 c.with-reply.ensures.passes c.with-reply.ensures.turns refl
+    took.1 took.2 both.0 (of-reply _ _ _ took.0 took.4 both.1) (of-reply _ _ _ (own_by c.args.seat.now) took.5 both.1) c.with-answered.ensures.passes c.with-answered.ensures.turns refl
     c.ask_moment-now.ensures.moment
     (writes-from _ _ _ _ c.read_request.ensures.sink_stays c.answer.ensures.written)
     c.answer.ensures.given c.answer.ensures.starved c.answer.ensures.noted
+
+pub returns-in-Err-clause-served : goal.returns-in-Err-clause-served
+returns-in-Err-clause-served g c =
+    starved _ _ _ _ _ _ refl refl refl refl (reads-on _ _ _ _ _ (λ piece p. tt) (ap (λ (t : SourceTold). t.left) c.starve.ensures.source_stays) c.in-Needing.ensures.read) c.starve.ensures.starved
+    (writes-from _ _ _ _ c.read_request.ensures.sink_stays c.starve.ensures.written)
 
 pub returns-in-Free-clause-served : goal.returns-in-Free-clause-served
 returns-in-Free-clause-served g c =
@@ -27,5 +35,5 @@ returns-in-Broken-clause-served g c =
 
 pub returns-in-Starved-clause-served : goal.returns-in-Starved-clause-served
 returns-in-Starved-clause-served g c =
-    starved _ _ _ _ _ _ refl refl refl refl (reads-on _ _ _ _ _ (λ piece p. tt) (ap (λ (t : SourceTold). t.left) c.starve.ensures.source_stays) c.in-Starved.ensures.read) c.starve.ensures.starved
-    (writes-from _ _ _ _ c.read_request.ensures.sink_stays c.starve.ensures.written)
+    starved _ _ _ _ _ _ refl refl refl refl (reads-on _ _ _ _ _ (λ piece p. tt) (ap (λ (t : SourceTold). t.left) c.starve-in-Starved.ensures.source_stays) c.in-Starved.ensures.read) c.starve-in-Starved.ensures.starved
+    (writes-from _ _ _ _ c.read_request.ensures.sink_stays c.starve-in-Starved.ensures.written)

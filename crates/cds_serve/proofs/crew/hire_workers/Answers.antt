@@ -1,7 +1,7 @@
 -- One worker more has its share, until there are four.
 use Rattle.std.proofs.Common.{◌≡◌, [], ◌∷◌, ap, sym, subst, ◌∙◌, arith, length, length-append, refl, sum_by}
 use Rattle.std.proofs.lemmas.List.Sums.{sum_by_push}
-use Rattle.cds_base.specs.Told.{unasked_door}
+use Rattle.cds_outside.specs.Told.{unasked_door}
 use Rattle.cds_serve.proofs.Lives.{all-first, all-more, all-shares, shares-next, shares_below}
 use Rattle.cds_serve.proofs.crew.hire_workers.Goals as goal
 
@@ -11,6 +11,7 @@ workers-init g c =
     let many = ap length gives.0 in
     record {
       seat = c.requires.seat;
+      own = refl;
       passes = omega arith;
       count = ap length c.new-workers.ensures.items;
       left = omega (arith, many, c.requires.few);
@@ -18,7 +19,7 @@ workers-init g c =
       shares = rw c.new-workers.ensures.items refl;
       fresh = rw c.new-workers.ensures.items tt;
       others = rw gives.0 c.requires.fresh;
-      turns = rw c.new-workers.ensures.items tt;
+      hired = rw c.new-workers.ensures.items tt;
     }
 
 pub workers-preserved : goal.workers-preserved
@@ -29,9 +30,10 @@ workers-preserved g c =
     let worker = c.in_ok-worker.worker in
     let longer = ap length c.in_ok-push.ensures.items ∙ length-append c.workers.workers.items (worker ∷ []) in
     let both = all-first _ _ _ _ step.0 so.others in
-    let sums = ap (sum_by (λ worker. worker.share)) c.in_ok-push.ensures.items ∙ sum_by_push (λ worker. worker.share) c.workers.workers.items worker in
+    let sums = ap (sum_by (λ worker. worker.post.share)) c.in_ok-push.ensures.items ∙ sum_by_push (λ worker. worker.post.share) c.workers.workers.items worker in
     record {
       seat = c.hire_worker.ensures.seat;
+      own = c.hire_worker.ensures.own ∙ so.own;
       passes = omega (arith, c.in_ok-worker.ensures.passes, so.passes);
       count = omega (arith, longer, so.count);
       left = omega (arith, shorter, so.left);
@@ -39,7 +41,7 @@ workers-preserved g c =
       shares = omega (arith, sums, so.shares, c.in_ok-worker.ensures.share, shares-next c.args.requests c.workers.number);
       fresh = rw c.in_ok-push.ensures.items (all-more _ c.workers.workers.items worker so.fresh (subst (λ door. g.D.Door.told door ≡ unasked_door) (sym c.in_ok-worker.ensures.door) both.0));
       others = both.1;
-      turns = rw c.in_ok-push.ensures.items (all-more _ c.workers.workers.items worker so.turns c.in_ok-worker.ensures.turn);
+      hired = rw c.in_ok-push.ensures.items (all-more _ c.workers.workers.items worker so.hired c.in_ok-worker.ensures.hired);
     }
 
 pub returns-clause-workers : goal.returns-clause-workers

@@ -1,9 +1,11 @@
--- One worker more was joined, and its door came back.
-use Rattle.std.proofs.Common.{◌++◌, [], ◌∷◌, ap, sym, ◌∙◌, append_assoc, arith, le_trans, length}
+-- One worker more was joined, and its door and its seat came back.
+use Rattle.std.proofs.Common.{◌++◌, [], ◌∷◌, ap, sym, ◌∙◌, append_assoc, arith, le_trans, length, length-append}
 use Rattle.std.proofs.lemmas.List.Sums.{sum_by_push}
 use denote.Param.Send.{sendable}
 use Rattle.std.specs.Vec.Iter.{into_iter_items}
-use Rattle.cds_base.specs.Told.{DoorTold, OutsideTold}
+use Rattle.cds_outside.specs.Told.{DoorTold, OutsideTold}
+use Rattle.cds_turn.specs.Turn.{own_by, passes_of}
+use Rattle.cds_serve.proofs.Crews.{answers-more, one-pass}
 use Rattle.cds_serve.proofs.Crossing.{worked-send, worker-send}
 use Rattle.cds_serve.proofs.Lives.{all-from, gave-more, joined-more}
 use Rattle.cds_serve.proofs.crew.join_workers.Goals as goal
@@ -22,15 +24,21 @@ joined-preserved g c =
     let next = into_iter_items c.next.new.self in
     let order = ap (λ l. c.joined.yielded ++ l) (sym step.0) ∙ so.order in
     let fresh = all-from _ _ c.joined.yielded next worker order c.requires.fresh in
+    let hired = all-from _ _ c.joined.yielded next worker order c.requires.hired in
+    let theirs = c.join-door.result.seat in
+    let one = one-pass (passes_of c.join.new.into) (passes_of c.joined.seat) (passes_of theirs) (passes_of worker.seat) c.join.ensures.passes c.join-door.ensures.1 hired.1 in
     let gave = c.join-door.ensures.3 in
     let back = c.end_door.ensures in
     let new : OutsideTold = g.O.Outside.told c.end_door.new.self in
-    let sums = sum_by_push (λ worker. worker.share) c.joined.yielded worker in
+    let sums = sum_by_push (λ worker. worker.post.share) c.joined.yielded worker in
     record {
       order = append_assoc c.joined.yielded (worker ∷ []) next ∙ order;
       iterator = omega (arith, step.1, so.iterator, ap length step.0);
+      seat = c.join.ensures.seat;
+      passes = omega (arith, one, so.passes, length-append c.joined.yielded (worker ∷ []));
+      own = answers-more _ _ (own_by theirs) _ (own_by worker.seat) so.own hired.2 c.join-door.ensures.2 c.join.ensures.own;
       no_more = omega (arith, so.no_more, gave.no_more, c.from-total.ensures, sums);
-      all = rw c.from-total.ensures (joined-more c.joined.total c.join-door.result.served _ worker.share _ _ _ _ _ _ so.all gave.all (ap (λ (t : DoorTold). t.faults) fresh) back.faults so.never_falls back.never_falls sums);
+      all = rw c.from-total.ensures (joined-more c.joined.total c.join-door.result.served _ worker.post.share _ _ _ _ _ _ so.all gave.all (ap (λ (t : DoorTold). t.faults) fresh) back.faults so.never_falls back.never_falls sums);
       connections = rw c.from-total.ensures (gave-more _ _ _ c.joined.total c.join-door.result.served _ _ so.connections (ap (λ (t : DoorTold). t.connections) fresh) gave.gave back.connections);
       never_falls = le_trans so.never_falls back.never_falls;
       others_stay = back.others_stay ∙ ap (λ (t : OutsideTold). record t { faults = new.faults; connections = new.connections }) so.others_stay;

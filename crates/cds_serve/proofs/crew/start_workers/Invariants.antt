@@ -1,7 +1,7 @@
 -- So far the workers before the one that the loop is at were started.
 use Rattle.std.proofs.Common.{◌≡◌, ◌+◌, ◌≤◌, ◌++◌, ℕ, length, vec_capacity}
 use Rattle.std.specs.Vec.Iter.{into_iter_items, into_iter_len}
-use Rattle.cds_base.specs.Outside.{raised}
+use Rattle.cds_outside.specs.Outside.{raised}
 use Rattle.cds_serve.proofs.crew.start_workers.Given as goal
 
 abbrev pub invariant-jobs : goal.invariant-jobs

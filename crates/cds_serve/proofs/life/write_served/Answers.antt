@@ -1,6 +1,6 @@
 -- A line that is made and then written.
 use Rattle.std.proofs.Common.{◌∙◌}
-use Rattle.cds_base.specs.Outside.{Rose}
+use Rattle.cds_outside.specs.Outside.{Rose}
 use Rattle.cds_serve.specs.declared.fault.Fault.TheVariants as fault
 use Rattle.cds_serve.specs.Life.{IsCaused, WritesLine, served_line}
 use Rattle.cds_serve.proofs.Lives.{exit, line-as, line-none}

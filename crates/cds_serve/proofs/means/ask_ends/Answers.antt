@@ -1,8 +1,8 @@
 -- What a worker takes, one after the other.
 use Rattle.std.proofs.Common.{[], ◌∷◌, Ok, Err}
 use Rattle.std.specs.Prelude.{⊤}
-use Rattle.cds_base.specs.Asked.{ForClock, ForLink}
-use Rattle.cds_base.specs.Told.{DoorTold, OutsideTold}
+use Rattle.cds_outside.specs.Asked.{ForClock, ForLink}
+use Rattle.cds_outside.specs.Told.{DoorTold, OutsideTold}
 use Rattle.cds_serve.proofs.Lives.{beside-door, takes-exit, takes-handle, takes-then}
 use Rattle.cds_serve.proofs.means.ask_ends.Goals as goal
 

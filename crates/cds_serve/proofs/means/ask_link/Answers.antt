@@ -1,6 +1,6 @@
 -- One call of the outside.
-use Rattle.cds_base.specs.Asked.{ForLink}
-use Rattle.cds_base.specs.Told.{OutsideTold}
+use Rattle.cds_outside.specs.Asked.{ForLink}
+use Rattle.cds_outside.specs.Told.{OutsideTold}
 use Rattle.cds_serve.proofs.Lives.{asks-one}
 use Rattle.cds_serve.proofs.means.ask_link.Goals as goal
 

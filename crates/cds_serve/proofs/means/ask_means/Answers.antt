@@ -1,7 +1,7 @@
 -- What the jobs take, one after the other.
 use Rattle.std.proofs.Common.{[], ◌∷◌, ◌++◌, Ok, Err}
-use Rattle.cds_base.specs.Asked.{ForClock, ForFolder, ForLink}
-use Rattle.cds_base.specs.Told.{DoorTold, OutsideTold}
+use Rattle.cds_outside.specs.Asked.{ForClock, ForFolder, ForLink}
+use Rattle.cds_outside.specs.Told.{DoorTold, OutsideTold}
 use Rattle.cds_serve.specs.Life.{worker_asks}
 use Rattle.cds_serve.proofs.Lives.{beside-door, takes-exit, takes-ok, takes-then}
 use Rattle.cds_serve.proofs.means.ask_means.Goals as goal

@@ -1,6 +1,6 @@
 -- One call of the outside.
-use Rattle.cds_base.specs.Asked.{ForSpawner}
-use Rattle.cds_base.specs.Told.{OutsideTold}
+use Rattle.cds_outside.specs.Asked.{ForSpawner}
+use Rattle.cds_outside.specs.Told.{OutsideTold}
 use Rattle.cds_serve.proofs.Lives.{asks-one, same-fact}
 use Rattle.cds_serve.proofs.means.ask_spawner.Goals as goal
 

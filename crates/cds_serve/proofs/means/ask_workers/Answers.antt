@@ -1,7 +1,7 @@
 -- One worker more, until there are four.
 use Rattle.std.proofs.Common.{[], ◌∷◌, ◌≡◌, ◌==◌, ◌-◌, length, Ok, Err, inr, ap, sym, subst, ◌∙◌, arith, length-append}
-use Rattle.cds_base.specs.Asked.{ForClock, ForLink}
-use Rattle.cds_base.specs.Told.{DoorTold, OutsideTold}
+use Rattle.cds_outside.specs.Asked.{ForClock, ForLink}
+use Rattle.cds_outside.specs.Told.{DoorTold, OutsideTold}
 use Rattle.cds_serve.specs.Life.{AreFirstWords, worker_asks}
 use Rattle.cds_serve.proofs.Lives.{all-more, first-more, first-there, first-words, takes-as, takes-exit, takes-next, takes-no-memory, takes-none, takes-ok, takes-then, worker-next}
 use Rattle.cds_serve.proofs.means.ask_workers.Goals as goal

@@ -2,7 +2,7 @@
 use Rattle.std.proofs.Common.{◌≡◌, ◌⊎◌, ◌≤◌, ◌-◌, [], length, Ok}
 use Rattle.std.specs.List.{AllByRecursion}
 use Rattle.std.specs.Prelude.{⊤}
-use Rattle.cds_base.specs.Told.{unasked_door}
+use Rattle.cds_outside.specs.Told.{unasked_door}
 use Rattle.cds_serve.specs.Life.{AreFirstWords, OfFirst, Takes, worker_asks}
 use Rattle.cds_serve.proofs.means.ask_workers.Given as goal
 

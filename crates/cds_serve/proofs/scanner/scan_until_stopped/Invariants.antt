@@ -8,7 +8,7 @@ abbrev pub invariant-scans : goal.invariant-scans
 invariant-scans g l = record {
   seat : IsSeatOf l.turn l.seat;
   passes : passes_of l.seat ≡ passes_of l.initial.seat;
-  own : AddsScans (own_by l.initial.seat) (own_by l.seat);
+  own : AddsScans l.counts.accepted (own_by l.initial.seat) (own_by l.seat);
   so_far : ScansSoFar (start_of l.turn l.seat) (passes_of l.seat) (seats_of l.turn)
       (g.F.Folder.told l.initial.folder)
       (g.F.Folder.told l.folder)

@@ -1,6 +1,6 @@
 -- The notes that each address is sent are those of the release.
 use Rattle.std.proofs.Common.{List, ℕ, IfOk, OnErr, map, sym, ap, subst, ◌∙◌}
-use Rattle.cds_base.specs.declared.outside.link.LinkRequest.{LinkRequest}
+use Rattle.cds_outside.specs.declared.link.LinkRequest.{LinkRequest}
 use Rattle.cds_serve.specs.Sent.{GivesEach, GivesFront, note_request, release_requests}
 use Rattle.cds_serve.proofs.sending.send_notes.Goals as goal
 

@@ -1,5 +1,5 @@
 use Rattle.std.proofs.Common.{Some, ap, ◌∙◌}
-use Rattle.cds_base.specs.Links.{requests_after}
+use Rattle.cds_outside.specs.Links.{requests_after}
 use Rattle.cds_serve.proofs.Sends.{after-fault}
 use Rattle.cds_serve.proofs.sending.sent.Goals as goal
 

@@ -1,6 +1,6 @@
 use Rattle.std.proofs.Common.{rules, refl, sym, true≢false}
 use Rattle.cds_server.specs.Outcome.{empty_reply, status_of}
-use Rattle.cds_server.proofs.Done.{cut-result, end-made, end-result}
+use Rattle.cds_server.proofs.Done.{cut-result, end-made, end-result, none-noted}
 use Rattle.cds_server.proofs.events.end.Goals as goal
 
 pub returns-in-Ok-clause-answers : goal.returns-in-Ok-clause-answers
@@ -15,3 +15,6 @@ returns-in-Err-clause-answers c =
     (cut-result _ _ c.args.out.now.items (empty_reply 200) _ (empty_reply (status_of c.in-Err.refusal)) _ (search rules) (search rules)
     c.refused_instead.ensures.ok)
     c.refused_instead.ensures.none c.in-Err.ensures.kept
+
+pub returns-in-Err-clause-none : goal.returns-in-Err-clause-none
+returns-in-Err-clause-none c = none-noted _ c.refused_instead.ensures.none

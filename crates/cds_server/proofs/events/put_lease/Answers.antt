@@ -4,4 +4,4 @@ use Rattle.cds_server.proofs.Done.{lease-can}
 use Rattle.cds_server.proofs.events.put_lease.Goals as goal
 
 pub write_reply-requires : goal.write_reply-requires
-write_reply-requires c = subst CanBeWritten (sym c.in_ok-fields.ensures.fields) (lease-can c.args.sid.0 c.args.seconds c.lease_fields.ensures.few)
+write_reply-requires c = subst CanBeWritten (sym c.in_ok-fields.ensures.fields) (lease-can c.args.lease.sid.0 c.args.lease.seconds c.lease_fields.ensures.few)

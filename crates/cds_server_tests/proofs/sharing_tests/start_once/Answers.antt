@@ -3,7 +3,7 @@ use Rattle.std.proofs.Crossing.{crosses}
 use denote.RattleType.{RattleType}
 use denote.Param.Send.{IsSend, sendable}
 use denote.Param.SendFields.{declared_send}
-use Rattle.cds_base.specs.contracts.outside.gate.NoGate as NoGate
+use Rattle.cds_outside.specs.contracts.gate.NoGate as NoGate
 use Rattle.cds_memory.specs.contracts.clock.MemClock as MemClock
 use Rattle.cds_memory.specs.contracts.folder.MemFolder as MemFolder
 use Rattle.cds_serve.specs.contracts.scanner.Scanner as Scanner

@@ -1,7 +1,7 @@
 -- Each piece goes on where the last one ended.
 use Rattle.std.proofs.Common.{◌≡◌, ℕ, ◌+◌, ◌-◌, ◌≤◌, Some, List, [], ◌++◌, take, drop, ap, sym, ◌∙◌, arith}
 use Rattle.std.proofs.lemmas.Result.{err_from_is_err_and}
-use Rattle.cds_base.specs.Outside.{raised}
+use Rattle.cds_outside.specs.Outside.{raised}
 use Rattle.cds_base.specs.declared.limits.TheConstants.{INPUT_LIMIT}
 use Rattle.cds_subcommands.proofs.Feeding.{SoFar, Coming, goes-on, stops-at, on-limit, moved-by, raised-twice, moved-past, piece-past, piece-within, fed-on, all-fed, none-left}
 use Rattle.cds_subcommands.proofs.checking.feed_all.Goals as goal

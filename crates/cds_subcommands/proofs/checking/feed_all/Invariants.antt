@@ -1,6 +1,6 @@
 -- So far the reader was fed what the source gave.
 use Rattle.std.proofs.Common.{◌≡◌, ℕ, ◌+◌, ◌-◌, ◌≤◌, List, Some}
-use Rattle.cds_base.specs.Outside.{raised}
+use Rattle.cds_outside.specs.Outside.{raised}
 use Rattle.cds_base.specs.declared.limits.TheConstants.{INPUT_LIMIT}
 use Rattle.cds_subcommands.proofs.Feeding.{SoFar, Coming}
 use Rattle.cds_subcommands.proofs.checking.feed_all.Given as goal

@@ -1,5 +1,5 @@
 use Rattle.std.proofs.Common.{ap}
-use Rattle.cds_base.specs.Entries.{FolderTold}
+use Rattle.cds_outside.specs.Entries.{FolderTold}
 use Rattle.cds_subcommands.proofs.Scanned.{can_stand, gives_back, scan_ends, scan_writes}
 use Rattle.cds_subcommands.proofs.scanning.scan_given.Goals as goal
 

@@ -1,4 +1,4 @@
-use Rattle.cds_markup.specs.Running.{is_plain}
+use Rattle.cds_markup.specs.Runs.{is_plain}
 use Rattle.cds_markup.proofs.Quiet.{front_within, front_is, collects, plain_ascii}
 use Rattle.cds_markup.proofs.letters.Letters.push_run.Goals as goal
 

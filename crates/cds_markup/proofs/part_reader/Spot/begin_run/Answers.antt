@@ -7,11 +7,11 @@ pub returns-then-first-eq60 : goal.returns-then-first-eq60
 returns-then-first-eq60 c =
     let s = c.args.self.now in
     rw c.begin_less.ensures
-    (tag_run (reading_of s.place.machine) s.marks s.place.at c.in-Some.first.now c.args.bytes.now c.in-Some._behind.now c.in-Some.ensures.cases.0 c.if-first-eq60.true c.requires.takes c.requires.none c.requires.room)
+    (tag_run (reading_of s.cursor.machine) s.marks s.cursor.at c.in-Some.first.now c.args.bytes.now c.in-Some._behind.now c.in-Some.ensures.cases.0 c.if-first-eq60.true c.requires.takes c.requires.none c.requires.room)
 
 pub returns-then-count-gt0 : goal.returns-then-count-gt0
 returns-then-count-gt0 c =
     let s = c.args.self.now in
     rw c.in-Some.ensures.cases.0
-    (begin_run (reading_of s.place.machine) s.marks s.place.at c.in-Some.first.now c.in_ok-count.count c.in-Some._behind.now c.run.new.self c.requires.takes c.requires.none (rw c.in-Some.ensures.cases.0 at c.requires.room)
+    (begin_run (reading_of s.cursor.machine) s.marks s.cursor.at c.in-Some.first.now c.in_ok-count.count c.in-Some._behind.now c.run.new.self c.requires.takes c.requires.none (rw c.in-Some.ensures.cases.0 at c.requires.room)
     (rw (c.in-Some.ensures.cases.0, c.before-text.ensures) at c.in_ok-count.ensures) (omega (arith, c.if-count-gt0.true)))

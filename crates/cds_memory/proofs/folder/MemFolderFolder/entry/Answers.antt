@@ -1,7 +1,7 @@
 use Rattle.std.proofs.Common.{List, subst}
 use Rattle.std.specs.Bool.{IsTrue}
 use Rattle.cds_memory.specs.declared.item.MemItem.{MemItem}
-use Rattle.cds_base.specs.Entries.{IsEntryBehind, is_new}
+use Rattle.cds_outside.specs.Entries.{IsEntryBehind, is_new}
 use Rattle.cds_memory.specs.Folders.{FolderState, entries_of, given_of}
 use Rattle.cds_memory.proofs.Items.{on_entry, new_behind}
 use Rattle.cds_memory.proofs.folder.MemFolderFolder.entry.Goals as goal

@@ -1,7 +1,7 @@
 -- The reply that was held back: none, a refusal, or a name.
 use Rattle.std.proofs.Common.{◌≡◌, ap, sym, subst, ◌∙◌, Some, Ok, string_bytes}
 use Rattle.cds_replica.specs.State.{ReplicaState}
-use Rattle.cds_script.specs.declared.turn.Turn.TheVariants.{Accept}
+use Rattle.cds_script.specs.declared.turn.ScriptTurn.TheVariants.{Accept}
 use Rattle.cds_replay.specs.Events.{HasSomeStatus}
 use Rattle.cds_replay.specs.Session.{Playing, IsAfter, IsHeldAs, QuietTaken}
 use Rattle.cds_replay.specs.Wired.{played_by}

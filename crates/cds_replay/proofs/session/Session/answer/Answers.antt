@@ -1,7 +1,7 @@
 -- Each turn is that of one function.
 use Rattle.std.proofs.Common.{◌≡◌, ◌∷◌, true, refl, sym, subst, string_bytes}
 use Rattle.std.proofs.lemmas.Result.{on_ok_weaker}
-use Rattle.cds_script.specs.declared.turn.Turn.TheVariants.{Folder, Track, Tag, Scan, Load, Ask, First, At, Subscribe, Accept, Renew, Unsubscribe, Deliver, ReadFault}
+use Rattle.cds_script.specs.declared.turn.ScriptTurn.TheVariants.{Folder, Track, Tag, Scan, Load, Ask, First, At, Subscribe, Accept, Renew, Unsubscribe, Deliver, ReadFault}
 use Rattle.cds_script.specs.Script.{IsInRange}
 use Rattle.cds_replay.specs.Wired.{may_stand_by}
 use Rattle.cds_replay.specs.Session.{IsAfter, TurnTaken, quiet}

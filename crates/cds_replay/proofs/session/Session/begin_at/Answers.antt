@@ -1,6 +1,6 @@
 -- The server begins again.
 use Rattle.std.proofs.Common.{◌≡◌, ◌≤◌, ◌∷◌, sym, subst, arith}
-use Rattle.cds_script.specs.declared.turn.Turn.TheVariants.{First}
+use Rattle.cds_script.specs.declared.turn.ScriptTurn.TheVariants.{First}
 use Rattle.cds_replay.specs.Session.{Playing, IsAfter, quiet}
 use Rattle.cds_replay.specs.declared.last.Last.TheVariants.{NoTurn, Other}
 use Rattle.cds_replay.proofs.Turns.{begin-after}

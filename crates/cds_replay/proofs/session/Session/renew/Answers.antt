@@ -8,7 +8,7 @@ use Rattle.cds_follow.specs.Named.{named}
 use Rattle.cds_http.specs.declared.message.Side.TheVariants.{Request}
 use Rattle.cds_gena.specs.Written.{renewal_text}
 use Rattle.cds_server.specs.Serving.{StandsFor}
-use Rattle.cds_script.specs.declared.turn.Turn.TheVariants.{Renew}
+use Rattle.cds_script.specs.declared.turn.ScriptTurn.TheVariants.{Renew}
 use Rattle.cds_replay.specs.Events.{IsAsked, IsMessage, RepliesTo, event_url}
 use Rattle.cds_replay.specs.Lines.{numbered_line}
 use Rattle.cds_replay.specs.Session.{Playing, IsAfter, quiet, script_names}

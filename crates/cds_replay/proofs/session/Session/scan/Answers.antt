@@ -6,7 +6,7 @@ use Rattle.cds_catalog.specs.History.{end_of}
 use Rattle.cds_catalog.specs.Scans.{scan_answer}
 use Rattle.cds_commands.specs.Commands.{scans_of}
 use Rattle.cds_script.specs.declared.found.Found.{Found}
-use Rattle.cds_script.specs.declared.turn.Turn.TheVariants.{Scan}
+use Rattle.cds_script.specs.declared.turn.ScriptTurn.TheVariants.{Scan}
 use Rattle.cds_script.specs.Report.{first_of, record_of, records_since, scan_text, scanned}
 use Rattle.cds_server.specs.Serving.{Scanned}
 use Rattle.cds_replay.specs.declared.last.Last.TheVariants.{Other}

@@ -5,7 +5,7 @@ use Rattle.cds_commands.specs.Commands.{Command, Start}
 use Rattle.cds_http.specs.declared.message.Side.TheVariants.{Request}
 use Rattle.cds_gena.specs.Written.{subscribe_text}
 use Rattle.cds_server.specs.Serving.{StandsFor}
-use Rattle.cds_script.specs.declared.turn.Turn.TheVariants.{Subscribe}
+use Rattle.cds_script.specs.declared.turn.ScriptTurn.TheVariants.{Subscribe}
 use Rattle.cds_script.specs.Report.{first_of}
 use Rattle.cds_replay.specs.Events.{IsAnswered, IsMessage, event_url, callback_url}
 use Rattle.cds_replay.specs.Lines.{sent_lines}

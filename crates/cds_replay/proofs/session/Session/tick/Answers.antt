@@ -1,7 +1,7 @@
 -- What is due is sent.
 use Rattle.std.proofs.Common.{◌+◌, ◌≤◌, ◌<◌, ◌^◌, drop, sym, ap, subst, ◌∙◌, string_bytes}
 use Rattle.std.proofs.lemmas.Result.{on_ok_weaker}
-use Rattle.cds_script.specs.declared.turn.Turn.TheVariants.{At}
+use Rattle.cds_script.specs.declared.turn.ScriptTurn.TheVariants.{At}
 use Rattle.cds_replay.specs.Lines.{sent_lines}
 use Rattle.cds_replay.specs.Session.{Playing, IsAfter, quiet}
 use Rattle.cds_replay.specs.Wired.{written_on}

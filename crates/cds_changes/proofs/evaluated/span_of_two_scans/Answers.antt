@@ -1,5 +1,0 @@
-use Rattle.std.proofs.Common.{refl}
-use Rattle.cds_changes.proofs.evaluated.span_of_two_scans.Goals as goal
-
-pub returns : goal.returns
-returns c = (refl, refl)

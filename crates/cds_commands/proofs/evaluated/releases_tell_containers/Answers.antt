@@ -1,5 +1,0 @@
-use Rattle.std.proofs.Common.{refl}
-use Rattle.cds_commands.proofs.evaluated.releases_tell_containers.Goals as goal
-
-pub returns : goal.returns
-returns c = refl

@@ -1,5 +1,0 @@
-use Rattle.std.proofs.Common.{refl}
-use Rattle.cds_commands.proofs.evaluated.room_for_64_subscriptions.Goals as goal
-
-pub returns : goal.returns
-returns c = (refl, refl, refl, refl)

@@ -1,5 +1,0 @@
-use Rattle.cds_follow.proofs.Premises.{accepted, given}
-use Rattle.cds_follow.proofs.evaluated.premises_hold.Goals as goal
-
-pub returns : goal.returns
-returns c = (accepted, given)

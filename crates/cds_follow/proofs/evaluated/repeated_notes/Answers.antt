@@ -1,5 +1,0 @@
-use Rattle.std.proofs.Common.{refl}
-use Rattle.cds_follow.proofs.evaluated.repeated_notes.Goals as goal
-
-pub returns : goal.returns
-returns c = (refl, (refl, refl))

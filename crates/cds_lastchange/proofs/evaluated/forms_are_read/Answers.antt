@@ -1,5 +1,0 @@
-use Rattle.cds_lastchange.proofs.Evaluating.{are-read}
-use Rattle.cds_lastchange.proofs.evaluated.forms_are_read.Goals as goal
-
-pub returns : goal.returns
-returns c = are-read

@@ -1,5 +1,0 @@
-use Rattle.cds_markup.proofs.Public.{places-are-one}
-use Rattle.cds_markup.proofs.format_laws.places_are_one.Goals as goal
-
-pub returns : goal.returns
-returns c = places-are-one

@@ -1,0 +1,5 @@
+pub mod Asked
+pub mod Entries
+pub mod Links
+pub mod Outside
+pub mod Told

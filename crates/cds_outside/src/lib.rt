@@ -1,0 +1,26 @@
+//! The outside: streams that may fail, folders, clocks, connections, doors, links and threads.
+#![tactic(auto)]
+
+mod clock;
+mod conn;
+mod door;
+mod exterior;
+mod folder;
+mod gate;
+mod link;
+mod reading;
+mod spawner;
+mod stream;
+mod trace;
+
+pub use clock::Clock;
+pub use conn::Conn;
+pub use door::Door;
+pub use exterior::{Outside, OutsideFault};
+pub use folder::{Entry, Folder, FolderFault};
+pub use gate::{Gate, NoGate};
+pub use link::{Link, LinkFault, LinkRequest};
+pub use reading::{empty_piece, read_piece};
+pub use spawner::{Attempt, Job, Running, Runtime, Spawner};
+pub use stream::{Failed, Sink, Source, write_all};
+pub use trace::Trace;

@@ -1,5 +1,0 @@
-use Rattle.cds_replay.proofs.Replies.{asks-replied}
-use Rattle.cds_replay.proofs.wire_laws.asks_are_replied.Goals as goal
-
-pub returns : goal.returns
-returns c = asks-replied

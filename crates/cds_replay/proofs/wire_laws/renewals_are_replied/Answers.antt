@@ -1,5 +1,0 @@
-use Rattle.cds_replay.proofs.Replies.{renewals-replied}
-use Rattle.cds_replay.proofs.wire_laws.renewals_are_replied.Goals as goal
-
-pub returns : goal.returns
-returns c = renewals-replied

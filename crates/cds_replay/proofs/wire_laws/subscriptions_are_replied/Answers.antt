@@ -1,5 +1,0 @@
-use Rattle.cds_replay.proofs.Replies.{subscriptions-replied}
-use Rattle.cds_replay.proofs.wire_laws.subscriptions_are_replied.Goals as goal
-
-pub returns : goal.returns
-returns c = subscriptions-replied

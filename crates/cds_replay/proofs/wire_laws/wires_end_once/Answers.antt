@@ -1,5 +1,0 @@
-use Rattle.cds_replay.proofs.Once.{ends-once}
-use Rattle.cds_replay.proofs.wire_laws.wires_end_once.Goals as goal
-
-pub returns : goal.returns
-returns c = ends-once

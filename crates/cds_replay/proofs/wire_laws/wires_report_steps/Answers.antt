@@ -1,5 +1,0 @@
-use Rattle.cds_replay.proofs.Steps.{reports-steps}
-use Rattle.cds_replay.proofs.wire_laws.wires_report_steps.Goals as goal
-
-pub returns : goal.returns
-returns c = reports-steps

@@ -1,5 +1,0 @@
-use Rattle.cds_script.proofs.Words.{any-bytes}
-use Rattle.cds_script.proofs.line_laws.any_bytes_can_be_written.Goals as goal
-
-pub returns : goal.returns
-returns c = any-bytes
