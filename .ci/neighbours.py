@@ -474,6 +474,7 @@ def exactly(wanted):
     return str(wanted), lambda got: got == wanted
 
 
+# (a reply to a note has 2 s, so a note behind one that never answers comes a little later than that)
 CASES = [
     ("4 clients with a byte a second: seconds for a request", at_most(2), lambda: beside_slow(4, "127.0.0.1")),
     ("20 such clients, from the same address", at_most(2), lambda: beside_slow(20, "127.0.0.1")),
@@ -498,12 +499,12 @@ CASES = [
     ("hidden folders, `._` files", exactly(4), lambda: listed(hidden)),
     ("a folder removed and put back", exactly([2, 2, 2]), put_back),
     ("descriptors, memory after 1,000 connections", exactly([True, True]), room_after),
-    ("a note beside 3 that never answer: seconds", at_most(2), lambda: note_beside("silent", 3)),
+    ("a note beside 3 that never answer: seconds", at_most(2.5), lambda: note_beside("silent", 3)),
     ("a note beside 3 that answer and stay open", at_most(2), lambda: note_beside("stays open", 3)),
-    ("a note beside 3 that answer slowly", at_most(2), lambda: note_beside("slow", 3)),
+    ("a note beside 3 that answer slowly", at_most(2.5), lambda: note_beside("slow", 3)),
     ("a note beside 3 that close", at_most(2), lambda: note_beside("closes", 3)),
     ("a note beside 3 that reset", at_most(2), lambda: note_beside("resets", 3)),
-    ("a note beside 62 that never answer", at_most(2), lambda: note_beside("silent", 62)),
+    ("a note beside 62 that never answer", at_most(2.5), lambda: note_beside("silent", 62)),
     ("notes to one that answers without a length and stays open", exactly(3), lambda: twice("bare")),
 ]
 
