@@ -66,7 +66,7 @@ help_text =
     ++ codes "  check        read a StateEvent on standard input and write its one written form\n"
     ++ codes "  scan FOLDER  scan a folder of FLAC files and write its catalog and the refused files\n"
     ++ codes "  serve PORT FOLDER REQUESTS\n"
-    ++ codes "               serve a folder of FLAC files over HTTP until so many connections came;\n"
+    ++ codes "               serve a folder of FLAC files over HTTP until REQUESTS connections came;\n"
     ++ codes "               with 4294967295 it goes on until it is interrupted\n"
     ++ codes "  --help       write this page\n"
     ++ codes "  --version    write the version\n\n"

@@ -39,7 +39,7 @@ Commands:
   check        read a StateEvent on standard input and write its one written form
   scan FOLDER  scan a folder of FLAC files and write its catalog and the refused files
   serve PORT FOLDER REQUESTS
-               serve a folder of FLAC files over HTTP until so many connections came;
+               serve a folder of FLAC files over HTTP until REQUESTS connections came;
                with 4294967295 it goes on until it is interrupted
   --help       write this page
   --version    write the version
