@@ -14,6 +14,7 @@ tell() {
 
 # Proves every crate and builds the program. What the toolchain says goes into a file.
 prove() {
+  local log=$crate/out/prove.log
   mkdir -p "$crate/out"
   tell "proving every crate and building the program; this takes most of an hour on a fresh machine ($log has what is said)"
   if (cd "$crate" && rt run -- --version) >"$log" 2>&1 && [ -x "$program" ]; then
@@ -87,6 +88,15 @@ first_of() {
   done
 }
 
+# Says what is wrong with the words of `serve`, by how many words `explain` has.
+word_fault() {
+  if [ "$1" -eq 5 ]; then
+    echo "PORT is a number below 65536 and REQUESTS one below 4294967296, both in digits"
+  else
+    echo "serve takes three words: ./cds serve PORT FOLDER REQUESTS"
+  fi
+}
+
 # Says in one line why the program ended with this status, for these words.
 explain() {
   local status=$1 command=${2-} folder=${3-}
@@ -96,12 +106,14 @@ explain() {
     2,*) echo "standard input could not be read" ;;
     3,*) echo "standard output could not be written" ;;
     4,*) echo "out of memory" ;;
+    5,serve) word_fault "$#" ;;
+    5,check | 5,replay | 5,summary) echo "$command has no further word: it reads standard input, as in ./cds $command < FILE" ;;
     5,*) echo "unknown command, or a word is missing or too many; ./cds --help lists the commands" ;;
     6,scan) limit_fault "$folder" ;;
     6,check) echo "the input has more than 67108864 bytes" ;;
     6,*) echo "the script, or a line of it, is too long" ;;
     7,*) first_of "$(folder_fault "${4-}")" "$(port_fault "$folder")" "a port, a connection or a thread could not be had" ;;
-    8,*) echo "the input is no StateEvent; the place of its first fault is written" ;;
+    8,*) echo "the input is no StateEvent, which is a list of changes; its first fault is at the byte that is written, from 0" ;;
     127,*) echo "the program could not be started" ;;
     *) echo "the program ended with status $status" ;;
   esac
@@ -138,7 +150,7 @@ elif [ "${1-}" = serve ]; then
   tell "the program is not built, and serve needs it; './cds --prove' proves and builds it, which takes most of an hour on a fresh machine"
   exit 127
 else
-  tell "running the sources unproved; './cds --prove' proves and builds the program, which takes most of an hour on a fresh machine"
+  tell "running the sources unproved, which takes a minute or more; './cds --prove' proves and builds the program, in most of an hour"
   if [ $# -eq 2 ] && [ "$1" = scan ]; then
     case $2 in
       /*) ;;

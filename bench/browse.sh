@@ -198,7 +198,7 @@ fn replied(alloc: Global, server: &mut Server, message: &Message) -> Result<Vec<
 #[derive(Clone, Copy)]
 struct Taken {
     bytes: u64,
-    turn: u64,
+    turn: u128,
 }
 
 /// The reply to a message in the three parts that `cds serve` runs, of which only the second one has the turn.
@@ -207,7 +207,7 @@ fn parts(rt: &HostRuntime, server: &mut Server, message: &Message) -> Result<Tak
     let asking = read_asked(alloc, message)?;
     let start = Instant::now(rt)?;
     let answered = server.answer(alloc, 0, &asking)?;
-    let turn = start.elapsed(rt)?.as_nanos() as u64;
+    let turn = start.elapsed(rt)?.as_nanos();
     let text = write_made(alloc, asking, answered.made)?;
     Ok(Taken {
         bytes: text.len() as u64,

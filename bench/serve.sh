@@ -5,7 +5,12 @@
 #   of a page of 256 tracks (goal: at most minidlna's);
 # - that of the last page of 256 of the flat folder against its first (goal: at most 1.2 times);
 # - requests in a second of four clients against one, where `ab` is there (goal: at least 3 times on four processors);
-# - peak memory (goal: at most 43 MiB at 50,000 tracks), and the time from the start to the first Browse that is answered.
+# - peak memory (goal: at most 43 MiB at 50,000 tracks), and the time from the start to the first Browse that is answered;
+# - the longest wait of a small request beside requests of 1 MiB of `<a/>` (goal: at most 20 ms more than alone);
+# - processor time for each byte of `<a/>`, and of attributes and `xmlns:` of one tag (goal: at most 5 times that of plain text);
+# - peak memory of a server of three tracks with four bodies of 16 MiB of `<a/>` at once (goal: at most 300 MiB);
+# - how long after a change a living subscriber has its note, beside 3 and beside 63 dead ones (goal: within 2 s). Some never
+#   answered, others die after their first note.
 # bench/serve.sh [TRACKS]. Needs bash, python3, and the program where it is built.
 set -eu
 top=$(cd "$(dirname "$0")/.." && pwd)
@@ -14,7 +19,7 @@ work=$(mktemp -d)
 trap 'rm -rf "$work"' EXIT
 
 python3 -B - "$work" "$program" "${1:-50000}" <<'PY'
-import html, http.client, os, re, shutil, socket, struct, subprocess, sys, time
+import html, http.client, multiprocessing, os, re, shutil, socket, struct, subprocess, sys, threading, time
 work, program, tracks = sys.argv[1], sys.argv[2], int(sys.argv[3])
 flat = min(8000, tracks // 2)
 TICK = os.sysconf("SC_CLK_TCK")
@@ -53,12 +58,27 @@ def free_port():
         return listener.getsockname()[1]
 
 
-def body(version, ident, start, count):
+def envelope(inside):
     return (
         '<?xml version="1.0"?><s:Envelope xmlns:s="http://schemas.xmlsoap.org/soap/envelope/" s:encodingStyle="http://schemas.xmlsoap.org/soap/encoding/">'
-        f'<s:Body><u:Browse xmlns:u="{SPACE}{version}"><ObjectID>{ident}</ObjectID><BrowseFlag>BrowseDirectChildren</BrowseFlag><Filter>*</Filter>'
-        f"<StartingIndex>{start}</StartingIndex><RequestedCount>{count}</RequestedCount><SortCriteria></SortCriteria></u:Browse></s:Body></s:Envelope>"
+        f"<s:Body>{inside}</s:Body></s:Envelope>"
     )
+
+
+# A Browse, perhaps with something in the tag of the action, and a text after the arguments, which is skipped.
+def body(version, ident, start, count, tag="", beside=""):
+    return envelope(
+        f'<u:Browse xmlns:u="{SPACE}{version}"{tag}><ObjectID>{ident}</ObjectID><BrowseFlag>BrowseDirectChildren</BrowseFlag><Filter>*</Filter>'
+        f"<StartingIndex>{start}</StartingIndex><RequestedCount>{count}</RequestedCount><SortCriteria></SortCriteria>{beside}</u:Browse>"
+    )
+
+
+# A Browse of the root, with so many bytes of `<a/>` in its ObjectID.
+def long_body(size):
+    return body(4, "0" + "<a/>" * (size // 4), 0, 0)
+
+
+NUMBER = envelope(f'<u:GetSystemUpdateID xmlns:u="{SPACE}4"/>')
 
 
 class Server:
@@ -68,15 +88,31 @@ class Server:
         self.port, self.path, self.version, self.root = port, path, version, root
 
     def browse(self, ident, start=0, count=0):
-        peer = http.client.HTTPConnection("127.0.0.1", self.port, timeout=60)
-        fields = {"SOAPACTION": f'"{SPACE}{self.version}#Browse"', "CONTENT-TYPE": 'text/xml; charset="utf-8"'}
-        peer.request("POST", self.path, body(self.version, ident, start, count), fields)
+        return self.ask("Browse", body(self.version, ident, start, count))
+
+    def ask(self, action, text, wait=60):
+        peer = http.client.HTTPConnection("127.0.0.1", self.port, timeout=wait)
+        fields = {"SOAPACTION": f'"{SPACE}{self.version}#{action}"', "CONTENT-TYPE": 'text/xml; charset="utf-8"'}
+        peer.request("POST", self.path, text, fields)
         reply = peer.getresponse()
         text = reply.read().decode()
         peer.close()
         if reply.status != 200:
             raise ValueError(f"{reply.status} {text}")
         return text
+
+    # The number of the last change.
+    def number(self):
+        return int(re.search(r"<Id>(\d+)<", self.ask("GetSystemUpdateID", NUMBER)).group(1))
+
+    # The milliseconds of each of some small requests, one after another.
+    def waits(self, times):
+        taken = []
+        for _ in range(times):
+            begun = time.perf_counter()
+            self.number()
+            taken.append((time.perf_counter() - begun) * 1000)
+        return taken
 
     def first_answer(self):
         while True:
@@ -113,10 +149,102 @@ class Server:
         self.process.wait()
 
 
+# A server of a folder, and what it has at its port.
+def serve(root):
+    port = free_port()
+    return Server([program, "serve", str(port), root, "4294967295"], port, "/control", 4, "0")
+
+
+# A server of three tracks, once it has them.
+def small_server():
+    root = f"{work}/small"
+    shutil.rmtree(root, ignore_errors=True)
+    os.makedirs(root)
+    for n in range(3):
+        with open(f"{root}/{n}.flac", "wb") as file:
+            file.write(metadata(n, 0))
+    server = serve(root)
+    server.first_answer()
+    while server.total("0") < 3:
+        time.sleep(0.01)
+    time.sleep(0.3)
+    return server
+
+
+# Sends such a request again and again.
+def repeat(server, action, text):
+    while True:
+        server.ask(action, text)
+
+
+# A subscriber that takes notes, and answers the first `answers` of them.
+class Subscriber:
+    def __init__(self, server, answers):
+        self.answers, self.moments, self.kept = answers, [], []
+        self.listener = socket.create_server(("127.0.0.1", 0))
+        threading.Thread(target=self.take, daemon=True).start()
+        peer = http.client.HTTPConnection("127.0.0.1", server.port, timeout=60)
+        callback = f"<http://127.0.0.1:{self.listener.getsockname()[1]}/>"
+        peer.request("SUBSCRIBE", "/event", headers={"CALLBACK": callback, "NT": "upnp:event", "TIMEOUT": "Second-1800"})
+        if peer.getresponse().status != 200:
+            raise ValueError("no subscription")
+
+    # Takes notes, one after another. One that is not answered stays open.
+    def take(self):
+        while True:
+            peer, _ = self.listener.accept()
+            got = b""
+            while not got.endswith(b"</e:propertyset>"):
+                got += peer.recv(65536)
+            self.moments.append(time.perf_counter())
+            if len(self.moments) <= self.answers:
+                peer.sendall(b"HTTP/1.1 200 OK\r\nCONTENT-LENGTH: 0\r\n\r\n")
+                peer.close()
+            else:
+                self.kept.append(peer)
+
+
+# Makes all these calls at once, and waits for them.
+def side_by_side(calls):
+    threads = [threading.Thread(target=call) for call in calls]
+    for thread in threads:
+        thread.start()
+    for thread in threads:
+        thread.join()
+
+
+# Nanoseconds of the server's processors for each byte of a body.
+def cost_of_byte(server, text, times):
+    before = server.used()
+    for _ in range(times):
+        server.ask("Browse", text, 600)
+    return (server.used() - before) / times / len(text) * 1e9
+
+
+# How many seconds after a change a living subscriber has its note, behind `dead` others that answer so many notes.
+def note_behind(dead, answers):
+    server = small_server()
+    side_by_side([lambda: Subscriber(server, answers)] * dead)
+    living = Subscriber(server, 100)
+    while not living.moments:
+        time.sleep(0.01)
+    # (the first notes to the last of the others may still wait for their replies)
+    time.sleep(2.5)
+    number = server.number()
+    shutil.copyfile(f"{work}/small/0.flac", f"{work}/small/added.flac")
+    asked = time.perf_counter()
+    while server.number() == number:
+        time.sleep(0.01)
+        asked = time.perf_counter()
+    while len(living.moments) < 2:
+        time.sleep(0.01)
+    server.finish()
+    return living.moments[1] - asked
+
+
 root = f"{work}/music"
 fill(root)
-port = free_port()
-ours = Server([program, "serve", str(port), root, "4294967295"], port, "/control", 4, "0")
+ours = serve(root)
 ours.first_answer()
 print(f"the first Browse was answered {(time.perf_counter() - ours.begun) * 1000:.0f} ms after the start")
 wanted = tracks + 1 + (tracks - flat + 11) // 12
@@ -135,18 +263,45 @@ last, _ = ours.cost(found["flat"], flat - 256, 256, 400)
 print(f"the first page of {count} of {flat}: {first * 1e6:.0f} us; the last: {last * 1e6:.0f} us, {last / first:.2f} times that")
 print(f"peak memory: {ours.most():.1f} MiB")
 
+alone = ours.waits(300)
+loader = multiprocessing.get_context("fork").Process(target=repeat, args=(ours, "Browse", long_body(1 << 20)), daemon=True)
+loader.start()
+time.sleep(0.5)
+beside = ours.waits(300)
+loader.kill()
+loader.join()
+print(f"a small request: at most {max(alone):.1f} ms alone, {max(beside):.1f} ms beside requests of 1 MiB (goal: at most 20 ms more); half of them {sorted(alone)[150]:.1f} and {sorted(beside)[150]:.1f} ms")
+
 if shutil.which("ab"):
     with open(f"{work}/body", "w") as file:
         file.write(body(4, album, 0, 0))
     rates = []
     for clients in (1, 4):
         words = ["ab", "-q", "-n", "8000", "-c", str(clients), "-p", f"{work}/body", "-T", 'text/xml; charset="utf-8"', "-H", f'SOAPACTION: "{SPACE}4#Browse"']
-        said = subprocess.run([*words, f"http://127.0.0.1:{port}/control"], capture_output=True, text=True, check=True).stdout
+        said = subprocess.run([*words, f"http://127.0.0.1:{ours.port}/control"], capture_output=True, text=True, check=True).stdout
         rates.append(float(re.search(r"Requests per second:\s+([\d.]+)", said).group(1)))
     print(f"requests in a second: {rates[0]:.0f} of one client, {rates[1]:.0f} of four, {rates[1] / rates[0]:.2f} times that")
 else:
     print("ab is not there, so no clients run side by side")
 ours.finish()
+
+server = small_server()
+text, idle, begun = long_body(16 << 20), server.most(), time.perf_counter()
+side_by_side([lambda: server.ask("Browse", text, 600)] * 4)
+print(f"four bodies of 16 MiB at once: {server.most():.0f} MiB of memory at the peak (goal: at most 300), {idle:.0f} before; {time.perf_counter() - begun:.1f} s")
+plain = cost_of_byte(server, body(4, "0", 0, 0, beside="x" * (4 << 20)), 40)
+print(f"4 MiB of plain text: {plain:.1f} ns of the server's processors for each byte")
+for kind, text in (
+    ("4 MiB of `<a/>`", long_body(4 << 20)),
+    ("50,000 attributes in one tag", body(4, "0", 0, 0, "".join(f' a{n}=""' for n in range(50000)))),
+    ("50,000 `xmlns:` in one tag", body(4, "0", 0, 0, "".join(f' xmlns:a{n}="x"' for n in range(50000)))),
+):
+    print(f"{kind}: {cost_of_byte(server, text, 4) / plain:.1f} times that (goal: at most 5)")
+server.finish()
+
+for kind, answers in (("never answered", 0), ("die after their first note", 1)):
+    few, many = note_behind(3, answers), note_behind(63, answers)
+    print(f"a note beside subscribers that {kind}: {few:.2f} s after the change beside 3, {many:.2f} s beside 63 (goal: at most 2 s)")
 
 if shutil.which("minidlnad"):
     port = free_port()

@@ -11,3 +11,5 @@ pub mod ItemRead
 pub mod ReadBack
 pub mod Plain
 pub mod CatalogBack
+pub mod KnownNames
+pub mod Forgotten

@@ -1,6 +1,6 @@
 -- The text of a row with the properties that a filter lets through, and a document of such texts (UPnP
 -- ContentDirectory:4 on DIDL-Lite and on the filter). With everything and an empty base it is the text of the report.
-use Rattle.std.specs.Prelude.{◌≡◌, ◌++◌, ℕ, Bool, true, false, Option, Some, None, List, [], codes}
+use Rattle.std.specs.Prelude.{◌≡◌, ◌≤◌, ◌++◌, ℕ, Bool, true, false, Option, Some, None, List, [], codes, length, IfSome}
 use Rattle.std.specs.List.{flat_map}
 use Rattle.std.specs.Fmt.{decimal}
 use Rattle.cds_base.specs.Escape.{escaped}
@@ -11,7 +11,7 @@ use Rattle.cds_object.specs.declared.content.Content.TheVariants.{Folder, Track}
 use Rattle.cds_object.specs.declared.row.Trackers.{Trackers}
 use Rattle.cds_object.specs.Object.{ObjectRow}
 use Rattle.cds_object.specs.Fragment.{if_there, object_attributes, duration_attribute, rate_attribute, item_front, fragment}
-use Rattle.cds_didl.specs.Filter.{wants, wants_either, wants_of_resource, wants_resource}
+use Rattle.cds_didl.specs.Filter.{is_known, filter_of, all_named, wants, wants_either, wants_of_resource, wants_resource}
 
 -- what a filter lets through: everything, or what these names say
 abbrev pub Wanted : Type 0
@@ -123,3 +123,11 @@ didl_text f base rows = didl_start ++ fragments f base rows ++ codes "</DIDL-Lit
 -- the text of the report is that with everything and no base
 abbrev pub ReportIsTheWhole : Type 0
 ReportIsTheWhole = (row : ObjectRow) → fragment_of None [] row ≡ fragment row
+
+-- A filter keeps at most 18 names of its text, and forgets none that an object has a property of. It wants the same known names,
+-- and gives rows and documents the same text, as all names of its text.
+pub record NoNameIsForgotten : Type 0 where
+  pub few : (text : List ℕ) → IfSome (filter_of text) (λ names. length names ≤ 18)
+  pub wanted : (text name : List ℕ) → is_known name ≡ true → wants (filter_of text) name ≡ wants (all_named text) name
+  pub rows : (text base : List ℕ) (row : ObjectRow) → fragment_of (filter_of text) base row ≡ fragment_of (all_named text) base row
+  pub documents : (text base : List ℕ) (rows : List ObjectRow) → didl_text (filter_of text) base rows ≡ didl_text (all_named text) base rows

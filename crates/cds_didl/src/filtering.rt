@@ -1,16 +1,37 @@
 //! The filter that says which properties of objects are written.
 
-ghost use Rattle.std.specs.Prelude.{◌≡◌, ◌==◌, ◌≤◌, IfOk, None, length};
-ghost use Rattle.std.specs.List.{list_any, prefix_len};
-ghost use Rattle.std.specs.Str.{bytes_eq};
-ghost use Rattle.cds_didl.specs.Filter.{without_front, without_back, trimmed, names_of, filter_of, wants, wants_either, wants_resource};
+ghost use Rattle.std.specs.Prelude.{◌≡◌, ◌==◌, ◌≤◌, ◌&&◌, ◌++◌, ◌∷◌, [], not, IfOk, OnOk, None, length, map};
+ghost use Rattle.std.specs.List.{filter_map, prefix_len};
+ghost use Rattle.cds_didl.specs.Filter.{without_front, without_back, trimmed, names_of, has_name, is_known, HaveTheKnown, name_in, known_in, filter_of, wants, wants_either, wants_resource};
 
 use cds_base::{Bytes, Mem, Sequence};
 use std::alloc::Global;
 use std::marker::Model;
 
+/// The names of all properties that a filter can leave out of an object. Of a text's names a filter keeps only these.
+const KNOWN: [&str; 18] = [
+    "@searchable",
+    "container@searchable",
+    "@childCount",
+    "container@childCount",
+    "upnp:objectUpdateID",
+    "upnp:containerUpdateID",
+    "upnp:totalDeletedChildCount",
+    "upnp:artist",
+    "upnp:album",
+    "upnp:genre",
+    "upnp:originalTrackNumber",
+    "res",
+    "res@protocolInfo",
+    "res@size",
+    "res@duration",
+    "res@sampleFrequency",
+    "res@bitsPerSample",
+    "res@nrAudioChannels",
+];
+
 /// Says which properties are written of objects (UPnP ContentDirectory:4 on the filter of Browse and Search). Contracts see the
-/// names that it has, or `None` if it lets everything through.
+/// known names that it has, or `None` if it lets everything through.
 #[derive(Drop, Debug)]
 pub struct Filter {
     names: Option<Sequence<Bytes>>,
@@ -33,7 +54,7 @@ impl Filter {
     }
 
     /// Reads the filter that a text is. `*` lets everything through. Any other text has names with commas between them, and
-    /// spaces around a name are passed over. A name of no property says nothing.
+    /// spaces around a name are passed over. A name of no property says nothing and is not kept, so a filter has at most 18.
     #[tactic(auto, unfolding(crate::specs::Filter::filter_of))]
     pub fn read(alloc: Global, text: &str) -> Result<Self, Mem>
         ensures { IfOk result (λ filter. filter ≡ filter_of text.now) }
@@ -41,7 +62,7 @@ impl Filter {
         if text == "*" {
             return Ok(Filter { names: None });
         }
-        let names = names_of(alloc, text.as_bytes())?;
+        let names = known_names(alloc, text.as_bytes())?;
         Ok(Filter { names: Some(names) })
     }
 
@@ -79,9 +100,44 @@ impl Filter {
 
 /// Returns whether the name is among these.
 fn has_name(names: &[Bytes], name: &[u8]) -> bool
-    ensures { result ≡ list_any (λ n. bytes_eq n name.now) names.now }
+    ensures { result ≡ has_name names.now name.now }
 {
     names.iter().any(|n| n.as_slice() == name)
+}
+
+/// Returns whether an object has a property of this name that a filter can leave out.
+#[tactic(auto, unfolding(crate::specs::Filter::is_known))]
+fn is_known(name: &[u8]) -> bool
+    ensures { result ≡ is_known name.now }
+{
+    KNOWN.iter().any(|known| known.as_bytes() == name)
+}
+
+/// Returns whether a name is known and not yet among these.
+fn is_new(found: &[Bytes], name: &[u8]) -> bool
+    ensures { result ≡ (is_known name.now && not (has_name found.now name.now)) }
+{
+    is_known(name) && !has_name(found, name)
+}
+
+/// Adds a copy of a name.
+fn push_copy(alloc: Global, names: &mut Sequence<Bytes>, name: &[u8]) -> Result<(), Mem>
+    ensures { OnOk result (names.new ≡ names.old ++ name.now ∷ []) }
+{
+    let mut copy = Bytes::new(alloc);
+    copy.extend(name)?;
+    names.push(copy)
+}
+
+/// Adds a copy of a name, if it is known and not yet there.
+fn note(alloc: Global, found: &mut Sequence<Bytes>, name: &[u8]) -> Result<(), Mem>
+    ensures { OnOk result (HaveTheKnown found.new (found.old ++ name.now ∷ [])) }
+{
+    if is_new(found.as_slice(), name) {
+        push_copy(alloc, found, name)
+    } else {
+        Ok(())
+    }
 }
 
 /// Returns whether a byte ends a name.
@@ -91,17 +147,50 @@ fn is_comma(byte: u8) -> bool
     byte == b','
 }
 
-/// Returns the names that a text has between its commas.
-fn names_of(alloc: Global, text: &[u8]) -> Result<Sequence<Bytes>, Mem>
-    ensures { IfOk result (λ names. names ≡ names_of text.now) }
+/// Returns the known names that a text has between its commas, in the order of their first places.
+fn found_names(alloc: Global, text: &[u8]) -> Result<Sequence<Bytes>, Mem>
+    ensures { IfOk result (λ found. HaveTheKnown found (names_of text.now)) }
+{
+    let mut found = Sequence::new(alloc);
+    for part in text.split(|byte| is_comma(*byte)) {
+        note(alloc, &mut found, trimmed(part))?;
+    }
+    Ok(found)
+}
+
+/// Adds a copy of a name, if it was found.
+fn push_found(
+    alloc: Global,
+    names: &mut Sequence<Bytes>,
+    found: &[Bytes],
+    name: &[u8],
+) -> Result<(), Mem>
+    ensures { OnOk result (names.new ≡ names.old ++ filter_map (name_in found.now) (name.now ∷ [])) }
+{
+    if has_name(found, name) {
+        push_copy(alloc, names, name)
+    } else {
+        Ok(())
+    }
+}
+
+/// Returns those of some names that were found, in their order.
+fn in_order(alloc: Global, order: &[&str], found: &[Bytes]) -> Result<Sequence<Bytes>, Mem>
+    ensures { IfOk result (λ names. names ≡ filter_map (name_in found.now) (map (λ n. n.now) order.now)) }
 {
     let mut names = Sequence::new(alloc);
-    for part in text.split(|byte| is_comma(*byte)) {
-        let mut name = Bytes::new(alloc);
-        name.extend(trimmed(part))?;
-        names.push(name)?;
+    for name in order {
+        push_found(alloc, &mut names, found, name.as_bytes())?;
     }
     Ok(names)
+}
+
+/// Returns the known names that a text has between its commas, in the order of `KNOWN`. The text is gone through once.
+fn known_names(alloc: Global, text: &[u8]) -> Result<Sequence<Bytes>, Mem>
+    ensures { IfOk result (λ names. names ≡ known_in (names_of text.now)) }
+{
+    let found = found_names(alloc, text)?;
+    in_order(alloc, &KNOWN, found.as_slice())
 }
 
 /// Returns the text without the spaces before and after it.

@@ -1,13 +1,19 @@
 //! What is proved of the definitions themselves. Calling a function gives its law.
 
 ghost use Rattle.cds_didl.specs.Didl.{OneAnswer};
-ghost use Rattle.cds_didl.specs.Fragment.{ReportIsTheWhole};
+ghost use Rattle.cds_didl.specs.Fragment.{ReportIsTheWhole, NoNameIsForgotten};
 ghost use Rattle.cds_didl.specs.Plain.{ContentsArePlain, RowsArePlain, CatalogsAreReadBack};
 ghost use Rattle.cds_didl.specs.ReadBack.{RowsAreReadBack};
 
 /// The text of a row in a report is the one with the filter of everything and an empty base.
 pub fn report_is_the_whole()
     ensures { ReportIsTheWhole }
+{}
+
+/// A filter keeps at most 18 names of its text, and forgets none that an object has a property of. It wants the same known names,
+/// and gives rows and documents the same text, as all names of its text.
+pub fn no_name_is_forgotten()
+    ensures { NoNameIsForgotten }
 {}
 
 /// Bytes have one answer, rows or one refusal, unless memory ran out.

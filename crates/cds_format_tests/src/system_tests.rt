@@ -1,7 +1,9 @@
 //! Tests of the objects of the system, on loopback: that they can be had, and what no clause says of them.
 
-use crate::made::{MEMORY, answer_next};
-use cds_outside::{Clock, Door, Job, Link, LinkFault, Outside, OutsideFault, Spawner};
+use crate::made::{MEMORY, answer, answer_next};
+use cds_outside::{
+    Clock, Conn, Door, Job, Linger, Link, LinkFault, Outside, OutsideFault, Spawner,
+};
 use cds_system::{RealClock, RealDoor, RealLink, RealOutside, RealSpawner, ahead, near_address};
 use std::alloc::Global;
 use std::io::{Read, Write};
@@ -294,6 +296,25 @@ fn silent_connections_wait_beside_the_door(rt: HostRuntime) {
     check_silent(&rt, rt.alloc(), &mut door, &mut second);
     check_counts(&rt, &door, "the first handle");
     check_counts(&rt, &second, "the second handle");
+}
+
+/// Checks that a client gets its reply and the end of it after its connection was finished, while that is still held.
+fn check_finished<R: Net + Abort, D: Door>(rt: &R, port: u16, door: &mut D, linger: Linger) {
+    let mut peer = client(rt, port, REQUEST);
+    let mut conn = door.accept().expect(rt, "no connection");
+    answer(&mut conn, b"ok").expect(rt, ANSWER);
+    conn.finish(linger);
+    assert!(rt; count_to_end(rt, &mut peer) == 2, "what the peer gets");
+    drop(conn);
+}
+
+#[test]
+fn a_finished_connection_ends_while_it_is_held(rt: HostRuntime) {
+    let mut door = RealDoor::open(rt, rt.alloc(), 0).expect(&rt, "no door");
+    let port = door.port().expect(&rt, "no port");
+    for linger in &[Linger::Never, Linger::WhileSending, Linger::UntilRead] {
+        check_finished(&rt, port, &mut door, *linger);
+    }
 }
 
 /// Answers `shares` connections of its door.

@@ -8,12 +8,12 @@ use Rattle.cds_markup.proofs.Ways.{then-of}
 use Rattle.cds_markup.proofs.Trails.{tree-is}
 
 -- children behind children
-children-end : (m : Meanings) → children_then m Childless ≡ m
+pub children-end : (m : Meanings) → children_then m Childless ≡ m
 children-end Childless = refl
 children-end (TextThen text m) = ap (TextThen text) (children-end m)
 children-end (ChildThen child m) = ap (ChildThen child) (children-end m)
 
-children-twice : (m n k : Meanings) → children_then (children_then m n) k ≡ children_then m (children_then n k)
+pub children-twice : (m n k : Meanings) → children_then (children_then m n) k ≡ children_then m (children_then n k)
 children-twice Childless n k = refl
 children-twice (TextThen text m) n k = ap (TextThen text) (children-twice m n k)
 children-twice (ChildThen child m) n k = ap (ChildThen child) (children-twice m n k)

@@ -1,6 +1,6 @@
 -- Reading a character from its bytes, what is decoded, what a byte and a character do, and what methods answer, from what the methods that they call answer.
-use Rattle.std.proofs.Common.{◌≡◌, ◌==◌, ℕ, ◌<◌, true, false, inl, inr, Option, Some, None, Result, Ok, Err, List, [], ◌∷◌, ◌++◌, length, refl, sym, ap, ◌∙◌, arith, encode_utf8, ◌≤◌, nat_le, subst, ◌+◌, cond, ◌&&◌, Bool, ◌≢◌, zero, suc, drop, slice_get, ◌-◌, nat_lt, IfSome, append_assoc, codes, ◌⊎◌, ◌*◌, ◌/◌, ◌%◌, ◌||◌}
-use Rattle.cds_markup.proofs.Terms.{nat_tests, append-nil, encode_ascii, is_allowed, Whole, More, MachineError, Broken, Deep, Event, Mode, Open, Step, after, begins_character, any_at, step, Reading, reading, moved, may_begin, go_on, byte_step, is_deep, judge, ReadSo, DecodesSo, AsciiSo, ByteSo, WholeSo, JudgedSo, NoCharacter, OutOfMemory, clash, empty-is, no-cons, INPUT_LIMIT, NamespaceRule, TooLong, Token, refusal, MovesSo, TakenSo, Progress, progressed, NextSo, Blanks, RootState, Inside, Epilog, Next, Stuck, On, Done, Given, To, is_content, is_over, landed, inside_move, opens_after, is_last, and-no, RootSo, by-test, NameState, QName, leads, named_or, Agrees, NamedSo, EndTag, begins_with, end_blanks_step, end_name_step, StandsSo, is-spent, some-is, written_name, Attr, TagAttr, OutOfScalarRange, slice_get_within, flat_map-append, tag_attrs, with_name, counted, written_attr, written_attrs, is_within, second_low, second_high, third_high, byte_at, behind_first, two_bytes_at, three_bytes_at, four_bytes_at, tail_at, ok-err, cases}
+use Rattle.std.proofs.Common.{◌≡◌, ◌==◌, ℕ, ◌<◌, true, false, inl, inr, Option, Some, None, Result, Ok, Err, List, [], ◌∷◌, ◌++◌, length, refl, sym, ap, ◌∙◌, arith, encode_utf8, ◌≤◌, nat_le, subst, ◌+◌, cond, ◌&&◌, Bool, ◌≢◌, zero, suc, add-one, drop, take, slice_get, ◌-◌, nat_lt, IfSome, append_assoc, codes, ◌⊎◌, ◌*◌, ◌/◌, ◌%◌, ◌||◌}
+use Rattle.cds_markup.proofs.Terms.{nat_tests, append-nil, encode_ascii, is_allowed, Whole, More, MachineError, Broken, Deep, Event, Mode, Open, Step, after, begins_character, any_at, step, Reading, reading, moved, may_begin, go_on, byte_step, is_deep, judge, ReadSo, DecodesSo, AsciiSo, ByteSo, WholeSo, JudgedSo, NoCharacter, OutOfMemory, clash, empty-is, no-cons, INPUT_LIMIT, NamespaceRule, TooLong, Token, refusal, MovesSo, TakenSo, Progress, progressed, NextSo, Blanks, RootState, Inside, Epilog, Next, Stuck, On, Done, Given, To, is_content, is_over, landed, inside_move, opens_after, is_last, and-no, RootSo, by-test, NameState, QName, leads, named_or, Agrees, NamedSo, EndTag, begins_with, end_blanks_step, end_name_step, StandsSo, StandsUpTo, is-spent, some-is, written_name, Attr, TagAttr, OutOfScalarRange, slice_get_within, flat_map-append, tag_attrs, with_name, counted, written_attr, written_attrs, is_within, second_low, second_high, third_high, byte_at, behind_first, two_bytes_at, three_bytes_at, four_bytes_at, tail_at, ok-err, cases}
 use lib.Utf8.{encode}
 use Rattle.cds_markup.specs.declared.mode.NameStep.TheVariants.{Ends, Breaks}
 
@@ -456,6 +456,19 @@ stands_other name at first byte rest e n =
 
 pub stands_none : (name : List ℕ) (at first : ℕ) (rest : List ℕ) → slice_get name at ≡ None → begins_with (drop at name) (first ∷ rest) ≡ false
 stands_none name at first rest e = rw (get-none name at e) refl
+
+-- as many bytes as stand there
+pub stands_here : (name bytes : List ℕ) (at : ℕ) → StandsUpTo name at bytes at
+stands_here name bytes at = record { count = 0; within = omega arith; stands = (refl, omega arith) }
+
+pub stands_more : (name rest : List ℕ) (at first byte place : ℕ) → slice_get name at ≡ Some byte → byte ≡ first → StandsUpTo name (at + 1) rest place → StandsUpTo name at (first ∷ rest) place
+stands_more name rest at first byte place e f h =
+    let front : take (h.count + 1) (first ∷ rest) ≡ first ∷ take h.count rest = rw add-one refl in
+    record {
+      count = h.count + 1;
+      within = omega (arith, h.within);
+      stands = subst (λ w. StandsSo name at w (Some place)) (sym front) (sym (stands_on name at first byte (take h.count rest) e f) ∙ h.stands.0, omega (arith, h.stands.1));
+    }
 
 -- the end of the name
 pub none_over : (name : List ℕ) (at : ℕ) → slice_get name at ≡ None → is-spent (drop at name) ≡ true

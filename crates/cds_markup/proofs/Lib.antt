@@ -15,8 +15,11 @@ pub mod EachPart
 pub mod NodesForm
 pub mod Built
 pub mod Readings
+pub mod Outlines
 pub mod WrittenTags
 pub mod Public
 pub mod Only
+pub mod SeenNames
+pub mod PrefixPlaces
 pub mod DraftsForm
 pub mod Quiet

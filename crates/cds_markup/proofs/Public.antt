@@ -14,6 +14,7 @@ pub use Rattle.cds_markup.proofs.Built.{start-parts, tree-first, no-misc, no-pro
 pub use Rattle.cds_markup.proofs.Trails.{tree-is}
 pub use Rattle.cds_markup.proofs.WrittenTags.{small-name, without-prefix, behind-prefix, xmlns-name, Stands, TagStands, start-of, end-of}
 pub use Rattle.cds_markup.proofs.DraftsForm.{drafts-are-read}
+pub use Rattle.cds_markup.proofs.Outlines.{outline-name, outline-elements, outline-text}
 
 pub places-are-one : PlacesAreOne
 places-are-one bytes found one other a b = some-is (sym a.place ∙ ap found (parts-are-one bytes a.parts b.parts a.given b.given) ∙ b.place)

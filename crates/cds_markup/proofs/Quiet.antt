@@ -20,6 +20,16 @@ front-all test (b ∷ w) = rw (take_while-cons test b w) (cases (test b) (λ e. 
 pub front_within : (test : ℕ → Bool) (bytes : List ℕ) (n : ℕ) → n ≡ length (take_while test bytes) → n ≤ length bytes
 front_within test bytes n e = omega (arith, e, length-prefix_len test bytes, prefix_len-le-length test bytes)
 
+-- a part of the front
+front-part : (test : ℕ → Bool) (bytes : List ℕ) (n : ℕ) → n ≤ length (take_while test bytes) → list_all test (take n bytes) ≡ true
+front-part test bytes zero h = refl
+front-part test [] (suc n) h = refl
+front-part test (b ∷ w) (suc n) h =
+    let g : suc n ≤ length (cond (test b) (b ∷ take_while test w) []) = subst (λ x. suc n ≤ length x) (take_while-cons test b w) h in
+    cases (test b)
+    (λ e. and-both (test b) (list_all test (take n w)) e (front-part test w n (omega (arith, subst (λ t. suc n ≤ length (cond t (b ∷ take_while test w) [])) e g))))
+    (λ e. absurd (omega (arith, subst (λ t. suc n ≤ length (cond t (b ∷ take_while test w) [])) e g)))
+
 pub front_is : (test : ℕ → Bool) (bytes : List ℕ) (n : ℕ) → n ≡ length (take_while test bytes) → take n bytes ≡ take_while test bytes
 front_is test bytes n e = rw (e ∙ length-prefix_len test bytes) refl
 
@@ -359,8 +369,8 @@ module _ (opens : List Open) (m : Marks) (bytes : List ℕ) (n : ℕ) where
   end-over : (k : ℕ) (text : List ℕ) (count : ℕ) (now : RootState) → EndRuns opens k text count now → (count ≤ length text) × Over (spot (Inside (EndTag k))) (take count text) (spot (Inside now))
   end-over k text count now (inl h) = rw (h.0, h.1) (omega arith, over-none (spot (Inside (EndTag k))))
   end-over k text count now (inr h) =
-      let less = front_within is_written text count h.count in
-      let all = subst (λ w. list_all is_written w ≡ true) (sym (front_is is_written text count h.count)) (front-all is_written text) in
+      let less : count ≤ length text = omega (arith, h.count, front_within is_written text (length (take_while is_written text)) refl) in
+      let all = front-part is_written text count h.count in
       (less, subst (λ x. Over (spot (Inside (EndTag k))) (take count text) (spot (Inside x))) (sym (h.ends ∙ ap (λ j. EndTag j) h.stands.1)) (over-end h.innermost h.outer h.is (take count text) k all h.stands.0))
 
   end-quiet : (k : ℕ) (now : RootState) → EndRuns opens k bytes n now → Quiet (Inside (EndTag k)) (Inside now)

@@ -243,7 +243,7 @@ takes-placed : (before now : PlacedBuilder) (parts : List Part) → Takes places
 takes-placed = takes-all places placing_of placed_by (λ p. refl) (λ a b part more e. ap (λ p. placed_by p more) e)
 
 -- an answer that is so decides the bytes
-decides-read : (bytes : List ℕ) (element : Meaning) → Doc bytes element → Decides bytes (Ok element)
+pub decides-read : (bytes : List ℕ) (element : Meaning) → Doc bytes element → Decides bytes (Ok element)
 decides-read bytes element doc = (doc, λ other d. one-element bytes other element d doc)
 
 decides-refused : (bytes : List ℕ) (e : MarkupError) → IsRefused bytes e → Decides bytes (Err e)
@@ -261,7 +261,7 @@ module _ {S : Type 0} (took : S → Part → S → Type 0) (bytes : List ℕ) (b
   told-refused Mem t = tt
   told-refused other (parts, answer, tells, some, takes, same) = decides-refused bytes other (subst (λ a. Tells bytes a [] parts) (sym same) tells).3
 
-  told-read : TellsTo took (λ s. false) bytes (Ok tt) before now → Takes took (λ s. false) before (parts_in bytes) now × (element : Meaning) × Doc bytes element
+  pub told-read : TellsTo took (λ s. false) bytes (Ok tt) before now → Takes took (λ s. false) before (parts_in bytes) now × (element : Meaning) × Doc bytes element
   told-read (parts, answer, tells, some, takes, same) =
       let t = subst (λ a. Tells bytes a [] parts) (sym same) tells in
       (subst (λ ps. Takes took (λ s. false) before ps now) (t.1 ∙ parts-are-one bytes t.0 (parts_in bytes) t.2 (parts-are-given bytes)) takes, t.3, t.4)

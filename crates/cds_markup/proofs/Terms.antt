@@ -70,7 +70,7 @@ pub use Rattle.cds_markup.specs.Reads.{AsciiSo, ByteSo, JudgedSo, Passed, Progre
 pub use Rattle.cds_markup.specs.References.{base_of, entity_step, number_step, step_reference, with_digit}
 pub use Rattle.cds_markup.specs.Refusal.{Breaks, BreaksAt, BreaksRule, CanGoOn, EndsShort, IsBad, IsFirst, IsRefused, IsTooDeep, LeafEnds, Opens, Refuses, TagEnds, TextByte, scopes_of}
 pub use Rattle.cds_markup.specs.Delimiters.{brackets_with, closes_section, step_comment, step_section, without_brackets}
-pub use Rattle.cds_markup.specs.Steps.{DecodesSo, MovesSo, ReadSo, StandsSo, RootSo, opens_after, is_last, Agrees, NamedSo, is_over as is-spent}
+pub use Rattle.cds_markup.specs.Steps.{DecodesSo, MovesSo, ReadSo, StandsSo, StandsUpTo, RootSo, opens_after, is_last, Agrees, NamedSo, is_over as is-spent}
 pub use Rattle.cds_markup.specs.Tags.{ends_tag, spaced_step, step_tag, tag_named, tagged_step, with_attr}
 pub use Rattle.cds_markup.specs.Tellings.{NextSo, Puts, Telling, Told, ToldSo, begin_telling, behind_parts, judged_told, last_parts, listed, moved_on, telling, told, told_byte, told_byte_within, told_from, told_on, told_piece, told_within, shown, telling_of, telling_in}
 pub use Rattle.cds_markup.specs.Taking.{Answered, Takes as TakesAll, unless_enough}

@@ -1,6 +1,6 @@
 -- What any bytes are answered, and the parts that are given of them, as functions of the bytes. Crates above know what the laws
 -- say of these, and compute them on bytes that are written out.
-use Rattle.std.specs.Prelude.{ℕ, Bool, true, false, Result, Ok, Err, List}
+use Rattle.std.specs.Prelude.{ℕ, Bool, true, false, Result, Err, List}
 use Rattle.cds_markup.specs.declared.part.Part.{Part}
 use Rattle.cds_markup.specs.declared.error.MarkupError.{MarkupError}
 use Rattle.cds_markup.specs.declared.error.MarkupError.TheVariants.{Mem}

@@ -2,6 +2,8 @@ pub mod Taking
 pub mod Form
 pub mod Grammar
 pub mod Namespaces
+pub mod NamesSeen
+pub mod Prefixes
 pub mod Document
 pub mod Refusal
 pub mod Parts
@@ -40,5 +42,7 @@ pub mod Examples
 pub mod Children
 pub mod ChildPlaces
 pub mod Placed
+pub mod Outline
+pub mod Outlining
 pub mod Reader
 pub mod Drafts

@@ -162,7 +162,7 @@ pub record HasEnd (opens : List Open) (k : ℕ) (bytes : List ℕ) (n : ℕ) (no
   pub innermost : Open
   pub outer : List Open
   pub is : opens ≡ innermost ∷ outer
-  pub count : n ≡ length (take_while is_written bytes)
+  pub count : n ≤ length (take_while is_written bytes)
   pub place : ℕ
   pub stands : StandsSo (name_bytes innermost.name) k (take n bytes) (Some place)
   pub ends : now ≡ EndTag place

@@ -1,5 +1,5 @@
 -- What a method of a machine answers beside the step of the definitions, with the state that it leaves. `Mem` says nothing.
-use Rattle.std.specs.Prelude.{◌≡◌, ◌==◌, ℕ, ◌+◌, Bool, true, false, Option, Some, None, Result, Ok, Err, List, [], ◌∷◌, drop, length, ⊤}
+use Rattle.std.specs.Prelude.{◌≡◌, ◌==◌, ℕ, ◌+◌, ◌≤◌, Bool, true, false, Option, Some, None, Result, Ok, Err, List, [], ◌∷◌, take, drop, length, ⊤}
 use Rattle.cds_base.specs.declared.mem.Mem.{Mem as CommonMem}
 use Rattle.cds_markup.specs.declared.mode.AttributeState.{AttributeState}
 use Rattle.cds_markup.specs.declared.mode.AttributeState.TheVariants.{Value}
@@ -88,6 +88,12 @@ IsBegun c (Err e) = ⊤
 abbrev pub StandsSo : List ℕ → ℕ → List ℕ → Option ℕ → Type 0
 StandsSo name at bytes None = begins_with (drop at name) bytes ≡ false
 StandsSo name at bytes (Some behind) = (begins_with (drop at name) bytes ≡ true) × (behind ≡ at + length bytes)
+
+-- The place after the first bytes that stand at a place of a name.
+pub record StandsUpTo (name : List ℕ) (at : ℕ) (bytes : List ℕ) (place : ℕ) : Type 0 where
+  pub count : ℕ
+  pub within : count ≤ length bytes
+  pub stands : StandsSo name at (take count bytes) (Some place)
 
 -- A tag that begins with a character.
 abbrev pub BeginsTag : ℕ → Result StartTagState MachineError → Type 0

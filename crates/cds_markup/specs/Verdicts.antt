@@ -1,9 +1,9 @@
 -- What the machine answers to any bytes.
-use Rattle.std.specs.Prelude.{◌≡◌, ◌≢◌, ◌⊎◌, ℕ, Result, Ok, Err, List}
+use Rattle.std.specs.Prelude.{◌≡◌, ◌≢◌, ℕ, Result, Ok, Err, List}
 use Rattle.cds_markup.specs.declared.error.MarkupError.{MarkupError}
 use Rattle.cds_markup.specs.declared.error.MarkupError.TheVariants.{Mem}
 use Rattle.cds_markup.specs.Document.{Meaning, Doc}
-use Rattle.cds_markup.specs.Refusal.{CanGoOn, BreaksAt, IsRefused}
+use Rattle.cds_markup.specs.Refusal.{IsRefused}
 use Rattle.cds_markup.specs.Bytes.{answer_of}
 
 -- A document of some element, or a refusal that stands against the bytes.

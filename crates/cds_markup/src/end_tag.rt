@@ -2,7 +2,7 @@
 
 ghost use Rattle.std.specs.Prelude.{◌≡◌, ◌<◌, ◌+◌, ◌^◌, IfSome, drop, slice_get, encode_utf8};
 ghost use Rattle.cds_markup.specs.Grammar.{name_bytes};
-ghost use Rattle.cds_markup.specs.Steps.{StandsSo, is_over};
+ghost use Rattle.cds_markup.specs.Steps.{StandsSo, StandsUpTo, is_over};
 
 use crate::tag::QName;
 
@@ -57,6 +57,28 @@ pub fn name_goes_on(name: &QName, at: usize, bytes: &[u8]) -> Option<usize>
         left = rest;
     }
     Some(at)
+}
+
+/// Returns the place after the first of these bytes that stand at this place of the name as it is written.
+#[tactic(auto, using(crate::proofs::Decoded::stands_here))]
+pub fn place_behind(name: &QName, at: usize, bytes: &[u8]) -> usize
+    ensures { StandsUpTo (name_bytes name.now) at bytes.now result }
+{
+    let mut at = at;
+    let mut left = bytes;
+    while let Some((first, rest)) = left.split_first() {
+        match byte_of_name(name, at) {
+            Some(byte) => {
+                if byte != *first {
+                    return at;
+                }
+                at += 1;
+            }
+            None => return at,
+        }
+        left = rest;
+    }
+    at
 }
 
 /// Returns the place after the character, if it stands at this place of the name as it is written.

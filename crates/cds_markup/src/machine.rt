@@ -12,8 +12,9 @@ ghost use Rattle.cds_markup.specs.Reads.{reading_of, AsciiSo, ByteSo, TaggedSo, 
 use crate::error::MachineError;
 use crate::event::Event;
 use crate::mode::{Misc, Mode, RootState};
+use crate::prefixes::Scope;
 use crate::scope::{declarations, tag_says};
-use crate::tag::{Declaration, Open, QName, Tag, TagAttr};
+use crate::tag::{Open, QName, Tag, TagAttr};
 use crate::token::Token;
 use crate::utf8::{Decoded, decode};
 use crate::wide_characters::may_begin_name;
@@ -124,8 +125,8 @@ impl Machine {
     fn tag(
         &self,
         alloc: Global,
-        declared: &[Declaration],
-        prefix: &str,
+        declared: &Scope,
+        prefix: &Text,
         local: Text,
         attrs: Sequence<TagAttr>,
     ) -> Result<(Name, Attrs), MachineError>
@@ -147,13 +148,7 @@ impl Machine {
         let Tag { name, attrs } = tag;
         let local = name.local.copy(alloc)?;
         let declared = declarations(alloc, attrs.as_slice())?;
-        let (said, attrs) = self.tag(
-            alloc,
-            declared.as_slice(),
-            name.prefix.as_str(),
-            local,
-            attrs,
-        )?;
+        let (said, attrs) = self.tag(alloc, &declared, &name.prefix, local, attrs)?;
         let open = Open { name, declared };
         if self.opens.insert(0, open).is_err() {
             return Err(MachineError::Mem);
@@ -168,7 +163,7 @@ impl Machine {
         let Tag { name, attrs } = tag;
         let declared = declarations(alloc, attrs.as_slice())?;
         let QName { prefix, local } = name;
-        let (name, attrs) = self.tag(alloc, declared.as_slice(), prefix.as_str(), local, attrs)?;
+        let (name, attrs) = self.tag(alloc, &declared, &prefix, local, attrs)?;
         Ok(Event::Empty(name, attrs))
     }
 

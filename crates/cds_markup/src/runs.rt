@@ -9,7 +9,7 @@ ghost use Rattle.cds_markup.specs.Runs.{Passes, takes_letters, ValueRuns, AttrRu
 ghost use Rattle.cds_markup.specs.Namespaces.{is_empty};
 ghost use Rattle.cds_markup.specs.Reads.{reading_of};
 
-use crate::end_tag::name_goes_on;
+use crate::end_tag::place_behind;
 use crate::letters::{Letters, ascii_text};
 use crate::machine::{MOST_OPEN, Machine};
 use crate::mode::{AttributeState, Misc, Mode, NameState, RootState, StartTagState, ValueState};
@@ -172,7 +172,8 @@ impl RootState {
         self.go_to(RootState::EndTag(n));
     }
 
-    /// Goes over to an end tag, after `n` bytes of its name, and passes over more of them. Returns how many.
+    /// Goes over to an end tag, after `n` bytes of its name, and passes over more of them. It stops at the first byte that is not
+    /// the name's, and returns how many bytes are before it.
     fn end_run(&mut self, opens: &[Open], n: usize, bytes: &[u8]) -> usize
         ensures within { result ≤ length bytes.now }
         ensures ends { EndRuns opens.now n bytes.now result self.new }
@@ -181,14 +182,10 @@ impl RootState {
         let Some((innermost, _outer)) = opens.split_first() else {
             return 0;
         };
-        let count = Plain::Written.run(bytes);
-        match name_goes_on(&innermost.name, n, bytes.split_at(count).0) {
-            Some(behind) => {
-                self.end_at(behind);
-                count
-            }
-            None => 0,
-        }
+        let written = bytes.split_at(Plain::Written.run(bytes)).0;
+        let behind = place_behind(&innermost.name, n, written);
+        self.end_at(behind);
+        behind.saturating_sub(n)
     }
 
     /// Passes over an element's name as `name_run` does, or over the slash of an end tag and bytes of its name. Returns how many

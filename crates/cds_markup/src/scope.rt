@@ -1,18 +1,26 @@
 //! Names with their namespaces, and the rules of start tags (Namespaces in XML).
 
-ghost use Rattle.std.specs.Prelude.{◌≡◌, ◌∷◌, Some, [], IfOk};
-ghost use Rattle.std.specs.Str.{bytes_eq};
+ghost use Rattle.std.specs.Prelude.{◌≡◌, ◌∷◌, Some, [], not, IfOk, OnOk};
 ghost use Rattle.std.specs.List.{list_all, list_any};
-ghost use Rattle.cds_markup.specs.Namespaces.{declares_default, declares_prefix, is_declaration, declaration, declarations, is_sound, declared, declared_in, space_of, in_space, attr_name, with_value, named_attrs, same_qname, same_name, no_attr_twice, no_name_twice, tag_says};
+ghost use Rattle.cds_markup.specs.Namespaces.{declares_default, declares_prefix, is_declaration, declaration, declarations, is_sound, declared_in, space_of, in_space, attr_name, with_value, named_attrs, same_qname, same_name, no_attr_twice, no_name_twice, tag_says};
 ghost use Rattle.cds_markup.specs.Bytes.{scopes_in};
+ghost use Rattle.cds_markup.specs.NamesSeen.{has_seen, Sees};
 
+use crate::prefixes::Scope;
 use crate::tag::{Declaration, Open, QName, TagAttr};
 use crate::{Attr, Attrs, Name};
 use cds_base::{Mem, Sequence, Text};
 use std::alloc::Global;
+use std::collections::BTreeSet;
 
 /// The namespace of the prefix `xml` (Namespaces in XML).
 pub const XML_SPACE: &str = "http://www.w3.org/XML/1998/namespace";
+
+/// The most attributes whose names are compared in pairs. The names of more are looked up, since a tag may have thousands.
+const MOST_IN_PAIRS: usize = 16;
+
+/// Names that were seen in a tag: the local names, each with its prefix or with its namespace.
+type Seen<'a> = BTreeSet<(&'a str, &'a str)>;
 
 /// Returns whether an attribute of this name declares the namespace of names without a prefix.
 fn declares_default(name: &QName) -> bool
@@ -49,7 +57,7 @@ fn declaration(alloc: Global, attr: &TagAttr) -> Result<Declaration, Mem>
 }
 
 /// Returns what these attributes declare.
-pub fn declarations(alloc: Global, attrs: &[TagAttr]) -> Result<Sequence<Declaration>, Mem>
+pub fn declarations(alloc: Global, attrs: &[TagAttr]) -> Result<Scope, Mem>
     ensures { IfOk result (λ found. found ≡ declarations attrs.now) }
 {
     let mut found = Sequence::new(alloc);
@@ -59,7 +67,7 @@ pub fn declarations(alloc: Global, attrs: &[TagAttr]) -> Result<Sequence<Declara
             found.push(one)?;
         }
     }
-    Ok(found)
+    Scope::of(alloc, found)
 }
 
 /// Returns whether the declaration may be made. It may declare neither `xml` nor `xmlns`, nor a prefix as empty.
@@ -101,8 +109,8 @@ fn has_qname(attr: &TagAttr, others: &[TagAttr]) -> bool
         .any(|other| same_qname(&attr.name, &other.name))
 }
 
-/// Returns whether no qualified name comes twice.
-fn no_attr_twice(attrs: &[TagAttr]) -> bool
+/// Returns whether no qualified name comes twice. Each two are compared.
+fn few_attrs_differ(attrs: &[TagAttr]) -> bool
     ensures { result ≡ no_attr_twice attrs.now }
 {
     let mut left = attrs;
@@ -115,6 +123,40 @@ fn no_attr_twice(attrs: &[TagAttr]) -> bool
     true
 }
 
+/// Adds a name with this prefix or namespace. Returns whether it was not seen before.
+fn see<'a>(seen: &mut Seen<'a>, space: &'a Text, local: &'a Text) -> Result<bool, Mem>
+    ensures new { IfOk result (λ new. new ≡ not (has_seen seen.old space.now local.now)) }
+    ensures seen { OnOk result (Sees seen.old seen.new space.now local.now) }
+{
+    let new = seen.insert((local.as_str(), space.as_str()))?;
+    Ok(new)
+}
+
+/// Returns whether no qualified name comes twice. Each is looked up among those before it.
+fn many_attrs_differ(alloc: Global, attrs: &[TagAttr]) -> Result<bool, Mem>
+    ensures { IfOk result (λ found. found ≡ no_attr_twice attrs.now) }
+{
+    let mut seen = BTreeSet::new(alloc);
+    for attr in attrs {
+        let new = see(&mut seen, &attr.name.prefix, &attr.name.local)?;
+        if !new {
+            return Ok(false);
+        }
+    }
+    Ok(true)
+}
+
+/// Returns whether no qualified name comes twice.
+fn no_attr_twice(alloc: Global, attrs: &[TagAttr]) -> Result<bool, Mem>
+    ensures { IfOk result (λ found. found ≡ no_attr_twice attrs.now) }
+{
+    if attrs.len() <= MOST_IN_PAIRS {
+        Ok(few_attrs_differ(attrs))
+    } else {
+        many_attrs_differ(alloc, attrs)
+    }
+}
+
 /// Returns whether one of the others has the attribute's name.
 fn has_name(attr: &Attr, others: &[Attr]) -> bool
     ensures { result ≡ list_any (λ b. same_name attr.now.name b.name) others.now }
@@ -124,8 +166,8 @@ fn has_name(attr: &Attr, others: &[Attr]) -> bool
         .any(|other| same_name(&attr.name, &other.name))
 }
 
-/// Returns whether no name comes twice.
-fn no_name_twice(attrs: &[Attr]) -> bool
+/// Returns whether no name comes twice. Each two are compared.
+fn few_names_differ(attrs: &[Attr]) -> bool
     ensures { result ≡ no_name_twice attrs.now }
 {
     let mut left = attrs;
@@ -138,36 +180,37 @@ fn no_name_twice(attrs: &[Attr]) -> bool
     true
 }
 
-/// Returns whether the texts are the same. Most prefixes are empty, and for these the length alone decides.
-fn same_text(one: &Text, other: &str) -> bool
-    ensures { result ≡ bytes_eq one.now other.now }
+/// Returns whether no name comes twice. Each is looked up among those before it.
+fn many_names_differ(alloc: Global, attrs: &[Attr]) -> Result<bool, Mem>
+    ensures { IfOk result (λ found. found ≡ no_name_twice attrs.now) }
 {
-    if other.is_empty() {
-        one.len() == 0
-    } else {
-        one.as_str() == other
-    }
-}
-
-/// Returns what these declarations say of a prefix.
-fn declared(alloc: Global, found: &[Declaration], prefix: &str) -> Result<Option<Text>, Mem>
-    ensures { IfOk result (λ space. space ≡ declared found.now prefix.now) }
-{
-    for one in found {
-        if same_text(&one.prefix, prefix) {
-            let space = one.space.copy(alloc)?;
-            return Ok(Some(space));
+    let mut seen = BTreeSet::new(alloc);
+    for attr in attrs {
+        let new = see(&mut seen, &attr.name.space, &attr.name.local)?;
+        if !new {
+            return Ok(false);
         }
     }
-    Ok(None)
+    Ok(true)
+}
+
+/// Returns whether no name comes twice.
+fn no_name_twice(alloc: Global, attrs: &[Attr]) -> Result<bool, Mem>
+    ensures { IfOk result (λ found. found ≡ no_name_twice attrs.now) }
+{
+    if attrs.len() <= MOST_IN_PAIRS {
+        Ok(few_names_differ(attrs))
+    } else {
+        many_names_differ(alloc, attrs)
+    }
 }
 
 /// Returns what the innermost open element that speaks of a prefix says of it.
-fn declared_in(alloc: Global, opens: &[Open], prefix: &str) -> Result<Option<Text>, Mem>
+fn declared_in(alloc: Global, opens: &[Open], prefix: &Text) -> Result<Option<Text>, Mem>
     ensures { IfOk result (λ space. space ≡ declared_in (scopes_in opens.now) prefix.now) }
 {
     for open in opens {
-        let found = declared(alloc, open.declared.as_slice(), prefix)?;
+        let found = open.declared.declared(alloc, prefix)?;
         if found.is_some() {
             return Ok(found);
         }
@@ -179,16 +222,16 @@ fn declared_in(alloc: Global, opens: &[Open], prefix: &str) -> Result<Option<Tex
 fn space_of(
     alloc: Global,
     opens: &[Open],
-    inner: &[Declaration],
-    prefix: &str,
+    inner: &Scope,
+    prefix: &Text,
 ) -> Result<Option<Text>, Mem>
     ensures { IfOk result (λ space. space ≡ space_of (inner.now ∷ scopes_in opens.now) prefix.now) }
 {
-    if prefix == "xml" {
+    if prefix.as_str() == "xml" {
         let space = Text::read(alloc, XML_SPACE)?;
         return Ok(Some(space));
     }
-    let found = declared(alloc, inner, prefix)?;
+    let found = inner.declared(alloc, prefix)?;
     if found.is_some() {
         return Ok(found);
     }
@@ -196,7 +239,7 @@ fn space_of(
     if found.is_some() {
         return Ok(found);
     }
-    if prefix.is_empty() {
+    if prefix.len() == 0 {
         Ok(Some(Text::from(String::new(alloc))))
     } else {
         Ok(None)
@@ -207,8 +250,8 @@ fn space_of(
 fn name_in(
     alloc: Global,
     opens: &[Open],
-    inner: &[Declaration],
-    prefix: &str,
+    inner: &Scope,
+    prefix: &Text,
     local: Text,
 ) -> Result<Option<Name>, Mem>
     ensures { IfOk result (λ found. found ≡ in_space local (space_of (inner.now ∷ scopes_in opens.now) prefix.now)) }
@@ -220,17 +263,12 @@ fn name_in(
 }
 
 /// Returns the name of an attribute, or `None` if its prefix is not declared.
-fn attr_name(
-    alloc: Global,
-    opens: &[Open],
-    inner: &[Declaration],
-    name: QName,
-) -> Result<Option<Name>, Mem>
+fn attr_name(alloc: Global, opens: &[Open], inner: &Scope, name: QName) -> Result<Option<Name>, Mem>
     ensures { IfOk result (λ found. found ≡ attr_name (inner.now ∷ scopes_in opens.now) name) }
 {
     if name.prefix.len() != 0 {
         let local = name.local;
-        return name_in(alloc, opens, inner, name.prefix.as_str(), local);
+        return name_in(alloc, opens, inner, &name.prefix, local);
     }
     let space = Text::from(String::new(alloc));
     Ok(Some(Name {
@@ -243,7 +281,7 @@ fn attr_name(
 fn named_attr(
     alloc: Global,
     opens: &[Open],
-    inner: &[Declaration],
+    inner: &Scope,
     attr: TagAttr,
 ) -> Result<Option<Attr>, Mem>
     ensures { IfOk result (λ found. found ≡ with_value attr.value (attr_name (inner.now ∷ scopes_in opens.now) attr.name)) }
@@ -274,7 +312,7 @@ fn plain_attr(alloc: Global, attr: TagAttr) -> Attr
 fn named_attrs(
     alloc: Global,
     opens: &[Open],
-    inner: &[Declaration],
+    inner: &Scope,
     attrs: Sequence<TagAttr>,
 ) -> Result<Option<Attrs>, Mem>
     ensures { IfOk result (λ found. found ≡ named_attrs (inner.now ∷ scopes_in opens.now) attrs) }
@@ -302,15 +340,15 @@ fn named_attrs(
 pub fn tag_says(
     alloc: Global,
     opens: &[Open],
-    inner: &[Declaration],
-    prefix: &str,
+    inner: &Scope,
+    prefix: &Text,
     local: Text,
     attrs: Sequence<TagAttr>,
 ) -> Result<Option<(Name, Attrs)>, Mem>
     requires { inner.now ≡ declarations attrs }
     ensures { IfOk result (λ said. said ≡ tag_says (scopes_in opens.now) (record { name = record { prefix = prefix.now; local = local }; attrs = attrs })) }
 {
-    if !are_sound(inner) || !no_attr_twice(attrs.as_slice()) {
+    if !are_sound(inner.as_slice()) || !no_attr_twice(alloc, attrs.as_slice())? {
         return Ok(None);
     }
     let Some(name) = name_in(alloc, opens, inner, prefix, local)? else {
@@ -319,7 +357,7 @@ pub fn tag_says(
     let Some(attrs) = named_attrs(alloc, opens, inner, attrs)? else {
         return Ok(None);
     };
-    if !no_name_twice(attrs.as_slice()) {
+    if !no_name_twice(alloc, attrs.as_slice())? {
         return Ok(None);
     }
     Ok(Some((name, attrs)))

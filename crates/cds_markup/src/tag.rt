@@ -1,5 +1,6 @@
 //! Tags as they are written: qualified names, attributes and the namespaces that they declare.
 
+use crate::prefixes::Scope;
 use cds_base::{Sequence, Text};
 
 /// A qualified name as it is written (Namespaces in XML).
@@ -44,5 +45,5 @@ pub struct Open {
     /// Its name, which its end tag repeats.
     pub name: QName,
     /// The namespaces that its tag declares.
-    pub declared: Sequence<Declaration>,
+    pub declared: Scope,
 }

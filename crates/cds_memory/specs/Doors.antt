@@ -1,19 +1,21 @@
 -- What callers see of the connections, doors and spawners in memory.
-use Rattle.std.specs.Prelude.{ℕ, None, List}
+use Rattle.std.specs.Prelude.{ℕ, Bool, None, List}
 use Rattle.cds_outside.specs.Outside.{SinkTold, SourceTold}
 use Rattle.cds_outside.specs.Told.{DoorTold, SpawnerTold}
 use Rattle.cds_memory.specs.Memory.{SourceState, SinkState}
 
--- A connection in memory: what it gives, and what it takes.
+-- A connection in memory: what it gives, what it takes, and whether it was finished.
 pub record ConnState : Type 0 where
   pub source : SourceState
   pub sink : SinkState
+  pub finished : Bool
 
--- A connection that several threads share: how many bytes it gave, and how many reads and writes failed.
+-- A connection that several threads share: how many bytes it gave, how many reads and writes failed, and whether it was finished.
 pub record SharedConnState : Type 0 where
   pub moved : ℕ
   pub read_faults : ℕ
   pub write_faults : ℕ
+  pub finished : Bool
 
 -- What such a connection tells of itself, as a source and as a sink: none of its bytes.
 abbrev pub shared_source_told : SharedConnState → SourceTold

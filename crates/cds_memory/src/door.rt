@@ -1,6 +1,6 @@
 //! Connections and doors in memory.
 
-ghost use Rattle.std.specs.Prelude.{◌≡◌, ℕ, ◌≤◌, ◌<◌, ◌⊎◌, [], ◌++◌, length, take, drop, min, None, Some, is_err, nat_lt, ◌||◌, IfOk, IfSome, OnErr};
+ghost use Rattle.std.specs.Prelude.{◌≡◌, ℕ, ◌≤◌, ◌<◌, ◌⊎◌, false, [], ◌++◌, length, take, drop, min, None, Some, is_err, nat_lt, ◌||◌, IfOk, IfSome, OnErr};
 ghost use Rattle.cds_memory.specs.Doors.{ConnState, DoorState, SharedConnState, fresh_door};
 ghost use Rattle.cds_memory.specs.Memory.{SourceState, SinkState, next_fails};
 ghost use Rattle.cds_outside.specs.Outside.{raised, Rose};
@@ -8,7 +8,7 @@ ghost use Rattle.cds_outside.specs.Outside.{raised, Rose};
 use crate::streams::is_listed;
 use crate::{MemSink, MemSource};
 use cds_base::{Bytes, Mem, Numbers, Sequence};
-use cds_outside::{Conn, Door, Failed, Sink, Source};
+use cds_outside::{Conn, Door, Failed, Linger, Sink, Source};
 use std::alloc::{AllocError, Global};
 use std::marker::Model;
 use std::sync::{Arc, Mutex, Wait};
@@ -18,6 +18,7 @@ use std::sync::{Arc, Mutex, Wait};
 pub struct MemConn {
     source: MemSource,
     sink: MemSink,
+    finished: bool,
 }
 
 impl Model for MemConn {
@@ -25,15 +26,19 @@ impl Model for MemConn {
 
     ghost Value = { ConnState };
 
-    ghost view = { λ c. record { source = c.source; sink = c.sink } };
+    ghost view = { λ c. record { source = c.source; sink = c.sink; finished = c.finished } };
 }
 
 impl MemConn {
     /// Makes a connection that gives the bytes of the source, and whose bytes the sink takes.
     pub fn new(source: MemSource, sink: MemSink) -> Self
-        ensures { result ≡ record { source = source; sink = sink } }
+        ensures { result ≡ record { source = source; sink = sink; finished = false } }
     {
-        MemConn { source, sink }
+        MemConn {
+            source,
+            sink,
+            finished: false,
+        }
     }
 
     /// Returns the bytes that it took.
@@ -53,6 +58,7 @@ impl Source for MemConn {
         ensures fails { is_err result ≡ next_fails self.old.source.fails self.old.source.calls }
         ensures exact { IfOk result (λ n. n ≡ min (length into.old) (length self.old.source.left)) }
         ensures sink { self.new.sink ≡ self.old.sink }
+        ensures finished { self.new.finished ≡ self.old.finished }
         ensures room { IfOk result (λ n. n ≤ length into.old) }
         ensures count { IfOk result (λ n. self.new.source.moved ≡ raised self.old.source.moved n) }
         ensures enough { IfOk result (λ n. n ≤ length self.old.source.left) }
@@ -77,6 +83,7 @@ impl Sink for MemConn {
         ensures fails { is_err result ≡ (next_fails self.old.sink.fails self.old.sink.calls || nat_lt self.old.sink.room (length piece.now)) }
         ensures exact { IfOk result (λ n. n ≡ length piece.now) }
         ensures source { self.new.source ≡ self.old.source }
+        ensures finished { self.new.finished ≡ self.old.finished }
         ensures room { IfOk result (λ n. n ≤ length piece.now) }
         ensures some { IfOk result (λ n. 0 < length piece.now → 0 < n) }
         ensures content { IfOk result (λ n. self.new.sink.holds ≡ self.old.sink.holds ++ take n piece.now) }
@@ -89,12 +96,19 @@ impl Sink for MemConn {
 }
 
 impl Conn for MemConn {
+    ghost finished = { λ c. c.finished };
+
     fn receive(&mut self, into: &mut [u8]) -> Result<usize, Failed> {
         self.read(into)
     }
 
     fn send(&mut self, piece: &[u8]) -> Result<usize, Failed> {
         self.write(piece)
+    }
+
+    /// Does not wait.
+    fn finish(&mut self, _linger: Linger) {
+        self.finished = true;
     }
 }
 
@@ -106,6 +120,7 @@ pub struct SharedConn<R> {
     moved: u64,
     read_faults: u64,
     write_faults: u64,
+    finished: bool,
 }
 
 impl<R> Model for SharedConn<R> {
@@ -113,7 +128,7 @@ impl<R> Model for SharedConn<R> {
 
     ghost Value = { SharedConnState };
 
-    ghost view = { λ c. record { moved = c.moved; read_faults = c.read_faults; write_faults = c.write_faults } };
+    ghost view = { λ c. record { moved = c.moved; read_faults = c.read_faults; write_faults = c.write_faults; finished = c.finished } };
 }
 
 /// Reads from a connection under its lock.
@@ -142,6 +157,7 @@ impl<R: Wait> Source for SharedConn<R> {
         ensures count_stays { OnErr result (self.new.moved ≡ self.old.moved) }
         ensures never_falls { self.old.read_faults ≤ self.new.read_faults }
         ensures write_faults_stay { self.new.write_faults ≡ self.old.write_faults }
+        ensures finished_stays { self.new.finished ≡ self.old.finished }
     {
         match read_shared(&self.rt, &self.conn, into) {
             Ok(count) => {
@@ -168,6 +184,7 @@ impl<R: Wait> Sink for SharedConn<R> {
         ensures never_falls { self.old.write_faults ≤ self.new.write_faults }
         ensures moved_stays { self.new.moved ≡ self.old.moved }
         ensures read_faults_stay { self.new.read_faults ≡ self.old.read_faults }
+        ensures finished_stays { self.new.finished ≡ self.old.finished }
     {
         match write_shared(&self.rt, &self.conn, piece) {
             Ok(count) => Ok(count),
@@ -180,12 +197,19 @@ impl<R: Wait> Sink for SharedConn<R> {
 }
 
 impl<R: Wait> Conn for SharedConn<R> {
+    ghost finished = { λ c. c.finished };
+
     fn receive(&mut self, into: &mut [u8]) -> Result<usize, Failed> {
         self.read(into)
     }
 
     fn send(&mut self, piece: &[u8]) -> Result<usize, Failed> {
         self.write(piece)
+    }
+
+    /// Does not wait.
+    fn finish(&mut self, _linger: Linger) {
+        self.finished = true;
     }
 }
 
@@ -306,7 +330,7 @@ impl<R: Wait + Clone + Drop> MemDoor<R> {
 
     /// Returns the next connection, of which nothing was read yet.
     fn next(&self) -> Option<SharedConn<R>>
-        ensures { IfSome result (λ conn. conn ≡ record { moved = 0; read_faults = 0; write_faults = 0 }) }
+        ensures { IfSome result (λ conn. conn ≡ record { moved = 0; read_faults = 0; write_faults = 0; finished = false }) }
     {
         let rt = self.rt.clone().ok()?;
         let conn = self.waiting.lock(&rt).accept()?;
@@ -316,6 +340,7 @@ impl<R: Wait + Clone + Drop> MemDoor<R> {
             moved: 0,
             read_faults: 0,
             write_faults: 0,
+            finished: false,
         })
     }
 

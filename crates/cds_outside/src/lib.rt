@@ -14,7 +14,7 @@ mod stream;
 mod trace;
 
 pub use clock::Clock;
-pub use conn::Conn;
+pub use conn::{Conn, Linger};
 pub use door::Door;
 pub use exterior::{Outside, OutsideFault};
 pub use folder::{Entry, Folder, FolderFault};

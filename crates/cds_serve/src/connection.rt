@@ -1,6 +1,6 @@
-//! Serving one connection: read a message and what it asks, have it answered in a turn, write the reply.
+//! Serving one connection: read a message and what it asks, have it answered in a turn, write the reply, finish the connection.
 
-ghost use Rattle.std.specs.Prelude.{◌≡◌, ◌≤◌, ◌++◌, Some, IfOk, IsErr, IsSome, OnErr, OnOk};
+ghost use Rattle.std.specs.Prelude.{◌≡◌, ◌≤◌, ◌⊎◌, true, ◌++◌, Some, IfOk, IsErr, IsSome, OnErr, OnOk};
 ghost use Rattle.cds_outside.specs.Outside.{HoldsPart, Rose, Told};
 ghost use Rattle.cds_turn.specs.Turn.{IsSeatOf, seat_told, start_of};
 ghost use Rattle.cds_server.specs.Asking.{Fits};
@@ -16,8 +16,8 @@ use crate::request::{Request, read_request};
 use crate::sending::send_first;
 use crate::served::Served;
 use cds_base::Mem;
-use cds_outside::{Clock, Conn, Failed, Gate, Link};
-use cds_server::{Answered, Asking, empty_text, read_asked, write_made};
+use cds_outside::{Clock, Conn, Failed, Gate, Linger, Link};
+use cds_server::{Answered, Asking, FirstNote, empty_text, read_asked, write_made};
 use cds_turn::{Seat, Turn};
 use std::alloc::Global;
 use std::sync::Wait;
@@ -32,12 +32,12 @@ const BEFORE_REPLY: u32 = 1;
 
 const BEHIND_REPLY: u32 = 2;
 
-/// Serves one connection: reads one message and what it asks, has the server answer that in one turn, writes the reply, and sends
-/// the first note of an accepted subscription.
+/// Serves one connection: reads one message and what it asks, has the server answer that in one turn, writes the reply, finishes
+/// the connection, and sends the first note of an accepted subscription.
 ///
 /// - A message that is refused, or that the server has no part in, is answered with its status. It costs no turn.
 /// - If memory runs out while a message is read or handled, the constant reply of the fault 603 is written.
-/// - A connection that fails is given up, and nothing else is.
+/// - A connection that fails is given up, and nothing else is. If it fails before its message came, it is not finished.
 ///
 /// `last` is the last moment that the clock gave. If the clock fails, it is the moment of the turn. The gate is passed at point 1
 /// before the reply and at point 2 after it.
@@ -67,6 +67,8 @@ pub fn serve_one<R: Wait, C: Conn, T: Clock, L: Link, G: Gate>(
           clock = T.told clock.new;
           link = L.told link.new;
         }) }
+    ensures ended { (C.finished conn.new ≡ true)
+        ⊎ (Rose (C.Source.told conn.old).faults (C.Source.told conn.new).faults × (C.Sink.told conn.new ≡ C.Sink.told conn.old)) }
     ensures read_faults_rise { (C.Source.told conn.old).faults ≤ (C.Source.told conn.new).faults }
     ensures write_faults_rise { (C.Sink.told conn.old).faults ≤ (C.Sink.told conn.new).faults }
     ensures clock_faults_rise { (T.told clock.old).faults ≤ (T.told clock.new).faults }
@@ -90,12 +92,12 @@ pub fn serve_one<R: Wait, C: Conn, T: Clock, L: Link, G: Gate>(
             }
             Err(Mem) => {
                 drop(message);
-                starve(conn, gate)
+                starve(conn, gate, Linger::Never)
             }
         },
         Request::Free(status) => answer_free(alloc, conn, gate, status),
         Request::Broken => Ok(()),
-        Request::Starved => starve(conn, gate),
+        Request::Starved => starve(conn, gate, Linger::WhileSending),
     }
 }
 
@@ -113,7 +115,7 @@ fn reply_of(alloc: Global, asking: Asking, answered: Result<Answered, Mem>) -> R
     }
 }
 
-/// Writes the reply, and sends the first note.
+/// Writes the reply, finishes the connection, and sends the first note.
 fn answer<C: Conn, L: Link, G: Gate>(
     alloc: Global,
     conn: &mut C,
@@ -126,23 +128,32 @@ fn answer<C: Conn, L: Link, G: Gate>(
     ensures given { GivesAll result (reply_requests reply) (L.told link.old).requests (L.told link.new).requests }
     ensures starved { IsErr reply → IsErr result }
     ensures noted { IfOk reply (λ reply. IsErr result → IsSome reply.note) }
+    ensures ended { C.finished conn.new ≡ true }
     ensures write_faults_rise { (C.Sink.told conn.old).faults ≤ (C.Sink.told conn.new).faults }
     ensures source_stays { C.Source.told conn.new ≡ C.Source.told conn.old }
     ensures link_faults_rise { (L.told link.old).faults ≤ (L.told link.new).faults }
 {
     match reply {
         Ok(Reply { text, note }) => {
-            write(conn, gate, text.as_slice());
+            write(conn, gate, text.as_slice(), linger_before(&note));
             drop(text);
-            let sent = send_first(alloc, link, &note);
+            let sent = send_first(alloc, conn, link, &note);
             drop(note);
             sent
         }
-        Err(Mem) => starve(conn, gate),
+        Err(Mem) => starve(conn, gate, Linger::Never),
     }
 }
 
-/// Writes a reply of a status without a body, or the constant reply if memory runs out.
+/// Returns how a connection lingers before a first note, if there is one.
+fn linger_before(note: &Option<FirstNote>) -> Linger {
+    match note {
+        Some(_) => Linger::UntilRead,
+        None => Linger::Never,
+    }
+}
+
+/// Writes a reply of a status without a body, or the constant reply if memory runs out. Finishes the connection.
 fn answer_free<C: Conn, G: Gate>(
     alloc: Global,
     conn: &mut C,
@@ -150,26 +161,36 @@ fn answer_free<C: Conn, G: Gate>(
     status: u16,
 ) -> Result<(), Mem>
     ensures written { Writes (free_text status result) (C.Sink.told conn.old) (C.Sink.told conn.new) }
+    ensures ended { C.finished conn.new ≡ true }
     ensures write_faults_rise { (C.Sink.told conn.old).faults ≤ (C.Sink.told conn.new).faults }
     ensures source_stays { C.Source.told conn.new ≡ C.Source.told conn.old }
 {
     match empty_text(alloc, status) {
         Ok(text) => {
-            write(conn, gate, text.as_slice());
+            write(conn, gate, text.as_slice(), linger_after(status));
             Ok(())
         }
-        Err(Mem) => starve(conn, gate),
+        Err(Mem) => starve(conn, gate, linger_after(status)),
     }
 }
 
-/// Writes the constant reply of the fault 603, and returns `Mem`.
-fn starve<C: Conn, G: Gate>(conn: &mut C, gate: &mut G) -> Result<(), Mem>
+/// Returns how a connection lingers after a reply of this status. A message with another target or method was read to its end.
+fn linger_after(status: u16) -> Linger {
+    match status {
+        404 | 405 => Linger::Never,
+        _ => Linger::WhileSending,
+    }
+}
+
+/// Writes the constant reply of the fault 603, finishes the connection, and returns `Mem`.
+fn starve<C: Conn, G: Gate>(conn: &mut C, gate: &mut G, linger: Linger) -> Result<(), Mem>
     ensures starved { IsErr result }
     ensures written { Writes no_memory_reply (C.Sink.told conn.old) (C.Sink.told conn.new) }
+    ensures ended { C.finished conn.new ≡ true }
     ensures write_faults_rise { (C.Sink.told conn.old).faults ≤ (C.Sink.told conn.new).faults }
     ensures source_stays { C.Source.told conn.new ≡ C.Source.told conn.old }
 {
-    write(conn, gate, no_memory_reply());
+    write(conn, gate, no_memory_reply(), linger);
     Err(Mem)
 }
 
@@ -180,15 +201,17 @@ pub(crate) fn no_memory_reply() -> &'static [u8]
     NO_MEMORY_REPLY
 }
 
-/// Writes a reply between the two points of the gate. A connection that fails gets a prefix of it.
-fn write<C: Conn, G: Gate>(conn: &mut C, gate: &mut G, text: &[u8])
+/// Writes a reply between the two points of the gate, and then finishes the connection. One that fails gets a prefix of the reply.
+fn write<C: Conn, G: Gate>(conn: &mut C, gate: &mut G, text: &[u8], linger: Linger)
     ensures written { Writes text.now (C.Sink.told conn.old) (C.Sink.told conn.new) }
+    ensures ended { C.finished conn.new ≡ true }
     ensures write_faults_rise { (C.Sink.told conn.old).faults ≤ (C.Sink.told conn.new).faults }
     ensures source_stays { C.Source.told conn.new ≡ C.Source.told conn.old }
 {
     gate.pass(BEFORE_REPLY);
     let _ = send_all(conn, text);
     gate.pass(BEHIND_REPLY);
+    conn.finish(linger);
 }
 
 /// Sends the whole text. After a failure, a prefix of it may have been taken.

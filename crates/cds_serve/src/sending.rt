@@ -1,6 +1,6 @@
 //! Notes that go out over a link.
 
-ghost use Rattle.std.specs.Prelude.{◌≡◌, ◌≤◌, List, ◌∷◌, [], map, Option, Some, IfOk, IfSome, IsErr, IsSome, OnErr};
+ghost use Rattle.std.specs.Prelude.{◌≡◌, ◌≤◌, true, List, ◌∷◌, [], map, Option, Some, IfOk, IfSome, IsErr, IsSome, OnErr};
 ghost use Rattle.std.specs.List.{AllByRecursion};
 ghost use Rattle.cds_outside.specs.declared.link.LinkRequest.{LinkRequest};
 ghost use Rattle.cds_outside.specs.Outside.{Told};
@@ -13,7 +13,7 @@ ghost use Rattle.cds_serve.specs.Sent.{GivesAll, GivesFront, GivesEach, first_re
 use cds_base::Mem;
 use cds_gena::Address;
 use cds_notify::write_notify;
-use cds_outside::{Link, LinkFault};
+use cds_outside::{Conn, Link, LinkFault};
 use cds_server::{FirstNote, Notes};
 use std::alloc::Global;
 
@@ -55,17 +55,21 @@ fn lost(fault: LinkFault) -> Result<(), Mem>
     }
 }
 
-/// Sends the first note of a subscription, if there is one.
-pub(crate) fn send_first<L: Link>(
+/// Sends the first note of a subscription, if there is one. The connection over which it was asked for is finished.
+pub(crate) fn send_first<C: Conn, L: Link>(
     alloc: Global,
+    conn: &C,
     link: &mut L,
     note: &Option<FirstNote>,
 ) -> Result<(), Mem>
+    requires ended { C.finished conn.now ≡ true }
     requires delivered { GoesOut note.now }
     ensures given { GivesAll result (first_requests note.now) (L.told link.old).requests (L.told link.new).requests }
     ensures noted { IsErr result → IsSome note.now }
     ensures never_falls { (L.told link.old).faults ≤ (L.told link.new).faults }
 {
+    // (only the condition needs it)
+    let _ = conn;
     match note {
         Some(note) => send_note(alloc, link, &note.to, note.body.as_slice()),
         None => Ok(()),

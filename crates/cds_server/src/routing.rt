@@ -1,8 +1,8 @@
 //! Where messages go.
 
-ghost use Rattle.std.specs.Prelude.{◌≡◌};
-ghost use Rattle.cds_server.specs.Route.{is_event_method, request_status, route_by};
-ghost use Rattle.cds_server.specs.Routed.{control_to, event_to, route_to, routed, status_of_route, way_of_route};
+ghost use Rattle.std.specs.Prelude.{◌≡◌, codes};
+ghost use Rattle.cds_server.specs.Route.{goes_to, is_event_method, request_status, route_by, status_at, status_unless};
+ghost use Rattle.cds_server.specs.Routed.{routed, status_of_route, way_of_route};
 
 use crate::asking::Route;
 use cds_http::{Message, Start};
@@ -23,34 +23,56 @@ pub fn route(message: &Message) -> Route
 fn routed(start: &Start) -> Route
     ensures { result ≡ routed start.now }
 {
-    match start {
-        Start::Request { method, target } => route_to(target.as_str(), method.as_str()),
-        Start::Reply { .. } => Route::Refused(400),
+    match request_status(start) {
+        Some(status) => Route::Refused(status),
+        None => {
+            if is_to_control(start) {
+                Route::Control
+            } else {
+                Route::Event
+            }
+        }
     }
 }
 
-/// Returns where a request goes.
-fn route_to(target: &str, method: &str) -> Route
-    ensures { result ≡ route_to target.now method.now }
+/// Returns whether a message is a request to the target of control.
+fn is_to_control(start: &Start) -> bool
+    ensures { result ≡ goes_to (codes "/control") start.now }
+{
+    match start {
+        Start::Request { target, .. } => target.as_str() == "/control",
+        Start::Reply { .. } => false,
+    }
+}
+
+/// Returns the status of a message with this first line, if it goes nowhere.
+fn request_status(start: &Start) -> Option<u16>
+    ensures { result ≡ request_status start.now }
+{
+    match start {
+        Start::Request { method, target } => status_at(target.as_str(), method.as_str()),
+        Start::Reply { .. } => Some(400),
+    }
+}
+
+/// Returns the status of a request to a target by a method, if it goes nowhere.
+fn status_at(target: &str, method: &str) -> Option<u16>
+    ensures { result ≡ status_at target.now method.now }
 {
     if target == "/control" {
-        control_to(method)
+        status_unless(method == "POST")
     } else if target == "/event" {
-        event_to(method)
+        status_unless(is_event_method(method))
     } else {
-        Route::Refused(404)
+        Some(404)
     }
 }
 
-/// Returns where a request to the target of control goes.
-fn control_to(method: &str) -> Route
-    ensures { result ≡ control_to method.now }
+/// Returns 405, unless the target takes the method.
+fn status_unless(takes: bool) -> Option<u16>
+    ensures { result ≡ status_unless takes }
 {
-    if method == "POST" {
-        Route::Control
-    } else {
-        Route::Refused(405)
-    }
+    if takes { None } else { Some(405) }
 }
 
 /// Returns whether the target of events takes a method.
@@ -58,15 +80,4 @@ fn is_event_method(method: &str) -> bool
     ensures { result ≡ is_event_method method.now }
 {
     method == "SUBSCRIBE" || method == "UNSUBSCRIBE"
-}
-
-/// Returns where a request to the target of events goes.
-fn event_to(method: &str) -> Route
-    ensures { result ≡ event_to method.now }
-{
-    if is_event_method(method) {
-        Route::Event
-    } else {
-        Route::Refused(405)
-    }
 }

@@ -6,6 +6,7 @@ mod Fields
 mod Heads
 mod Joined
 pub mod Lengths
+mod Looking
 mod Naming
 pub mod OneAnswer
 mod Printed

@@ -12,8 +12,9 @@ use Rattle.cds_soap.specs.declared.error.SoapError.{SoapError}
 use Rattle.cds_soap.specs.declared.error.SoapError.TheVariants as error
 use Rattle.cds_markup.specs.declared.element.Node.{Node}
 use Rattle.cds_markup.specs.declared.element.Node.TheVariants as node
-use Rattle.cds_markup.specs.Document.{Meaning}
+use Rattle.cds_markup.specs.Document.{Meaning, Doc}
 use Rattle.cds_markup.specs.Children.{name_of, is_called}
+use Rattle.cds_markup.specs.Outline.{outline}
 use Rattle.cds_soap.specs.declared.action.ActionName.{ActionName}
 use Rattle.cds_soap.specs.declared.action.ActionName.TheVariants as name
 use Rattle.cds_soap.specs.declared.action.Action.{Action}
@@ -72,6 +73,15 @@ named_by fields element = do
   field ← soap_action_in fields
   found ← called_by element
   where_said field found
+
+-- What is looked at in a request: the envelope, its Header and Body, the action, and its arguments. Of each element at most seven
+-- child elements are looked at, one more than any action has arguments.
+abbrev pub looked_at : Meaning → Meaning
+looked_at element = outline 7 3 element
+
+-- This is looked at in the element that bytes are a document of.
+abbrev pub IsLookedAt : List ℕ → Meaning → Type 0
+IsLookedAt bytes seen = (element : Meaning) × Doc bytes element × (seen ≡ looked_at element)
 
 -- What an element says as the response to an action, and as a Fault.
 abbrev pub response_by : ActionName → Meaning → Option Answer

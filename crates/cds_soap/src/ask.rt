@@ -3,10 +3,9 @@
 ghost use Rattle.std.specs.Prelude.{◌≡◌, IfOk, option_copied, option_map};
 ghost use Rattle.std.specs.List.{list_all};
 ghost use Rattle.cds_markup.specs.Children.{elements_in};
-ghost use Rattle.cds_markup.specs.Document.{Doc};
 ghost use Rattle.cds_soap.specs.Given.{browse_given, search_given, arguments_given, action_given, is_argument};
 ghost use Rattle.cds_soap.specs.Control.{AnswersAsk, soap_action_in};
-ghost use Rattle.cds_soap.specs.Found.{called_by, named_by, where_said, found_as, is_other, refusal_of};
+ghost use Rattle.cds_soap.specs.Found.{IsLookedAt, called_by, named_by, where_said, found_as, is_other, refusal_of};
 
 use crate::envelope::in_envelope;
 use crate::given::{number_given, text_given};
@@ -14,9 +13,15 @@ use crate::names::{name_in, says_action, version_in};
 use crate::{Action, ActionName, Asked, BrowseRequest, SearchRequest, SoapError};
 use cds_base::Mem;
 use cds_http::Message;
-use cds_markup::{Element, MarkupError, Node, read_document};
+use cds_markup::{Element, MarkupError, Node, read_outline};
 use http_header::HeaderMap;
 use std::alloc::Global;
+
+/// The most child elements of an element that are looked at, one more than any action has arguments.
+const WIDTH: usize = 7;
+
+/// The levels below an envelope that are looked at: its Header and Body, the action, and its arguments.
+const LEVELS: u8 = 3;
 
 /// Returns what a control request asks for. Only its field SOAPACTION and its body are looked at, not its method, its
 /// target or its host (UPnP Device Architecture 2.0 on control; UPnP ContentDirectory:4 on the arguments). The
@@ -29,11 +34,11 @@ use std::alloc::Global;
 pub fn read_action(alloc: Global, message: &Message) -> Result<Asked, SoapError>
     ensures { AnswersAsk message.now result }
 {
-    let element = match read_document(alloc, message.body.as_slice()) {
-        Ok(element) => element,
+    let seen = match read_outline(alloc, message.body.as_slice(), WIDTH, LEVELS) {
+        Ok(seen) => seen,
         Err(refusal) => return Err(refusal_of(refusal)),
     };
-    asked_in(alloc, message, &element)
+    asked_in(alloc, message, &seen)
 }
 
 /// Returns the refusal of a body that is no document.
@@ -49,12 +54,12 @@ fn refusal_of(refusal: MarkupError) -> SoapError
     }
 }
 
-/// Returns what a message asks for, if its body is a document of this element.
-fn asked_in(alloc: Global, message: &Message, element: &Element) -> Result<Asked, SoapError>
-    requires document { Doc message.now.body element.now }
+/// Returns what a message asks for, if this is looked at in its body.
+fn asked_in(alloc: Global, message: &Message, seen: &Element) -> Result<Asked, SoapError>
+    requires seen { IsLookedAt message.now.body seen.now }
     ensures { AnswersAsk message.now result }
 {
-    let found = match named_in(alloc, &message.fields, element)? {
+    let found = match named_in(alloc, &message.fields, seen)? {
         Some(found) => found,
         None => return Err(SoapError::InvalidAction),
     };

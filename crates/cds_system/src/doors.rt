@@ -1,6 +1,6 @@
 //! The door at a port of the system. Its connections tell nothing of what they hold. That they come from the port is trusted.
 
-ghost use Rattle.std.specs.Prelude.{◌≡◌, IfOk, IfSome};
+ghost use Rattle.std.specs.Prelude.{◌≡◌, false, IfOk, IfSome};
 
 use crate::conns::RealConn;
 use crate::lobby::{Arrived, Lobby};
@@ -96,6 +96,7 @@ fn next_conn<R: Wait + Clock + Clone + Drop>(rt: &R, lobby: &Mutex<Lobby>) -> Op
     ensures moved { IfSome result (λ conn. conn.moved ≡ 0) }
     ensures read_faults { IfSome result (λ conn. conn.read_faults ≡ 0) }
     ensures write_faults { IfSome result (λ conn. conn.write_faults ≡ 0) }
+    ensures finished { IfSome result (λ conn. conn.finished ≡ false) }
 {
     for _ in rt.forever() {
         let owned = rt.clone().ok()?;

@@ -5,7 +5,7 @@ ghost use Rattle.std.specs.Prelude.{◌≡◌, ◌<◌, ◌≤◌, length, IfOk}
 ghost use Rattle.std.specs.Net.Socket.{socket_ip};
 ghost use Rattle.cds_system.specs.Near.{IsNear};
 
-use crate::backoff::{Shared, Trial, new_shared};
+use crate::backoff::{Failure, Shared, Trial, new_shared};
 use crate::framing::{Framing, Kind};
 use crate::reach::near_address;
 use crate::retry::{read_again, write_again};
@@ -17,17 +17,15 @@ use std::net::{Net, OpenStream, SocketAddr, TcpStream};
 use std::sync::{Arc, Wait};
 use std::time::{Clock, Duration};
 
-/// How many milliseconds connecting may take.
-const CONNECTING: u64 = 1_000;
+/// How many milliseconds connecting may take, and the reply to a note, and each part of an exchange with an address that failed
+/// before.
+const SHORT_PATIENCE: u64 = 1_000;
 
-/// How many milliseconds sending may take, and reading the reply, each as a whole.
+/// How many milliseconds sending may take, and reading the reply to anything else, each as a whole.
 const PATIENCE: u64 = 5_000;
 
-/// How many milliseconds the reply to a note may take.
-const NOTE_PATIENCE: u64 = 2_000;
-
-/// How many milliseconds each of the three may take if the address failed before.
-const SHORT_PATIENCE: u64 = 1_000;
+/// How many milliseconds connecting and the reply to a note may take at least, however many others failed just now.
+const LEAST_PATIENCE: u64 = 8;
 
 /// The number of bytes that are read at once.
 const PIECE: usize = 2_048;
@@ -130,18 +128,28 @@ fn exchange_once<R: Net + Clock + Wait>(
     let trial = backoff
         .lock(rt)
         .trial(address, begun, is_first_note(request));
-    if trial == Trial::None {
+    let Some(times) = Times::of(request, trial) else {
         return Err(LinkFault::Failed);
+    };
+    let mut stream = match open(rt, address, times, request) {
+        Ok(stream) => stream,
+        Err(fault) => {
+            keep_in_mind(
+                rt,
+                backoff,
+                address,
+                begun,
+                Failure::Unsent(times.connecting),
+            );
+            return Err(fault);
+        }
+    };
+    let answer = take_reply(rt, alloc, &mut stream, times.reading, limit);
+    if is_failure(&answer) {
+        keep_in_mind(rt, backoff, address, begun, Failure::Late(times.reading));
+    } else {
+        backoff.lock(rt).forget(address);
     }
-    let answer = exchange_at(
-        rt,
-        alloc,
-        address,
-        Times::of(request, trial),
-        request,
-        limit,
-    );
-    keep_in_mind(rt, backoff, address, begun, is_failure(&answer));
     answer
 }
 
@@ -150,20 +158,16 @@ fn is_failure(answer: &Result<Vec<u8>, LinkFault>) -> bool {
     matches!(answer, Err(LinkFault::Failed))
 }
 
-/// Remembers or forgets an address after an exchange with it.
+/// Remembers that an exchange failed with an address, which began at this moment and ends now.
 fn keep_in_mind<R: Clock + Wait>(
     rt: &R,
     backoff: &Shared,
     address: SocketAddr,
     begun: Duration,
-    failed: bool,
+    failure: Failure,
 ) {
-    if failed {
-        let ended = rt.monotonic().unwrap_or(begun);
-        backoff.lock(rt).remember(address, begun, ended);
-    } else {
-        backoff.lock(rt).forget(address);
-    }
+    let took = rt.monotonic().unwrap_or(begun).saturating_sub(begun);
+    backoff.lock(rt).remember(address, begun, took, failure);
 }
 
 /// Returns the moment now.
@@ -183,24 +187,39 @@ struct Times {
 }
 
 impl Times {
-    /// Returns how long a request to an address may take.
-    fn of(request: &[u8], trial: Trial) -> Times {
-        let longest = if trial == Trial::Short {
-            SHORT_PATIENCE
-        } else {
-            PATIENCE
-        };
-        let reading = if request.starts_with(b"NOTIFY ") {
-            NOTE_PATIENCE
-        } else {
-            PATIENCE
-        };
-        Times {
-            connecting: CONNECTING.min(longest),
-            sending: longest,
-            reading: reading.min(longest),
+    /// Returns how long a request to an address may take, or `None` if it is not to be made. A note has less time the more
+    /// exchanges failed just now, so that 63 dead subscribers hold the others up for less than 2 seconds.
+    fn of(request: &[u8], trial: Trial) -> Option<Times> {
+        let is_note = request.starts_with(b"NOTIFY ");
+        let whole = if is_note { SHORT_PATIENCE } else { PATIENCE };
+        match trial {
+            Trial::None => None,
+            Trial::Known => Some(Times::most(SHORT_PATIENCE, SHORT_PATIENCE, SHORT_PATIENCE)),
+            Trial::Unknown { failures } if is_note => {
+                let patience = shorter(failures);
+                Some(Times::most(patience, PATIENCE, patience))
+            }
+            Trial::Unknown { .. } => Some(Times::most(SHORT_PATIENCE, PATIENCE, whole)),
+            Trial::Late if is_note => Some(Times::most(SHORT_PATIENCE, PATIENCE, LEAST_PATIENCE)),
+            Trial::Late => Some(Times::most(SHORT_PATIENCE, PATIENCE, whole)),
         }
     }
+
+    /// Returns these times.
+    fn most(connecting: u64, sending: u64, reading: u64) -> Times {
+        Times {
+            connecting,
+            sending,
+            reading,
+        }
+    }
+}
+
+/// Returns for how many milliseconds to wait after this number of failures. Each of them leaves a quarter of the time, but not
+/// less than the least.
+fn shorter(failures: u32) -> u64 {
+    let halvings = failures.saturating_mul(2).min(10);
+    (SHORT_PATIENCE >> halvings).max(LEAST_PATIENCE)
 }
 
 /// Returns whether a request is the first note of a subscription, whose SEQ is 0.
@@ -210,21 +229,31 @@ fn is_first_note(request: &[u8]) -> bool {
         .any(|line| line.trim_ascii() == b"SEQ: 0".as_slice())
 }
 
-/// Sends the request to a near address by a connection of its own, and returns the reply's bytes.
-fn exchange_at<R: Net + Clock>(
+/// Sends the request to a near address by a connection of its own, and returns that.
+fn open<R: Net + Clock>(
     rt: &R,
-    alloc: Global,
     address: SocketAddr,
     times: Times,
     request: &[u8],
-    limit: usize,
-) -> Result<Vec<u8>, LinkFault>
+) -> Result<R::Stream, LinkFault>
     requires near { IsNear (socket_ip address) }
-    ensures { IfOk result (λ reply. length reply.items ≤ limit) }
 {
     let mut stream = connect(rt, address, times.connecting)?;
     send(rt, &mut stream, times.sending, request)?;
-    within(gather(rt, alloc, &mut stream, times.reading, limit)?, limit)
+    Ok(stream)
+}
+
+/// Returns the bytes of a reply, which come within `patience` milliseconds.
+fn take_reply<R: Clock, S: Read + OpenStream>(
+    rt: &R,
+    alloc: Global,
+    stream: &mut S,
+    patience: u64,
+    limit: usize,
+) -> Result<Vec<u8>, LinkFault>
+    ensures { IfOk result (λ reply. length reply.items ≤ limit) }
+{
+    within(gather(rt, alloc, stream, patience, limit)?, limit)
 }
 
 /// Returns the reply, if it is not too long.

@@ -86,6 +86,7 @@ impl Lobby {
     pub fn next<R: Wait + Clock>(&mut self, rt: &R) -> io::Result<Arrived> {
         for _ in rt.forever() {
             let now = rt.monotonic()?;
+            self.look(Some(Duration::from_secs(0)))?;
             let taken = self.take_in(now);
             self.hear(now);
             self.let_go(now);

@@ -1,5 +1,5 @@
 -- One connection is served by one of its courses.
-use Rattle.std.proofs.Common.{ap, refl}
+use Rattle.std.proofs.Common.{inl, inr, ap, refl}
 use Rattle.cds_outside.specs.Outside.{SourceTold}
 use Rattle.cds_turn.specs.Turn.{own_by, start_of}
 use Rattle.cds_serve.proofs.Courses.{asked-given, broken, freed, of-reply, reads-on, starved, turned-at, writes-from, writes-nothing}
@@ -37,3 +37,19 @@ pub returns-in-Starved-clause-served : goal.returns-in-Starved-clause-served
 returns-in-Starved-clause-served g c =
     starved _ _ _ _ _ _ refl refl refl refl (reads-on _ _ _ _ _ (λ piece p. tt) (ap (λ (t : SourceTold). t.left) c.starve-in-Starved.ensures.source_stays) c.in-Starved.ensures.read) c.starve-in-Starved.ensures.starved
     (writes-from _ _ _ _ c.read_request.ensures.sink_stays c.starve-in-Starved.ensures.written)
+
+-- Each course that writes a reply finishes its connection. The other one met a connection that failed.
+pub returns-in-Ok-clause-ended : goal.returns-in-Ok-clause-ended
+returns-in-Ok-clause-ended g c = inl c.answer.ensures.ended
+
+pub returns-in-Err-clause-ended : goal.returns-in-Err-clause-ended
+returns-in-Err-clause-ended g c = inl c.starve.ensures.ended
+
+pub returns-in-Free-clause-ended : goal.returns-in-Free-clause-ended
+returns-in-Free-clause-ended g c = inl c.answer_free.ensures.ended
+
+pub returns-in-Broken-clause-ended : goal.returns-in-Broken-clause-ended
+returns-in-Broken-clause-ended g c = inr (c.in-Broken.ensures.rose, c.read_request.ensures.sink_stays)
+
+pub returns-in-Starved-clause-ended : goal.returns-in-Starved-clause-ended
+returns-in-Starved-clause-ended g c = inl c.starve-in-Starved.ensures.ended

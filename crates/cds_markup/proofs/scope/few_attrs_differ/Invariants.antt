@@ -1,6 +1,6 @@
 use Rattle.std.proofs.Common.{◌≡◌, length}
 use Rattle.cds_markup.specs.Namespaces.{no_attr_twice}
-use Rattle.cds_markup.proofs.scope.no_attr_twice.Given as goal
+use Rattle.cds_markup.proofs.scope.few_attrs_differ.Given as goal
 
 abbrev pub invariant-loop-first : goal.invariant-loop-first
 invariant-loop-first l = no_attr_twice l.left ≡ no_attr_twice l.attrs
