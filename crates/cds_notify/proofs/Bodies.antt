@@ -1,11 +1,9 @@
 -- What is written of a body is a document that says its number and its events.
-use Rattle.std.proofs.Common.{◌≡◌, ◌==◌, ℕ, ◌+◌, ◌<◌, ◌≤◌, ◌^◌, nat_lt, Bool, true, false, cond, ◌&&◌, ◌||◌, Option, Some, None, List, [], ◌∷◌, ◌++◌, length, codes, encode_utf8, encode_utf8_all, refl, sym, ap, ◌∙◌, subst, arith, append_assoc, append-nil, length-append, ne_eqb}
-use Rattle.std.specs.List.{flat_map, list_all, AllByRecursion}
+use Rattle.std.proofs.Common.{◌≡◌, ◌==◌, ℕ, ◌<◌, ◌≤◌, ◌^◌, Bool, true, false, cond, Option, Some, List, [], ◌∷◌, ◌++◌, length, codes, refl, sym, ap, ◌∙◌, subst, arith, append_assoc, append-nil, length-append, ne_eqb}
+use Rattle.std.specs.List.{flat_map, AllByRecursion}
 use Rattle.std.specs.Fmt.{decimal}
 use Rattle.std.specs.Option.{option_and_then}
-use Rattle.std.proofs.lemmas.Bool.Decides.{nat_tests}
-use Rattle.std.proofs.lemmas.Str.{encode_ascii}
-use Rattle.cds_base.specs.Characters.{is_allowed, AreAllowed}
+use Rattle.cds_base.specs.Characters.{AreAllowed}
 use Rattle.cds_base.specs.Escape.{escaped, escaped_byte}
 use Rattle.cds_base.specs.Number.{number_below}
 use Rattle.cds_object.specs.Writing.{attribute, number_attribute}
@@ -13,15 +11,13 @@ use Rattle.cds_object.specs.declared.event.Class.{Class}
 use Rattle.cds_object.specs.declared.event.Class.TheVariants.{Container, Track}
 use Rattle.cds_object.specs.declared.event.Event.{Event}
 use Rattle.cds_object.specs.declared.event.Event.TheVariants.{ObjAdd, ObjMod, ObjDel, StDone}
-use Rattle.cds_markup.specs.declared.name.Name.{Name}
 use Rattle.cds_markup.specs.declared.tag.QName.{QName}
-use Rattle.cds_markup.specs.declared.tag.TagAttr.{TagAttr}
 use Rattle.cds_markup.specs.declared.tag.Tag.{Tag}
 use Rattle.cds_markup.specs.Grammar.{IsName}
 use Rattle.cds_markup.specs.Document.{Meaning, Meanings, Element, End, TextThen as TextAnd, ChildThen, joined, most_bytes, Doc}
 use Rattle.cds_markup.specs.Elements.{nodes_of}
-use Rattle.cds_markup.specs.Children.{nodes_in, texts_in}
-use Rattle.cds_markup.specs.Drafts.{Draft, Tagged, Drafts, Done, TextThen, DraftThen, drafted, draft_says, CanBeDraft, CanBeDraftTag, CanBeDrafted, version_declared}
+use Rattle.cds_markup.specs.Children.{texts_in}
+use Rattle.cds_markup.specs.Drafts.{Draft, Tagged, Done, TextThen, DraftThen, drafted, draft_says, CanBeDraft, CanBeDraftTag, version_declared}
 use Rattle.cds_markup.proofs.WrittenTags.{small-name, xmlns-name, without-prefix, behind-prefix}
 use Rattle.cds_markup.proofs.DraftsForm.{drafts-are-read}
 use Rattle.cds_lastchange.specs.Spelled.{change_text, flag_text, flagged_text, class_text, added_text, event_text, opening, closing, spelled, IsNumbered}

@@ -1,16 +1,16 @@
 -- A span of changes has at most two containers for each change.
-use Rattle.std.proofs.Common.{◌≡◌, ℕ, zero, suc, ◌+◌, ◌-◌, ◌*◌, ◌<◌, ◌≤◌, Bool, true, false, cond, ◌&&◌, nat_eq, nat_le, Option, Some, None, is_some, max, List, [], ◌∷◌, length, filter, refl, sym, ap, ◌∙◌, arith, true≢false, eqb-true, ne_eqb}
+use Rattle.std.proofs.Common.{◌≡◌, ℕ, zero, suc, ◌+◌, ◌-◌, ◌*◌, ◌<◌, ◌≤◌, Bool, true, false, cond, ◌&&◌, nat_eq, nat_le, Option, Some, None, is_some, max, List, [], ◌∷◌, length, filter, refl, ◌∙◌, arith, true≢false, eqb-true, ne_eqb}
 use Rattle.std.specs.List.{count_by, filter_map, cons_option, range_with_len}
 use Rattle.std.specs.Option.{option_map}
-use Rattle.std.proofs.lemmas.Bool.Decides.{nat_tests, leb_tells}
+use Rattle.std.proofs.lemmas.Bool.Decides.{nat_tests}
 use Rattle.cds_object.specs.Path.{parent_of}
 use Rattle.cds_object.specs.Object.{is_folder}
 use Rattle.cds_catalog.specs.History.{History, changes_of, place_of, is_addition}
 use Rattle.cds_catalog.specs.Catalog.{id_of}
 use Rattle.cds_catalog.specs.declared.change.Change.{Change}
 use Rattle.cds_catalog.specs.declared.change.Change.TheVariants.{Deletion, Addition, Modification}
-use Rattle.cds_changes.specs.Containers.{adds_container, is_in_container, last_touch, was_deleted, changes_to, touched_containers, containers_between}
-use Rattle.cds_commands.specs.Releases.{Release, release_size, released_containers}
+use Rattle.cds_changes.specs.Containers.{adds_container, is_in_container, last_touch, was_deleted, changes_to}
+use Rattle.cds_commands.specs.Releases.{Release, released_containers}
 use Rattle.cds_object.specs.declared.event.Event.{Event}
 use Rattle.cds_notify.specs.Propertyset.{propertyset_text}
 use Rattle.cds_notify.specs.Laws.{AreNumbers}

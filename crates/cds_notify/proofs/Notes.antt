@@ -1,6 +1,6 @@
 -- A written note is read back as it was written.
-use Rattle.std.proofs.Common.{◌≡◌, ◌==◌, ◌≢◌, ◌⊎◌, inl, inr, ℕ, suc, ◌+◌, ◌<◌, ◌≤◌, ◌^◌, Bool, true, false, cond, not, ◌&&◌, nat_lt, IsTrue, IsUtf8, IsAscii, All, IfSome, List, [], ◌∷◌, ◌++◌, length, map, take, drop, reverse, codes, bytes_eq, is_some, option_map, Option, Some, None, unwrap_or, Result, Ok, Err, refl, sym, ap, ◌∙◌, subst, ⊎_elim, arith, true≢false, append-nil, length-append}
-use Rattle.std.specs.List.{list_all, concat}
+use Rattle.std.proofs.Common.{◌≡◌, ◌==◌, ◌≢◌, ℕ, suc, ◌<◌, ◌^◌, true, false, not, ◌&&◌, nat_lt, IsTrue, IsAscii, All, List, [], ◌∷◌, ◌++◌, length, take, drop, reverse, codes, bytes_eq, is_some, option_map, Option, Some, None, unwrap_or, Ok, refl, sym, ap, ◌∙◌, subst, ⊎_elim, arith, true≢false, length-append}
+use Rattle.std.specs.List.{list_all}
 use Rattle.std.specs.Fmt.{decimal}
 use Rattle.std.proofs.lemmas.Bool.Decides.{nat_tests}
 use Rattle.std.proofs.lemmas.List.Elements.{All-nil, All-from_recursion, All-head, All-tail, All-weaker}
@@ -20,13 +20,12 @@ use Rattle.url.specs.declared.host.Host.TheVariants.{Domain}
 use Rattle.url.specs.Scheme.{is_special}
 use Rattle.url.specs.Host.{host_text, IsHostOf}
 use Rattle.url.specs.Input.{when}
-use Rattle.url.specs.Parts.{Parts, kind_of, pieces, host_or_empty, query_set, IsValid, IsValidHead, IsPortOf, IsHierarchicalPath, text_between}
+use Rattle.url.specs.Parts.{Parts, kind_of, pieces, host_or_empty, query_set, IsValid, IsValidHead, IsPortOf, IsHierarchicalPath}
 use Rattle.url.proofs.HostLemmas.{All-host_text}
 use Rattle.url.proofs.PiecesLemmas.{option_cases}
 use Rattle.url.proofs.SetLemmas.{passes_from_kept}
-use Rattle.url.proofs.TextLemmas.{All-concat, All_one, All_part, port_bytes, host_and_port_bytes, is_host_byte}
+use Rattle.url.proofs.TextLemmas.{All-concat, All_one, All_part, host_and_port_bytes, is_host_byte}
 use Rattle.url.proofs.ValidLemmas.{segment_list_kept, hierarchical, special_has_authority, base_from_authority}
-use Rattle.cds_http.specs.declared.fields.Field.{Field}
 use Rattle.cds_http.specs.Written.{CanBeWritten, can_stand}
 use Rattle.cds_http.specs.Returned.{IsReadBack}
 use Rattle.cds_http.proofs.Returning.{requests_are_read_back}

@@ -1,18 +1,12 @@
 -- What reading a note's body and its fields answers.
-use Rattle.std.proofs.Common.{◌≡◌, ◌≢◌, ◌⊎◌, inl, inr, ℕ, Bool, true, false, cond, ◌&&◌, Option, Some, None, is_some, Result, Ok, Err, List, [], ◌∷◌, ◌++◌, filter, codes, refl, sym, ap, ◌∙◌, subst, append_assoc, append-nil, true≢false}
-use Rattle.std.specs.List.{flat_map}
+use Rattle.std.proofs.Common.{◌≡◌, ◌≢◌, ℕ, Bool, true, false, cond, ◌&&◌, Option, Some, None, is_some, Result, Ok, Err, List, [], ◌∷◌, codes, refl, sym, ap, ◌∙◌, subst, append-nil, true≢false}
 use Rattle.std.specs.Prelude.{option_and_then}
-use Rattle.std.proofs.lemmas.List.Elements.{filter-append}
 use Rattle.cds_commands.specs.Notes.{Note}
 use Rattle.cds_object.specs.declared.event.Event.{Event}
 use Rattle.cds_http.specs.declared.message.Message.{Message}
-use Rattle.cds_markup.specs.declared.element.Node.{Node}
-use Rattle.cds_markup.specs.declared.element.Node.TheVariants.{Text, Child}
 use Rattle.cds_markup.specs.declared.error.MarkupError.{MarkupError}
 use Rattle.cds_markup.specs.declared.error.MarkupError.TheVariants.{Mem as OutOfMemory, Bad as BadAt, TooDeep, TooLong as TooManyBytes, Failed as RefusedBefore}
 use Rattle.cds_markup.specs.Decided.{Decides as DecidesDocument}
-use Rattle.cds_markup.specs.Document.{Meaning, Doc}
-use Rattle.cds_markup.specs.Children.{nodes_in, elements_in, is_named, is_called, named, called, is_any, only_of}
 use Rattle.cds_markup.specs.Pieces.{goes_on}
 use Rattle.cds_markup.proofs.Public.{one-element}
 use Rattle.cds_lastchange.specs.declared.error.StateError.{StateError}
@@ -27,78 +21,8 @@ use Rattle.cds_notify.specs.declared.note.NoteError.{NoteError}
 use Rattle.cds_notify.specs.declared.note.NoteError.TheVariants.{Mem, Head, Precondition, Body}
 use Rattle.cds_notify.specs.declared.heading.Heading.{Heading}
 use Rattle.cds_notify.specs.declared.body.Said.{Said}
-use Rattle.cds_notify.specs.Said.{event_space, heading_by, heading_of, is_word, named_note, of_events, said_of, seq_in, variable, variables_in, with_seq, Says, IsNote, HasNoBody, Answers}
-use Rattle.cds_notify.specs.Reading.{BodyTold, DocumentTold, EventsTold, carries, of_document, of_state, properties_with}
-
--- ---- the variable that comes once
-
-module _ (f : Meaning → List Meaning) where
-  abbrev has : Meaning → Bool
-  has p = is_any (f p)
-
-  any-flat : (ps : List Meaning) → is_any (flat_map f ps) ≡ is_any (filter has ps)
-  any-flat [] = refl
-  any-flat (p ∷ ps) = by (f p) (any-flat ps)
-    where
-      by : (xs : List Meaning) → is_any (flat_map f ps) ≡ is_any (filter has ps)
-          → is_any (xs ++ flat_map f ps) ≡ is_any (cond (is_any xs) (p ∷ filter has ps) (filter has ps))
-      by [] r = r
-      by (x ∷ more) r = refl
-
-  cons-only : (x : Meaning) (xs : List Meaning) → only_of (x ∷ xs) ≡ cond (is_any xs) None (Some x)
-  cons-only x [] = refl
-  cons-only x (y ∷ more) = refl
-
-  abbrev inner : Option Meaning → Option Meaning
-  inner o = option_and_then (λ p. only_of (f p)) o
-
-  only-flat : (ps : List Meaning) → only_of (flat_map f ps) ≡ inner (only_of (filter has ps))
-  only-flat [] = refl
-  only-flat (p ∷ ps) = by (f p) refl (only-flat ps)
-    where
-      one : (x : Meaning) → f p ≡ x ∷ [] → (b : Bool) → cond b None (Some x) ≡ inner (cond b None (Some p))
-      one x e true = refl
-      one x e false = sym (ap only_of e)
-
-      more-than-one : (x y : Meaning) (more : List Meaning) → f p ≡ x ∷ y ∷ more → (b : Bool) → None ≡ inner (cond b None (Some p))
-      more-than-one x y more e true = refl
-      more-than-one x y more e false = sym (ap only_of e)
-
-      by : (xs : List Meaning) → f p ≡ xs → only_of (flat_map f ps) ≡ inner (only_of (filter has ps))
-          → only_of (xs ++ flat_map f ps) ≡ inner (only_of (cond (is_any xs) (p ∷ filter has ps) (filter has ps)))
-      by [] e r = r
-      by (x ∷ []) e r =
-          cons-only x (flat_map f ps) ∙ ap (λ b. cond b None (Some x)) (any-flat ps) ∙ one x e (is_any (filter has ps)) ∙ ap inner (sym (cons-only p (filter has ps)))
-      by (x ∷ y ∷ more) e r = more-than-one x y more e (is_any (filter has ps)) ∙ ap inner (sym (cons-only p (filter has ps)))
-
-elements-append : (a b : List Node) → elements_in (a ++ b) ≡ elements_in a ++ elements_in b
-elements-append [] b = refl
-elements-append (Text text ∷ a) b = elements-append a b
-elements-append (Child child ∷ a) b = ap (λ l. child ∷ l) (elements-append a b)
-
-called-flat : (local : List ℕ) (ps : List Meaning) → called local (flat_map nodes_in ps) ≡ flat_map (λ p. called local (nodes_in p)) ps
-called-flat local [] = refl
-called-flat local (p ∷ ps) =
-    ap (filter (is_called local)) (elements-append (nodes_in p) (flat_map nodes_in ps))
-    ∙ filter-append (is_called local) (elements_in (nodes_in p)) (elements_in (flat_map nodes_in ps))
-    ∙ ap (λ l. called local (nodes_in p) ++ l) (called-flat local ps)
-
-twice : (s t : Meaning → Bool) (xs : List Meaning) → filter t (filter s xs) ≡ filter (λ x. s x && t x) xs
-twice s t [] = refl
-twice s t (x ∷ xs) = by (s x) (twice s t xs)
-  where
-    by : (b : Bool) → filter t (filter s xs) ≡ filter (λ y. s y && t y) xs
-        → filter t (cond b (x ∷ filter s xs) (filter s xs)) ≡ cond (b && t x) (x ∷ filter (λ y. s y && t y) xs) (filter (λ y. s y && t y) xs)
-    by true r = ap (λ l. cond (t x) (x ∷ l) l) r
-    by false r = r
-
-pub variable-is : (local : List ℕ) (root : Meaning)
-    → variable local root ≡ option_and_then (λ p. only_of (called local (nodes_in p))) (only_of (properties_with local (nodes_in root)))
-variable-is local root =
-    ap only_of (called-flat local (named event_space (codes "property") (nodes_in root)))
-    ∙ only-flat (λ p. called local (nodes_in p)) (named event_space (codes "property") (nodes_in root))
-    ∙ ap (λ ps. option_and_then (λ p. only_of (called local (nodes_in p))) (only_of ps))
-    (twice (is_named event_space (codes "property")) (λ p. is_any (called local (nodes_in p))) (elements_in (nodes_in root)))
+use Rattle.cds_notify.specs.Said.{heading_by, heading_of, is_word, named_note, said_of, seq_in, with_seq, Says, IsNote, Answers}
+use Rattle.cds_notify.specs.Reading.{BodyTold, EventsTold, IsSaid, SaidTold, of_document, of_state}
 
 -- ---- refusals
 
@@ -113,37 +37,36 @@ state-told text (NotStateEvent at) h = h.2
 state-told text TooLong h = h.2
 state-told text Failed h = h.2
 
-pub document-told : (body : List ℕ) (e : MarkupError) → DecidesDocument body (Err e) → DocumentTold body (Err (of_document e))
+pub document-told : (body : List ℕ) (e : MarkupError) → DecidesDocument body (Err e) → SaidTold body (Err (of_document e))
 document-told body OutOfMemory h = tt
 document-told body (BadAt at) h = h.2
 document-told body (TooDeep at) h = h.2
 document-told body TooManyBytes h = h.2
 document-told body RefusedBefore h = h.2
 
-pub no-document : (body : List ℕ) (e : NoteError) → DocumentTold body (Err e) → BodyTold body (Err e)
+pub no-document : (body : List ℕ) (e : NoteError) → SaidTold body (Err e) → BodyTold body (Err e)
 no-document body Mem h = tt
 no-document body Head h = h
 no-document body Precondition h = h
 no-document body Body h = λ number events says. h says.root says.document
 
-pub no-said : (body : List ℕ) (root : Meaning) → Doc body root → said_of root ≡ None → BodyTold body (Err Body)
-no-said body root doc none = λ number events says.
-    let same = one-element body says.root root says.document doc in
-    true≢false (ap is_some (sym says.said ∙ ap said_of same ∙ none))
+pub no-said : (body : List ℕ) → IsSaid body None → BodyTold body (Err Body)
+no-said body none = λ number events says.
+    let same = one-element body says.root none.root says.document none.document in
+    true≢false (ap is_some (sym says.said ∙ ap said_of same ∙ none.is))
 
 some-same : (a b : Said) → Some a ≡ Some b → a ≡ b
 some-same a b e = cc
 
-pub no-events : (body : List ℕ) (root : Meaning) (said : Said) → Doc body root → said_of root ≡ Some said → (e : NoteError) → EventsTold said.changes (Err e) → BodyTold body (Err e)
-no-events body root said doc is Mem h = tt
-no-events body root said doc is Head h = h
-no-events body root said doc is Precondition h = h
-no-events body root said doc is Body h = λ number events says.
-    let same = one-element body says.root root says.document doc in
-    let one = some-same (record { number = number; changes = says.changes }) said (sym says.said ∙ ap said_of same ∙ is) in
+pub no-events : (body : List ℕ) (said : Said) → IsSaid body (Some said) → (e : NoteError) → EventsTold said.changes (Err e) → BodyTold body (Err e)
+no-events body said is Mem h = tt
+no-events body said is Head h = h
+no-events body said is Precondition h = h
+no-events body said is Body h = λ number events says.
+    let same = one-element body says.root is.root says.document is.document in
+    let one = some-same (record { number = number; changes = says.changes }) said (sym says.said ∙ ap said_of same ∙ is.is) in
     h events (subst (λ (s : Said). IsStateEvent s.changes events) one says.state)
 
--- a reader to which nothing came
 -- ---- the fields
 
 err-same : (a b : NoteError) → ((a ≡ b) → ⊥) → (r : Result Heading NoteError) → r ≡ Err a → r ≡ Err b → ⊥

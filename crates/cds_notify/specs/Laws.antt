@@ -1,5 +1,5 @@
 -- What holds of notes as they are written and read.
-use Rattle.std.specs.Prelude.{◌≡◌, ◌≢◌, ◌-◌, ◌*◌, ◌≤◌, ◌<◌, ◌^◌, ℕ, Bool, IsTrue, List, ◌++◌, length, map, codes, Result, Ok, Err}
+use Rattle.std.specs.Prelude.{◌≡◌, ◌≢◌, ◌-◌, ◌*◌, ◌≤◌, ◌<◌, ◌^◌, ℕ, Bool, IsTrue, List, ◌++◌, length, map, codes, Result, Err}
 use Rattle.std.specs.List.{AllByRecursion}
 use Rattle.url.specs.Parts.{Parts, IsValid}
 use Rattle.cds_base.specs.declared.limits.TheConstants.{INPUT_LIMIT}

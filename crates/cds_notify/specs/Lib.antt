@@ -1,3 +1,5 @@
+pub mod Gathering
+pub mod Joined
 pub mod Laws
 pub mod Notify
 pub mod Propertyset

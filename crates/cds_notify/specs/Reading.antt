@@ -1,28 +1,17 @@
 -- What the parts of reading the body of a note answer.
-use Rattle.std.specs.Prelude.{◌≡◌, ℕ, Bool, ◌&&◌, List, filter, codes, Option, Some, None, Result, Ok, Err, ⊤, if◌then◌else◌}
+use Rattle.std.specs.Prelude.{◌≡◌, ℕ, List, Option, Result, Ok, Err, ⊤}
 use Rattle.cds_object.specs.declared.event.Event.{Event}
-use Rattle.cds_markup.specs.declared.element.Node.{Node}
 use Rattle.cds_markup.specs.declared.error.MarkupError.{MarkupError}
 use Rattle.cds_markup.specs.declared.error.MarkupError.TheVariants.{Mem as OutOfMemory, Bad as BadAt, TooDeep, TooLong as TooManyBytes, Failed as RefusedBefore}
 use Rattle.cds_markup.specs.Document.{Meaning, Doc}
-use Rattle.cds_markup.specs.Children.{nodes_in, elements_in, element_in, where_it, is_named, called, is_any}
 use Rattle.cds_lastchange.specs.declared.error.StateError.{StateError}
 use Rattle.cds_lastchange.specs.declared.error.StateError.TheVariants.{Mem as Out, Bad, NotStateEvent, TooLong, Failed}
 use Rattle.cds_lastchange.specs.StateEvent.{IsStateEvent}
 use Rattle.cds_notify.specs.declared.note.NoteError.{NoteError}
 use Rattle.cds_notify.specs.declared.note.NoteError.TheVariants.{Mem, Head, Precondition, Body}
 use Rattle.cds_notify.specs.declared.body.Content.{Content}
-use Rattle.cds_notify.specs.Said.{event_space, Says}
-
--- a property in which a variable stands
-abbrev pub carries : List ℕ → Meaning → Bool
-carries local element = is_named event_space (codes "property") element && is_any (called local (nodes_in element))
-
-abbrev pub property_with : List ℕ → Node → Option Meaning
-property_with local node = where_it (carries local) (element_in node)
-
-abbrev pub properties_with : List ℕ → List Node → List Meaning
-properties_with local nodes = filter (carries local) (elements_in nodes)
+use Rattle.cds_notify.specs.declared.body.Said.{Said}
+use Rattle.cds_notify.specs.Said.{said_of, Says}
 
 -- why a note is refused if its changes, or its body, are refused for this reason
 abbrev pub of_state : StateError → NoteError
@@ -39,8 +28,8 @@ of_document (TooDeep at) = Body
 of_document TooManyBytes = Body
 of_document RefusedBefore = Body
 
--- the events of a text, the element of a document, and what a body says. If memory runs out, that says nothing of them.
--- Besides that, the only refusal is `Body`
+-- the events of a text, what the set of properties that a body is says, and what the whole body says. If memory runs
+-- out, that says nothing of them. Besides that, the only refusal is `Body`
 abbrev pub EventsTold : List ℕ → Result (List Event) NoteError → Type 0
 EventsTold text (Ok events) = IsStateEvent text events
 EventsTold text (Err Mem) = ⊤
@@ -48,12 +37,17 @@ EventsTold text (Err Head) = ⊥
 EventsTold text (Err Precondition) = ⊥
 EventsTold text (Err Body) = (events : List Event) → IsStateEvent text events → ⊥
 
-abbrev pub DocumentTold : List ℕ → Result Meaning NoteError → Type 0
-DocumentTold body (Ok root) = Doc body root
-DocumentTold body (Err Mem) = ⊤
-DocumentTold body (Err Head) = ⊥
-DocumentTold body (Err Precondition) = ⊥
-DocumentTold body (Err Body) = (root : Meaning) → Doc body root → ⊥
+pub record IsSaid (body : List ℕ) (said : Option Said) : Type 0 where
+  pub root : Meaning
+  pub document : Doc body root
+  pub is : said_of root ≡ said
+
+abbrev pub SaidTold : List ℕ → Result (Option Said) NoteError → Type 0
+SaidTold body (Ok said) = IsSaid body said
+SaidTold body (Err Mem) = ⊤
+SaidTold body (Err Head) = ⊥
+SaidTold body (Err Precondition) = ⊥
+SaidTold body (Err Body) = (root : Meaning) → Doc body root → ⊥
 
 abbrev pub BodyTold : List ℕ → Result Content NoteError → Type 0
 BodyTold body (Ok content) = Says body content.number content.events

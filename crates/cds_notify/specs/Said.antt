@@ -1,7 +1,7 @@
 -- What a NOTIFY request says. Its fields say the subscription and the SEQ, its body the number and the events (UPnP
 -- Device Architecture 2.0 on event messages). What is needed, and the order of the refusals, are this project's
 -- profile.
-use Rattle.std.specs.Prelude.{◌≡◌, ◌^◌, ℕ, Bool, true, false, ◌&&◌, List, codes, bytes_eq, Option, Some, None, is_some, option_map, option_and_then, Result, Ok, Err, ⊤, if◌then◌else◌}
+use Rattle.std.specs.Prelude.{◌≡◌, ◌^◌, ℕ, Bool, false, ◌&&◌, List, codes, bytes_eq, Option, Some, None, is_some, option_map, option_and_then, Result, Ok, Err, ⊤, if◌then◌else◌}
 use Rattle.std.specs.List.{flat_map}
 use Rattle.cds_base.specs.Number.{number_below}
 use Rattle.cds_commands.specs.Notes.{Note}
@@ -9,7 +9,7 @@ use Rattle.cds_object.specs.declared.event.Event.{Event}
 use Rattle.cds_http.specs.declared.message.Message.{Message}
 use Rattle.cds_markup.specs.declared.element.Node.{Node}
 use Rattle.cds_markup.specs.Document.{Meaning, Doc}
-use Rattle.cds_markup.specs.Children.{nodes_in, texts_in, is_named, named, called, is_any, only_of}
+use Rattle.cds_markup.specs.Children.{nodes_in, texts_in, is_named, named, called, only_of}
 use Rattle.cds_lastchange.specs.StateEvent.{IsStateEvent}
 use Rattle.cds_gena.specs.Asked.{has_method, field_of}
 use Rattle.cds_gena.specs.SidText.{sid_in}

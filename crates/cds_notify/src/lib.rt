@@ -9,6 +9,7 @@ mod note;
 mod notify;
 mod propertyset;
 mod read;
+mod variables;
 
 pub use note::{Note, NoteError};
 pub use notify::write_notify;

@@ -25,7 +25,7 @@ const SHORT_PATIENCE: u64 = 1_000;
 const PATIENCE: u64 = 5_000;
 
 /// How many milliseconds connecting and the reply to a note may take at least, however many others failed just now.
-const LEAST_PATIENCE: u64 = 8;
+const LEAST_PATIENCE: u64 = 6;
 
 /// The number of bytes that are read at once.
 const PIECE: usize = 2_048;
@@ -215,10 +215,10 @@ impl Times {
     }
 }
 
-/// Returns for how many milliseconds to wait after this number of failures. Each of them leaves a quarter of the time, but not
+/// Returns for how many milliseconds to wait after this number of failures. Each of them leaves an eighth of the time, but not
 /// less than the least.
 fn shorter(failures: u32) -> u64 {
-    let halvings = failures.saturating_mul(2).min(10);
+    let halvings = failures.saturating_mul(3).min(10);
     (SHORT_PATIENCE >> halvings).max(LEAST_PATIENCE)
 }
 
