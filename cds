@@ -113,7 +113,7 @@ explain() {
     6,check) echo "the input has more than 67108864 bytes" ;;
     6,*) echo "the script, or a line of it, is too long" ;;
     7,*) first_of "$(folder_fault "${4-}")" "$(port_fault "$folder")" "a port, a connection or a thread could not be had" ;;
-    8,*) echo "the input is no StateEvent, which is a list of changes; its first fault is at the byte that is written, from 0" ;;
+    8,*) echo "the input is no StateEvent, which is a list of changes; the number is the place of its first fault, in bytes from 0" ;;
     127,*) echo "the program could not be started" ;;
     *) echo "the program ended with status $status" ;;
   esac

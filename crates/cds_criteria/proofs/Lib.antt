@@ -1,0 +1,16 @@
+pub mod Running
+pub mod Sound
+pub mod Fitting
+pub mod Outcomes
+pub mod Folds
+pub mod Found
+pub mod Same
+pub mod Laid
+pub mod Texts
+pub mod Order
+pub mod Keys
+pub mod Unique
+pub mod SortItems
+pub mod TextRead
+pub mod Values
+pub mod Places

@@ -1,0 +1,5 @@
+pub mod Notes
+pub mod Pieces
+pub mod Plain
+pub mod Spoken
+pub mod Tracks

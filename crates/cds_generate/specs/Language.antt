@@ -1,0 +1,19 @@
+-- The lines of a generated script are lines of the language of scripts.
+use Rattle.std.specs.Prelude.{◌≡◌, ◌≤◌, ℕ, List, length}
+use Rattle.std.specs.List.{AllByRecursion}
+use Rattle.cds_script.specs.Lines.{lines_of, ended_lines, line_limit}
+use Rattle.cds_script.specs.Script.{meaning_of}
+use Rattle.cds_script.specs.declared.turn.Meaning.TheVariants.{Means}
+use Rattle.cds_script.specs.declared.turn.ScriptTurn.{ScriptTurn}
+use Rattle.cds_generate.specs.Generated.{generated}
+
+-- a line means a turn, and is short enough
+pub record IsTurnLine (line : List ℕ) : Type 0 where
+  pub turn : ScriptTurn
+  pub means : meaning_of line ≡ Means turn
+  pub short : length line ≤ line_limit
+
+-- so is each line, and each line was ended
+abbrev pub lines_are_turns : Type 0
+lines_are_turns = (seed count : ℕ) → 1 ≤ count → count ≤ 10000 →
+    AllByRecursion IsTurnLine (lines_of (generated seed count)) × (ended_lines (generated seed count) ≡ lines_of (generated seed count))

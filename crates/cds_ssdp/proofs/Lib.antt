@@ -1,0 +1,9 @@
+mod Answering
+pub mod Begun
+mod Documents
+mod Joined
+mod Literal
+mod ReadBack
+mod Single
+mod Table
+mod Visible

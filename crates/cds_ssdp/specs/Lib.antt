@@ -1,0 +1,10 @@
+pub mod Location
+pub mod Messages
+pub mod Targets
+pub mod Replies
+pub mod Search
+pub mod Finding
+pub mod Description
+pub mod Documents
+pub mod Examples
+pub mod Laws
