@@ -1,7 +1,7 @@
 #!/usr/bin/env bash
 # Runs the program if it is built, and says on standard error why it ended if its status is not 0. If the program is not built,
 # runs the sources unproved, and says so; `serve` then only says how to build it. `./cds --prove` proves every crate and builds
-# the program, which takes most of an hour if nothing is kept. `./cds --test` runs the tests and most examples unproved.
+# the program, which takes half an hour or more if nothing is kept. `./cds --test` runs the tests and most examples unproved.
 set -u
 top=$(cd "$(dirname "$0")" && pwd)
 crate=$top/crates/cds_cli
@@ -12,12 +12,12 @@ tell() {
   echo "cds: $*" >&2
 }
 
-# Proves every crate and builds the program. What the toolchain says goes into a file.
+# Proves and tests every crate and builds the program, as the gate does. What the toolchain says goes into a file.
 prove() {
   local log=$crate/out/prove.log
   mkdir -p "$crate/out"
-  tell "proving every crate and building the program; this takes most of an hour on a fresh machine ($log has what is said)"
-  if (cd "$crate" && rt run -- --version) >"$log" 2>&1 && [ -x "$program" ]; then
+  tell "proving and testing every crate and building the program; on a fresh machine this takes half an hour or more ($log has what is said)"
+  if (cd "$top" && rt ci) >"$log" 2>&1 && [ -x "$program" ]; then
     tell "proved and built"
     exit 0
   fi
@@ -147,10 +147,10 @@ fi
 if [ -x "$program" ]; then
   run "$program" "$@"
 elif [ "${1-}" = serve ]; then
-  tell "the program is not built, and serve needs it; './cds --prove' proves and builds it, which takes most of an hour on a fresh machine"
+  tell "the program is not built, and serve needs it; './cds --prove' proves and builds it, in half an hour or more"
   exit 127
 else
-  tell "running the sources unproved, which takes a minute or more; './cds --prove' proves and builds the program, in most of an hour"
+  tell "running the sources unproved, which takes a minute or more; './cds --prove' proves and builds the program, in half an hour or more"
   if [ $# -eq 2 ] && [ "$1" = scan ]; then
     case $2 in
       /*) ;;
