@@ -16,6 +16,10 @@ tell() {
 prove() {
   local log=$crate/out/prove.log
   mkdir -p "$crate/out"
+  if ! command -v rt >/dev/null; then
+    tell "rt is not in PATH: the Rattle kit is not there, or its folder bin is not in PATH"
+    exit 1
+  fi
   tell "proving and testing every crate and building the program; on a fresh machine this takes half an hour or more ($log has what is said)"
   if (cd "$top" && rt ci) >"$log" 2>&1 && [ -x "$program" ]; then
     tell "proved and built"
