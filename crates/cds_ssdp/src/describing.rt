@@ -9,6 +9,55 @@ use cds_base::Mem;
 use std::alloc::Global;
 use uuid::Uuid;
 
+/// The description of the service.
+const SERVICE: &[u8] = b"\
+    <?xml version=\"1.0\"?><scpd xmlns=\"urn:schemas-upnp-org:service-1-0\">\
+    <specVersion><major>2</major><minor>0</minor></specVersion>\
+    <actionList>\
+    <action><name>Browse</name>\
+    <argumentList>\
+    <argument><name>ObjectID</name><direction>in</direction></argument>\
+    <argument><name>BrowseFlag</name><direction>in</direction></argument>\
+    <argument><name>Filter</name><direction>in</direction></argument>\
+    <argument><name>StartingIndex</name><direction>in</direction></argument>\
+    <argument><name>RequestedCount</name><direction>in</direction></argument>\
+    <argument><name>SortCriteria</name><direction>in</direction></argument>\
+    <argument><name>Result</name><direction>out</direction></argument>\
+    <argument><name>NumberReturned</name><direction>out</direction></argument>\
+    <argument><name>TotalMatches</name><direction>out</direction></argument>\
+    <argument><name>UpdateID</name><direction>out</direction></argument>\
+    </argumentList></action>\
+    <action><name>Search</name>\
+    <argumentList>\
+    <argument><name>ContainerID</name><direction>in</direction></argument>\
+    <argument><name>SearchCriteria</name><direction>in</direction></argument>\
+    <argument><name>Filter</name><direction>in</direction></argument>\
+    <argument><name>StartingIndex</name><direction>in</direction></argument>\
+    <argument><name>RequestedCount</name><direction>in</direction></argument>\
+    <argument><name>SortCriteria</name><direction>in</direction></argument>\
+    <argument><name>Result</name><direction>out</direction></argument>\
+    <argument><name>NumberReturned</name><direction>out</direction></argument>\
+    <argument><name>TotalMatches</name><direction>out</direction></argument>\
+    <argument><name>UpdateID</name><direction>out</direction></argument>\
+    </argumentList></action>\
+    <action><name>GetSystemUpdateID</name>\
+    <argumentList>\
+    <argument><name>Id</name><direction>out</direction></argument>\
+    </argumentList></action>\
+    <action><name>GetServiceResetToken</name>\
+    <argumentList>\
+    <argument><name>ResetToken</name><direction>out</direction></argument>\
+    </argumentList></action>\
+    <action><name>GetSearchCapabilities</name>\
+    <argumentList>\
+    <argument><name>SearchCaps</name><direction>out</direction></argument>\
+    </argumentList></action>\
+    <action><name>GetSortCapabilities</name>\
+    <argumentList>\
+    <argument><name>SortCaps</name><direction>out</direction></argument>\
+    </argumentList></action>\
+    </actionList><serviceStateTable></serviceStateTable></scpd>";
+
 /// Appends the description of the device up to its UUID.
 fn put_front(out: &mut Vec<u8>) -> Result<(), Mem>
     ensures { OnOk result (out.new.items ≡ out.old.items ++ device_front) }
@@ -75,54 +124,6 @@ pub fn write_service(out: &mut Vec<u8>) -> Result<(), Mem>
     ensures ok { OnOk result (out.new.items ≡ out.old.items ++ service_text) }
     ensures err { OnErr result (out.new.items ≡ out.old.items) }
 {
-    out.extend_from_slice(
-        b"\
-        <?xml version=\"1.0\"?><scpd xmlns=\"urn:schemas-upnp-org:service-1-0\">\
-        <specVersion><major>2</major><minor>0</minor></specVersion>\
-        <actionList>\
-        <action><name>Browse</name>\
-        <argumentList>\
-        <argument><name>ObjectID</name><direction>in</direction></argument>\
-        <argument><name>BrowseFlag</name><direction>in</direction></argument>\
-        <argument><name>Filter</name><direction>in</direction></argument>\
-        <argument><name>StartingIndex</name><direction>in</direction></argument>\
-        <argument><name>RequestedCount</name><direction>in</direction></argument>\
-        <argument><name>SortCriteria</name><direction>in</direction></argument>\
-        <argument><name>Result</name><direction>out</direction></argument>\
-        <argument><name>NumberReturned</name><direction>out</direction></argument>\
-        <argument><name>TotalMatches</name><direction>out</direction></argument>\
-        <argument><name>UpdateID</name><direction>out</direction></argument>\
-        </argumentList></action>\
-        <action><name>Search</name>\
-        <argumentList>\
-        <argument><name>ContainerID</name><direction>in</direction></argument>\
-        <argument><name>SearchCriteria</name><direction>in</direction></argument>\
-        <argument><name>Filter</name><direction>in</direction></argument>\
-        <argument><name>StartingIndex</name><direction>in</direction></argument>\
-        <argument><name>RequestedCount</name><direction>in</direction></argument>\
-        <argument><name>SortCriteria</name><direction>in</direction></argument>\
-        <argument><name>Result</name><direction>out</direction></argument>\
-        <argument><name>NumberReturned</name><direction>out</direction></argument>\
-        <argument><name>TotalMatches</name><direction>out</direction></argument>\
-        <argument><name>UpdateID</name><direction>out</direction></argument>\
-        </argumentList></action>\
-        <action><name>GetSystemUpdateID</name>\
-        <argumentList>\
-        <argument><name>Id</name><direction>out</direction></argument>\
-        </argumentList></action>\
-        <action><name>GetServiceResetToken</name>\
-        <argumentList>\
-        <argument><name>ResetToken</name><direction>out</direction></argument>\
-        </argumentList></action>\
-        <action><name>GetSearchCapabilities</name>\
-        <argumentList>\
-        <argument><name>SearchCaps</name><direction>out</direction></argument>\
-        </argumentList></action>\
-        <action><name>GetSortCapabilities</name>\
-        <argumentList>\
-        <argument><name>SortCaps</name><direction>out</direction></argument>\
-        </argumentList></action>\
-        </actionList><serviceStateTable></serviceStateTable></scpd>",
-    )?;
+    out.extend_from_slice(SERVICE)?;
     Ok(())
 }
