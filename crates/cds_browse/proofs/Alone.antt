@@ -1,16 +1,15 @@
 -- The one row of an object.
-use Rattle.std.proofs.Common.{◌≡◌, ◌<◌, ℕ, zero, suc, Bool, true, false, cond, nat_eq, List, [], ◌∷◌, Some, None, map, take, drop, length, filter, refl, sym, ◌∙◌, ap, arith}
+use Rattle.std.proofs.Common.{◌≡◌, ◌<◌, ℕ, zero, suc, Bool, true, false, cond, nat_eq, List, [], ◌∷◌, Some, None, take, drop, filter, refl, sym, ◌∙◌, ap, arith}
 use Rattle.std.specs.List.{AllByRecursion}
 use Rattle.std.proofs.lemmas.Bool.Decides.{nat_tests}
 use Rattle.cds_object.specs.Object.{ObjectRow}
 use Rattle.cds_object.specs.Tree.{IdsAscend}
-use Rattle.cds_soap.specs.declared.action.BrowseRequest.{BrowseRequest}
 use Rattle.cds_browse.specs.declared.page.Page.{Page}
 use Rattle.cds_browse.specs.declared.page.Target.{Target}
 use Rattle.cds_browse.specs.declared.page.Target.TheVariants.{Itself, Children}
-use Rattle.cds_browse.specs.declared.sort.SortKeys.{SortKeys}
-use Rattle.cds_browse.specs.declared.sort.SortKeys.TheVariants.{ById}
-use Rattle.cds_browse.specs.Browsing.{target_at, has_id_text, row_named, most_rows, update_of, page_of}
+use Rattle.cds_criteria.specs.declared.sort.SortKey.{SortKey}
+use Rattle.cds_browse.specs.Paging.{has_id_text, row_named, ids_of, most_rows, update_of, page_of}
+use Rattle.cds_browse.specs.Browsing.{target_at, matches}
 use Rattle.cds_browse.proofs.Named.{same_as, are_same, other_id}
 
 abbrev pub AllAbove : ℕ → List ObjectRow → Type 0
@@ -74,7 +73,7 @@ from_start start is count row = ap (λ s. take (most_rows count) (drop s (row �
 abbrev pub made : List ℕ → ℕ → ℕ → Page
 made ids total update = record { ids = ids; total = total; update = update }
 
-same_page : (ids others : List ℕ) (total more update newer : ℕ) → ids ≡ others → total ≡ more → update ≡ newer → made ids total update ≡ made others more newer
+pub same_page : (ids others : List ℕ) (total more update newer : ℕ) → ids ≡ others → total ≡ more → update ≡ newer → made ids total update ≡ made others more newer
 same_page ids others total more update newer i t u =
     ap (λ (l : List ℕ). made l total update) i ∙ ap (λ n. made others n update) t ∙ ap (λ n. made others more n) u
 
@@ -83,20 +82,17 @@ one_left : (start : ℕ) (b : Bool) → nat_eq start 0 ≡ b → cond b (Some It
 one_left start true is at count row = from_start start is count row
 one_left start false is at count row = absurd (cc)
 
-pub itself_page : (number : ℕ) (rows : List ObjectRow) (row : ObjectRow) (asked : BrowseRequest) (update : ℕ) → IdsAscend rows → row_named asked.object rows ≡ Some row
-    → target_at asked.start (Some Itself) ≡ Some Itself → update ≡ update_of number row rows → made (row.id ∷ []) 1 update ≡ page_of number rows Itself row ById asked
-itself_page number rows row asked update ascend found at is =
-    let all : List ObjectRow = filter (λ (other : ObjectRow). nat_eq other.id row.id) rows in
-    let one : all ≡ row ∷ [] = alone asked.object row rows ascend found in
-    let ids : map (λ (r : ObjectRow). r.id) (take (most_rows asked.count) (drop asked.start all)) ≡ row.id ∷ [] =
-    ap (λ (l : List ObjectRow). map (λ (r : ObjectRow). r.id) (take (most_rows asked.count) (drop asked.start l))) one
-    ∙ ap (map (λ (r : ObjectRow). r.id)) (one_left asked.start (nat_eq asked.start 0) refl at asked.count row) in
-    same_page (row.id ∷ []) (map (λ (r : ObjectRow). r.id) (take (most_rows asked.count) (drop asked.start all))) 1 (length all) update (update_of number row rows)
-    (sym ids) (sym (ap length one)) is
+itself_page : (number : ℕ) (rows : List ObjectRow) (row : ObjectRow) (keys : List SortKey) (text : List ℕ) (start count update : ℕ) → IdsAscend rows → row_named text rows ≡ Some row
+    → target_at start (Some Itself) ≡ Some Itself → update ≡ update_of number row rows
+    → made (row.id ∷ []) 1 update ≡ page_of number rows row keys start count (matches Itself row rows)
+itself_page number rows row keys text start count update ascend found at is =
+    same_page (row.id ∷ []) (ids_of (take (most_rows count) (drop start (row ∷ [])))) 1 1 update (update_of number row rows)
+    (sym (ap ids_of (one_left start (nat_eq start 0) refl at count row))) refl is
+    ∙ sym (ap (λ (l : List ObjectRow). page_of number rows row keys start count l) (alone text row rows ascend found))
 
-pub itself_made : (number : ℕ) (rows : List ObjectRow) (row : ObjectRow) (asked : BrowseRequest) (update : ℕ) (target : Target) (keys : SortKeys) (id : ℕ) → IdsAscend rows
-    → row_named asked.object rows ≡ Some row → target ≡ Itself → target_at asked.start (Some target) ≡ Some target → update ≡ update_of number row rows → id ≡ row.id
-    → made (id ∷ []) 1 update ≡ page_of number rows target row keys asked
-itself_made number rows row asked update Itself ById id ascend found is at told same =
-    ap (λ n. made (n ∷ []) 1 update) same ∙ itself_page number rows row asked update ascend found at told
-itself_made number rows row asked update Children ById id ascend found is at told same = absurd (cc)
+pub itself_made : (number : ℕ) (rows : List ObjectRow) (row : ObjectRow) (keys : List SortKey) (text : List ℕ) (start count update : ℕ) (target : Target) (id : ℕ) → IdsAscend rows
+    → row_named text rows ≡ Some row → target ≡ Itself → target_at start (Some target) ≡ Some target → update ≡ update_of number row rows → id ≡ row.id
+    → made (id ∷ []) 1 update ≡ page_of number rows row keys start count (matches target row rows)
+itself_made number rows row keys text start count update Itself id ascend found is at told same =
+    ap (λ n. made (n ∷ []) 1 update) same ∙ itself_page number rows row keys text start count update ascend found at told
+itself_made number rows row keys text start count update Children id ascend found is at told same = absurd (cc)

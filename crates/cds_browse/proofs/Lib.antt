@@ -1,6 +1,9 @@
 pub mod Alone
+pub mod Lineage
+pub mod Made
 pub mod Named
 pub mod Pages
-pub mod Ranges
+pub mod Placing
 pub mod Running
 pub mod Texts
+pub mod Unsorted

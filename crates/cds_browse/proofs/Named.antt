@@ -1,6 +1,5 @@
 -- The row whose id a text is in plain decimal.
 use Rattle.std.proofs.Common.{◌≡◌, ◌<◌, ◌≤◌, ◌^◌, ◌&&◌, ℕ, Bool, true, false, cond, nat_eq, List, [], ◌∷◌, Some, None, refl, sym, ◌∙◌, ap, arith, true≢false}
-use Rattle.std.specs.List.{AllByRecursion}
 use Rattle.std.specs.Str.{bytes_eq}
 use Rattle.std.specs.Fmt.{decimal}
 use Rattle.std.proofs.lemmas.Bool.Decides.{nat_tests}
@@ -9,11 +8,8 @@ use Rattle.cds_base.specs.Number.{number_below}
 use Rattle.cds_base.proofs.Plain.{decimal-read}
 use Rattle.cds_object.specs.Object.{ObjectRow}
 use Rattle.cds_object.specs.Tree.{row_of}
-use Rattle.cds_browse.specs.Browsing.{has_id_text, row_named}
-
--- ids are of 32 bits
-abbrev pub IdsFit : List ObjectRow → Type 0
-IdsFit = AllByRecursion (λ row. row.id < 2 ^ 32)
+use Rattle.cds_store.specs.Views.{IdsFit}
+use Rattle.cds_browse.specs.Paging.{has_id_text, row_named}
 
 limit_fits : 2 ^ 32 ≤ 2 ^ 64
 limit_fits = omega arith

@@ -6,8 +6,6 @@ use Rattle.std.proofs.lemmas.List.Concat.{flat_map-append}
 use Rattle.std.proofs.lemmas.Option.{slice_get_within, get_or_from_slice_get}
 use Rattle.cds_object.specs.Object.{ObjectRow}
 use Rattle.cds_object.specs.Fragment.{fragment, full_text}
-use Rattle.cds_catalog.specs.Catalog.{PlacedRow}
-use Rattle.cds_store.specs.Rows.{rows_of}
 
 pub text_more : (rows : List ObjectRow) (k : ℕ) (row : ObjectRow) → slice_get rows k ≡ Some row → full_text (take k rows) ++ full_text (row ∷ []) ≡ full_text (take (k + 1) rows)
 text_more rows k row is =
@@ -15,7 +13,7 @@ text_more rows k row is =
     ∙ ap full_text (sym (take_more rows k row (slice_get_within rows k row is) ∙ ap (λ (r : ObjectRow). take k rows ++ r ∷ []) (get_or_from_slice_get rows k row row is)))
 
 -- within the rows there is one at each place
-pub some_row : (rows : List PlacedRow) (k : ℕ) (P : Type 0) → k < length rows → slice_get (rows_of rows) k ≡ None → P
+pub some_row : (rows : List ObjectRow) (k : ℕ) (P : Type 0) → k < length rows → slice_get rows k ≡ None → P
 some_row [] k P within none = absurd (omega (arith, within))
-some_row (placed ∷ rows) zero P within none = absurd (cc)
-some_row (placed ∷ rows) (suc k) P within none = some_row rows k P (omega (arith, within)) none
+some_row (row ∷ rows) zero P within none = absurd (cc)
+some_row (row ∷ rows) (suc k) P within none = some_row rows k P (omega (arith, within)) none

@@ -1,5 +1,9 @@
 pub mod Browsing
 pub mod Examples
-pub mod Kept
 pub mod Laws
+pub mod Lineage
+pub mod Paging
+pub mod Places
+pub mod Refusals
 pub mod Runs
+pub mod Searching

@@ -5,13 +5,12 @@ ghost use Rattle.std.specs.List.{AllByRecursion};
 ghost use Rattle.cds_object.specs.Fragment.{full_text};
 ghost use Rattle.cds_catalog.specs.History.{History};
 ghost use Rattle.cds_store.specs.Stands.{StandsFor};
-ghost use Rattle.cds_browse.specs.Kept.{kept_rows};
 ghost use Rattle.cds_browse.specs.Runs.{AllAccepted, after_scans, Stopped, Ran};
 
 use cds_base::{Mem, put};
 use cds_didl::put_fragment;
 use cds_object::{Records, Row};
-use cds_store::{ApplyError, Keeping};
+use cds_store::{ApplyError, Keeping, View};
 use std::alloc::Global;
 
 /// Takes scans in their order, and appends the fragments of all rows after them in ascending order of ids, each ended by LF. It
@@ -55,13 +54,13 @@ fn take_all<K: Keeping>(alloc: Global, keeping: &mut K, scans: &[Records]) -> Re
     Ok(())
 }
 
-/// Returns the fragments of all rows, each ended by LF.
-fn rows_text<K: Keeping>(alloc: Global, keeping: &K) -> Result<String, Mem>
-    ensures { IfOk result (λ text. string_bytes text ≡ full_text (kept_rows (K.stored keeping.now))) }
+/// Returns the fragments of all rows of a view, each ended by LF.
+fn rows_text<V: View>(alloc: Global, view: &V) -> Result<String, Mem>
+    ensures { IfOk result (λ text. string_bytes text ≡ full_text (V.rows view.now)) }
 {
     let mut text = String::new(alloc);
-    for at in 0..keeping.len() {
-        if let Some(row) = keeping.row(at) {
+    for at in 0..view.len() {
+        if let Some(row) = view.row(at) {
             put_row(&mut text, row)?;
         }
     }

@@ -14,3 +14,4 @@ pub mod SortItems
 pub mod TextRead
 pub mod Values
 pub mod Places
+pub mod Ways

@@ -1,11 +1,12 @@
 -- Laws of sort criteria and of the order that they name, beside their definitions, and the law of descendants.
 use Rattle.std.specs.Prelude.{◌≡◌, ◌≤◌, ℕ, true, List, [], length, Ok}
 use Rattle.std.specs.Cmp.{IsTotalOrder}
+use Rattle.std.specs.List.{Contains}
 use Rattle.std.specs.List.Sorted.{IsPermutation}
 use Rattle.cds_object.specs.Object.{ObjectRow}
 use Rattle.cds_object.specs.Tree.{IdsAscend}
 use Rattle.cds_criteria.specs.Sorting.{SortKey, keys_read, keys_text, row_order, ordered, IsOrdered}
-use Rattle.cds_criteria.specs.Descendants.{Under, is_below}
+use Rattle.cds_criteria.specs.Descendants.{Under, leads_within, is_below}
 
 -- an accepted text is the text of its keys
 abbrev pub keys_are_spelled : Type 0
@@ -39,3 +40,9 @@ no_keys_keep = (rows : List ObjectRow) → IdsAscend rows → ordered [] rows �
 abbrev pub ways_lead_down : Type 0
 ways_lead_down =
     (rows : List ObjectRow) (container : ℕ) (row : ObjectRow) → is_below rows container row ≡ true → (n : ℕ) × Under rows container n row
+
+-- from a row, each way to the container, of whatever length, is found in as many steps as there are rows
+abbrev pub ways_are_found : Type 0
+ways_are_found =
+    (rows : List ObjectRow) (container n : ℕ) (row : ObjectRow) → Contains rows row → Under rows container n row →
+    leads_within (length rows) rows container row.parent ≡ true

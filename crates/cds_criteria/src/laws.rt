@@ -62,3 +62,9 @@ pub fn no_keys_keep()
 pub fn ways_lead_down()
     ensures { sort_laws.ways_lead_down }
 {}
+
+/// States that from each row of a list, however far below the container it is, parents lead to the container in as many steps as
+/// there are rows.
+pub fn ways_are_found()
+    ensures { sort_laws.ways_are_found }
+{}

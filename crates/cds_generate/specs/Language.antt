@@ -1,7 +1,7 @@
--- The lines of a generated script are lines of the language of scripts.
+-- Generated scripts are within the language of scripts, line by line, and within its limits.
 use Rattle.std.specs.Prelude.{◌≡◌, ◌≤◌, ℕ, List, length}
 use Rattle.std.specs.List.{AllByRecursion}
-use Rattle.cds_script.specs.Lines.{lines_of, ended_lines, line_limit}
+use Rattle.cds_script.specs.Lines.{lines_of, ended_lines, line_limit, script_limit}
 use Rattle.cds_script.specs.Script.{meaning_of}
 use Rattle.cds_script.specs.declared.turn.Meaning.TheVariants.{Means}
 use Rattle.cds_script.specs.declared.turn.ScriptTurn.{ScriptTurn}
@@ -17,3 +17,7 @@ pub record IsTurnLine (line : List ℕ) : Type 0 where
 abbrev pub lines_are_turns : Type 0
 lines_are_turns = (seed count : ℕ) → 1 ≤ count → count ≤ 10000 →
     AllByRecursion IsTurnLine (lines_of (generated seed count)) × (ended_lines (generated seed count) ≡ lines_of (generated seed count))
+
+-- a generated script is within the limit of scripts
+abbrev pub scripts_are_short : Type 0
+scripts_are_short = (seed count : ℕ) → 1 ≤ count → count ≤ 10000 → length (generated seed count) ≤ script_limit

@@ -27,7 +27,7 @@ use Rattle.cds_commands.specs.Commands.{Command}
 use Rattle.cds_follow.specs.Given.{moment_after}
 use Rattle.cds_script.specs.Report.{script_token}
 use Rattle.cds_soap.specs.Control.{AnswersAsk}
-use Rattle.cds_server.specs.Answering.{answer_to}
+use Rattle.cds_control.specs.Answering.{answer_to}
 use Rattle.cds_server.specs.Published.{published_by}
 use Rattle.cds_server.specs.Laws.{what_is_asked_is_answered}
 use Rattle.cds_server.specs.Replies.{IsReply, Replied}

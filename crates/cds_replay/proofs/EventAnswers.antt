@@ -32,7 +32,8 @@ use Rattle.cds_gena.specs.declared.error.GenaError.TheVariants.{Full, Spent}
 use Rattle.cds_gena.specs.declared.gena.Gena.{Gena}
 use Rattle.cds_gena.specs.declared.gena.Gena.TheVariants.{Subscribe, Renew, Unsubscribe}
 use Rattle.cds_gena.proofs.Requests.{subscribes-read, renewals-read, unsubscribes-read}
-use Rattle.cds_server.specs.Outcome.{GoesOut, Outcome, Refused, Granted, Renewed, Ended, and_command, command_of, empty_reply, granting, if_lives, lease_reply, living_number, noted, ending, outcome, outcome_note, outcome_of, outcome_reply, refusal_of, renewing}
+use Rattle.cds_control.specs.Replies.{empty_reply}
+use Rattle.cds_server.specs.Outcome.{GoesOut, Outcome, Refused, Granted, Renewed, Ended, and_command, command_of, granting, if_lives, lease_reply, living_number, noted, ending, outcome, outcome_note, outcome_of, outcome_reply, refusal_of, renewing}
 use Rattle.cds_server.specs.Replies.{IsReplyOf, Replied, command_at, command_by, note_at, note_by}
 use Rattle.cds_server.specs.Route.{Route, Subscribes, asks_events, route}
 use Rattle.cds_server.specs.Serving.{Serving, StandsFor}

@@ -37,7 +37,8 @@ use Rattle.cds_notify.specs.declared.note.NoteError.{NoteError}
 use Rattle.cds_notify.specs.declared.note.NoteError.TheVariants.{Mem as NoMemory, Head, Precondition, Body}
 use Rattle.cds_notify.proofs.Notes.{notes-read}
 use Rattle.cds_notify.proofs.Reading.{one-answer}
-use Rattle.cds_server.specs.Outcome.{empty_reply, lease_reply}
+use Rattle.cds_control.specs.Replies.{empty_reply}
+use Rattle.cds_server.specs.Outcome.{lease_reply}
 use Rattle.cds_server.specs.Serving.{Serving, StandsFor as ServerStandsFor}
 use Rattle.cds_server.specs.declared.notes.FirstNote.{FirstNote}
 use Rattle.cds_script.specs.Report.{given_up, lives, with_renewal}

@@ -15,13 +15,18 @@ use Rattle.cds_didl.specs.Fragment.{didl_text}
 use Rattle.cds_soap.specs.declared.action.BrowseRequest.{BrowseRequest}
 use Rattle.cds_soap.specs.declared.answer.Answer.{Answer}
 use Rattle.cds_soap.specs.declared.answer.Answer.TheVariants as answer
-use Rattle.cds_browse.specs.Browsing.{row_named, matches, update_of as browse_update, told_of, container_update_of, holder_of, most_rows, row_answer, target_asked}
+use Rattle.cds_criteria.specs.Sorting.{ordered}
+use Rattle.cds_criteria.proofs.Unique.{none_keep}
+use Rattle.cds_store.specs.Views.{IdsFit}
+use Rattle.cds_browse.specs.Paging.{row_named, ids_of, update_of as browse_update, container_update_of, holder_of, most_rows}
+use Rattle.cds_browse.specs.Browsing.{row_answer, target_asked}
 use Rattle.cds_browse.specs.declared.page.Page.{Page}
 use Rattle.cds_browse.specs.declared.error.BrowseError.{BrowseError}
 use Rattle.cds_browse.specs.declared.error.BrowseError.TheVariants.{NoContainer}
 use Rattle.cds_browse.proofs.Alone.{alone}
 use Rattle.cds_load.specs.declared.exchange.Shown.TheVariants.{Page as PageShown, Fault}
-use Rattle.cds_browse.proofs.Named.{IdsFit, named_by}
+use Rattle.cds_browse.proofs.Named.{named_by}
+use Rattle.cds_browse.proofs.Pages.{filtered_ascend}
 use Rattle.cds_load.specs.Server.{Moment, page_size, container_update, update_of, metadata_reply, children_reply, reply_to}
 use Rattle.cds_load.specs.declared.exchange.Ask.{Ask}
 use Rattle.cds_load.specs.declared.exchange.Ask.TheVariants.{Token, Number, Metadata, Children}
@@ -31,9 +36,10 @@ use Rattle.cds_commands.specs.Commands.{Command, scans_of}
 use Rattle.cds_commands.specs.Names.{names_of}
 use Rattle.cds_follow.specs.Given.{moment_after}
 use Rattle.cds_script.specs.Report.{script_token}
-use Rattle.cds_server.specs.Answering.{base_of, rows_with, page_answer, browsed, answer_to}
-use Rattle.cds_server.specs.Published.{Published, token_of, published_by}
-use Rattle.cds_server.proofs.PagesRows.{pages-have}
+use Rattle.cds_control.specs.Answering.{base_of, rows_with, page_answer, answer_to}
+use Rattle.cds_control.specs.Published.{Published}
+use Rattle.cds_control.proofs.PagesRows.{found-have}
+use Rattle.cds_server.specs.Published.{token_of, published_by}
 use Rattle.cds_replay.specs.Session.{script_start}
 use Rattle.cds_replay.specs.Wire.{script_base}
 
@@ -109,14 +115,19 @@ module _ (host : List ℕ) (moment : Moment) (plain : IsPlainMoment moment) wher
   abbrev answered : Result Page BrowseError → Answer
   answered result = page_answer (codes "*") host rows result
 
+  -- without keys the rows that match stay as they are
+  kept : (test : ObjectRow → Bool) → ordered [] (filter test rows) ≡ filter test rows
+  kept test = none_keep (filter test rows) (filtered_ascend test rows ascend)
+
   -- a page of rows that match is the page of these rows
   paged : (test : ObjectRow → Bool) (start total update now : ℕ) (shown : List ObjectRow) → take page_size (drop start (filter test rows)) ≡ shown → update ≡ now →
-      answered (Ok (record { ids = map (λ (r : ObjectRow). r.id) (take (most_rows page_size) (drop start (filter test rows))); total = total; update = update }))
+      answered (Ok (record { ids = ids_of (take (most_rows page_size) (drop start (ordered [] (filter test rows)))); total = total; update = update }))
       ≡ answer_saying (base_of host) (PageShown shown total now)
   paged test start total update now shown are same =
       let back : rows_with (map (λ (r : ObjectRow). r.id) (take page_size (drop start (filter test rows)))) rows ≡ take page_size (drop start (filter test rows)) =
-      pages-have rows test start page_size ascend in
-      (λ i. answer.Page (didl_text (everything i) (base_of host) (back i)) (map-length (take page_size (drop start (filter test rows))) i) total (same i))
+      found-have rows test start page_size ascend in
+      ap (λ (l : List ObjectRow). answered (Ok (record { ids = ids_of (take (most_rows page_size) (drop start l)); total = total; update = update }))) (kept test)
+      ∙ (λ i. answer.Page (didl_text (everything i) (base_of host) (back i)) (map-length (take page_size (drop start (filter test rows))) i) total (same i))
       ∙ ap (λ (shown : List ObjectRow). answer.Page (didl_text None (base_of host) shown) (length shown) total now) are
 
   -- what a request is answered of an object, where there is one
@@ -130,7 +141,7 @@ module _ (host : List ℕ) (moment : Moment) (plain : IsPlainMoment moment) wher
       let one : filter (λ (other : ObjectRow). nat_eq other.id row.id) rows ≡ row ∷ [] =
       alone (decimal id) row rows ascend (named-row rows id (ids-fit rows plain.each) low ∙ e) in
       ap (λ total. answered (Ok (record {
-        ids = map (λ (r : ObjectRow). r.id) (take (most_rows page_size) (drop 0 (filter (λ (other : ObjectRow). nat_eq other.id row.id) rows)));
+        ids = ids_of (take (most_rows page_size) (drop 0 (ordered [] (filter (λ (other : ObjectRow). nat_eq other.id row.id) rows))));
         total = total;
         update = browse_update moment.number row rows;
       }))) (ap length one)
@@ -144,7 +155,7 @@ module _ (host : List ℕ) (moment : Moment) (plain : IsPlainMoment moment) wher
     where
       by : (f : Bool) →
           answered (cond f (Ok (record {
-            ids = map (λ (r : ObjectRow). r.id) (take (most_rows page_size) (drop start (filter (is_child_of row.id) rows)));
+            ids = ids_of (take (most_rows page_size) (drop start (ordered [] (filter (is_child_of row.id) rows))));
             total = length (children_of row.id rows);
             update = browse_update moment.number row rows;
           })) (Err NoContainer))

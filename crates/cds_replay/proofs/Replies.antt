@@ -11,6 +11,7 @@ use Rattle.cds_commands.specs.Subscriptions.{granted}
 use Rattle.cds_gena.specs.Written.{subscribe_text, renewal_text, unsubscribe_text}
 use Rattle.cds_gena.specs.declared.gena.Gena.{Gena}
 use Rattle.cds_gena.specs.declared.gena.Gena.TheVariants.{Subscribe, Renew, Unsubscribe}
+use Rattle.cds_control.proofs.Passing.{answers-it as control-answers}
 use Rattle.cds_server.specs.Outcome.{Outcome, event_reply, living_number, outcome, outcome_of, outcome_reply, refusal_of}
 use Rattle.cds_server.specs.Replies.{IsReplyOf}
 use Rattle.cds_server.specs.Route.{Route, Subscribes, asks_events, route}
@@ -26,7 +27,7 @@ use Rattle.cds_replay.proofs.EventReads.{empty-has-200, empty-has-412, empty-has
 use Rattle.cds_replay.proofs.EventUrls.{event-target}
 
 pub asks-replied : asks_are_replied
-asks-replied first now commands ask m reply plain fits whole = ask-replied asks-are-read (answers-it one-ask) first commands now ask m reply plain fits whole
+asks-replied first now commands ask m reply plain fits whole = ask-replied asks-are-read (answers-it (control-answers one-ask)) first commands now ask m reply plain fits whole
 
 module _ (first now : ℕ) (commands : List Command) (request : List ℕ) (status : ℕ) (method : List ℕ) (gena : Gena) (come : Outcome) where
   abbrev start : Start

@@ -24,7 +24,8 @@ use Rattle.cds_script.specs.declared.reply.HeldReply.{HeldReply}
 use Rattle.cds_script.specs.declared.reply.HeldReply.TheVariants.{NoReply, Named, Refusal}
 use Rattle.cds_script.specs.declared.turn.ScriptTurn.TheVariants.{Folder, Track, Tag, Scan, Load, Read, Ask, First, At, Subscribe, Accept, Renew, Unsubscribe, Deliver, ReadFault}
 use Rattle.cds_script.specs.Script.{IsInRange, grant_at, granted_seconds, moment_limit}
-use Rattle.cds_server.specs.Outcome.{empty_reply, lease_reply}
+use Rattle.cds_control.specs.Replies.{empty_reply}
+use Rattle.cds_server.specs.Outcome.{lease_reply}
 use Rattle.cds_server.specs.Serving.{Serving, StandsFor as ServerStandsFor, Scanned}
 use Rattle.cds_replay.specs.Lines.{was_answered}
 use Rattle.cds_replay.specs.Sending.{SentNote}

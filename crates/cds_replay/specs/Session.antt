@@ -6,7 +6,8 @@ use Rattle.cds_catalog.specs.History.{History}
 use Rattle.cds_commands.specs.Commands.{Command, Start, Ticks, scans_of}
 use Rattle.cds_notify.specs.Laws.{AreNumbers}
 use Rattle.cds_notify.specs.Propertyset.{propertyset_text}
-use Rattle.cds_server.specs.Outcome.{empty_reply, lease_reply}
+use Rattle.cds_control.specs.Replies.{empty_reply}
+use Rattle.cds_server.specs.Outcome.{lease_reply}
 use Rattle.cds_server.specs.Serving.{Serving, StandsFor as ServerStandsFor}
 use Rattle.cds_replay.specs.Sending.{SentNote}
 use Rattle.cds_script.specs.Report.{first_of, clock_of, last_commented, found_since, after_reply, after_note, accept_text, deliver_text}

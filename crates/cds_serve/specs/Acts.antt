@@ -12,7 +12,8 @@ use Rattle.cds_store.specs.declared.error.ApplyError.{ApplyError}
 use Rattle.cds_store.specs.declared.span.Span.{Span}
 use Rattle.cds_server.specs.Asking.{Fits, IsAction, command_in, note_in, reply_in, said}
 use Rattle.cds_server.specs.Due.{AllGoOut, due}
-use Rattle.cds_server.specs.Outcome.{GoesOut, empty_reply}
+use Rattle.cds_control.specs.Replies.{empty_reply}
+use Rattle.cds_server.specs.Outcome.{GoesOut}
 use Rattle.cds_server.specs.Replies.{IsReply, command_at, note_at}
 use Rattle.cds_server.specs.declared.made.Answered.{Answered}
 use Rattle.cds_server.specs.declared.asking.Asking.{Asking}

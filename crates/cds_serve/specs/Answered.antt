@@ -13,8 +13,8 @@ use Rattle.cds_http.specs.Decided.{Decides}
 use Rattle.cds_http.specs.Known.{Known, Whole, Needs, Refused}
 use Rattle.cds_commands.specs.Commands.{Command, Start}
 use Rattle.cds_turn.specs.Line.{Extends}
-use Rattle.cds_server.specs.Outcome.{empty_reply}
-use Rattle.cds_server.specs.Replies.{IsReply, command_at, fault_reply, note_at}
+use Rattle.cds_control.specs.Replies.{empty_reply, fault_reply}
+use Rattle.cds_server.specs.Replies.{IsReply, command_at, note_at}
 use Rattle.cds_server.specs.Route.{request_status}
 use Rattle.cds_serve.specs.Sent.{GivesAll, first_requests}
 use Rattle.cds_serve.specs.Served.{added}

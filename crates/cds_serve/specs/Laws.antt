@@ -3,7 +3,7 @@ use Rattle.std.specs.Prelude.{◌≡◌, ◌↔◌, ◌+◌, ◌*◌, ◌%◌, �
 use Rattle.cds_http.specs.declared.message.Message.{Message}
 use Rattle.cds_commands.specs.Commands.{Command, Start}
 use Rattle.cds_commands.specs.Names.{name_of}
-use Rattle.cds_server.specs.Outcome.{empty_reply}
+use Rattle.cds_control.specs.Replies.{empty_reply}
 use Rattle.cds_server.specs.Replies.{IsReply}
 use Rattle.cds_server.specs.Route.{request_status}
 use Rattle.cds_serve.specs.Life.{start_at}

@@ -10,16 +10,17 @@ use Rattle.cds_gena.specs.declared.error.GenaError.{GenaError}
 use Rattle.cds_gena.specs.declared.error.GenaError.TheVariants.{Mem}
 use Rattle.cds_gena.specs.declared.gena.Gena.{Gena}
 use Rattle.cds_gena.specs.declared.gena.Gena.TheVariants.{Subscribe, Renew, Unsubscribe}
+use Rattle.cds_control.specs.Published.{Published}
+use Rattle.cds_control.specs.Replies.{IsControlReply, empty_reply}
 use Rattle.cds_soap.specs.Control.{AnswersAsk}
 use Rattle.cds_soap.specs.declared.action.Asked.{Asked}
-use Rattle.cds_soap.specs.declared.error.SoapError.{SoapError}
 use Rattle.cds_server.specs.declared.asking.Asking.TheVariants as ask
 use Rattle.cds_server.specs.declared.asking.EventRequest.{EventRequest}
 use Rattle.cds_server.specs.Asking.{AsksBy, IsAsking, asked_reply, reply_in}
 use Rattle.cds_server.specs.Route.{Answers, Controls, Goes, Route, Subscribes, Way, asks_events, goes_to, route, way_by}
-use Rattle.cds_server.specs.Published.{Published, published_by}
-use Rattle.cds_server.specs.Outcome.{can_deliver, command_of, empty_reply, first_of, living_number, outcome, outcome_note, outcome_of, outcome_reply, refusal_of, status_of}
-use Rattle.cds_server.specs.Replies.{IsReplyBy, IsReplyOf, IsReplyTo, command_by, note_by}
+use Rattle.cds_server.specs.Published.{published_by}
+use Rattle.cds_server.specs.Outcome.{can_deliver, command_of, first_of, living_number, outcome, outcome_note, outcome_of, outcome_reply, refusal_of, status_of}
+use Rattle.cds_server.specs.Replies.{IsReplyBy, IsReplyOf, command_by, note_by}
 
 -- ---- messages that ask of no subscription
 
@@ -35,9 +36,9 @@ module _ (m : Message) (way : Way) (there : route m ≡ Goes way) where
 pub status-asks : (m : Message) (status : ℕ) (text : List ℕ) → text ≡ empty_reply status → AsksBy m (Answers status) (ask.Ready text)
 status-asks m status text is there = ready-asks m (Answers status) there text (λ published. is)
 
-pub refusal-asks : (m : Message) (host : List ℕ) (refusal : SoapError) (text : List ℕ) → AnswersAsk m (Err refusal)
-    → ((published : Published) (at : List ℕ) → IsReplyTo published at (Err refusal) text) → AsksBy m (Controls host) (ask.Ready text)
-refusal-asks m host refusal text reading is there = ready-asks m (Controls host) there text (λ published. (Err refusal, reading, is published host))
+pub refusal-asks : (m : Message) (host text : List ℕ) → ((published : Published) (at : List ℕ) → IsControlReply published at m text)
+    → AsksBy m (Controls host) (ask.Ready text)
+refusal-asks m host text is there = ready-asks m (Controls host) there text (λ published. is published host)
 
 pub action-asks : (m : Message) (host : List ℕ) (asked : Asked) → AnswersAsk m (Ok asked) → AsksBy m (Controls host) (ask.Action host asked)
 action-asks m host asked reading there = record {

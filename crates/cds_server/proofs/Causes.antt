@@ -1,47 +1,21 @@
 -- Why a message gets its reply.
-use Rattle.std.proofs.Common.{◌≡◌, ◌≢◌, ◌⊎◌, inl, inr, ◌&&◌, ◌||◌, ℕ, Bool, true, false, cond, List, Option, Some, None, Result, Ok, Err, refl, sym, ◌∙◌, ap, subst, true≢false}
-use Rattle.std.specs.Prelude.{codes, bytes_eq, IsOk}
+use Rattle.std.proofs.Common.{◌≡◌, ◌≢◌, ◌⊎◌, inl, inr, ◌&&◌, ◌||◌, ℕ, Bool, true, false, cond, List, Option, Some, None, refl, sym, ◌∙◌, ap, subst, true≢false}
+use Rattle.std.specs.Prelude.{codes, bytes_eq}
 use Rattle.std.proofs.lemmas.Slice.Eq.{bytes_eq-Decides}
 use Rattle.cds_http.specs.declared.message.Start.{Start}
 use Rattle.cds_http.specs.declared.message.Start.TheVariants.{Request, Reply}
 use Rattle.cds_http.specs.declared.message.Message.{Message}
 use Rattle.cds_gena.specs.Asked.{field_of}
-use Rattle.cds_soap.specs.declared.action.Action.{Action}
-use Rattle.cds_soap.specs.declared.action.Action.TheVariants as action
-use Rattle.cds_soap.specs.declared.action.Asked.{Asked}
-use Rattle.cds_soap.specs.declared.error.SoapError.{SoapError}
-use Rattle.cds_soap.specs.declared.error.SoapError.TheVariants as error
-use Rattle.cds_soap.specs.Control.{Control, AnswersAsk}
 use Rattle.cds_soap.specs.Laws.{is_host}
-use Rattle.cds_soap.specs.Written.{answer_fields, written_answer}
-use Rattle.cds_browse.specs.Browsing.{browse_answer}
-use Rattle.cds_browse.specs.declared.error.BrowseError.{BrowseError}
-use Rattle.cds_browse.specs.declared.page.Page.{Page}
+use Rattle.cds_control.specs.Published.{Published}
+use Rattle.cds_control.specs.Laws.{HasCause, HasNoDocument}
+use Rattle.cds_control.specs.Replies.{empty_reply}
+use Rattle.cds_control.proofs.Causes.{causes as control-causes}
 use Rattle.cds_server.specs.Route.{Answers, Controls, Subscribes, Goes, asks_events, control_at, control_by, way_by}
-use Rattle.cds_server.specs.Published.{Published, published_by}
-use Rattle.cds_server.specs.Answering.{page_answer, answer_to}
-use Rattle.cds_server.specs.Outcome.{empty_reply}
-use Rattle.cds_server.specs.Replies.{IsReplyTo, IsReplyBy, IsReplyOf}
-use Rattle.cds_server.specs.Laws.{AsksControl, AsksOfSubscription, IsAt, HasCause, HasEventCause, IsBad, GoesElsewhere, GoesOtherwise, replies_have_causes}
+use Rattle.cds_server.specs.Published.{published_by}
+use Rattle.cds_server.specs.Replies.{IsReplyBy, IsReplyOf}
+use Rattle.cds_server.specs.Laws.{AsksControl, AsksOfSubscription, IsAt, HasEventCause, IsBad, GoesElsewhere, GoesOtherwise, replies_have_causes}
 use Rattle.cds_server.proofs.EventCauses.{event-cause}
-
--- what is answered to an action, where its message asks for it
-answered : (published : Published) (host : List ℕ) (m : Message) (text : List ℕ) (asked : Action) (version : ℕ) → Control m asked version
-    → text ≡ written_answer asked version (answer_to published host asked) None → HasCause published m text
-answered published host m text (action.Browse request) version control is = by (browse_answer published.number published.rows request) refl is
-  where
-    by : (answer : Result Page BrowseError) → browse_answer published.number published.rows request ≡ answer
-        → text ≡ written_answer (action.Browse request) version (page_answer request.filter host published.rows answer) None → HasCause published m text
-    by (Ok page) e is =
-        inr (inr (inr (record { fields = answer_fields None; body = _; written = is }, (action.Browse request, version, control, subst IsOk (sym e) refl))))
-    by (Err refusal) e is = inr (inr (inl (refusal, is, (request, version, control, e))))
-answered published host m text (action.Search request) version control is = inl (is, inr (action.Search request, version, control, tt))
-answered published host m text action.GetSystemUpdateId version control is =
-    inr (inr (inr (record { fields = answer_fields None; body = _; written = is }, (action.GetSystemUpdateId, version, control, tt))))
-answered published host m text action.GetServiceResetToken version control is =
-    inr (inr (inr (record { fields = answer_fields None; body = _; written = is }, (action.GetServiceResetToken, version, control, tt))))
-answered published host m text action.GetSearchCapabilities version control is = inl (is, inr (action.GetSearchCapabilities, version, control, tt))
-answered published host m text action.GetSortCapabilities version control is = inl (is, inr (action.GetSortCapabilities, version, control, tt))
 
 some-is : (a b : List ℕ) → Some a ≡ Some b → a ≡ b
 some-is a b e = cc
@@ -92,18 +66,13 @@ causes start commands now m text is = by_asks (asks_events m.start) refl is
         ⊎ (AsksControl m × ((host : List ℕ) × IsAt m host) × HasCause published m text)
         ⊎ (AsksOfSubscription m × HasEventCause start commands now m text)
 
-    by_read : AsksControl m → (host : List ℕ) → IsAt m host → (read : Result Asked SoapError) → AnswersAsk m read → IsReplyTo published host read text → Owed
-    by_read asks host at (Ok asked) reading is =
-        inr (inr (inr (inl (asks, (host, at), answered published host m text asked.action asked.version reading is))))
-    by_read asks host at (Err (error.Markup refusal)) reading is = inr (inr (inl (is, inr (asks, inr (refusal, reading.0)))))
-    by_read asks host at (Err error.InvalidAction) reading is = inr (inr (inr (inl (asks, (host, at), inl (is, inl reading)))))
-    by_read asks host at (Err error.InvalidArgs) reading is = inr (inr (inr (inl (asks, (host, at), inr (inl (is, reading))))))
-    by_read asks host at (Err error.NotAnswer) reading is = absurd is
-    by_read asks host at (Err error.Mem) reading is = absurd is
+    by_read : AsksControl m → (host : List ℕ) → IsAt m host → ((text ≡ empty_reply 400) × HasNoDocument m) ⊎ HasCause published m text → Owed
+    by_read asks host at (inl (is, none)) = inr (inr (inl (is, inr (asks, inr none))))
+    by_read asks host at (inr cause) = inr (inr (inr (inl (asks, (host, at), cause))))
 
     by_form : AsksControl m → (host : List ℕ) → field_of (codes "host") m.fields ≡ Some host → (b : Bool) → is_host host ≡ b
         → IsReplyBy published m (cond b (Controls host) (Answers 400)) text → Owed
-    by_form asks host e true t is = by_read asks host (e, t) is.0 is.1 is.2
+    by_form asks host e true t is = by_read asks host (e, t) (control-causes published host m text is)
     by_form asks host e false t is =
         inr (inr (inl (is, inr (asks, inl (λ other at. true≢false (sym at.1 ∙ ap is_host (some-is _ _ (sym at.0 ∙ e)) ∙ t))))))
 

@@ -14,7 +14,8 @@ use Rattle.cds_base.specs.declared.mem.Mem.{Mem as Memory}
 use Rattle.cds_http.proofs.Visible.{all-stand, visible-append, visible-decimal, visible-literal}
 use Rattle.cds_gena.proofs.Visible.{visible-sid}
 use Rattle.cds_server.specs.declared.made.Settled.{Settled}
-use Rattle.cds_server.specs.Outcome.{GoesOut, IsDone, Refused, empty_reply, ending, granting, lease_fields, lease_reply, noted, outcome_in, renewing, status_of, unsettled}
+use Rattle.cds_control.specs.Replies.{empty_reply}
+use Rattle.cds_server.specs.Outcome.{GoesOut, IsDone, Refused, ending, granting, lease_fields, lease_reply, noted, outcome_in, renewing, status_of, unsettled}
 
 -- the fields of the reply can be written
 pub lease-can : (name seconds : ℕ) → seconds < 2 ^ 32 → CanBeWritten (lease_fields name seconds)

@@ -16,7 +16,8 @@ use Rattle.cds_gena.specs.declared.error.GenaError.TheVariants.{Mem, Incompatibl
 use Rattle.cds_gena.specs.declared.gena.Gena.{Gena}
 use Rattle.cds_gena.specs.declared.gena.Gena.TheVariants.{Subscribe, Renew, Unsubscribe}
 use Rattle.cds_server.specs.Route.{Subscribes, route}
-use Rattle.cds_server.specs.Outcome.{Outcome, Refused, Granted, Renewed, Ended, empty_reply, granting, if_lives, lease_fields, living_number, outcome, outcome_of, outcome_reply, refusal_of}
+use Rattle.cds_control.specs.Replies.{empty_reply}
+use Rattle.cds_server.specs.Outcome.{Outcome, Refused, Granted, Renewed, Ended, granting, if_lives, lease_fields, living_number, outcome, outcome_of, outcome_reply, refusal_of}
 use Rattle.cds_server.specs.Outcome as come
 use Rattle.cds_server.specs.Replies.{command_by}
 use Rattle.cds_server.specs.Laws.{HasEventCause, IsAccepted, LivesNone}

@@ -1,10 +1,7 @@
-pub mod Hosts
-pub mod PageRows
 pub mod EventCauses
 pub mod Causes
 pub mod Passing
 pub mod OneReply
-pub mod PagesRows
 pub mod Whole
 pub mod Done
 pub mod Stands

@@ -1,34 +1,24 @@
 -- The three parts in which a message is handled. First it is read, as far as it can be without a server. Then a server makes
 -- something of what was asked. At last the reply is written (UPnP Device Architecture 2.0 on control and on eventing; UPnP
 -- ContentDirectory:4).
-use Rattle.std.specs.Prelude.{◌≡◌, ℕ, IsTrue, List, [], length, Option, Some, None, Result, Ok, Err, ⊤}
-use Rattle.cds_browse.specs.Browsing.{browse_answer}
-use Rattle.cds_browse.specs.declared.error.BrowseError.{BrowseError}
-use Rattle.cds_browse.specs.declared.page.Page.{Page}
+use Rattle.std.specs.Prelude.{◌≡◌, ℕ, List, [], Option, None, Result, Ok, Err, ⊤}
 use Rattle.cds_catalog.specs.History.{end_of}
 use Rattle.cds_commands.specs.Commands.{Command, Start, scans_of}
 use Rattle.cds_commands.specs.Names.{names_of}
 use Rattle.cds_commands.specs.Subscriptions.{granted}
-use Rattle.cds_didl.specs.Filter.{filter_of}
-use Rattle.cds_didl.specs.Fragment.{didl_text}
+use Rattle.cds_control.specs.Answering.{answer_to}
+use Rattle.cds_control.specs.Making.{FitsAction, written_made}
 use Rattle.cds_gena.specs.declared.gena.Gena.{Gena}
 use Rattle.cds_http.specs.declared.message.Message.{Message}
-use Rattle.cds_object.specs.Object.{ObjectRow}
-use Rattle.cds_soap.specs.Names.{name_of_action}
-use Rattle.cds_soap.specs.Written.{fits, written_answer}
-use Rattle.cds_soap.specs.declared.action.Action.{Action}
-use Rattle.cds_soap.specs.declared.action.Action.TheVariants as action
+use Rattle.cds_soap.specs.Written.{written_answer}
 use Rattle.cds_soap.specs.declared.action.Asked.{Asked}
-use Rattle.cds_soap.specs.declared.answer.Answer.{Answer}
-use Rattle.cds_soap.specs.declared.answer.Answer.TheVariants as answer
 use Rattle.cds_server.specs.declared.asking.Asking.{Asking}
 use Rattle.cds_server.specs.declared.asking.Asking.TheVariants as ask
 use Rattle.cds_server.specs.declared.made.Made.{Made}
 use Rattle.cds_server.specs.declared.made.Made.TheVariants as make
 use Rattle.cds_server.specs.declared.notes.FirstNote.{FirstNote}
 use Rattle.cds_server.specs.Route.{Goes, Way, route}
-use Rattle.cds_server.specs.Published.{Published, published_by}
-use Rattle.cds_server.specs.Answering.{answer_to, base_of, code_of, rows_with}
+use Rattle.cds_server.specs.Published.{published_by}
 use Rattle.cds_server.specs.Outcome.{Outcome, command_of, living_number, outcome_note, outcome_of, outcome_reply, refusal_of}
 use Rattle.cds_server.specs.Replies.{IsReply, command_at, note_at}
 
@@ -93,68 +83,42 @@ ChangesNone (ask.Subscription request) = ⊥
 
 -- ---- what a server makes of it
 
--- Browse: the rows of the page, how many they are, how many match, and the update number
-abbrev pub made_page : List ObjectRow → Result Page BrowseError → Made
-made_page rows (Ok page) = make.Page (rows_with page.ids rows) (length page.ids) page.total page.update
-made_page rows (Err refusal) = make.Answer (answer.Fault (code_of refusal))
-
-abbrev pub made_to : Published → Action → Made
-made_to published (action.Browse asked) = made_page published.rows (browse_answer published.number published.rows asked)
-made_to published (action.Search asked) = make.Answer (answer.Fault 401)
-made_to published action.GetSystemUpdateId = make.Answer (answer.Number published.number)
-made_to published action.GetServiceResetToken = make.Answer (answer.Text published.token)
-made_to published action.GetSearchCapabilities = make.Answer (answer.Fault 401)
-made_to published action.GetSortCapabilities = make.Answer (answer.Fault 401)
-
--- ---- what is written
-
--- the filter of an action; only Browse has one
-abbrev pub filter_in : Action → List ℕ
-filter_in (action.Browse asked) = asked.filter
-filter_in other = []
-
--- the answer to an action for a client that asks at a host, if an answer was made
-abbrev pub made_answer : List ℕ → Action → Made → Option Answer
-made_answer host asked make.Ready = None
-made_answer host asked (make.Text text) = None
-made_answer host asked (make.Answer given) = Some given
-made_answer host asked (make.Page rows returned total update) =
-    Some (answer.Page (didl_text (filter_of (filter_in asked)) (base_of host) rows) returned total update)
-
-abbrev pub written_made : Asked → Option Answer → List ℕ
-written_made asked None = []
-written_made asked (Some given) = written_answer asked.action asked.version given None
+-- the text that is written for an action
+abbrev pub said_of : List ℕ → Asked → Made → List ℕ
+said_of host asked make.Ready = []
+said_of host asked (make.Text text) = []
+said_of host asked (make.Action made) = written_made host asked made
 
 -- a reply that a server made whole
 abbrev pub text_in : Made → List ℕ
+text_in make.Ready = []
 text_in (make.Text text) = text
-text_in other = []
+text_in (make.Action made) = []
 
 -- the text that is written for what was asked and what was made of it
 abbrev pub said : Asking → Made → List ℕ
 said (ask.Ready text) made = text
-said (ask.Action host asked) made = written_made asked (made_answer host asked.action made)
+said (ask.Action host asked) made = said_of host asked made
 said (ask.Subscription request) made = text_in made
 
 -- What was made is of the kind of what was asked.
 abbrev pub IsReady : Made → Type 0
 IsReady make.Ready = ⊤
 IsReady (make.Text text) = ⊥
-IsReady (make.Answer given) = ⊥
-IsReady (make.Page rows returned total update) = ⊥
+IsReady (make.Action made) = ⊥
 
 abbrev pub IsText : Made → Type 0
 IsText make.Ready = ⊥
 IsText (make.Text text) = ⊤
-IsText (make.Answer given) = ⊥
-IsText (make.Page rows returned total update) = ⊥
+IsText (make.Action made) = ⊥
 
 -- the answer is one to such an action
-abbrev pub FitsAction : Action → Option Answer → Type 0
-FitsAction asked None = ⊥
-FitsAction asked (Some given) = IsTrue (fits (name_of_action asked) given)
+abbrev pub FitsMade : List ℕ → Asked → Made → Type 0
+FitsMade host asked make.Ready = ⊥
+FitsMade host asked (make.Text text) = ⊥
+FitsMade host asked (make.Action made) = FitsAction host asked.action made
 
 abbrev pub Fits : Asking → Made → Type 0
 Fits (ask.Ready text) made = IsReady made
-Fits (ask.Action host asked) made = FitsAction asked.action (made_answer host asked.action made)
+Fits (ask.Action host asked) made = FitsMade host asked made
 Fits (ask.Subscription request) made = IsText made

@@ -1,13 +1,9 @@
 -- Laws of replies.
-use Rattle.std.specs.Prelude.{◌≡◌, ◌≢◌, ◌⊎◌, ◌↔◌, ◌≤◌, ◌<◌, ℕ, IsTrue, Bool, true, List, ◌∷◌, length, map, filter, take, drop, codes, None, Some, Ok, Err, IsOk, IsSome, ⊤}
+use Rattle.std.specs.Prelude.{◌≡◌, ◌≢◌, ◌⊎◌, ◌↔◌, ◌≤◌, ◌<◌, ℕ, IsTrue, true, List, ◌∷◌, length, codes, None, Some, Ok, Err, IsSome}
 use Rattle.std.specs.List.{AllByRecursion}
 use Rattle.url.specs.Parts.{Parts}
-use Rattle.cds_http.specs.declared.fields.Field.{Field}
 use Rattle.cds_http.specs.declared.message.Start.TheVariants.{Request, Reply}
 use Rattle.cds_http.specs.declared.message.Message.{Message}
-use Rattle.cds_http.specs.Written.{written_reply}
-use Rattle.cds_markup.specs.declared.error.MarkupError.{MarkupError}
-use Rattle.cds_markup.specs.Refusal.{IsRefused}
 use Rattle.cds_gena.specs.Asked.{field_of, gena_of}
 use Rattle.cds_gena.specs.Served.{Served, lives_at}
 use Rattle.cds_gena.specs.Subscribed.{last_number}
@@ -15,15 +11,9 @@ use Rattle.cds_gena.specs.declared.sid.Sid.{Sid}
 use Rattle.cds_gena.specs.declared.error.GenaError.TheVariants.{Incompatible, Precondition}
 use Rattle.cds_gena.specs.declared.gena.Gena.TheVariants.{Subscribe, Renew, Unsubscribe}
 use Rattle.cds_soap.specs.declared.action.Action.{Action}
-use Rattle.cds_soap.specs.declared.action.Action.TheVariants as action
-use Rattle.cds_soap.specs.declared.action.BrowseRequest.{BrowseRequest}
 use Rattle.cds_soap.specs.declared.action.Asked.{Asked}
-use Rattle.cds_soap.specs.Control.{Control, AnswersAsk, NamesNone, GivesNone}
+use Rattle.cds_soap.specs.Control.{Control, AnswersAsk}
 use Rattle.cds_soap.specs.Written.{written_answer}
-use Rattle.cds_object.specs.Object.{ObjectRow}
-use Rattle.cds_object.specs.Tree.{IdsAscend}
-use Rattle.cds_browse.specs.Browsing.{browse_answer}
-use Rattle.cds_browse.specs.declared.error.BrowseError.{BrowseError}
 use Rattle.cds_changes.specs.Events.{events_between}
 use Rattle.cds_commands.specs.Commands.{Command, Start, Ticks, AreAccepted, scans_of}
 use Rattle.cds_commands.specs.Names.{name_of}
@@ -31,18 +21,13 @@ use Rattle.cds_commands.specs.Releases.{Release, release_at, releases_of}
 use Rattle.cds_commands.specs.Subscriptions.{granted, subscription_limit}
 use Rattle.cds_commands.specs.Notes.{Note, alive_names, notes_of, sent_by}
 use Rattle.cds_soap.specs.Laws.{is_host}
+use Rattle.cds_control.specs.Answering.{answer_to}
+use Rattle.cds_control.specs.Laws.{HasCause, HasNoDocument, HasStatus, Passes}
+use Rattle.cds_control.specs.Replies.{empty_reply}
 use Rattle.cds_server.specs.Route.{Controls, Goes, route}
-use Rattle.cds_server.specs.Published.{Published, published_by}
-use Rattle.cds_server.specs.Answering.{rows_with, code_of, answer_to}
+use Rattle.cds_server.specs.Published.{published_by}
 use Rattle.cds_server.specs.Due.{body_of}
-use Rattle.cds_server.specs.Outcome.{empty_reply}
-use Rattle.cds_server.specs.Replies.{fault_reply, IsReply, command_at}
-
--- A text is a reply of a status.
-pub record HasStatus (status : ℕ) (text : List ℕ) : Type 0 where
-  pub fields : List Field
-  pub body : List ℕ
-  pub written : text ≡ written_reply status fields body
+use Rattle.cds_server.specs.Replies.{IsReply, command_at}
 
 -- A message has one reply, at each moment and after each list of commands.
 abbrev pub one_reply : Type 0
@@ -54,16 +39,6 @@ abbrev pub what_is_asked_is_answered : Type 0
 what_is_asked_is_answered = (start : Start) (commands : List Command) (now : ℕ) (m : Message) (host : List ℕ) (asked : Asked) (text : List ℕ) →
     route m ≡ Goes (Controls host) → AnswersAsk m (Ok asked) →
     IsReply start commands now m text ↔ (text ≡ written_answer asked.action asked.version (answer_to (published_by start commands) host asked.action) None)
-
--- The checks of an action pass. Browse has checks, and the two other actions that are built have none. Actions that are not built
--- never pass.
-abbrev pub Passes : Published → Action → Type 0
-Passes published (action.Browse asked) = IsOk (browse_answer published.number published.rows asked)
-Passes published (action.Search asked) = ⊥
-Passes published action.GetSystemUpdateId = ⊤
-Passes published action.GetServiceResetToken = ⊤
-Passes published action.GetSearchCapabilities = ⊥
-Passes published action.GetSortCapabilities = ⊥
 
 -- A control request whose checks all pass is answered with status 200.
 abbrev pub passed_checks_get_200 : Type 0
@@ -94,36 +69,7 @@ abbrev pub IsNoRequest : Message → Type 0
 IsNoRequest m = (status : ℕ) × (m.start ≡ Reply status)
 
 abbrev pub IsBad : Message → Type 0
-IsBad m = IsNoRequest m ⊎ (AsksControl m × (((host : List ℕ) → ¬ (IsAt m host)) ⊎ ((refusal : MarkupError) × IsRefused m.body refusal)))
-
--- 401: the message names no action, or one that is not built.
-abbrev pub IsNotBuilt : Action → Type 0
-IsNotBuilt (action.Browse asked) = ⊥
-IsNotBuilt (action.Search asked) = ⊤
-IsNotBuilt action.GetSystemUpdateId = ⊥
-IsNotBuilt action.GetServiceResetToken = ⊥
-IsNotBuilt action.GetSearchCapabilities = ⊤
-IsNotBuilt action.GetSortCapabilities = ⊤
-
-abbrev pub NamesNoAction : Message → Type 0
-NamesNoAction m = NamesNone m ⊎ ((asked : Action) × (version : ℕ) × Control m asked version × IsNotBuilt asked)
-
--- a code of Browse: the message asks for what Browse refuses in this way
-abbrev pub IsRefusedBy : Published → Message → BrowseError → Type 0
-IsRefusedBy published m refusal =
-    (asked : BrowseRequest) × (version : ℕ) × Control m (action.Browse asked) version
-    × (browse_answer published.number published.rows asked ≡ Err refusal)
-
--- 200: the message asks for an action whose checks pass.
-abbrev pub IsAnswered : Published → Message → Type 0
-IsAnswered published m = (asked : Action) × (version : ℕ) × Control m asked version × Passes published asked
-
--- what comes of a control request whose HOST is in its form
-abbrev pub HasCause : Published → Message → List ℕ → Type 0
-HasCause published m text =
-    ((text ≡ fault_reply 401) × NamesNoAction m) ⊎ ((text ≡ fault_reply 402) × GivesNone m)
-    ⊎ ((refusal : BrowseError) × (text ≡ fault_reply (code_of refusal)) × IsRefusedBy published m refusal)
-    ⊎ (HasStatus 200 text × IsAnswered published m)
+IsBad m = IsNoRequest m ⊎ (AsksControl m × (((host : List ℕ) → ¬ (IsAt m host)) ⊎ HasNoDocument m))
 
 -- ---- why a request about a subscription gets its status
 
@@ -185,11 +131,3 @@ abbrev pub bodies_are_short : Type 0
 bodies_are_short = (start : Start) (commands : List Command) (now : ℕ) (release : Release) → AreAccepted start.first commands →
     release_at now (scans_of start.first commands) (releases_of start.first commands) ≡ Some release →
     length (body_of start commands release) < 66000000
-
--- ---- the rows of a page
-
--- The rows are in ascending order of ids, and a slice of those that match is taken. The rows written for the ids of the slice are
--- the slice.
-abbrev pub pages_have_their_rows : Type 0
-pages_have_their_rows = (rows : List ObjectRow) (matches : ObjectRow → Bool) (start count : ℕ) → IdsAscend rows →
-    rows_with (map (λ (r : ObjectRow). r.id) (take count (drop start (filter matches rows)))) rows ≡ take count (drop start (filter matches rows))

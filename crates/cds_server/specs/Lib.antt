@@ -1,7 +1,6 @@
 pub mod Route
 pub mod Routed
 pub mod Published
-pub mod Answering
 pub mod Outcome
 pub mod Due
 pub mod Serving

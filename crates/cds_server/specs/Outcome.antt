@@ -11,6 +11,7 @@ use Rattle.cds_commands.specs.Commands.{Command, Start, Grants, Renews, Ends, sc
 use Rattle.cds_commands.specs.Names.{names_of}
 use Rattle.cds_commands.specs.Subscriptions.{end_after, granted}
 use Rattle.cds_commands.specs.Notes.{Note, alive_names, first_note, notes_of}
+use Rattle.cds_control.specs.Replies.{empty_reply}
 use Rattle.cds_gena.specs.Asked.{gena_of, is_deliverable}
 use Rattle.cds_gena.specs.Served.{lives_at}
 use Rattle.cds_gena.specs.SidText.{sid_text}
@@ -98,10 +99,6 @@ command_of now (Ended number) = Some (Ends now number)
 abbrev pub and_command : Option Command → List Command → List Command
 and_command None commands = commands
 and_command (Some command) commands = command ∷ commands
-
--- a reply without a body
-abbrev pub empty_reply : ℕ → List ℕ
-empty_reply status = written_reply status [] []
 
 -- the reply to an accepted SUBSCRIBE: the name, and the seconds that are granted
 abbrev pub field : List ℕ → List ℕ → Field

@@ -2,23 +2,16 @@
 use Rattle.std.specs.Prelude.{ℕ, List}
 use Rattle.std.specs.Int.{w128, to_be_bytes}
 use Rattle.uuid.specs.Text.{hyphenated_text, lower}
-use Rattle.cds_object.specs.Object.{ObjectRow}
 use Rattle.cds_catalog.specs.History.{History, end_of}
 use Rattle.cds_catalog.specs.Catalog.{catalog}
 use Rattle.cds_commands.specs.Commands.{Command, Start, scans_of}
 use Rattle.cds_commands.specs.Names.{names_of}
+use Rattle.cds_control.specs.Published.{Published}
 
 -- the reset token (UPnP ContentDirectory:4 on ServiceResetToken): name number 0 of the server, in the text of a UUID in lower
 -- case
 abbrev pub token_of : ℕ → List ℕ
 token_of names = hyphenated_text lower (to_be_bytes w128 names)
-
--- the reset token, the number of the last change (UPnP ContentDirectory:4 on SystemUpdateID), and the rows of all objects in
--- ascending order of ids
-pub record Published : Type 0 where
-  pub token : List ℕ
-  pub number : ℕ
-  pub rows : List ObjectRow
 
 -- The catalog is counted afresh over the scans.
 abbrev pub published_after : Start → History → Published

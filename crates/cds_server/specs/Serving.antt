@@ -14,7 +14,8 @@ use Rattle.cds_commands.specs.Commands.{Command, Start, Scans, AreAccepted, is_s
 use Rattle.cds_commands.specs.Releases.{released_to, releases_of}
 use Rattle.cds_gena.specs.Subscribed.{Booked, StandsFor as BookStandsFor}
 use Rattle.cds_moderator.specs.Moderating.{Moderated, moderated_by, scan_size}
-use Rattle.cds_server.specs.Published.{Published, token_of}
+use Rattle.cds_control.specs.Published.{Published}
+use Rattle.cds_server.specs.Published.{token_of}
 
 -- What a server keeps: the catalog with the changes that are not released yet; the subscriptions, with the name of number 0; what
 -- waits for its release; and whether the server was told to stop.

@@ -7,13 +7,14 @@ ghost use Rattle.cds_commands.specs.Notes.{first_note};
 ghost use Rattle.cds_gena.specs.Asked.{is_deliverable};
 ghost use Rattle.cds_gena.specs.Subscribed.{grant_refusal, last_number, living_named};
 ghost use Rattle.cds_gena.specs.declared.error.GenaError.TheVariants as gena_error;
-ghost use Rattle.cds_server.specs.Outcome.{IsDone, GoesOut, empty_reply, ending, granting, lease_fields, lease_reply, noted, outcome_in, renewing, status_of, unsettled};
+ghost use Rattle.cds_control.specs.Replies.{empty_reply};
+ghost use Rattle.cds_server.specs.Outcome.{IsDone, GoesOut, ending, granting, lease_fields, lease_reply, noted, outcome_in, renewing, status_of, unsettled};
 
 use crate::asking::EventRequest;
 use crate::made::Settled;
 use crate::notes::FirstNote;
-use crate::replying::put_empty;
 use cds_base::{Bytes, Mem, Text};
+use cds_control::put_empty;
 use cds_gena::{Address, Book, Gena, GenaError, Lease, Sid};
 use cds_http::{Fields, write_reply};
 use cds_notify::write_propertyset;

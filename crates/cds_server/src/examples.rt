@@ -7,7 +7,7 @@ pub fn requests_are_routed()
     ensures { RequestsAreRouted }
 {}
 
-/// Shows what actions are answered over a folder with one track.
+/// Shows the number and the token of a server.
 pub fn actions_are_answered()
     ensures { ActionsAreAnswered }
 {}

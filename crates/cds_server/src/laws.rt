@@ -17,11 +17,6 @@ pub fn one_reply()
     ensures { laws.one_reply }
 {}
 
-/// States that the rows written for the ids of a page are the slice of those that match.
-pub fn pages_have_their_rows()
-    ensures { laws.pages_have_their_rows }
-{}
-
 /// States that a control request that asks for an action gets the answer to it, in the version that was asked, and nothing else.
 pub fn what_is_asked_is_answered()
     ensures { laws.what_is_asked_is_answered }

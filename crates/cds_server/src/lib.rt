@@ -2,11 +2,9 @@
 //! the notes of its changes (UPnP ContentDirectory:4; UPnP Device Architecture 2.0 on control and on eventing).
 #![tactic(auto)]
 
-mod answering;
 mod asking;
 mod events;
 pub mod examples;
-mod host;
 pub mod laws;
 mod made;
 mod notes;
@@ -17,9 +15,10 @@ mod server;
 mod ticking;
 
 pub use asking::{Asking, EventRequest, Route};
+pub use cds_control::empty_text;
 pub use made::{Answered, Made};
 pub use notes::{FirstNote, Notes};
 pub use reading::read_asked;
-pub use replying::{empty_text, write_made};
+pub use replying::write_made;
 pub use routing::route;
 pub use server::Server;

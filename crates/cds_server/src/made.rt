@@ -2,8 +2,6 @@
 
 use crate::notes::FirstNote;
 use cds_base::Bytes;
-use cds_object::Rows;
-use cds_soap::Answer;
 
 /// What a server made of what was asked, before it is written.
 #[derive(Drop)]
@@ -12,15 +10,8 @@ pub enum Made {
     Ready,
     /// The whole reply.
     Text(Bytes),
-    /// The answer to an action.
-    Answer(Answer),
-    /// The answer to Browse: copies of the rows of a page, how many they are, how many match, and the update number.
-    Page {
-        rows: Rows,
-        returned: u32,
-        total: u32,
-        update: u32,
-    },
+    /// What was made of an action.
+    Action(cds_control::Made),
 }
 
 /// What a server answers: what is to be written, the first note of a subscription that was granted, and whether a command was

@@ -1,24 +1,20 @@
 //! What a message asks, as far as it can be read without a server.
 
-ghost use Rattle.std.specs.Prelude.{◌≡◌, ◌≢◌, ℕ, IsTrue, List, Err, IfOk, OnOk, codes, option_map};
+ghost use Rattle.std.specs.Prelude.{◌≡◌, ◌≢◌, IsTrue, IfOk, OnOk, codes, option_map};
 ghost use Rattle.cds_gena.specs.Asked.{field_of};
 ghost use Rattle.cds_gena.specs.declared.error.GenaError.TheVariants as gena_error;
-ghost use Rattle.cds_soap.specs.declared.error.SoapError.TheVariants as soap_error;
 ghost use Rattle.cds_server.specs.Asking.{AsksBy, IsAsking};
-ghost use Rattle.cds_server.specs.Outcome.{can_deliver, empty_reply, status_of};
-ghost use Rattle.cds_server.specs.Published.{Published};
-ghost use Rattle.cds_server.specs.Replies.{IsReplyTo};
+ghost use Rattle.cds_control.specs.Replies.{empty_reply};
+ghost use Rattle.cds_server.specs.Outcome.{can_deliver, status_of};
 ghost use Rattle.cds_server.specs.Route.{Answers, Controls, Subscribes, control_at, route};
 
 use crate::asking::{Asking, EventRequest, Route};
 use crate::events::refuse;
-use crate::host::host_text;
-use crate::replying::{empty_text, fault_text};
 use crate::routing::route;
 use cds_base::{Bytes, Mem, Text};
+use cds_control::{Request, empty_text, host_text, read_request};
 use cds_gena::{Gena, GenaError, field_of, read_gena};
 use cds_http::Message;
-use cds_soap::{SoapError, read_action};
 use std::alloc::Global;
 
 /// Returns what a message asks of a server. If it can be answered without one, that is the reply: one of status 400, 404, 405 or
@@ -66,27 +62,16 @@ fn read_action_at(alloc: Global, host: &str, message: &Message) -> Result<Asking
     ensures { IfOk result (λ asking. AsksBy message.now (Controls host.now) asking) }
 {
     let host = Text::read(alloc, host)?;
-    match read_action(alloc, message) {
-        Ok(asked) => Ok(Asking::Action { host, asked }),
-        Err(refusal) => {
+    match read_request(alloc, message) {
+        Ok(Request::Asks(asked)) => Ok(Asking::Action { host, asked }),
+        Ok(Request::Refused(text)) => {
             drop(host);
-            let text = refusal_text(alloc, refusal)?;
             Ok(Asking::Ready(text))
         }
-    }
-}
-
-/// Returns the reply to a control request that asks for no action.
-fn refusal_text(alloc: Global, refusal: SoapError) -> Result<Bytes, Mem>
-    requires asked { refusal ≢ soap_error.NotAnswer }
-    ensures { IfOk result (λ text. (published : Published) (host : List ℕ) → IsReplyTo published host (Err refusal) text) }
-{
-    match refusal {
-        SoapError::Markup(_) => empty_text(alloc, 400),
-        SoapError::InvalidAction => fault_text(alloc, 401),
-        SoapError::InvalidArgs => fault_text(alloc, 402),
-        SoapError::NotAnswer => unreachable!(),
-        SoapError::Mem => Err(Mem),
+        Err(refusal) => {
+            drop(host);
+            Err(refusal)
+        }
     }
 }
 

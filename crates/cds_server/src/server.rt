@@ -4,15 +4,15 @@ ghost use Rattle.std.specs.Prelude.{◌≡◌, ◌<◌, ◌^◌, ◌∷◌, ◌+
 ghost use Rattle.cds_catalog.specs.History.{end_of};
 ghost use Rattle.cds_catalog.specs.Scans.{bad_record};
 ghost use Rattle.cds_commands.specs.Commands.{Command, Start, Stops, Ticks, is_stopped, scans_of};
+ghost use Rattle.cds_control.specs.Making.{made_to};
 ghost use Rattle.cds_moderator.specs.Moderating.{next_span};
 ghost use Rattle.cds_server.specs.Asking.{ChangesNone, Fits, asked_command, asked_note, asked_reply, command_in, note_in, reply_in, said};
 ghost use Rattle.cds_server.specs.Due.{AllGoOut, due};
 ghost use Rattle.cds_server.specs.Outcome.{GoesOut, and_command};
 ghost use Rattle.cds_server.specs.Replies.{Replied, command_at, note_at};
 ghost use Rattle.cds_server.specs.Route.{asks_events};
-ghost use Rattle.cds_server.specs.Serving.{StandsFor, Scanned, IsOfWhole, IsServing};
+ghost use Rattle.cds_server.specs.Serving.{StandsFor, Scanned, IsOfWhole, IsServing, published_of};
 
-use crate::answering::made_to;
 use crate::asking::{Asking, EventRequest};
 use crate::events::{When, settle};
 use crate::made::{Answered, Made, Settled};
@@ -21,14 +21,17 @@ use crate::reading::read_asked;
 use crate::replying::write_made;
 use crate::ticking::{note_body, tell};
 use cds_base::{Bytes, Mem};
+use cds_control::made_to;
 use cds_gena::{Addresses, Book};
 use cds_http::Message;
 use cds_moderator::Moderator;
 use cds_object::Records;
 use cds_scan::Scan;
-use cds_store::{ApplyError, Keeping, Span, Store};
+use cds_soap::Action;
+use cds_store::{ApplyError, Keeping, Span, Store, View};
 use std::alloc::Global;
 use std::marker::Model;
+use uuid::Uuid;
 
 /// A server that has accepted some commands: scans, subscriptions, their renewals and ends, and ticks. It keeps no list of them,
 /// but always stands for one.
@@ -164,8 +167,8 @@ impl Server {
         match asking {
             Asking::Ready(_) => Ok(unaccepted(Made::Ready)),
             Asking::Action { asked, .. } => {
-                let made = made_to(alloc, self, &asked.action)?;
-                Ok(unaccepted(made))
+                let made = self.act(alloc, &asked.action)?;
+                Ok(unaccepted(Made::Action(made)))
             }
             Asking::Subscription(request) => {
                 let mut text = Vec::new(alloc);
@@ -177,6 +180,16 @@ impl Server {
                 })
             }
         }
+    }
+
+    /// Makes what an action asks for.
+    fn act(&self, alloc: Global, action: &Action) -> Result<cds_control::Made, Mem>
+        ensures { IfOk result (λ made. made ≡ made_to (published_of self.now) action.now) }
+    {
+        let mut buffer = Uuid::encode_buffer();
+        let id = Uuid::from_u128(self.book.names());
+        let token = id.hyphenated().encode_lower(&mut buffer);
+        made_to(alloc, &self.store, token, action)
     }
 
     /// Does what a request about a subscription asks for at a moment, and appends the reply.

@@ -3,6 +3,8 @@
 #![tactic(auto)]
 
 #[cfg(test)]
+mod control_tests;
+#[cfg(test)]
 mod desk;
 #[cfg(test)]
 mod life;

@@ -8,7 +8,7 @@ use crate::made::{MEMORY, records_of, text_of};
 use cds_browse::{browse, run_scans};
 use cds_object::{Class, Event, Events, Records, Row, Trackers};
 use cds_soap::BrowseRequest;
-use cds_store::{ApplyError, Keeping, PlainStore, Span, Store};
+use cds_store::{ApplyError, Keeping, PlainStore, Span, Store, View};
 use std::alloc::Global;
 use std::process::Abort;
 

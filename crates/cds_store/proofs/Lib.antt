@@ -16,6 +16,7 @@ pub mod Answering
 pub mod Shown
 pub mod ScanEvents
 pub mod Touched
+pub mod Views
 pub mod Staying
 pub mod NextResolved
 pub mod Mending

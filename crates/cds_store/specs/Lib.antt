@@ -1,6 +1,7 @@
 pub mod Applied
 pub mod ChangeEvents
 pub mod Found
+pub mod Laws
 pub mod Lent
 pub mod Offspring
 pub mod Records
@@ -10,3 +11,4 @@ pub mod Rows
 pub mod Stands
 pub mod SubtreeIndex
 pub mod TouchedContainers
+pub mod Views

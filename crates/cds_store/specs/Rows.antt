@@ -20,8 +20,8 @@ abbrev pub rows_of : List PlacedRow → List ObjectRow
 rows_of rows = map (λ placed. placed.1) rows
 
 -- at most `count` ids of the children of an object from a place on, counted from 0, added to others
-abbrev pub AddsPage : ℕ → ℕ → ℕ → List PlacedRow → List ℕ → List ℕ → Type 0
-AddsPage id start count rows out now = now ≡ out ++ map (λ (r : ObjectRow). r.id) (take count (drop start (children_of id (rows_of rows))))
+abbrev pub AddsPage : ℕ → ℕ → ℕ → List ObjectRow → List ℕ → List ℕ → Type 0
+AddsPage id start count rows out now = now ≡ out ++ map (λ (r : ObjectRow). r.id) (take count (drop start (children_of id rows)))
 
 -- what the rows say of the library, put into a folder map one by one; the root is in no map
 abbrev pub put_place : FolderMap → PlacedRow → FolderMap

@@ -1,20 +1,20 @@
 //! The contract for whatever keeps the catalog of a server. Under it one implementation can replace another.
 
-ghost use Rattle.std.specs.Prelude.{◌≡◌, ◌≤◌, ◌<◌, ◌^◌, true, length, max, option_copied, slice_get, take, drop, IfOk, OnErr};
-ghost use Rattle.cds_object.specs.Tree.{row_of, children_of, is_container_row};
+ghost use Rattle.std.specs.Prelude.{◌≡◌, ◌≤◌, ◌<◌, ◌^◌, length, max, IfOk, OnErr};
+ghost use Rattle.cds_object.specs.Tree.{row_of, is_container_row};
 ghost use Rattle.cds_catalog.specs.History.{History};
-ghost use Rattle.cds_store.specs.Rows.{rows_of, AddsPage};
+ghost use Rattle.cds_store.specs.Rows.{rows_of};
 ghost use Rattle.cds_store.specs.Stands.{StandsFor, IsStore, AddsChanges, AddsContainers};
 ghost use Rattle.cds_store.specs.Applied.{Applied};
 
-use crate::{ApplyError, Span};
+use crate::{ApplyError, Span, View};
 use cds_base::Mem;
 use cds_object::{Events, Records, Row};
 use std::alloc::Global;
 
 /// A catalog that is kept from scan to scan, with the changes that are not forgotten. It stands for a history of scans.
-/// After a scan it stands for that history with the new scan.
-pub trait Keeping {
+/// After a scan it stands for that history with the new scan. It is a view of the rows that stand.
+pub trait Keeping: View {
     ghost use Rattle.cds_store.specs.Stands.{Stored};
 
     // What stands now, and the changes that are kept.
@@ -27,41 +27,9 @@ pub trait Keeping {
         requires { length records.now < 2 ^ 32 }
         ensures { (history : History) → StandsFor (stored self.old) history → Applied history records.now result (stored self.old) (stored self.new) };
 
-    /// Returns the row of an object, or `None` if no object has the id.
-    fn get(&self, id: u32) -> Option<&Row>
-        ensures { option_copied result ≡ row_of id (rows_of (stored self.now).standing.rows) };
-
-    /// Returns the row at a place, counted from 0 in ascending order of ids.
-    fn row(&self, at: usize) -> Option<&Row>
-        ensures { option_copied result ≡ slice_get (rows_of (stored self.now).standing.rows) at };
-
     /// Returns whether an object is a container.
     fn is_container(&self, id: u32) -> bool
         ensures { result ≡ is_container_row (row_of id (rows_of (stored self.now).standing.rows)) };
-
-    /// Returns the number of rows, with the row of the root.
-    fn len(&self) -> usize
-        ensures exact { result ≡ length (stored self.now).standing.rows }
-        ensures few { length (stored self.now).standing.rows ≤ 65536 };
-
-    /// Appends the ids of the children of a container to `out`, in ascending order: at most `count` from the place
-    /// `start` on, counted from 0. Returns how many children there are.
-    fn children(
-        &self,
-        alloc: Global,
-        id: u32,
-        start: u32,
-        count: u32,
-        out: &mut Vec<u32>,
-    ) -> Result<u32, Mem>
-        requires { is_container_row (row_of id (rows_of (stored self.now).standing.rows)) ≡ true }
-        ensures total { IfOk result (λ total. total ≡ length (children_of id (rows_of (stored self.now).standing.rows))) }
-        ensures page { IfOk result (λ _. AddsPage id start count (stored self.now).standing.rows out.old.items out.new.items) }
-        ensures kept { OnErr result (out.new.items ≡ out.old.items) };
-
-    /// Returns the number of the newest change, or the first number (UPnP ContentDirectory:4 on SystemUpdateID).
-    fn system_update_id(&self) -> u32
-        ensures { result ≡ (stored self.now).standing.number };
 
     /// Returns the number up to which changes are forgotten. At first it is the first number.
     fn forgotten(&self) -> u32
@@ -97,4 +65,7 @@ pub trait Keeping {
     /// Makes known what holds of whatever is kept. Only proofs need this.
     fn facts(&self)
         ensures { IsStore (stored self.now) };
+
+    // It shows the rows that stand, and the newest number.
+    ghost shows: { (s : Self) → (Self.rows s ≡ rows_of (stored s).standing.rows) × (Self.number s ≡ (stored s).standing.number) };
 }

@@ -8,7 +8,7 @@ use crate::containers::containers_within;
 use crate::kept::{events_within, keep, retain_after};
 use crate::planning::{child_ids, page, plan};
 use crate::subtrees::mark_all;
-use crate::{ApplyError, Keeping, Span};
+use crate::{ApplyError, Keeping, Span, View};
 use cds_base::Mem;
 use cds_changes::EventWithParent;
 use cds_object::{Events, Records, Row};
@@ -64,25 +64,13 @@ impl PlainStore {
     }
 }
 
-impl Keeping for PlainStore {
+impl View for PlainStore {
+    ghost use Rattle.cds_store.specs.Rows.{rows_of};
     ghost use Rattle.cds_store.specs.Stands.{Stored};
 
-    ghost stored = { λ (s : Stored). s };
+    ghost rows = { λ (s : Stored). rows_of s.standing.rows };
 
-    fn apply(&mut self, alloc: Global, records: &Records) -> Result<Span, ApplyError> {
-        let changes = plan(alloc, &self.catalog, records)?;
-        let from = self.catalog.number();
-        if changes.is_empty() {
-            return Ok(Span { from, to: from });
-        }
-        let plan = mark_all(alloc, changes)?;
-        let mut next = self.catalog.copy(alloc)?;
-        let told = next.make_all(alloc, plan)?;
-        keep(&mut self.kept, told.as_slice())?;
-        let to = next.number();
-        drop(mem::replace(&mut self.catalog, next));
-        Ok(Span { from, to })
-    }
+    ghost number = { λ (s : Stored). s.standing.number };
 
     fn get(&self, id: u32) -> Option<&Row> {
         for placed in self.catalog.rows() {
@@ -97,13 +85,6 @@ impl Keeping for PlainStore {
         match self.catalog.rows().get(at) {
             None => None,
             Some(placed) => Some(&placed.row),
-        }
-    }
-
-    fn is_container(&self, id: u32) -> bool {
-        match self.get(id) {
-            None => false,
-            Some(row) => row.content.is_folder(),
         }
     }
 
@@ -126,6 +107,39 @@ impl Keeping for PlainStore {
 
     fn system_update_id(&self) -> u32 {
         self.catalog.number()
+    }
+
+    fn view_facts(&self) {
+        let _newest = self.catalog.number();
+    }
+}
+
+impl Keeping for PlainStore {
+    ghost use Rattle.std.specs.Prelude.{refl};
+    ghost use Rattle.cds_store.specs.Stands.{Stored};
+
+    ghost stored = { λ (s : Stored). s };
+
+    fn apply(&mut self, alloc: Global, records: &Records) -> Result<Span, ApplyError> {
+        let changes = plan(alloc, &self.catalog, records)?;
+        let from = self.catalog.number();
+        if changes.is_empty() {
+            return Ok(Span { from, to: from });
+        }
+        let plan = mark_all(alloc, changes)?;
+        let mut next = self.catalog.copy(alloc)?;
+        let told = next.make_all(alloc, plan)?;
+        keep(&mut self.kept, told.as_slice())?;
+        let to = next.number();
+        drop(mem::replace(&mut self.catalog, next));
+        Ok(Span { from, to })
+    }
+
+    fn is_container(&self, id: u32) -> bool {
+        match self.get(id) {
+            None => false,
+            Some(row) => row.content.is_folder(),
+        }
     }
 
     fn forgotten(&self) -> u32 {
@@ -157,4 +171,6 @@ impl Keeping for PlainStore {
     fn facts(&self) {
         let _ = &self.catalog;
     }
+
+    ghost shows = { λ s. (refl, refl) };
 }

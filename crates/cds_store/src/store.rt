@@ -11,7 +11,7 @@ use crate::offspring::{Child, children_in, ids_of, offspring_after, offspring_of
 use crate::planning::plan;
 use crate::resolving::resolve;
 use crate::subtrees::mark_all;
-use crate::{ApplyError, Keeping, Span};
+use crate::{ApplyError, Keeping, Span, View};
 use cds_base::Mem;
 use cds_changes::EventWithParent;
 use cds_object::{Events, Records, Row};
@@ -72,25 +72,13 @@ impl Store {
     }
 }
 
-impl Keeping for Store {
+impl View for Store {
+    ghost use Rattle.cds_store.specs.Rows.{rows_of};
     ghost use Rattle.cds_store.specs.Stands.{Stored};
 
-    ghost stored = { λ (s : Stored). s };
+    ghost rows = { λ (s : Stored). rows_of s.standing.rows };
 
-    fn apply(&mut self, alloc: Global, records: &Records) -> Result<Span, ApplyError> {
-        let changes = plan(alloc, &self.catalog, records)?;
-        let from = self.catalog.number();
-        if changes.is_empty() {
-            return Ok(Span { from, to: from });
-        }
-        let marked = mark_all(alloc, changes)?;
-        let scan = resolve(alloc, &self.catalog, marked)?;
-        let offspring = offspring_after(alloc, self.offspring.as_slice(), &scan)?;
-        self.catalog.commit(scan, &mut self.kept)?;
-        drop(mem::replace(&mut self.offspring, offspring));
-        let to = self.catalog.number();
-        Ok(Span { from, to })
-    }
+    ghost number = { λ (s : Stored). s.standing.number };
 
     fn get(&self, id: u32) -> Option<&Row> {
         row_by_id(self.catalog.rows(), id)
@@ -100,13 +88,6 @@ impl Keeping for Store {
         match self.catalog.rows().get(at) {
             None => None,
             Some(placed) => Some(&placed.row),
-        }
-    }
-
-    fn is_container(&self, id: u32) -> bool {
-        match self.get(id) {
-            None => false,
-            Some(row) => row.content.is_folder(),
         }
     }
 
@@ -130,6 +111,39 @@ impl Keeping for Store {
 
     fn system_update_id(&self) -> u32 {
         self.catalog.number()
+    }
+
+    fn view_facts(&self) {
+        let _newest = self.catalog.number();
+    }
+}
+
+impl Keeping for Store {
+    ghost use Rattle.std.specs.Prelude.{refl};
+    ghost use Rattle.cds_store.specs.Stands.{Stored};
+
+    ghost stored = { λ (s : Stored). s };
+
+    fn apply(&mut self, alloc: Global, records: &Records) -> Result<Span, ApplyError> {
+        let changes = plan(alloc, &self.catalog, records)?;
+        let from = self.catalog.number();
+        if changes.is_empty() {
+            return Ok(Span { from, to: from });
+        }
+        let marked = mark_all(alloc, changes)?;
+        let scan = resolve(alloc, &self.catalog, marked)?;
+        let offspring = offspring_after(alloc, self.offspring.as_slice(), &scan)?;
+        self.catalog.commit(scan, &mut self.kept)?;
+        drop(mem::replace(&mut self.offspring, offspring));
+        let to = self.catalog.number();
+        Ok(Span { from, to })
+    }
+
+    fn is_container(&self, id: u32) -> bool {
+        match self.get(id) {
+            None => false,
+            Some(row) => row.content.is_folder(),
+        }
     }
 
     fn forgotten(&self) -> u32 {
@@ -161,4 +175,6 @@ impl Keeping for Store {
     fn facts(&self) {
         let _ = &self.catalog;
     }
+
+    ghost shows = { λ s. (refl, refl) };
 }

@@ -21,7 +21,7 @@ use cds_didl::put_fragment;
 use cds_object::{Records, Row};
 use cds_outside::{Outside, OutsideFault, Sink};
 use cds_scan::{Refused, RefusedFile, Scan, ScanError, scan};
-use cds_store::{ApplyError, Keeping, Store};
+use cds_store::{ApplyError, Keeping, Store, View};
 use std::alloc::Global;
 
 /// Scans the folder at a path once. Writes each row of its catalog and LF, and then `refused PATH` for each file that was refused

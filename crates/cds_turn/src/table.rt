@@ -2,7 +2,7 @@
 ghost use Rattle.std.specs.Prelude.{◌≡◌, ◌≢◌, ◌≤◌, ℕ, ◌+◌, ◌%◌, ◌^◌, List, [], ◌∷◌, ◌++◌, length, Some, None, IsSome, IfSome, Bool, true, false};
 ghost use Rattle.std.specs.List.{count_by};
 ghost use Rattle.cds_turn.specs.Line.{Extends, StandsBeyond, EndsHome, EndsOpen};
-ghost use Rattle.cds_turn.specs.Moves.{IsAt, Continues, at_rest, found_of, stays, parts, both, settled, Turns};
+ghost use Rattle.cds_turn.specs.Moves.{IsAt, Continues, at_rest, found_of, stays, parts, both, settled, IsTurnTable, Turns};
 
 use crate::open::Open;
 use crate::stands::{Act, StandsFor};
@@ -14,10 +14,9 @@ use std::alloc::Global;
 use std::marker::Brand;
 use std::snapshot::Snapshot;
 use std::sync::Wait;
-use std::thread;
 
-/// How often a waiting thread looks before it lets others run.
-const LOOKS: u32 = 64;
+/// How often a waiting thread looks before it sleeps: for about as long as it takes to fall asleep and be woken.
+const LOOKS: u32 = 4096;
 
 /// The table of a turn, as all threads see it.
 pub(crate) type Lane<V> = Shared<
@@ -78,7 +77,9 @@ fn is_served<V: StandsFor, G: Sharing>(lane: &Lane<V>, place: &mut Place<V>, tic
     false
 }
 
-/// Waits until the ticket is served. The seat then holds the slot with the value.
+/// Waits until the ticket is served. The seat then holds the slot with the value. It sleeps while the number that is
+/// served is one that is not its ticket. Fewer than 2^32 tickets are out at once. So the low 32 bits of that number,
+/// which are all that a sleep compares, do not come back before the ticket is served.
 fn await_turn<V: StandsFor, R: Wait, G: Sharing>(
     rt: &R,
     lane: &Lane<V>,
@@ -96,7 +97,10 @@ fn await_turn<V: StandsFor, R: Wait, G: Sharing>(
         if is_served::<V, G>(lane, place, ticket) {
             return;
         }
-        thread::yield_now();
+        let serving = lane.peek(1);
+        if serving != ticket {
+            lane.park(rt, 1, (serving & 0xffff_ffff) as u32);
+        }
     }
     unreachable!()
 }
@@ -160,6 +164,17 @@ fn give<V: StandsFor + Drop>(lane: &Lane<V>, place: &mut Place<V>, value: V)
     lane.exchange(place, 0, Some(value));
 }
 
+/// Wakes all who sleep, if a ticket was drawn that is not served yet. A thread draws before it sleeps, and the number
+/// that is served has changed before this looks. So a ticket that is not counted here is that of a thread that does not
+/// sleep on the old number.
+fn wake<V: StandsFor>(lane: &Lane<V>, serving: u64)
+    requires { IsTurnTable lane.now.table_id }
+{
+    if lane.peek(0) != serving {
+        lane.wake_all(1);
+    }
+}
+
 /// Passes the turn on, and the slot with it. The seat has then seen the list as the turn left it.
 fn pass_on<V: StandsFor>(lane: &Lane<V>, place: &mut Place<V>)
     requires table { IsAt lane.now.table_id place.old }
@@ -174,7 +189,8 @@ fn pass_on<V: StandsFor>(lane: &Lane<V>, place: &mut Place<V>)
     ensures passes { place.new.me.0.passes ≡ place.old.me.0.passes }
     ensures turns { place.new.me.0.turns ≡ place.old.me.0.turns + 1 }
 {
-    lane.fetch_add::<PassOn>(place, 1, 1);
+    let served = lane.fetch_add::<PassOn>(place, 1, 1);
+    wake(lane, served.wrapping_add(1));
 }
 
 /// Ends a turn: gives the value back and passes the turn on.

@@ -1,33 +1,51 @@
-use Rattle.std.proofs.Common.{◌≡◌, ◌∷◌, [], true, ap, subst, ◌∙◌}
+use Rattle.std.proofs.Common.{◌≡◌, ◌∷◌, [], take, drop, length, ap, sym, ◌∙◌}
 use Rattle.std.proofs.lemmas.Result.{IfOk-weaker}
-use Rattle.cds_object.specs.Object.{ObjectRow, is_folder}
-use Rattle.cds_object.specs.Tree.{is_container_row, row_of}
-use Rattle.cds_store.specs.Rows.{rows_of}
-use Rattle.cds_store.proofs.Ascending.{rows_ascend}
+use Rattle.cds_object.specs.Object.{ObjectRow}
+use Rattle.cds_object.specs.Tree.{children_of}
 use Rattle.cds_browse.specs.declared.page.Page.{Page}
 use Rattle.cds_browse.specs.declared.page.Target.{Target}
-use Rattle.cds_browse.specs.Browsing.{can_answer, page_of}
+use Rattle.cds_browse.specs.Paging.{ids_of, most_rows, page_of}
+use Rattle.cds_browse.specs.Browsing.{matches}
 use Rattle.cds_browse.proofs.Alone.{made, itself_made}
-use Rattle.cds_browse.proofs.Named.{named_row}
+use Rattle.cds_browse.proofs.Unsorted.{children_page, is_container}
 use Rattle.cds_browse.proofs.browsing.page_of.Goals as goal
 
 pub children-requires : goal.children-requires
 children-requires g c =
-    let rows = rows_of (g.K.Keeping.stored c.args.keeping.now).standing.rows in
-    let row = c.args.row.now in
-    let id : c.row.inside.id.0 ≡ row.id = ap (λ (r : ObjectRow). r.id) c.row.view_is in
-    let has : is_folder row.content ≡ true = subst (λ (t : Target). can_answer t row ≡ true) c.in-Children-ById.is-0 c.requires.has in
-    ap (λ n. is_container_row (row_of n rows)) id ∙ ap is_container_row (named_row c.args.asked.now.object row rows c.requires.stands) ∙ has
+    is_container c.args.asked.now.object c.args.row.now (g.V.View.rows c.args.view.now) c.row.inside.id.0 c.args.target c.requires.stands c.requires.has c.in-Children.is
+    (ap (λ (r : ObjectRow). r.id) c.row.view_is)
 
-pub returns-in-Itself-ById : goal.returns-in-Itself-ById
-returns-in-Itself-ById g c =
-    let store = g.K.Keeping.stored c.args.keeping.now in
-    let rows = rows_of store.standing.rows in
+pub returns-in-Itself : goal.returns-in-Itself
+returns-in-Itself g c =
+    let rows = g.V.View.rows c.args.view.now in
+    let number = g.V.View.number c.args.view.now in
     let row = c.args.row.now in
-    let id : c.row.inside.id.0 ≡ row.id = ap (λ (r : ObjectRow). r.id) c.row.view_is in
-    let page : Page = made (c.row.inside.id.0 ∷ []) 1 c.update_of-update.result in
-    let is : page ≡ page_of store.standing.number rows c.args.target row c.args.keys c.args.asked.now =
-    itself_made store.standing.number rows row c.args.asked.now c.update_of-update.result c.args.target c.args.keys c.row.inside.id.0 (rows_ascend store c.facts.ensures)
-    c.requires.stands c.in-Itself-ById.is-0 c.requires.start c.update_of-update.ensures id in
-    IfOk-weaker c.itself.result (λ (made_page : Page). made_page ≡ page)
-    (λ (made_page : Page). made_page ≡ page_of store.standing.number rows c.args.target row c.args.keys c.args.asked.now) (λ made_page e. e ∙ is) c.itself.ensures
+    let asked = c.args.asked.now in
+    IfOk-weaker c.itself.result (λ (page : Page). page ≡ made (c.row.inside.id.0 ∷ []) 1 c.update_of-update.result)
+    (λ (page : Page). page ≡ page_of number rows row c.args.keys.now asked.start asked.count (matches c.args.target row rows))
+    (λ page e. e ∙ itself_made number rows row c.args.keys.now asked.object asked.start asked.count c.update_of-update.result c.args.target c.row.inside.id.0
+    c.view_facts.ensures.ascending c.requires.stands c.in-Itself.is c.requires.start c.update_of-update.ensures (ap (λ (r : ObjectRow). r.id) c.row.view_is)) c.itself.ensures
+
+pub returns-then-is_empty : goal.returns-then-is_empty
+returns-then-is_empty g c =
+    let rows = g.V.View.rows c.args.view.now in
+    let number = g.V.View.number c.args.view.now in
+    let row = c.args.row.now in
+    let asked = c.args.asked.now in
+    let id = c.row.inside.id.0 in
+    IfOk-weaker c.children.result
+    (λ (page : Page). page
+    ≡ made (ids_of (take (most_rows asked.count) (drop asked.start (children_of id rows)))) (length (children_of id rows)) c.update_of-update.result)
+    (λ (page : Page). page ≡ page_of number rows row c.args.keys.now asked.start asked.count (matches c.args.target row rows))
+    (λ page e. e ∙ children_page number rows row c.args.keys.now asked.start asked.count id c.update_of-update.result c.args.target c.view_facts.ensures.ascending
+    c.in-Children.is (sym c.is_empty.ensures ∙ c.if-is_empty.true) (ap (λ (r : ObjectRow). r.id) c.row.view_is) c.update_of-update.ensures) c.children.ensures
+
+pub returns-else-is_empty : goal.returns-else-is_empty
+returns-else-is_empty g c =
+    let rows = g.V.View.rows c.args.view.now in
+    let number = g.V.View.number c.args.view.now in
+    let row = c.args.row.now in
+    let asked = c.args.asked.now in
+    IfOk-weaker c.sorted.result (λ (page : Page). page ≡ page_of number rows row c.args.keys.now asked.start asked.count (children_of row.id rows))
+    (λ (page : Page). page ≡ page_of number rows row c.args.keys.now asked.start asked.count (matches c.args.target row rows))
+    (λ page e. e ∙ ap (λ (t : Target). page_of number rows row c.args.keys.now asked.start asked.count (matches t row rows)) (sym c.in-Children.is)) c.sorted.ensures

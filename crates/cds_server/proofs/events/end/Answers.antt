@@ -1,5 +1,6 @@
 use Rattle.std.proofs.Common.{rules, refl, sym, true≢false}
-use Rattle.cds_server.specs.Outcome.{empty_reply, status_of}
+use Rattle.cds_control.specs.Replies.{empty_reply}
+use Rattle.cds_server.specs.Outcome.{status_of}
 use Rattle.cds_server.proofs.Done.{cut-result, end-made, end-result, none-noted}
 use Rattle.cds_server.proofs.events.end.Goals as goal
 

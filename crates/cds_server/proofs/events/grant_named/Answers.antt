@@ -1,6 +1,7 @@
 use Rattle.std.proofs.Common.{rules, ap, refl, Some}
 use Rattle.url.specs.Parts.{serialize}
-use Rattle.cds_server.specs.Outcome.{empty_reply, lease_reply, status_of}
+use Rattle.cds_control.specs.Replies.{empty_reply}
+use Rattle.cds_server.specs.Outcome.{lease_reply, status_of}
 use Rattle.cds_server.proofs.Done.{cut-result, goes-none, made-grant, none-noted, refused-result}
 use Rattle.cds_server.proofs.events.grant_named.Goals as goal
 

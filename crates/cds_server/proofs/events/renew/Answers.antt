@@ -1,5 +1,6 @@
 use Rattle.std.proofs.Common.{rules, refl, sym, true≢false}
-use Rattle.cds_server.specs.Outcome.{empty_reply, lease_reply, status_of}
+use Rattle.cds_control.specs.Replies.{empty_reply}
+use Rattle.cds_server.specs.Outcome.{lease_reply, status_of}
 use Rattle.cds_server.proofs.Done.{cut-result, none-noted, renewal-made, renewal-result}
 use Rattle.cds_server.proofs.events.renew.Goals as goal
 

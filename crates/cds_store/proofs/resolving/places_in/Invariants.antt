@@ -1,4 +1,4 @@
-use Rattle.std.proofs.Common.{◌≡◌, ◌≤◌, length, drop}
+use Rattle.std.proofs.Common.{◌≤◌, length, drop}
 use Rattle.std.specs.BTreeMap.{get}
 use Rattle.cds_object.specs.Path.{path_cmp}
 use Rattle.cds_store.specs.Found.{KnowsPlaces}

@@ -1,0 +1,6 @@
+use Rattle.cds_soap.proofs.OneAnswer.{one-ask}
+use Rattle.cds_control.proofs.Passing.{passed}
+use Rattle.cds_control.proofs.laws.passed_checks_get_200.Goals as goal
+
+pub returns : goal.returns
+returns c = passed one-ask
