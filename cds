@@ -1,7 +1,8 @@
 #!/usr/bin/env bash
 # Runs the program if it is built, and says on standard error why it ended if its status is not 0. If the program is not built,
-# runs the sources unproved, and says so; `serve` then only says how to build it. `./cds --prove` proves every crate and builds
-# the program, which takes half an hour or more if nothing is kept. `./cds --test` runs the tests and most examples unproved.
+# runs the sources unproved, and says so; `serve`, `announce` and `share` then only say how to build it. `./cds share FOLDER [PORT]`
+# serves a folder and announces the server, until it is interrupted. `./cds --prove` proves every crate and builds the program,
+# which takes half an hour or more if nothing is kept. `./cds --test` runs the tests and most examples unproved.
 set -u
 top=$(cd "$(dirname "$0")" && pwd)
 crate=$top/crates/cds_cli
@@ -46,6 +47,17 @@ port_fault() {
   hex=$(printf '%04X' "$1")
   if cat /proc/net/tcp /proc/net/tcp6 2>/dev/null | grep -q "^ *[0-9]*: [0-9A-F]*:$hex [0-9A-F]*:[0-9A-F]* 0A "; then
     echo "port $1 is in use"
+  elif [ "$1" -lt 1024 ] && [ "$(id -u)" -ne 0 ]; then
+    echo "permission denied: port $1 is below 1024"
+  fi
+}
+
+# Says whether another program has a port for datagrams.
+datagram_port_fault() {
+  local hex
+  hex=$(printf '%04X' "$1")
+  if grep -q "^ *[0-9]*: [0-9A-F]*:$hex " /proc/net/udp 2>/dev/null; then
+    echo "port $1 is in use by a program that does not share it"
   elif [ "$1" -lt 1024 ] && [ "$(id -u)" -ne 0 ]; then
     echo "permission denied: port $1 is below 1024"
   fi
@@ -105,17 +117,20 @@ word_fault() {
 explain() {
   local status=$1 command=${2-} folder=${3-}
   case $status,$command in
-    1,*) echo "a line of the script is outside the grammar; the last line of the report names it" ;;
+    1,*) echo "a line of the script is outside the grammar; the last line that was written names it" ;;
     2,scan) first_of "$(folder_fault "$folder")" "$(name_fault "$folder")" "the folder could not be read: $folder" ;;
     2,*) echo "standard input could not be read" ;;
     3,*) echo "standard output could not be written" ;;
     4,*) echo "out of memory" ;;
     5,serve) word_fault "$#" ;;
+    5,announce) echo "announce takes a port, the http address of a description, a number of datagrams and maybe a UUID: ./cds announce PORT LOCATION COUNT [UUID]" ;;
+    5,generate) echo "generate takes two numbers in digits: a SEED below 2^64, and TRACKS from 1 to 10000, as in ./cds generate 7 1200" ;;
     5,check | 5,replay | 5,summary) echo "$command has no further word: it reads standard input, as in ./cds $command < FILE" ;;
     5,*) echo "unknown command, or a word is missing or too many; ./cds --help lists the commands" ;;
     6,scan) limit_fault "$folder" ;;
     6,check) echo "the input has more than 67108864 bytes" ;;
     6,*) echo "the script, or a line of it, is too long" ;;
+    7,announce) first_of "$(datagram_port_fault "$folder")" "the port could not be had, or a datagram not be received" ;;
     7,*) first_of "$(folder_fault "${4-}")" "$(port_fault "$folder")" "a port, a connection or a thread could not be had" ;;
     8,*) echo "the input is no StateEvent, which is a list of changes; the number is the place of its first fault, in bytes from 0" ;;
     127,*) echo "the program could not be started" ;;
@@ -139,6 +154,168 @@ run() {
   return "$status"
 }
 
+# The group to which searches for servers are sent, and the port.
+group=239.255.255.250
+group_port=1900
+
+# Prints the addresses of this machine that are of loopback, link-local or private networks.
+near_addresses() {
+  {
+    if command -v ip >/dev/null; then
+      ip -4 -o addr show up | awk '{ sub("/.*", "", $4); print $4 }'
+    else
+      hostname -I | tr ' ' '\n'
+    fi
+    echo 127.0.0.1
+  } 2>/dev/null | grep -E '^(127|10|192\.168|169\.254|172\.(1[6-9]|2[0-9]|3[01]))\.' | awk '!seen[$0]++'
+}
+
+# Prints the one of these addresses at which others reach this machine: the one from which it would send a search, or else the first
+# that is not loopback, or else loopback.
+outer_address() {
+  local own
+  own=$(ip -4 route get "$group" 2>/dev/null | sed -n 's/.* src \([0-9.]*\).*/\1/p')
+  {
+    printf '%s\n' "$@" | grep -Fx -e "${own:-none}"
+    printf '%s\n' "$@" | grep -v '^127\.'
+    echo 127.0.0.1
+  } | head -n 1
+}
+
+# Joins the group at these addresses until it is ended. It takes no datagram: the system hands those to all programs that have the
+# port. An address that cannot join is passed over. Ends with 1 if none can, and with 127 if neither Python nor Perl is there.
+join_group() {
+  if command -v python3 >/dev/null; then
+    exec python3 -c '
+import signal, socket, sys
+own = socket.socket(socket.AF_INET, socket.SOCK_DGRAM)
+joined = 0
+for address in sys.argv[2:]:
+    try:
+        own.setsockopt(socket.IPPROTO_IP, socket.IP_ADD_MEMBERSHIP, socket.inet_aton(sys.argv[1]) + socket.inet_aton(address))
+        joined += 1
+    except OSError:
+        pass
+if joined == 0:
+    sys.exit(1)
+signal.signal(signal.SIGINT, signal.SIG_DFL)
+signal.pause()' "$group" "$@"
+  elif command -v perl >/dev/null; then
+    exec perl -MSocket -e '
+socket(my $own, AF_INET, SOCK_DGRAM, 0) or exit 1;
+my $group = inet_aton(shift);
+my $joined = 0;
+for (@ARGV) { $joined++ if setsockopt($own, 0, 35, $group . inet_aton($_)) }
+exit 1 if $joined == 0;
+sleep' "$group" "$@"
+  fi
+  exit 127
+}
+
+# Prints the UUID in the description of the server at a port of this machine.
+device_name() {
+  (
+    exec 3<>"/dev/tcp/127.0.0.1/$1" || exit
+    printf 'GET /device.xml HTTP/1.1\r\nHOST: 127.0.0.1:%s\r\n\r\n' "$1" >&3
+    timeout 5 sed -n 's:.*<UDN>uuid\:\([0-9a-f-]*\)</UDN>.*:\1:p' <&3
+  ) 2>/dev/null
+}
+
+# Waits until something listens at a port of this machine, or a process ended.
+wait_for_port() {
+  while kill -0 "$2" 2>/dev/null; do
+    (exec 3<>"/dev/tcp/127.0.0.1/$1") 2>/dev/null && return
+    sleep 0.1
+  done
+}
+
+# Ends all that `share` started.
+end_all() {
+  local child
+  trap - INT TERM HUP EXIT
+  for child in "$@"; do
+    kill "$child" 2>/dev/null
+  done
+  wait
+}
+
+# Says why a command ended with this status, if that is not 0, and ends with it.
+end_with() {
+  [ "$1" -eq 0 ] || tell "$(explain "$@")"
+  exit "$1"
+}
+
+# Says what a server lacks to be found by other machines. The words are its address and the process that joined the group.
+tell_lacks() {
+  if ! kill -0 "$2" 2>/dev/null; then
+    wait "$2"
+    if [ $? -eq 127 ]; then
+      tell "neither python3 nor perl is there, which join the group $group: players find the server only if another program of this machine has joined it"
+    else
+      tell "the group $group could not be joined: players find the server only if another program of this machine has joined it"
+    fi
+  fi
+  case $1 in
+    127.*) tell "this machine has no address in a private network: only programs on it reach the server" ;;
+  esac
+}
+
+# Serves a folder at a port and announces the server, until it is interrupted or one of both ends.
+share() {
+  local folder=$1 port=$2 fault address location name server joiner announcer status
+  local -a near
+  fault=$(first_of "$(folder_fault "$folder")" "$(port_fault "$port")")
+  if [ -n "$fault" ]; then
+    tell "$fault"
+    exit 7
+  fi
+  mapfile -t near < <(near_addresses)
+  address=$(outer_address "${near[@]}")
+  location=http://$address:$port/device.xml
+  trap 'exit 130' INT TERM HUP
+  trap 'end_all "${server-}" "${joiner-}" "${announcer-}"' EXIT
+  "$program" serve "$port" "$folder" 4294967295 >/dev/null &
+  server=$!
+  wait_for_port "$port" "$server"
+  if ! kill -0 "$server" 2>/dev/null; then
+    wait "$server"
+    end_with $? serve "$port" "$folder" 4294967295
+  fi
+  name=$(device_name "$port")
+  if [ -z "$name" ]; then
+    tell "the server has no description at http://127.0.0.1:$port/device.xml, so it cannot be announced"
+    exit 1
+  fi
+  join_group "${near[@]}" &
+  joiner=$!
+  "$program" announce "$group_port" "$location" 4294967295 "$name" &
+  announcer=$!
+  sleep 0.5
+  if kill -0 "$announcer" 2>/dev/null; then
+    tell_lacks "$address" "$joiner"
+    echo "$folder is served at http://$address:$port/ until Ctrl-C"
+    echo "in a UPnP player on this network, as VLC under Local Network, open the server cds"
+    while kill -0 "$server" 2>/dev/null && kill -0 "$announcer" 2>/dev/null; do
+      wait -n "$server" "$announcer"
+    done
+  fi
+  if kill -0 "$announcer" 2>/dev/null; then
+    wait "$server"
+    end_with $? serve "$port" "$folder" 4294967295
+  fi
+  wait "$announcer"
+  end_with $? announce "$group_port" "$location" 4294967295 "$name"
+}
+
+# Says what is wrong with the words of `share`, if anything is.
+share_fault() {
+  if [ $# -ne 1 ] && [ $# -ne 2 ]; then
+    echo "share takes a folder, and a port if it is not to be 8200: ./cds share FOLDER [PORT]"
+  elif [[ ! ${2-8200} =~ ^[1-9][0-9]{0,4}$ ]] || [ "${2-8200}" -gt 65535 ]; then
+    echo "PORT is a number from 1 to 65535"
+  fi
+}
+
 if [ $# -eq 1 ]; then
   case $1 in
     --prove) prove ;;
@@ -148,10 +325,20 @@ if [ $# -eq 1 ]; then
   esac
 fi
 
-if [ -x "$program" ]; then
+if [ "${1-}" = share ]; then
+  fault=$(share_fault "${@:2}")
+  if [ -n "$fault" ]; then
+    tell "$fault"
+    exit 5
+  fi
+fi
+
+if [ -x "$program" ] && [ "${1-}" = share ]; then
+  share "$2" "${3-8200}"
+elif [ -x "$program" ]; then
   run "$program" "$@"
-elif [ "${1-}" = serve ]; then
-  tell "the program is not built, and serve needs it; './cds --prove' proves and builds it, in half an hour or more"
+elif [ "${1-}" = serve ] || [ "${1-}" = announce ] || [ "${1-}" = share ]; then
+  tell "the program is not built, and $1 needs it; './cds --prove' proves and builds it, in half an hour or more"
   exit 127
 else
   tell "running the sources unproved, which takes a minute or more; './cds --prove' proves and builds the program, in half an hour or more"

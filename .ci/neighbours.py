@@ -751,6 +751,16 @@ CASES = [
         lambda: heavy([browse("0" + "<a/>" * 500_000, tag=tags(' xmlns:n-N="x"', 50_000))]),
     ),
     (
+        "200,000 elements of a long namespace, and 50,000 with two that are alike but for their ends",
+        codes([200, 200], 73),
+        lambda: heavy(
+            [
+                browse("0" + "<n:a/>" * 200_000, tag=f' xmlns:n="{"u" * 1_000_000}"'),
+                browse("0" + '<a p:x="" q:x=""/>' * 50_000, tag=f' xmlns:p="{"u" * 500_000}p" xmlns:q="{"u" * 500_000}q"'),
+            ]
+        ),
+    ),
+    (
         "a Filter of 200,000 names on 3,000 tracks",
         codes([200], 74),
         lambda: heavy([browse(names=tags("upnp:xN,", 200_000))], tracks=3000),

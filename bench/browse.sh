@@ -12,6 +12,7 @@
 # hold on a machine that has other work.
 # The program is proved and built in a folder of its own, with all crates below it. That takes a minute or two where earlier
 # checks on this machine left their work, and else as long as a first check of these crates.
+# Then bench/search.sh runs, but not with `count`.
 # Needs bash, python3, rt and cc; valgrind for `count`.
 set -eu
 top=$(cd "$(dirname "$0")/.." && pwd)
@@ -370,3 +371,8 @@ ours = least["page"]
 rates = "" if how == "count" else f" ({sizes['page'] / ours:.0f} MB/s of reply, and {document / c:.0f} of document)"
 print(f"the page of tracks against the C program's, {document} bytes: {ours:.1f} and {c:.1f} {unit}, {ours / c:.2f} times its time{rates} (goal: at most 3)")
 PY
+
+# Searches and sorted pages have a program of their own.
+if [ "${1:-time}" != count ]; then
+    "$top/bench/search.sh"
+fi

@@ -16,6 +16,8 @@
 #   most 1.3 times);
 # - a release of 131,070 changes (65,535 tracks that came and went), as notes to one subscription: user time and peak memory for
 #   each change, beside the same script without the tick.
+# - 40 scans of generated libraries of 1,200, 4,000 and 10,000 tracks (`generate 7 TRACKS`, then `summary`): user time and peak memory
+#   for each line of the script against those at 1,200 (goal: at 10,000 at most 1.5 times in time and 1.0 in memory).
 # Needs bash, python3 and GNU time (/usr/bin/time), which tells the program's own peak memory.
 set -eu
 top=$(cd "$(dirname "$0")/.." && pwd)
@@ -94,6 +96,10 @@ write("released131070", gone + ["at 200"])
 write("one64000", library(64000, True) + ["scan"] + library(64000, True, grown=32000) + ["scan"])
 PY
 
+for count in 1200 4000 10000; do
+  "$program" generate 7 "$count" >"$work/generated$count"
+done
+
 PYTHONPATH=$top/bench python3 -B - "$work" "$program" <<'PY'
 import sys
 from measure import measured
@@ -137,4 +143,12 @@ flat, none, some = (timed(play, name, 3) for name in ("scan-flat64000", "none640
 kept, gone = timed(play, "kept131070", 5), timed(play, "released131070", 5)
 print(f"a release of 131,070 changes: {(gone[1] - kept[1]) * 1000:.0f} ms user, {(gone[1] - kept[1]) / 131.070 * 1000:.2f} us a change; peak {gone[2]:.1f} MiB against {kept[2]:.1f} MiB without it, {(gone[2] - kept[2]) * 1048576 / 131070:.0f} bytes a change")
 print(f"a scan of 64,000 tracks that changes one: {(some[1] - flat[1]) * 1000:.0f} ms user, {(some[1] - flat[1]) / (none[1] - flat[1]):.2f} times one that changes none")
+first = None
+for count in (1200, 4000, 10000):
+    with open(f"{work}/generated{count}", "rb") as file:
+        lines = sum(1 for _ in file)
+    now = timed([program, "summary"], f"generated{count}", 3)
+    each, room = now[1] / lines * 1_000_000, now[2] * 1_048_576 / lines
+    first = first or (each, room)
+    print(f"40 scans of {count} generated tracks: {lines} lines, {now[1] * 1000:.0f} ms user, {now[2]:.1f} MiB; a line {each:.2f} us and {room:.0f} bytes, {each / first[0]:.2f} and {room / first[1]:.2f} times those at 1,200")
 PY

@@ -8,7 +8,8 @@ use Rattle.cds_browse.specs.declared.page.Page.{Page}
 use Rattle.cds_browse.specs.declared.page.Target.{Target}
 use Rattle.cds_browse.specs.declared.page.Target.TheVariants.{Itself, Children}
 use Rattle.cds_criteria.specs.declared.sort.SortKey.{SortKey}
-use Rattle.cds_browse.specs.Paging.{has_id_text, row_named, ids_of, most_rows, update_of, page_of}
+use Rattle.cds_object.specs.Updates.{update_of}
+use Rattle.cds_browse.specs.Paging.{has_id_text, row_named, ids_of, most_rows, page_of}
 use Rattle.cds_browse.specs.Browsing.{target_at, matches}
 use Rattle.cds_browse.proofs.Named.{same_as, are_same, other_id}
 

@@ -11,7 +11,8 @@ use Rattle.cds_criteria.specs.Meaning.{meets}
 use Rattle.cds_criteria.specs.Sorting.{ordered}
 use Rattle.cds_criteria.specs.declared.sort.SortKey.{SortKey}
 use Rattle.cds_criteria.proofs.Order.{same_rows}
-use Rattle.cds_browse.specs.Paging.{ids_of, most_rows, update_of, page_of}
+use Rattle.cds_object.specs.Updates.{update_of}
+use Rattle.cds_browse.specs.Paging.{ids_of, most_rows, page_of}
 use Rattle.cds_browse.specs.Searching.{found_in}
 use Rattle.cds_browse.proofs.Alone.{made, same_page}
 

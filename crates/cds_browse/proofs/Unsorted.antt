@@ -9,7 +9,8 @@ use Rattle.cds_criteria.specs.declared.sort.SortKey.{SortKey}
 use Rattle.cds_criteria.proofs.Unique.{none_keep}
 use Rattle.cds_browse.specs.declared.page.Target.{Target}
 use Rattle.cds_browse.specs.declared.page.Target.TheVariants.{Children}
-use Rattle.cds_browse.specs.Paging.{row_named, ids_of, most_rows, update_of, page_of}
+use Rattle.cds_object.specs.Updates.{update_of}
+use Rattle.cds_browse.specs.Paging.{row_named, ids_of, most_rows, page_of}
 use Rattle.cds_browse.specs.Browsing.{can_answer, matches}
 use Rattle.cds_browse.proofs.Alone.{made, same_page}
 use Rattle.cds_browse.proofs.Named.{named_row}

@@ -5,7 +5,8 @@ ghost use Rattle.cds_object.specs.Tree.{row_of, children_of, is_container_row};
 ghost use Rattle.cds_catalog.specs.Catalog.{catalog};
 ghost use Rattle.cds_catalog.specs.History.{History, end_of};
 ghost use Rattle.cds_store.specs.Views.{ShowsHistory};
-ghost use Rattle.cds_browse.specs.Paging.{row_named, ids_of, most_rows, update_of, page_of, Answers};
+ghost use Rattle.cds_object.specs.Updates.{update_of};
+ghost use Rattle.cds_browse.specs.Paging.{row_named, ids_of, most_rows, page_of, Answers};
 ghost use Rattle.cds_browse.specs.Browsing.{target_named, target_at, target_asked, can_answer, matches, browse_answer};
 
 use crate::ordered::ordered_children;

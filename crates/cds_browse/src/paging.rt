@@ -3,7 +3,8 @@
 ghost use Rattle.std.specs.Prelude.{◌≡◌, ◌<◌, ◌^◌, length, take, drop, IfOk, option_copied};
 ghost use Rattle.std.specs.Str.{bytes_eq};
 ghost use Rattle.std.specs.Fmt.{decimal};
-ghost use Rattle.cds_browse.specs.Paging.{row_named, most_rows, holder_of, container_update_in, container_update_of, update_of};
+ghost use Rattle.cds_object.specs.Updates.{holder_of, container_update_in, container_update_of, update_of};
+ghost use Rattle.cds_browse.specs.Paging.{row_named, most_rows};
 
 use crate::{PAGE_LIMIT, Page};
 use cds_base::{Mem, Numbers, put_number, read_u32};

@@ -1,9 +1,9 @@
 -- Texts with their letters folded: which comes first, and what follows a text at the start of another.
-use Rattle.std.proofs.Common.{◌≡◌, ◌++◌, ◌<◌, ◌≤◌, ◌&&◌, ◌||◌, cond, nat_eq, ℕ, List, [], ◌∷◌, length, drop, Bool, true, false, refl, ap, ◌∙◌, arith}
+use Rattle.std.proofs.Common.{◌≡◌, ◌++◌, ◌<◌, ◌≤◌, ◌&&◌, ◌||◌, cond, nat_eq, ℕ, List, [], ◌∷◌, length, drop, Bool, true, false, refl, sym, ap, ◌∙◌, arith}
 use Rattle.std.specs.Char.{to_ascii_lowercase}
 use Rattle.std.specs.declared.cmp.Ordering.TheVariants.{Less, Greater}
 use Rattle.std.proofs.lemmas.List.{drop_all, drop_more}
-use Rattle.cds_criteria.specs.Meaning.{folded, text_order, begins_with, has_part}
+use Rattle.cds_criteria.specs.Meaning.{folded, text_order, begins_with, has_part, has_folded}
 use Rattle.cds_criteria.specs.Folds.{first_is}
 
 -- a text that ends first comes first
@@ -46,3 +46,12 @@ dot_after (a ∷ value) (b ∷ text) =
 pub part_here : (part text : List ℕ) → begins_with part text ≡ true → has_part part text ≡ true
 part_here part [] e = e
 part_here part (b ∷ text) e = ap (λ v. v || has_part part text) e
+
+-- every text has the empty text as a part
+nothing_here : (text : List ℕ) → has_part [] text ≡ true
+nothing_here [] = refl
+nothing_here (b ∷ text) = refl
+
+pub empty_here : (value text : List ℕ) → length value < 1 → true ≡ has_folded value text
+empty_here [] text l = sym (nothing_here (folded text))
+empty_here (a ∷ value) text l = absurd (omega (arith, l))

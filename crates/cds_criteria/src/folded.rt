@@ -1,8 +1,8 @@
 //! Comparisons of texts in which the case of ASCII letters does not count.
 
-ghost use Rattle.std.specs.Prelude.{◌≡◌, ◌++◌, [], codes};
+ghost use Rattle.std.specs.Prelude.{◌≡◌, ◌++◌, ◌∷◌, [], codes};
 ghost use Rattle.std.specs.Char.{to_ascii_lowercase};
-ghost use Rattle.cds_criteria.specs.Meaning.{folded, text_order, begins_with, has_folded, is_derived};
+ghost use Rattle.cds_criteria.specs.Meaning.{folded, text_order, begins_with, has_part, has_folded, is_derived};
 ghost use Rattle.cds_criteria.specs.Folds.{first_is};
 
 use std::cmp::Ordering;
@@ -52,18 +52,38 @@ fn begins_with(part: &[u8], text: &[u8]) -> bool
     true
 }
 
-/// Returns whether a text has another as a part.
-pub(crate) fn has_folded(value: &[u8], text: &[u8]) -> bool
-    ensures { result ≡ has_folded value.now text.now }
+/// Returns whether a text begins with a byte in lower case and then another text.
+fn begins_here(first: u8, others: &[u8], text: &[u8]) -> bool
+    ensures { result ≡ begins_with (first ∷ folded others.now) (folded text.now) }
+{
+    match text {
+        [] => false,
+        [byte, after @ ..] => first == byte.to_ascii_lowercase() && begins_with(others, after),
+    }
+}
+
+/// Returns whether a text has a byte in lower case and then another text as a part. It looks further only where the byte stands.
+fn has_after(first: u8, others: &[u8], text: &[u8]) -> bool
+    ensures { result ≡ has_part (first ∷ folded others.now) (folded text.now) }
 {
     let mut rest = text;
     while !rest.is_empty() {
-        if begins_with(value, rest) {
+        if begins_here(first, others, rest) {
             return true;
         }
         rest = rest.split_at(1).1;
     }
-    begins_with(value, rest)
+    begins_here(first, others, rest)
+}
+
+/// Returns whether a text has another as a part.
+pub(crate) fn has_folded(value: &[u8], text: &[u8]) -> bool
+    ensures { result ≡ has_folded value.now text.now }
+{
+    match value {
+        [] => true,
+        [first, others @ ..] => has_after(first.to_ascii_lowercase(), others, text),
+    }
 }
 
 /// Returns whether a text begins with another and a `.` after it.

@@ -13,3 +13,4 @@ pub mod Plain
 pub mod CatalogBack
 pub mod KnownNames
 pub mod Forgotten
+pub mod Refused

@@ -1,5 +1,5 @@
 -- What a server has at a moment, where all of it is plain, it may show.
-use Rattle.std.proofs.Common.{◌≡◌, ℕ, ◌<◌, ◌^◌, nat_eq, Bool, true, false, cond, Option, Some, None, unwrap_or, is_some, List, [], ◌∷◌, length, take, drop, filter, refl, ◌∙◌, arith}
+use Rattle.std.proofs.Common.{◌≡◌, ℕ, ◌<◌, ◌^◌, nat_eq, Bool, true, false, cond, Option, Some, None, is_some, List, [], ◌∷◌, length, take, drop, filter, refl, ◌∙◌, arith}
 use Rattle.std.specs.Prelude.{IfSome, MatchOption}
 use Rattle.std.specs.List.{AllByRecursion, count_by}
 use Rattle.std.proofs.lemmas.List.{length-take}
@@ -10,7 +10,8 @@ use Rattle.cds_object.specs.Tree.{row_of, children_of, is_child_of, CountsChildr
 use Rattle.cds_didl.specs.ReadBack.{AreCounts}
 use Rattle.cds_load.specs.declared.exchange.Ask.TheVariants.{Token, Number as AskNumber, Metadata, Children}
 use Rattle.cds_load.specs.declared.exchange.Shown.TheVariants.{Page, Fault}
-use Rattle.cds_load.specs.Server.{Moment, page_size, container_update, update_of, metadata_reply, children_reply}
+use Rattle.cds_object.specs.Updates.{container_update_of, holder_of, told_of}
+use Rattle.cds_load.specs.Server.{Moment, page_size, update_of, metadata_reply, children_reply}
 use Rattle.cds_load.proofs.Pages.{take-all, drop-all}
 use Rattle.cds_load.proofs.Trees.{all-at}
 use Rattle.cds_exchange.specs.Honest.{IsPlainRow, IsPlainPage, CanBeShownTo, IsPlainMoment}
@@ -22,7 +23,7 @@ pick-fits : (b : Bool) (x y : ℕ) → x < 2 ^ 32 → y < 2 ^ 32 → cond b x y 
 pick-fits true x y h k = h
 pick-fits false x y h k = k
 
-counts-fit : (row : ObjectRow) (trackers : Option Trackers) → IfSome trackers AreCounts → container_update (Some (record row { trackers = trackers })) < 2 ^ 32
+counts-fit : (row : ObjectRow) (trackers : Option Trackers) → IfSome trackers AreCounts → container_update_of (Some (record row { trackers = trackers })) < 2 ^ 32
 counts-fit row None h = omega arith
 counts-fit row (Some t) h = h.container_update
 
@@ -32,16 +33,22 @@ module _ (moment : Moment) (plain : IsPlainMoment moment) where
   found-plain id None e = tt
   found-plain id (Some row) e = all-at IsPlainRow id moment.rows row plain.each e
 
-  container-fits : (found : Option ObjectRow) → IfSome found IsPlainRow → container_update found < 2 ^ 32
+  container-fits : (found : Option ObjectRow) → IfSome found IsPlainRow → container_update_of found < 2 ^ 32
   container-fits None is = omega arith
   container-fits (Some row) is = counts-fit row row.trackers is.ranges.trackers
 
+  told-plain : (row : ObjectRow) → IsPlainRow row → IfSome (told_of row moment.rows) IsPlainRow
+  told-plain row is = by (is_folder row.content) row.parent
+    where
+      by : (folder : Bool) (parent : Option ℕ) → IfSome (cond folder (Some row) (holder_of parent moment.rows)) IsPlainRow
+      by true parent = is
+      by false None = tt
+      by false (Some parent) = found-plain parent (row_of parent moment.rows) refl
+
   update-fits : (row : ObjectRow) → IsPlainRow row → update_of moment row < 2 ^ 32
   update-fits row is =
-      let parent = unwrap_or row.parent 0 in
-      pick-fits (nat_eq row.id 0) moment.number _ plain.number
-      (pick-fits (is_folder row.content) (container_update (Some row)) (container_update (row_of parent moment.rows)) (container-fits (Some row) is)
-      (container-fits (row_of parent moment.rows) (found-plain parent (row_of parent moment.rows) refl)))
+      pick-fits (nat_eq row.id 0) moment.number (container_update_of (told_of row moment.rows)) plain.number
+      (container-fits (told_of row moment.rows) (told-plain row is))
 
   -- ---- an object's own row
 

@@ -1,6 +1,12 @@
+pub mod Acts
+pub mod Leading
+pub mod Libraries
 pub mod Notes
 pub mod Pieces
 pub mod Plain
+pub mod Played
+pub mod Playing
+pub mod Serving
 pub mod Sizes
 pub mod Spoken
 pub mod Tracks

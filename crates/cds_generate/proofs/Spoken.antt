@@ -1,70 +1,64 @@
--- Each piece of a generated script is lines that are turns.
+-- Each line of a generated script is a turn.
 use Rattle.std.proofs.Common.{◌≡◌, ◌+◌, ◌*◌, ◌-◌, ◌/◌, ◌%◌, ◌^◌, ◌<◌, ◌≤◌, ℕ, zero, suc, max, Bool, true, false, cond, nat_eq, nat_lt, List, [], ◌∷◌, ◌++◌, length, slice_get, Option, Some, None, codes, refl, sym, ap, subst, ◌∙◌, arith, append_assoc, length-append, add-one}
-use Rattle.std.specs.List.{AllByRecursion, list_all}
+use Rattle.std.specs.List.{list_all}
 use Rattle.std.specs.Fmt.{decimal}
 use Rattle.std.proofs.lemmas.Bool.{and_from}
-use Rattle.std.proofs.lemmas.Nat.{mod_below}
 use Rattle.cds_object.specs.ContentOf.{bare_info}
 use Rattle.cds_object.specs.Path.{bad_name_at}
-use Rattle.cds_script.specs.Lines.{lines_of, ended_lines, is_unbroken, words_of}
-use Rattle.cds_script.specs.LineLaws.{with_feeds, AreUnbroken}
+use Rattle.cds_script.specs.Lines.{line_limit, is_unbroken, words_of}
 use Rattle.cds_script.specs.Script.{meaning_of, meaning_of_turn, meaning_of_said, moment_limit, folder_turn, track_turn, deliver_turn, at_turn, info_from, path_said}
 use Rattle.cds_script.specs.Word.{is_plain_byte, byte_before, words_said}
 use Rattle.cds_script.specs.declared.turn.Meaning.TheVariants.{Means}
 use Rattle.cds_script.specs.declared.turn.ScriptTurn.{ScriptTurn}
 use Rattle.cds_script.specs.declared.turn.ScriptTurn.TheVariants.{Folder, Track, Tag, Scan, Load, Read, Ask, At, Subscribe, Accept, Unsubscribe, Deliver}
-use Rattle.cds_script.proofs.LineLaws.{ended-read}
 use Rattle.cds_script.proofs.Words.{plain_words-stand}
-use Rattle.cds_generate.specs.Generated.{folders_of, reads_text, deliver_line, folder_line, track_line, tag_line, present_lines, tracks_text, library_text, scan_text, note_text, late_text, ask_text, ending_text, scanned_text, step_reads, load_reads, all_reads, text_of_step, opening, closing_text, steps_text, texts_below, script_of, generated}
-use Rattle.cds_generate.specs.History.{HistoryState, first_history, kind_of, after_step, after_steps, step_at}
-use Rattle.cds_generate.specs.Library.{AreBelow, library_at}
-use Rattle.cds_generate.specs.Language.{IsTurnLine, lines_are_turns}
-use Rattle.cds_generate.specs.declared.library.Track.{Track as TrackState}
-use Rattle.cds_generate.proofs.Tracks.{IsBounded, bounded-steps, steps-more}
+use Rattle.cds_generate.specs.Generated.{deliver_line, folder_line, track_line, tag_line}
+use Rattle.cds_generate.proofs.Libraries.{folder_name, title_of, place_of}
 use Rattle.cds_generate.proofs.Plain.{Said, all-join, decimal-not, decimal-plain, decimal-ascii, decimal-short, plain-read, parts-one, parts-more, said-by, said-plain, said-decimal, line-one, line-more, is-text, path-read, good-f, good-t}
 
 -- ---- lines that are turns
 
-record AreTurns (text : List ℕ) : Type 0 where
-  lines : List (List ℕ)
-  unbroken : AreUnbroken lines
-  turns : AllByRecursion IsTurnLine lines
-  is : text ≡ with_feeds lines
+-- a text is one line, ended, that means a turn
+pub record IsSpoken (text : List ℕ) (turn : ScriptTurn) : Type 0 where
+  pub line : List ℕ
+  pub whole : is_unbroken line ≡ true
+  pub means : meaning_of line ≡ Means turn
+  pub short : length line ≤ line_limit
+  pub is : text ≡ line ++ 10 ∷ []
 
-feeds-append : (xs ys : List (List ℕ)) → with_feeds (xs ++ ys) ≡ with_feeds xs ++ with_feeds ys
-feeds-append [] ys = refl
-feeds-append (line ∷ xs) ys = ap (λ (t : List ℕ). line ++ 10 ∷ t) (feeds-append xs ys) ∙ sym (append_assoc line (10 ∷ with_feeds xs) (with_feeds ys))
+line-is : (line : List ℕ) (turn : ScriptTurn) → is_unbroken line ≡ true → meaning_of line ≡ Means turn → length line ≤ 4096 → IsSpoken (line ++ 10 ∷ []) turn
+line-is line turn whole means short = record { line = line; whole = whole; means = means; short = short; is = refl }
 
-both : (P : List ℕ → Type 0) (xs ys : List (List ℕ)) → AllByRecursion P xs → AllByRecursion P ys → AllByRecursion P (xs ++ ys)
-both P [] ys all more = more
-both P (x ∷ xs) ys all more = (all.0, both P xs ys all.1 more)
+-- ---- lines of a word
 
-none : AreTurns []
-none = record { lines = []; unbroken = tt; turns = tt; is = refl }
+pub load-spoken : IsSpoken (codes "load\n") Load
+load-spoken = line-is (codes "load") Load refl refl (omega arith)
 
-join : (a b : List ℕ) → AreTurns a → AreTurns b → AreTurns (a ++ b)
-join a b one two = record {
-  lines = one.lines ++ two.lines;
-  unbroken = both (λ line. is_unbroken line ≡ true) one.lines two.lines one.unbroken two.unbroken;
-  turns = both IsTurnLine one.lines two.lines one.turns two.turns;
-  is = (λ i. one.is i ++ two.is i) ∙ sym (feeds-append one.lines two.lines);
-}
+pub read-spoken : IsSpoken (codes "read\n") Read
+read-spoken = line-is (codes "read") Read refl refl (omega arith)
 
-line-is : (line : List ℕ) (turn : ScriptTurn) → is_unbroken line ≡ true → meaning_of line ≡ Means turn → length line ≤ 4096 → AreTurns (line ++ 10 ∷ [])
-line-is line turn whole means short = record {
-  lines = line ∷ [];
-  unbroken = (whole, tt);
-  turns = (record { turn = turn; means = means; short = short }, tt);
-  is = refl;
-}
+pub ask-spoken : IsSpoken (codes "ask\n") Ask
+ask-spoken = line-is (codes "ask") Ask refl refl (omega arith)
 
-read-line : AreTurns (codes "read\n")
-read-line = line-is (codes "read") Read refl refl (omega arith)
+pub scan-spoken : IsSpoken (codes "scan\n") Scan
+scan-spoken = line-is (codes "scan") Scan refl refl (omega arith)
+
+pub subscribe-spoken : IsSpoken (codes "subscribe\n") Subscribe
+subscribe-spoken = line-is (codes "subscribe") Subscribe refl refl (omega arith)
+
+pub accept-spoken : IsSpoken (codes "accept\n") Accept
+accept-spoken = line-is (codes "accept") Accept refl refl (omega arith)
+
+pub unsubscribe-spoken : IsSpoken (codes "unsubscribe\n") Unsubscribe
+unsubscribe-spoken = line-is (codes "unsubscribe") Unsubscribe refl refl (omega arith)
+
+pub deliver_first-spoken : IsSpoken (codes "deliver 1\n") (Deliver 1)
+deliver_first-spoken = line-is (codes "deliver 1") (Deliver 1) refl refl (omega arith)
 
 -- ---- lines with numbers
 
-deliver-is : (n : ℕ) → n < 2 ^ 32 → AreTurns (deliver_line n)
-deliver-is n low =
+pub deliver-spoken : (n : ℕ) → n < 2 ^ 32 → IsSpoken (deliver_line n) (Deliver n)
+deliver-spoken n low =
     let wide : n < 2 ^ 64 = omega (arith, low) in
     let short = decimal-short n wide in
     line-is (codes "deliver " ++ decimal n) (Deliver n) (decimal-not n wide 10 (omega arith))
@@ -72,19 +66,16 @@ deliver-is n low =
     ∙ ap (λ (o : Option ℕ). meaning_of_turn (deliver_turn o)) (plain-read (2 ^ 32) n (omega arith) low))
     (omega (arith, short))
 
-at-is : (n : ℕ) → n < 2 ^ 64 → AreTurns (codes "at " ++ decimal n ++ codes "\n")
-at-is n wide =
+pub at-spoken : (n : ℕ) → n < 2 ^ 64 → IsSpoken (codes "at " ++ decimal n ++ codes "\n") (At n)
+at-spoken n wide =
     let short = decimal-short n wide in
     line-is (codes "at " ++ decimal n) (At n) (decimal-not n wide 10 (omega arith))
     (ap meaning_of_said (line-more (codes "at") (codes "at") (decimal n) (decimal n ∷ []) (said-plain (codes "at") (omega arith) refl) (line-one (decimal n) (decimal n) (said-decimal n wide)))
     ∙ ap (λ (o : Option ℕ). meaning_of_turn (at_turn o)) (plain-read moment_limit n (omega arith) wide))
     (omega (arith, short))
 
-scan-is : (step : ℕ) → step < 2 ^ 32 → AreTurns (scan_text step)
-scan-is step low = join (codes "scan\n") (codes "at " ++ decimal (250 * step) ++ codes "\n") (line-is (codes "scan") Scan refl refl (omega arith)) (at-is (250 * step) (omega (arith, low)))
-
-folder-is : (n : ℕ) → n < 2 ^ 64 → AreTurns (folder_line n)
-folder-is n wide =
+pub folder-spoken : (n : ℕ) → n < 2 ^ 64 → IsSpoken (folder_line n) (Folder (folder_name n ∷ []))
+folder-spoken n wide =
     let short = decimal-short n wide in
     let part : List ℕ = codes "f" ++ decimal n in
     let place : path_said (codes "f" ++ decimal n) ≡ Some ((codes "f" ++ decimal n) ∷ []) =
@@ -98,8 +89,8 @@ folder-is n wide =
 
 -- ---- tracks
 
-tag-is : (n : ℕ) → n < 2 ^ 64 → AreTurns (tag_line n)
-tag-is n wide =
+pub tag-spoken : (n : ℕ) → n < 2 ^ 64 → IsSpoken (tag_line n) (Tag (title_of n))
+tag-spoken n wide =
     let short = decimal-short n wide in
     let value : Said (codes "Title%20" ++ decimal n) (codes "Title " ++ decimal n) = record {
       whole = decimal-not n wide 32 (omega arith);
@@ -205,162 +196,17 @@ module _ (a b s m : ℕ) (la : a < 2 ^ 64) (lb : b < 2 ^ 64) (ls : s < 2 ^ 64) (
       let more = length-append (decimal s) (32 ∷ (codes "44100" ++ 32 ∷ (codes "2" ++ 32 ∷ (codes "16" ++ 32 ∷ decimal m)))) in
       omega (arith, size, one, two, sum, more)
 
-  line-turn : AreTurns (line ++ 10 ∷ [])
+  line-turn : IsSpoken (line ++ 10 ∷ []) turn
   line-turn = line-is line turn unbroken means short
 
-track-is : (folders number version : ℕ) → number ≤ 10000 → version < 2 ^ 32 → number % folders < 2 ^ 64 → AreTurns (track_line folders number version)
-track-is folders number version few low place =
-    subst AreTurns (sym (shape (decimal (number % folders)) (decimal number) (decimal (1000000 + 1000 * number + version)) (decimal (441000 + number))))
-    (line-turn (number % folders) number (1000000 + 1000 * number + version) (441000 + number) place (omega (arith, few)) (omega (arith, few, low)) (omega (arith, few)))
-
--- ---- many pieces
-
-texts-are : (n : ℕ) (text : ℕ → List ℕ) → ((k : ℕ) → k < n → AreTurns (text k)) → AreTurns (texts_below n text)
-unfolding texts_below
-texts-are zero text each = none
-texts-are (suc n) text each = join (texts_below n text) (text n) (texts-are n text (λ k low. each k (omega (arith, low)))) (each n (omega arith))
-
-reads-are : (n : ℕ) → AreTurns (reads_text n)
-reads-are n = texts-are n (λ (_ : ℕ). codes "read\n") (λ k low. read-line)
-
-abbrev IsLow : Option TrackState → Type 0
-IsLow None = Unit {0}
-IsLow (Some track) = track.version < 2 ^ 32
-
-got-low : (n k : ℕ) (tracks : List TrackState) → n ≤ 2 ^ 32 → AreBelow n tracks → IsLow (slice_get tracks k)
-got-low n k [] wide are = tt
-got-low n zero (track ∷ tracks) wide are = omega (arith, are.0, wide)
-got-low n (suc k) (track ∷ tracks) wide are = got-low n k tracks wide are.1
-
-present-is : (folders number : ℕ) (track : Option TrackState) → number ≤ 10000 → number % folders < 2 ^ 64 → IsLow track → AreTurns (present_lines folders number track)
-present-is folders number None few place low = none
-present-is folders number (Some track) few place low = by track.present
-  where
-    by : (b : Bool) → AreTurns (cond b (track_line folders number track.version ++ tag_line number) [])
-    by true =
-        join (track_line folders number track.version) (tag_line number) (track-is folders number track.version few low place) (tag-is number (omega (arith, few)))
-    by false = none
-
-some-folders : (count : ℕ) → 0 < folders_of count
-some-folders count = omega arith
-
-few-folders : (count : ℕ) → count ≤ 10000 → folders_of count ≤ 751
-few-folders count few = omega (arith, few)
-
-library-is : (n : ℕ) (tracks : List TrackState) → length tracks ≤ 10000 → n ≤ 2 ^ 32 → AreBelow n tracks → AreTurns (library_text tracks)
-library-is n tracks few wide are =
-    let some = some-folders (length tracks) in
-    let most = few-folders (length tracks) few in
-    join (texts_below (folders_of (length tracks)) folder_line) (tracks_text tracks)
-    (texts-are (folders_of (length tracks)) folder_line (λ k low. folder-is k (omega (arith, low, most))))
-    (texts-are (length tracks) (λ (number : ℕ). present_lines (folders_of (length tracks)) number (slice_get tracks number))
-    (λ k low. present-is (folders_of (length tracks)) k (slice_get tracks k) (omega (arith, low, few))
-    (let rest = mod_below k (folders_of (length tracks)) some in omega (arith, rest, most)) (got-low n k tracks wide are)))
-
--- ---- notes
-
-renewed-is : AreTurns (codes "unsubscribe\nsubscribe\naccept\n")
-renewed-is =
-    join (codes "unsubscribe\nsubscribe\n") (codes "accept\n")
-    (join (codes "unsubscribe\n") (codes "subscribe\n") (line-is (codes "unsubscribe") Unsubscribe refl refl (omega arith)) (line-is (codes "subscribe") Subscribe refl refl (omega arith)))
-    (line-is (codes "accept") Accept refl refl (omega arith))
-
-note-is : (reads kind note : ℕ) → note + 1 < 2 ^ 32 → AreTurns (note_text reads kind note)
-note-is reads kind note low = by (nat_eq kind 0) (nat_eq kind 1) (nat_eq kind 2)
-  where
-    once : AreTurns (deliver_line note)
-    once = deliver-is note (omega (arith, low))
-
-    by : (a b d : Bool) → AreTurns (cond a (codes "unsubscribe\nsubscribe\naccept\n" ++ deliver_line (note + 1) ++ reads_text reads)
-        (cond b (deliver_line note ++ deliver_line note) (cond d [] (deliver_line note))))
-    by true b d =
-        join (codes "unsubscribe\nsubscribe\naccept\n" ++ deliver_line (note + 1)) (reads_text reads)
-        (join (codes "unsubscribe\nsubscribe\naccept\n") (deliver_line (note + 1)) renewed-is (deliver-is (note + 1) low)) (reads-are reads)
-    by false true d = join (deliver_line note) (deliver_line note) once once
-    by false false true = none
-    by false false false = once
-
-abbrev LowNote : Option ℕ → Type 0
-LowNote None = Unit {0}
-LowNote (Some note) = note < 2 ^ 32
-
-late-is : (late : Option ℕ) → LowNote late → AreTurns (late_text late)
-late-is None low = none
-late-is (Some note) low = deliver-is note low
-
-ask-is : (asks : Bool) → AreTurns (ask_text asks)
-ask-is true = line-is (codes "ask") Ask refl refl (omega arith)
-ask-is false = none
-
-ending-is : (late : Option ℕ) (reads : ℕ) (asks : Bool) → LowNote late → AreTurns (ending_text late reads asks)
-ending-is late reads asks low =
-    join (late_text late ++ reads_text reads) (ask_text asks) (join (late_text late) (reads_text reads) (late-is late low) (reads-are reads)) (ask-is asks)
-
-late-low : (k seed count : ℕ) → count ≤ 10000 → k ≤ 40 → LowNote (after_steps k (first_history seed count)).late
-unfolding after_steps
-late-low zero seed count few most = tt
-late-low (suc k) seed count few most = by (nat_eq (kind_of (library_at (suc k) (after_steps k (first_history seed count)).library)) 2)
-  where
-    by : (b : Bool) → LowNote (cond b (Some ((after_steps k (first_history seed count)).sent + 1)) None)
-    by true = let is = bounded-steps k seed count few in let notes = is.notes in omega (arith, notes, most)
-    by false = tt
-
--- ---- a step
-
-module _ (k seed count : ℕ) (few : count ≤ 10000) (low : k < 40) where
-  abbrev history : HistoryState
-  history = after_steps k (first_history seed count)
-
-  abbrev tracks : List TrackState
-  tracks = (after_step (k + 1) history).library.tracks
-
-  later : IsBounded (k + 1) count (after_step (k + 1) history)
-  later = subst (λ (h : HistoryState). IsBounded (k + 1) count h) (steps-more k (first_history seed count)) (bounded-steps (k + 1) seed count few)
-
-  few-tracks : length tracks ≤ 10000
-  few-tracks = let is = later in let size = is.size in omega (arith, size, few)
-
-  note-low : history.sent + 1 + 1 < 2 ^ 32
-  note-low = let is = bounded-steps k seed count few in let notes = is.notes in omega (arith, notes, low)
-
-  scanned-is : AreTurns (scanned_text tracks (step_at (k + 1) history))
-  scanned-is =
-      let is = later in
-      join (library_text tracks ++ scan_text (k + 1)) (note_text (load_reads (length tracks)) (kind_of (library_at (k + 1) history.library)) (history.sent + 1))
-      (join (library_text tracks) (scan_text (k + 1)) (library-is (1 + 202 * (k + 1)) tracks few-tracks (omega (arith, low)) is.versions) (scan-is (k + 1) (omega (arith, low))))
-      (note-is (load_reads (length tracks)) (kind_of (library_at (k + 1) history.library)) (history.sent + 1) note-low)
-
-  step-is : AreTurns (text_of_step (k + 1) history)
-  step-is =
-      join (scanned_text tracks (step_at (k + 1) history)) (ending_text history.late (step_reads (k + 1) (length tracks)) (nat_eq ((k + 1) % 10) 0)) scanned-is
-      (ending-is history.late (step_reads (k + 1) (length tracks)) (nat_eq ((k + 1) % 10) 0) (late-low k seed count few (omega (arith, low))))
-
--- ---- the script
-
-three-reads : AreTurns (codes "read\nread\nread\n")
-three-reads = join (codes "read\n") (codes "read\nread\n") read-line (join (codes "read\n") (codes "read\n") read-line read-line)
-
-opening-is : AreTurns opening
-opening-is =
-    join (codes "load\nread\nread\nread\nread\nread\nread\n") (codes "subscribe\naccept\ndeliver 1\n")
-    (join (codes "load\n") (codes "read\nread\nread\nread\nread\nread\n") (line-is (codes "load") Load refl refl (omega arith))
-    (join (codes "read\nread\nread\n") (codes "read\nread\nread\n") three-reads three-reads))
-    (join (codes "subscribe\naccept\n") (codes "deliver 1\n")
-    (join (codes "subscribe\n") (codes "accept\n") (line-is (codes "subscribe") Subscribe refl refl (omega arith)) (line-is (codes "accept") Accept refl refl (omega arith)))
-    (line-is (codes "deliver 1") (Deliver 1) refl refl (omega arith)))
-
-whole-is : (seed count : ℕ) → count ≤ 10000 → AreTurns (generated seed count)
-unfolding generated script_of
-whole-is seed count few =
-    join (opening ++ steps_text 40 (first_history seed count)) (closing_text (after_steps 40 (first_history seed count)))
-    (join opening (steps_text 40 (first_history seed count)) opening-is
-    (texts-are 40 (λ (done : ℕ). text_of_step (done + 1) (after_steps done (first_history seed count))) (λ k low. step-is k seed count few low)))
-    (ending-is (after_steps 40 (first_history seed count)).late (all_reads (length (after_steps 40 (first_history seed count)).library.tracks)) true (late-low 40 seed count few (omega arith)))
-
-pub spoken : lines_are_turns
-spoken seed count some few =
-    let text = whole-is seed count few in
-    let read = ended-read text.lines text.unbroken in
-    let lines : lines_of (generated seed count) ≡ text.lines = ap lines_of text.is ∙ read.0 in
-    let ended : ended_lines (generated seed count) ≡ text.lines = ap ended_lines text.is ∙ read.1 in
-    (subst (λ (ls : List (List ℕ)). AllByRecursion IsTurnLine ls) (sym lines) text.turns, ended ∙ sym lines)
+pub track-spoken : (folders number version : ℕ) → number ≤ 10000 → version < 2 ^ 32 → number % folders < 2 ^ 64
+    → IsSpoken (track_line folders number version) (Track (place_of folders number) (bare_info 44100 2 16 (441000 + number)) (1000000 + 1000 * number + version))
+track-spoken folders number version few low rest =
+    let spoken = line-turn (number % folders) number (1000000 + 1000 * number + version) (441000 + number) rest (omega (arith, few)) (omega (arith, few, low)) (omega (arith, few)) in
+    record {
+      line = spoken.line;
+      whole = spoken.whole;
+      means = spoken.means;
+      short = spoken.short;
+      is = shape (decimal (number % folders)) (decimal number) (decimal (1000000 + 1000 * number + version)) (decimal (441000 + number)) ∙ spoken.is;
+    }

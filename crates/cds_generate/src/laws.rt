@@ -11,3 +11,8 @@ pub fn lines_are_turns()
 pub fn scripts_are_short()
     ensures { language.scripts_are_short }
 {}
+
+/// States that a generated script is played to its end: each note was sent when it is delivered. At most 64 subscriptions live.
+pub fn scripts_are_played()
+    ensures { language.scripts_are_played }
+{}

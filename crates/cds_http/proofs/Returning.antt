@@ -251,14 +251,16 @@ reason_bytes status =
     let P : List ℕ → Type 0 = AllPass is_value_byte in
     let read = λ (text : List ℕ) (h : list_all is_value_byte text ≡ true). AllPass-from_test is_value_byte text h in
     pick P (status == 200) _ _ (read (codes "OK") refl)
+    (pick P (status == 206) _ _ (read (codes "Partial Content") refl)
     (pick P (status == 400) _ _ (read (codes "Bad Request") refl)
     (pick P (status == 404) _ _ (read (codes "Not Found") refl)
     (pick P (status == 405) _ _ (read (codes "Method Not Allowed") refl)
     (pick P (status == 412) _ _ (read (codes "Precondition Failed") refl)
     (pick P (status == 413) _ _ (read (codes "Content Too Large") refl)
+    (pick P (status == 416) _ _ (read (codes "Range Not Satisfiable") refl)
     (pick P (status == 500) _ _ (read (codes "Internal Server Error") refl)
     (pick P (status == 503) _ _ (read (codes "Service Unavailable") refl)
-    (All-nil (λ b. IsTrue (is_value_byte b))))))))))
+    (All-nil (λ b. IsTrue (is_value_byte b))))))))))))
 
 own_absent : (name : List ℕ) → bytes_eq (codes "ext") name ≡ false → bytes_eq (codes "server") name ≡ false → All (λ p. lowercase p.0 ≢ name) own_pairs
 own_absent name first second =

@@ -38,11 +38,13 @@ request_line method target = method ++ codes " " ++ target ++ codes " HTTP/1.1" 
 abbrev pub reason_of : ℕ → List ℕ
 reason_of status =
     if status == 200 then codes "OK"
+    else if status == 206 then codes "Partial Content"
     else if status == 400 then codes "Bad Request"
     else if status == 404 then codes "Not Found"
     else if status == 405 then codes "Method Not Allowed"
     else if status == 412 then codes "Precondition Failed"
     else if status == 413 then codes "Content Too Large"
+    else if status == 416 then codes "Range Not Satisfiable"
     else if status == 500 then codes "Internal Server Error"
     else if status == 503 then codes "Service Unavailable"
     else []

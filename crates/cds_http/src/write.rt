@@ -27,8 +27,8 @@ pub fn write_request(
 
 /// Appends a reply: the first line with the reason of its status, `EXT:`, SERVER, the given fields, CONTENT-LENGTH,
 /// `CONNECTION: close`, an empty line, the body. Names must be tokens, and values must have no CR, LF or NUL. A status
-/// other than 200, 400, 404, 405, 412, 413, 500 and 503 is written with an empty reason. A refusal leaves `out` as it
-/// was.
+/// other than 200, 206, 400, 404, 405, 412, 413, 416, 500 and 503 is written with an empty reason. A refusal leaves
+/// `out` as it was.
 pub fn write_reply(status: u16, fields: &Fields, body: &[u8], out: &mut Vec<u8>) -> Result<(), Mem>
     requires { CanBeWritten fields.now }
     ensures ok { OnOk result (out.new.items ≡ out.old.items ++ written_reply status fields.now body.now) }
@@ -75,11 +75,13 @@ fn reason(status: u16) -> &'static [u8]
 {
     match status {
         200 => b"OK",
+        206 => b"Partial Content",
         400 => b"Bad Request",
         404 => b"Not Found",
         405 => b"Method Not Allowed",
         412 => b"Precondition Failed",
         413 => b"Content Too Large",
+        416 => b"Range Not Satisfiable",
         500 => b"Internal Server Error",
         503 => b"Service Unavailable",
         _ => b"",

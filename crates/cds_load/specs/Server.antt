@@ -1,8 +1,8 @@
 -- What a server replies at a moment (UPnP ContentDirectory:4 on Browse, GetSystemUpdateID and the reset token).
-use Rattle.std.specs.Prelude.{ℕ, cond, nat_eq, List, [], ◌∷◌, length, take, drop, Option, Some, None, unwrap_or}
+use Rattle.std.specs.Prelude.{ℕ, cond, List, [], ◌∷◌, length, take, drop, Option, Some, None}
 use Rattle.cds_object.specs.Object.{ObjectRow, is_folder}
 use Rattle.cds_object.specs.Tree.{row_of, children_of}
-use Rattle.cds_object.specs.declared.row.Trackers.{Trackers}
+use Rattle.cds_object.specs.Updates as updates
 use Rattle.cds_load.specs.declared.exchange.Ask.{Ask}
 use Rattle.cds_load.specs.declared.exchange.Ask.TheVariants.{Token, Number as AskNumber, Metadata, Children}
 use Rattle.cds_load.specs.declared.exchange.Shown.{Shown}
@@ -18,21 +18,9 @@ pub record Moment : Type 0 where
 abbrev pub page_size : ℕ
 page_size = 256
 
--- the containerUpdateID of a row; a track has none
-abbrev pub container_update : Option ObjectRow → ℕ
-container_update None = 0
-container_update (Some row) = of_trackers row.trackers
-  where
-    of_trackers : Option Trackers → ℕ
-    of_trackers None = 0
-    of_trackers (Some t) = t.container_update
-
--- the UpdateID that a reply on an object bears: the server's number for the root, a container's own, and for a track
--- its parent's
+-- the UpdateID that a reply on an object bears
 abbrev pub update_of : Moment → ObjectRow → ℕ
-update_of moment row =
-    cond (nat_eq row.id 0) moment.number
-    (cond (is_folder row.content) (container_update (Some row)) (container_update (row_of (unwrap_or row.parent 0) moment.rows)))
+update_of moment row = updates.update_of moment.number row moment.rows
 
 -- the reply to an ask for an object's row
 abbrev pub metadata_reply : Moment → Option ObjectRow → Shown

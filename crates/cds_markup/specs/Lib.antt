@@ -4,6 +4,7 @@ pub mod Grammar
 pub mod Namespaces
 pub mod NamesSeen
 pub mod Prefixes
+pub mod Shared
 pub mod Document
 pub mod Refusal
 pub mod Parts

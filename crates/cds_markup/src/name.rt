@@ -1,12 +1,13 @@
 //! Names, and attributes with their names.
 
+use crate::namespace::Namespace;
 use cds_base::{Sequence, Text};
 
 /// A name with the namespace that it is in (Namespaces in XML).
 #[derive(Drop, Debug)]
 pub struct Name {
     /// The namespace, empty for none.
-    pub space: Text,
+    pub space: Namespace,
     /// The name in it.
     pub local: Text,
 }

@@ -5,6 +5,7 @@ ghost use Rattle.cds_markup.specs.Building.{and_text, first_element};
 ghost use Rattle.cds_markup.specs.Outline.{DecidesOutline};
 ghost use Rattle.cds_markup.specs.Outlining.{opened_as, inner_levels, with_run, cut_of, with_inner, outlining_of, outlining_begun, opened, closed, and_run};
 
+use crate::namespace::Namespace;
 use crate::{Attrs, Element, MarkupError, Name, Node, Nodes, Part, PartSink, give_parts};
 use cds_base::{Mem, Text};
 use std::alloc::Global;
@@ -169,7 +170,7 @@ impl OutlineBuilder {
         ensures { outlining_of result ≡ outlining_begun width levels }
     {
         let name = Name {
-            space: Text::from(String::new(alloc)),
+            space: Namespace::none(),
             local: Text::from(String::new(alloc)),
         };
         OutlineBuilder {
@@ -215,7 +216,8 @@ impl OutlineBuilder {
     fn into_outline(self) -> Option<Element>
         ensures { result ≡ first_element self.current.children }
     {
-        self.current.children.into_first()
+        let current = self.current;
+        current.children.into_first()
     }
 }
 

@@ -8,6 +8,7 @@ ghost use Rattle.std.specs.BTreeMap.{get};
 ghost use Rattle.cds_markup.specs.Namespaces.{declared};
 ghost use Rattle.cds_markup.specs.Prefixes.{said_at, Indexes, PutsPlace};
 
+use crate::namespace::Namespace;
 use crate::tag::Declaration;
 use cds_base::{Mem, Sequence, Text};
 use std::alloc::Global;
@@ -52,12 +53,12 @@ fn same_text(one: &Text, other: &Text) -> bool
 }
 
 /// Returns what these declarations say of a prefix. They are compared one by one.
-fn declared(alloc: Global, found: &[Declaration], prefix: &Text) -> Result<Option<Text>, Mem>
+fn declared(found: &[Declaration], prefix: &Text) -> Result<Option<Namespace>, Mem>
     ensures { IfOk result (λ space. space ≡ declared found.now prefix.now) }
 {
     for one in found {
         if same_text(&one.prefix, prefix) {
-            let space = one.space.copy(alloc)?;
+            let space = one.space.copy()?;
             return Ok(Some(space));
         }
     }
@@ -87,7 +88,7 @@ fn index_of(alloc: Global, listed: &[Declaration]) -> Result<Index, Mem>
 }
 
 /// Returns what the declaration at a place says, if there is one.
-fn said_at(alloc: Global, listed: &[Declaration], place: Option<usize>) -> Result<Option<Text>, Mem>
+fn said_at(listed: &[Declaration], place: Option<usize>) -> Result<Option<Namespace>, Mem>
     ensures { IfOk result (λ space. space ≡ said_at listed.now place) }
 {
     let Some(place) = place else {
@@ -96,7 +97,7 @@ fn said_at(alloc: Global, listed: &[Declaration], place: Option<usize>) -> Resul
     let Some(one) = listed.get(place) else {
         return Ok(None);
     };
-    let space = one.space.copy(alloc)?;
+    let space = one.space.copy()?;
     Ok(Some(space))
 }
 
@@ -128,13 +129,13 @@ impl Scope {
     }
 
     /// Returns what the tag declares of a prefix.
-    pub fn declared(&self, alloc: Global, prefix: &Text) -> Result<Option<Text>, Mem>
+    pub fn declared(&self, prefix: &Text) -> Result<Option<Namespace>, Mem>
         ensures { IfOk result (λ space. space ≡ declared self.now prefix.now) }
     {
         let listed = self.listed.as_slice();
         match &self.index {
-            Some(index) => said_at(alloc, listed, place_of(index, prefix)),
-            None => declared(alloc, listed, prefix),
+            Some(index) => said_at(listed, place_of(index, prefix)),
+            None => declared(listed, prefix),
         }
     }
 }

@@ -6,6 +6,7 @@ ghost use Rattle.cds_markup.specs.Namespaces.{declares_default, declares_prefix,
 ghost use Rattle.cds_markup.specs.Bytes.{scopes_in};
 ghost use Rattle.cds_markup.specs.NamesSeen.{has_seen, Sees};
 
+use crate::namespace::Namespace;
 use crate::prefixes::Scope;
 use crate::tag::{Declaration, Open, QName, TagAttr};
 use crate::{Attr, Attrs, Name};
@@ -17,10 +18,11 @@ use std::collections::BTreeSet;
 pub const XML_SPACE: &str = "http://www.w3.org/XML/1998/namespace";
 
 /// The most attributes whose names are compared in pairs. The names of more are looked up, since a tag may have thousands.
-const MOST_IN_PAIRS: usize = 16;
+const MOST_IN_PAIRS: usize = 32;
 
-/// Names that were seen in a tag: the local names, each with its prefix or with its namespace.
-type Seen<'a> = BTreeSet<(&'a str, &'a str)>;
+/// Names that were seen in a tag: the local names, each with its prefix or with its namespace. Before a namespace stands its hash,
+/// which tells long namespaces apart without a look at their bytes.
+type Seen<'a> = BTreeSet<(&'a str, (u64, &'a str))>;
 
 /// Returns whether an attribute of this name declares the namespace of names without a prefix.
 fn declares_default(name: &QName) -> bool
@@ -52,7 +54,7 @@ fn declaration(alloc: Global, attr: &TagAttr) -> Result<Declaration, Mem>
     } else {
         attr.name.local.copy(alloc)?
     };
-    let space = attr.value.copy(alloc)?;
+    let space = Namespace::read(alloc, attr.value.as_str())?;
     Ok(Declaration { prefix, space })
 }
 
@@ -93,11 +95,14 @@ fn same_qname(one: &QName, other: &QName) -> bool
     one.local.as_str() == other.local.as_str() && one.prefix.as_str() == other.prefix.as_str()
 }
 
-/// Returns whether two names are the same. Most are in no namespace, so the local names are compared first.
+/// Returns whether two names are the same. Most are in no namespace, so the local names are compared first. Namespaces may be long
+/// and differ at their ends, so their hashes are compared before them.
 fn same_name(one: &Name, other: &Name) -> bool
     ensures { result ≡ same_name one.now other.now }
 {
-    one.local.as_str() == other.local.as_str() && one.space.as_str() == other.space.as_str()
+    one.local.as_str() == other.local.as_str()
+        && one.space.hash() == other.space.hash()
+        && one.space.as_str() == other.space.as_str()
 }
 
 /// Returns whether one of the others has the attribute's qualified name.
@@ -123,12 +128,12 @@ fn few_attrs_differ(attrs: &[TagAttr]) -> bool
     true
 }
 
-/// Adds a name with this prefix or namespace. Returns whether it was not seen before.
-fn see<'a>(seen: &mut Seen<'a>, space: &'a Text, local: &'a Text) -> Result<bool, Mem>
-    ensures new { IfOk result (λ new. new ≡ not (has_seen seen.old space.now local.now)) }
-    ensures seen { OnOk result (Sees seen.old seen.new space.now local.now) }
+/// Adds a name with this prefix or namespace, and with this hash of it. Returns whether it was not seen before.
+fn see<'a>(seen: &mut Seen<'a>, hash: u64, space: &'a str, local: &'a Text) -> Result<bool, Mem>
+    ensures new { IfOk result (λ new. new ≡ not (has_seen seen.old hash space.now local.now)) }
+    ensures seen { OnOk result (Sees seen.old seen.new hash space.now local.now) }
 {
-    let new = seen.insert((local.as_str(), space.as_str()))?;
+    let new = seen.insert((local.as_str(), (hash, space)))?;
     Ok(new)
 }
 
@@ -138,7 +143,7 @@ fn many_attrs_differ(alloc: Global, attrs: &[TagAttr]) -> Result<bool, Mem>
 {
     let mut seen = BTreeSet::new(alloc);
     for attr in attrs {
-        let new = see(&mut seen, &attr.name.prefix, &attr.name.local)?;
+        let new = see(&mut seen, 0, attr.name.prefix.as_str(), &attr.name.local)?;
         if !new {
             return Ok(false);
         }
@@ -186,7 +191,8 @@ fn many_names_differ(alloc: Global, attrs: &[Attr]) -> Result<bool, Mem>
 {
     let mut seen = BTreeSet::new(alloc);
     for attr in attrs {
-        let new = see(&mut seen, &attr.name.space, &attr.name.local)?;
+        let space = &attr.name.space;
+        let new = see(&mut seen, space.hash(), space.as_str(), &attr.name.local)?;
         if !new {
             return Ok(false);
         }
@@ -206,11 +212,11 @@ fn no_name_twice(alloc: Global, attrs: &[Attr]) -> Result<bool, Mem>
 }
 
 /// Returns what the innermost open element that speaks of a prefix says of it.
-fn declared_in(alloc: Global, opens: &[Open], prefix: &Text) -> Result<Option<Text>, Mem>
+fn declared_in(opens: &[Open], prefix: &Text) -> Result<Option<Namespace>, Mem>
     ensures { IfOk result (λ space. space ≡ declared_in (scopes_in opens.now) prefix.now) }
 {
     for open in opens {
-        let found = open.declared.declared(alloc, prefix)?;
+        let found = open.declared.declared(prefix)?;
         if found.is_some() {
             return Ok(found);
         }
@@ -224,23 +230,23 @@ fn space_of(
     opens: &[Open],
     inner: &Scope,
     prefix: &Text,
-) -> Result<Option<Text>, Mem>
+) -> Result<Option<Namespace>, Mem>
     ensures { IfOk result (λ space. space ≡ space_of (inner.now ∷ scopes_in opens.now) prefix.now) }
 {
     if prefix.as_str() == "xml" {
-        let space = Text::read(alloc, XML_SPACE)?;
+        let space = Namespace::read(alloc, XML_SPACE)?;
         return Ok(Some(space));
     }
-    let found = inner.declared(alloc, prefix)?;
+    let found = inner.declared(prefix)?;
     if found.is_some() {
         return Ok(found);
     }
-    let found = declared_in(alloc, opens, prefix)?;
+    let found = declared_in(opens, prefix)?;
     if found.is_some() {
         return Ok(found);
     }
     if prefix.len() == 0 {
-        Ok(Some(Text::from(String::new(alloc))))
+        Ok(Some(Namespace::none()))
     } else {
         Ok(None)
     }
@@ -270,9 +276,8 @@ fn attr_name(alloc: Global, opens: &[Open], inner: &Scope, name: QName) -> Resul
         let local = name.local;
         return name_in(alloc, opens, inner, &name.prefix, local);
     }
-    let space = Text::from(String::new(alloc));
     Ok(Some(Name {
-        space,
+        space: Namespace::none(),
         local: name.local,
     }))
 }
@@ -296,13 +301,12 @@ fn named_attr(
 }
 
 /// Returns an attribute whose name has no prefix, and so is in no namespace.
-fn plain_attr(alloc: Global, attr: TagAttr) -> Attr
+fn plain_attr(attr: TagAttr) -> Attr
     ensures { Some result ≡ with_value attr.value (in_space attr.name.local (Some [])) }
 {
     let TagAttr { name, value } = attr;
-    let space = Text::from(String::new(alloc));
     let name = Name {
-        space,
+        space: Namespace::none(),
         local: name.local,
     };
     Attr { name, value }
@@ -317,13 +321,14 @@ fn named_attrs(
 ) -> Result<Option<Attrs>, Mem>
     ensures { IfOk result (λ found. found ≡ named_attrs (inner.now ∷ scopes_in opens.now) attrs) }
 {
-    let mut found = Attrs::from(Vec::with_capacity(alloc, attrs.len())?);
+    let room = attrs.len().saturating_sub(inner.as_slice().len());
+    let mut found = Attrs::from(Vec::with_capacity(alloc, room)?);
     for attr in attrs.into_vec() {
         if is_declaration(&attr) {
             continue;
         }
         if attr.name.prefix.len() == 0 {
-            found.push(plain_attr(alloc, attr))?;
+            found.push(plain_attr(attr))?;
             continue;
         }
         let Some(named) = named_attr(alloc, opens, inner, attr)? else {

@@ -1,5 +1,6 @@
 //! Tags as they are written: qualified names, attributes and the namespaces that they declare.
 
+use crate::namespace::Namespace;
 use crate::prefixes::Scope;
 use cds_base::{Sequence, Text};
 
@@ -36,7 +37,7 @@ pub struct Declaration {
     /// The prefix, empty for names without one.
     pub prefix: Text,
     /// The namespace, empty for none.
-    pub space: Text,
+    pub space: Namespace,
 }
 
 /// An element that is open.

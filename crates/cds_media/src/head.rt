@@ -13,8 +13,7 @@ use std::alloc::Global;
 /// Appends the head of the reply to a request for a file of this size, up to its empty line. If memory runs out, `out` stays as it
 /// was.
 ///
-/// - The status is 200 for the whole file, 206 for a part, and 416 for nothing. The reasons of 206 and 416 are empty until `cds_http`
-///   has them.
+/// - The status is 200 for the whole file, 206 for a part, and 416 for nothing.
 /// - 200 and 206 have `CONTENT-TYPE: audio/flac` and `ACCEPT-RANGES: bytes`. 206 then has CONTENT-RANGE, as in `bytes 2-4/10`, with
 ///   the first place, the last place and the size. 416 has of these only CONTENT-RANGE, as in `bytes */10`.
 /// - CONTENT-LENGTH counts the bytes that are planned.

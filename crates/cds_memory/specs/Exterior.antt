@@ -1,10 +1,11 @@
 -- What callers see of the outside in memory.
 use Rattle.std.specs.Prelude.{◌≡◌, ℕ, Some, List, [], ◌∷◌, map}
 use Rattle.cds_memory.specs.declared.asking.Ask.{Ask}
-use Rattle.cds_memory.specs.declared.asking.Ask.TheVariants.{Folder, Link, Clock, Door, Spawner}
-use Rattle.cds_outside.specs.Asked.{Asked, ForClock, ForDoor, ForFolder, ForLink, ForSpawner}
+use Rattle.cds_memory.specs.declared.asking.Ask.TheVariants.{Folder, Link, Clock, Door, Spawner, Datagrams}
+use Rattle.cds_outside.specs.Asked.{Asked, ForClock, ForDatagrams, ForDoor, ForFolder, ForLink, ForSpawner}
 use Rattle.cds_outside.specs.Told.{OutsideTold}
 use Rattle.cds_memory.specs.Clocks.{ClockState}
+use Rattle.cds_memory.specs.Datagrams.{DatagramsState, datagrams_told}
 use Rattle.cds_memory.specs.Doors.{DoorState, SpawnerState}
 use Rattle.cds_memory.specs.Folders.{FolderState, fresh_folder, told_of}
 use Rattle.cds_memory.specs.Links.{LinkState, link_told_of}
@@ -17,14 +18,17 @@ pub record OutsideState : Type 0 where
   pub clocks : List ClockState
   pub doors : List DoorState
   pub spawners : List SpawnerState
+  pub datagrams : List DatagramsState
   -- what it was asked for
   pub asked : List Asked
-  -- the folders and links that came back
+  -- the folders, links and datagrams that came back
   pub ended : List FolderState
   pub ended_links : List LinkState
-  -- how many connections the doors that came back gave, and how many jobs the spawners that came back started
+  pub ended_datagrams : List DatagramsState
+  -- how many connections the doors that came back gave, how many jobs the spawners started, and how many datagrams were given
   pub connections : ℕ
   pub started : ℕ
+  pub given : ℕ
   -- how many calls that ask for an object it answered, and how many faults there were
   pub calls : ℕ
   pub faults : ℕ
@@ -40,6 +44,8 @@ outside_told outside = record {
   ended_links = Some (map link_told_of outside.ended_links);
   connections = outside.connections;
   started = outside.started;
+  ended_datagrams = Some (map datagrams_told outside.ended_datagrams);
+  datagrams = outside.given;
 }
 
 -- What was asked for, as the outside tells it.
@@ -49,6 +55,7 @@ asked_of Link = ForLink
 asked_of Clock = ForClock
 asked_of (Door port) = ForDoor port
 asked_of Spawner = ForSpawner
+asked_of (Datagrams port) = ForDatagrams port
 
 -- A folder before anything was asked of it.
 abbrev pub folder_afresh : FolderState → FolderState

@@ -43,7 +43,9 @@ pub record FolderState : Type 0 where
   pub entries : ℕ
   pub opened : ℕ
   pub returned : ℕ
-  -- how many calls of `entry` and `open` it answered, and how many faults there were of entries and of files
+  -- the paths that `open_at` was asked for, in order
+  pub asked : List (List ℕ)
+  -- how many calls of `entry`, `open` and `open_at` it answered, and how many faults there were of entries and of files
   pub calls : ℕ
   pub entry_faults : ℕ
   pub file_faults : ℕ
@@ -62,6 +64,7 @@ fresh_folder items fails = record {
   entries = 0;
   opened = 0;
   returned = 0;
+  asked = [];
   calls = 0;
   entry_faults = 0;
   file_faults = 0;
@@ -77,6 +80,7 @@ told_of folder = record {
   entries = folder.entries;
   opened = folder.opened;
   returned = folder.returned;
+  asked = Some folder.asked;
   entry_faults = folder.entry_faults;
   file_faults = folder.file_faults;
 }

@@ -1,4 +1,5 @@
 pub mod Clocks
+pub mod Datagrams
 pub mod Doors
 pub mod Exterior
 pub mod Folders

@@ -1,9 +1,11 @@
 //! The outside in memory as a whole: what gives the objects and takes them back.
 
 ghost use Rattle.std.specs.Prelude.{◌≡◌, ◌==◌, ◌≤◌, ◌||◌, if◌then◌else◌, not, [], ◌∷◌, ◌++◌, length, Some, IfOk, OnErr};
-ghost use Rattle.cds_outside.specs.Asked.{ForClock, ForDoor, ForFolder, ForLink, ForSpawner, OutsideRose, gave_nothing};
+ghost use Rattle.cds_outside.specs.Asked.{ForClock, ForDatagrams, ForDoor, ForFolder, ForLink, ForSpawner, OutsideRose, gave_nothing};
 ghost use Rattle.cds_memory.specs.Clocks.{clock_told, fresh_clock};
+ghost use Rattle.cds_memory.specs.Datagrams.{datagrams_told, fresh_datagrams};
 ghost use Rattle.cds_memory.specs.Doors.{door_told, fresh_door, fresh_spawner, spawner_told};
+ghost use Rattle.cds_outside.specs.Datagrams.{IsUnheard};
 ghost use Rattle.cds_outside.specs.Entries.{IsUnasked};
 ghost use Rattle.cds_outside.specs.Outside.{Told, raised};
 ghost use Rattle.cds_outside.specs.Told.{IsFresh, IsUnsent, unasked_door, unasked_spawner};
@@ -12,11 +14,11 @@ ghost use Rattle.cds_memory.specs.Folders.{told_of};
 ghost use Rattle.cds_memory.specs.Links.{fresh_link, link_told_of};
 ghost use Rattle.cds_memory.specs.Memory.{next_fails};
 
-use crate::asking::Ask;
+use crate::asking::{Ask, traced};
 use crate::streams::is_listed;
-use crate::{MemClock, MemDoor, MemFolder, MemLink, MemSpawner};
+use crate::{MemClock, MemDatagrams, MemDoor, MemFolder, MemLink, MemSpawner};
 use cds_base::{Numbers, Sequence};
-use cds_outside::{Outside, OutsideFault, Trace};
+use cds_outside::{Datagrams, Outside, OutsideFault, Trace};
 use std::alloc::Global;
 use std::marker::{Model, Send};
 use std::sync::Wait;
@@ -29,6 +31,7 @@ pub struct MemObjects<R> {
     pub clocks: Sequence<MemClock>,
     pub doors: Sequence<MemDoor<R>>,
     pub spawners: Sequence<MemSpawner>,
+    pub datagrams: Sequence<MemDatagrams>,
 }
 
 impl<R> MemObjects<R> {
@@ -39,6 +42,7 @@ impl<R> MemObjects<R> {
         ensures clocks { result.clocks ≡ [] }
         ensures doors { result.doors ≡ [] }
         ensures spawners { result.spawners ≡ [] }
+        ensures datagrams { result.datagrams ≡ [] }
     {
         MemObjects {
             folders: Sequence::new(alloc),
@@ -46,6 +50,7 @@ impl<R> MemObjects<R> {
             clocks: Sequence::new(alloc),
             doors: Sequence::new(alloc),
             spawners: Sequence::new(alloc),
+            datagrams: Sequence::new(alloc),
         }
     }
 }
@@ -59,11 +64,14 @@ pub struct MemOutside<R> {
     clocks: Vec<MemClock>,
     doors: Vec<MemDoor<R>>,
     spawners: Vec<MemSpawner>,
+    datagrams: Vec<MemDatagrams>,
     asked: Trace<Ask>,
     ended: Trace<MemFolder>,
     ended_links: Trace<MemLink>,
+    ended_datagrams: Trace<MemDatagrams>,
     connections: u64,
     started: u64,
+    given: u64,
     calls: u64,
     faults: u64,
     fails: Numbers,
@@ -82,11 +90,14 @@ impl<R> Model for MemOutside<R> {
           clocks = s.clocks.items;
           doors = s.doors.items;
           spawners = s.spawners.items;
+          datagrams = s.datagrams.items;
           asked = map asked_of s.asked;
           ended = s.ended;
           ended_links = s.ended_links;
+          ended_datagrams = s.ended_datagrams;
           connections = s.connections;
           started = s.started;
+          given = s.given;
           calls = s.calls;
           faults = s.faults;
           fails = s.fails;
@@ -103,11 +114,14 @@ impl<R> MemOutside<R> {
           clocks = objects.clocks;
           doors = objects.doors;
           spawners = objects.spawners;
+          datagrams = objects.datagrams;
           asked = [];
           ended = [];
           ended_links = [];
+          ended_datagrams = [];
           connections = 0;
           started = 0;
+          given = 0;
           calls = 0;
           faults = 0;
           fails = fails;
@@ -119,6 +133,7 @@ impl<R> MemOutside<R> {
             clocks,
             doors,
             spawners,
+            datagrams,
         } = objects;
         MemOutside {
             folders: folders.into_vec(),
@@ -126,11 +141,14 @@ impl<R> MemOutside<R> {
             clocks: clocks.into_vec(),
             doors: doors.into_vec(),
             spawners: spawners.into_vec(),
+            datagrams: datagrams.into_vec(),
             asked: Trace::new(),
             ended: Trace::new(),
             ended_links: Trace::new(),
+            ended_datagrams: Trace::new(),
             connections: 0,
             started: 0,
+            given: 0,
             calls: 0,
             faults: 0,
             fails,
@@ -157,6 +175,14 @@ impl<R> MemOutside<R> {
     {
         self.started
     }
+
+    /// Returns how many datagrams those that came back gave.
+    pub fn given(&self) -> u64
+        ensures { result ≡ self.now.given }
+    {
+        self.given
+    }
+
     /// Counts a call that asks for an object, and returns whether the object is given. `has_one` says whether there is one.
     fn admits(&mut self, ask: Ask, has_one: bool) -> bool
         ensures answer { not result ≡ (not has_one || next_fails self.old.fails self.old.calls) }
@@ -169,10 +195,13 @@ impl<R> MemOutside<R> {
         ensures clocks { self.new.clocks ≡ self.old.clocks }
         ensures doors { self.new.doors ≡ self.old.doors }
         ensures spawners { self.new.spawners ≡ self.old.spawners }
+        ensures datagrams { self.new.datagrams ≡ self.old.datagrams }
         ensures ended { self.new.ended ≡ self.old.ended }
         ensures ended_links { self.new.ended_links ≡ self.old.ended_links }
+        ensures ended_datagrams { self.new.ended_datagrams ≡ self.old.ended_datagrams }
         ensures connections { self.new.connections ≡ self.old.connections }
         ensures started { self.new.started ≡ self.old.started }
+        ensures given { self.new.given ≡ self.old.given }
         ensures fails { self.new.fails ≡ self.old.fails }
     {
         drop(self.asked.push(ask));
@@ -183,18 +212,6 @@ impl<R> MemOutside<R> {
         }
         is_given
     }
-}
-
-/// Returns the bytes of a text, which only contracts see.
-fn traced(text: &str) -> Trace<u8>
-    ensures { result ≡ text.now }
-{
-    let mut trace = Trace::new();
-    let bytes = text.as_bytes();
-    for byte in bytes {
-        trace.push(*byte);
-    }
-    trace
 }
 
 impl<R: Wait + Clone + Send + Drop + 'static> Outside for MemOutside<R> {
@@ -210,6 +227,8 @@ impl<R: Wait + Clone + Send + Drop + 'static> Outside for MemOutside<R> {
 
     type W = MemSpawner;
 
+    type U = MemDatagrams;
+
     ghost told = { outside_told };
 
     fn folder(&mut self, _alloc: Global, path: &str) -> Result<MemFolder, OutsideFault>
@@ -220,19 +239,27 @@ impl<R: Wait + Clone + Send + Drop + 'static> Outside for MemOutside<R> {
         ensures clocks_stay { self.new.clocks ≡ self.old.clocks }
         ensures doors_stay { self.new.doors ≡ self.old.doors }
         ensures spawners_stay { self.new.spawners ≡ self.old.spawners }
+        ensures datagrams_stay { self.new.datagrams ≡ self.old.datagrams }
         ensures calls { self.new.calls ≡ raised self.old.calls 1 }
         ensures same_fails { self.new.fails ≡ self.old.fails }
         ensures unasked { IfOk result (λ folder. IsUnasked (told_of folder)) }
         ensures asked { Told (Some self.old.asked) (λ list. Some self.new.asked ≡ Some (list ++ ForFolder path.now ∷ [])) }
         ensures ended_stay { self.new.ended ≡ self.old.ended }
         ensures ended_links_stay { self.new.ended_links ≡ self.old.ended_links }
+        ensures ended_datagrams_stay { self.new.ended_datagrams ≡ self.old.ended_datagrams }
         ensures connections_stay { self.new.connections ≡ self.old.connections }
         ensures started_stay { self.new.started ≡ self.old.started }
+        ensures given_stay { self.new.given ≡ self.old.given }
         ensures rose { OutsideRose result self.old.faults self.new.faults }
         ensures never_falls { self.old.faults ≤ self.new.faults }
     {
         let has_one = !self.folders.is_empty();
-        if !self.admits(Ask::Folder { path: traced(path) }, has_one) {
+        if !self.admits(
+            Ask::Folder {
+                path: traced(path.as_bytes()),
+            },
+            has_one,
+        ) {
             return Err(OutsideFault::Failed);
         }
         Ok(self.folders.remove(0).afresh())
@@ -246,14 +273,17 @@ impl<R: Wait + Clone + Send + Drop + 'static> Outside for MemOutside<R> {
         ensures clocks_stay { self.new.clocks ≡ self.old.clocks }
         ensures doors_stay { self.new.doors ≡ self.old.doors }
         ensures spawners_stay { self.new.spawners ≡ self.old.spawners }
+        ensures datagrams_stay { self.new.datagrams ≡ self.old.datagrams }
         ensures calls { self.new.calls ≡ raised self.old.calls 1 }
         ensures same_fails { self.new.fails ≡ self.old.fails }
         ensures unsent { IfOk result (λ link. IsUnsent (link_told_of link)) }
         ensures asked { Told (Some self.old.asked) (λ list. Some self.new.asked ≡ Some (list ++ ForLink ∷ [])) }
         ensures ended_stay { self.new.ended ≡ self.old.ended }
         ensures ended_links_stay { self.new.ended_links ≡ self.old.ended_links }
+        ensures ended_datagrams_stay { self.new.ended_datagrams ≡ self.old.ended_datagrams }
         ensures connections_stay { self.new.connections ≡ self.old.connections }
         ensures started_stay { self.new.started ≡ self.old.started }
+        ensures given_stay { self.new.given ≡ self.old.given }
         ensures rose { OutsideRose result self.old.faults self.new.faults }
         ensures never_falls { self.old.faults ≤ self.new.faults }
     {
@@ -272,14 +302,17 @@ impl<R: Wait + Clone + Send + Drop + 'static> Outside for MemOutside<R> {
         ensures links_stay { self.new.links ≡ self.old.links }
         ensures doors_stay { self.new.doors ≡ self.old.doors }
         ensures spawners_stay { self.new.spawners ≡ self.old.spawners }
+        ensures datagrams_stay { self.new.datagrams ≡ self.old.datagrams }
         ensures calls { self.new.calls ≡ raised self.old.calls 1 }
         ensures same_fails { self.new.fails ≡ self.old.fails }
         ensures fresh { IfOk result (λ clock. IsFresh (clock_told clock)) }
         ensures asked { Told (Some self.old.asked) (λ list. Some self.new.asked ≡ Some (list ++ ForClock ∷ [])) }
         ensures ended_stay { self.new.ended ≡ self.old.ended }
         ensures ended_links_stay { self.new.ended_links ≡ self.old.ended_links }
+        ensures ended_datagrams_stay { self.new.ended_datagrams ≡ self.old.ended_datagrams }
         ensures connections_stay { self.new.connections ≡ self.old.connections }
         ensures started_stay { self.new.started ≡ self.old.started }
+        ensures given_stay { self.new.given ≡ self.old.given }
         ensures rose { OutsideRose result self.old.faults self.new.faults }
         ensures never_falls { self.old.faults ≤ self.new.faults }
     {
@@ -298,14 +331,17 @@ impl<R: Wait + Clone + Send + Drop + 'static> Outside for MemOutside<R> {
         ensures links_stay { self.new.links ≡ self.old.links }
         ensures clocks_stay { self.new.clocks ≡ self.old.clocks }
         ensures spawners_stay { self.new.spawners ≡ self.old.spawners }
+        ensures datagrams_stay { self.new.datagrams ≡ self.old.datagrams }
         ensures calls { self.new.calls ≡ raised self.old.calls 1 }
         ensures same_fails { self.new.fails ≡ self.old.fails }
         ensures unasked { IfOk result (λ door. door_told door ≡ unasked_door) }
         ensures asked { Told (Some self.old.asked) (λ list. Some self.new.asked ≡ Some (list ++ ForDoor port ∷ [])) }
         ensures ended_stay { self.new.ended ≡ self.old.ended }
         ensures ended_links_stay { self.new.ended_links ≡ self.old.ended_links }
+        ensures ended_datagrams_stay { self.new.ended_datagrams ≡ self.old.ended_datagrams }
         ensures connections_stay { self.new.connections ≡ self.old.connections }
         ensures started_stay { self.new.started ≡ self.old.started }
+        ensures given_stay { self.new.given ≡ self.old.given }
         ensures rose { OutsideRose result self.old.faults self.new.faults }
         ensures never_falls { self.old.faults ≤ self.new.faults }
     {
@@ -324,14 +360,17 @@ impl<R: Wait + Clone + Send + Drop + 'static> Outside for MemOutside<R> {
         ensures links_stay { self.new.links ≡ self.old.links }
         ensures clocks_stay { self.new.clocks ≡ self.old.clocks }
         ensures doors_stay { self.new.doors ≡ self.old.doors }
+        ensures datagrams_stay { self.new.datagrams ≡ self.old.datagrams }
         ensures calls { self.new.calls ≡ raised self.old.calls 1 }
         ensures same_fails { self.new.fails ≡ self.old.fails }
         ensures unasked { IfOk result (λ spawner. spawner_told spawner ≡ unasked_spawner) }
         ensures asked { Told (Some self.old.asked) (λ list. Some self.new.asked ≡ Some (list ++ ForSpawner ∷ [])) }
         ensures ended_stay { self.new.ended ≡ self.old.ended }
         ensures ended_links_stay { self.new.ended_links ≡ self.old.ended_links }
+        ensures ended_datagrams_stay { self.new.ended_datagrams ≡ self.old.ended_datagrams }
         ensures connections_stay { self.new.connections ≡ self.old.connections }
         ensures started_stay { self.new.started ≡ self.old.started }
+        ensures given_stay { self.new.given ≡ self.old.given }
         ensures rose { OutsideRose result self.old.faults self.new.faults }
         ensures never_falls { self.old.faults ≤ self.new.faults }
     {
@@ -340,6 +379,35 @@ impl<R: Wait + Clone + Send + Drop + 'static> Outside for MemOutside<R> {
             return Err(OutsideFault::Failed);
         }
         Ok(self.spawners.remove(0).afresh())
+    }
+
+    fn datagrams(&mut self, _alloc: Global, port: u16) -> Result<MemDatagrams, OutsideFault>
+        ensures failed { gave_nothing result ≡ ((length self.old.datagrams == 0) || next_fails self.old.fails self.old.calls) }
+        ensures first { IfOk result (λ datagrams. IsFirstOf fresh_datagrams datagrams self.old.datagrams self.new.datagrams) }
+        ensures left { OnErr result (self.new.datagrams ≡ self.old.datagrams) }
+        ensures folders_stay { self.new.folders ≡ self.old.folders }
+        ensures links_stay { self.new.links ≡ self.old.links }
+        ensures clocks_stay { self.new.clocks ≡ self.old.clocks }
+        ensures doors_stay { self.new.doors ≡ self.old.doors }
+        ensures spawners_stay { self.new.spawners ≡ self.old.spawners }
+        ensures calls { self.new.calls ≡ raised self.old.calls 1 }
+        ensures same_fails { self.new.fails ≡ self.old.fails }
+        ensures unheard { IfOk result (λ datagrams. IsUnheard (datagrams_told datagrams)) }
+        ensures asked { Told (Some self.old.asked) (λ list. Some self.new.asked ≡ Some (list ++ ForDatagrams port ∷ [])) }
+        ensures ended_stay { self.new.ended ≡ self.old.ended }
+        ensures ended_links_stay { self.new.ended_links ≡ self.old.ended_links }
+        ensures ended_datagrams_stay { self.new.ended_datagrams ≡ self.old.ended_datagrams }
+        ensures connections_stay { self.new.connections ≡ self.old.connections }
+        ensures started_stay { self.new.started ≡ self.old.started }
+        ensures given_stay { self.new.given ≡ self.old.given }
+        ensures rose { OutsideRose result self.old.faults self.new.faults }
+        ensures never_falls { self.old.faults ≤ self.new.faults }
+    {
+        let has_one = !self.datagrams.is_empty();
+        if !self.admits(Ask::Datagrams { port }, has_one) {
+            return Err(OutsideFault::Failed);
+        }
+        Ok(self.datagrams.remove(0).afresh())
     }
 
     fn end_folder(&mut self, folder: MemFolder) {
@@ -360,5 +428,11 @@ impl<R: Wait + Clone + Send + Drop + 'static> Outside for MemOutside<R> {
     fn end_spawner(&mut self, spawner: MemSpawner) {
         self.started = self.started.saturating_add(spawner.started());
         self.faults = self.faults.saturating_add(spawner.faults().min(1));
+    }
+
+    fn end_datagrams(&mut self, datagrams: MemDatagrams) {
+        let datagrams = self.ended_datagrams.push(datagrams);
+        self.given = self.given.saturating_add(datagrams.given());
+        self.faults = self.faults.saturating_add(datagrams.faults().min(1));
     }
 }

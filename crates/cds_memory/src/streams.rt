@@ -47,11 +47,32 @@ impl MemSource {
         }
     }
 
+    /// Returns the same source without its first bytes, as many as `count` says.
+    pub(crate) fn from_place(mut self, count: u64) -> Self
+        ensures { result ≡ record self { left = drop count self.left } }
+    {
+        self.at = place_after(self.at, count, self.contents.len());
+        self
+    }
+
     /// Returns how many calls failed.
     pub fn faults(&self) -> u64
         ensures { result ≡ self.now.faults }
     {
         self.faults
+    }
+}
+
+/// Returns the place that is `count` bytes after `at`, or the end if that comes first.
+fn place_after(at: usize, count: u64, end: usize) -> usize
+    requires { at ≤ end }
+    ensures { result ≡ min (at + count) end }
+{
+    let left = (end - at) as u64;
+    if count < left {
+        at + count as usize
+    } else {
+        end
     }
 }
 

@@ -10,4 +10,5 @@ pub mod Path
 pub mod PathAnswer
 pub mod PathOrder
 pub mod Tree
+pub mod Updates
 pub mod Writing

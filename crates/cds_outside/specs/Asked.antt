@@ -4,13 +4,14 @@ use Rattle.cds_outside.specs.declared.exterior.OutsideFault.{OutsideFault}
 use Rattle.cds_outside.specs.declared.exterior.OutsideFault.TheVariants.{Failed, Mem}
 use Rattle.cds_outside.specs.Outside.{Rose}
 
--- What the outside was asked for: a folder at a path, a link, a clock, a door at a port or a spawner.
+-- What the outside was asked for: a folder at a path, a link, a clock, a door at a port, a spawner, or the datagrams of a port.
 pub data Asked : Type 0 where
   ForFolder : List ℕ → Asked
   ForLink : Asked
   ForClock : Asked
   ForDoor : ℕ → Asked
   ForSpawner : Asked
+  ForDatagrams : ℕ → Asked
 
 -- A count of faults after a call. If the call failed, the count rose; otherwise it stays.
 abbrev pub OutsideRose : {A : Type 0} → Result A OutsideFault → ℕ → ℕ → Type 0

@@ -93,6 +93,27 @@ abbrev pub HasBytes : Option (List ℕ) → Option (List ℕ) → Type 0
 HasBytes None left = ⊥
 HasBytes (Some bytes) left = left ≡ Some bytes
 
+-- The same, from a place on. A place past the end of the file has no bytes after it.
+abbrev pub HasBytesFrom : ℕ → Option (List ℕ) → Option (List ℕ) → Type 0
+HasBytesFrom at None left = ⊥
+HasBytesFrom at (Some bytes) left = left ≡ Some (drop at bytes)
+
+-- The paths that files were asked for at a place, if they are told, with one more.
+abbrev pub and_path : List ℕ → Option (List (List ℕ)) → Option (List (List ℕ))
+and_path path None = None
+and_path path (Some asked) = Some (asked ++ path ∷ [])
+
+-- The same after a call. If memory ran out, the path is not added.
+abbrev pub asked_after : {A : Type 0} → Result A FolderFault → List ℕ → Option (List (List ℕ)) → Option (List (List ℕ))
+asked_after (Ok value) path asked = and_path path asked
+asked_after (Err Failed) path asked = and_path path asked
+asked_after (Err Mem) path asked = asked
+
+-- No path, if paths are told.
+abbrev pub none_asked : Option (List (List ℕ)) → Option (List (List ℕ))
+none_asked None = None
+none_asked (Some asked) = Some []
+
 -- A count of faults after a call. If the call failed, the count rose; otherwise it stays.
 abbrev pub FailedRose : {A : Type 0} → Result A FolderFault → ℕ → ℕ → Type 0
 FailedRose (Ok value) old new = new ≡ old
@@ -116,10 +137,14 @@ pub record FolderTold : Type 0 where
   pub entries : ℕ
   pub opened : ℕ
   pub returned : ℕ
+  -- the paths that `open_at` was asked for, in order, if it tells them
+  pub asked : Option (List (List ℕ))
   -- how many faults of entries and of files there were
   pub entry_faults : ℕ
   pub file_faults : ℕ
 
 -- Nothing was asked of the folder yet.
 abbrev pub IsUnasked : FolderTold → Type 0
-IsUnasked told = told ≡ record told { given = []; entries = 0; opened = 0; returned = 0; entry_faults = 0; file_faults = 0 }
+IsUnasked told =
+    told
+    ≡ record told { given = []; entries = 0; opened = 0; returned = 0; asked = none_asked told.asked; entry_faults = 0; file_faults = 0 }

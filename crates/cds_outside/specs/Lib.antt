@@ -1,4 +1,5 @@
 pub mod Asked
+pub mod Datagrams
 pub mod Entries
 pub mod Links
 pub mod Outside

@@ -1,6 +1,7 @@
 -- What each object of the outside tells of itself, before and after a call.
 use Rattle.std.specs.Prelude.{◌≡◌, ℕ, Option, Some, None, List, [], ◌∷◌, ◌++◌}
 use Rattle.cds_outside.specs.Asked.{Asked}
+use Rattle.cds_outside.specs.Datagrams.{DatagramsTold}
 use Rattle.cds_outside.specs.Entries.{FolderTold}
 use Rattle.cds_outside.specs.Links.{LinkTold}
 use Rattle.cds_outside.specs.Outside.{SinkTold, SourceTold, Told}
@@ -68,6 +69,10 @@ pub record OutsideTold : Type 0 where
   pub connections : ℕ
   -- how many jobs the spawners that came back started
   pub started : ℕ
+  -- what the sources of datagrams that came back had told, in order, if it tells that
+  pub ended_datagrams : Option (List DatagramsTold)
+  -- how many datagrams these gave
+  pub datagrams : ℕ
 
 -- The outside was asked for one object: it may have failed, and all else stays.
 abbrev pub asked_then : OutsideTold → OutsideTold → OutsideTold

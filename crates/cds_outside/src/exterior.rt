@@ -1,6 +1,6 @@
 //! The outside as a whole: what gives the objects and takes them back.
 
-use crate::{Clock, Door, Folder, Link, Spawner};
+use crate::{Clock, Datagrams, Door, Folder, Link, Spawner};
 use cds_base::Mem;
 use std::alloc::Global;
 use std::convert::From;
@@ -45,7 +45,8 @@ pub trait Outside {
     ghost use Rattle.std.specs.Prelude.{◌≡◌, ◌≤◌, min, [], ◌∷◌, ◌++◌, Some, IfOk};
     ghost use Rattle.cds_outside.specs.Outside.{raised, Told};
     ghost use Rattle.cds_outside.specs.Entries.{IsUnasked};
-    ghost use Rattle.cds_outside.specs.Asked.{ForClock, ForDoor, ForFolder, ForLink, ForSpawner, OutsideRose};
+    ghost use Rattle.cds_outside.specs.Asked.{ForClock, ForDatagrams, ForDoor, ForFolder, ForLink, ForSpawner, OutsideRose};
+    ghost use Rattle.cds_outside.specs.Datagrams.{IsUnheard};
     ghost use Rattle.cds_outside.specs.Told.{IsFresh, IsUnsent, OutsideTold, asked_then, unasked_door, unasked_spawner};
 
     type F: Folder + Send + Drop + 'static;
@@ -57,6 +58,8 @@ pub trait Outside {
     type D: Door + Send + Drop + 'static;
 
     type W: Spawner + Send + Drop + 'static;
+
+    type U: Datagrams + Send + Drop + 'static;
 
     // What it tells of itself.
     ghost told: { Self → OutsideTold };
@@ -101,6 +104,14 @@ pub trait Outside {
         ensures rose { OutsideRose result (told self.old).faults (told self.new).faults }
         ensures never_falls { (told self.old).faults ≤ (told self.new).faults };
 
+    /// Returns the datagrams of a port.
+    fn datagrams(&mut self, alloc: Global, port: u16) -> Result<Self::U, OutsideFault>
+        ensures unheard { IfOk result (λ datagrams. IsUnheard (Self.U.told datagrams)) }
+        ensures asked { Told (told self.old).asked (λ list. (told self.new).asked ≡ Some (list ++ ForDatagrams port ∷ [])) }
+        ensures others_stay { told self.new ≡ asked_then (told self.old) (told self.new) }
+        ensures rose { OutsideRose result (told self.old).faults (told self.new).faults }
+        ensures never_falls { (told self.old).faults ≤ (told self.new).faults };
+
     /// Takes a folder back. It takes no memory. The count of faults rises exactly if the folder's count of faults of entries is
     /// above 0.
     fn end_folder(&mut self, folder: Self::F)
@@ -130,5 +141,14 @@ pub trait Outside {
         ensures faults { (told self.new).faults ≡ raised (told self.old).faults (min 1 (Self.W.told spawner).faults) }
         ensures started { (told self.new).started ≡ raised (told self.old).started (Self.W.told spawner).started }
         ensures others_stay { told self.new ≡ record (told self.old) { faults = (told self.new).faults; started = (told self.new).started } }
+        ensures never_falls { (told self.old).faults ≤ (told self.new).faults };
+
+    /// Takes the datagrams of a port back, and adds the number of those that it gave. It takes no memory. The count of faults rises
+    /// exactly if their count of faults is above 0.
+    fn end_datagrams(&mut self, datagrams: Self::U)
+        ensures faults { (told self.new).faults ≡ raised (told self.old).faults (min 1 (Self.U.told datagrams).faults) }
+        ensures ended_datagrams { Told (told self.old).ended_datagrams (λ list. (told self.new).ended_datagrams ≡ Some (list ++ Self.U.told datagrams ∷ [])) }
+        ensures given { (told self.new).datagrams ≡ raised (told self.old).datagrams (Self.U.told datagrams).given }
+        ensures others_stay { told self.new ≡ record (told self.old) { faults = (told self.new).faults; ended_datagrams = (told self.new).ended_datagrams; datagrams = (told self.new).datagrams } }
         ensures never_falls { (told self.old).faults ≤ (told self.new).faults };
 }

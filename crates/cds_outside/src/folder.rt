@@ -54,7 +54,7 @@ pub trait Folder {
     ghost use Rattle.std.specs.Prelude.{◌≡◌, ◌≤◌, [], ◌∷◌, ◌++◌, IsTrue, IfOk, OnErr};
     ghost use Rattle.std.specs.List.{list_any};
     ghost use Rattle.cds_outside.specs.Outside.{raised, Told};
-    ghost use Rattle.cds_outside.specs.Entries.{FolderTold, OnEntry, IsNext, HasBytes, FailedRose, is_new, is_tree, is_file_at};
+    ghost use Rattle.cds_outside.specs.Entries.{FolderTold, OnEntry, IsNext, HasBytes, HasBytesFrom, FailedRose, and_path, asked_after, is_new, is_tree, is_file_at};
 
     type File: Source;
 
@@ -83,6 +83,17 @@ pub trait Folder {
         ensures unread { IfOk result (λ file. (Self.File.told file).moved ≡ 0) }
         ensures opened { IfOk result (λ _. told self.new ≡ record (told self.old) { opened = raised (told self.old).opened 1 }) }
         ensures others_stay { OnErr result (told self.new ≡ record (told self.old) { file_faults = (told self.new).file_faults }) }
+        ensures rose { FailedRose result (told self.old).file_faults (told self.new).file_faults }
+        ensures never_falls { (told self.old).file_faults ≤ (told self.new).file_faults };
+
+    /// Opens the file at a path, at a place counted in bytes from 0. Any path may be asked for. `Failed` comes only if the count of
+    /// faults of files rises. A folder that tells its files tells the path too, except when memory ran out.
+    fn open_at(&mut self, alloc: Global, path: &str, at: u64) -> Result<Self::File, FolderFault>
+        ensures bytes { IfOk result (λ file. Told (told self.old).contents (λ c. HasBytesFrom at (c path.now) (Self.File.told file).left)) }
+        ensures no_faults { IfOk result (λ file. (Self.File.told file).faults ≡ 0) }
+        ensures unread { IfOk result (λ file. (Self.File.told file).moved ≡ 0) }
+        ensures opened { IfOk result (λ _. told self.new ≡ record (told self.old) { opened = raised (told self.old).opened 1; asked = and_path path.now (told self.old).asked }) }
+        ensures others_stay { OnErr result (told self.new ≡ record (told self.old) { asked = asked_after result path.now (told self.old).asked; file_faults = (told self.new).file_faults }) }
         ensures rose { FailedRose result (told self.old).file_faults (told self.new).file_faults }
         ensures never_falls { (told self.old).file_faults ≤ (told self.new).file_faults };
 

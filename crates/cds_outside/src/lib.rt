@@ -1,8 +1,9 @@
-//! The outside: streams that may fail, folders, clocks, connections, doors, links and threads.
+//! The outside: streams that may fail, folders, clocks, connections, doors, links, datagrams and threads.
 #![tactic(auto)]
 
 mod clock;
 mod conn;
+mod datagrams;
 mod door;
 mod exterior;
 mod folder;
@@ -15,6 +16,7 @@ mod trace;
 
 pub use clock::Clock;
 pub use conn::{Conn, Linger};
+pub use datagrams::{DatagramFault, DatagramReply, Datagrams};
 pub use door::Door;
 pub use exterior::{Outside, OutsideFault};
 pub use folder::{Entry, Folder, FolderFault};

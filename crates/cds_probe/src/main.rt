@@ -5,6 +5,7 @@
 
 mod asks;
 mod didl;
+mod discovery;
 mod events;
 mod files;
 mod markup;

@@ -2,7 +2,9 @@
 
 use crate::row::{Pieces, Row, keep};
 use crate::show::Out;
-use crate::{asks, didl, events, files, markup, messages, objects, replies, requests, texts};
+use crate::{
+    asks, didl, discovery, events, files, markup, messages, objects, replies, requests, texts,
+};
 use cds_http::Side;
 use std::alloc::Global;
 
@@ -83,6 +85,17 @@ fn ask_of_control(alloc: Global, row: &Row, out: &mut Out) {
         "action-write" | "answer" | "answer-write" => replies::of_action(alloc, row, out),
         "ask" => asks::written(alloc, row, out),
         "shown" => asks::shown(alloc, row, out),
+        _ => ask_of_discovery(alloc, row, out),
+    }
+}
+
+fn ask_of_discovery(alloc: Global, row: &Row, out: &mut Out) {
+    match row.text(0) {
+        "search" => discovery::searched(alloc, row, out),
+        "found" => discovery::found(alloc, row, out),
+        "location" => discovery::location(alloc, row, out),
+        "device" | "service" => discovery::described(alloc, row, out),
+        "announce" => discovery::announced(alloc, row, out),
         _ => out.put("no such subject"),
     }
 }

@@ -2,6 +2,7 @@
 //! over the streams and the objects that it is given.
 #![tactic(auto)]
 
+mod announcing;
 mod command;
 mod program;
 mod serving;

@@ -2,7 +2,7 @@
 
 ghost use Rattle.std.specs.Prelude.{◌≡◌, ◌⊎◌, ◌≤◌};
 ghost use Rattle.cds_outside.specs.Outside.{Rose};
-ghost use Rattle.cds_serve.specs.Life.{EndsLife};
+ghost use Rattle.cds_serve.specs.Life.{EndsLife, FoldersBack};
 
 use cds_outside::{Door, Folder, NoGate, Outside, Runtime, Sink};
 use cds_serve::serve;
@@ -31,7 +31,7 @@ where
     ensures ends { EndsLife service.now.port service.now.folder.now service.now.requests result
         (record { outside = O.told outside.old; sink = K.told sink.old })
         (record { outside = O.told outside.new; sink = K.told sink.new }) }
-    ensures ended_stay { (O.told outside.new).ended ≡ (O.told outside.old).ended }
+    ensures folders_back { FoldersBack 4 (O.told outside.old).ended (O.told outside.new).ended }
     ensures ended_links_stay { (O.told outside.new).ended_links ≡ (O.told outside.old).ended_links }
     ensures write_fault { result ≡ 3 → Rose (K.told sink.old).faults (K.told sink.new).faults }
     ensures service_fault { result ≡ 7 → Rose (O.told outside.old).faults (O.told outside.new).faults }

@@ -18,7 +18,7 @@ use Rattle.cds_soap.specs.declared.answer.Answer.TheVariants as answer
 use Rattle.cds_criteria.specs.Sorting.{ordered}
 use Rattle.cds_criteria.proofs.Unique.{none_keep}
 use Rattle.cds_store.specs.Views.{IdsFit}
-use Rattle.cds_browse.specs.Paging.{row_named, ids_of, update_of as browse_update, container_update_of, holder_of, most_rows}
+use Rattle.cds_browse.specs.Paging.{row_named, ids_of, most_rows}
 use Rattle.cds_browse.specs.Browsing.{row_answer, target_asked}
 use Rattle.cds_browse.specs.declared.page.Page.{Page}
 use Rattle.cds_browse.specs.declared.error.BrowseError.{BrowseError}
@@ -27,7 +27,7 @@ use Rattle.cds_browse.proofs.Alone.{alone}
 use Rattle.cds_load.specs.declared.exchange.Shown.TheVariants.{Page as PageShown, Fault}
 use Rattle.cds_browse.proofs.Named.{named_by}
 use Rattle.cds_browse.proofs.Pages.{filtered_ascend}
-use Rattle.cds_load.specs.Server.{Moment, page_size, container_update, update_of, metadata_reply, children_reply, reply_to}
+use Rattle.cds_load.specs.Server.{Moment, page_size, update_of, metadata_reply, children_reply, reply_to}
 use Rattle.cds_load.specs.declared.exchange.Ask.{Ask}
 use Rattle.cds_load.specs.declared.exchange.Ask.TheVariants.{Token, Number, Metadata, Children}
 use Rattle.cds_exchange.specs.Asking.{browse_of, action_of}
@@ -53,40 +53,6 @@ named-row : (rows : List ObjectRow) (id : ℕ) → IdsFit rows → id < 2 ^ 32 �
 named-row rows id fit low =
     named_by (decimal id) id rows fit (decimal-read (2 ^ 32) id (omega arith) low) ((bytes_eq-Decides (decimal id) (decimal id)).1 refl)
 
--- what holds of each row holds of one that is found
-found-all : (P : ObjectRow → Type 0) (id : ℕ) (rows : List ObjectRow) (row : ObjectRow) → AllByRecursion P rows → row_of id rows ≡ Some row → P row
-found-all P id [] row all e = absurd (cc)
-found-all P id (other ∷ rows) row all e = by (nat_eq other.id id) e (λ f. found-all P id rows row all.1 f)
-  where
-    by : (b : Bool) → cond b (Some other) (row_of id rows) ≡ Some row → (row_of id rows ≡ Some row → P row) → P row
-    by true f later = let same : other ≡ row = cc in subst P same all.0
-    by false f later = later f
-
--- ---- its update number
-
-tracked : (row : ObjectRow) (t : Option Trackers) → container_update_of (Some (record row { trackers = t })) ≡ container_update (Some (record row { trackers = t }))
-tracked row None = refl
-tracked row (Some t) = refl
-
-told : (o : Option ObjectRow) → container_update_of o ≡ container_update o
-told None = refl
-told (Some row) = tracked row row.trackers
-
-updates : (moment : Moment) (row : ObjectRow) → IsHeld moment.rows row → browse_update moment.number row moment.rows ≡ update_of moment row
-updates moment row held = by (nat_eq row.id 0) refl (is_folder row.content)
-  where
-    parent : (p : Option ℕ) → (row.id ≡ 0 → ⊥) → MatchOption p (row.id ≡ 0) (λ (q : ℕ). (q < row.id) × (is_container_row (row_of q moment.rows) ≡ true)) →
-        container_update_of (holder_of p moment.rows) ≡ container_update (row_of (unwrap_or p 0) moment.rows)
-    parent None other h = absurd (other h)
-    parent (Some q) other h = told (row_of q moment.rows)
-
-    by : (b : Bool) → nat_eq row.id 0 ≡ b → (f : Bool) →
-        cond b moment.number (container_update_of (cond f (Some row) (holder_of row.parent moment.rows)))
-        ≡ cond b moment.number (cond f (container_update (Some row)) (container_update (row_of (unwrap_or row.parent 0) moment.rows)))
-    by true e f = refl
-    by false e true = told (Some row)
-    by false e false = parent row.parent (λ zero. true≢false (sym (ap (λ n. nat_eq n 0) zero) ∙ e)) held
-
 -- ---- its page
 
 map-length : (rows : List ObjectRow) → length (map (λ (r : ObjectRow). r.id) rows) ≡ length rows
@@ -109,9 +75,6 @@ module _ (host : List ℕ) (moment : Moment) (plain : IsPlainMoment moment) wher
   ascend : IdsAscend rows
   ascend = plain.tree.ascending
 
-  held : (id : ℕ) (row : ObjectRow) → row_of id rows ≡ Some row → IsHeld rows row
-  held id row found = found-all (IsHeld rows) id rows row plain.tree.held found
-
   abbrev answered : Result Page BrowseError → Answer
   answered result = page_answer (codes "*") host rows result
 
@@ -120,15 +83,15 @@ module _ (host : List ℕ) (moment : Moment) (plain : IsPlainMoment moment) wher
   kept test = none_keep (filter test rows) (filtered_ascend test rows ascend)
 
   -- a page of rows that match is the page of these rows
-  paged : (test : ObjectRow → Bool) (start total update now : ℕ) (shown : List ObjectRow) → take page_size (drop start (filter test rows)) ≡ shown → update ≡ now →
+  paged : (test : ObjectRow → Bool) (start total update : ℕ) (shown : List ObjectRow) → take page_size (drop start (filter test rows)) ≡ shown →
       answered (Ok (record { ids = ids_of (take (most_rows page_size) (drop start (ordered [] (filter test rows)))); total = total; update = update }))
-      ≡ answer_saying (base_of host) (PageShown shown total now)
-  paged test start total update now shown are same =
+      ≡ answer_saying (base_of host) (PageShown shown total update)
+  paged test start total update shown are =
       let back : rows_with (map (λ (r : ObjectRow). r.id) (take page_size (drop start (filter test rows)))) rows ≡ take page_size (drop start (filter test rows)) =
       found-have rows test start page_size ascend in
       ap (λ (l : List ObjectRow). answered (Ok (record { ids = ids_of (take (most_rows page_size) (drop start l)); total = total; update = update }))) (kept test)
-      ∙ (λ i. answer.Page (didl_text (everything i) (base_of host) (back i)) (map-length (take page_size (drop start (filter test rows))) i) total (same i))
-      ∙ ap (λ (shown : List ObjectRow). answer.Page (didl_text None (base_of host) shown) (length shown) total now) are
+      ∙ (λ i. answer.Page (didl_text (everything i) (base_of host) (back i)) (map-length (take page_size (drop start (filter test rows))) i) total update)
+      ∙ ap (λ (shown : List ObjectRow). answer.Page (didl_text None (base_of host) shown) (length shown) total update) are
 
   -- what a request is answered of an object, where there is one
   abbrev asked-row : BrowseRequest → Option ObjectRow → Result Page BrowseError
@@ -143,10 +106,10 @@ module _ (host : List ℕ) (moment : Moment) (plain : IsPlainMoment moment) wher
       ap (λ total. answered (Ok (record {
         ids = ids_of (take (most_rows page_size) (drop 0 (ordered [] (filter (λ (other : ObjectRow). nat_eq other.id row.id) rows))));
         total = total;
-        update = browse_update moment.number row rows;
+        update = update_of moment row;
       }))) (ap length one)
-      ∙ paged (λ (other : ObjectRow). nat_eq other.id row.id) 0 1 (browse_update moment.number row rows) (update_of moment row) (row ∷ [])
-      (ap (λ (found : List ObjectRow). take page_size (drop 0 found)) one) (updates moment row (held id row e))
+      ∙ paged (λ (other : ObjectRow). nat_eq other.id row.id) 0 1 (update_of moment row) (row ∷ [])
+      (ap (λ (found : List ObjectRow). take page_size (drop 0 found)) one)
 
   children : (id start : ℕ) (o : Option ObjectRow) → row_of id rows ≡ o →
       answered (asked-row (browse_of id (codes "BrowseDirectChildren") start) o) ≡ answer_saying (base_of host) (children_reply moment start o)
@@ -157,13 +120,13 @@ module _ (host : List ℕ) (moment : Moment) (plain : IsPlainMoment moment) wher
           answered (cond f (Ok (record {
             ids = ids_of (take (most_rows page_size) (drop start (ordered [] (filter (is_child_of row.id) rows))));
             total = length (children_of row.id rows);
-            update = browse_update moment.number row rows;
+            update = update_of moment row;
           })) (Err NoContainer))
           ≡ answer_saying (base_of host)
           (cond f (PageShown (take page_size (drop start (children_of row.id rows))) (length (children_of row.id rows)) (update_of moment row)) (Fault 710))
       by true =
-          paged (is_child_of row.id) start (length (children_of row.id rows)) (browse_update moment.number row rows) (update_of moment row)
-          (take page_size (drop start (children_of row.id rows))) refl (updates moment row (held id row e))
+          paged (is_child_of row.id) start (length (children_of row.id rows)) (update_of moment row)
+          (take page_size (drop start (children_of row.id rows))) refl
       by false = refl
 
   abbrev published : Published

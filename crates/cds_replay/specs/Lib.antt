@@ -6,5 +6,6 @@ pub mod Reported
 pub mod Script
 pub mod Sending
 pub mod Session
+pub mod Summing
 pub mod Wire
 pub mod Wired

@@ -10,7 +10,9 @@ mod report;
 mod script;
 mod sent;
 mod session;
+mod summing;
 mod wire;
 
 pub use play::{ReplayError, replay, replay_by};
+pub use summing::summary;
 pub use wire::{Straight, Wire};

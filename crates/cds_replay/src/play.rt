@@ -304,7 +304,7 @@ fn finish<W: Wire, K: Sink>(
 }
 
 /// Writes a text, and returns the stop that it ends with.
-fn write_out<K: Sink>(
+pub fn write_out<K: Sink>(
     sink: &mut K,
     text: &[u8],
     stop: Option<ScriptStop>,

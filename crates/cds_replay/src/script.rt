@@ -258,7 +258,7 @@ fn write_outside(out: &mut String, number: u32) -> Result<Option<ScriptStop>, Me
 }
 
 /// Writes the last line of a script that stops, if it has one. A turn that is refused writes none.
-fn write_stop(out: &mut String, stop: ScriptStop) -> Result<(), Mem>
+pub fn write_stop(out: &mut String, stop: ScriptStop) -> Result<(), Mem>
     ensures { OnOk result (string_bytes out.new ≡ string_bytes out.old ++ stop_text stop) }
 {
     match stop {

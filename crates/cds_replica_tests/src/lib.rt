@@ -3,6 +3,8 @@
 #![tactic(auto)]
 
 #[cfg(test)]
+mod announce_tests;
+#[cfg(test)]
 mod made;
 #[cfg(test)]
 mod program_tests;

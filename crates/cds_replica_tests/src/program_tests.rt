@@ -34,7 +34,11 @@ struct CommandCase {
 const LISTING: &str =
     "<container id=\"0\" parentID=\"-1\" restricted=\"1\" searchable=\"1\" childCount=\"0\"><dc:title>root</dc:title><upnp:class>object.container</upnp:class><upnp:objectUpdateID>0</upnp:objectUpdateID><upnp:containerUpdateID>0</upnp:containerUpdateID><upnp:totalDeletedChildCount>0</upnp:totalDeletedChildCount></container>\n";
 
-const CASES: [CommandCase; 14] = [
+/// How a generated script begins, up to its first track.
+const GENERATED: &str =
+    "load\nread\nread\nread\nread\nread\nread\nsubscribe\naccept\ndeliver 1\nfolder f0\n";
+
+const CASES: [CommandCase; 20] = [
     CommandCase {
         name: "replay, the first read",
         words: &["replay"],
@@ -70,6 +74,78 @@ const CASES: [CommandCase; 14] = [
         status: 3,
         faults: 0,
         text: "",
+    },
+    CommandCase {
+        name: "summary, the first read",
+        words: &["summary"],
+        input: "ask\n",
+        reads: &[1],
+        writes: &[],
+        calls: &[],
+        folders: &[],
+        status: 2,
+        faults: 0,
+        text: "",
+    },
+    CommandCase {
+        name: "summary, the second read",
+        words: &["summary"],
+        input: "ask\n",
+        reads: &[2],
+        writes: &[],
+        calls: &[],
+        folders: &[],
+        status: 2,
+        faults: 0,
+        text: "",
+    },
+    CommandCase {
+        name: "summary, the first write",
+        words: &["summary"],
+        input: "ask\n",
+        reads: &[],
+        writes: &[1],
+        calls: &[],
+        folders: &[],
+        status: 3,
+        faults: 0,
+        text: "",
+    },
+    CommandCase {
+        name: "summary, the first write, of the last line",
+        words: &["summary"],
+        input: "ask\nasks\n",
+        reads: &[],
+        writes: &[1],
+        calls: &[],
+        folders: &[],
+        status: 3,
+        faults: 0,
+        text: "",
+    },
+    CommandCase {
+        name: "generate, the first write",
+        words: &["generate", "7", "1"],
+        input: "",
+        reads: &[],
+        writes: &[1],
+        calls: &[],
+        folders: &[],
+        status: 3,
+        faults: 0,
+        text: "",
+    },
+    CommandCase {
+        name: "generate, the third write",
+        words: &["generate", "7", "1"],
+        input: "",
+        reads: &[],
+        writes: &[3],
+        calls: &[],
+        folders: &[],
+        status: 3,
+        faults: 0,
+        text: GENERATED,
     },
     CommandCase {
         name: "check, the second read",
@@ -206,7 +282,7 @@ const CASES: [CommandCase; 14] = [
 ];
 
 /// Makes the words of a command line.
-fn words_of<R: Abort>(rt: &R, alloc: Global, words: &[&str]) -> Words {
+pub fn words_of<R: Abort>(rt: &R, alloc: Global, words: &[&str]) -> Words {
     let mut list = Words::new(alloc);
     for word in words {
         let word = Text::read(alloc, word).expect(rt, MEMORY);
@@ -239,15 +315,9 @@ fn folder_of<R: Abort>(rt: &R, alloc: Global, folders: &[&str], fails: &[u32]) -
 
 /// Makes an outside's objects: that folder alone.
 fn objects_of<R: Abort>(rt: &R, alloc: Global, folder: MemFolder) -> MemObjects<R> {
-    let mut folders = Sequence::new(alloc);
-    folders.push(folder).expect(rt, MEMORY);
-    MemObjects {
-        folders,
-        links: Sequence::new(alloc),
-        clocks: Sequence::new(alloc),
-        doors: Sequence::new(alloc),
-        spawners: Sequence::new(alloc),
-    }
+    let mut objects = MemObjects::new(alloc);
+    objects.folders.push(folder).expect(rt, MEMORY);
+    objects
 }
 
 /// Returns the status of the case's command with the case's input.

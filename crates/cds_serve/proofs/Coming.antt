@@ -194,7 +194,8 @@ reads-as bytes left P Q f r = record { came = r.came; piece = r.piece; rest = r.
 -- what came of a connection that did not fail may be the last piece
 pub no-failure : (request : Request) (piece : List ℕ) → ((old new : ℕ) → BrokenRose request old new) → IsLastIn request piece
 no-failure (request.Needing m) piece rose = tt
-no-failure (request.Free status) piece rose = tt
+no-failure (request.Fetching asked) piece rose = tt
+no-failure (request.Free answer) piece rose = tt
 no-failure request.Broken piece rose = absurd (never (rose 1 0))
   where
     never : Rose 1 0 → ⊥

@@ -13,6 +13,7 @@ use Rattle.cds_store.specs.contracts.store.Store as Store
 use Rattle.cds_gena.specs.contracts.book.Book as Book
 use Rattle.cds_moderator.specs.contracts.moderator.Moderator as Moderator
 use Rattle.cds_server.specs.contracts.server.Server as Server
+use Rattle.cds_ssdp.specs.contracts.device.Device as Device
 use Rattle.cds_serve.specs.contracts.served.Served as Served
 use Rattle.cds_serve.specs.contracts.notifier.Notified as Notified
 use Rattle.cds_serve.specs.contracts.notifier.Notifier as Notifier
@@ -89,8 +90,11 @@ scanner-send R F T G r f t g = search shares depth 60 fits 20000
 pub scanned-send : (F : RattleType) → IsSend F → IsSend (Scanned.the_row F)
 scanned-send F f = search shares depth 60 fits 20000
 
-pub worker-send : (R D T L G : RattleType) → IsSend R → IsSend D → IsSend T → IsSend L → IsSend G → IsSend (Worker.the_row R D T L G)
-worker-send R D T L G r d t l g = search shares depth 60 fits 20000
+device-send : IsSend Device.the_row
+device-send = search (text-send, crosses, maps, sendable) depth 60
 
-pub worked-send : (D : RattleType) → IsSend D → IsSend (Worked.the_row D)
-worked-send D d = search shares depth 60 fits 20000
+pub worker-send : (R D T L G F : RattleType) → IsSend R → IsSend D → IsSend T → IsSend L → IsSend G → IsSend F → IsSend (Worker.the_row R D T L G F)
+worker-send R D T L G F r d t l g f = search (device-send, shares) depth 60 fits 20000
+
+pub worked-send : (D F : RattleType) → IsSend D → IsSend F → IsSend (Worked.the_row D F)
+worked-send D F d f = search shares depth 60 fits 20000

@@ -12,3 +12,4 @@ pub mod Named
 pub mod Rounds
 pub mod Scans
 pub mod Sends
+pub mod Fetches

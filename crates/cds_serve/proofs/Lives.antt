@@ -4,13 +4,14 @@ use Rattle.std.proofs.lemmas.Bool.Decides.{nat_tests}
 use Rattle.std.proofs.lemmas.List.Sums.{sum_by-cons}
 use Rattle.std.specs.Prelude.{⊤}
 use Rattle.std.specs.List.{AllByRecursion}
-use Rattle.cds_outside.specs.Asked.{Asked, ForClock, ForLink, OutsideRose}
+use Rattle.cds_outside.specs.Asked.{Asked, ForClock, ForFolder, ForLink, OutsideRose}
+use Rattle.cds_outside.specs.Entries.{FolderTold}
 use Rattle.cds_outside.specs.declared.exterior.OutsideFault.{OutsideFault}
 use Rattle.cds_outside.specs.declared.exterior.OutsideFault.TheVariants as outside_fault
 use Rattle.cds_outside.specs.Outside.{Told, HoldsPart, Rose, raised}
 use Rattle.cds_outside.specs.Told.{ClockTold, DoorTold, IsFresh, OutsideTold, and_moment, asked_then}
 use Rattle.cds_serve.specs.Told.{IsMoment}
-use Rattle.cds_serve.specs.Life.{AllAccepted, AreBootWords, AreCounts, AreFirstWords, Asks, AsksFor, Counts, EndsLife, GaveOnce, IsCaused, KeepsEnded, OfFirst, Outer, Stops, Takes, WritesLife, WritesLine, fault_of, life_asks, life_text, doors_back, served_line, serving_line, share_of, status_of, worker_asks}
+use Rattle.cds_serve.specs.Life.{AllAccepted, AreBootWords, AreCounts, AreFirstWords, Asks, AsksFor, Counts, EndsLife, FoldersBack, GaveOnce, IsCaused, KeepsEnded, OfFirst, Outer, StaysEnded, Stops, Takes, WritesLife, WritesLine, fault_of, life_asks, life_text, doors_back, served_line, serving_line, share_of, status_of, worker_asks}
 use Rattle.cds_serve.specs.declared.fault.Fault.{Fault}
 use Rattle.cds_serve.specs.declared.fault.Fault.TheVariants as fault
 use Rattle.cds_serve.proofs.Rounds.{rose-more, rose-on}
@@ -213,20 +214,20 @@ pub takes-as : {A : Type 0} (r : Result A Fault) (xs ys : List Asked) (old new :
 takes-as r xs ys old new door after same a = subst (λ l. Takes r l old new door after) same a
 
 -- so many workers, and as many more
-pub workers-more : (m n : ℕ) → worker_asks m ++ worker_asks n ≡ worker_asks (m + n)
-workers-more zero n = ap worker_asks (zero-plus n)
+pub workers-more : (path : List ℕ) (m n : ℕ) → worker_asks path m ++ worker_asks path n ≡ worker_asks path (m + n)
+workers-more path zero n = ap (worker_asks path) (zero-plus n)
   where
     zero-plus : (n : ℕ) → n ≡ 0 + n
     zero-plus n = omega arith
-workers-more (suc m) n = ap (λ l. ForClock ∷ ForLink ∷ l) (workers-more m n) ∙ ap worker_asks (one-up m n)
+workers-more path (suc m) n = ap (λ l. ForClock ∷ ForLink ∷ ForFolder path ∷ l) (workers-more path m n) ∙ ap (worker_asks path) (one-up m n)
   where
     one-up : (m n : ℕ) → suc (m + n) ≡ suc m + n
     one-up m n = omega arith
 
 -- those of the first so many, of the next one, and of the others
-pub worker-next : (k : ℕ) → k < 4 → (worker_asks k ++ (ForClock ∷ ForLink ∷ [])) ++ worker_asks (3 - k) ≡ worker_asks 4
-worker-next k within =
-    ap (λ l. l ++ worker_asks (3 - k)) (workers-more k 1) ∙ workers-more (k + 1) (3 - k) ∙ ap worker_asks (four k within)
+pub worker-next : (path : List ℕ) (k : ℕ) → k < 4 → (worker_asks path k ++ worker_asks path 1) ++ worker_asks path (3 - k) ≡ worker_asks path 4
+worker-next path k within =
+    ap (λ l. l ++ worker_asks path (3 - k)) (workers-more path k 1) ∙ workers-more path (k + 1) (3 - k) ∙ ap (worker_asks path) (four k within)
   where
     four : (k : ℕ) → k < 4 → (k + 1) + (3 - k) ≡ 4
     four k within = omega (arith, within)
@@ -269,13 +270,13 @@ pub all-from : {A : Type 0} (P : A → Type 0) (all xs ys : List A) (x : A) → 
 all-from P all xs ys x is h = all-at P xs ys x (subst (AllByRecursion P) (sym is) h)
 
 -- the workers that were taken so far, and one more
-pub takes-next : {A : Type 0} (k : ℕ) (n : ℕ) (v : A) (old mid new : OutsideTold) (door between after : DoorTold) → n ≡ k + 1
-    → Takes {A = ⊤} (Ok tt) (worker_asks k) old mid door between → Takes {A = A} (Ok v) (ForClock ∷ ForLink ∷ []) mid new between after
-    → Takes {A = ⊤} (Ok tt) (worker_asks n) old new door after
-takes-next k n v old mid new door between after is one next =
-    takes-as (Ok tt) (worker_asks k ++ (ForClock ∷ ForLink ∷ [])) (worker_asks n) old new door after
-    (workers-more k 1 ∙ ap worker_asks (sym is))
-    (takes-ok v tt _ old new door after (takes-then (Ok v) tt (worker_asks k) (ForClock ∷ ForLink ∷ []) old mid new door between after one next))
+pub takes-next : {A : Type 0} (path : List ℕ) (k : ℕ) (n : ℕ) (v : A) (old mid new : OutsideTold) (door between after : DoorTold) → n ≡ k + 1
+    → Takes {A = ⊤} (Ok tt) (worker_asks path k) old mid door between → Takes {A = A} (Ok v) (worker_asks path 1) mid new between after
+    → Takes {A = ⊤} (Ok tt) (worker_asks path n) old new door after
+takes-next path k n v old mid new door between after is one next =
+    takes-as (Ok tt) (worker_asks path k ++ worker_asks path 1) (worker_asks path n) old new door after
+    (workers-more path k 1 ∙ ap (worker_asks path) (sym is))
+    (takes-ok v tt _ old new door after (takes-then (Ok v) tt (worker_asks path k) (worker_asks path 1) old mid new door between after one next))
 
 -- ---- counts that come back
 
@@ -522,18 +523,49 @@ shares-next requests n = ap (shares_below requests) (one-up n)
 
 -- ---- what came back
 
-pub keeps-on : (old mid new : OutsideTold) → KeepsEnded old mid → KeepsEnded mid new → KeepsEnded old new
+pub keeps-on : (old mid new : OutsideTold) → StaysEnded old mid → StaysEnded mid new → StaysEnded old new
 keeps-on old mid new one other = (other.0 ∙ one.0, other.1 ∙ one.1)
 
-pub keeps : (old new same : OutsideTold) → new ≡ same → same.ended ≡ old.ended → same.ended_links ≡ old.ended_links → KeepsEnded old new
+pub keeps : (old new same : OutsideTold) → new ≡ same → same.ended ≡ old.ended → same.ended_links ≡ old.ended_links → StaysEnded old new
 keeps old new same is ended links = (ap (λ (t : OutsideTold). t.ended) is ∙ ended, ap (λ (t : OutsideTold). t.ended_links) is ∙ links)
 
 -- nothing came back where the outside was asked; then a door did
-pub keeps-asked : (old new : OutsideTold) → new ≡ asked_then old new → KeepsEnded old new
+pub keeps-asked : (old new : OutsideTold) → new ≡ asked_then old new → StaysEnded old new
 keeps-asked old new is = keeps old new (asked_then old new) is refl refl
 
-pub keeps-doors : (old new : OutsideTold) → new ≡ doors_back old new → KeepsEnded old new
-keeps-doors old new is = keeps old new (doors_back old new) is refl refl
+pub keeps-door : (old new : OutsideTold) → new ≡ record old { faults = new.faults; connections = new.connections } → StaysEnded old new
+keeps-door old new is = keeps old new (record old { faults = new.faults; connections = new.connections }) is refl refl
+
+-- no folder came back
+pub no-folders : (n : ℕ) (old new : Option (List FolderTold)) → new ≡ old → FoldersBack n old new
+no-folders n old new same list told = ([], omega arith, same ∙ told ∙ ap Some (sym (append-nil list)))
+
+pub more-folders : (n m : ℕ) (old new : Option (List FolderTold)) → n ≤ m → FoldersBack n old new → FoldersBack m old new
+more-folders n m old new less back list told =
+    let b = back list told in
+    (b.0, le_trans b.1 less, b.2)
+
+-- one folder more came back
+pub folder-more : (n m : ℕ) (old mid new : Option (List FolderTold)) (folder : FolderTold) → m ≡ n + 1 → FoldersBack n old mid
+    → Told mid (λ list. new ≡ Some (list ++ folder ∷ [])) → FoldersBack m old new
+folder-more n m old mid new folder is back one list told =
+    let b = back list told in
+    let longer : length (b.0 ++ folder ∷ []) ≡ length b.0 + 1 = length-append b.0 (folder ∷ []) in (
+      b.0 ++ folder ∷ [],
+      omega (arith, is, b.1, longer),
+      one (list ++ b.0) b.2 ∙ ap Some (append_assoc list b.0 (folder ∷ [])),
+    )
+
+-- what came back of the whole: of folders no more than the workers had
+pub keeps-all : (o0 o1 o2 o3 : OutsideTold) → StaysEnded o0 o1 → o2 ≡ doors_back o1 o2 → FoldersBack 4 o1.ended o2.ended → StaysEnded o2 o3
+    → KeepsEnded o0 o3
+keeps-all o0 o1 o2 o3 first doors folders last = (
+  (λ list told. let b = folders list (first.0 ∙ told) in (b.0, b.1, last.0 ∙ b.2)),
+  last.1 ∙ ap (λ (t : OutsideTold). t.ended_links) doors ∙ first.1,
+)
+
+pub keeps-none : (old new : OutsideTold) → StaysEnded old new → KeepsEnded old new
+keeps-none old new stays = (no-folders 4 old.ended new.ended stays.0, stays.1)
 
 -- two asks, one after the other
 pub asked-twice : (old mid new : OutsideTold) → mid ≡ asked_then old mid → new ≡ asked_then mid new → new ≡ asked_then old new
@@ -553,6 +585,15 @@ pub joined-more : (total served sum share whole : ℕ) (old mid new before fault
 joined-more total served sum share whole old mid new before faults (inl all) (inl its) none is up on sums = inl (omega (arith, all, its, sums))
 joined-more total served sum share whole old mid new before faults (inl all) (inr rose) none is up on sums = inr (rose-back old mid new before faults none rose is up)
 joined-more total served sum share whole old mid new before faults (inr rose) its none is up on sums = inr (rose-more old mid new rose on)
+
+-- as many connections were served, although a folder came back
+pub served-still : (total sum old mid new : ℕ) → (total ≡ sum) ⊎ Rose old mid → mid ≤ new → (total ≡ sum) ⊎ Rose old new
+served-still total sum old mid new (inl all) on = inl all
+served-still total sum old mid new (inr rose) on = inr (rose-more old mid new rose on)
+
+-- doors and folders came back, so that this many folders had
+abbrev pub doors-home : OutsideTold → OutsideTold → Option (List FolderTold) → OutsideTold
+doors-home old new ended = record old { faults = new.faults; ended = ended; connections = new.connections }
 
 -- the connections of one door more
 pub gave-more : (old mid new total served before gave : ℕ) → ((n : ℕ) → raised mid n ≡ raised old (total + n)) → before ≡ 0
@@ -578,6 +619,15 @@ pub front-sum : {A : Type 0} (f : A → ℕ) (n : ℕ) (xs : List A) → sum_by 
 front-sum f zero xs = let none : sum_by f [] ≡ 0 = refl in omega (arith, none)
 front-sum f (suc n) [] = omega arith
 front-sum f (suc n) (x ∷ xs) = let h = front-sum f n xs in omega (arith, h, sum_by-cons f x xs, sum_by-cons f x (take n xs))
+
+-- no more than four of four
+pub front-few : {A : Type 0} (xs : List A) (n : ℕ) (ys : List A) → ys ≡ take n xs → length xs ≡ 4 → length ys ≤ 4
+front-few xs n ys is four = omega (arith, ap length is, length-take-most n xs, four)
+  where
+    length-take-most : {A : Type 0} (n : ℕ) (xs : List A) → length (take n xs) ≤ length xs
+    length-take-most zero xs = omega arith
+    length-take-most (suc n) [] = omega arith
+    length-take-most (suc n) (x ∷ xs) = let h = length-take-most n xs in omega (arith, h)
 
 pub six-jobs : (k n : ℕ) → k ≡ 4 → k + 2 + n ≡ 6 + n
 six-jobs k n four = omega (arith, four)

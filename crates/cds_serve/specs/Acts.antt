@@ -1,5 +1,5 @@
 -- The jobs on a shared server, each done in one turn: the commands that a job appends and its answer.
-use Rattle.std.specs.Prelude.{◌≡◌, ℕ, List, [], ◌∷◌, Result, Ok, Err, IfSome, IsErr, ⊤}
+use Rattle.std.specs.Prelude.{◌≡◌, ℕ, List, [], ◌∷◌, Option, Result, Ok, Err, IfSome, IsErr, ⊤}
 use Rattle.cds_outside.specs.declared.link.LinkRequest.{LinkRequest}
 use Rattle.cds_base.specs.declared.mem.Mem.{Mem}
 use Rattle.cds_catalog.specs.Library.{map_of}
@@ -12,14 +12,18 @@ use Rattle.cds_store.specs.declared.error.ApplyError.{ApplyError}
 use Rattle.cds_store.specs.declared.span.Span.{Span}
 use Rattle.cds_server.specs.Asking.{Fits, IsAction, command_in, note_in, reply_in, said}
 use Rattle.cds_server.specs.Due.{AllGoOut, due}
-use Rattle.cds_control.specs.Replies.{empty_reply}
+use Rattle.cds_server.specs.Media.{media_by}
 use Rattle.cds_server.specs.Outcome.{GoesOut}
 use Rattle.cds_server.specs.Replies.{IsReply, command_at, note_at}
 use Rattle.cds_server.specs.declared.made.Answered.{Answered}
+use Rattle.cds_server.specs.declared.media.Media.{Media}
+use Rattle.cds_ssdp.specs.declared.device.Device.{Device}
 use Rattle.cds_server.specs.declared.asking.Asking.{Asking}
 use Rattle.cds_serve.specs.declared.acts.Look.{Look}
 use Rattle.cds_serve.specs.declared.acts.Reply.{Reply}
 use Rattle.cds_serve.specs.Answered.{no_memory_reply}
+use Rattle.cds_serve.specs.Described.{free_reply}
+use Rattle.cds_serve.specs.declared.target.FreeAnswer.{FreeAnswer}
 use Rattle.cds_serve.specs.Sent.{first_requests}
 use Rattle.cds_serve.specs.Served.{added}
 
@@ -61,9 +65,14 @@ reply_requests (Ok reply) = first_requests reply.note
 reply_requests (Err memory) = []
 
 -- the text that is written if no turn is taken
-abbrev pub free_text : {A : Type 0} → ℕ → Result A Mem → List ℕ
-free_text status (Ok value) = empty_reply status
-free_text status (Err memory) = no_memory_reply
+abbrev pub free_text : {A : Type 0} → Device → FreeAnswer → Result A Mem → List ℕ
+free_text device answer (Ok value) = free_reply device answer
+free_text device answer (Err memory) = no_memory_reply
+
+-- The server names the file of the track with an id, by the list of commands found.
+abbrev pub IsFileNamed : Start → List Command → ℕ → Result (Option Media) Mem → Type 0
+IsFileNamed start found id (Ok media) = media ≡ media_by start found id
+IsFileNamed start found id (Err memory) = ⊤
 
 -- a tick: the notes that are due, and whether the server was stopped
 abbrev pub look_adds : ℕ → Result Look Mem → List Command

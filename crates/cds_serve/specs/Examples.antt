@@ -5,8 +5,13 @@ use Rattle.cds_http.specs.Known.{Needs, Refused}
 use Rattle.cds_commands.specs.Names.{name_of}
 use Rattle.cds_gena.specs.SidText.{sid_text}
 use Rattle.cds_server.specs.Route.{status_at}
-use Rattle.cds_serve.specs.Answered.{free_status}
+use Rattle.cds_serve.specs.Answered.{free_answer}
+use Rattle.cds_http.specs.declared.message.Start.TheVariants as line
 use Rattle.cds_serve.specs.Life.{first_word, life_text, second_word, share_of}
+use Rattle.cds_serve.specs.Target.{target_of}
+use Rattle.cds_serve.specs.declared.target.Document.TheVariants.{Device, Service}
+use Rattle.cds_serve.specs.declared.target.FreeAnswer.TheVariants.{Document, Status}
+use Rattle.cds_serve.specs.declared.target.Target.TheVariants.{File, Free, Server}
 
 -- what is evaluated:
 -- - the lines of a server that served two connections and scanned once;
@@ -39,7 +44,23 @@ RequestsAreFree =
     × (status_at (codes "/event") (codes "subscribe") ≡ Some 405)
     × (status_at (codes "/control?x") (codes "POST") ≡ Some 404)
     × (status_at (codes "/") (codes "GET") ≡ Some 404)
-    × (free_status Needs ≡ Some 400)
-    × (free_status (Refused BadHead) ≡ Some 400)
-    × (free_status (Refused HeadTooLong) ≡ Some 400)
-    × (free_status (Refused TooLong) ≡ Some 413)
+    × (free_answer Needs ≡ Some (Status 400))
+    × (free_answer (Refused BadHead) ≡ Some (Status 400))
+    × (free_answer (Refused HeadTooLong) ≡ Some (Status 400))
+    × (free_answer (Refused TooLong) ≡ Some (Status 413))
+
+-- where messages go by their targets; an id is a number in plain decimal below 2^32
+abbrev pub TargetsAreRead : Type 0
+TargetsAreRead =
+    (target_of (line.Request (codes "GET") (codes "/media/7")) ≡ File 7)
+    × (target_of (line.Request (codes "POST") (codes "/media/7")) ≡ File 7)
+    × (target_of (line.Request (codes "GET") (codes "/media/0")) ≡ File 0)
+    × (target_of (line.Request (codes "GET") (codes "/media/4294967295")) ≡ File 4294967295)
+    × (target_of (line.Request (codes "GET") (codes "/media/4294967296")) ≡ Free (Status 404))
+    × (target_of (line.Request (codes "GET") (codes "/media/007")) ≡ Free (Status 404))
+    × (target_of (line.Request (codes "GET") (codes "/media/")) ≡ Free (Status 404))
+    × (target_of (line.Request (codes "GET") (codes "/media/7?x")) ≡ Free (Status 404))
+    × (target_of (line.Request (codes "GET") (codes "/device.xml")) ≡ Free (Document Device))
+    × (target_of (line.Request (codes "GET") (codes "/cds.xml")) ≡ Free (Document Service))
+    × (target_of (line.Request (codes "HEAD") (codes "/device.xml")) ≡ Free (Status 405))
+    × (target_of (line.Request (codes "POST") (codes "/control")) ≡ Server)

@@ -1,7 +1,9 @@
 pub mod Acts
 pub mod Answered
 pub mod Counted
+pub mod Described
 pub mod Examples
+pub mod Fetched
 pub mod Jobs
 pub mod Laws
 pub mod Life
@@ -10,4 +12,5 @@ pub mod Requested
 pub mod Scanned
 pub mod Sent
 pub mod Served
+pub mod Target
 pub mod Told

@@ -1,7 +1,8 @@
 -- A server that listens at a port, from its start to its end (this project's profile).
-use Rattle.std.specs.Prelude.{◌≡◌, ◌⊎◌, ◌+◌, ◌*◌, ◌/◌, ◌%◌, ◌^◌, ◌≤◌, ◌<◌, ℕ, codes, nat_lt, if◌then◌else◌, slice_index, List, [], ◌∷◌, ◌++◌, take, zero, suc, Option, Some, Result, Ok, Err, ⊤}
+use Rattle.std.specs.Prelude.{◌≡◌, ◌⊎◌, ◌+◌, ◌*◌, ◌/◌, ◌%◌, ◌^◌, ◌≤◌, ◌<◌, ℕ, codes, nat_lt, if◌then◌else◌, slice_index, List, [], ◌∷◌, ◌++◌, length, take, zero, suc, Option, Some, Result, Ok, Err, ⊤}
 use Rattle.std.specs.Fmt.{decimal}
 use Rattle.cds_outside.specs.Asked.{Asked, ForClock, ForDoor, ForFolder, ForLink, ForSpawner}
+use Rattle.cds_outside.specs.Entries.{FolderTold}
 use Rattle.cds_outside.specs.Outside.{HoldsPart, Rose, SinkTold, Told, raised}
 use Rattle.cds_outside.specs.declared.exterior.OutsideFault.{OutsideFault}
 use Rattle.cds_outside.specs.declared.exterior.OutsideFault.TheVariants as outside_fault
@@ -43,13 +44,16 @@ life_text port requests counts = serving_line port ++ served_line requests count
 
 -- ---- what the outside is asked for
 
--- a door, a spawner and a folder; a clock and a link for each of four workers, a clock for the scanner, and both for the notifier
+-- what n workers are given: each a clock, a link and a folder
+abbrev pub worker_asks : List ℕ → ℕ → List Asked
+worker_asks path zero = []
+worker_asks path (suc workers) = ForClock ∷ ForLink ∷ ForFolder path ∷ worker_asks path workers
+
+-- A door, a spawner, and the scanner's folder. Then what four workers are given. Then a clock for the scanner, and a clock and a link
+-- for the notifier.
 abbrev pub life_asks : ℕ → List ℕ → List Asked
 life_asks port path =
-    ForDoor port ∷ ForSpawner ∷ ForFolder path
-    ∷ ForClock ∷ ForLink ∷ ForClock ∷ ForLink ∷ ForClock ∷ ForLink ∷ ForClock ∷ ForLink
-    ∷ ForClock
-    ∷ ForClock ∷ ForLink ∷ []
+    ForDoor port ∷ ForSpawner ∷ ForFolder path ∷ worker_asks path 4 ++ ForClock ∷ ForClock ∷ ForLink ∷ []
 
 -- ---- the boot words
 
@@ -177,11 +181,6 @@ abbrev pub WritesLine : {A : Type 0} → Result A Fault → List ℕ → Option 
 WritesLine (Ok value) line before after = Told before (λ held. after ≡ Some (held ++ line))
 WritesLine (Err cause) line before after = Told before (λ held. HoldsPart held line after)
 
--- what n workers are given
-abbrev pub worker_asks : ℕ → List Asked
-worker_asks zero = []
-worker_asks (suc workers) = ForClock ∷ ForLink ∷ worker_asks workers
-
 -- a fault of the outside, as one of the server
 abbrev pub fault_of : OutsideFault → Fault
 fault_of outside_fault.Failed = fault.Outside
@@ -205,13 +204,21 @@ pub record Takes {A : Type 0} (result : Result A Fault) (asks : List Asked) (old
 
 -- ---- the whole
 
--- Doors came back to the outside and nothing else did. Its counts of faults and of connections may rise.
+-- Doors and folders came back to the outside and nothing else did. Its counts of faults and of connections may rise.
 abbrev pub doors_back : OutsideTold → OutsideTold → OutsideTold
-doors_back old new = record old { faults = new.faults; connections = new.connections }
+doors_back old new = record old { faults = new.faults; ended = new.ended; connections = new.connections }
 
--- The folders and the links that came back are the same as before.
+-- Nothing came back of folders and links.
+abbrev pub StaysEnded : OutsideTold → OutsideTold → Type 0
+StaysEnded old new = (new.ended ≡ old.ended) × (new.ended_links ≡ old.ended_links)
+
+-- No more than n folders came back.
+abbrev pub FoldersBack : ℕ → Option (List FolderTold) → Option (List FolderTold) → Type 0
+FoldersBack n old new = Told old (λ list. (folders : List FolderTold) × (length folders ≤ n) × (new ≡ Some (list ++ folders)))
+
+-- The folders of the four workers may have come back, and no other folder. The links that came back are the same as before.
 abbrev pub KeepsEnded : OutsideTold → OutsideTold → Type 0
-KeepsEnded old new = (new.ended ≡ old.ended) × (new.ended_links ≡ old.ended_links)
+KeepsEnded old new = FoldersBack 4 old.ended new.ended × (new.ended_links ≡ old.ended_links)
 
 -- The status and its cause:
 -- - 0: the server served to its end

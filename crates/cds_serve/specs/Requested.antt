@@ -9,7 +9,7 @@ use Rattle.cds_http.specs.declared.reader.MessageReader.{MessageReader}
 use Rattle.cds_http.specs.Known.{Known, Needs, Refused}
 use Rattle.cds_http.specs.Decided.{Decides}
 use Rattle.cds_http.specs.Reading.{IsWhole, Stands}
-use Rattle.cds_serve.specs.Answered.{NeedsTurn, ReadsFrom, free_status}
+use Rattle.cds_serve.specs.Answered.{NeedsTurn, ReadsFrom, file_asked, free_answer}
 use Rattle.cds_serve.specs.declared.request.Filled.{Filled}
 use Rattle.cds_serve.specs.declared.request.Filled.TheVariants as filled
 use Rattle.cds_serve.specs.declared.request.Request.{Request}
@@ -17,15 +17,17 @@ use Rattle.cds_serve.specs.declared.request.Request.TheVariants as request
 
 -- The request comes from bytes that say this.
 abbrev pub IsRequest : Known Message → Request → Type 0
-IsRequest known (request.Needing m) = NeedsTurn m known
-IsRequest known (request.Free status) = free_status known ≡ Some status
+IsRequest known (request.Needing m) = NeedsTurn m known × (file_asked m ≡ None)
+IsRequest known (request.Fetching asked) = NeedsTurn asked.message known × (file_asked asked.message ≡ Some asked.id)
+IsRequest known (request.Free answer) = free_answer known ≡ Some answer
 IsRequest known request.Broken = ⊤
 IsRequest known request.Starved = ⊤
 
 -- A connection that failed counts a fault.
 abbrev pub BrokenRose : Request → ℕ → ℕ → Type 0
 BrokenRose (request.Needing m) old new = ⊤
-BrokenRose (request.Free status) old new = ⊤
+BrokenRose (request.Fetching asked) old new = ⊤
+BrokenRose (request.Free answer) old new = ⊤
 BrokenRose request.Broken old new = Rose old new
 BrokenRose request.Starved old new = ⊤
 
@@ -38,7 +40,8 @@ FilledRose (Some filled.Broken) old new = Rose old new
 -- A connection that failed has no last piece.
 abbrev pub IsLastIn : Request → List ℕ → Type 0
 IsLastIn (request.Needing m) piece = ⊤
-IsLastIn (request.Free status) piece = ⊤
+IsLastIn (request.Fetching asked) piece = ⊤
+IsLastIn (request.Free answer) piece = ⊤
 IsLastIn request.Broken piece = piece ≡ []
 IsLastIn request.Starved piece = ⊤
 

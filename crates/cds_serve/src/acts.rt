@@ -7,7 +7,7 @@ ghost use Rattle.cds_serve.specs.Served.{added};
 use crate::served::Served;
 use cds_base::{Bytes, Mem};
 use cds_scan::Scan;
-use cds_server::{Answered, Asking, FirstNote, Notes};
+use cds_server::{Answered, Asking, FirstNote, Media, Notes};
 use cds_store::{ApplyError, Span};
 use cds_turn::Act;
 use std::alloc::Global;
@@ -61,6 +61,30 @@ impl<'a> Act<Served> for Handle<'a> {
             }
             Err(Mem) => (Err(Mem), 0),
         }
+    }
+}
+
+/// Has the server name the file of the track with an id.
+#[derive(Clone, Copy)]
+pub(crate) struct Find {
+    pub alloc: Global,
+    pub id: u32,
+}
+
+impl Act<Served> for Find {
+    ghost use Rattle.std.specs.Prelude.{[], ⊤};
+    ghost use Rattle.cds_serve.specs.Acts.{IsFileNamed};
+
+    type Out = Result<Option<Media>, Mem>;
+
+    ghost adds = { λ _ _ _ _. [] };
+
+    ghost answers = { λ act start found answer. IsFileNamed start found act.id answer };
+
+    ghost does = { λ _ _ _ _. ⊤ };
+
+    fn act(self, served: &mut Served) -> (Result<Option<Media>, Mem>, u64) {
+        (served.media(self.alloc, self.id), 0)
     }
 }
 

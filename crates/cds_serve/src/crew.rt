@@ -7,12 +7,15 @@ ghost use Rattle.std.specs.List.{AllByRecursion, count_by};
 ghost use Rattle.cds_outside.specs.Outside.{Rose, raised};
 ghost use Rattle.cds_outside.specs.Told.{unasked_door};
 ghost use Rattle.cds_commands.specs.Commands.{Command, Stops};
+ghost use Rattle.cds_commands.specs.Names.{names_of};
+ghost use Rattle.cds_server.specs.Published.{device_name};
 ghost use Rattle.cds_server.specs.Serving.{Serving, StandsFor};
 ghost use Rattle.cds_turn.specs.Turn.{IsSeatOf, own_by, passes_of, seat_told, seats_of, seen_by, start_of};
 ghost use Rattle.cds_serve.specs.Jobs.{FollowAnswers, FollowScans, FollowTicks, HasSeenAll, IsHired};
-ghost use Rattle.cds_serve.specs.Life.{AreCounts, AreFirstWords, IsCaused, IsOpenedAt, doors_back, OfFirst, share_of, start_with};
+ghost use Rattle.cds_serve.specs.Life.{AreCounts, AreFirstWords, FoldersBack, IsCaused, IsOpenedAt, doors_back, OfFirst, share_of, start_with};
 
 use crate::acts::{IsStopped, Stop};
+use crate::documents::own_device;
 use crate::fault::Fault;
 use crate::means::{Ends, Means};
 use crate::notifier::{Notified, Notifier};
@@ -26,6 +29,7 @@ use std::alloc::Global;
 use std::marker::Send;
 use std::sync::{Arc, Wait};
 use std::thread::Threads;
+use uuid::Uuid;
 
 /// The numbers of the scanner and the notifier. The workers have the numbers from 0 to 3.
 const SCANNER: u32 = 4;
@@ -44,7 +48,7 @@ pub(crate) struct Crew<R, D, T, L, F, G> {
     pub(crate) requests: u32,
     pub(crate) turn: Arc<Turn<Served>>,
     pub(crate) seat: Seat<Served>,
-    pub(crate) workers: Vec<Worker<R, D, T, L, G>>,
+    pub(crate) workers: Vec<Worker<R, D, T, L, G, F>>,
     pub(crate) scanner: Scanner<R, F, T, G>,
     pub(crate) notifier: Notifier<R, T, L, G>,
     ghost own: { IsSeatOf (arc_value turn) seat },
@@ -71,6 +75,18 @@ struct Ground<'a, R> {
     rt: &'a R,
     alloc: Global,
     turn: &'a Arc<Turn<Served>>,
+    port: u16,
+    /// The UUID of the device.
+    uuid: Uuid,
+}
+
+/// A server that was opened, before any command, with the one seat of its turn and the UUID of its device.
+#[derive(Drop)]
+struct Opening {
+    turn: Arc<Turn<Served>>,
+    seat: Seat<Served>,
+    uuid: Uuid,
+    ghost own: { IsSeatOf (arc_value turn) seat },
 }
 
 /// A share of the turn, and a seat of it.
@@ -146,7 +162,11 @@ pub(crate) fn hire_crew<
     ensures fresh { IfOk result (λ crew. AllByRecursion (λ worker. D.told worker.post.door ≡ unasked_door) crew.workers.items) }
     ensures opened { IfOk result (λ crew. IsOpenedAt port (start_of (arc_value crew.turn) crew.seat)) }
 {
-    let JobSeat { turn, mut seat } = open_turn(alloc, means.boot)?;
+    let Opening {
+        turn,
+        mut seat,
+        uuid,
+    } = open_turn(alloc, means.boot)?;
     let Means {
         boot: _,
         folder,
@@ -159,6 +179,8 @@ pub(crate) fn hire_crew<
         rt,
         alloc,
         turn: &turn,
+        port,
+        uuid,
     };
     let workers = hire_workers(&ground, &mut seat, requests, workers, gate)?;
     let scanner = hire_scanner(&ground, &mut seat, folder, scanner, gate)?;
@@ -175,15 +197,17 @@ pub(crate) fn hire_crew<
 }
 
 /// Opens a server with these boot words, before any command, and returns the one seat of its turn.
-fn open_turn(alloc: Global, boot: [u64; 2]) -> Result<JobSeat, Mem>
-    ensures seats { IfOk result (λ job_seat. (passes_of job_seat.seat ≡ 7) × (seats_of (arc_value job_seat.turn) ≡ 7)) }
-    ensures none { IfOk result (λ job_seat. length (own_by job_seat.seat) ≡ 0) }
-    ensures start { IfOk result (λ job_seat. start_of (arc_value job_seat.turn) job_seat.seat ≡ start_with boot) }
+fn open_turn(alloc: Global, boot: [u64; 2]) -> Result<Opening, Mem>
+    ensures seats { IfOk result (λ opening. (passes_of opening.seat ≡ 7) × (seats_of (arc_value opening.turn) ≡ 7)) }
+    ensures none { IfOk result (λ opening. length (own_by opening.seat) ≡ 0) }
+    ensures start { IfOk result (λ opening. start_of (arc_value opening.turn) opening.seat ≡ start_with boot) }
+    ensures uuid { IfOk result (λ opening. opening.uuid ≡ device_name (names_of (start_with boot))) }
 {
     let served = Served::new(alloc, boot, 0)?;
+    let uuid = served.device_name();
     let (turn, seat) = Turn::new(alloc, served, SEATS)?;
     let turn = Arc::new(alloc, turn)?;
-    Ok(JobSeat { turn, seat })
+    Ok(Opening { turn, seat, uuid })
 }
 
 /// Returns a seat for one job, which takes one of the passes.
@@ -237,14 +261,15 @@ fn hire_workers<
     D: Door + Send + Drop + 'static,
     T: Clock + Send + Drop + 'static,
     L: Link + Send + Drop + 'static,
+    F: Folder + Send + Drop + 'static,
     G: Gate + Send + Drop + 'static,
 >(
     ground: &Ground<'_, R>,
     seat: &mut Seat<Served>,
     requests: u32,
-    all: Vec<Ends<D, T, L>>,
+    all: Vec<Ends<D, T, L, F>>,
     gate: &mut G,
-) -> Result<Vec<Worker<R, D, T, L, G>>, Mem>
+) -> Result<Vec<Worker<R, D, T, L, G, F>>, Mem>
     requires seat { IsSeatOf (arc_value ground.now.turn.now) seat.old }
     requires passes { 5 ≤ passes_of seat.old }
     requires fresh { AllByRecursion (λ ends. D.told ends.door ≡ unasked_door) all.items }
@@ -273,15 +298,16 @@ fn hire_worker<
     D: Door + Send + Drop + 'static,
     T: Clock + Send + Drop + 'static,
     L: Link + Send + Drop + 'static,
+    F: Folder + Send + Drop + 'static,
     G: Gate + Send + Drop + 'static,
 >(
     ground: &Ground<'_, R>,
     seat: &mut Seat<Served>,
     requests: u32,
     number: u32,
-    ends: Ends<D, T, L>,
+    ends: Ends<D, T, L, F>,
     gate: &mut G,
-) -> Result<Worker<R, D, T, L, G>, Mem>
+) -> Result<Worker<R, D, T, L, G, F>, Mem>
     requires number { number < 4 }
     requires seat { IsSeatOf (arc_value ground.now.turn.now) seat.old }
     requires passes { 2 ≤ passes_of seat.old }
@@ -292,6 +318,7 @@ fn hire_worker<
     ensures door { IfOk result (λ worker. worker.post.door ≡ ends.door) }
     ensures hired { IfOk result (λ worker. IsHired (arc_value ground.now.turn.now) (arc_value worker.turn) worker.seat) }
 {
+    let device = own_device(ground.alloc, ground.port, ground.uuid)?;
     let kit = kit_of(ground, seat, number, gate)?;
     Ok(Worker {
         rt: kit.rt,
@@ -304,6 +331,8 @@ fn hire_worker<
             last: 0,
             link: ends.link,
             gate: kit.gate,
+            device,
+            folder: ends.folder,
             share: share_of(requests, number),
         },
     })
@@ -378,7 +407,7 @@ fn hire_notifier<
 pub(crate) fn run_crew<R: Runtime, O: Outside, G: Gate + Send + Drop + 'static>(
     rt: &R,
     crew: Crew<R, O::D, O::C, O::L, O::F, G>,
-    running: Vec<Running<Worker<R, O::D, O::C, O::L, G>>>,
+    running: Vec<Running<Worker<R, O::D, O::C, O::L, G, O::F>>>,
     outside: &mut O,
     spawner: &mut O::W,
 ) -> Result<Finished, Fault>
@@ -395,6 +424,7 @@ where
     ensures started { OnOk result ((n : ℕ) → raised (O.W.told spawner.new).started n ≡ raised (O.W.told spawner.old).started (6 + n)) }
     ensures cause { IsCaused result ⊥ (Rose (O.told outside.old).faults (O.told outside.new).faults ⊎ Rose (O.W.told spawner.old).faults (O.W.told spawner.new).faults) }
     ensures others_stay { O.told outside.new ≡ doors_back (O.told outside.old) (O.told outside.new) }
+    ensures folders { FoldersBack 4 (O.told outside.old).ended (O.told outside.new).ended }
     ensures spawner_never_falls { (O.W.told spawner.old).faults ≤ (O.W.told spawner.new).faults }
     ensures outside_never_falls { (O.told outside.old).faults ≤ (O.told outside.new).faults }
 {
@@ -554,17 +584,18 @@ fn start_workers<R: Threads, W: Spawner, J: Job>(
     true
 }
 
-/// Joins the workers that were started, hands their doors back, takes their seats back, and returns how many connections they
-/// served.
+/// Joins the workers that were started, hands their doors and folders back, takes their seats back, and returns how many
+/// connections they served.
 fn join_workers<R: Runtime, O: Outside, G: Gate + Send + Drop + 'static>(
     rt: &R,
     outside: &mut O,
     turn: &Turn<Served>,
     seat: &mut Seat<Served>,
-    running: Vec<Running<Worker<R, O::D, O::C, O::L, G>>>,
+    running: Vec<Running<Worker<R, O::D, O::C, O::L, G, O::F>>>,
 ) -> u64
 where
     <O::D as Door>::Conn: Send,
+    <O::F as Folder>::File: Send,
     requires seat { IsSeatOf turn.now seat.old }
     requires hired { AllByRecursion (λ worker. IsHired turn.now (arc_value worker.turn) worker.seat) running.items }
     requires fresh { AllByRecursion (λ worker. O.D.told worker.post.door ≡ unasked_door) running.items }
@@ -577,15 +608,18 @@ where
     ensures all { (result ≡ sum_by (λ worker. worker.post.share) running.items) ⊎ Rose (O.told outside.old).faults (O.told outside.new).faults }
     ensures never_falls { (O.told outside.old).faults ≤ (O.told outside.new).faults }
     ensures others_stay { O.told outside.new ≡ doors_back (O.told outside.old) (O.told outside.new) }
+    ensures folders { FoldersBack (length running.items) (O.told outside.old).ended (O.told outside.new).ended }
 {
     let mut total = 0;
     'joined: for worker in running {
         let Worked {
             door,
+            folder,
             seat: theirs,
             served,
         } = worker.join(rt);
         turn.join(seat, theirs);
+        outside.end_folder(folder);
         outside.end_door(door);
         total += u64::from(served);
     }

@@ -6,8 +6,10 @@
 mod acts;
 mod connection;
 mod crew;
+mod documents;
 pub mod examples;
 mod fault;
+mod fetching;
 pub mod laws;
 mod life;
 mod looking;
@@ -19,9 +21,11 @@ mod scanner;
 mod scanning;
 mod sending;
 mod served;
+mod target;
 mod worker;
 
 pub use connection::serve_one;
+pub use fetching::Fate;
 pub use life::serve;
 pub use looking::notify_once;
 pub use means::boot_words;
@@ -29,4 +33,5 @@ pub use notifier::{Notified, Notifier};
 pub use scanner::{Scanned, Scanner};
 pub use scanning::{ScanRefused, scan_once};
 pub use served::{Served, ServerCommand, ServerStart};
+pub use target::{Document, FreeAnswer};
 pub use worker::{Post, Worked, Worker};

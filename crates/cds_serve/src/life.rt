@@ -8,7 +8,7 @@ ghost use Rattle.cds_outside.specs.Asked.{ForDoor, ForSpawner};
 ghost use Rattle.cds_outside.specs.Outside.{Rose, raised};
 ghost use Rattle.cds_outside.specs.Told.{asked_then, unasked_door, unasked_spawner};
 ghost use Rattle.cds_turn.specs.Turn.{start_of};
-ghost use Rattle.cds_serve.specs.Life.{AsksFor, EndsLife, IsCaused, IsOpenedAt, KeepsEnded, Takes, WritesLife, WritesLine, doors_back, life_asks, served_line, serving_line, status_of};
+ghost use Rattle.cds_serve.specs.Life.{AsksFor, EndsLife, FoldersBack, IsCaused, IsOpenedAt, KeepsEnded, StaysEnded, Takes, WritesLife, WritesLine, doors_back, life_asks, served_line, serving_line, status_of};
 
 use crate::crew::{Counts, Crew, Finished, hire_crew, run_crew};
 use crate::fault::Fault;
@@ -56,7 +56,7 @@ struct Hired<R, W, D, T, L, F, G> {
 /// With status 0, requests about subscriptions, scans, ticks and one stop gave all commands that the server accepted.
 ///
 /// When it returns, the jobs that were started have ended. A fault of one connection, of a link, of the folder or of a clock ends
-/// nothing. Neither the folder nor a link is handed back to the outside.
+/// nothing. The folders of the workers are handed back to the outside. Neither the scanner's folder nor a link is.
 pub fn serve<R: Runtime, K: Sink, O: Outside, G: Gate + Send + Drop + 'static>(
     rt: &R,
     alloc: Global,
@@ -103,7 +103,7 @@ fn ask_front<O: Outside>(
     ensures cause { IsCaused result ⊥ (Rose (O.told outside.old).faults (O.told outside.new).faults) }
     ensures fresh { IfOk result (λ front. (O.D.told front.door ≡ unasked_door) × (O.W.told front.spawner ≡ unasked_spawner)) }
     ensures others { OnOk result (O.told outside.new ≡ asked_then (O.told outside.old) (O.told outside.new)) }
-    ensures ended_stays { KeepsEnded (O.told outside.old) (O.told outside.new) }
+    ensures ended_stays { StaysEnded (O.told outside.old) (O.told outside.new) }
     ensures never_falls { (O.told outside.old).faults ≤ (O.told outside.new).faults }
 {
     let door = ask_door(alloc, port, outside)?;
@@ -123,7 +123,7 @@ fn end_front<O: Outside>(outside: &mut O, front: Front<O::D, O::W>)
     ensures asked { (O.told outside.new).asked ≡ (O.told outside.old).asked }
     ensures rose { ((O.D.told front.door).faults ≡ 0) ⊎ Rose (O.told outside.old).faults (O.told outside.new).faults }
     ensures rose_spawner { ((O.W.told front.spawner).faults ≡ 0) ⊎ Rose (O.told outside.old).faults (O.told outside.new).faults }
-    ensures ended_stays { KeepsEnded (O.told outside.old) (O.told outside.new) }
+    ensures ended_stays { StaysEnded (O.told outside.old) (O.told outside.new) }
     ensures never_falls { (O.told outside.old).faults ≤ (O.told outside.new).faults }
 {
     let Front { door, spawner } = front;
@@ -147,7 +147,7 @@ fn hire<R: Runtime, O: Outside, G: Gate + Send + Drop + 'static>(
     ensures fresh { IfOk result (λ hired. AllByRecursion (λ worker. O.D.told worker.post.door ≡ unasked_door) hired.crew.workers.items) }
     ensures opened { IfOk result (λ hired. IsOpenedAt order.now.port (start_of (arc_value hired.crew.turn) hired.crew.seat)) }
     ensures others { OnOk result (O.told outside.new ≡ asked_then (O.told outside.old) (O.told outside.new)) }
-    ensures ended_stays { KeepsEnded (O.told outside.old) (O.told outside.new) }
+    ensures ended_stays { StaysEnded (O.told outside.old) (O.told outside.new) }
     ensures never_falls { (O.told outside.old).faults ≤ (O.told outside.new).faults }
 {
     let mut front = ask_front(alloc, order.port, outside)?;
@@ -198,6 +198,7 @@ where
     ensures connections { OnOk result ((n : ℕ) → raised (O.told outside.new).connections n ≡ raised (O.told outside.old).connections (crew.requests + n)) }
     ensures started { OnOk result ((n : ℕ) → raised (O.W.told spawner.new).started n ≡ raised (O.W.told spawner.old).started (6 + n)) }
     ensures others_stay { O.told outside.new ≡ doors_back (O.told outside.old) (O.told outside.new) }
+    ensures folders { FoldersBack 4 (O.told outside.old).ended (O.told outside.new).ended }
     ensures spawner_never_falls { (O.W.told spawner.old).faults ≤ (O.W.told spawner.new).faults }
     ensures sink_never_falls { (K.told sink.old).faults ≤ (K.told sink.new).faults }
     ensures outside_never_falls { (O.told outside.old).faults ≤ (O.told outside.new).faults }

@@ -16,10 +16,11 @@ pub(crate) const WORKERS: usize = 4;
 
 /// What a worker takes from the outside.
 #[derive(Drop)]
-pub(crate) struct Ends<D, T, L> {
+pub(crate) struct Ends<D, T, L, F> {
     pub(crate) door: D,
     pub(crate) clock: T,
     pub(crate) link: L,
+    pub(crate) folder: F,
 }
 
 /// What all jobs take from the outside.
@@ -28,7 +29,7 @@ pub(crate) struct Means<D, T, L, F> {
     /// The boot words, by the clock of the first worker.
     pub(crate) boot: [u64; 2],
     pub(crate) folder: F,
-    pub(crate) workers: Vec<Ends<D, T, L>>,
+    pub(crate) workers: Vec<Ends<D, T, L, F>>,
     pub(crate) scanner: T,
     pub(crate) notifier: T,
     pub(crate) link: L,
@@ -133,26 +134,33 @@ fn ask_handle<D: Door>(door: &mut D) -> Result<D, Fault>
 /// Asks for all that a worker takes.
 fn ask_ends<O: Outside>(
     alloc: Global,
+    path: &str,
     outside: &mut O,
     door: &mut O::D,
-) -> Result<Ends<O::D, O::C, O::L>, Fault>
-    ensures takes { Takes result (ForClock ∷ ForLink ∷ []) (O.told outside.old) (O.told outside.new) (O.D.told door.old) (O.D.told door.new) }
+) -> Result<Ends<O::D, O::C, O::L, O::F>, Fault>
+    ensures takes { Takes result (worker_asks path.now 1) (O.told outside.old) (O.told outside.new) (O.D.told door.old) (O.D.told door.new) }
     ensures fresh { IfOk result (λ ends. O.D.told ends.door ≡ unasked_door) }
     ensures fresh_clock { IfOk result (λ ends. IsFresh (O.C.told ends.clock)) }
 {
     let clock = ask_clock(alloc, outside)?;
     let link = ask_link(alloc, outside)?;
+    let folder = ask_folder(alloc, path, outside)?;
     let door = ask_handle(door)?;
-    Ok(Ends { door, clock, link })
+    Ok(Ends {
+        door,
+        clock,
+        link,
+        folder,
+    })
 }
 
 /// Has the clock of the first worker give the boot words of a server at a port. The other workers leave them.
-fn with_boot<D, T: Clock, L>(
-    mut ends: Ends<D, T, L>,
+fn with_boot<D, T: Clock, L, F>(
+    mut ends: Ends<D, T, L, F>,
     is_first: bool,
     port: u16,
     boot: &mut [u64; 2],
-) -> Ends<D, T, L>
+) -> Ends<D, T, L, F>
     ensures door { result.door ≡ ends.door }
     ensures first { IsTrue is_first → AreBootWords port (T.told ends.clock) (T.told result.clock) boot.new }
     ensures others { IsFalse is_first → boot.new ≡ boot.old }
@@ -167,18 +175,19 @@ fn with_boot<D, T: Clock, L>(
 fn ask_workers<O: Outside>(
     alloc: Global,
     port: u16,
+    path: &str,
     outside: &mut O,
     door: &mut O::D,
     boot: &mut [u64; 2],
-) -> Result<Vec<Ends<O::D, O::C, O::L>>, Fault>
-    ensures takes { Takes result (worker_asks 4) (O.told outside.old) (O.told outside.new) (O.D.told door.old) (O.D.told door.new) }
+) -> Result<Vec<Ends<O::D, O::C, O::L, O::F>>, Fault>
+    ensures takes { Takes result (worker_asks path.now 4) (O.told outside.old) (O.told outside.new) (O.D.told door.old) (O.D.told door.new) }
     ensures fresh { IfOk result (λ all. AllByRecursion (λ ends. O.D.told ends.door ≡ unasked_door) all.items) }
     ensures few { IfOk result (λ all. length all.items ≡ 4) }
     ensures boot { IfOk result (λ all. OfFirst (λ ends. AreFirstWords port (O.C.told ends.clock) boot.new) all.items) }
 {
     let mut all = Vec::with_capacity(alloc, WORKERS)?;
     'workers: while all.len() < WORKERS {
-        let ends = ask_ends(alloc, outside, door)?;
+        let ends = ask_ends(alloc, path, outside, door)?;
         let first = with_boot(ends, all.is_empty(), port, boot);
         all.push(first)?;
     }
@@ -200,7 +209,7 @@ pub(crate) fn ask_means<O: Outside>(
 {
     let folder = ask_folder(alloc, path, outside)?;
     let mut boot = [0, 0];
-    let workers = ask_workers(alloc, port, outside, door, &mut boot)?;
+    let workers = ask_workers(alloc, port, path, outside, door, &mut boot)?;
     let scanner = ask_clock(alloc, outside)?;
     let notifier = ask_clock(alloc, outside)?;
     let link = ask_link(alloc, outside)?;

@@ -11,22 +11,31 @@ ghost use Rattle.cds_http.specs.Reading.{Stands};
 ghost use Rattle.cds_serve.specs.Answered.{ReadsFrom, piece_limit};
 ghost use Rattle.cds_serve.specs.Requested.{BrokenRose, ComesTo, FilledRose, GoesOn, HasAll, IsFilled, IsLastBy, IsLastIn, IsRequest};
 
+use crate::target::{FreeAnswer, Target, target_of};
 use cds_base::Mem;
 use cds_http::{Fed, HttpError, Message, MessageReader, Side};
 use cds_outside::{Conn, Failed};
-use cds_server::{Route, route};
 use std::alloc::Global;
 
 /// The number of bytes that are read at once.
 const PIECE: usize = 8_192;
 
+/// A message that asks for the file of the track with an id.
+#[derive(Drop)]
+pub(crate) struct FileRequest {
+    pub message: Message,
+    pub id: u32,
+}
+
 /// What came over a connection.
 #[derive(Drop)]
 pub(crate) enum Request {
-    /// A message that needs a turn.
+    /// A message that the server answers in a turn.
     Needing(Message),
-    /// Bytes that are answered with a status and no turn: they are no message, or one that the server has no part in.
-    Free(u16),
+    /// A message that asks for a file, which the server names in a turn.
+    Fetching(FileRequest),
+    /// Bytes that are answered without a turn: they are no message, or one that the server has no part in.
+    Free(FreeAnswer),
     /// Nothing, since the connection failed.
     Broken,
     /// Nothing, since memory ran out.
@@ -170,12 +179,13 @@ fn judged(message: Message) -> Request
     ensures request { (rest : List ℕ) → IsRequest (Whole message rest) result }
     ensures rose { (old new : ℕ) → BrokenRose result old new }
 {
-    match route(&message) {
-        Route::Refused(status) => {
+    match target_of(&message) {
+        Target::Free(answer) => {
             drop(message);
-            Request::Free(status)
+            Request::Free(answer)
         }
-        Route::Control | Route::Event => Request::Needing(message),
+        Target::File(id) => Request::Fetching(FileRequest { message, id }),
+        Target::Server => Request::Needing(message),
     }
 }
 
@@ -188,7 +198,7 @@ fn refused(refusal: HttpError) -> Request
 {
     match refusal {
         HttpError::Mem => Request::Starved,
-        HttpError::TooLong => Request::Free(413),
-        _ => Request::Free(400),
+        HttpError::TooLong => Request::Free(FreeAnswer::Status(413)),
+        _ => Request::Free(FreeAnswer::Status(400)),
     }
 }

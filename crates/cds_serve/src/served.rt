@@ -3,18 +3,21 @@
 ghost use Rattle.std.specs.Prelude.{◌≡◌, ◌<◌, ◌^◌, List, [], ◌∷◌, ◌++◌, is_some, length, slice_index, IfOk, IfSome, OnErr, OnOk};
 ghost use Rattle.cds_commands.specs.Commands.{Command, Start, Stops, Ticks, is_stopped};
 ghost use Rattle.cds_server.specs.Asking.{command_in};
+ghost use Rattle.cds_commands.specs.Names.{names_of};
 ghost use Rattle.cds_server.specs.Due.{AllGoOut, due};
-ghost use Rattle.cds_serve.specs.Acts.{IsAnswerGiven, IsScanAnswer, scan_adds};
+ghost use Rattle.cds_server.specs.Published.{device_name};
+ghost use Rattle.cds_serve.specs.Acts.{IsAnswerGiven, IsFileNamed, IsScanAnswer, scan_adds};
 ghost use Rattle.cds_serve.specs.Served.{Stands, added};
 
 use cds_base::Mem;
 use cds_scan::Scan;
-use cds_server::{Answered, Asking, Notes, Server};
+use cds_server::{Answered, Asking, Media, Notes, Server};
 use cds_store::{ApplyError, Span};
 use cds_turn::StandsFor;
 use std::alloc::Global;
 use std::marker::Model;
 use std::snapshot::Snapshot;
+use uuid::Uuid;
 
 /// What a server is opened with; no command changes it. It has two boot words, of which the server's names are made, and the
 /// first number.
@@ -126,6 +129,13 @@ impl Served {
         self.server.accept_scan(alloc, now, scan)
     }
 
+    /// Returns the file of the track with an id, as `Server::media` says.
+    pub(crate) fn media(&self, alloc: Global, id: u32) -> Result<Option<Media>, Mem>
+        ensures { (start : Start) (found : List Command) → Stands self.now start found → IsFileNamed start found id result }
+    {
+        self.server.media(alloc, id)
+    }
+
     /// Has the server tick, as `Server::tick` says.
     pub(crate) fn tick(&mut self, alloc: Global, now: u64) -> Result<Option<Notes>, Mem>
         ensures stands { (start : Start) (found : List Command) → Stands self.old start found
@@ -143,6 +153,13 @@ impl Served {
         ensures { (start : Start) (found : List Command) → Stands self.old start found → Stands self.new start (Stops ∷ found) }
     {
         self.server.stop();
+    }
+
+    /// Returns the UUID of the device that the server is.
+    pub fn device_name(&self) -> Uuid
+        ensures { (start : Start) (found : List Command) → Stands self.now start found → result ≡ device_name (names_of start) }
+    {
+        self.server.device_name()
     }
 
     /// Returns whether the server was told to stop.

@@ -7,7 +7,8 @@ ghost use Rattle.cds_serve.specs.Jobs.{AddsAnswers, EndsWorking};
 
 use crate::connection::serve_one;
 use crate::served::Served;
-use cds_outside::{Clock, Door, Gate, Job, Link};
+use cds_outside::{Clock, Door, Folder, Gate, Job, Link};
+use cds_ssdp::Device;
 use cds_turn::{Seat, Turn};
 use std::alloc::Global;
 use std::marker::Send;
@@ -15,13 +16,17 @@ use std::sync::{Arc, Wait};
 
 /// What a worker takes its connections from and serves them with.
 #[derive(Drop)]
-pub struct Post<D, T, L, G> {
+pub struct Post<D, T, L, G, F> {
     pub door: D,
     pub clock: T,
     /// The last moment that the clock gave.
     pub last: u64,
     pub link: L,
     pub gate: G,
+    /// The device that the server is.
+    pub device: Device,
+    /// The folder whose files are sent.
+    pub folder: F,
     /// How many connections it is to serve.
     pub share: u32,
 }
@@ -29,19 +34,20 @@ pub struct Post<D, T, L, G> {
 /// Serves a share of the connections of a door, one after another, over a server that others share. If the door fails, it ends
 /// before its share is served.
 #[derive(Drop)]
-pub struct Worker<R, D, T, L, G> {
+pub struct Worker<R, D, T, L, G, F> {
     pub rt: R,
     pub alloc: Global,
     pub turn: Arc<Turn<Served>>,
     pub seat: Seat<Served>,
-    pub post: Post<D, T, L, G>,
+    pub post: Post<D, T, L, G, F>,
     ghost own: { IsSeatOf (arc_value turn) seat },
 }
 
 /// What a worker answers.
 #[derive(Drop)]
-pub struct Worked<D> {
+pub struct Worked<D, F> {
     pub door: D,
+    pub folder: F,
     pub seat: Seat<Served>,
     /// How many connections its door gave; it was to serve each of them. They are fewer than its share only if the door failed.
     pub served: u32,
@@ -53,15 +59,16 @@ impl<
     T: Clock + Send + Drop + 'static,
     L: Link + Send + Drop + 'static,
     G: Gate + Send + Drop + 'static,
-> Job for Worker<R, D, T, L, G> {
-    type Out = Worked<D>;
+    F: Folder + Send + Drop + 'static,
+> Job for Worker<R, D, T, L, G, F> {
+    type Out = Worked<D, F>;
 
     ghost answers = { λ worker worked. IsSeatOf (arc_value worker.turn) worked.seat
         × (passes_of worked.seat ≡ passes_of worker.seat)
         × AddsAnswers (own_by worker.seat) (own_by worked.seat)
         × EndsWorking worker.post.share worked.served (D.told worker.post.door) (D.told worked.door) };
 
-    fn run(self) -> Worked<D> {
+    fn run(self) -> Worked<D, F> {
         let Worker {
             rt,
             alloc,
@@ -72,17 +79,19 @@ impl<
         let served = serve_share(&rt, alloc, &turn, &mut seat, &mut post);
         drop(turn);
         drop(rt);
+        let (door, folder) = ends_of(post);
         Worked {
-            door: door_of(post),
+            door,
+            folder,
             seat,
             served,
         }
     }
 }
 
-/// Returns the door of a post, and drops the rest.
-fn door_of<D, T: Drop, L: Drop, G: Drop>(post: Post<D, T, L, G>) -> D
-    ensures { result ≡ post.door }
+/// Returns the door and the folder of a post, and drops the rest.
+fn ends_of<D, T: Drop, L: Drop, G: Drop, F>(post: Post<D, T, L, G, F>) -> (D, F)
+    ensures { result ≡ (post.door, post.folder) }
 {
     let Post {
         door,
@@ -90,21 +99,24 @@ fn door_of<D, T: Drop, L: Drop, G: Drop>(post: Post<D, T, L, G>) -> D
         last: _,
         link,
         gate,
+        device,
+        folder,
         share: _,
     } = post;
+    drop(device);
     drop(gate);
     drop(link);
     drop(clock);
-    door
+    (door, folder)
 }
 
 /// Serves as many connections as the share of a post has, or fewer if its door fails. Returns how many it served.
-fn serve_share<R: Wait, D: Door, T: Clock, L: Link, G: Gate>(
+fn serve_share<R: Wait, D: Door, T: Clock, L: Link, G: Gate, F: Folder>(
     rt: &R,
     alloc: Global,
     turn: &Turn<Served>,
     seat: &mut Seat<Served>,
-    post: &mut Post<D, T, L, G>,
+    post: &mut Post<D, T, L, G, F>,
 ) -> u32
     requires { IsSeatOf turn.now seat.old }
     ensures seat { IsSeatOf turn.now seat.new }
@@ -127,6 +139,8 @@ fn serve_share<R: Wait, D: Door, T: Clock, L: Link, G: Gate>(
                     &mut post.last,
                     &mut post.link,
                     &mut post.gate,
+                    &post.device,
+                    &mut post.folder,
                 );
                 served += 1;
             }

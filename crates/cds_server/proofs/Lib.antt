@@ -13,5 +13,6 @@ pub mod Ticked
 pub mod Heads
 pub mod Short
 pub mod Told
+pub mod Medias
 pub mod Controls
 pub mod Accepting

@@ -7,4 +7,5 @@ pub mod Serving
 pub mod Replies
 pub mod Asking
 pub mod Laws
+pub mod Media
 pub mod Examples

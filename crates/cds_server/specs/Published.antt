@@ -13,6 +13,10 @@ use Rattle.cds_control.specs.Published.{Published}
 abbrev pub token_of : ℕ → List ℕ
 token_of names = hyphenated_text lower (to_be_bytes w128 names)
 
+-- the UUID of the device that a server is (UPnP Device Architecture 2.0 on UDN): name number 0 of the server
+abbrev pub device_name : ℕ → List ℕ
+device_name names = to_be_bytes w128 names
+
 -- The catalog is counted afresh over the scans.
 abbrev pub published_after : Start → History → Published
 published_after start history = record { token = token_of (names_of start); number = end_of history; rows = catalog history }

@@ -1,8 +1,10 @@
-//! Tests of control requests, as bytes, to a server after a few scans.
+//! Tests of control requests, as bytes, to a server after a few scans, and over the store alone.
 
 use crate::made::{MEMORY, records_of};
+use cds_control::reply;
 use cds_http::{Message, MessageReader, Side};
 use cds_server::Server;
+use cds_store::{Keeping, Store};
 use std::alloc::Global;
 use std::process::Abort;
 
@@ -20,10 +22,13 @@ struct ControlCase {
 /// A folder with a track.
 const ROCK: &[&str] = &["Rock/ Rock/a.flac=1000"];
 
+/// The reset token of a server whose names begin at 0.
+const TOKEN: &str = "00000000-0000-8000-8000-000000000000";
+
 /// Two tracks, and then a folder in the place of the first.
 const TURNED: &[&str] = &["x.flac y.flac", "x.flac/ y.flac"];
 
-const CASES: [ControlCase; 17] = [
+const CASES: [ControlCase; 18] = [
     ControlCase {
         name: "children from a place after the last",
         scans: ROCK,
@@ -137,6 +142,13 @@ const CASES: [ControlCase; 17] = [
         reply: "<SearchCaps>@id,@parentID,dc:title,upnp:class,upnp:artist,upnp:album,upnp:genre,upnp:originalTrackNumber,upnp:objectUpdateID,upnp:containerUpdateID,res@size,res@duration</SearchCaps>",
     },
     ControlCase {
+        name: "the reset token",
+        scans: ROCK,
+        action: "GetServiceResetToken",
+        arguments: "",
+        reply: "<ResetToken>00000000-0000-8000-8000-000000000000</ResetToken>",
+    },
+    ControlCase {
         name: "what can be sorted by",
         scans: ROCK,
         action: "GetSortCapabilities",
@@ -204,17 +216,31 @@ fn server_after<R: Abort>(rt: &R, alloc: Global, scans: &[&str]) -> Server {
     server
 }
 
-/// Returns whether the reply to the request of a case has its text in it.
+/// Makes a store after these scans.
+fn store_after<R: Abort>(rt: &R, alloc: Global, scans: &[&str]) -> Store {
+    let mut store = Store::new(alloc, 0).expect(rt, MEMORY);
+    for words in scans {
+        let records = records_of(rt, alloc, words);
+        store.apply(alloc, &records).expect(rt, "a scan");
+    }
+    store
+}
+
+/// Returns whether the reply of a server to the request of a case has its text in it, and is that over the store alone.
 fn is_answered<R: Abort>(rt: &R, alloc: Global, case: &ControlCase) -> bool {
     let mut server = server_after(rt, alloc, case.scans);
+    let store = store_after(rt, alloc, case.scans);
     let request = request_of(rt, alloc, case.action, case.arguments);
     let message = message_of(rt, alloc, request.as_bytes());
-    let mut reply = Vec::new(alloc);
+    let mut replied = Vec::new(alloc);
     let note = server
-        .handle(alloc, 0, &message, &mut reply)
+        .handle(alloc, 0, &message, &mut replied)
         .expect(rt, MEMORY);
-    match std::str::from_utf8(reply.as_slice()) {
-        Ok(text) => note.is_none() && text.contains(case.reply),
+    let shown = reply(alloc, &store, TOKEN, "h", &message).expect(rt, MEMORY);
+    match std::str::from_utf8(replied.as_slice()) {
+        Ok(text) => {
+            note.is_none() && text.contains(case.reply) && shown.as_slice() == replied.as_slice()
+        }
         Err(_) => false,
     }
 }

@@ -4,16 +4,17 @@ ghost use Rattle.std.specs.Prelude.{◌≡◌, ◌≤◌};
 ghost use Rattle.std.specs.Arc.{arc_value};
 ghost use Rattle.cds_turn.specs.Turn.{IsSeatOf, passes_of};
 
-use crate::made::{MEMORY, clock, link};
+use crate::made::{MEMORY, clock, device, folder, link};
 use cds_memory::{MemClock, MemConn, MemFolder, MemLink};
 use cds_outside::NoGate;
 use cds_serve::{Served, notify_once, scan_once, serve_one};
+use cds_ssdp::Device;
 use cds_turn::{Seat, Turn};
 use std::alloc::Global;
 use std::process::Abort;
 use std::sync::{Arc, Wait};
 
-/// A server with its only seat, and a clock and a link for it.
+/// A server with its only seat, and a clock, a link, a device and a folder for it.
 #[derive(Drop)]
 pub struct Desk {
     turn: Arc<Turn<Served>>,
@@ -21,6 +22,9 @@ pub struct Desk {
     pub clock: MemClock,
     pub link: MemLink,
     pub last: u64,
+    device: Device,
+    /// The folder whose files are sent.
+    pub files: MemFolder,
     ghost own: { IsSeatOf (arc_value turn) seat },
 }
 
@@ -59,6 +63,8 @@ impl Desk {
             clock: clock(rt, alloc, moments, fails),
             link: link(rt, alloc, 0),
             last: 0,
+            device: device(rt, alloc),
+            files: folder(rt, alloc, "Rock"),
         }
     }
 
@@ -74,6 +80,8 @@ impl Desk {
             &mut self.last,
             &mut self.link,
             &mut NoGate,
+            &self.device,
+            &mut self.files,
         )
         .expect(rt, MEMORY);
     }

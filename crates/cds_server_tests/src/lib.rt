@@ -13,7 +13,11 @@ mod listening_tests;
 #[cfg(test)]
 mod made;
 #[cfg(test)]
+mod media_tests;
+#[cfg(test)]
 mod scan_tests;
+#[cfg(test)]
+mod search_tests;
 #[cfg(test)]
 mod sharing_tests;
 #[cfg(test)]

@@ -72,8 +72,10 @@ fn objects_of<R: Wait + Clone + Drop + Abort>(
     let mut objects = MemObjects::new(alloc);
     put_ends(rt, alloc, fault, &mut objects);
     objects.doors.push(door).expect(rt, MEMORY);
-    let folder = folder(rt, alloc, "Rock");
-    objects.folders.push(folder).expect(rt, MEMORY);
+    for _ in 0..5 {
+        let folder = folder(rt, alloc, "Rock");
+        objects.folders.push(folder).expect(rt, MEMORY);
+    }
     let spawner = MemSpawner::new(calls_of(rt, alloc, fault, Part::Spawner));
     objects.spawners.push(spawner).expect(rt, MEMORY);
     objects
@@ -220,7 +222,7 @@ const FAULTS: [FaultCase; 6] = [
     FaultCase {
         name: "the outside",
         part: Part::Outside,
-        calls: 14,
+        calls: 18,
         status: 7,
     },
     FaultCase {

@@ -7,9 +7,11 @@ use cds_exchange::{ask_bytes, read_reply};
 use cds_load::{Ask, Shown};
 use cds_memory::{MemClock, MemConn, MemFolder, MemItem, MemLink, MemSink, MemSource, are_tree};
 use cds_object::{Comments, Content, FlacInfo, Path, Record, Records, content_of};
+use cds_ssdp::Device;
 use std::alloc::Global;
 use std::process::Abort;
 use url::Url;
+use uuid::Uuid;
 
 /// What a test says that ends because no memory is left.
 pub const MEMORY: &str = "out of memory";
@@ -99,6 +101,15 @@ pub fn conn<R: Abort>(rt: &R, alloc: Global, text: &[u8], read: u32, write: u32)
 pub fn clock<R: Abort>(rt: &R, alloc: Global, moments: &[u64], fails: u32) -> MemClock {
     let moments = Vec::from_slice(alloc, moments).expect(rt, MEMORY);
     MemClock::new(Moments::from(moments), only(rt, alloc, fails))
+}
+
+/// Makes the device of a server at the port 49152 whose boot words are 0.
+pub fn device<R: Abort>(rt: &R, alloc: Global) -> Device {
+    Device {
+        uuid: Uuid::from_u128(0x8000_8000_0000_0000_0000),
+        location: text_of(rt, alloc, "http://127.0.0.1:49152/device.xml"),
+        boot: 1,
+    }
 }
 
 /// Makes a link that gives three empty replies, of which one call fails.

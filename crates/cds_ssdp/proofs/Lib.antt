@@ -4,6 +4,7 @@ mod Documents
 mod Joined
 mod Literal
 mod ReadBack
-mod Single
+mod Served
+pub mod Single
 mod Table
 mod Visible

@@ -6,5 +6,6 @@ pub mod Search
 pub mod Finding
 pub mod Description
 pub mod Documents
+pub mod Service
 pub mod Examples
 pub mod Laws

@@ -1,10 +1,15 @@
 -- How replies to searches are written (UPnP Device Architecture 2.0 on the response to M-SEARCH). A reply holds for half
 -- an hour, which is this project's profile.
-use Rattle.std.specs.Prelude.{ℕ, List, ◌++◌, codes}
+use Rattle.std.specs.Prelude.{ℕ, if◌then◌else◌, List, ◌++◌, Option, Some, None, codes}
 use Rattle.std.specs.Fmt.{decimal}
 use Rattle.cds_http.specs.Written.{line_break, field_line}
 use Rattle.cds_ssdp.specs.declared.device.Device.{Device}
+use Rattle.cds_ssdp.specs.Location.{is_location}
 use Rattle.cds_ssdp.specs.Targets.{usn_of}
+
+-- The device of a UUID whose description is at a location, if the text is one.
+abbrev pub device_at : List ℕ → List ℕ → ℕ → Option Device
+device_at id address number = if is_location address then Some (record { uuid = id; location = address; boot = number }) else None
 
 -- The first lines of all replies.
 unfoldable pub first_lines : List ℕ

@@ -5,6 +5,7 @@ ghost use Rattle.std.specs.List.{list_all};
 ghost use Rattle.std.specs.Result.{result_ok};
 ghost use Rattle.url.specs.Parser.{parse_url};
 ghost use Rattle.cds_ssdp.specs.Location.{is_printed, is_location, where_http, http_url};
+ghost use Rattle.cds_ssdp.specs.Replies.{device_at};
 
 use cds_base::{Mem, Text};
 use std::alloc::Global;
@@ -73,4 +74,21 @@ pub fn is_location(alloc: Global, text: &str) -> Result<bool, Mem>
         return Ok(false);
     }
     Ok(http_url(alloc, text)?.is_some())
+}
+
+impl Device {
+    /// Returns the device of this UUID whose description is at a location. `None` comes exactly if `is_location` rejects the text.
+    pub fn at(alloc: Global, uuid: Uuid, location: &str, boot: u32) -> Result<Option<Device>, Mem>
+        ensures { IfOk result (λ device. device ≡ device_at uuid location.now boot) }
+    {
+        if !is_location(alloc, location)? {
+            return Ok(None);
+        }
+        let location = Text::read(alloc, location)?;
+        Ok(Some(Device {
+            uuid,
+            location,
+            boot,
+        }))
+    }
 }

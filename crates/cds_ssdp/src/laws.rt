@@ -1,6 +1,7 @@
 //! Laws of searches and of what is found. Calling a function gives its law.
 
 ghost use Rattle.cds_ssdp.specs.Laws.{DescriptionsAreDocuments, OneAnswer, OneFound, OneSearch, RepliesAreReadBack, TargetsAreTheTable};
+ghost use Rattle.cds_ssdp.specs.Service.{IsDescribed};
 
 /// A datagram searches for one text at most.
 pub fn one_search()
@@ -30,4 +31,9 @@ pub fn replies_are_read_back()
 /// Both descriptions are documents of XML, with the elements that `device_said` and `service_said` list.
 pub fn descriptions_are_documents()
     ensures { DescriptionsAreDocuments }
+{}
+
+/// The actions that are described are those of control, with the names of their arguments and results, and of their service.
+pub fn descriptions_name_what_is_served()
+    ensures { IsDescribed }
 {}

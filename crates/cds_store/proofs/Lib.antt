@@ -3,6 +3,7 @@ pub mod Ascending
 pub mod Bad
 pub mod ByIds
 pub mod Children
+pub mod FilesFound
 pub mod Finding
 pub mod RowsFound
 pub mod KeptEvents

@@ -1,5 +1,6 @@
 pub mod Applied
 pub mod ChangeEvents
+pub mod Files
 pub mod Found
 pub mod Laws
 pub mod Lent

@@ -6,6 +6,7 @@ mod by_ids;
 mod catalog;
 mod containers;
 mod error;
+mod files;
 mod halving;
 mod keeping;
 mod kept;

@@ -31,7 +31,7 @@ use std::{fmt, mem};
 /// The store stands for a history of scans if all this is what the history gives.
 #[derive(Drop)]
 pub struct Store {
-    catalog: Catalog,
+    pub(crate) catalog: Catalog,
     forgotten: u32,
     kept: Vec<EventWithParent>,
     offspring: Vec<Child>,

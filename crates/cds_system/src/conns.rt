@@ -5,6 +5,7 @@ ghost use Rattle.std.specs.Prelude.{◌≡◌, ◌≤◌, ◌<◌, false, length
 ghost use Rattle.cds_outside.specs.Outside.{raised, Rose};
 
 use crate::lobby::Arrived;
+use crate::players::Player;
 use crate::retry::{read_again, write_again};
 use cds_outside::{Conn, Failed, Linger, Sink, Source};
 use std::io;
@@ -24,6 +25,9 @@ const MOST_READING: u64 = 30;
 
 /// For how many seconds a connection is written, apart from those for its bytes.
 const WRITING: u64 = 10;
+
+/// For how many seconds a connection that asked for a file is written without a byte that goes out.
+const STALLED: u64 = 60;
 
 /// How many bytes give one second more to write.
 const WRITE_RATE: u64 = 65_536;
@@ -53,7 +57,8 @@ const SETTLING: u64 = 5;
 ///
 /// After them it is read for 2 seconds, and 1 second more for each 16,384 bytes, but at most for 30 seconds. It is written for 10
 /// seconds after the first write began, and 1 second more for each 65,536 bytes. A read or a write after that is a fault. So a
-/// peer that sends or takes a byte now and then keeps nobody busy.
+/// peer that sends or takes a byte now and then keeps nobody busy. One that asked for a file may take it as slowly as it plays: a
+/// write is a fault only if no byte goes out for 60 seconds.
 ///
 /// When it is finished, it throws away what came, at most 262,144 bytes. For a peer that is still sending it waits 10 milliseconds,
 /// and 1 millisecond more for each 256 bytes, but at most for 1 second. For a peer that is to read its reply it waits until that
@@ -65,6 +70,7 @@ pub struct RealConn<R: Clock + Drop> {
     ahead: Vec<u8>,
     reading: Option<Duration>,
     writing: Option<Duration>,
+    player: Option<Player>,
     moved: u64,
     wrote: u64,
     read_faults: u64,
@@ -81,7 +87,11 @@ impl<R: Clock + Drop> RealConn<R> {
         ensures write_faults { IfSome result (λ conn. conn.write_faults ≡ 0) }
         ensures finished { IfSome result (λ conn. conn.finished ≡ false) }
     {
-        let Arrived { stream, bytes } = arrived;
+        let Arrived {
+            stream,
+            bytes,
+            player,
+        } = arrived;
         stream.set_nonblocking(false).ok()?;
         Some(RealConn {
             rt,
@@ -89,6 +99,7 @@ impl<R: Clock + Drop> RealConn<R> {
             ahead: bytes,
             reading: None,
             writing: None,
+            player,
             moved: 0,
             wrote: 0,
             read_faults: 0,
@@ -255,7 +266,11 @@ impl<R: Clock + Drop> Sink for RealConn<R> {
         if piece.is_empty() {
             return Ok(0);
         }
-        let left = time_left(&self.rt, &mut self.writing, time_to_write(self.wrote));
+        let left = if self.player.is_some() {
+            Some(Duration::from_secs(STALLED))
+        } else {
+            time_left(&self.rt, &mut self.writing, time_to_write(self.wrote))
+        };
         match write_in_time(&mut self.stream, left, piece) {
             Ok(count) if count > 0 => {
                 self.wrote = self.wrote.saturating_add(count as u64);

@@ -1,9 +1,10 @@
-//! The outside of the system: it gives folders, links, clocks, doors and spawners. It tells nothing of what it was asked.
+//! The outside of the system: it gives folders, links, clocks, doors, spawners and datagrams. It tells nothing of what it was asked.
 
 ghost use Rattle.std.specs.Prelude.{◌≡◌};
 
 use crate::backoff::Shared;
 use crate::clocks::{RealClock, ahead};
+use crate::datagrams::RealDatagrams;
 use crate::doors::RealDoor;
 use crate::files::{RealFolder, real_folder};
 use crate::links::{RealLink, remembered};
@@ -25,6 +26,7 @@ pub struct RealOutside<R: Files + AllocGlobal + Net + Clock + Wait + Clone + Dro
     backoff: Option<Shared>,
     connections: u64,
     started: u64,
+    datagrams: u64,
     faults: u64,
 }
 
@@ -33,6 +35,7 @@ impl<R: Files + AllocGlobal + Net + Clock + Wait + Clone + Drop> RealOutside<R> 
     pub fn new(rt: R) -> Self
         ensures connections { result.connections ≡ 0 }
         ensures started { result.started ≡ 0 }
+        ensures datagrams { result.datagrams ≡ 0 }
         ensures faults { result.faults ≡ 0 }
     {
         let ahead = ahead(&rt);
@@ -42,6 +45,7 @@ impl<R: Files + AllocGlobal + Net + Clock + Wait + Clone + Drop> RealOutside<R> 
             backoff: None,
             connections: 0,
             started: 0,
+            datagrams: 0,
             faults: 0,
         }
     }
@@ -70,6 +74,8 @@ where
 
     type W = RealSpawner;
 
+    type U = RealDatagrams<R>;
+
     ghost told = { λ s.
         record {
           faults = s.faults;
@@ -78,6 +84,8 @@ where
           ended_links = None;
           connections = s.connections;
           started = s.started;
+          ended_datagrams = None;
+          datagrams = s.datagrams;
         } };
 
     fn folder(&mut self, alloc: Global, path: &str) -> Result<RealFolder<R>, OutsideFault> {
@@ -118,6 +126,18 @@ where
         Ok(RealSpawner::new())
     }
 
+    fn datagrams(&mut self, alloc: Global, port: u16) -> Result<RealDatagrams<R>, OutsideFault> {
+        let rt = another(&self.rt)?;
+        match RealDatagrams::open(rt, alloc, port) {
+            Ok(datagrams) => Ok(datagrams),
+            Err(OutsideFault::Mem) => Err(OutsideFault::Mem),
+            Err(OutsideFault::Failed) => {
+                self.faults = self.faults.saturating_add(1);
+                Err(OutsideFault::Failed)
+            }
+        }
+    }
+
     fn end_folder(&mut self, folder: RealFolder<R>) {
         let faults = folder.entry_faults();
         drop(folder);
@@ -140,5 +160,12 @@ where
     fn end_spawner(&mut self, spawner: RealSpawner) {
         self.started = self.started.saturating_add(spawner.started());
         self.faults = self.faults.saturating_add(spawner.faults().min(1));
+    }
+
+    fn end_datagrams(&mut self, datagrams: RealDatagrams<R>) {
+        let (given, faults) = (datagrams.given(), datagrams.faults());
+        drop(datagrams);
+        self.datagrams = self.datagrams.saturating_add(given);
+        self.faults = self.faults.saturating_add(faults.min(1));
     }
 }

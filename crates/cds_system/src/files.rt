@@ -6,12 +6,12 @@ ghost use Rattle.cds_system.specs.Given.{GivesEntry, IsPathOf};
 
 use crate::given::Given;
 use crate::streams::Input;
-use crate::walk::{Walk, joined, open_folder};
+use crate::walk::{Walk, fault_of, joined, open_folder};
 use cds_base::{Mem, Text};
 use cds_outside::{Entry, Folder, FolderFault, OutsideFault};
 use std::alloc::Global;
 use std::fs;
-use std::io::{BufReader, ErrorKind};
+use std::io::{BufReader, ErrorKind, Seek, SeekFrom};
 use std::rt::Files;
 
 /// The number of bytes of a file that are read at once.
@@ -103,6 +103,7 @@ impl<R: Files + AllocGlobal + Clone + Drop> Folder for RealFolder<R> {
           entries = s.entries;
           opened = s.opened;
           returned = s.returned;
+          asked = None;
           entry_faults = s.entry_faults;
           file_faults = s.file_faults;
         } };
@@ -152,6 +153,26 @@ impl<R: Files + AllocGlobal + Clone + Drop> Folder for RealFolder<R> {
         }
     }
 
+    fn open_at(
+        &mut self,
+        alloc: Global,
+        path: &str,
+        at: u64,
+    ) -> Result<Input<BufReader<R::File>>, FolderFault> {
+        let place = joined(alloc, &self.root, path)?;
+        match open_file_at(&self.rt, alloc, place.as_str(), at) {
+            Ok(file) => {
+                self.opened = self.opened.saturating_add(1);
+                Ok(file)
+            }
+            Err(FolderFault::Failed) => {
+                self.file_faults = self.file_faults.saturating_add(1);
+                Err(FolderFault::Failed)
+            }
+            Err(FolderFault::Mem) => Err(FolderFault::Mem),
+        }
+    }
+
     fn done(&mut self, file: Input<BufReader<R::File>>) {
         self.returned = self.returned.saturating_add(1);
         self.file_faults = self.file_faults.saturating_add(file.faults());
@@ -178,6 +199,33 @@ fn open_file<R: Files + AllocGlobal + Clone + Drop>(
         },
         Err(error) if error.kind() == ErrorKind::OutOfMemory => Err(FolderFault::Mem),
         Err(_) => Err(FolderFault::Failed),
+    }
+}
+
+/// Opens a file at a place, to be read in pieces. What is no file is refused.
+fn open_file_at<R: Files + AllocGlobal + Clone + Drop>(
+    rt: &R,
+    alloc: Global,
+    place: &str,
+    at: u64,
+) -> Result<Input<BufReader<R::File>>, FolderFault>
+    ensures no_faults { IfOk result (λ file. file.faults ≡ 0) }
+    ensures unread { IfOk result (λ file. file.moved ≡ 0) }
+{
+    match fs::metadata(rt, place) {
+        Ok(found) if found.is_file() => {}
+        Ok(_) => return Err(FolderFault::Failed),
+        Err(error) => return Err(fault_of(&error)),
+    }
+    match fs::open(rt, place) {
+        Ok(mut file) => match file.seek(SeekFrom::Start(at)) {
+            Ok(_) => match BufReader::with_capacity(alloc, PIECE, file) {
+                Ok(reader) => Ok(Input::new(reader)),
+                Err(_) => Err(FolderFault::Mem),
+            },
+            Err(error) => Err(fault_of(&error)),
+        },
+        Err(error) => Err(fault_of(&error)),
     }
 }
 

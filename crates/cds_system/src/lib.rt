@@ -6,6 +6,7 @@
 mod backoff;
 mod clocks;
 mod conns;
+mod datagrams;
 mod doors;
 mod exterior;
 mod files;
@@ -14,8 +15,10 @@ mod given;
 mod links;
 mod lobby;
 mod names;
+mod players;
 mod reach;
 mod retry;
+mod shared_port;
 mod spawners;
 mod streams;
 mod waiting;
@@ -23,6 +26,7 @@ mod walk;
 mod words;
 
 pub use clocks::{RealClock, ahead};
+pub use datagrams::RealDatagrams;
 pub use doors::RealDoor;
 pub use exterior::RealOutside;
 pub use links::RealLink;

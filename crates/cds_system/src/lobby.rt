@@ -1,6 +1,7 @@
 //! The lobby of a port: connections that came in wait there until their messages have come. What the system says of them is
 //! trusted, and no clause speaks of it.
 
+use crate::players::{Player, Players};
 use crate::waiting::{State, Waiting, first_to_go};
 use mio::net::{TcpListener, TcpStream};
 use mio::{Events, Interest, Poll, Token};
@@ -31,6 +32,8 @@ const PORT: Token = Token(0);
 pub struct Arrived {
     pub stream: net::TcpStream,
     pub bytes: Vec<u8>,
+    /// It asks for a file.
+    pub player: Option<Player>,
 }
 
 /// How taking in ended.
@@ -51,6 +54,8 @@ enum Taken {
 /// comes after all these. One that waits longer than 30 seconds without a byte, or longer than 60 seconds, is let go. If another
 /// comes in and there is no room, one of the address with the most connections is let go: the one that waits longest without a
 /// byte.
+///
+/// At most two that ask for files are with workers at a time. A further one waits here, and is let go after 30 seconds.
 #[derive(Drop)]
 pub struct Lobby {
     alloc: Global,
@@ -58,6 +63,7 @@ pub struct Lobby {
     events: Events,
     listener: TcpListener,
     waiting: Vec<Waiting>,
+    players: Players,
     last_token: usize,
 }
 
@@ -66,6 +72,7 @@ impl Lobby {
     pub fn open<R: Net>(rt: &R, alloc: Global, port: u16) -> io::Result<Lobby> {
         let events = Events::with_capacity(alloc, EVENTS)?;
         let waiting = Vec::with_capacity(alloc, MOST)?;
+        let players = Players::new(alloc)?;
         let (poll, listener) = listen(rt, port)?;
         Ok(Lobby {
             alloc,
@@ -73,6 +80,7 @@ impl Lobby {
             events,
             listener,
             waiting,
+            players,
             last_token: 0,
         })
     }
@@ -166,11 +174,16 @@ impl Lobby {
         let is_ready = self.waiting.iter().any(|one| one.state == State::Ready);
         if is_ready || taken == Taken::Part {
             Some(Duration::from_secs(0))
-        } else if taken == Taken::Failed {
+        } else if taken == Taken::Failed || self.holds_back() {
             Some(Duration::from_millis(PAUSE))
         } else {
             self.waiting.iter().map(|one| one.patience_left(now)).min()
         }
+    }
+
+    /// Returns whether a connection waits only since others ask for files too.
+    fn holds_back(&self) -> bool {
+        self.waiting.iter().any(|one| one.state == State::Done)
     }
 
     /// Waits until something happens, at most this long, and marks the connections that it happened to.
@@ -185,7 +198,7 @@ impl Lobby {
     /// Takes the connection out that a worker gets next, if there is one.
     fn next_arrived(&mut self) -> Option<Arrived> {
         for _ in 0..=MOST {
-            let at = next_to_come(self.waiting.as_slice())?;
+            let at = next_to_come(self.waiting.as_slice(), self.players.has_room())?;
             if let Some(arrived) = self.hand_over(at) {
                 return Some(arrived);
             }
@@ -201,9 +214,11 @@ impl Lobby {
             ..
         } = self.take(at)?;
         self.poll.registry().deregister(&mut stream).ok()?;
+        let player = self.players.admit(bytes.as_slice());
         Some(Arrived {
             stream: net::TcpStream::from(stream),
             bytes,
+            player,
         })
     }
 }
@@ -220,12 +235,17 @@ fn listen<R: Net>(rt: &R, port: u16) -> io::Result<(Poll, TcpListener)> {
 }
 
 /// Returns the place of the connection that a worker gets next: the first that need not wait any longer, or else the first of
-/// which no more bytes are kept.
-fn next_to_come(waiting: &[Waiting]) -> Option<usize> {
-    match first_in(waiting, State::Done) {
+/// which no more bytes are kept. One that asks for a file needs room for it.
+fn next_to_come(waiting: &[Waiting], has_room: bool) -> Option<usize> {
+    match first_done(waiting, has_room) {
         Some(at) => Some(at),
         None => first_in(waiting, State::Full),
     }
+}
+
+/// Returns the place of the first connection that need not wait any longer. One that asks for a file needs room for it.
+fn first_done(waiting: &[Waiting], has_room: bool) -> Option<usize> {
+    waiting.iter().position(|one| one.state == State::Done && (has_room || !one.asks_for_file()))
 }
 
 /// Returns the place of the first connection in a state.

@@ -1,6 +1,7 @@
 //! Connections that wait at a port until their messages have come. What the system says of them is trusted.
 
 use crate::framing::{Framing, Kind};
+use crate::players::asks_for_file;
 use crate::retry::read_again;
 use mio::Token;
 use mio::net::TcpStream;
@@ -78,10 +79,16 @@ impl Waiting {
         matches!(self.state, State::Idle | State::Ready | State::Full)
     }
 
-    /// Returns whether it is to stay: its message is done, or its time is not up.
+    /// Returns whether it asks for a file.
+    pub fn asks_for_file(&self) -> bool {
+        asks_for_file(self.bytes.as_slice())
+    }
+
+    /// Returns whether it is to stay: its message is done and asks for no file, or its time is not up.
     pub fn stays(&self, now: Duration) -> bool {
         match self.state {
-            State::Done => true,
+            State::Done => !self.asks_for_file()
+                || self.patience_left(now) > Duration::from_secs(0),
             State::Gone => false,
             _ => self.patience_left(now) > Duration::from_secs(0),
         }

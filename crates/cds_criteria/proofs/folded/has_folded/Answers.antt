@@ -1,8 +1,5 @@
-use Rattle.std.proofs.Common.{sym, ◌∙◌}
-use Rattle.cds_criteria.specs.Meaning.{folded}
-use Rattle.cds_criteria.proofs.Folds.{part_here}
+use Rattle.cds_criteria.proofs.Folds.{empty_here}
 use Rattle.cds_criteria.proofs.folded.has_folded.Goals as goal
 
-pub returns-then-begins_with : goal.returns-then-begins_with
-returns-then-begins_with c =
-    sym (c.loop-rest.invariant ∙ part_here (folded c.args.value.now) (folded c.loop-rest.rest.now) (sym c.begins_with.ensures ∙ c.if-begins_with.true))
+pub returns-in-empty : goal.returns-in-empty
+returns-in-empty c = empty_here c.args.value.now c.args.text.now c.in-empty.len_below

@@ -1,4 +1,4 @@
-use Rattle.cds_generate.proofs.Spoken.{spoken}
+use Rattle.cds_generate.proofs.Played.{spoken}
 use Rattle.cds_generate.proofs.laws.lines_are_turns.Goals as goal
 
 pub returns : goal.returns

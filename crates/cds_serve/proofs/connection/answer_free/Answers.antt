@@ -11,4 +11,4 @@ returns-in-Ok-clause-written g c =
 pub returns-in-Err-clause-written : goal.returns-in-Err-clause-written
 returns-in-Err-clause-written g c =
     subst (λ (t : List ℕ). Writes t (g.C.Sink.told c.args.conn.now) (g.C.Sink.told c.starve.new.conn))
-    (sym (free-starved c.args.status c.starve.result c.starve.ensures.starved)) c.starve.ensures.written
+    (sym (free-starved c.args.device.now c.args.answer c.starve.result c.starve.ensures.starved)) c.starve.ensures.written

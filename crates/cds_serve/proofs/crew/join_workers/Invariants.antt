@@ -4,7 +4,7 @@ use Rattle.std.specs.Vec.Iter.{into_iter_items, into_iter_len}
 use Rattle.cds_outside.specs.Outside.{Rose, raised}
 use Rattle.cds_turn.specs.Turn.{IsSeatOf, own_by, passes_of}
 use Rattle.cds_serve.specs.Jobs.{FollowAnswers}
-use Rattle.cds_serve.specs.Life.{doors_back}
+use Rattle.cds_serve.specs.Life.{FoldersBack, doors_back}
 use Rattle.cds_serve.proofs.crew.join_workers.Given as goal
 
 abbrev pub invariant-joined : goal.invariant-joined
@@ -18,5 +18,6 @@ invariant-joined g l = record {
   all : (l.total ≡ sum_by (λ worker. worker.post.share) l.yielded) ⊎ Rose (g.O.Outside.told l.initial.outside).faults (g.O.Outside.told l.outside).faults;
   connections : (n : ℕ) → raised (g.O.Outside.told l.outside).connections n ≡ raised (g.O.Outside.told l.initial.outside).connections (l.total + n);
   never_falls : (g.O.Outside.told l.initial.outside).faults ≤ (g.O.Outside.told l.outside).faults;
+  folders : FoldersBack (length l.yielded) (g.O.Outside.told l.initial.outside).ended (g.O.Outside.told l.outside).ended;
   others_stay : g.O.Outside.told l.outside ≡ doors_back (g.O.Outside.told l.initial.outside) (g.O.Outside.told l.outside);
 }

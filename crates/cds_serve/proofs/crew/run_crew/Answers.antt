@@ -9,7 +9,7 @@ use Rattle.cds_turn.specs.Turn.{own_by, passes_of, seats_of, seen_by, start_of}
 use Rattle.cds_serve.specs.Jobs.{FollowScans, IsHired}
 use Rattle.cds_serve.proofs.Crews.{all-given, all-passes, some-of, some-then}
 use Rattle.cds_serve.proofs.Crossing.{notified-send, notifier-send, scanned-send, scanner-send, worked-send, worker-send}
-use Rattle.cds_serve.proofs.Lives.{all-front, crew-cause, front-sum, none-then, served-cut, six-jobs, some-as}
+use Rattle.cds_serve.proofs.Lives.{all-front, crew-cause, front-few, front-sum, more-folders, none-then, served-cut, six-jobs, some-as}
 use Rattle.cds_serve.proofs.crew.run_crew.Goals as goal
 
 pub start_crew-workers-requires-send-W : goal.start_crew-workers-requires-send-W
@@ -108,3 +108,13 @@ returns-in-Err-clause-cause g c =
     (λ started none. true≢false (sym (c.start_crew-workers.ensures.all (sym c.is_some-started.ensures ∙ started)).1
     ∙ sym c.join_scanner-scanned.ensures.started ∙ none))
     (Err c.in-Err.fault) c.in-Err.ensures.err
+
+pub returns-in-Ok-clause-folders : goal.returns-in-Ok-clause-folders
+returns-in-Ok-clause-folders g c =
+    let some = c.start_crew-workers.ensures.some in
+    more-folders _ 4 _ _ (front-few _ some.0 c.start_crew-workers.result.workers.items some.1 c.args.crew.few) c.join_workers-served.ensures.folders
+
+pub returns-in-Err-clause-folders : goal.returns-in-Err-clause-folders
+returns-in-Err-clause-folders g c =
+    let some = c.start_crew-workers.ensures.some in
+    more-folders _ 4 _ _ (front-few _ some.0 c.start_crew-workers.result.workers.items some.1 c.args.crew.few) c.join_workers-served.ensures.folders

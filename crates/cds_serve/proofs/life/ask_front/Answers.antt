@@ -5,7 +5,7 @@ use Rattle.cds_outside.specs.Asked.{ForDoor, ForSpawner}
 use Rattle.cds_outside.specs.Outside.{Rose}
 use Rattle.cds_outside.specs.Told.{OutsideTold}
 use Rattle.cds_serve.specs.Life.{AsksFor, IsCaused}
-use Rattle.cds_serve.proofs.Lives.{asked-twice, asks-all, asks-front, caused-as, exit, keeps-asked, keeps-doors, keeps-on}
+use Rattle.cds_serve.proofs.Lives.{asked-twice, asks-all, asks-front, caused-as, exit, keeps-asked, keeps-door, keeps-on}
 use Rattle.cds_serve.proofs.Rounds.{rose-more, rose-on}
 use Rattle.cds_serve.proofs.life.ask_front.Goals as goal
 
@@ -78,7 +78,7 @@ returns-in-Err-clause-ended_stays g c =
     let now : OutsideTold = g.O.Outside.told c.ask_spawner.new.outside in
     let new : OutsideTold = g.O.Outside.told c.end_door.new.self in
     keeps-on old now new (keeps-on old mid now (keeps-asked old mid c.in_ok-door.ensures.asks.others) (keeps-asked mid now c.in-Err.ensures.asks.others))
-    (keeps-doors now new c.end_door.ensures.others_stay)
+    (keeps-door now new c.end_door.ensures.others_stay)
 
 pub returns-in-Err-clause-never_falls : goal.returns-in-Err-clause-never_falls
 returns-in-Err-clause-never_falls g c =

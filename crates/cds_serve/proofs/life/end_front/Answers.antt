@@ -2,7 +2,7 @@
 use Rattle.std.proofs.Common.{ap, ◌∙◌, le_trans, refl}
 use Rattle.cds_outside.specs.Outside.{raised}
 use Rattle.cds_outside.specs.Told.{OutsideTold}
-use Rattle.cds_serve.proofs.Lives.{back-more, back-on, came-back, keeps, keeps-doors, keeps-on}
+use Rattle.cds_serve.proofs.Lives.{back-more, back-on, came-back, keeps, keeps-door, keeps-on}
 use Rattle.cds_serve.proofs.life.end_front.Goals as goal
 
 pub returns-clause-connections : goal.returns-clause-connections
@@ -27,7 +27,7 @@ returns-clause-ended_stays g c =
     let old : OutsideTold = g.O.Outside.told c.args.outside.now in
     let mid : OutsideTold = g.O.Outside.told c.end_spawner.new.self in
     let new : OutsideTold = g.O.Outside.told c.end_door.new.self in
-    keeps-on old mid new (keeps old mid _ c.end_spawner.ensures.others_stay refl refl) (keeps-doors mid new c.end_door.ensures.others_stay)
+    keeps-on old mid new (keeps old mid _ c.end_spawner.ensures.others_stay refl refl) (keeps-door mid new c.end_door.ensures.others_stay)
 
 pub returns-clause-never_falls : goal.returns-clause-never_falls
 returns-clause-never_falls g c = le_trans c.end_spawner.ensures.never_falls c.end_door.ensures.never_falls

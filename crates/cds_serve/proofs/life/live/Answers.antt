@@ -1,5 +1,5 @@
 -- The jobs of a server run to their end between the two lines.
-use Rattle.std.proofs.Common.{◌⊎◌}
+use Rattle.std.proofs.Common.{◌⊎◌, refl}
 use Rattle.std.specs.Arc.{arc_value}
 use Rattle.cds_outside.specs.Outside.{Rose, SinkTold}
 use Rattle.cds_outside.specs.Told.{OutsideTold, SpawnerTold}
@@ -7,7 +7,7 @@ use Rattle.cds_turn.specs.Turn.{seat_told, start_of}
 use Rattle.cds_serve.specs.declared.fault.Fault.TheVariants as fault
 use Rattle.cds_serve.specs.Life.{IsCaused, WritesLife}
 use Rattle.cds_serve.proofs.Crews.{all-accepted}
-use Rattle.cds_serve.proofs.Lives.{cause-as, caused-as, exit, on-ok, writes-both, writes-first, writes-none, writes-one}
+use Rattle.cds_serve.proofs.Lives.{cause-as, caused-as, exit, no-folders, on-ok, writes-both, writes-first, writes-none, writes-one}
 use Rattle.cds_serve.proofs.Rounds.{rose-on}
 use Rattle.cds_serve.proofs.life.live.Goals as goal
 
@@ -84,3 +84,9 @@ returns-clause-connections g c = on-ok c.write_served.result _ c.in_ok-turn.ensu
 
 pub returns-clause-started : goal.returns-clause-started
 returns-clause-started g c = on-ok c.write_served.result _ c.in_ok-turn.ensures.started
+
+pub returns-in_err-running-clause-folders : goal.returns-in_err-running-clause-folders
+returns-in_err-running-clause-folders g c = no-folders 4 (g.O.Outside.told c.args.outside.now).ended _ refl
+
+pub returns-in_err-write_serving-clause-folders : goal.returns-in_err-write_serving-clause-folders
+returns-in_err-write_serving-clause-folders g c = no-folders 4 (g.O.Outside.told c.args.outside.now).ended _ refl

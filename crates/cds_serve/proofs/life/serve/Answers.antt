@@ -3,7 +3,7 @@ use Rattle.std.proofs.Common.{◌≡◌, Err, ◌⊎◌, ap, subst, sym, ◌∙�
 use Rattle.cds_outside.specs.Outside.{Rose, SinkTold, raised}
 use Rattle.cds_outside.specs.Told.{OutsideTold, SpawnerTold}
 use Rattle.cds_serve.specs.Life.{AsksFor, Outer, WritesLife, life_asks}
-use Rattle.cds_serve.proofs.Lives.{asks-over, cause-as, caused-as, ends-life, gave-none, keeps-doors, keeps-on, on-ok-as, rose-end, six-started, writes-none}
+use Rattle.cds_serve.proofs.Lives.{asks-over, cause-as, caused-as, ends-life, gave-none, keeps-all, keeps-none, on-ok-as, rose-end, six-started, writes-none}
 use Rattle.cds_serve.proofs.life.serve.Goals as goal
 
 pub returns-in-Err-clause-ends : goal.returns-in-Err-clause-ends
@@ -60,4 +60,7 @@ returns-in-Ok-clause-ended_stays g c =
     let o1 : OutsideTold = g.O.Outside.told c.hire.new.outside in
     let o2 : OutsideTold = g.O.Outside.told c.live-ended.new.outside in
     let o3 : OutsideTold = g.O.Outside.told c.end_front.new.outside in
-    keeps-on o0 o1 o3 c.hire.ensures.ended_stays (keeps-on o1 o2 o3 (keeps-doors o1 o2 c.live-ended.ensures.others_stay) c.end_front.ensures.ended_stays)
+    keeps-all o0 o1 o2 o3 c.hire.ensures.ended_stays c.live-ended.ensures.others_stay c.live-ended.ensures.folders c.end_front.ensures.ended_stays
+
+pub returns-in-Err-clause-ended_stays : goal.returns-in-Err-clause-ended_stays
+returns-in-Err-clause-ended_stays g c = keeps-none (g.O.Outside.told c.args.outside.now) (g.O.Outside.told c.hire.new.outside) c.hire.ensures.ended_stays

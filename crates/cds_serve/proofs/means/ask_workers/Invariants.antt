@@ -9,7 +9,7 @@ use Rattle.cds_serve.proofs.means.ask_workers.Given as goal
 abbrev pub invariant-workers : goal.invariant-workers
 invariant-workers g l = record {
   few : length l.all.items ≤ 4;
-  takes : Takes {A = ⊤} (Ok tt) (worker_asks (length l.all.items))
+  takes : Takes {A = ⊤} (Ok tt) (worker_asks l.path (length l.all.items))
       (g.O.Outside.told l.initial.outside)
       (g.O.Outside.told l.outside)
       (g.O.D.Door.told l.initial.door)
