@@ -126,7 +126,7 @@ explain() {
     5,announce) echo "announce takes a port, the http address of a description, a number of datagrams and maybe a UUID: ./cds announce PORT LOCATION COUNT [UUID]" ;;
     5,generate) echo "generate takes two numbers in digits: a SEED below 2^64, and TRACKS from 1 to 10000, as in ./cds generate 7 1200" ;;
     5,check | 5,replay | 5,summary) echo "$command has no further word: it reads standard input, as in ./cds $command < FILE" ;;
-    5,*) echo "unknown command, or a word is missing or too many; ./cds --help lists the commands" ;;
+    5,*) echo "unknown command, or a word is missing or too many; ./cds --help lists the commands, and ./cds share FOLDER [PORT] serves and announces a folder" ;;
     6,scan) limit_fault "$folder" ;;
     6,check) echo "the input has more than 67108864 bytes" ;;
     6,*) echo "the script, or a line of it, is too long" ;;
@@ -233,7 +233,7 @@ wait_for_port() {
 end_all() {
   local child
   trap - INT TERM HUP EXIT
-  for child in "$@"; do
+  for child in $(jobs -p); do
     kill "$child" 2>/dev/null
   done
   wait
@@ -264,7 +264,10 @@ tell_lacks() {
 share() {
   local folder=$1 port=$2 fault address location name server joiner announcer status
   local -a near
-  fault=$(first_of "$(folder_fault "$folder")" "$(port_fault "$port")")
+  fault=$(folder_fault "$folder")
+  if [ -z "$fault" ] && (exec 3<>"/dev/tcp/127.0.0.1/$port") 2>/dev/null; then
+    fault="port $port is in use"
+  fi
   if [ -n "$fault" ]; then
     tell "$fault"
     exit 7
@@ -272,8 +275,10 @@ share() {
   mapfile -t near < <(near_addresses)
   address=$(outer_address "${near[@]}")
   location=http://$address:$port/device.xml
-  trap 'exit 130' INT TERM HUP
-  trap 'end_all "${server-}" "${joiner-}" "${announcer-}"' EXIT
+  trap 'exit 130' INT
+  trap 'exit 143' TERM
+  trap 'exit 129' HUP
+  trap end_all EXIT
   "$program" serve "$port" "$folder" 4294967295 >/dev/null &
   server=$!
   wait_for_port "$port" "$server"
@@ -293,7 +298,7 @@ share() {
   sleep 0.5
   if kill -0 "$announcer" 2>/dev/null; then
     tell_lacks "$address" "$joiner"
-    echo "$folder is served at http://$address:$port/ until Ctrl-C"
+    echo "$folder is served at port $port of $address until Ctrl-C"
     echo "in a UPnP player on this network, as VLC under Local Network, open the server cds"
     while kill -0 "$server" 2>/dev/null && kill -0 "$announcer" 2>/dev/null; do
       wait -n "$server" "$announcer"

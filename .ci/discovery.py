@@ -158,7 +158,7 @@ except socket.timeout:
 def from_other_side(other, own, to, datagram, many):
     """What a client at this address in the other namespace gets."""
     words = ["nsenter", "-t", str(other.pid), "-n", sys.executable, "-c", CLIENT, own, to, "1900", str(many)]
-    came = subprocess.run(words, input=datagram, stdout=subprocess.PIPE, check=False).stdout
+    came = subprocess.run(words, input=datagram, stdout=subprocess.PIPE, check=True).stdout
     return [bytes.fromhex(line) for line in came.decode().split()]
 
 
@@ -189,6 +189,8 @@ def in_a_network(program):
     launcher = os.path.join(os.path.dirname(os.path.abspath(__file__)), "..", "cds")
     if os.path.realpath(program) == os.path.realpath(os.path.join(os.path.dirname(launcher), "crates/cds_cli/out/cds_cli")):
         shared(launcher, other)
+    else:
+        print("discovery: the program is not that of the launcher; the case of a shared folder is skipped")
     other.kill()
 
 
@@ -209,11 +211,11 @@ def shared(launcher, other):
     words = [launcher, "share", folder, str(port)]
     process = subprocess.Popen(words, stdout=subprocess.PIPE, start_new_session=True)
     says = process.stdout.readline().decode()
-    check("where a folder is shared", f"{folder} is served at http://10.9.0.1:{port}/ until Ctrl-C\n", says)
+    check("where a folder is shared", f"{folder} is served at port {port} of 10.9.0.1 until Ctrl-C\n", says)
     check("what to open", True, process.stdout.readline().decode().endswith("open the server cds\n"))
     if says:
         location, uuid = f"http://10.9.0.1:{port}/device.xml", described_name(port)
-        wanted = [reply(target.replace(UUID, uuid), location, uuid) for target in ALL]
+        wanted = [reply(target.replace(UUID, uuid or ""), location, uuid) for target in ALL]
         check("a search for what is shared", wanted, from_other_side(other, "10.9.0.2", GROUP, search("ssdp:all"), 4))
         flood(("127.0.0.1", 1900))
         check("a description beside a flood", uuid, described_name(port))
@@ -233,7 +235,7 @@ def main():
     on_loopback(program)
     after_a_flood(program)
     refused(program)
-    tools = all(shutil.which(tool) for tool in ("unshare", "nsenter", "ip"))
+    tools = all(shutil.which(tool) for tool in ("unshare", "nsenter", "ip", "pgrep"))
     if tools and subprocess.run(["unshare", "-n", "true"], stderr=subprocess.DEVNULL, check=False).returncode == 0:
         words = ["unshare", "-n", sys.executable, "-B", os.path.abspath(__file__), program, "--inside"]
         check("the network of two namespaces", 0, subprocess.run(words, check=False).returncode)

@@ -3,9 +3,11 @@ or broken, with bodies that are hard to read, and over folders that are missing 
 what was wanted, and what came. Several run at a time; one that fails is tried again by itself, twice. Ends with 0 if all came as it
 must. With WORDs, only the cases run whose names hold one of them."""
 
+import html
 import http.client
 import multiprocessing
 import os
+import re
 import select
 import shutil
 import signal
@@ -624,6 +626,32 @@ def put_back():
         return got
 
 
+def beside_players(count):
+    """The longest wait of a request beside so many players that take nothing of a large file, and four more: two send an empty line
+    before their request, and two a body that never ends."""
+    server = Server()
+    os.truncate(f"{server.folder}/plain.FLAC", 64 << 20)
+    with server:
+        server.children()
+        rows = html.unescape(server.reply(message("Browse", browse())).decode())
+        target = re.search(r'<res [^>]*size="67108864"[^>]*>http://[^/]*(/media/[0-9]+)<', rows).group(1)
+        head = f"GET {target} HTTP/1.1\r\nHOST: a\r\n".encode()
+        clients = []
+        plain, late = head + b"\r\n", b"\r\n" + head + b"\r\n"
+        for text in [late, head + b"CONTENT-LENGTH: 70000\r\n\r\n" + b" " * 66_000] * 2 + [plain] * count:
+            clients.append(connect(server.port))
+            clients[-1].sendall(text)
+        time.sleep(1)
+        worst, end = 0.0, time.monotonic() + 4
+        while time.monotonic() < end:
+            status, took = ask(server.port, wait=30)
+            worst = max(worst, took if status == 200 else 99)
+            time.sleep(0.2)
+        for client in clients:
+            client.close()
+    return round(worst, 1)
+
+
 def ends_on_term():
     """What a server ends with on SIGTERM."""
     with Server() as server:
@@ -796,6 +824,8 @@ CASES = [
         at_most(5),
         lambda: beside_slow(100, "127.0.0.2", 20, message(body=NUMBER + b" " * 200_000)[:70_000]),
     ),
+    ("6 players that take nothing of a large file: seconds for a request", at_most(1), lambda: beside_players(2)),
+    ("304 such players", at_most(1), lambda: beside_players(300)),
     ("a folder removed and put back", exactly([2, 2, 2]), put_back),
     ("notes to one that answers without a length and stays open", exactly(3), lambda: twice("bare")),
     ("a late request behind 64 subscribers that never answer: seconds", at_most(5), lambda: behind_dead(64)),

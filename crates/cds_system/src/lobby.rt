@@ -237,20 +237,15 @@ fn listen<R: Net>(rt: &R, port: u16) -> io::Result<(Poll, TcpListener)> {
 /// Returns the place of the connection that a worker gets next: the first that need not wait any longer, or else the first of
 /// which no more bytes are kept. One that asks for a file needs room for it.
 fn next_to_come(waiting: &[Waiting], has_room: bool) -> Option<usize> {
-    match first_done(waiting, has_room) {
+    match first_in(waiting, State::Done, has_room) {
         Some(at) => Some(at),
-        None => first_in(waiting, State::Full),
+        None => first_in(waiting, State::Full, has_room),
     }
 }
 
-/// Returns the place of the first connection that need not wait any longer. One that asks for a file needs room for it.
-fn first_done(waiting: &[Waiting], has_room: bool) -> Option<usize> {
-    waiting.iter().position(|one| one.state == State::Done && (has_room || !one.asks_for_file()))
-}
-
-/// Returns the place of the first connection in a state.
-fn first_in(waiting: &[Waiting], state: State) -> Option<usize> {
-    waiting.iter().position(|one| one.state == state)
+/// Returns the place of the first connection in a state. One that asks for a file needs room for it.
+fn first_in(waiting: &[Waiting], state: State, has_room: bool) -> Option<usize> {
+    waiting.iter().position(|one| one.state == state && (has_room || !one.asks_for_file()))
 }
 
 /// Marks the connection of this token, if it is to wait for more.

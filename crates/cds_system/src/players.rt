@@ -7,9 +7,15 @@ use std::sync::Arc;
 /// How many requests for files are with workers at a time.
 const MOST: usize = 2;
 
-/// Returns whether what came of a connection begins as a request for a file.
+/// Returns whether what came of a connection begins as a request for a file. CR and LF before its first line do not count.
 pub fn asks_for_file(bytes: &[u8]) -> bool {
-    bytes.starts_with(b"GET /media/")
+    match bytes
+        .iter()
+        .position(|byte| *byte != b'\r' && *byte != b'\n')
+    {
+        None => false,
+        Some(at) => bytes[at..].starts_with(b"GET /media/"),
+    }
 }
 
 /// The requests for files that are with workers.

@@ -76,7 +76,11 @@ impl Waiting {
 
     /// Returns whether it may be let go before its time is up.
     pub fn is_open(&self) -> bool {
-        matches!(self.state, State::Idle | State::Ready | State::Full)
+        match self.state {
+            State::Idle | State::Ready | State::Full => true,
+            State::Done => self.asks_for_file(),
+            State::Gone => false,
+        }
     }
 
     /// Returns whether it asks for a file.
@@ -164,7 +168,7 @@ fn peer_of(address: SocketAddr) -> u32 {
 }
 
 /// Returns the place of the connection that goes first if there are too many. It is of the address that has the most, and is the
-/// one of those that waits longest without a byte. `None` if all are done.
+/// one of those that waits longest without a byte. `None` if all are done and ask for no file.
 pub fn first_to_go(waiting: &[Waiting]) -> Option<usize> {
     let mut first = None;
     for (at, one) in waiting.iter().enumerate() {
